@@ -1,0 +1,28 @@
+use crate::op::{Op, Reply};
+
+/// One line of a history. The first number of each is its caller.
+///
+/// An entry belongs to the transaction that its caller began last.
+#[derive(Clone, Copy, Debug, PartialEq, Eq)]
+pub enum Entry {
+    /// A transaction began; the second number is the transaction's, counted from 1 over all callers.
+    Began(u64, u64),
+    /// An operation was asked for: the stripe of its key belongs to the caller from now on.
+    Asked(u64, Op),
+    /// The operation that was asked for has its reply.
+    Did(u64, Reply),
+    /// A savepoint was set.
+    Saved(u64),
+    /// The caller goes back to a level, or to none of them: the transaction aborts.
+    Leave(u64, Option<u64>),
+    /// The newest change that stood was taken back.
+    Undone(u64),
+    /// The caller is back at a level, and its transaction is open again.
+    Returned(u64, u64),
+    /// The transaction committed; the second number is its place in the commit order, from 1.
+    Committed(u64, u64),
+    /// An operation found its stripe in the hands of the caller named last, and its transaction aborts.
+    Busy(u64, Op, u64),
+    /// All changes are taken back, and the transaction is over.
+    Aborted(u64),
+}

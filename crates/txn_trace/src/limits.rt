@@ -1,0 +1,70 @@
+ghost use Rattle.std.specs.Prelude.{◌≡◌, IsTrue};
+ghost use Rattle.txn_trace.specs.Sizes.{Sizes, are_limits, limits_of};
+
+use crate::refusal::Refusal;
+use std::marker::Model;
+
+/// How many callers there are, how many stripes of keys, and how many buckets at most.
+#[derive(Clone, Copy, Debug, PartialEq, Eq)]
+pub struct Limits {
+    callers: u32,
+    stripes: u32,
+    buckets: u32,
+}
+
+impl Model for Limits {
+    ghost Value = { Sizes };
+
+    ghost view = { λ l. record { callers = l.callers; stripes = l.stripes; buckets = l.buckets } };
+
+    ghost invariant = { λ l. IsTrue (are_limits l.callers l.stripes l.buckets) };
+
+    ghost inverse = { λ s. record { callers = s.callers; stripes = s.stripes; buckets = s.buckets } };
+}
+
+impl Limits {
+    /// Limits that are in range: one caller, 1 to 4,096 stripes, and as the largest size a power of
+    /// two from 2 to 65,536 buckets.
+    ///
+    /// `Refusal::Limit` where a number is out of range. Fixed cost.
+    pub fn new(callers: u64, stripes: u64, buckets: u64) -> Result<Limits, Refusal>
+        ensures { result ≡ limits_of callers stripes buckets }
+    {
+        let are_in_range = callers == 1
+            && (1 <= stripes && stripes <= 4096)
+            && (2 <= buckets && buckets <= 65536)
+            && buckets.is_power_of_two();
+        if !are_in_range {
+            return Err(Refusal::Limit);
+        }
+        Ok(Limits {
+            callers: callers as u32,
+            stripes: stripes as u32,
+            buckets: buckets as u32,
+        })
+    }
+
+    /// How many callers there are.
+    pub fn callers(self) -> u32
+        ensures value { result ≡ self.callers }
+        ensures limits { IsTrue (are_limits self.callers self.stripes self.buckets) }
+    {
+        self.callers
+    }
+
+    /// How many stripes the keys are shared out to.
+    pub fn stripes(self) -> u32
+        ensures value { result ≡ self.stripes }
+        ensures limits { IsTrue (are_limits self.callers self.stripes self.buckets) }
+    {
+        self.stripes
+    }
+
+    /// The largest size of the table, in buckets.
+    pub fn buckets(self) -> u32
+        ensures value { result ≡ self.buckets }
+        ensures limits { IsTrue (are_limits self.callers self.stripes self.buckets) }
+    {
+        self.buckets
+    }
+}

@@ -1,0 +1,13 @@
+/// An operation on one key of a map.
+#[derive(Clone, Copy, Debug, PartialEq, Eq)]
+pub enum Op {
+    /// Puts a value at a key: the key, the value.
+    Put(u64, u64),
+    /// Takes a key out.
+    Take(u64),
+    /// Looks a key up.
+    Get(u64),
+}
+
+/// What an operation answers: the value that the key had before it, or none.
+pub type Reply = Option<u64>;

@@ -1,0 +1,83 @@
+ghost use Rattle.std.specs.Prelude.{◌≡◌};
+ghost use Rattle.txn_trace.specs.Refusals.{number_of};
+
+/// Why a call was refused. Each has a number, by which answers and programs name it.
+#[derive(Clone, Copy, Debug, PartialEq, Eq)]
+pub enum Refusal {
+    /// 1: the key is 2^63 or more.
+    BadKey,
+    /// 2: the caller's number is not below the number of callers.
+    NoSuchCaller,
+    /// 3: the caller has no transaction.
+    NotOpen,
+    /// 4: the caller has a transaction already.
+    AlreadyOpen,
+    /// 5: an operation that was asked for has no reply yet.
+    OperationUnfinished,
+    /// 6: the caller is taking changes back.
+    Leaving,
+    /// 7: there is no cursor to act on.
+    Unplaced,
+    /// 8: there is nothing to seek: no operation, and no change above the level.
+    NothingToSeek,
+    /// 9: the level is above the number of savepoints.
+    NoSuchLevel,
+    /// 10: the bucket is not below the table's size.
+    NoSuchBucket,
+    /// 11: the bucket's parent is not initialised.
+    ParentMissing,
+    /// 12: the helper's number is not below the number of callers.
+    NoSuchHelper,
+    /// 13: the helper has no cursor to link at, or no dummy to store.
+    HelperOutOfOrder,
+    /// 14: memory was refused.
+    NoMemory,
+    /// 15: the core answered what the state of the caller's token excludes.
+    OutOfStep,
+    /// 16: no stamp below 2^64 - 1 is left.
+    StampsUsedUp,
+    /// 17: the map was closed without one caller of each number.
+    CallersMissing,
+    /// 18: a worker could not be started.
+    NoThread,
+    /// 19: the word of a stripe says what holds no more.
+    StaleWord,
+    /// 20: a file is not JSON.
+    NotJson,
+    /// 21: a file, or a piece of it, has not the shape that it should have.
+    WrongShape,
+    /// 22: a file, or one of its numbers, is out of range.
+    Limit,
+}
+
+impl Refusal {
+    /// The refusal's number.
+    pub fn number(self) -> u64
+        ensures { result ≡ number_of self }
+    {
+        match self {
+            Refusal::BadKey => 1,
+            Refusal::NoSuchCaller => 2,
+            Refusal::NotOpen => 3,
+            Refusal::AlreadyOpen => 4,
+            Refusal::OperationUnfinished => 5,
+            Refusal::Leaving => 6,
+            Refusal::Unplaced => 7,
+            Refusal::NothingToSeek => 8,
+            Refusal::NoSuchLevel => 9,
+            Refusal::NoSuchBucket => 10,
+            Refusal::ParentMissing => 11,
+            Refusal::NoSuchHelper => 12,
+            Refusal::HelperOutOfOrder => 13,
+            Refusal::NoMemory => 14,
+            Refusal::OutOfStep => 15,
+            Refusal::StampsUsedUp => 16,
+            Refusal::CallersMissing => 17,
+            Refusal::NoThread => 18,
+            Refusal::StaleWord => 19,
+            Refusal::NotJson => 20,
+            Refusal::WrongShape => 21,
+            Refusal::Limit => 22,
+        }
+    }
+}
