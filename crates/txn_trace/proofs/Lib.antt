@@ -16,3 +16,4 @@ pub mod Undoing
 pub mod Bounds
 pub mod Erasing
 pub mod Erased
+pub mod Cases
