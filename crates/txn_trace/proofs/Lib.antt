@@ -3,6 +3,8 @@ pub mod Lists
 pub mod Pushes
 pub mod Callers
 pub mod Steps
+pub mod Inductions
+pub mod Running
 pub mod Local
 pub mod Stripes
 pub mod Now
