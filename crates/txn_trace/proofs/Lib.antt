@@ -15,6 +15,7 @@ pub mod Fits
 pub mod Seated
 pub mod Acting
 pub mod Undoing
+pub mod Logs
 pub mod Bounds
 pub mod Erasing
 pub mod Erased
