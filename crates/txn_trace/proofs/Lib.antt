@@ -16,6 +16,7 @@ pub mod Seated
 pub mod Acting
 pub mod Undoing
 pub mod Logs
+pub mod Holders
 pub mod Bounds
 pub mod Erasing
 pub mod Erased
