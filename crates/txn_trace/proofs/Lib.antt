@@ -17,6 +17,7 @@ pub mod Acting
 pub mod Undoing
 pub mod Logs
 pub mod Holders
+pub mod Next
 pub mod Bounds
 pub mod Erasing
 pub mod Erased
