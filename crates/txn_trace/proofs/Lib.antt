@@ -18,6 +18,7 @@ pub mod Undoing
 pub mod Logs
 pub mod Holders
 pub mod Next
+pub mod Entries
 pub mod Bounds
 pub mod Erasing
 pub mod Erased
