@@ -22,4 +22,5 @@ pub mod Entries
 pub mod Bounds
 pub mod Erasing
 pub mod Erased
+pub mod Order
 pub mod Cases
