@@ -23,4 +23,6 @@ pub mod Bounds
 pub mod Erasing
 pub mod Erased
 pub mod Order
+pub mod Sums
+pub mod Room
 pub mod Cases
