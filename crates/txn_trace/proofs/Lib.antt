@@ -26,4 +26,6 @@ pub mod Breaking
 pub mod Order
 pub mod Sums
 pub mod Room
+pub mod Verdicts
+pub mod Counts
 pub mod Cases
