@@ -10,8 +10,8 @@ use Rattle.txn_trace.specs.declared.op.Op.{Op}
 use Rattle.txn_trace.specs.declared.entry.Entry.{Entry}
 use Rattle.txn_trace.specs.Map.{Map, get, key_of}
 use Rattle.txn_trace.specs.Now.{now, now_at}
-use Rattle.txn_trace.specs.History.{is_commit, Line, caller_of, lines_of, is_of, of}
-use Rattle.txn_trace.specs.Alone.{Run, alone}
+use Rattle.txn_trace.specs.History.{is_open, is_commit, Line, caller_of, lines_of, is_of, of}
+use Rattle.txn_trace.specs.Alone.{map_after, Run, alone}
 use Rattle.txn_trace.specs.Serial.{serial}
 use Rattle.txn_trace.specs.Locks.{stripe_of, asks_in, is_in_open, holders, holder_of, LocksHold}
 use Rattle.txn_trace.specs.Shape.{Waiting, Seat, seat_after, own, IsShaped, is_shaped}
@@ -20,7 +20,7 @@ use Rattle.txn_trace.specs.Legal.{IsLegal, runs, is_running}
 use Rattle.txn_trace.proofs.Pushes.{txn_in, txn_at}
 use Rattle.txn_trace.proofs.Callers.{same as same_caller, not_after_end, Callers, callers_of, IsOwned, ended}
 use Rattle.txn_trace.proofs.Local.{WaitsFor}
-use Rattle.txn_trace.proofs.Stripes.{holds, keys_in, of_is}
+use Rattle.txn_trace.proofs.Stripes.{are_apart, untouched, holds, keys_in, of_is}
 use Rattle.txn_trace.proofs.Now.{open_going, going_open, running_of, now_at-push_commit}
 use Rattle.txn_trace.proofs.Table.{get-now}
 use Rattle.txn_trace.proofs.Others.{now_at-push_else}
@@ -187,4 +187,16 @@ get-now_held stripes g e legal after k d held other = get-now (g ++ e ∷ []) k 
     at_key = elim (cases_Bool (is_commit e)) [
       | inr goes ↦ now_at-push_else stripes g e mine.0 legal.shape legal.locks after.shape after.locks shaped goes mine.1 k owner.txn (running_of g d owner.txn owner.in_it owner.going) apart owner.held
       | inl commits ↦ now_at-push_commit stripes g e mine.0 legal.shape legal.locks after.shape shaped commits mine.1 not_ended k
+    ]
+
+-- At a key at most one open transaction's last map differs from the committed map.
+pub one_differs : (stripes : ℕ) (g : List Entry) → IsLegal stripes g → (k t u : ℕ) → is_open t g ≡ true → is_open u g ≡ true
+    → get (map_after (serial g) (of t g)) k ≢ get (serial g) k → get (map_after (serial g) (of u g)) k ≢ get (serial g) k → t ≡ u
+one_differs stripes g legal k t u open_t open_u differs_t differs_u =
+    are_apart stripes g legal.shape legal.locks t u (stripe_of stripes k) (going_open t g open_t) (going_open u g open_u) (asks_if t differs_t) (asks_if u differs_u)
+  where
+    asks_if : (v : ℕ) → get (map_after (serial g) (of v g)) k ≢ get (serial g) k → keys_in stripes (of v g) k ≡ true
+    asks_if v differs = elim (cases_Bool (keys_in stripes (of v g) k)) [
+      | inl asks ↦ asks
+      | inr none ↦ absurd (differs (untouched stripes (of v g) (serial g) (serial g) k none))
     ]
