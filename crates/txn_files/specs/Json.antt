@@ -1,5 +1,5 @@
 -- The value that bytes are in JSON, and the members of an object.
-use Rattle.std.specs.Prelude.{ℕ, List, length, nat_le, Option, Some, None, option_and_then, Result, Ok, Err, if◌then◌else◌}
+use Rattle.std.specs.Prelude.{ℕ, List, length, nat_le, option_and_then, Result, Err, if◌then◌else◌}
 use Rattle.std.specs.Str.{is_utf8}
 use Rattle.serde_json.specs.Data.{Data}
 use Rattle.serde_json.specs.Find.{get}
