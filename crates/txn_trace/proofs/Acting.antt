@@ -68,7 +68,7 @@ waits_in stripes es m r op run waits =
     let alike' : RunsAlike (keys_in stripes es) m m (Some r) (Some r) = subst (λ o. RunsAlike (keys_in stripes es) m m o o) run alike in
     subst (WaitsFor (keys_in stripes es)) waits alike'.waits
 
--- a caller that waits for a reply_of gets that of the map as it is now
+-- a caller that waits for a reply gets that of the map as it is now
 module _ (stripes : ℕ) (g : List Entry) (legal : IsLegal stripes g) (c t : ℕ) (op : Op) (x : Option ℕ) (seat : Seat)
     (in_t : txn_in g c ≡ Some t) (going : ended t g ≡ false) (seat_is : seat_after (own c g) ≡ Some seat) (waiting : seat.phase ≡ Waiting op)
     (right : x ≡ reply_of (now g) op) (shaped : is_shaped g (Did c x) ≡ true) where

@@ -74,7 +74,7 @@ after_is g e x t is = elim (cases_eq x (caller_of e)) [
     from _ other got = got
 
 -- a closed caller only begins
-closed_begins : (e : Entry) → is_some (row closed_seat closed_seat.phase e) ≡ true → is_began e ≡ true
+pub closed_begins : (e : Entry) → is_some (row closed_seat closed_seat.phase e) ≡ true → is_began e ≡ true
 closed_begins (Began c t) h = refl
 closed_begins _ h = absurd (false≢true h)
 

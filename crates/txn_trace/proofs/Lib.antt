@@ -3,6 +3,8 @@ pub mod Lists
 pub mod Pushes
 pub mod Callers
 pub mod Steps
+pub mod Inductions
+pub mod Running
 pub mod Local
 pub mod Stripes
 pub mod Now
@@ -13,6 +15,7 @@ pub mod Fits
 pub mod Seated
 pub mod Acting
 pub mod Undoing
+pub mod Logs
 pub mod Bounds
 pub mod Erasing
 pub mod Erased

@@ -31,7 +31,7 @@ IsLogged keys (job ∷ jobs) last (m ∷ ms) = (keys job.0 ≡ true) × (get m j
 IsLogged keys [] last (m ∷ ms) = ⊥
 IsLogged keys (job ∷ jobs) last [] = ⊥
 
--- a change adds its key and its reply_of to the log
+-- a change adds its key and its reply to the log
 pub logged_add : (keys : ℕ → Bool) (jobs : List (ℕ × Option ℕ)) (r : Run) (op : Op) → keys (key_of op) ≡ true → IsLogged keys jobs r.last r.earlier → is_change r.last op ≡ true
     → IsLogged keys ((key_of op, reply_of r.last op) ∷ jobs) (after r.last op) (r.last ∷ r.earlier)
 logged_add keys jobs r op in_keys logged is = (in_keys, refl, λ q other. sym (get-after_other r.last op q other), logged)
