@@ -16,6 +16,9 @@ pub mod Seated
 pub mod Acting
 pub mod Undoing
 pub mod Logs
+pub mod Holders
+pub mod Next
+pub mod Entries
 pub mod Bounds
 pub mod Erasing
 pub mod Erased
