@@ -2,8 +2,8 @@
 //! "Transactional Boosting: A Methodology for Highly-Concurrent Transactional Objects" (PPoPP 2008).
 //!
 //! Keys are put into a fixed number of stripes, and a transaction takes the stripe of each key that it works on, and
-//! keeps it to its end. Two operations on one key may not commute, so its stripe has one holder at most: a caller, whose
-//! number is below 64. A caller that finds a stripe held by another is told by whom, and never waits.
+//! keeps it to its end. Two operations on one key may not commute, so its stripe has one holder at most: a caller,
+//! whose number is below 64. A caller that finds a stripe held by another is told by whom, and never waits.
 //!
 //! The model is the list of the stripes' holders. Each caller's stripes are chained through the stripes themselves,
 //! from the one that it took last to its first:
