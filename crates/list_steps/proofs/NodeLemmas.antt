@@ -3,12 +3,8 @@ use Rattle.std.proofs.Common.{◌≡◌, ◌≢◌, ℕ, ◌<◌, ◌⊎◌, inl
 use Rattle.std.proofs.lemmas.Bool.Decides.{eqb_tells}
 use Rattle.node_list.specs.Nodes.{NodeAt, IsLinked, node_of, next_of, first, without_first, place_of, linked_after, unlinked_after, changed_at}
 use Rattle.node_list.specs.Order.{AbsentFrom, IsSpread}
-
-pub some-injective : {X : Type 0} {x y : X} → Some x ≡ Some y → x ≡ y
-some-injective e = cc
-
-pub some-none : {X : Type 0} {x : X} → Some x ≡ None → ⊥
-some-none e = cc
+use Rattle.node_list.proofs.OrderLemmas.{some-injective, some-none}
+use Rattle.node_list.proofs.NodesLemmas.{found_linked, next_found}
 
 pub same_test : (a b : ℕ) → a ≡ b → (a == b) ≡ true
 same_test a b same = elim (eqb_tells a b) [
@@ -145,28 +141,6 @@ module _ (nodes : List NodeAt) (place : ℕ) (n : NodeAt) (at : IsAt nodes place
         here = refl;
       }
 
--- a linked node is found
-pub linked_found : (nodes : List NodeAt) (place : ℕ) → IsLinked nodes place → (n : NodeAt) × (node_of nodes place ≡ Some n)
-unfolding IsLinked node_of
-linked_found [] place linked = absurd linked
-linked_found (m ∷ rest) place linked = elim (eqb_tells m.place place) [
-  | inl here ↦ (m, rw here.0 refl)
-  | inr apart ↦
-    let later = linked_found rest place (elim linked [ inl first ↦ absurd (apart.1 first) | inr more ↦ more ]) in
-    (later.0, rw apart.0 later.1)
-]
-
--- a node that is found is linked
-pub found_linked : (nodes : List NodeAt) (place : ℕ) (n : NodeAt) → node_of nodes place ≡ Some n → IsLinked nodes place
-found_linked nodes place n is = is_linked nodes place n (found_at nodes place n is)
-
--- the node behind a place is found at its own
-pub next_found : (nodes : List NodeAt) (place : ℕ) (m : NodeAt) → IsLinked nodes place → IsSpread nodes → next_of nodes place ≡ Some m → node_of nodes m.place ≡ Some m
-next_found nodes place m linked spread is =
-    let found = linked_found nodes place linked in
-    let at = found_at nodes place found.0 found.1 in
-    node_at nodes m.place m (at_next nodes place found.0 at m spread (sym (next_at nodes place found.0 at) ∙ is))
-
 some_place : (o : Option NodeAt) (place : ℕ) → place_of o ≡ Some place → (m : NodeAt) × (o ≡ Some m) × (m.place ≡ place)
 some_place None place is = absurd (some-none (sym is))
 some_place (Some m) place is = (m, refl, some-injective is)
@@ -176,20 +150,20 @@ pub no_place : (o : Option NodeAt) → place_of o ≡ None → o ≡ None
 no_place None is = refl
 no_place (Some n) is = absurd (some-none is)
 
-module _ (nodes : List NodeAt) (place next : ℕ) (linked : IsLinked nodes place) (spread : IsSpread nodes) (is : place_of (next_of nodes place) ≡ Some next) where
+module _ (nodes : List NodeAt) (place next : ℕ) (spread : IsSpread nodes) (is : place_of (next_of nodes place) ≡ Some next) where
   -- the place behind a node is linked
   pub next_linked : IsLinked nodes next
   next_linked =
       let there = some_place (next_of nodes place) next is in
       let P : ℕ → Type 0 = λ p. IsLinked nodes p in
-      subst P there.2 (found_linked nodes there.0.place there.0 (next_found nodes place there.0 linked spread there.1))
+      subst P there.2 (found_linked nodes there.0.place there.0 (next_found nodes place there.0 spread there.1))
 
   -- and the node there is the next one
   pub next_node : (m : NodeAt) → node_of nodes next ≡ Some m → next_of nodes place ≡ Some m
   next_node m found =
       let there = some_place (next_of nodes place) next is in
       let same : Some there.0 ≡ Some m =
-            sym (next_found nodes place there.0 linked spread there.1) ∙ ap (λ p. node_of nodes p) there.2 ∙ found in
+            sym (next_found nodes place there.0 spread there.1) ∙ ap (λ p. node_of nodes p) there.2 ∙ found in
       there.1 ∙ same
 
 -- a node that is linked is found at its place, if that is its alone

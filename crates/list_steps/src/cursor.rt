@@ -57,12 +57,12 @@ fn is_unmarked_with(node: &Node, stamp: u64) -> bool
 }
 
 impl Cursor {
-    ghost use Rattle.list_steps.specs.Seek.{IsStart};
+    ghost use Rattle.list_steps.specs.Seek.{IsPred};
     ghost use Rattle.list_steps.specs.Found.{IsBeyond, IsFound, IsPlaced, fits, split_of, behind, is_next_noted};
 
     // The cursor of a split key behind this place.
     pub(crate) fn behind(list: &NodeList, place: NodeRef, split: u64) -> Cursor
-        requires start { IsStart list.now.nodes place split }
+        requires pred { IsPred list.now.nodes place split }
         requires beyond { IsBeyond (next_of list.now.nodes place) split }
         ensures found { IsFound list.now result }
         ensures placed { IsPlaced list.now result }
