@@ -91,6 +91,7 @@ module _ (l : Listing) (c : Cursor) (fitting : fits l c ≡ true) where
     where
       holds : is_next_noted (Some m) c.cur ≡ true
       holds = ap (λ o. is_next_noted o c.cur) (sym is) ∙ and_right (is_noted (node_of l.nodes (pred_of c)) c.pred.stamp) _ fitting
+
       go : (cur : Option Noted) → c.cur ≡ cur → (k : Noted) × (c.cur ≡ Some k) × Fits m k
       go None cur_is = absurd (true-false (sym (sym (ap (λ o. is_next_noted (Some m) o) cur_is) ∙ holds)))
       go (Some k) cur_is = (k, cur_is, next_fits m k (sym (ap (λ o. is_next_noted (Some m) o) cur_is) ∙ holds))
@@ -135,14 +136,14 @@ there l c n spread fitting is = go (behind l c) refl is
     go None o_is with_is = absurd (some-none (sym with_is))
     go (Some m) o_is with_is = elim (eqb_tells m.split (split_of c)) [
       | inl same ↦
-        let node_is : m ≡ n = some-injective (rw same.0 at with_is) in
-        let is_behind : behind l c ≡ Some n = o_is ∙ ap (λ (v : NodeAt). Some v) node_is in
-        record {
-          behind_is = is_behind;
-          is = next_found l.nodes (pred_of c) n spread is_behind;
-          split = sym (ap (λ (v : NodeAt). v.split) node_is) ∙ same.1;
-          unmarked = (fits_next l c fitting n is_behind).2.unmarked;
-        }
+          let node_is : m ≡ n = some-injective (rw same.0 at with_is) in
+          let is_behind : behind l c ≡ Some n = o_is ∙ ap (λ (v : NodeAt). Some v) node_is in
+          record {
+            behind_is = is_behind;
+            is = next_found l.nodes (pred_of c) n spread is_behind;
+            split = sym (ap (λ (v : NodeAt). v.split) node_is) ∙ same.1;
+            unmarked = (fits_next l c fitting n is_behind).2.unmarked;
+          }
       | inr differs ↦ absurd (some-none (sym (rw differs.0 at with_is)))
     ]
 
@@ -156,6 +157,7 @@ module _ (l : Listing) (c : Cursor) (found : IsFound l c) where
     where
       pred_noted : is_noted (Some found.pred) c.pred.stamp ≡ true
       pred_noted = rw (same_test found.pred.stamp c.pred.stamp found.pred_noted, found.unmarked) refl
+
       go : (o : Option NodeAt) (cur : Option Noted) → noted o ≡ cur → IsBeyond o (split_of c) → is_next_noted o cur ≡ true
       go None None is beyond = refl
       go None (Some cur) is beyond = absurd (some-none (sym is))
@@ -172,14 +174,14 @@ module _ (l : Listing) (c : Cursor) (found : IsFound l c) where
     pred_known = omega (arith, sound.stamped.bound (pred_of c) found.pred found.pred_is, found.pred_noted);
     pred_apart = λ place is. sound.stamped.apart (pred_of c) place found.pred found.pred_is (is ∙ ap Some (sym found.pred_noted));
     below = λ n is stamp.
-      let same : found.pred.split ≡ n.split = ap (λ (v : NodeAt). v.split) (some-injective (sym found.pred_is ∙ is)) in
-      omega (arith, found.below);
+        let same : found.pred.split ≡ n.split = ap (λ (v : NodeAt). v.split) (some-injective (sym found.pred_is ∙ is)) in
+        omega (arith, found.below);
     cur_known = λ cur cur_is. let k = cur_node cur cur_is in omega (arith, sound.stamped.bound cur.place k.0 k.1, k.2);
     cur_apart = λ cur place cur_is is. let k = cur_node cur cur_is in sound.stamped.apart cur.place place k.0 k.1 (is ∙ ap Some (sym k.2));
     beyond = λ m cur cur_is is stamp.
-      let k = cur_node cur cur_is in
-      let same : k.0.split ≡ m.split = ap (λ (v : NodeAt). v.split) (some-injective (sym k.1 ∙ is)) in
-      omega (arith, k.3);
+        let k = cur_node cur cur_is in
+        let same : k.0.split ≡ m.split = ap (λ (v : NodeAt). v.split) (some-injective (sym k.1 ∙ is)) in
+        omega (arith, k.3);
     turn_known = omega (arith, found.turn);
     held = λ same below. found_fits;
   }
@@ -191,6 +193,7 @@ module _ (l : Listing) (c : Cursor) (found : IsFound l c) where
           let stamp : k.stamp ≡ cur.stamp = ap (λ (n : Noted). n.stamp) (some-injective noted_is) in
           let P : ℕ → Type 0 = λ p. node_of l.nodes p ≡ Some k in
           (k, subst P place (next_found l.nodes (pred_of c) k sound.spread o_is), stamp, beyond.1)
+
       cur_node : (cur : Noted) → c.cur ≡ Some cur → (k : NodeAt) × (node_of l.nodes cur.place ≡ Some k) × (k.stamp ≡ cur.stamp) × (split_of c ≤ k.split)
       cur_node cur cur_is = go (behind l c) cur refl (found.cur_noted ∙ cur_is) found.beyond
 
@@ -215,12 +218,16 @@ noted_found l place c before beyond pred_is cur_is turn_is = record {
   where
     same : record { place = before.node.place; stamp = before.node.stamp } ≡ c.pred
     same = some-injective {X = Noted} (sym (ap noted before.is) ∙ pred_is)
+
     here : place ≡ c.pred.place
     here = sym (found_at l.nodes place before.node before.is).here ∙ ap (λ (n : Noted). n.place) same
+
     At : ℕ → Type 0
     At p = node_of l.nodes p ≡ Some before.node
+
     Behind : ℕ → Type 0
     Behind p = noted (next_of l.nodes p) ≡ c.cur
+
     Beyond : ℕ → Type 0
     Beyond p = IsBeyond (next_of l.nodes p) (split_of c)
 
@@ -239,8 +246,8 @@ still_placed old new c placed follows = record {
   ];
   below = λ n is stamp. elim (follows.linked (pred_of c) n is) [
     | inl there ↦
-      let low = placed.below there.0 there.1 (there.2.stamp ∙ stamp) in
-      omega (arith, there.2.split)
+        let low = placed.below there.0 there.1 (there.2.stamp ∙ stamp) in
+        omega (arith, there.2.split)
     | inr fresh ↦ elim fresh [
       | inl was ↦ absurd (placed.pred_apart (pred_of c) (was ∙ ap Some stamp))
       | inr above ↦ absurd (omega (arith, placed.pred_known))
@@ -253,8 +260,8 @@ still_placed old new c placed follows = record {
   ];
   beyond = λ m cur cur_is is stamp. elim (follows.linked cur.place m is) [
     | inl there ↦
-      let low = placed.beyond there.0 cur cur_is there.1 (there.2.stamp ∙ stamp) in
-      omega (arith, there.2.split)
+        let low = placed.beyond there.0 cur cur_is there.1 (there.2.stamp ∙ stamp) in
+        omega (arith, there.2.split)
     | inr fresh ↦ elim fresh [
       | inl was ↦ absurd (placed.cur_apart cur cur.place cur_is (was ∙ ap Some stamp))
       | inr above ↦ absurd (omega (arith, placed.cur_known cur cur_is))
@@ -262,7 +269,7 @@ still_placed old new c placed follows = record {
   ];
   turn_known = omega (arith, placed.turn_known, follows.turn);
   held = λ same below.
-    let at_old : old.turn ≡ turn_of c = omega (arith, placed.turn_known, follows.turn) in
-    let unchanged : new.turn ≡ old.turn = omega arith in
-    fits_same old new c (follows.still unchanged below) ∙ placed.held at_old (omega arith);
+      let at_old : old.turn ≡ turn_of c = omega (arith, placed.turn_known, follows.turn) in
+      let unchanged : new.turn ≡ old.turn = omega arith in
+      fits_same old new c (follows.still unchanged below) ∙ placed.held at_old (omega arith);
 }

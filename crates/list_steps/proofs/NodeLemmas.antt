@@ -32,23 +32,23 @@ unfolding node_of
 found_at [] place n is = absurd (some-none (sym is))
 found_at (m ∷ rest) place n is = elim (eqb_tells m.place place) [
   | inl here ↦
-    let same : m ≡ n = some-injective (rw here.0 at is) in
-    record {
-      front = [];
-      rest = rest;
-      is = ap (λ k. k ∷ rest) same;
-      absent = tt;
-      here = sym (ap (λ (v : NodeAt). v.place) same) ∙ here.1;
-    }
+      let same : m ≡ n = some-injective (rw here.0 at is) in
+      record {
+        front = [];
+        rest = rest;
+        is = ap (λ k. k ∷ rest) same;
+        absent = tt;
+        here = sym (ap (λ (v : NodeAt). v.place) same) ∙ here.1;
+      }
   | inr apart ↦
-    let later = found_at rest place n (rw apart.0 at is) in
-    record {
-      front = m ∷ later.front;
-      rest = later.rest;
-      is = ap (λ ns. m ∷ ns) later.is;
-      absent = (apart.1, later.absent);
-      here = later.here;
-    }
+      let later = found_at rest place n (rw apart.0 at is) in
+      record {
+        front = m ∷ later.front;
+        rest = later.rest;
+        is = ap (λ ns. m ∷ ns) later.is;
+        absent = (apart.1, later.absent);
+        here = later.here;
+      }
 ]
 
 -- each function of a list at a place, on a list that is taken apart there
@@ -120,7 +120,7 @@ module _ (nodes : List NodeAt) (place : ℕ) (n : NodeAt) (at : IsAt nodes place
 
   pub is_linked : IsLinked nodes place
   is_linked = let P : List NodeAt → Type 0 = λ ns. IsLinked ns place in
-    subst P (sym at.is) (linked-append place n at.rest at.here at.front)
+      subst P (sym at.is) (linked-append place n at.rest at.here at.front)
 
   -- the list without the next node
   abbrev pub at_unlinked : IsAt (unlinked_after nodes place) place n
@@ -131,7 +131,7 @@ module _ (nodes : List NodeAt) (place : ℕ) (n : NodeAt) (at : IsAt nodes place
   at_next m spread is =
       let rest_is : at.rest ≡ m ∷ without_first at.rest = first_is at.rest m is in
       let apart : nodes ≡ (at.front ++ n ∷ []) ++ m ∷ without_first at.rest =
-            at.is ∙ ap (λ ns. at.front ++ n ∷ ns) rest_is ∙ sym (append_assoc at.front (n ∷ []) (m ∷ without_first at.rest)) in
+      at.is ∙ ap (λ ns. at.front ++ n ∷ ns) rest_is ∙ sym (append_assoc at.front (n ∷ []) (m ∷ without_first at.rest)) in
       let P : List NodeAt → Type 0 = IsSpread in
       record {
         front = at.front ++ n ∷ [];
@@ -163,7 +163,7 @@ module _ (nodes : List NodeAt) (place next : ℕ) (spread : IsSpread nodes) (is 
   next_node m found =
       let there = some_place (next_of nodes place) next is in
       let same : Some there.0 ≡ Some m =
-            sym (next_found nodes place there.0 spread there.1) ∙ ap (λ p. node_of nodes p) there.2 ∙ found in
+      sym (next_found nodes place there.0 spread there.1) ∙ ap (λ p. node_of nodes p) there.2 ∙ found in
       there.1 ∙ same
 
 -- a node that is linked is found at its place, if that is its alone
@@ -171,7 +171,7 @@ pub linked_here : (nodes : List NodeAt) (place : ℕ) (n x : NodeAt) → node_of
 linked_here nodes place n x is spread =
     let at = found_at nodes place n is in
     let now : IsAt (linked_after nodes place x) place n =
-          record { front = at.front; rest = x ∷ at.rest; is = linked_at nodes place n at x; absent = at.absent; here = at.here } in
+    record { front = at.front; rest = x ∷ at.rest; is = linked_at nodes place n at x; absent = at.absent; here = at.here } in
     node_at (linked_after nodes place x) x.place x (at_next (linked_after nodes place x) place n now x spread refl)
 
 -- a place with a next node is linked

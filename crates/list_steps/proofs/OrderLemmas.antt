@@ -51,5 +51,5 @@ none_between nodes place n split rising is below above =
     let Q : List NodeAt → Type 0 = NoneHas split in
     let parts : IsRising (at.front ++ n ∷ at.rest) = subst P at.is rising in
     let behind : NoneHas split at.rest =
-          none_from at.rest split (rising_rest at.front n at.rest parts) (λ m m_is. above m (next_at nodes place n at ∙ m_is)) in
+    none_from at.rest split (rising_rest at.front n at.rest parts) (λ m m_is. above m (next_at nodes place n at ∙ m_is)) in
     subst Q (sym at.is) (none_before at.front n at.rest split parts below behind)

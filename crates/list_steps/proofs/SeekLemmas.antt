@@ -99,7 +99,7 @@ module _ (nodes : List NodeAt) (place split : ℕ) (pred : IsPred nodes place sp
     sought_stopped unmarked above =
         sought_at nodes place pred.node pred_at split
         ∙ ap (λ ns. pred_at.front ++ pred.node ∷ ns)
-          (ap (cleaned split) rest_is ∙ cleaned_stopped m (without_first pred_at.rest) split unmarked above ∙ sym rest_is)
+        (ap (cleaned split) rest_is ∙ cleaned_stopped m (without_first pred_at.rest) split unmarked above ∙ sym rest_is)
         ∙ sym pred_at.is
 
     -- an unmarked node below the split key is passed
@@ -108,9 +108,9 @@ module _ (nodes : List NodeAt) (place split : ℕ) (pred : IsPred nodes place sp
         sought_at nodes m.place m next split
         ∙ append_assoc pred_at.front (pred.node ∷ []) (m ∷ cleaned split (without_first pred_at.rest))
         ∙ sym (
-          sought_at nodes place pred.node pred_at split
-          ∙ ap (λ ns. pred_at.front ++ pred.node ∷ ns)
-            (ap (cleaned split) rest_is ∙ cleaned_passed m (without_first pred_at.rest) split unmarked below)
+        sought_at nodes place pred.node pred_at split
+        ∙ ap (λ ns. pred_at.front ++ pred.node ∷ ns)
+        (ap (cleaned split) rest_is ∙ cleaned_passed m (without_first pred_at.rest) split unmarked below)
         )
       where
         next : IsAt nodes m.place m
@@ -132,7 +132,7 @@ module _ (nodes : List NodeAt) (place split : ℕ) (pred : IsPred nodes place sp
     sought_unlinked marked =
         sought_at (unlinked_after nodes place) place pred.node (at_unlinked nodes place pred.node pred_at) split
         ∙ ap (λ ns. pred_at.front ++ pred.node ∷ ns)
-          (sym (ap (cleaned split) rest_is ∙ cleaned_marked m (without_first pred_at.rest) split marked))
+        (sym (ap (cleaned split) rest_is ∙ cleaned_marked m (without_first pred_at.rest) split marked))
         ∙ sym (sought_at nodes place pred.node pred_at split)
 
     pub behind_unlinked : length (nodes_behind (unlinked_after nodes place) place) < length (nodes_behind nodes place)

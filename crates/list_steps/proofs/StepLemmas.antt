@@ -23,11 +23,12 @@ module _ (l : Listing) (c : Cursor) (sound : IsSound l) (placed : IsPlaced l c) 
     where
       pred : (n : NodeAt) × (node_of l.nodes (pred_of c) ≡ Some n) × (n.stamp ≡ c.pred.stamp)
       pred = fits_pred l c fitting
+
       go : (o : Option NodeAt) (place : Option ℕ) → node_there l c ≡ o → place ≡ place_of o → Finds l c place
       go None None is place_is = record {
         none = is;
         others = none_between l.nodes (pred_of c) pred.0 (split_of c) sound.rising pred.1
-          (low l c sound placed fitting pred.0 pred.1) (above l c sound placed fitting is);
+            (low l c sound placed fitting pred.0 pred.1) (above l c sound placed fitting is);
       }
       go None (Some place) is place_is = absurd (some-none place_is)
       go (Some n) None is place_is = absurd (some-none (sym place_is))
@@ -49,7 +50,7 @@ module _ (l : Listing) (c : Cursor) (sound : IsSound l) (placed : IsPlaced l c) 
       let pred = fits_pred l c fitting in
       let is_below : pred.0.split < x.split = omega (arith, low l c sound placed fitting pred.0 pred.1, split_is) in
       rising_linked l.nodes (pred_of c) pred.0 x sound.rising pred.1 (before-split pred.0 x is_below)
-        (λ m is. before-split x m (omega (arith, above l c sound placed fitting none m is, split_is)))
+      (λ m is. before-split x m (omega (arith, above l c sound placed fitting none m is, split_is)))
 
   -- a node that is linked
   pub links : (new : Listing) (x : NodeAt) → Takes l new (linked_after l.nodes (pred_of c) x) x.place → IsSpread new.nodes → Links l new c x
