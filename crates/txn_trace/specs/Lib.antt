@@ -1,3 +1,16 @@
 pub mod Refusals
 pub mod Text
 pub mod Sizes
+pub mod Map
+pub mod Ordered
+pub mod History
+pub mod Alone
+pub mod Serial
+pub mod Now
+pub mod Replies
+pub mod Locks
+pub mod Shape
+pub mod Log
+pub mod Legal
+pub mod Erase
+pub mod Owed

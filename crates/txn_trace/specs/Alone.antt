@@ -1,0 +1,64 @@
+-- What the entries of a transaction say when it runs alone.
+use Rattle.std.specs.Prelude.{ℕ, ◌+◌, Option, Some, None, List, [], ◌∷◌, ◌++◌, length, take, nat_eq, slice_get, if◌then◌else◌}
+use Rattle.std.specs.Option.{option_eq, option_and_then}
+use Rattle.std.specs.List.{fold}
+use Rattle.txn_trace.specs.declared.op.Op.{Op}
+use Rattle.txn_trace.specs.declared.entry.Entry.{Entry}
+use Rattle.txn_trace.specs.declared.entry.Entry.TheVariants.{Asked, Did, Saved, Undone, Returned}
+use Rattle.txn_trace.specs.Map.{Map, reply_of, after, is_change}
+
+-- A run is a list of maps, the newest apart; the operation that waits for its reply; and for each level
+-- the number of maps that was noted there, 1 at level 0.
+pub record Run : Type 0 where
+  pub last : Map
+  pub earlier : List Map
+  pub pending : Option Op
+  pub notes : List ℕ
+
+-- The run that has a map alone.
+abbrev pub start : Map → Run
+start m = record { last = m; earlier = []; pending = None; notes = 1 ∷ [] }
+
+-- How many maps a run has.
+abbrev pub number_of_maps : Run → ℕ
+number_of_maps run = length run.earlier + 1
+
+-- An operation that is a change adds the map that it leaves.
+abbrev pub with_op : Run → Op → Run
+with_op run op = if is_change run.last op then record run { last = after run.last op; earlier = run.last ∷ run.earlier } else run
+
+-- Did: the reply must be that of the last map.
+abbrev pub act_did : Run → Option Op → Option ℕ → Option Run
+act_did run None r = None
+act_did run (Some op) r = if option_eq nat_eq r (reply_of run.last op) then Some (record (with_op run op) { pending = None }) else None
+
+-- Undone: the last map is dropped; the first may not be.
+abbrev pub act_undone : Run → List Map → Option Run
+act_undone run [] = None
+act_undone run (m ∷ ms) = Some (record run { last = m; earlier = ms })
+
+-- Returned: the number of maps must be the one noted at the level; later notes are dropped.
+abbrev pub act_returned : Run → ℕ → Option Run
+act_returned run n = if option_eq nat_eq (slice_get run.notes n) (Some (number_of_maps run)) then Some (record run { notes = take (n + 1) run.notes }) else None
+
+-- What an entry does to a run; None where it must not stand there.
+abbrev pub act : Run → Entry → Option Run
+act run (Asked c op) = Some (record run { pending = Some op })
+act run (Did c r) = act_did run run.pending r
+act run (Undone c) = act_undone run run.earlier
+act run (Saved c) = Some (record run { notes = run.notes ++ number_of_maps run ∷ [] })
+act run (Returned c n) = act_returned run n
+act run _ = Some run
+
+-- The run of a list of entries from a map; None where it is undefined.
+abbrev pub alone : Map → List Entry → Option Run
+alone m es = fold (λ run e. option_and_then (λ r. act r e) run) (Some (start m)) es
+
+-- The last map of a run; the map that it began with where the run is undefined.
+abbrev pub last_map : Map → Option Run → Map
+last_map m None = m
+last_map m (Some run) = run.last
+
+-- The map that a list of entries leaves.
+abbrev pub map_after : Map → List Entry → Map
+map_after m es = last_map m (alone m es)

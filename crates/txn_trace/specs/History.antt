@@ -1,0 +1,89 @@
+-- A history is a list of entries. Each belongs to a transaction, and each transaction is committed, aborted or open.
+use Rattle.std.specs.Prelude.{ℕ, ◌==◌, Bool, true, false, not, ◌||◌, Option, Some, None, List, [], ◌∷◌, map, nat_eq, if◌then◌else◌}
+use Rattle.std.specs.Option.{option_eq}
+use Rattle.std.specs.List.{filter, filter_map, fold}
+use Rattle.txn_trace.specs.declared.entry.Entry.{Entry}
+use Rattle.txn_trace.specs.declared.entry.Entry.TheVariants.{Began, Asked, Did, Saved, Leave, Undone, Returned, Committed, Busy, Aborted}
+
+-- The caller of an entry.
+abbrev pub caller_of : Entry → ℕ
+caller_of (Began c t) = c
+caller_of (Asked c op) = c
+caller_of (Did c r) = c
+caller_of (Saved c) = c
+caller_of (Leave c n) = c
+caller_of (Undone c) = c
+caller_of (Returned c n) = c
+caller_of (Committed c p) = c
+caller_of (Busy c op x) = c
+caller_of (Aborted c) = c
+
+-- Whether an entry is a Began.
+abbrev pub is_began : Entry → Bool
+is_began (Began c t) = true
+is_began _ = false
+
+-- Whether an entry is a Committed.
+abbrev pub is_commit : Entry → Bool
+is_commit (Committed c p) = true
+is_commit _ = false
+
+-- Whether an entry is an Aborted.
+abbrev pub is_abort : Entry → Bool
+is_abort (Aborted c) = true
+is_abort _ = false
+
+-- An entry and the transaction that it belongs to, if there is one.
+pub record Line : Type 0 where
+  pub txn : Option ℕ
+  pub entry : Entry
+
+-- The transaction of each caller after an entry: that of the caller's last Began.
+abbrev pub txn_after : (ℕ → Option ℕ) → Entry → ℕ → Option ℕ
+txn_after before (Began c t) x = if c == x then Some t else before x
+txn_after before _ x = before x
+
+-- Each entry with its transaction, where the callers had these transactions before.
+abbrev pub lines_from : (ℕ → Option ℕ) → List Entry → List Line
+lines_from before [] = []
+lines_from before (e ∷ h) = record { txn = txn_after before e (caller_of e); entry = e } ∷ lines_from (txn_after before e) h
+
+-- Each entry of a history with its transaction.
+abbrev pub lines_of : List Entry → List Line
+lines_of h = lines_from (λ c. None) h
+
+-- Whether an entry belongs to a transaction.
+abbrev pub is_of : ℕ → Line → Bool
+is_of t line = option_eq nat_eq line.txn (Some t)
+
+-- The entries of a transaction, in order.
+abbrev pub of : ℕ → List Entry → List Entry
+of t h = map (λ line. line.entry) (filter (is_of t) (lines_of h))
+
+-- Whether the last entry of a list passes a test.
+abbrev pub ends_in : (Entry → Bool) → List Entry → Bool
+ends_in test h = fold (λ before e. test e) false h
+
+-- Whether the entries of a transaction end with Committed.
+abbrev pub is_committed : ℕ → List Entry → Bool
+is_committed t h = ends_in is_commit (of t h)
+
+-- Whether the entries of a transaction end with Aborted.
+abbrev pub is_aborted : ℕ → List Entry → Bool
+is_aborted t h = ends_in is_abort (of t h)
+
+-- Whether a transaction is neither committed nor aborted.
+abbrev pub is_open : ℕ → List Entry → Bool
+is_open t h = not (is_committed t h || is_aborted t h)
+
+-- The transactions of the entries that pass a test, in the order of these entries.
+abbrev pub txns_of : (Entry → Bool) → List Entry → List ℕ
+txns_of test h = filter_map (λ line. if test line.entry then line.txn else None) (lines_of h)
+
+-- The committed transactions, in the order of their Committed entries.
+abbrev pub commits : List Entry → List ℕ
+commits h = filter (λ t. is_committed t h) (txns_of is_commit h)
+
+-- The open transactions, in the order of their Began entries: by rising number, where the history has the right shape.
+abbrev pub open_txns : List Entry → List ℕ
+open_txns h = filter (λ t. is_open t h) (txns_of is_began h)

@@ -1,0 +1,62 @@
+-- Legal histories, and the judge of any history.
+use Rattle.std.specs.Prelude.{ℕ, ◌+◌, Bool, true, false, not, Option, Some, None, is_some, List, [], ◌∷◌, ◌++◌, map, length, nat_eq, if◌then◌else◌}
+use Rattle.std.specs.List.{filter, list_all}
+use Rattle.std.specs.Set.{unique_keys}
+use Rattle.txn_trace.specs.declared.entry.Entry.{Entry}
+use Rattle.txn_trace.specs.History.{caller_of, is_commit, of, open_txns}
+use Rattle.txn_trace.specs.Alone.{alone}
+use Rattle.txn_trace.specs.Serial.{serial}
+use Rattle.txn_trace.specs.Replies.{RepliesHold}
+use Rattle.txn_trace.specs.Locks.{is_locked, LocksHold}
+use Rattle.txn_trace.specs.Shape.{Phase, Closed, Seat, seat_after, own, how_many, is_shaped, IsShaped}
+
+-- A history is legal where its replies and its locks hold and it has the right shape.
+pub record IsLegal (stripes : ℕ) (h : List Entry) : Type 0 where
+  pub replies : RepliesHold h
+  pub locks : LocksHold stripes h
+  pub shape : IsShaped h
+
+-- Whether each open transaction has the replies of running alone.
+abbrev pub replies_hold : List Entry → Bool
+replies_hold g = list_all (λ t. is_some (alone (serial g) (of t g))) (open_txns g)
+
+-- The rule that an entry breaks after g: 3, shape; else the lesser of 1, replies, and 2, locks; None where it breaks none.
+abbrev pub broken : ℕ → List Entry → Entry → Option ℕ
+broken stripes g e =
+    if not (is_shaped g e) then Some 3 else
+    if not (replies_hold (g ++ e ∷ [])) then Some 1 else
+    if not (is_locked stripes g e) then Some 2 else None
+
+-- Of the entries h that come after g, the i-th and following ones, the first that breaks a rule, and the rule.
+abbrev pub first_bad : ℕ → List Entry → List Entry → ℕ → Option (ℕ × ℕ)
+first_bad stripes g [] i = None
+first_bad stripes g (e ∷ h) i = elim (broken stripes g e) [
+  | Some rule ↦ Some (i, rule)
+  | None ↦ first_bad stripes (g ++ e ∷ []) h (i + 1)
+]
+
+-- Whether a phase is one of a transaction.
+abbrev pub runs : Phase → Bool
+runs Closed = false
+runs _ = true
+
+-- Whether a caller is in a transaction.
+abbrev pub is_running : Option Seat → Bool
+is_running None = false
+is_running (Some s) = runs s.phase
+
+-- The callers that are not closed, each once.
+abbrev pub running : List Entry → List ℕ
+running h = filter (λ c. is_running (seat_after (own c h))) (unique_keys nat_eq (map caller_of h))
+
+-- A verdict is Legal with the numbers of commits and of callers that are not closed, or Illegal with the first bad entry and its rule.
+pub data Verdict : Type 0 where
+  Legal : ℕ → ℕ → Verdict
+  Illegal : ℕ → ℕ → Verdict
+
+-- The verdict on a history.
+abbrev pub verdict : ℕ → List Entry → Verdict
+verdict stripes h = elim (first_bad stripes [] h 0) [
+  | None ↦ Legal (how_many is_commit h) (length (running h))
+  | Some bad ↦ Illegal bad.0 bad.1
+]

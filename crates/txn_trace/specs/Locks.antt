@@ -1,0 +1,39 @@
+-- The rule of locks: a stripe of keys belongs to one open transaction at a time.
+use Rattle.std.specs.Prelude.{ℕ, ◌%◌, ◌==◌, Bool, true, false, not, ◌&&◌, Option, Some, None, slice_get, IsTrue, List, [], ◌∷◌, ◌++◌, map}
+use Rattle.std.specs.List.{filter, list_any, list_all}
+use mathlib.Core.List.{IsPrefix}
+use Rattle.txn_trace.specs.declared.entry.Entry.{Entry}
+use Rattle.txn_trace.specs.declared.entry.Entry.TheVariants.{Asked, Busy}
+use Rattle.txn_trace.specs.Map.{key_of}
+use Rattle.txn_trace.specs.History.{Line, caller_of, lines_of, is_open}
+
+-- The stripe of a key, where there are so many stripes.
+abbrev pub stripe_of : ℕ → ℕ → ℕ
+stripe_of stripes k = k % stripes
+
+-- Whether an entry is an Asked of a key of the stripe.
+abbrev pub asks_in : ℕ → ℕ → Entry → Bool
+asks_in stripes s (Asked c op) = stripe_of stripes (key_of op) == s
+asks_in stripes s _ = false
+
+-- Whether an entry belongs to an open transaction.
+abbrev pub is_in_open : List Entry → Line → Bool
+is_in_open h line = elim line.txn [ None ↦ false | Some t ↦ is_open t h ]
+
+-- The callers with an open transaction that has asked for a key of the stripe.
+abbrev pub holders : ℕ → ℕ → List Entry → List ℕ
+holders stripes s h = map (λ line. caller_of line.entry) (filter (λ line. asks_in stripes s line.entry && is_in_open h line) (lines_of h))
+
+-- The caller that holds a stripe, if one does: in a legal history no stripe has two.
+abbrev pub holder_of : ℕ → ℕ → List Entry → Option ℕ
+holder_of stripes s h = slice_get (holders stripes s h) 0
+
+-- Whether an entry may stand after g: an Asked where no other caller holds the stripe, a Busy where the named one is another and does.
+abbrev pub is_locked : ℕ → List Entry → Entry → Bool
+is_locked stripes g (Asked c op) = list_all (λ x. x == c) (holders stripes (stripe_of stripes (key_of op)) g)
+is_locked stripes g (Busy c op x) = not (x == c) && list_any (λ y. y == x) (holders stripes (stripe_of stripes (key_of op)) g)
+is_locked stripes g _ = true
+
+-- That holds of each entry after the beginning before it.
+abbrev pub LocksHold : ℕ → List Entry → Type 0
+LocksHold stripes h = (g : List Entry) (e : Entry) → IsPrefix (g ++ e ∷ []) h → IsTrue (is_locked stripes g e)

@@ -1,0 +1,35 @@
+-- The map with the surviving changes of the open transactions.
+use Rattle.std.specs.Prelude.{ℕ, Option, Some, None, List, [], ◌∷◌, map, nat_eq, if◌then◌else◌}
+use Rattle.std.specs.Option.{option_eq}
+use Rattle.std.specs.List.{fold, flat_map}
+use Rattle.txn_trace.specs.declared.entry.Entry.{Entry}
+use Rattle.txn_trace.specs.Map.{Map, empty, get, insert, remove, keys}
+use Rattle.txn_trace.specs.History.{of, open_txns}
+use Rattle.txn_trace.specs.Alone.{map_after}
+use Rattle.txn_trace.specs.Serial.{serial}
+
+-- The last map of each open transaction, run alone on the map of the committed ones.
+abbrev pub open_maps : List Entry → List Map
+open_maps h = map (λ t. map_after (serial h) (of t h)) (open_txns h)
+
+-- The value at a key in the first of the maps that differs there from the base; that of the base where none differs.
+abbrev pub first_differing : Map → List Map → ℕ → Option ℕ
+first_differing base [] k = get base k
+first_differing base (m ∷ ms) k = if option_eq nat_eq (get m k) (get base k) then first_differing base ms k else get m k
+
+-- The value at a key now: that of the open transaction that changed it, else that of the committed ones.
+abbrev pub now_at : List Entry → ℕ → Option ℕ
+now_at h k = first_differing (serial h) (open_maps h) k
+
+-- The map with a key at a value, or without the key.
+abbrev pub set_at : Map → ℕ → Option ℕ → Map
+set_at m k None = remove m k
+set_at m k (Some v) = insert m k v
+
+-- The map that has at these keys what a function says, and no other keys.
+abbrev pub map_of : List ℕ → (ℕ → Option ℕ) → Map
+map_of ks f = fold (λ m k. set_at m k (f k)) empty ks
+
+-- The map now: it has at each key the value of now_at.
+abbrev pub now : List Entry → Map
+now h = map_of (flat_map keys (serial h ∷ open_maps h)) (now_at h)

@@ -1,0 +1,30 @@
+-- How many entries callers may still append without a new reservation.
+use Rattle.std.specs.Prelude.{ℕ, ◌+◌, Option, Some, None, List}
+use Rattle.std.specs.List.{sum_by, range_with_len}
+use Rattle.txn_trace.specs.declared.op.Op.{Op}
+use Rattle.txn_trace.specs.declared.op.Op.TheVariants.{Put, Take, Get}
+use Rattle.txn_trace.specs.declared.entry.Entry.{Entry}
+use Rattle.txn_trace.specs.Shape.{Phase, Closed, Opened, Waiting, LeavingTo, LeavingToEnd, Seat, seat_after, own}
+
+-- For an operation that waits: its reply, and for one that may change, the undoing of it.
+abbrev pub owed_for : Op → ℕ
+owed_for (Put k v) = 2
+owed_for (Take k) = 2
+owed_for (Get k) = 1
+
+-- For a number of standing changes and a phase.
+abbrev pub owed_in : ℕ → Phase → ℕ
+owed_in s Closed = 0
+owed_in s Opened = 2 + s
+owed_in s (Waiting op) = 2 + s + owed_for op
+owed_in s (LeavingTo n) = 3 + s
+owed_in s LeavingToEnd = 1 + s
+
+-- For a seat.
+abbrev pub owed_by : Option Seat → ℕ
+owed_by None = 0
+owed_by (Some s) = owed_in s.standing s.phase
+
+-- The sum over all callers, numbered from 0.
+abbrev pub owed : ℕ → List Entry → ℕ
+owed callers h = sum_by (λ c. owed_by (seat_after (own c h))) (range_with_len 0 callers)

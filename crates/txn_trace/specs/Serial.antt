@@ -1,0 +1,11 @@
+-- The map that the committed transactions leave.
+use Rattle.std.specs.Prelude.{List}
+use Rattle.std.specs.List.{fold}
+use Rattle.txn_trace.specs.declared.entry.Entry.{Entry}
+use Rattle.txn_trace.specs.Map.{Map, empty}
+use Rattle.txn_trace.specs.History.{of, commits}
+use Rattle.txn_trace.specs.Alone.{map_after}
+
+-- From the empty map, the committed transactions run alone, one after another in commit order.
+abbrev pub serial : List Entry → Map
+serial h = fold (λ m t. map_after m (of t h)) empty (commits h)
