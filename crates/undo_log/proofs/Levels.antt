@@ -78,7 +78,7 @@ module _ {J : Type 0} (before after : J → List ℕ) where
   pub levels_of-push : (was now : List ℕ) (log pushed : Log J) (job : J) → was ≡ before job → pushed.jobs ≡ log.jobs ++ job ∷ [] → pushed.kept ≡ log.kept → IsRising 0 log.kept (length log.jobs) → levels_of before now pushed ≡ levels_of before was log
   levels_of-push was now log pushed job fits jobs kept nested =
       let same : (k : ℕ) → k ≤ length log.jobs → words_at before now pushed.jobs k ≡ words_at before was log.jobs k =
-        λ k within. ap (λ js. words_at before now js k) jobs ∙ words_at-push now log.jobs job k within ∙ ap (λ w. words_at before w log.jobs k) (sym fits) in
+      λ k within. ap (λ js. words_at before now js k) jobs ∙ words_at-push now log.jobs job k within ∙ ap (λ w. words_at before w log.jobs k) (sym fits) in
       ap (λ ks. map (words_at before now pushed.jobs) (0 ∷ ks)) kept ∙ map_rising (words_at before now pushed.jobs) (words_at before was log.jobs) 0 log.kept (length log.jobs) nested same
 
   -- a savepoint here keeps all jobs
@@ -135,10 +135,10 @@ module _ {J : Type 0} (before after : J → List ℕ) where
         chain = subst (λ w. IsChain before after w popped.jobs) (sym gives) (IsChain_pop now popped.jobs job (subst (IsChain before after now) jobs way.chain));
         enough = omega (arith, shorter, above_old);
         words = λ k within.
-          ap (λ w. words_at before w popped.jobs k) gives
-          ∙ sym (words_at-push now popped.jobs job k within)
-          ∙ ap (λ js. words_at before now js k) (sym jobs)
-          ∙ way.words k (omega (arith, within, shorter));
+            ap (λ w. words_at before w popped.jobs k) gives
+            ∙ sym (words_at-push now popped.jobs job k within)
+            ∙ ap (λ js. words_at before now js k) (sym jobs)
+            ∙ way.words k (omega (arith, within, shorter));
       }
 
   -- the job that comes out finds the words that it names as after
@@ -154,25 +154,25 @@ module _ {J : Type 0} (before after : J → List ℕ) where
   pub on_the_way_end : (start now : List ℕ) (old log cut : Log J) (level : ℕ) → level ≤ length old.kept → IsUndoable before after start old → IsOnTheWay start now old log level → length log.jobs ≤ kept_at log.kept level → log.jobs ≡ cut.jobs → cut.kept ≡ take level log.kept → IsCutAt start now old cut level
   on_the_way_end start now old log cut level there undoable way none_above jobs kept =
       let all_kept : length cut.jobs ≡ kept_at old.kept level =
-        omega (arith, ap length jobs, way.enough, subst (λ ks. length log.jobs ≤ kept_at ks level) way.kept none_above) in
+      omega (arith, ap length jobs, way.enough, subst (λ ks. length log.jobs ≤ kept_at ks level) way.kept none_above) in
       let kept_old : cut.kept ≡ take level old.kept = kept ∙ ap (take level) way.kept in
       let nested : IsRising 0 (take level old.kept) (length cut.jobs) =
-        subst (IsRising 0 (take level old.kept)) (sym all_kept) (IsRising-take 0 old.kept (length old.jobs) level there undoable.nested) in
+      subst (IsRising 0 (take level old.kept)) (sym all_kept) (IsRising-take 0 old.kept (length old.jobs) level there undoable.nested) in
       let old_words : ℕ → List ℕ = words_at before start old.jobs in
       let same : (k : ℕ) → k ≤ length cut.jobs → words_at before now cut.jobs k ≡ old_words k =
-        λ k within. ap (λ js. words_at before now js k) (sym jobs) ∙ way.words k (omega (arith, within, ap length jobs)) in
+      λ k within. ap (λ js. words_at before now js k) (sym jobs) ∙ way.words k (omega (arith, within, ap length jobs)) in
       record {
         undoable = record {
           chain = subst (IsChain before after now) jobs way.chain;
           nested = subst (λ ks. IsRising 0 ks (length cut.jobs)) (sym kept_old) nested;
         };
         levels =
-          ap (λ ks. map (words_at before now cut.jobs) (0 ∷ ks)) kept_old
-          ∙ map_rising (words_at before now cut.jobs) old_words 0 (take level old.kept) (length cut.jobs) nested same
-          ∙ sym (take-map old_words (suc level) (0 ∷ old.kept))
-          ∙ ap (λ n. take n (levels_of before start old)) (sym (add-one level));
+            ap (λ ks. map (words_at before now cut.jobs) (0 ∷ ks)) kept_old
+            ∙ map_rising (words_at before now cut.jobs) old_words 0 (take level old.kept) (length cut.jobs) nested same
+            ∙ sym (take-map old_words (suc level) (0 ∷ old.kept))
+            ∙ ap (λ n. take n (levels_of before start old)) (sym (add-one level));
         words =
-          slice_get-map old_words (0 ∷ old.kept) level
-          ∙ ap (option_map old_words) (slice_get-get_or (0 ∷ old.kept) level 0 (omega (arith, there)))
-          ∙ ap Some (ap old_words (sym all_kept) ∙ sym (same (length cut.jobs) (omega arith)) ∙ words_at_end now cut.jobs (length cut.jobs) (omega arith));
+            slice_get-map old_words (0 ∷ old.kept) level
+            ∙ ap (option_map old_words) (slice_get-get_or (0 ∷ old.kept) level 0 (omega (arith, there)))
+            ∙ ap Some (ap old_words (sym all_kept) ∙ sym (same (length cut.jobs) (omega arith)) ∙ words_at_end now cut.jobs (length cut.jobs) (omega arith));
       }

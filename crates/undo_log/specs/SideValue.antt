@@ -2,10 +2,12 @@
 use Rattle.std.specs.Prelude.{ℕ, zero, suc, ◌≡◌, ◌≤◌, List, [], ◌∷◌, map, length}
 use Rattle.undo_log.specs.UndoLog.{Log}
 
--- the value, its words at each level, level 0 first, and how many savepoints can be made before memory is taken
+-- the value, its words at each level, level 0 first, and how many changes and how many savepoints can be made
+-- before memory is taken
 pub record Leveled (S : Type 0) : Type 0 where
   pub value : S
   pub levels : List (List ℕ)
+  pub room : ℕ
   pub save_room : ℕ
 
 -- the words when only the first k jobs are left: what the next one names as before, or the words now

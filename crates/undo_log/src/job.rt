@@ -1,12 +1,15 @@
-/// A change's inverse, run once: a transaction by boosting logs one for each change.
+/// The inverse of one change, which is run at most once.
+///
+/// Its law is the contract of `run`: on a world that shows what the job names as after the change, it gives one that shows what the
+/// job names as before it. A job that is no longer wanted is dropped.
 pub trait UndoJob: Drop {
-    /// What the job runs on.
+    /// What was changed, as a table of nodes.
     type World;
 
-    /// The world is what the job names as after its change.
+    /// Whether a world shows what the job names as after its change.
     ghost shows_after: { Self → Self.World → Type 0 };
 
-    /// The world is what the job names as before its change.
+    /// Whether a world shows what the job names as before its change.
     ghost shows_before: { Self → Self.World → Type 0 };
 
     /// Takes the change back.

@@ -5,7 +5,10 @@ use crate::job::UndoJob;
 use std::alloc::{AllocError, Global};
 use std::marker::Model;
 
-/// The jobs of a transaction's changes and its savepoints.
+/// The inverses of a transaction's changes, and its savepoints.
+///
+/// Contracts see the `jobs`, oldest first; in `kept` how many jobs there were at each savepoint, savepoint 1 first; and the `room` for
+/// jobs and the `save_room` for savepoints that is there already. A level is the number of a savepoint, or 0, the beginning.
 #[derive(Drop)]
 pub struct UndoLog<J: UndoJob> {
     jobs: Vec<J>,
@@ -19,15 +22,15 @@ impl<J: UndoJob> Model for UndoLog<J> {
     ghost Value = { Log J };
 
     ghost view = { λ log. record {
-        jobs = log.jobs.items;
-        kept = log.kept.items;
-        room = vec_capacity log.jobs - vec_len log.jobs;
-        save_room = vec_capacity log.kept - vec_len log.kept
+      jobs = log.jobs.items;
+      kept = log.kept.items;
+      room = vec_capacity log.jobs - vec_len log.jobs;
+      save_room = vec_capacity log.kept - vec_len log.kept;
     } };
 }
 
 impl<J: UndoJob> UndoLog<J> {
-    /// An empty log at level 0, which takes no memory.
+    /// An empty log at level 0. Takes no memory.
     pub fn new(alloc: Global) -> UndoLog<J>
         ensures jobs { result.jobs ≡ [] }
         ensures kept { result.kept ≡ [] }
@@ -38,28 +41,29 @@ impl<J: UndoJob> UndoLog<J> {
         }
     }
 
-    /// The number of jobs.
+    /// The number of jobs. Constant time.
     pub fn len(&self) -> usize
         ensures { result ≡ length self.now.jobs }
     {
         self.jobs.len()
     }
 
-    /// Whether there is no job.
+    /// Whether there is no job. Constant time.
     pub fn is_empty(&self) -> bool
         ensures { IsTrue result ↔ (self.now.jobs ≡ []) }
     {
         self.jobs.is_empty()
     }
 
-    /// The number of savepoints.
+    /// The number of savepoints, which is the highest level. Constant time.
     pub fn level(&self) -> usize
         ensures { result ≡ length self.now.kept }
     {
         self.kept.len()
     }
 
-    /// The number of jobs that a return to the level keeps.
+    /// The number of jobs that a return to the level keeps: those that were there at its savepoint, none at level 0.
+    /// Constant time.
     pub fn kept(&self, level: usize) -> usize
         requires { level ≤ length self.now.kept }
         ensures { result ≡ kept_at self.now.kept level }
@@ -70,7 +74,13 @@ impl<J: UndoJob> UndoLog<J> {
         }
     }
 
-    /// Makes room for one more job.
+    /// Makes room for one more job, if there is none. The room stays until a job is pushed into it.
+    ///
+    /// Amortized constant time.
+    ///
+    /// # Errors
+    ///
+    /// `AllocError` where memory is refused, and only where there was no room. Then nothing has changed.
     pub fn reserve_one(&mut self) -> Result<(), AllocError>
         ensures jobs { self.new.jobs ≡ self.old.jobs }
         ensures kept { self.new.kept ≡ self.old.kept }
@@ -83,7 +93,7 @@ impl<J: UndoJob> UndoLog<J> {
         self.jobs.reserve(1)
     }
 
-    /// Adds a job in a reserved place.
+    /// Adds a job as the newest, in room that is there already. Takes no memory, constant time.
     pub fn push_reserved(&mut self, job: J)
         requires { 0 < self.old.room }
         ensures jobs { self.new.jobs ≡ self.old.jobs ++ job ∷ [] }
@@ -94,7 +104,13 @@ impl<J: UndoJob> UndoLog<J> {
         self.jobs.push_reserved(job);
     }
 
-    /// Makes room for one more savepoint.
+    /// Makes room for one more savepoint, if there is none, so that the next `save` succeeds.
+    ///
+    /// Amortized constant time.
+    ///
+    /// # Errors
+    ///
+    /// `AllocError` where memory is refused, and only where there was no room. Then nothing has changed.
     pub fn save_room(&mut self) -> Result<(), AllocError>
         ensures jobs { self.new.jobs ≡ self.old.jobs }
         ensures kept { self.new.kept ≡ self.old.kept }
@@ -107,7 +123,13 @@ impl<J: UndoJob> UndoLog<J> {
         self.kept.reserve(1)
     }
 
-    /// Makes a savepoint here, and gives its number.
+    /// Makes a savepoint here, which keeps all jobs, and gives its number: one more than there were savepoints.
+    ///
+    /// Amortized constant time.
+    ///
+    /// # Errors
+    ///
+    /// `AllocError` where memory is refused, and only where there was no room for a savepoint. Then nothing has changed.
     pub fn save(&mut self) -> Result<usize, AllocError>
         ensures jobs { self.new.jobs ≡ self.old.jobs }
         ensures room { self.new.room ≡ self.old.room }
@@ -122,7 +144,7 @@ impl<J: UndoJob> UndoLog<J> {
         Ok(self.kept.len())
     }
 
-    /// The job that `pop_above` would give.
+    /// The job that `pop_above` would give. Constant time.
     pub fn newest_above(&self, level: usize) -> Option<&J>
         requires { level ≤ length self.now.kept }
         ensures newest { option_copied result ≡ newest_above self.now level }
@@ -135,7 +157,10 @@ impl<J: UndoJob> UndoLog<J> {
         }
     }
 
-    /// Takes out the newest job, if there are more than the level keeps.
+    /// Takes out the newest job, or gives none where only those are left that the level keeps.
+    ///
+    /// Savepoints stay, those above the level too, until `cut`. The job's place is room again, in which it may be pushed back.
+    /// A transaction that commits takes out all its jobs so, by level 0, discards them and cuts at 0. Takes no memory, constant time.
     pub fn pop_above(&mut self, level: usize) -> Option<J>
         requires { level ≤ length self.old.kept }
         ensures newest { result ≡ newest_above self.old level }
@@ -152,7 +177,9 @@ impl<J: UndoJob> UndoLog<J> {
         }
     }
 
-    /// Drops the savepoints above the level.
+    /// Drops the savepoints above the level, once no job above it is left, and keeps the level's own.
+    ///
+    /// Takes no memory, and time for each savepoint that is dropped.
     pub fn cut(&mut self, level: usize)
         requires level { level ≤ length self.old.kept }
         requires none_above { length self.old.jobs ≤ kept_at self.old.kept level }

@@ -12,6 +12,7 @@ loop-job-init g c =
     let there : c.args.level ≤ length c.self.inside.log.kept = omega (arith, c.requires, ap (λ v. length v.levels) c.self.view_is, length-map c.self.inside.log.kept (words_at (λ j. g.S.Side.before j.job) (g.S.Side.words_of c.self.inside.value) c.self.inside.log.jobs)) in
     record {
       way = on_the_way_start _ _ (g.S.Side.words_of c.self.inside.value) c.self.inside.log c.args.level there c.self.invariant;
+      room = search rules;
       save_room = search rules;
     }
 
@@ -24,6 +25,7 @@ loop-job-preserved g c =
     let above : kept_at c.loop-job.self-inside.log.kept c.args.level < length c.loop-job.self-inside.log.jobs = search (rules, c.in-Some.ensures.some) in
     record {
       way = on_the_way_step _ _ (g.S.Side.words_of c.self.inside.value) (g.S.Side.words_of c.loop-job.self-inside.value) _ c.self.inside.log c.loop-job.self-inside.log c.pop_above.new.self c.in-Some.job c.args.level c.loop-job.invariant.way above c.in-Some.ensures.jobs c.in-Some.ensures.kept c.replace_with.ensures;
+      room = search rules;
       save_room = search rules;
     }
 

@@ -11,5 +11,5 @@ pub returns-clause-levels : goal.returns-clause-levels
 returns-clause-levels g c =
     on_ok_weaker c.save.result
     (λ kept. levels_of-save _ (λ j. g.S.Side.after j.job) (g.S.Side.words_of c.self.inside.value) c.self.inside.log c.save.new.self c.save.ensures.jobs kept
-      ∙ ap (λ v. v.levels ++ g.S.Side.words_of v.value ∷ []) c.self.view_is)
+    ∙ ap (λ v. v.levels ++ g.S.Side.words_of v.value ∷ []) c.self.view_is)
     c.save.ensures.kept
