@@ -6,15 +6,17 @@ use Rattle.std.proofs.lemmas.Option.{slice_get-map, slice_get-get_or}
 use Rattle.undo_log.specs.UndoLog.{Log, kept_at}
 use Rattle.undo_log.specs.SideValue.{words_at, levels_of, IsChain, IsRising, IsUndoable}
 
+-- a higher bound is one too
 IsRising-more : (low : ℕ) (ks : List ℕ) (high higher : ℕ) → high ≤ higher → IsRising low ks high → IsRising low ks higher
 IsRising-more low [] high higher more rising = omega (arith, more, rising)
 IsRising-more low (k ∷ ks) high higher more rising = (rising.0, IsRising-more k ks high higher more rising.1)
 
+-- the bound may be added to the numbers
 IsRising-push : (low : ℕ) (ks : List ℕ) (high : ℕ) → IsRising low ks high → IsRising low (ks ++ high ∷ []) high
 IsRising-push low [] high rising = (rising, omega arith)
 IsRising-push low (k ∷ ks) high rising = (rising.0, IsRising-push k ks high rising.1)
 
--- each of the numbers is a highest one of those up to it
+-- each of the numbers bounds those before it
 IsRising-take : (low : ℕ) (ks : List ℕ) (high n : ℕ) → n ≤ length ks → IsRising low ks high → IsRising low (take n ks) (get_or (low ∷ ks) n 0)
 IsRising-take low ks high zero there rising = omega arith
 IsRising-take low [] high (suc n) there rising = absurd (omega (arith, there))
@@ -48,6 +50,7 @@ module _ {J : Type 0} (before after : J → List ℕ) where
   words_at-push now (first ∷ jobs) job zero within = refl
   words_at-push now (first ∷ jobs) job (suc k) within = words_at-push now jobs job k (omega (arith, within))
 
+  -- one more job, which fits the words that were there, keeps the chain
   IsChain-push : (jobs : List J) (job : J) → IsChain before after (before job) jobs → IsChain before after (after job) (jobs ++ job ∷ [])
   IsChain-push [] job chain = (refl, tt)
   IsChain-push (first ∷ jobs) job chain =
@@ -58,6 +61,7 @@ module _ {J : Type 0} (before after : J → List ℕ) where
   newest_fits now [] job chain = sym chain.0
   newest_fits now (first ∷ jobs) job chain = newest_fits now jobs job chain.1
 
+  -- without its newest job the chain leads from what that one names as before
   IsChain_pop : (now : List ℕ) (jobs : List J) (job : J) → IsChain before after now (jobs ++ job ∷ []) → IsChain before after (before job) jobs
   IsChain_pop now [] job chain = tt
   IsChain_pop now (first ∷ jobs) job chain =
@@ -82,7 +86,7 @@ module _ {J : Type 0} (before after : J → List ℕ) where
       ap (λ ks. map (words_at before now pushed.jobs) (0 ∷ ks)) kept ∙ map_rising (words_at before now pushed.jobs) (words_at before was log.jobs) 0 log.kept (length log.jobs) nested same
 
   -- a savepoint here keeps all jobs
-  pub IsUndoable-save : (now : List ℕ) (log saved : Log J) → saved.jobs ≡ log.jobs → saved.kept ≡ log.kept ++ length log.jobs ∷ [] → IsUndoable before after now log → IsUndoable before after now saved
+  IsUndoable-save : (now : List ℕ) (log saved : Log J) → saved.jobs ≡ log.jobs → saved.kept ≡ log.kept ++ length log.jobs ∷ [] → IsUndoable before after now log → IsUndoable before after now saved
   IsUndoable-save now log saved jobs kept undoable = record {
     chain = subst (IsChain before after now) (sym jobs) undoable.chain;
     nested = subst (λ ks. IsRising 0 ks (length saved.jobs)) (sym kept) (subst (λ js. IsRising 0 (log.kept ++ length log.jobs ∷ []) (length js)) (sym jobs) (IsRising-push 0 log.kept (length log.jobs) undoable.nested));
@@ -96,17 +100,7 @@ module _ {J : Type 0} (before after : J → List ℕ) where
       ∙ map-append (words_at before now log.jobs) (0 ∷ log.kept) (length log.jobs ∷ [])
       ∙ ap (λ w. levels_of before now log ++ w ∷ []) (words_at_end now log.jobs (length log.jobs) (omega arith))
 
-  -- a log with no job and no savepoint
-  pub IsUndoable-empty : (now : List ℕ) (log : Log J) → log.jobs ≡ [] → log.kept ≡ [] → IsUndoable before after now log
-  IsUndoable-empty now log jobs kept = record {
-    chain = subst (IsChain before after now) (sym jobs) tt;
-    nested = subst (λ ks. IsRising 0 ks (length log.jobs)) (sym kept) (omega arith);
-  }
-
-  pub levels_of-empty : (now : List ℕ) (log : Log J) → log.jobs ≡ [] → log.kept ≡ [] → levels_of before now log ≡ now ∷ []
-  levels_of-empty now log jobs kept =
-      ap (λ js. map (words_at before now js) (0 ∷ log.kept)) jobs ∙ ap (λ ks. map (words_at before now []) (0 ∷ ks)) kept
-
+  -- whether or not there was memory for the savepoint
   pub IsUndoable-saved : {T E : Type 0} (now : List ℕ) (log saved : Log J) (r : Result T E) → saved.jobs ≡ log.jobs → OnOk r (saved.kept ≡ log.kept ++ length log.jobs ∷ []) → OnErr r (saved ≡ log) → IsUndoable before after now log → IsUndoable before after now saved
   IsUndoable-saved now log saved (Ok x) jobs kept err undoable = IsUndoable-save now log saved jobs kept undoable
   IsUndoable-saved now log saved (Err e) jobs kept err undoable = subst (IsUndoable before after now) (sym err) undoable
@@ -118,6 +112,7 @@ module _ {J : Type 0} (before after : J → List ℕ) where
     pub enough : kept_at old.kept level ≤ length new.jobs
     pub words : (k : ℕ) → k ≤ length new.jobs → words_at before now new.jobs k ≡ words_at before start old.jobs k
 
+  -- at its start no job has been run
   pub on_the_way_start : (start : List ℕ) (log : Log J) (level : ℕ) → level ≤ length log.kept → IsUndoable before after start log → IsOnTheWay start start log log level
   on_the_way_start start log level there undoable = record {
     kept = refl;
@@ -126,6 +121,7 @@ module _ {J : Type 0} (before after : J → List ℕ) where
     words = λ k within. refl;
   }
 
+  -- one more job leads on to the words that it names as before
   pub on_the_way_step : (start now next : List ℕ) (old log popped : Log J) (job : J) (level : ℕ) → IsOnTheWay start now old log level → kept_at log.kept level < length log.jobs → log.jobs ≡ popped.jobs ++ job ∷ [] → popped.kept ≡ log.kept → next ≡ before job → IsOnTheWay start next old popped level
   on_the_way_step start now next old log popped job level way above jobs kept gives =
       let shorter : length log.jobs ≡ length popped.jobs + 1 = ap length jobs ∙ length_push popped.jobs job in
@@ -151,6 +147,7 @@ module _ {J : Type 0} (before after : J → List ℕ) where
     pub levels : levels_of before now cut ≡ take (level + 1) (levels_of before start old)
     pub words : slice_get (levels_of before start old) level ≡ Some now
 
+  -- with no job above the level, the way is at its end
   pub on_the_way_end : (start now : List ℕ) (old log cut : Log J) (level : ℕ) → level ≤ length old.kept → IsUndoable before after start old → IsOnTheWay start now old log level → length log.jobs ≤ kept_at log.kept level → log.jobs ≡ cut.jobs → cut.kept ≡ take level log.kept → IsCutAt start now old cut level
   on_the_way_end start now old log cut level there undoable way none_above jobs kept =
       let all_kept : length cut.jobs ≡ kept_at old.kept level =

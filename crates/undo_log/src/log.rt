@@ -170,11 +170,8 @@ impl<J: UndoJob> UndoLog<J> {
         ensures room { self.new.room ≡ self.old.room + length (option_to_list result) }
         ensures save_room { self.new.save_room ≡ self.old.save_room }
     {
-        if self.len() > self.kept(level) {
-            self.jobs.pop()
-        } else {
-            None
-        }
+        self.newest_above(level)?;
+        self.jobs.pop()
     }
 
     /// Drops the savepoints above the level, once no job above it is left, and keeps the level's own.

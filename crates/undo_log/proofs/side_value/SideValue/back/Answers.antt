@@ -11,20 +11,20 @@ pub loop-job-init : goal.loop-job-init
 loop-job-init g c =
     let there : c.args.level ≤ length c.self.inside.log.kept = omega (arith, c.requires, ap (λ v. length v.levels) c.self.view_is, length-map c.self.inside.log.kept (words_at (λ j. g.S.Side.before j.job) (g.S.Side.words_of c.self.inside.value) c.self.inside.log.jobs)) in
     record {
-      way = on_the_way_start _ _ (g.S.Side.words_of c.self.inside.value) c.self.inside.log c.args.level there c.self.invariant;
+      way = on_the_way_start (λ j. g.S.Side.before j.job) (λ j. g.S.Side.after j.job) (g.S.Side.words_of c.self.inside.value) c.self.inside.log c.args.level there c.self.invariant;
       room = search rules;
       save_room = search rules;
     }
 
 pub replace_with-requires : goal.replace_with-requires
 replace_with-requires g c =
-    on_the_way_fits _ _ (g.S.Side.words_of c.self.inside.value) (g.S.Side.words_of c.loop-job.self-inside.value) c.self.inside.log c.loop-job.self-inside.log c.pop_above.new.self.jobs c.in-Some.job c.args.level c.loop-job.invariant.way c.in-Some.ensures.jobs
+    on_the_way_fits (λ j. g.S.Side.before j.job) (λ j. g.S.Side.after j.job) (g.S.Side.words_of c.self.inside.value) (g.S.Side.words_of c.loop-job.self-inside.value) c.self.inside.log c.loop-job.self-inside.log c.pop_above.new.self.jobs c.in-Some.job c.args.level c.loop-job.invariant.way c.in-Some.ensures.jobs
 
 pub loop-job-preserved : goal.loop-job-preserved
 loop-job-preserved g c =
     let above : kept_at c.loop-job.self-inside.log.kept c.args.level < length c.loop-job.self-inside.log.jobs = search (rules, c.in-Some.ensures.some) in
     record {
-      way = on_the_way_step _ _ (g.S.Side.words_of c.self.inside.value) (g.S.Side.words_of c.loop-job.self-inside.value) _ c.self.inside.log c.loop-job.self-inside.log c.pop_above.new.self c.in-Some.job c.args.level c.loop-job.invariant.way above c.in-Some.ensures.jobs c.in-Some.ensures.kept c.replace_with.ensures;
+      way = on_the_way_step (λ j. g.S.Side.before j.job) (λ j. g.S.Side.after j.job) (g.S.Side.words_of c.self.inside.value) (g.S.Side.words_of c.loop-job.self-inside.value) (g.S.Side.words_of c.replace_with.new.dest) c.self.inside.log c.loop-job.self-inside.log c.pop_above.new.self c.in-Some.job c.args.level c.loop-job.invariant.way above c.in-Some.ensures.jobs c.in-Some.ensures.kept c.replace_with.ensures;
       room = search rules;
       save_room = search rules;
     }
@@ -33,7 +33,7 @@ ended : (g : given.Over) (c : goal.After-cut g) → IsCutAt (λ j. g.S.Side.befo
 ended g c =
     let there : c.args.level ≤ length c.self.inside.log.kept = omega (arith, c.requires, ap (λ v. length v.levels) c.self.view_is, length-map c.self.inside.log.kept (words_at (λ j. g.S.Side.before j.job) (g.S.Side.words_of c.self.inside.value) c.self.inside.log.jobs)) in
     let none_above : length c.loop-job.self-inside.log.jobs ≤ kept_at c.loop-job.self-inside.log.kept c.args.level = grind (arith, common_steps, c.in_default.ensures.some) in
-    on_the_way_end _ _ (g.S.Side.words_of c.self.inside.value) (g.S.Side.words_of c.loop-job.self-inside.value) c.self.inside.log c.loop-job.self-inside.log c.cut.new.self c.args.level there c.self.invariant c.loop-job.invariant.way none_above
+    on_the_way_end (λ j. g.S.Side.before j.job) (λ j. g.S.Side.after j.job) (g.S.Side.words_of c.self.inside.value) (g.S.Side.words_of c.loop-job.self-inside.value) c.self.inside.log c.loop-job.self-inside.log c.cut.new.self c.args.level there c.self.invariant c.loop-job.invariant.way none_above
     (c.in_default.ensures.jobs ∙ append-nil c.pop_above.new.self.jobs ∙ sym c.cut.ensures.jobs)
     (c.cut.ensures.kept ∙ ap (take c.args.level) c.in_default.ensures.kept)
 
