@@ -22,7 +22,10 @@ pub mod Entries
 pub mod Bounds
 pub mod Erasing
 pub mod Erased
+pub mod Breaking
 pub mod Order
 pub mod Sums
 pub mod Room
+pub mod Verdicts
+pub mod Counts
 pub mod Cases

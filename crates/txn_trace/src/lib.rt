@@ -8,6 +8,8 @@ mod limits;
 mod op;
 mod refusal;
 mod step;
+#[cfg(test)]
+mod tests;
 
 pub use answer::{Answer, answer_text};
 pub use entry::Entry;
