@@ -1,6 +1,8 @@
 -- What is left of a seek at each node.
-use Rattle.std.proofs.Common.{◌≡◌, ◌≢◌, ℕ, ◌+◌, ◌<◌, ◌≤◌, List, [], ◌∷◌, ◌++◌, Option, Some, None, Bool, true, false, length, refl, sym, ◌∙◌, ap, subst, arith, if◌then◌else◌, ◌==◌, nat_lt, append_assoc}
-use Rattle.std.proofs.lemmas.Bool.Decides.{nat_tests}
+use Rattle.std.proofs.Common.{◌≡◌, ◌≢◌, ℕ, ◌+◌, ◌<◌, ◌≤◌, ◌⊎◌, inl, inr, List, [], ◌∷◌, ◌++◌, Option, Some, None, Bool, true, false, length, refl, sym, ◌∙◌, ap, subst, arith, if◌then◌else◌, ◌==◌, nat_lt, append_assoc}
+use Rattle.std.proofs.lemmas.Bool.{cases_lt}
+use Rattle.std.proofs.lemmas.Bool.Decides.{eqb_tells, nat_tests}
+use Rattle.std.specs.List.{AllByRecursion}
 use Rattle.node_list.specs.Nodes.{NodeAt, Listing, IsLinked, node_of, next_of, first, without_first, unlinked_after, Becomes}
 use Rattle.node_list.specs.Order.{AbsentFrom, IsSpread}
 use Rattle.node_list.specs.Follow.{Follows}
@@ -175,3 +177,25 @@ module _ (nodes : List NodeAt) (place : ℕ) (n m : NodeAt) (is : node_of nodes 
         ap length (behind_at (unlinked_after nodes place) place n (at_unlinked nodes place n at)),
         ap length behind_first,
       )
+
+-- what holds of each node holds of each that a seek leaves
+pub each_cleaned : (P : NodeAt → Type 0) (split : ℕ) (nodes : List NodeAt) → AllByRecursion P nodes → AllByRecursion P (cleaned split nodes)
+each_cleaned P split [] each = let Each : List NodeAt → Type 0 = λ ns. AllByRecursion P ns in subst Each (sym (cleaned_nil split)) tt
+each_cleaned P split (n ∷ rest) each = go n.marked refl (each_cleaned P split rest each.1)
+  where
+    Each : List NodeAt → Type 0
+    Each ns = AllByRecursion P ns
+    go : (b : Bool) → n.marked ≡ b → AllByRecursion P (cleaned split rest) → AllByRecursion P (cleaned split (n ∷ rest))
+    go true marked later = subst Each (sym (cleaned_marked n rest split marked)) later
+    go false unmarked later = elim (cases_lt n.split split) [
+      | inl less ↦ subst Each (sym (cleaned_passed n rest split unmarked less)) (each.0, later)
+      | inr more ↦ subst Each (sym (cleaned_stopped n rest split unmarked more)) each
+    ]
+
+pub each_sought : (P : NodeAt → Type 0) (nodes : List NodeAt) (from split : ℕ) → AllByRecursion P nodes → AllByRecursion P (sought nodes from split)
+unfolding sought
+each_sought P [] from split each = tt
+each_sought P (n ∷ rest) from split each = elim (eqb_tells n.place from) [
+  | inl here ↦ rw here.0 (each.0, each_cleaned P split rest each.1)
+  | inr apart ↦ rw apart.0 (each.0, each_sought P rest from split each.1)
+]

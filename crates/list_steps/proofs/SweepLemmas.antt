@@ -1,5 +1,5 @@
 -- What a sweep has passed at each node.
-use Rattle.std.proofs.Common.{◌≡◌, ◌≢◌, ℕ, ◌<◌, List, [], ◌∷◌, ◌++◌, Option, Some, None, Bool, true, false, refl, sym, ◌∙◌, ap, subst, arith, append_assoc}
+use Rattle.std.proofs.Common.{◌≡◌, ◌≢◌, ℕ, ◌<◌, List, [], ◌∷◌, ◌++◌, Option, Some, None, Bool, true, false, refl, sym, ◌∙◌, ap, subst, arith, append_assoc, if◌then◌else◌}
 use Rattle.std.specs.List.{AllByRecursion}
 use Rattle.node_list.specs.declared.node.Kind.TheVariants.{Dummy}
 use Rattle.node_list.specs.Nodes.{NodeAt, Listing, node_of, next_of, first, without_first, unlinked_after}
@@ -103,3 +103,12 @@ module _ (nodes : List NodeAt) (place : ℕ) (sweeping : IsSweeping nodes place)
       let C : List NodeAt → Type 0 = IsClean in
       let parts = sweeping.at.is ∙ ap (λ ns. sweeping.at.front ++ sweeping.node ∷ ns) (first_is sweeping.at.rest m (first_rest (Some m) is)) in
       clean_next sweeping.at.front sweeping.node m (without_first sweeping.at.rest) marked (subst C parts clean)
+
+-- what holds of each node holds of each that a sweep leaves
+pub each_swept : (P : NodeAt → Type 0) (nodes : List NodeAt) → AllByRecursion P nodes → AllByRecursion P (without_first_marked nodes)
+unfolding without_first_marked
+each_swept P [] each = tt
+each_swept P (n ∷ rest) each = elim n.marked as (λ b. AllByRecursion P (if b then rest else n ∷ without_first_marked rest)) [
+  | true ↦ each.1
+  | false ↦ (each.0, each_swept P rest each.1)
+]
