@@ -185,6 +185,7 @@ each_cleaned P split (n ∷ rest) each = go n.marked refl (each_cleaned P split 
   where
     Each : List NodeAt → Type 0
     Each ns = AllByRecursion P ns
+
     go : (b : Bool) → n.marked ≡ b → AllByRecursion P (cleaned split rest) → AllByRecursion P (cleaned split (n ∷ rest))
     go true marked later = subst Each (sym (cleaned_marked n rest split marked)) later
     go false unmarked later = elim (cases_lt n.split split) [

@@ -14,8 +14,8 @@ pub struct Noted {
 
 /// Where a split key belongs in a list, as a seek found it.
 ///
-/// It is plain data: the list may change while it is kept, and the step that is handed the cursor tests
-/// whether it still fits.
+/// It is plain data: the list may change while it is kept, and the step that is handed the cursor
+/// tests whether it still fits.
 #[derive(Clone, Copy, Debug, PartialEq, Eq)]
 pub struct Cursor {
     pub(crate) pred: Noted,
@@ -24,7 +24,7 @@ pub struct Cursor {
     pub(crate) turn: u64,
 }
 
-/// The cursor does not fit: the list is not as the cursor noted it, and nothing was changed. Seek again.
+/// The cursor does not fit: the list is not as it noted it. Nothing was changed; seek again.
 #[derive(Clone, Copy, Debug, PartialEq, Eq)]
 pub struct Again;
 
