@@ -1,13 +1,13 @@
 -- What steps do to the content.
-use Rattle.std.proofs.Common.{◌≡◌, ℕ, ◌<◌, ◌≤◌, ◌⊎◌, inl, inr, List, [], ◌∷◌, ◌++◌, Bool, true, false, Some, arith, subst, ◌+◌, length, refl, sym, ◌∙◌, ap, append_assoc}
+use Rattle.std.proofs.Common.{◌≡◌, ℕ, inl, inr, List, [], ◌∷◌, ◌++◌, Bool, true, false, Some, arith, subst, refl, sym, ◌∙◌, ap, append_assoc}
 use Rattle.std.proofs.lemmas.Bool.{cases_lt}
 use Rattle.std.specs.Prelude.{Contains}
 use Rattle.std.proofs.lemmas.List.Elements.{Contains-append_right}
 use Rattle.node_list.specs.declared.node.Kind.{Kind}
 use Rattle.node_list.specs.declared.node.Kind.TheVariants.{Dummy, Regular}
-use Rattle.node_list.specs.Nodes.{NodeAt, IsBeforeMarked, linked_after, marked_at, written_at, unlinked_after, changed_at, node_of, next_of, without_first}
+use Rattle.node_list.specs.Nodes.{NodeAt, IsBeforeMarked, linked_after, marked_at, written_at, unlinked_after, changed_at, node_of, without_first}
 use Rattle.list_steps.specs.Content.{pair_if, pair_of, pairs, Replaces}
-use Rattle.list_steps.specs.Seek.{IsBelow, IsStart, cleaned, sought}
+use Rattle.list_steps.specs.Seek.{IsStart, cleaned, sought}
 use Rattle.list_steps.proofs.NodeLemmas.{IsAt, found_at, next_from, linked_at, changed_is, unlinked_at, next_at, first_is}
 use Rattle.list_steps.proofs.SeekLemmas.{cleaned_marked, cleaned_passed, cleaned_stopped, sought_at}
 

@@ -1,16 +1,16 @@
 -- What is left of a seek at each node.
-use Rattle.std.proofs.Common.{◌≡◌, ◌≢◌, ℕ, ◌+◌, ◌<◌, ◌≤◌, ◌⊎◌, inl, inr, List, [], ◌∷◌, ◌++◌, Option, Some, None, Bool, true, false, length, refl, sym, ◌∙◌, ap, subst, arith, if◌then◌else◌, ◌==◌, nat_lt, append_assoc}
+use Rattle.std.proofs.Common.{◌≡◌, ℕ, ◌<◌, ◌≤◌, inl, inr, List, [], ◌∷◌, ◌++◌, Option, Some, None, Bool, true, false, length, refl, sym, ◌∙◌, ap, subst, arith, if◌then◌else◌, ◌==◌, nat_lt, append_assoc}
 use Rattle.std.proofs.lemmas.Bool.{cases_lt}
 use Rattle.std.proofs.lemmas.Bool.Decides.{eqb_tells, nat_tests}
 use Rattle.std.specs.List.{AllByRecursion}
-use Rattle.node_list.specs.Nodes.{NodeAt, Listing, IsLinked, node_of, next_of, first, without_first, unlinked_after, Becomes}
+use Rattle.node_list.specs.Nodes.{NodeAt, Listing, IsLinked, node_of, next_of, first, without_first, unlinked_after}
 use Rattle.node_list.specs.Order.{AbsentFrom, IsSpread}
 use Rattle.node_list.specs.Follow.{Follows}
 use Rattle.node_list.specs.declared.node.Kind.TheVariants.{Dummy}
 use Rattle.node_list.specs.Sound.{AllPlain}
 use Rattle.node_list.proofs.OrderLemmas.{each_found}
 use Rattle.list_steps.specs.Seek.{cleaned, sought, IsBelow, IsPred, IsStart, KeepsRest}
-use Rattle.list_steps.proofs.NodeLemmas.{IsAt, found_at, node_at, next_at, unlinked_at, at_unlinked, at_next, first_is, first_none, same_test, apart_test}
+use Rattle.list_steps.proofs.NodeLemmas.{IsAt, found_at, node_at, next_at, at_unlinked, at_next, first_is, first_none, same_test, apart_test}
 
 -- the nodes behind a place
 unfoldable pub nodes_behind : List NodeAt → ℕ → List NodeAt

@@ -1,8 +1,8 @@
 -- What a sweep has passed at each node.
-use Rattle.std.proofs.Common.{◌≡◌, ◌≢◌, ℕ, ◌<◌, List, [], ◌∷◌, ◌++◌, Option, Some, None, Bool, true, false, refl, sym, ◌∙◌, ap, subst, arith, append_assoc, if◌then◌else◌}
+use Rattle.std.proofs.Common.{◌≡◌, ℕ, List, [], ◌∷◌, ◌++◌, Option, Some, None, true, false, refl, sym, ◌∙◌, ap, subst, arith, append_assoc, if◌then◌else◌}
 use Rattle.std.specs.List.{AllByRecursion}
 use Rattle.node_list.specs.declared.node.Kind.TheVariants.{Dummy}
-use Rattle.node_list.specs.Nodes.{NodeAt, Listing, node_of, next_of, first, without_first, unlinked_after}
+use Rattle.node_list.specs.Nodes.{NodeAt, Listing, next_of, first, without_first, unlinked_after}
 use Rattle.node_list.specs.Order.{IsBefore, IsRising, IsSpread}
 use Rattle.node_list.specs.Sound.{AllPlain, IsSound}
 use Rattle.list_steps.specs.Steps.{without_first_marked}
