@@ -118,17 +118,6 @@ module _ (nodes : List NodeAt) (place split : ℕ) (pred : IsPred nodes place sp
         next : IsAt nodes m.place m
         next = at_next nodes place pred.node pred_at m spread (first_rest (Some m) is)
 
-    pub behind_passed : IsSpread nodes → length (nodes_behind nodes m.place) < length (nodes_behind nodes place)
-    behind_passed spread =
-        omega (
-          arith,
-          ap length (behind_at nodes m.place m next),
-          ap length (behind_at nodes place pred.node pred_at ∙ rest_is),
-        )
-      where
-        next : IsAt nodes m.place m
-        next = at_next nodes place pred.node pred_at m spread (first_rest (Some m) is)
-
     -- a marked node is unlinked
     pub sought_unlinked : m.marked ≡ true → sought (unlinked_after nodes place) place split ≡ sought nodes place split
     sought_unlinked marked =
@@ -136,14 +125,6 @@ module _ (nodes : List NodeAt) (place split : ℕ) (pred : IsPred nodes place sp
         ∙ ap (λ ns. pred_at.front ++ pred.node ∷ ns)
         (sym (ap (cleaned split) rest_is ∙ cleaned_marked m (without_first pred_at.rest) split marked))
         ∙ sym (sought_at nodes place pred.node pred_at split)
-
-    pub behind_unlinked : length (nodes_behind (unlinked_after nodes place) place) < length (nodes_behind nodes place)
-    behind_unlinked =
-        omega (
-          arith,
-          ap length (behind_at (unlinked_after nodes place) place pred.node (at_unlinked nodes place pred.node pred_at)),
-          ap length (behind_at nodes place pred.node pred_at ∙ rest_is),
-        )
 
   -- the node at the place stays
   pub pred_unlinked : IsPred (unlinked_after nodes place) place split

@@ -61,7 +61,7 @@ fn is_unmarked_with(node: &Node, stamp: u64) -> bool
 
 impl Cursor {
     ghost use Rattle.list_steps.specs.Seek.{IsPred};
-    ghost use Rattle.list_steps.specs.Found.{IsBeyond, IsFound, IsPlaced, fits, split_of, behind, is_next_noted};
+    ghost use Rattle.list_steps.specs.Found.{IsBeyond, IsFound, IsPlaced, behind, fits, is_next_noted, pred_of, split_of};
 
     // The cursor of a split key, which belongs behind this place.
     pub(crate) fn behind(list: &NodeList, place: NodeRef, split: u64) -> Cursor
@@ -82,7 +82,7 @@ impl Cursor {
 
     // Whether the node behind the first one is what was noted, and unmarked.
     fn is_next_fitting(&self, list: &NodeList) -> bool
-        requires { IsLinked list.now.nodes self.now.pred.place }
+        requires { IsLinked list.now.nodes (pred_of self.now) }
         ensures { result ≡ is_next_noted (behind list.now self.now) self.now.cur }
     {
         match (list.node(self.pred.place).next, self.cur) {
@@ -101,7 +101,7 @@ impl Cursor {
         ensures sound { IsSound list.now }
     {
         match list.linked_node(self.pred.place) {
-            Some(pred) => { is_unmarked_with(pred, self.pred.stamp) && self.is_next_fitting(list) }
+            Some(pred) => is_unmarked_with(pred, self.pred.stamp) && self.is_next_fitting(list),
             None => false,
         }
     }
