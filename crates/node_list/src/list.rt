@@ -100,14 +100,15 @@ impl NodeList {
         let _ = self.slab.try_remove(spare.place);
     }
 
-    /// Links the node of a spare behind a linked node.
+    /// Links the node of a spare behind a linked node. The spare is out no more.
     ///
     /// Takes no memory. Constant time.
     pub fn link_after(&mut self, pred: NodeRef, spare: Spare)
         requires linked { IsLinked self.old.nodes pred }
         requires out { IsOut self.old spare }
         requires order { IsRising (linked_after self.old.nodes pred (filled spare)) }
-        ensures linked { Takes self.old self.new (linked_after self.old.nodes pred (filled spare)) spare.place }
+        ensures linked { Takes self.old self.new
+            (linked_after self.old.nodes pred (filled spare)) spare.place }
         ensures follows { Follows self.old self.new }
     {
         let Spare { place, mut node } = spare;

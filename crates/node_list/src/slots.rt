@@ -32,7 +32,8 @@ impl Slot {
     }
 
     fn mark(&mut self)
-        ensures { (node : Node) → self.old ≡ Linked node → self.new ≡ Linked (record node { marked = true }) }
+        ensures { (node : Node) → self.old ≡ Linked node →
+            self.new ≡ Linked (record node { marked = true }) }
     {
         if let Slot::Linked(node) = self {
             node.marked = true;
@@ -40,7 +41,8 @@ impl Slot {
     }
 
     fn set_value(&mut self, value: u64)
-        ensures { (node : Node) → self.old ≡ Linked node → self.new ≡ Linked (record node { value = value }) }
+        ensures { (node : Node) → self.old ≡ Linked node →
+            self.new ≡ Linked (record node { value = value }) }
     {
         if let Slot::Linked(node) = self {
             node.value = value;
