@@ -19,6 +19,7 @@ pub mod Logs
 pub mod Holders
 pub mod Next
 pub mod Entries
+pub mod Held
 pub mod Bounds
 pub mod Erasing
 pub mod Erased

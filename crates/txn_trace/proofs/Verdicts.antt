@@ -1,6 +1,7 @@
 -- The first bad entry of a history, and what a verdict counts.
 use Rattle.std.proofs.Common.{◌≡◌, ℕ, suc, ◌+◌, List, [], ◌∷◌, ◌++◌, length, refl, ap, sym, subst, ◌∙◌, Some, None, Option, arith, append_assoc, length-append}
 use Rattle.std.proofs.lemmas.List.{append-nil}
+use Rattle.std.specs.Prelude.{◌↔◌}
 use mathlib.Core.Logic.{◌⊎◌, inl, inr}
 use Rattle.txn_trace.specs.declared.entry.Entry.{Entry}
 use Rattle.txn_trace.specs.History.{is_commit}
@@ -81,3 +82,7 @@ legal_or_bad stripes h = from (first_bad stripes [] h 0) refl
     from : (o : Option (ℕ × ℕ)) → first_bad stripes [] h 0 ≡ o → IsLegal stripes h ⊎ ((i rule : ℕ) × IsFirstBad stripes h i rule)
     from None is = inl ((legal_iff stripes h).1 is)
     from (Some bad) is = inr (bad.0, bad.1, first_bad_is stripes h bad.0 bad.1 is)
+
+-- After a legal history one more entry is legal exactly where it breaks no rule.
+pub legal-push : (stripes : ℕ) (g : List Entry) → IsLegal stripes g → (e : Entry) → IsLegal stripes (g ++ e ∷ []) ↔ (broken stripes g e ≡ None)
+legal-push stripes g legal e = (λ after. fine_head stripes g e [] 0 (none_bad stripes g (e ∷ []) 0 after), λ fine. legal_after stripes g e legal fine)

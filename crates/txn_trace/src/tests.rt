@@ -11,7 +11,10 @@ fn answers_as_text(rt: HostRuntime) -> Result<(), Fail> {
         (Answer::Again, "again"),
         (Answer::Done(None), "done none"),
         (Answer::Done(Some(0)), "done 0"),
-        (Answer::Done(Some(0xffff_ffff_ffff_ffff)), "done 18446744073709551615"),
+        (
+            Answer::Done(Some(0xffff_ffff_ffff_ffff)),
+            "done 18446744073709551615",
+        ),
         (Answer::Undone, "undone"),
         (Answer::Returned(0), "returned 0"),
         (Answer::Aborted, "aborted"),
@@ -98,7 +101,11 @@ fn limits_out_of_range(rt: HostRuntime) {
         (1, 0x1_0000_0001, 8),
     ];
     for (callers, stripes, buckets) in table {
-        assert_eq!(rt; Limits::new(callers, stripes, buckets), Err(Refusal::Limit), "{callers} callers, {stripes} stripes, {buckets} buckets");
+        assert_eq!(rt;
+            Limits::new(callers, stripes, buckets),
+            Err(Refusal::Limit),
+            "{callers} callers, {stripes} stripes, {buckets} buckets"
+        );
     }
 }
 
