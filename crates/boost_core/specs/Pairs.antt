@@ -1,0 +1,12 @@
+-- Pairs of key and value beside their split keys.
+use Rattle.std.specs.Prelude.{◌≡◌, ℕ, ◌<◌, ◌^◌, List, map}
+use Rattle.std.specs.List.{All}
+use Rattle.txn_trace.specs.Ordered.{split}
+
+-- The pairs, in order.
+abbrev pub pairs_of : List (ℕ × (ℕ × ℕ)) → List (ℕ × ℕ)
+pairs_of entries = map (λ entry. entry.1) entries
+
+-- Each pair stands at the split key of its key.
+abbrev pub AllPlaced : List (ℕ × (ℕ × ℕ)) → Type 0
+AllPlaced entries = All (λ entry. (entry.0 ≡ split entry.1.0) × (entry.1.0 < 2 ^ 63)) entries
