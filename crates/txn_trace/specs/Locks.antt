@@ -1,5 +1,5 @@
 -- The rule of locks: a stripe of keys belongs to one open transaction at a time.
-use Rattle.std.specs.Prelude.{ℕ, ◌%◌, ◌==◌, Bool, true, false, not, ◌&&◌, Some, None, IsTrue, List, [], ◌∷◌, ◌++◌, map}
+use Rattle.std.specs.Prelude.{ℕ, ◌%◌, ◌==◌, Bool, true, false, not, ◌&&◌, Option, Some, None, slice_get, IsTrue, List, [], ◌∷◌, ◌++◌, map}
 use Rattle.std.specs.List.{filter, list_any, list_all}
 use mathlib.Core.List.{IsPrefix}
 use Rattle.txn_trace.specs.declared.entry.Entry.{Entry}
@@ -23,6 +23,10 @@ is_in_open h line = elim line.txn [ None ↦ false | Some t ↦ is_open t h ]
 -- The callers with an open transaction that has asked for a key of the stripe.
 abbrev pub holders : ℕ → ℕ → List Entry → List ℕ
 holders stripes s h = map (λ line. caller_of line.entry) (filter (λ line. asks_in stripes s line.entry && is_in_open h line) (lines_of h))
+
+-- The caller that holds a stripe, if one does: in a legal history no stripe has two.
+abbrev pub holder_of : ℕ → ℕ → List Entry → Option ℕ
+holder_of stripes s h = slice_get (holders stripes s h) 0
 
 -- Whether an entry may stand after g: an Asked where no other caller holds the stripe, a Busy where the named one is another and does.
 abbrev pub is_locked : ℕ → List Entry → Entry → Bool

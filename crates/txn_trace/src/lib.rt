@@ -3,6 +3,7 @@
 
 mod answer;
 mod entry;
+pub mod laws;
 mod limits;
 mod op;
 mod refusal;

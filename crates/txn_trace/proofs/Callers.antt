@@ -1,0 +1,323 @@
+-- The callers of a history of the right shape: each is in one transaction at most, and runs exactly while that is open.
+use Rattle.std.proofs.Common.{◌≡◌, ℕ, ◌-◌, take, slice_index, ◌+◌, ◌≤◌, Bool, true, false, cond, not, ◌&&◌, ◌||◌, ◌==◌, List, [], ◌∷◌, ◌++◌, length, refl, ap, sym, subst, ◌∙◌, Some, None, Option, is_some, arith, append_assoc}
+use Rattle.std.specs.Option.{option_and_then}
+use Rattle.std.specs.Prelude.{nat_lt}
+use Rattle.std.specs.List.{fold, AllByRecursion}
+use Rattle.std.proofs.lemmas.Bool.{false≢true, eqb-true, eq-eqb, and_parts, cases_eq, ne_eqb, or_left}
+use Rattle.std.proofs.lemmas.List.{append-nil}
+use mathlib.Core.List.{IsPrefix}
+use mathlib.Core.Logic.{◌⊎◌, inl, inr}
+use Rattle.txn_trace.specs.declared.entry.Entry.{Entry}
+use Rattle.txn_trace.specs.declared.entry.Entry.TheVariants.{Began, Asked, Did, Saved, Leave, Undone, Returned, Committed, Busy, Aborted}
+use Rattle.txn_trace.specs.History.{Line, caller_of, is_began, is_commit, is_abort, txn_after, lines_of, of, ends_in, is_committed, is_aborted, is_open}
+use Rattle.txn_trace.specs.Shape.{Seat, Phase, Closed, Opened, Waiting, LeavingTo, LeavingToEnd, row, seat_after, closed_seat, own, how_many, is_shaped, is_numbered, IsShaped}
+use Rattle.txn_trace.specs.Legal.{runs, is_running}
+use Rattle.txn_trace.proofs.Pushes.{txn_in, txn_at, lines_of-push, txn_in-push, of-push_in, of-push_out, ends_in-push, seat_after-push, own-push_in, own-push_out, how_many-push}
+
+abbrev pub is_end : Entry → Bool
+is_end e = is_commit e || is_abort e
+
+-- whether a transaction has committed or aborted
+abbrev pub ended : ℕ → List Entry → Bool
+ended t g = ends_in is_end (of t g)
+
+ends_either : (es : List Entry) (a b : Bool) → fold (λ x e. is_end e) (a || b) es ≡ (fold (λ x e. is_commit e) a es || fold (λ x e. is_abort e) b es)
+ends_either [] a b = refl
+ends_either (e ∷ es) a b = ends_either es (is_commit e) (is_abort e)
+
+pub is_open-ended : (t : ℕ) (g : List Entry) → is_open t g ≡ not (ended t g)
+is_open-ended t g = ap not (sym (ends_either (of t g) false false))
+
+-- a line of a transaction that has not ended is of the caller that is in it
+abbrev pub IsOwned : List Entry → Line → Type 0
+IsOwned g line = (t : ℕ) → line.txn ≡ Some t → ended t g ≡ false → txn_in g (caller_of line.entry) ≡ Some t
+
+pub record Callers (g : List Entry) : Type 0 where
+  pub numbers : (c t : ℕ) → txn_in g c ≡ Some t → t ≤ how_many is_began g
+  pub ended_numbers : (t : ℕ) → ended t g ≡ true → t ≤ how_many is_began g
+  pub one : (c d t : ℕ) → txn_in g c ≡ Some t → txn_in g d ≡ Some t → c ≡ d
+  pub closed : (c t : ℕ) → txn_in g c ≡ Some t → ended t g ≡ true → seat_after (own c g) ≡ Some closed_seat
+  pub running : (c t : ℕ) → txn_in g c ≡ Some t → ended t g ≡ false → is_running (seat_after (own c g)) ≡ true
+  pub owned : AllByRecursion (IsOwned g) (lines_of g)
+
+pub callers_none : Callers []
+callers_none = record {
+  numbers = λ c t is. absurd (cc (is));
+  ended_numbers = λ t is. absurd (false≢true is);
+  one = λ c d t is js. absurd (cc (is));
+  closed = λ c t is js. refl;
+  running = λ c t is js. absurd (cc (is));
+  owned = tt;
+}
+
+-- whose transaction an entry is in: that of its caller before, or the one that it begins
+abbrev pub IsIn : List Entry → Entry → ℕ → Type 0
+IsIn g (Began c u) t = u ≡ t
+IsIn g e t = txn_in g (caller_of e) ≡ Some t
+
+pub some_same : (a b : ℕ) → Some a ≡ Some b → a ≡ b
+some_same a b is = cc (is)
+
+pub at_is : (g : List Entry) (e : Entry) (t : ℕ) → txn_at g e ≡ Some t → IsIn g e t
+at_is g (Began c u) t is = some_same u t (subst (λ b. cond b (Some u) (txn_in g c) ≡ Some t) (eq-eqb c c refl) is)
+at_is g _ t is = is
+
+-- a caller is in a transaction after the entry, by it or from before
+pub after_is : (g : List Entry) (e : Entry) (x t : ℕ) → txn_after (txn_in g) e x ≡ Some t → ((x ≡ caller_of e) × (txn_at g e ≡ Some t)) ⊎ ((x ≡ caller_of e → ⊥) × (txn_in g x ≡ Some t))
+after_is g e x t is = elim (cases_eq x (caller_of e)) [
+  | inl same ↦ inl (same, subst (λ y. txn_after (txn_in g) e y ≡ Some t) same is)
+  | inr other ↦ inr (other, from e other is)
+]
+  where
+    from : (f : Entry) → (x ≡ caller_of f → ⊥) → txn_after (txn_in g) f x ≡ Some t → txn_in g x ≡ Some t
+    from (Began c u) other got = subst (λ b. cond b (Some u) (txn_in g x) ≡ Some t) (ne_eqb c x (λ k. other (sym k))) got
+    from _ other got = got
+
+-- a closed caller only begins
+pub closed_begins : (e : Entry) → is_some (row closed_seat closed_seat.phase e) ≡ true → is_began e ≡ true
+closed_begins (Began c t) h = refl
+closed_begins _ h = absurd (false≢true h)
+
+pub began_number : (g : List Entry) (e : Entry) (t : ℕ) → is_began e ≡ true → is_numbered g e ≡ true → IsIn g e t → t ≡ how_many is_began g + 1
+began_number g (Began c u) t b n is = sym is ∙ eqb-true u (how_many is_began g + 1) n
+began_number g _ t b n is = absurd (false≢true b)
+
+pub not_began_is : (g : List Entry) (e : Entry) (t : ℕ) → is_began e ≡ false → IsIn g e t → txn_in g (caller_of e) ≡ Some t
+not_began_is g (Began c u) t b is = absurd (false≢true (sym b))
+not_began_is g _ t b is = is
+
+pub in_or_out : (o : Option ℕ) (t : ℕ) → (o ≡ Some t) ⊎ (o ≡ Some t → ⊥)
+in_or_out None t = inr (λ is. cc (is))
+in_or_out (Some u) t = elim (cases_eq u t) [ inl same ↦ inl (ap Some same) | inr other ↦ inr (λ is. other (some_same u t is)) ]
+
+more : (g : List Entry) (e : Entry) → how_many is_began g ≤ how_many is_began (g ++ e ∷ [])
+more g e = omega (arith, how_many-push is_began g e)
+
+pub shaped_seat : (g : List Entry) (e : Entry) → is_shaped g e ≡ true → is_some (option_and_then (λ s. row s s.phase e) (seat_after (own (caller_of e) g))) ≡ true
+shaped_seat g e is =
+    let both = and_parts (is_some (seat_after (own (caller_of e) (g ++ e ∷ [])))) (is_numbered g e) is in
+    subst (λ s. is_some s ≡ true) (ap seat_after (own-push_in (caller_of e) g e refl) ∙ seat_after-push (own (caller_of e) g) e) both.0
+
+pub shaped_number : (g : List Entry) (e : Entry) → is_shaped g e ≡ true → is_numbered g e ≡ true
+shaped_number g e is = (and_parts (is_some (seat_after (own (caller_of e) (g ++ e ∷ [])))) (is_numbered g e) is).1
+
+pub began_or_not : (e : Entry) → (is_began e ≡ true) ⊎ (is_began e ≡ false)
+began_or_not (Began c t) = inl refl
+began_or_not _ = inr refl
+
+-- after a shaped entry, its transaction's number is in range; and where it begins, the number is new
+number_in : (g : List Entry) (e : Entry) (t : ℕ) → Callers g → is_shaped g e ≡ true → txn_at g e ≡ Some t → t ≤ how_many is_began (g ++ e ∷ [])
+number_in g e t callers shaped at = elim (began_or_not e) [
+  | inl b ↦
+      let n = began_number g e t b (shaped_number g e shaped) (at_is g e t at) in
+      let p : how_many is_began (g ++ e ∷ []) ≡ how_many is_began g + 1 = how_many-push is_began g e ∙ ap (λ a. how_many is_began g + cond a 1 0) b in
+      omega arith
+  | inr b ↦ let n = callers.numbers (caller_of e) t (not_began_is g e t b (at_is g e t at)) in omega (arith, more g e)
+]
+
+-- nothing comes after the end
+pub not_after_end : (g : List Entry) (e : Entry) (t : ℕ) → Callers g → is_shaped g e ≡ true → ended t g ≡ true → txn_at g e ≡ Some t → ⊥
+not_after_end g e t callers shaped done at = elim (began_or_not e) [
+  | inl b ↦
+      let n = began_number g e t b (shaped_number g e shaped) (at_is g e t at) in
+      let m = callers.ended_numbers t done in
+      omega arith
+  | inr b ↦
+      let seat = callers.closed (caller_of e) t (not_began_is g e t b (at_is g e t at)) done in
+      let some : is_some (row closed_seat closed_seat.phase e) ≡ true = subst (λ s. is_some (option_and_then (λ s. row s s.phase e) s) ≡ true) seat (shaped_seat g e shaped) in
+      false≢true (sym b ∙ closed_begins e some)
+]
+
+end_not_began : (e : Entry) → is_end e ≡ true → is_began e ≡ false
+end_not_began (Began c t) h = absurd (false≢true h)
+end_not_began _ h = refl
+
+-- an end closes, and nothing else does
+end_closes : (e : Entry) (o : Option Seat) → is_end e ≡ true → is_some (option_and_then (λ s. row s s.phase e) o) ≡ true → option_and_then (λ s. row s s.phase e) o ≡ Some closed_seat
+end_closes e None c h = absurd (false≢true h)
+end_closes e (Some s) c h = at e s.phase c h
+  where
+    at : (f : Entry) (q : Phase) → is_end f ≡ true → is_some (row s q f) ≡ true → row s q f ≡ Some closed_seat
+    at (Committed x p) Opened c h = refl
+    at (Committed x p) _ c h = absurd (false≢true h)
+    at (Aborted x) LeavingToEnd c h =
+        (elim (s.standing == 0) as (λ b. is_some (cond b (Some closed_seat) None) ≡ true → cond b (Some closed_seat) None ≡ Some closed_seat) [ true ↦ λ k. refl | false ↦ λ k. absurd (false≢true k) ]) h
+    at (Aborted x) _ c h = absurd (false≢true h)
+    at _ q c h = absurd (false≢true c)
+
+runs_if : (b : Bool) (s : Seat) → runs s.phase ≡ true → is_some (cond b (Some s) None) ≡ true → is_running (cond b (Some s) None) ≡ true
+runs_if true s r h = r
+runs_if false s r h = absurd (false≢true h)
+
+runs_still : (s q : Phase) → s ≡ q → runs q ≡ true → runs s ≡ true
+runs_still s q is r = ap runs is ∙ r
+
+pub other_runs : (e : Entry) (o : Option Seat) → is_end e ≡ false → is_some (option_and_then (λ s. row s s.phase e) o) ≡ true → is_running (option_and_then (λ s. row s s.phase e) o) ≡ true
+other_runs e None c h = absurd (false≢true h)
+other_runs e (Some s) c h = at e s.phase refl c h
+  where
+    at : (f : Entry) (q : Phase) → s.phase ≡ q → is_end f ≡ false → is_some (row s q f) ≡ true → is_running (row s q f) ≡ true
+    at (Committed x p) q is c h = absurd (false≢true (sym c))
+    at (Aborted x) q is c h = absurd (false≢true (sym c))
+    at (Began x t) Closed is c h = refl
+    at (Asked x op) Opened is c h = refl
+    at (Busy x op y) Opened is c h = refl
+    at (Saved x) Opened is c h = runs_still s.phase Opened is refl
+    at (Leave x None) Opened is c h = refl
+    at (Leave x (Some n)) Opened is c h = runs_if (nat_lt n (length s.kept)) (record s { phase = LeavingTo n }) refl h
+    at (Did x r) (Waiting op) is c h = refl
+    at (Leave x None) (Waiting op) is c h = refl
+    at (Undone x) (LeavingTo n) is c h = runs_if (nat_lt (slice_index s.kept n) s.standing) (record s { standing = s.standing - 1 }) (runs_still s.phase (LeavingTo n) is refl) h
+    at (Returned x m) (LeavingTo n) is c h = runs_if ((n == m) && (slice_index s.kept n == s.standing)) (record s { phase = Opened; kept = take (n + 1) s.kept }) refl h
+    at (Undone x) LeavingToEnd is c h = runs_if (nat_lt 0 s.standing) (record s { standing = s.standing - 1 }) (runs_still s.phase LeavingToEnd is refl) h
+    at _ q is c h = absurd (false≢true h)
+
+-- only a closed caller begins
+began_was_closed : (e : Entry) (o : Option Seat) → is_began e ≡ true → is_some (option_and_then (λ s. row s s.phase e) o) ≡ true → is_running o ≡ false
+began_was_closed e None b h = refl
+began_was_closed e (Some s) b h = at e s.phase b h
+  where
+    at : (f : Entry) (q : Phase) → is_began f ≡ true → is_some (row s q f) ≡ true → runs q ≡ false
+    at (Began x t) Closed b h = refl
+    at (Began x t) _ b h = absurd (false≢true h)
+    at _ q b h = absurd (false≢true b)
+
+pub not_equal : (a b : ℕ) → (a ≡ b → ⊥) → (b == a) ≡ false
+not_equal a b h = ne_eqb b a (λ k. h (sym k))
+
+-- a caller that does not begin stays in its transaction
+txn_stays : (g : List Entry) (e : Entry) (x t : ℕ) → (is_began e ≡ true → x ≡ caller_of e → ⊥) → txn_in g x ≡ Some t → txn_in (g ++ e ∷ []) x ≡ Some t
+txn_stays g e x t other is = ap (λ f. f x) (txn_in-push g e) ∙ at e other
+  where
+    at : (f : Entry) → (is_began f ≡ true → x ≡ caller_of f → ⊥) → txn_after (txn_in g) f x ≡ Some t
+    at (Began c u) other = subst (λ b. cond b (Some u) (txn_in g x) ≡ Some t) (sym (not_equal x c (other refl))) is
+    at _ other = is
+
+pub ByRecursion-append : {X : Type 0} (P Q : X → Type 0) → ((x : X) → P x → Q x) → (xs ys : List X) → AllByRecursion P xs → AllByRecursion Q ys → AllByRecursion Q (xs ++ ys)
+ByRecursion-append P Q to [] ys ps qs = qs
+ByRecursion-append P Q to (x ∷ xs) ys ps qs = (to x ps.0, ByRecursion-append P Q to xs ys ps.1 qs)
+
+module _ (g : List Entry) (e : Entry) (callers : Callers g) (shaped : is_shaped g e ≡ true) where
+  pub ended_in : (t : ℕ) → txn_at g e ≡ Some t → ended t (g ++ e ∷ []) ≡ is_end e
+  ended_in t at = ap (ends_in is_end) (of-push_in t g e at) ∙ ends_in-push is_end (of t g) e
+
+  pub ended_out : (t : ℕ) → (txn_at g e ≡ Some t → ⊥) → ended t (g ++ e ∷ []) ≡ ended t g
+  ended_out t out = ap (ends_in is_end) (of-push_out t g e out)
+
+  -- an ended transaction stays so, and one that has not ended had not
+  pub ended_stays : (t : ℕ) → ended t g ≡ true → of t (g ++ e ∷ []) ≡ of t g
+  ended_stays t done = of-push_out t g e (not_after_end g e t callers shaped done)
+
+  pub not_ended_before : (t : ℕ) → ended t (g ++ e ∷ []) ≡ false → ended t g ≡ false
+  not_ended_before t is = elim (ended t g) as (λ b. ended t g ≡ b → b ≡ false) [
+    | true ↦ λ done. absurd (false≢true (sym is ∙ ap (ends_in is_end) (ended_stays t done) ∙ done))
+    | false ↦ λ k. refl
+  ] refl
+
+  pub step : (c t : ℕ) → txn_in (g ++ e ∷ []) c ≡ Some t → ((c ≡ caller_of e) × (txn_at g e ≡ Some t)) ⊎ ((c ≡ caller_of e → ⊥) × (txn_in g c ≡ Some t))
+  step c t is = after_is g e c t (subst (λ f. f c ≡ Some t) (txn_in-push g e) is)
+
+  pub same : (d t : ℕ) → txn_at g e ≡ Some t → txn_in g d ≡ Some t → caller_of e ≡ d
+  same d t at js = elim (began_or_not e) [
+    | inl b ↦
+        let n = began_number g e t b (shaped_number g e shaped) (at_is g e t at) in
+        let m = callers.numbers d t js in
+        absurd (omega arith)
+    | inr b ↦ callers.one (caller_of e) d t (not_began_is g e t b (at_is g e t at)) js
+  ]
+
+  pub seat_of_mine : (c : ℕ) → c ≡ caller_of e → seat_after (own c (g ++ e ∷ [])) ≡ option_and_then (λ s. row s s.phase e) (seat_after (own (caller_of e) g))
+  seat_of_mine c mine = ap (λ x. seat_after (own x (g ++ e ∷ []))) mine ∙ ap seat_after (own-push_in (caller_of e) g e refl) ∙ seat_after-push (own (caller_of e) g) e
+
+  pub seat_of_other : (c : ℕ) → (c ≡ caller_of e → ⊥) → seat_after (own c (g ++ e ∷ [])) ≡ seat_after (own c g)
+  seat_of_other c other = ap seat_after (own-push_out c g e (not_equal c (caller_of e) other))
+
+  -- where the transaction of the entry has ended with it, or has not
+  closed_push : (c t : ℕ) → txn_in (g ++ e ∷ []) c ≡ Some t → ended t (g ++ e ∷ []) ≡ true → seat_after (own c (g ++ e ∷ [])) ≡ Some closed_seat
+  closed_push c t is done = elim (in_or_out (txn_at g e) t) [
+    | inl at ↦
+        let ends : is_end e ≡ true = sym (ended_in t at) ∙ done in
+        let mine : c ≡ caller_of e = elim (step c t is) [ inl w ↦ w.0 | inr w ↦ sym (same c t at w.1) ] in
+        seat_of_mine c mine ∙ end_closes e (seat_after (own (caller_of e) g)) ends (shaped_seat g e shaped)
+    | inr out ↦ elim (step c t is) [
+      | inl w ↦ absurd (out w.1)
+      | inr w ↦ seat_of_other c w.0 ∙ callers.closed c t w.1 (sym (ended_out t out) ∙ done)
+    ]
+  ]
+
+  running_push : (c t : ℕ) → txn_in (g ++ e ∷ []) c ≡ Some t → ended t (g ++ e ∷ []) ≡ false → is_running (seat_after (own c (g ++ e ∷ []))) ≡ true
+  running_push c t is not_done = elim (in_or_out (txn_at g e) t) [
+    | inl at ↦
+        let goes : is_end e ≡ false = sym (ended_in t at) ∙ not_done in
+        let mine : c ≡ caller_of e = elim (step c t is) [ inl w ↦ w.0 | inr w ↦ sym (same c t at w.1) ] in
+        ap is_running (seat_of_mine c mine) ∙ other_runs e (seat_after (own (caller_of e) g)) goes (shaped_seat g e shaped)
+    | inr out ↦ elim (step c t is) [
+      | inl w ↦ absurd (out w.1)
+      | inr w ↦ ap is_running (seat_of_other c w.0) ∙ callers.running c t w.1 (not_ended_before t not_done)
+    ]
+  ]
+
+  owned_push : (line : Line) → IsOwned g line → IsOwned (g ++ e ∷ []) line
+  owned_push line is t txn not_done =
+      let before : ended t g ≡ false = not_ended_before t not_done in
+      let in_it = is t txn before in
+      txn_stays g e (caller_of line.entry) t (λ b mine. false≢true (
+      sym (began_was_closed e (seat_after (own (caller_of e) g)) b (shaped_seat g e shaped))
+      ∙ sym (ap (λ x. is_running (seat_after (own x g))) mine) ∙ callers.running (caller_of line.entry) t in_it before)) in_it
+
+  owned_last : IsOwned (g ++ e ∷ []) (record { txn = txn_at g e; entry = e })
+  owned_last t txn not_done = ap (λ f. f (caller_of e)) (txn_in-push g e) ∙ txn
+
+  pub callers_push : Callers (g ++ e ∷ [])
+  callers_push = record {
+    numbers = λ c t is. elim (step c t is) [
+      | inl w ↦ number_in g e t callers shaped w.1
+      | inr w ↦ let n = callers.numbers c t w.1 in omega (arith, more g e)
+    ];
+    ended_numbers = λ t is. elim (in_or_out (txn_at g e) t) [
+      | inl at ↦ number_in g e t callers shaped at
+      | inr out ↦ let n = callers.ended_numbers t (sym (ended_out t out) ∙ is) in omega (arith, more g e)
+    ];
+    one = λ c d t is js. elim (step c t is) [
+      | inl w ↦ elim (step d t js) [
+        | inl v ↦ w.0 ∙ sym v.0
+        | inr v ↦ w.0 ∙ same d t w.1 v.1
+      ]
+      | inr w ↦ elim (step d t js) [
+        | inl v ↦ sym (v.0 ∙ same c t v.1 w.1)
+        | inr v ↦ callers.one c d t w.1 v.1
+      ]
+    ];
+    closed = closed_push;
+    running = running_push;
+    owned = subst (AllByRecursion (IsOwned (g ++ e ∷ []))) (sym (lines_of-push g e)) (ByRecursion-append (IsOwned g) (IsOwned (g ++ e ∷ [])) owned_push (lines_of g) _ callers.owned (owned_last, tt));
+  }
+
+pub first_of_rest : (g rest : List Entry) (e : Entry) → IsShaped (g ++ e ∷ rest) → is_shaped g e ≡ true
+first_of_rest g rest e shape = shape g e (rest, append_assoc g (e ∷ []) rest)
+
+pub callers_all : (g rest : List Entry) → Callers g → IsShaped (g ++ rest) → Callers (g ++ rest)
+callers_all g [] callers shape = subst Callers (sym (append-nil g)) callers
+callers_all g (e ∷ rest) callers shape =
+    subst Callers (append_assoc g (e ∷ []) rest)
+    (callers_all (g ++ e ∷ []) rest (callers_push g e callers (first_of_rest g rest e shape)) (subst IsShaped (sym (append_assoc g (e ∷ []) rest)) shape))
+
+pub callers_of : (h : List Entry) → IsShaped h → Callers h
+callers_of h shape = callers_all [] h callers_none shape
+
+-- a transaction that has ended has all its entries
+pub ended_whole : (t : ℕ) (g rest : List Entry) → Callers g → IsShaped (g ++ rest) → ended t g ≡ true → of t (g ++ rest) ≡ of t g
+ended_whole t g [] callers shape done = ap (of t) (append-nil g)
+ended_whole t g (e ∷ rest) callers shape done =
+    let shaped = first_of_rest g rest e shape in
+    let out : of t (g ++ e ∷ []) ≡ of t g = ended_stays g e callers shaped t done in
+    ap (of t) (sym (append_assoc g (e ∷ []) rest))
+    ∙ ended_whole t (g ++ e ∷ []) rest (callers_push g e callers shaped) (subst IsShaped (sym (append_assoc g (e ∷ []) rest)) shape) (ap (ends_in is_end) out ∙ done)
+    ∙ out
+
+-- a beginning of a history of the right shape has it
+pub shape_front : (h g : List Entry) → IsShaped h → IsPrefix g h → IsShaped g
+shape_front h g shape p k e q = shape k e (q.0 ++ p.0, sym (append_assoc (k ++ e ∷ []) q.0 p.0) ∙ ap (λ w. w ++ p.0) q.1 ∙ p.1)
+
+pub committed_ended : (t : ℕ) (g : List Entry) → is_committed t g ≡ true → ended t g ≡ true
+committed_ended t g is = ends_either (of t g) false false ∙ or_left (is_committed t g) (is_aborted t g) is

@@ -1,0 +1,239 @@
+-- Worked histories, by computing: their verdicts, their maps, and what is left of them without what aborted.
+use Rattle.std.proofs.Common.{◌≡◌, ℕ, ◌^◌, ◌-◌, List, [], ◌∷◌, ◌++◌, Some, None, refl, take, map}
+use Rattle.std.specs.Int.{reverse_bits_onto}
+use Rattle.txn_trace.specs.declared.op.Op.TheVariants.{Put, Take, Get}
+use Rattle.txn_trace.specs.declared.entry.Entry.{Entry}
+use Rattle.txn_trace.specs.declared.entry.Entry.TheVariants.{Began, Asked, Did, Saved, Leave, Undone, Returned, Committed, Busy, Aborted}
+use Rattle.txn_trace.specs.Map.{Map, empty, insert}
+use Rattle.txn_trace.specs.Ordered.{split, ordered}
+use Rattle.txn_trace.specs.Serial.{serial}
+use Rattle.txn_trace.specs.Now.{now}
+use Rattle.txn_trace.specs.Legal.{IsLegal, verdict, Legal, Illegal}
+use Rattle.txn_trace.specs.Erase.{erase}
+use Rattle.txn_trace.specs.Owed.{owed}
+use Rattle.txn_trace.proofs.Judging.{legal_iff}
+
+-- A put is taken back by an abort.
+abbrev aborted_put : List Entry
+aborted_put = Began 0 1 ∷ Asked 0 (Put 1 10) ∷ Did 0 None ∷ Leave 0 None ∷ Undone 0 ∷ Aborted 0 ∷ []
+
+aborted_put_verdict : verdict 8 aborted_put ≡ Legal 0 0
+aborted_put_verdict = refl
+
+aborted_put_done : (now (take 3 aborted_put)).rows ≡ (1, 10) ∷ []
+aborted_put_done = refl
+
+aborted_put_leaving : (now (take 4 aborted_put)).rows ≡ (1, 10) ∷ []
+aborted_put_leaving = refl
+
+aborted_put_undone : (now (take 5 aborted_put)).rows ≡ []
+aborted_put_undone = refl
+
+aborted_put_now : (now aborted_put).rows ≡ []
+aborted_put_now = refl
+
+aborted_put_erased : erase aborted_put ≡ []
+aborted_put_erased = refl
+
+-- A caller finds the stripe of its key in the hands of another, and aborts.
+abbrev busy_get : List Entry
+busy_get = Began 0 1 ∷ Asked 0 (Put 1 10) ∷ Did 0 None ∷ Began 1 2 ∷ Busy 1 (Get 9) 0 ∷ Aborted 1 ∷ []
+
+busy_get_verdict : verdict 8 busy_get ≡ Legal 0 1
+busy_get_verdict = refl
+
+busy_get_now : (now busy_get).rows ≡ (1, 10) ∷ []
+busy_get_now = refl
+
+busy_get_serial : (serial busy_get).rows ≡ []
+busy_get_serial = refl
+
+busy_get_erased : erase busy_get ≡ Began 0 1 ∷ Asked 0 (Put 1 10) ∷ Did 0 None ∷ []
+busy_get_erased = refl
+
+-- A transaction returns to a savepoint twice, and then to its beginning, and commits nothing.
+abbrev savepoints : List Entry
+savepoints = Began 0 1 ∷ Asked 0 (Put 1 10) ∷ Did 0 None ∷ Saved 0 ∷ Asked 0 (Put 1 11) ∷ Did 0 (Some 10) ∷ Saved 0 ∷ Asked 0 (Take 1) ∷ Did 0 (Some 11)
+    ∷ Leave 0 (Some 1) ∷ Undone 0 ∷ Undone 0 ∷ Returned 0 1 ∷ Asked 0 (Get 1) ∷ Did 0 (Some 10) ∷ Leave 0 (Some 1) ∷ Returned 0 1 ∷ Asked 0 (Get 1) ∷ Did 0 (Some 10)
+    ∷ Leave 0 (Some 0) ∷ Undone 0 ∷ Returned 0 0 ∷ Asked 0 (Get 1) ∷ Did 0 None ∷ Committed 0 1 ∷ []
+
+savepoints_verdict : verdict 8 savepoints ≡ Legal 1 0
+savepoints_verdict = refl
+
+savepoints_taken : (now (take 9 savepoints)).rows ≡ []
+savepoints_taken = refl
+
+savepoints_undone_once : (now (take 11 savepoints)).rows ≡ (1, 11) ∷ []
+savepoints_undone_once = refl
+
+savepoints_undone_twice : (now (take 12 savepoints)).rows ≡ (1, 10) ∷ []
+savepoints_undone_twice = refl
+
+savepoints_serial : (serial savepoints).rows ≡ []
+savepoints_serial = refl
+
+-- A take is seen by no other caller, and is taken back.
+abbrev aborted_take : List Entry
+aborted_take = Began 0 1 ∷ Asked 0 (Put 3 30) ∷ Did 0 None ∷ Committed 0 1 ∷ Began 0 2 ∷ Asked 0 (Take 3) ∷ Did 0 (Some 30) ∷ Began 1 3 ∷ Busy 1 (Get 3) 0 ∷ Aborted 1
+    ∷ Leave 0 None ∷ Undone 0 ∷ Aborted 0 ∷ Began 1 4 ∷ Asked 1 (Get 3) ∷ Did 1 (Some 30) ∷ Committed 1 2 ∷ []
+
+aborted_take_verdict : verdict 8 aborted_take ≡ Legal 2 0
+aborted_take_verdict = refl
+
+aborted_take_done : (now (take 7 aborted_take)).rows ≡ []
+aborted_take_done = refl
+
+aborted_take_serial : (serial (take 7 aborted_take)).rows ≡ (3, 30) ∷ []
+aborted_take_serial = refl
+
+aborted_take_undone : (now (take 12 aborted_take)).rows ≡ (3, 30) ∷ []
+aborted_take_undone = refl
+
+aborted_take_now : (now aborted_take).rows ≡ (3, 30) ∷ []
+aborted_take_now = refl
+
+aborted_take_erased : erase aborted_take ≡ Began 0 1 ∷ Asked 0 (Put 3 30) ∷ Did 0 None ∷ Committed 0 1 ∷ Began 1 4 ∷ Asked 1 (Get 3) ∷ Did 1 (Some 30) ∷ Committed 1 2 ∷ []
+aborted_take_erased = refl
+
+-- What is owed to both callers before the reply of the take, and after the other one was busy.
+aborted_take_owed : owed 2 (take 6 aborted_take) ≡ 4
+aborted_take_owed = refl
+
+aborted_take_owed_busy : owed 2 (take 9 aborted_take) ≡ 4
+aborted_take_owed_busy = refl
+
+-- Two transactions commit in the other order than they began.
+abbrev crossed : List Entry
+crossed = Began 0 1 ∷ Began 1 2 ∷ Asked 0 (Put 2 20) ∷ Asked 1 (Put 4 40) ∷ Did 1 None ∷ Did 0 None ∷ Committed 1 1 ∷ Committed 0 2 ∷ []
+
+crossed_verdict : verdict 8 crossed ≡ Legal 2 0
+crossed_verdict = refl
+
+crossed_open : verdict 8 (take 7 crossed) ≡ Legal 1 1
+crossed_open = refl
+
+crossed_ordered : ordered (now crossed) ≡ (4, 40) ∷ (2, 20) ∷ []
+unfolding reverse_bits_onto
+crossed_ordered = refl
+
+-- A second transaction changes what the first one put, and commits after it though its number is lower.
+abbrev handed_on : List Entry
+handed_on = Began 1 1 ∷ Began 0 2 ∷ Asked 0 (Put 1 10) ∷ Did 0 None ∷ Committed 0 1 ∷ Asked 1 (Put 1 11) ∷ Did 1 (Some 10) ∷ Committed 1 2 ∷ []
+
+handed_on_verdict : verdict 8 handed_on ≡ Legal 2 0
+handed_on_verdict = refl
+
+handed_on_serial : (serial handed_on).rows ≡ (1, 11) ∷ []
+handed_on_serial = refl
+
+-- A value of an aborted transaction is read by a later one.
+abbrev stale_front : List Entry
+stale_front = Began 0 1 ∷ Asked 0 (Put 1 10) ∷ Did 0 None ∷ Committed 0 1 ∷ Began 1 2 ∷ Asked 1 (Put 1 99) ∷ Did 1 (Some 10) ∷ Leave 1 None ∷ []
+
+abbrev stale_read : List Entry
+stale_read = stale_front ++ Undone 1 ∷ Aborted 1 ∷ Began 0 3 ∷ Asked 0 (Get 1) ∷ Did 0 (Some 99) ∷ Committed 0 2 ∷ []
+
+abbrev right_read : List Entry
+right_read = stale_front ++ Undone 1 ∷ Aborted 1 ∷ Began 0 3 ∷ Asked 0 (Get 1) ∷ Did 0 (Some 10) ∷ Committed 0 2 ∷ []
+
+abbrev not_undone : List Entry
+not_undone = stale_front ++ Aborted 1 ∷ Began 0 3 ∷ Asked 0 (Get 1) ∷ Did 0 (Some 99) ∷ Committed 0 2 ∷ []
+
+stale_read_verdict : verdict 8 stale_read ≡ Illegal 12 1
+stale_read_verdict = refl
+
+right_read_verdict : verdict 8 right_read ≡ Legal 2 0
+right_read_verdict = refl
+
+not_undone_verdict : verdict 8 not_undone ≡ Illegal 8 3
+not_undone_verdict = refl
+
+-- The same, entry by entry.
+fed_10 : verdict 8 (take 10 stale_read) ≡ Legal 1 0
+fed_10 = refl
+
+fed_11 : verdict 8 (take 11 stale_read) ≡ Legal 1 1
+fed_11 = refl
+
+fed_12 : verdict 8 (take 12 stale_read) ≡ Legal 1 1
+fed_12 = refl
+
+fed_13 : verdict 8 (take 13 stale_read) ≡ Illegal 12 1
+fed_13 = refl
+
+fed_14 : verdict 8 (take 14 stale_read) ≡ Illegal 12 1
+fed_14 = refl
+
+-- A stripe is taken from its holder, and a Busy names one that holds nothing.
+taken_stripe_verdict : verdict 8 (Began 0 1 ∷ Asked 0 (Put 1 10) ∷ Did 0 None ∷ Began 1 2 ∷ Asked 1 (Get 9) ∷ []) ≡ Illegal 4 2
+taken_stripe_verdict = refl
+
+groundless_busy_verdict : verdict 8 (Began 0 1 ∷ Busy 0 (Get 9) 1 ∷ []) ≡ Illegal 1 2
+groundless_busy_verdict = refl
+
+busy_by_itself_verdict : verdict 8 (Began 0 1 ∷ Asked 0 (Put 1 10) ∷ Did 0 None ∷ Busy 0 (Get 9) 0 ∷ []) ≡ Illegal 3 2
+busy_by_itself_verdict = refl
+
+-- Forged histories.
+no_entries_verdict : verdict 8 [] ≡ Legal 0 0
+no_entries_verdict = refl
+
+undone_alone_verdict : verdict 8 (Undone 0 ∷ []) ≡ Illegal 0 3
+undone_alone_verdict = refl
+
+wrong_place_verdict : verdict 8 (Began 0 1 ∷ Committed 0 2 ∷ []) ≡ Illegal 1 3
+wrong_place_verdict = refl
+
+wrong_number_verdict : verdict 8 (Began 0 1 ∷ Began 1 3 ∷ []) ≡ Illegal 1 3
+wrong_number_verdict = refl
+
+no_such_level_verdict : verdict 8 (Began 0 1 ∷ Leave 0 (Some 1) ∷ []) ≡ Illegal 1 3
+no_such_level_verdict = refl
+
+invented_reply_verdict : verdict 8 (Began 0 1 ∷ Asked 0 (Get 5) ∷ Did 0 (Some 7) ∷ Leave 0 None ∷ []) ≡ Illegal 2 1
+invented_reply_verdict = refl
+
+-- Two keys that share a stripe of eight, but not one of sixteen.
+abbrev two_gets : List Entry
+two_gets = Began 0 1 ∷ Asked 0 (Get 1) ∷ Began 1 2 ∷ Asked 1 (Get 9) ∷ []
+
+two_gets_verdict : verdict 8 two_gets ≡ Illegal 3 2
+two_gets_verdict = refl
+
+two_gets_more_stripes_verdict : verdict 16 two_gets ≡ Legal 0 2
+two_gets_more_stripes_verdict = refl
+
+-- Split keys, and maps in the order of them.
+split_10 : split 10 ≡ 0x5000000000000001
+unfolding reverse_bits_onto
+split_10 = refl
+
+split_last : split (2 ^ 63 - 1) ≡ 0xffffffffffffffff
+unfolding reverse_bits_onto
+split_last = refl
+
+abbrev with_keys : List ℕ → Map
+with_keys [] = empty
+with_keys (k ∷ ks) = insert (with_keys ks) k k
+
+ordered_0_to_7 : map (λ pair. pair.0) (ordered (with_keys (0 ∷ 1 ∷ 2 ∷ 3 ∷ 4 ∷ 5 ∷ 6 ∷ 7 ∷ []))) ≡ 0 ∷ 4 ∷ 2 ∷ 6 ∷ 1 ∷ 5 ∷ 3 ∷ 7 ∷ []
+unfolding reverse_bits_onto
+ordered_0_to_7 = refl
+
+ordered_five : ordered (insert (insert (insert (insert (insert empty 1 10) 2 20) 3 30) 4 40) 5 50) ≡ (4, 40) ∷ (2, 20) ∷ (1, 10) ∷ (5, 50) ∷ (3, 30) ∷ []
+unfolding reverse_bits_onto
+ordered_five = refl
+
+ordered_last : ordered (insert (insert empty (2 ^ 63 - 1) 7) 3 30) ≡ (3, 30) ∷ (2 ^ 63 - 1, 7) ∷ []
+unfolding reverse_bits_onto
+ordered_last = refl
+
+-- So the definition of legal histories is met, and excludes some.
+aborted_take_legal : IsLegal 8 aborted_take
+aborted_take_legal = (legal_iff 8 aborted_take).1 refl
+
+savepoints_legal : IsLegal 8 savepoints
+savepoints_legal = (legal_iff 8 savepoints).1 refl
+
+stale_read_not_legal : IsLegal 8 stale_read → ⊥
+stale_read_not_legal legal = cc ((legal_iff 8 stale_read).0 legal)

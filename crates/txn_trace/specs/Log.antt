@@ -1,0 +1,40 @@
+-- What a caller has to take back: its standing changes.
+use Rattle.std.specs.Prelude.{ℕ, Option, Some, None, List, [], ◌∷◌, drop, if◌then◌else◌}
+use Rattle.std.specs.List.{fold}
+use Rattle.txn_trace.specs.declared.op.Op.{Op}
+use Rattle.txn_trace.specs.declared.entry.Entry.{Entry}
+use Rattle.txn_trace.specs.declared.entry.Entry.TheVariants.{Began, Asked, Did, Undone, Committed, Aborted}
+use Rattle.txn_trace.specs.Map.{key_of}
+use Rattle.txn_trace.specs.Shape.{changes, own}
+
+-- The operation that waits for its reply; and for each change that stands, newest first, its key and the value before it.
+pub record Log : Type 0 where
+  pub pending : Option Op
+  pub standing : List (ℕ × Option ℕ)
+
+-- The log of a caller without a transaction.
+abbrev pub no_log : Log
+no_log = record { pending = None; standing = [] }
+
+-- Did: a change is noted with its key and its reply.
+abbrev pub log_did : Log → Option Op → Option ℕ → Log
+log_did log None r = log
+log_did log (Some op) r = record { pending = None; standing = if changes op r then (key_of op, r) ∷ log.standing else log.standing }
+
+-- The log after an entry: Undone takes back the newest change, and with its end a transaction has nothing left to take back.
+abbrev pub log_step : Log → Entry → Log
+log_step log (Asked c op) = record log { pending = Some op }
+log_step log (Did c r) = log_did log log.pending r
+log_step log (Undone c) = record log { standing = drop 1 log.standing }
+log_step log (Began c t) = no_log
+log_step log (Committed c p) = no_log
+log_step log (Aborted c) = no_log
+log_step log _ = log
+
+-- The log after a caller's own entries.
+abbrev pub log_after : List Entry → Log
+log_after es = fold log_step no_log es
+
+-- The standing changes of a caller, newest first: of each the key and the value before it.
+abbrev pub log_of : ℕ → List Entry → List (ℕ × Option ℕ)
+log_of c h = (log_after (own c h)).standing
