@@ -3,5 +3,4 @@ pub mod Refusals
 pub mod Answers
 pub mod Machine
 pub mod Pairs
-pub mod Jobs
 pub mod Core

@@ -7,6 +7,10 @@ use Rattle.txn_trace.specs.Ordered.{split}
 abbrev pub pairs_of : List (ℕ × (ℕ × ℕ)) → List (ℕ × ℕ)
 pairs_of entries = map (λ entry. entry.1) entries
 
--- Each pair stands at the split key of its key.
+-- A pair stands at the split key of its key, which is below 2^63.
+abbrev pub IsPlaced : ℕ × (ℕ × ℕ) → Type 0
+IsPlaced entry = (entry.0 ≡ split entry.1.0) × (entry.1.0 < 2 ^ 63)
+
+-- Each pair does.
 abbrev pub AllPlaced : List (ℕ × (ℕ × ℕ)) → Type 0
-AllPlaced entries = All (λ entry. (entry.0 ≡ split entry.1.0) × (entry.1.0 < 2 ^ 63)) entries
+AllPlaced entries = All IsPlaced entries

@@ -35,11 +35,11 @@ impl Model for Core {
 
     ghost Value = { State };
 
-    ghost use Rattle.boost_core.specs.Core.{phase_of, state_of, Holds};
+    ghost use Rattle.boost_core.specs.Core.{state_of, Holds};
 
     ghost view = { λ c. state_of c.limits c.history.items c.stage };
 
-    ghost invariant = { λ c. Holds c.limits c.history c.began c.committed (phase_of c.stage) c.content c.next c.copies };
+    ghost invariant = { λ c. Holds c.limits c.history c.began c.committed c.stage c.content c.next c.copies };
 }
 
 impl Core {

@@ -1,0 +1,6 @@
+pub mod Runs
+pub mod Laws
+pub mod Shape
+pub mod Locks
+pub mod Ordered
+pub mod Pairs
