@@ -4,3 +4,5 @@ pub mod Shape
 pub mod Locks
 pub mod Ordered
 pub mod Pairs
+pub mod Split
+pub mod ContentList

@@ -2,10 +2,10 @@ ghost use Rattle.std.specs.Prelude.{◌≡◌, ◌≤◌, [], length, IfOk, OnOk
 ghost use Rattle.std.specs.Map.{remove_entry};
 ghost use Rattle.std.specs.Ordering.{eq_by_cmp, nat_cmp};
 ghost use Rattle.std.specs.FinMap.Entries.{find, put};
-ghost use Rattle.std.specs.List.{fold};
+ghost use Rattle.std.specs.BTreeMap.{IsFromIterResult};
 ghost use Rattle.txn_trace.specs.Ordered.{split_cmp};
 
-use crate::split_stub::{Key, regular};
+use split_key::{Key, regular};
 use std::alloc::{AllocError, Global};
 use std::collections::BTreeMap;
 use std::marker::Model;
@@ -53,8 +53,8 @@ impl Content {
     pub(crate) fn get(&self, key: Key) -> Option<u64>
         ensures { result ≡ find split_cmp key self.now }
     {
-        let (_, value) = self.pairs.get(&regular(key))?;
-        Some(*value)
+        let (_, value) = self.pairs.get(&regular(key)).copied()?;
+        Some(value)
     }
 
     /// A copy of it all.
@@ -86,37 +86,32 @@ impl Content {
         requires { key ≡ key_of op }
         ensures { IfOk result (λ next. (m : Map) → self.now ≡ ordered m → next ≡ next_of m (Waiting op)) }
     {
-        let mut next = match op {
-            Op::Get(_) => return Ok(None),
-            Op::Put(..) | Op::Take(_) => self.copied()?,
-        };
         match op {
-            Op::Put(_, value) => next.insert(key, value)?,
-            Op::Take(_) => next.remove(key),
-            Op::Get(_) => {}
+            Op::Put(_, value) => {
+                let mut next = self.copied()?;
+                next.insert(key, value)?;
+                Ok(Some(next))
+            }
+            Op::Take(_) => {
+                let mut next = self.copied()?;
+                next.remove(key);
+                Ok(Some(next))
+            }
+            Op::Get(_) => Ok(None),
         }
-        Ok(Some(next))
     }
 
     /// The pairs, in order.
     pub(crate) fn to_vec(&self, alloc: Global) -> Result<Vec<(u64, u64)>, AllocError>
         ensures { IfOk result (λ pairs. pairs.items ≡ self.now) }
     {
-        let mut pairs = Vec::new(alloc);
-        for pair in self.pairs.values() {
-            pairs.push(*pair)?;
-        }
-        Ok(pairs)
+        self.pairs.values().copied().collect(alloc)
     }
 
     /// The pairs as a map.
     pub(crate) fn to_map(&self, alloc: Global) -> Result<BTreeMap<u64, u64>, AllocError>
-        ensures { IfOk result (λ map. map.entries ≡ fold (λ pairs pair. put nat_cmp pair.0 pair.1 pairs) [] self.now) }
+        ensures { IfOk result (IsFromIterResult nat_cmp self.now) }
     {
-        let mut map = BTreeMap::new(alloc);
-        for (key, value) in self.pairs.values() {
-            map.insert(*key, *value)?;
-        }
-        Ok(map)
+        self.pairs.values().copied().collect(alloc)
     }
 }

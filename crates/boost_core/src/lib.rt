@@ -3,7 +3,6 @@
 
 mod content;
 mod machine;
-mod split_stub;
 mod stage;
 
 pub use machine::Core;

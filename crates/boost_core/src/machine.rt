@@ -1,6 +1,8 @@
-ghost use Rattle.std.specs.Prelude.{◌≡◌, ◌+◌, ◌<◌, false, IsTrue, IfOk, IfErr, OnErr};
+ghost use Rattle.std.specs.Prelude.{◌≡◌, ℕ, ◌+◌, ◌<◌, false, IsTrue, IfOk, IfErr, OnErr};
 ghost use Rattle.std.specs.List.{All};
-ghost use Rattle.txn_trace.specs.Map.{count_of, key_of};
+ghost use Rattle.std.specs.Ordering.{nat_cmp};
+ghost use Rattle.std.specs.BTreeMap.{get as value_at};
+ghost use Rattle.txn_trace.specs.Map.{get, count_of, key_of};
 ghost use Rattle.txn_trace.specs.Ordered.{ordered};
 ghost use Rattle.txn_trace.specs.History.{caller_of};
 ghost use Rattle.txn_trace.specs.Now.{now};
@@ -9,7 +11,7 @@ ghost use Rattle.txn_trace.specs.Owed.{owed_for};
 ghost use Rattle.boost_core.specs.Machine.{State, start};
 
 use crate::content::Content;
-use crate::split_stub::Key;
+use split_key::Key;
 use crate::stage::Stage;
 use std::alloc::{AllocError, Global};
 use std::collections::BTreeMap;
@@ -104,7 +106,7 @@ impl Core {
 
     /// The map as it is now.
     pub fn map(&self, alloc: Global) -> Result<BTreeMap<u64, u64>, AllocError>
-        ensures { IfOk result (λ map. map.entries ≡ (now self.now.history).rows) }
+        ensures { IfOk result (λ map. (key : ℕ) → value_at nat_cmp map key ≡ get (now self.now.history) key) }
     {
         self.content.to_map(alloc)
     }
