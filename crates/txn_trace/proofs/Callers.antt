@@ -128,7 +128,7 @@ not_after_end g e t callers shaped done at = elim (began_or_not e) [
       false≢true (sym b ∙ closed_begins e some)
 ]
 
-end_not_began : (e : Entry) → is_end e ≡ true → is_began e ≡ false
+pub end_not_began : (e : Entry) → is_end e ≡ true → is_began e ≡ false
 end_not_began (Began c t) h = absurd (false≢true h)
 end_not_began _ h = refl
 

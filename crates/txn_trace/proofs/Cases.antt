@@ -1,11 +1,11 @@
 -- Worked histories, by computing: their verdicts, their maps, and what is left of them without what aborted.
 use Rattle.std.proofs.Common.{◌≡◌, ℕ, ◌^◌, ◌-◌, List, [], ◌∷◌, ◌++◌, Some, None, refl, take, map}
-use Rattle.std.specs.Int.{reverse_bits_onto}
+use Rattle.split_key.specs.Split.{split, reversed, reversed_low}
 use Rattle.txn_trace.specs.declared.op.Op.TheVariants.{Put, Take, Get}
 use Rattle.txn_trace.specs.declared.entry.Entry.{Entry}
 use Rattle.txn_trace.specs.declared.entry.Entry.TheVariants.{Began, Asked, Did, Saved, Leave, Undone, Returned, Committed, Busy, Aborted}
 use Rattle.txn_trace.specs.Map.{Map, empty, insert}
-use Rattle.txn_trace.specs.Ordered.{split, ordered}
+use Rattle.txn_trace.specs.Ordered.{ordered}
 use Rattle.txn_trace.specs.Serial.{serial}
 use Rattle.txn_trace.specs.Now.{now}
 use Rattle.txn_trace.specs.Legal.{IsLegal, verdict, Legal, Illegal}
@@ -113,7 +113,7 @@ crossed_open : verdict 8 (take 7 crossed) ≡ Legal 1 1
 crossed_open = refl
 
 crossed_ordered : ordered (now crossed) ≡ (4, 40) ∷ (2, 20) ∷ []
-unfolding reverse_bits_onto
+unfolding split reversed reversed_low
 crossed_ordered = refl
 
 -- A second transaction changes what the first one put, and commits after it though its number is lower.
@@ -205,11 +205,11 @@ two_gets_more_stripes_verdict = refl
 
 -- Split keys, and maps in the order of them.
 split_10 : split 10 ≡ 0x5000000000000001
-unfolding reverse_bits_onto
+unfolding split reversed reversed_low
 split_10 = refl
 
 split_last : split (2 ^ 63 - 1) ≡ 0xffffffffffffffff
-unfolding reverse_bits_onto
+unfolding split reversed reversed_low
 split_last = refl
 
 abbrev with_keys : List ℕ → Map
@@ -217,15 +217,15 @@ with_keys [] = empty
 with_keys (k ∷ ks) = insert (with_keys ks) k k
 
 ordered_0_to_7 : map (λ pair. pair.0) (ordered (with_keys (0 ∷ 1 ∷ 2 ∷ 3 ∷ 4 ∷ 5 ∷ 6 ∷ 7 ∷ []))) ≡ 0 ∷ 4 ∷ 2 ∷ 6 ∷ 1 ∷ 5 ∷ 3 ∷ 7 ∷ []
-unfolding reverse_bits_onto
+unfolding split reversed reversed_low
 ordered_0_to_7 = refl
 
 ordered_five : ordered (insert (insert (insert (insert (insert empty 1 10) 2 20) 3 30) 4 40) 5 50) ≡ (4, 40) ∷ (2, 20) ∷ (1, 10) ∷ (5, 50) ∷ (3, 30) ∷ []
-unfolding reverse_bits_onto
+unfolding split reversed reversed_low
 ordered_five = refl
 
 ordered_last : ordered (insert (insert empty (2 ^ 63 - 1) 7) 3 30) ≡ (3, 30) ∷ (2 ^ 63 - 1, 7) ∷ []
-unfolding reverse_bits_onto
+unfolding split reversed reversed_low
 ordered_last = refl
 
 -- So the definition of legal histories is met, and excludes some.

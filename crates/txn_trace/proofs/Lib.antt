@@ -16,7 +16,11 @@ pub mod Seated
 pub mod Acting
 pub mod Undoing
 pub mod Logs
+pub mod Holders
+pub mod Next
+pub mod Entries
 pub mod Bounds
 pub mod Erasing
 pub mod Erased
+pub mod Order
 pub mod Cases
