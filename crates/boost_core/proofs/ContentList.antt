@@ -10,12 +10,14 @@ use Rattle.std.specs.FinMap.Entries.{find, put, find-put}
 use Rattle.txn_trace.specs.declared.op.Op.{Op}
 use Rattle.txn_trace.specs.declared.op.Op.TheVariants.{Put, Take, Get}
 use Rattle.txn_trace.specs.Map.{Map, key_of, get}
-use Rattle.txn_trace.specs.Ordered.{split, split_cmp, ordered}
+use Rattle.split_key.specs.Split.{split}
+use Rattle.txn_trace.specs.Ordered.{split_cmp, ordered}
 use Rattle.txn_trace.specs.Shape.{Waiting}
 use Rattle.boost_core.specs.Core.{next_of}
 use Rattle.boost_core.specs.Pairs.{pairs_of, AllPlaced}
 use Rattle.boost_core.proofs.Pairs.{lookup-split}
-use Rattle.boost_core.proofs.Ordered.{ordered-insert, ordered-remove, rows-ordered}
+use Rattle.txn_trace.proofs.Order.{ordered-insert}
+use Rattle.boost_core.proofs.Ordered.{ordered-remove, rows-ordered}
 
 -- The content that is made ready for a put.
 pub next_put : (op : Op) (m : Map) (k v key : ℕ) (old new : List (ℕ × ℕ)) → op ≡ Put k v → key ≡ key_of op → old ≡ ordered m → new ≡ put split_cmp key v old → Some new ≡ next_of m (Waiting op)

@@ -1,28 +1,16 @@
--- The pairs of a map in the order of their split keys: what is found there, and what insert and remove do.
-use Rattle.std.proofs.Common.{◌≡◌, ℕ, ◌+◌, ◌≤◌, Bool, true, false, cond, not, ◌&&◌, T, Option, Some, None, List, [], ◌∷◌, length, refl, sym, ap, subst, ◌∙◌, arith}
-use Rattle.std.specs.List.{fold, filter}
+-- The pairs of a map in the order of their split keys: put in the order of the keys again, and with a key taken out.
+use Rattle.std.proofs.Common.{◌≡◌, ℕ, Bool, true, false, cond, not, ◌&&◌, T, Option, Some, None, List, [], ◌∷◌, refl, sym, ap, subst, ◌∙◌}
+use Rattle.std.specs.List.{fold}
 use Rattle.std.specs.Map.{remove_entry}
 use Rattle.std.specs.declared.cmp.Ordering.{Ordering}
 use Rattle.std.specs.declared.cmp.Ordering.TheVariants.{Less, Equal, Greater}
-use Rattle.std.specs.Ordering.{nat_cmp, eq_by_cmp, is_eq, is_lt, ordering_then}
-use Rattle.std.specs.Cmp.{IsTotalOrder, nat_cmp_total, then_total, on_total, alike_right, both_ways, tied_itself, Equal-is, eq_by_cmp_equiv}
-
+use Rattle.std.specs.Ordering.{nat_cmp, eq_by_cmp, is_eq, is_lt}
+use Rattle.std.specs.Cmp.{IsTotalOrder, nat_cmp_total, alike_right, both_ways, tied_itself, Equal-is}
 use Rattle.std.specs.FinMap.{IsAntisymmetric, nat_cmp-IsAntisymmetric}
-use Rattle.std.specs.FinMap.Entries.{by_order, find, put, where_key, below_all, is_sorted, is_sorted-put, is_sorted-where_key, find-put, find-where_key, same_entries}
-use Rattle.txn_trace.specs.Map.{Map, get, insert, remove, count_of}
-use Rattle.txn_trace.specs.Ordered.{split, split_cmp, ordered}
-
-pub split_total : IsTotalOrder split_cmp
-split_total = then_total (on_total split nat_cmp_total) nat_cmp_total
-
-second_tied : (r s : Ordering) → ordering_then r s ≡ Equal → s ≡ Equal
-second_tied Less s is = absurd (cc (is))
-second_tied Equal s is = is
-second_tied Greater s is = absurd (cc (is))
-
--- Only equal keys tie.
-pub split_cmp-IsAntisymmetric : IsAntisymmetric split_cmp
-split_cmp-IsAntisymmetric x y is = nat_cmp-IsAntisymmetric x y (second_tied _ _ is)
+use Rattle.std.specs.FinMap.Entries.{find, put, where_key, below_all, is_sorted, is_sorted-put, is_sorted-where_key, find-put, find-where_key, same_entries}
+use Rattle.txn_trace.specs.Map.{Map, get, remove}
+use Rattle.txn_trace.specs.Ordered.{split_cmp, ordered}
+use Rattle.txn_trace.proofs.Order.{split_cmp_total, split_cmp-IsAntisymmetric, sorted-ordered, value_at-ordered, ordered_is}
 
 left : (a b : Bool) → T (a && b) → T a
 left true b p = tt
@@ -62,6 +50,7 @@ module _ (R S : ℕ → ℕ → Ordering) (r : IsTotalOrder R) (s : IsTotalOrder
       (λ t. ap (λ z. eq_by_cmp S x z) (sym (exact x y ((Equal-is (R x y)).0 t))) ∙ ap is_eq (tied_itself s x))
       (λ t. ap (λ z. eq_by_cmp R x z) (sym (other x y ((Equal-is (S x y)).0 t))) ∙ ap is_eq (tied_itself r x))
 
+  -- Pairs that are sorted by the one and put by the other are found as before.
   find-fold : {X : Type 0} (q : ℕ) (es ps : List (ℕ × X)) → T (is_sorted S ps) → find R q (fold (λ es p. put R p.0 p.1 es) es ps) ≡ or_else (find S q ps) (find R q es)
   unfolding or_else
   find-fold q es [] h = refl
@@ -75,52 +64,15 @@ module _ (R S : ℕ → ℕ → Ordering) (r : IsTotalOrder R) (s : IsTotalOrder
   sorted-fold es [] h = h
   sorted-fold es (p ∷ ps) h = sorted-fold (put R p.0 p.1 es) ps (is_sorted-put R r p.0 p.1 es h)
 
-longer_by_one : {X : Type 0} (R : ℕ → ℕ → Ordering) (k : ℕ) (v : X) (es : List (ℕ × X)) → length (put R k v es) ≤ length es + 1
-longer_by_one R k v [] = omega arith
-longer_by_one R k v (e ∷ es) =
-    let rest = longer_by_one R k v es in
-    elim (R k e.0) as (λ o. length (by_order o ((k, v) ∷ e ∷ es) ((e.0, v) ∷ es) (e ∷ put R k v es)) ≤ length (e ∷ es) + 1) [ Less ↦ omega arith | Equal ↦ omega arith | Greater ↦ omega arith ]
-
-length_fold : {X : Type 0} (R : ℕ → ℕ → Ordering) (es ps : List (ℕ × X)) → length (fold (λ es p. put R p.0 p.1 es) es ps) ≤ length es + length ps
-length_fold R es [] = omega arith
-length_fold R es (p ∷ ps) =
-    let one = longer_by_one R p.0 p.1 es in
-    let rest = length_fold R (put R p.0 p.1 es) ps in
-    omega arith
-
-pub sorted-ordered : (m : Map) → T (is_sorted split_cmp (ordered m))
-sorted-ordered m = sorted-fold split_cmp nat_cmp split_total nat_cmp_total split_cmp-IsAntisymmetric nat_cmp-IsAntisymmetric [] m.rows tt
-
--- At each key the list has what the map has.
-pub find-ordered : (m : Map) (q : ℕ) → find split_cmp q (ordered m) ≡ get m q
-unfolding or_else
-find-ordered m q = find-fold split_cmp nat_cmp split_total nat_cmp_total split_cmp-IsAntisymmetric nat_cmp-IsAntisymmetric q [] m.rows m.rising ∙ or_none (get m q)
-
--- A list in order that has at each key what the map has is the map's.
-pub ordered_is : (m : Map) (ps : List (ℕ × ℕ)) → T (is_sorted split_cmp ps) → ((q : ℕ) → get m q ≡ find split_cmp q ps) → ordered m ≡ ps
-ordered_is m ps h is = same_entries split_cmp split_total split_cmp-IsAntisymmetric (ordered m) ps (sorted-ordered m) h (λ q. find-ordered m q ∙ is q)
-
 -- By rising keys again.
 pub rows-ordered : (m : Map) → fold (λ es p. put nat_cmp p.0 p.1 es) [] (ordered m) ≡ m.rows
 unfolding or_else
 rows-ordered m = same_entries nat_cmp nat_cmp_total nat_cmp-IsAntisymmetric _ m.rows
-    (sorted-fold nat_cmp split_cmp nat_cmp_total split_total nat_cmp-IsAntisymmetric split_cmp-IsAntisymmetric [] (ordered m) tt) m.rising
-    (λ q. find-fold nat_cmp split_cmp nat_cmp_total split_total nat_cmp-IsAntisymmetric split_cmp-IsAntisymmetric q [] (ordered m) (sorted-ordered m) ∙ or_none _ ∙ find-ordered m q)
-
-pub length-ordered : (m : Map) → length (ordered m) ≡ count_of m
-length-ordered m =
-    let there = length_fold split_cmp [] m.rows in
-    let back = subst (λ es. length es ≤ length (ordered m)) (rows-ordered m) (let h = length_fold nat_cmp [] (ordered m) in omega arith) in
-    omega arith
+    (sorted-fold nat_cmp split_cmp nat_cmp_total split_cmp_total nat_cmp-IsAntisymmetric split_cmp-IsAntisymmetric [] (ordered m) tt) m.rising
+    (λ q. find-fold nat_cmp split_cmp nat_cmp_total split_cmp_total nat_cmp-IsAntisymmetric split_cmp-IsAntisymmetric q [] (ordered m) (sorted-ordered m) ∙ or_none _ ∙ value_at-ordered m q)
 
 same_tie : (x y : ℕ) → eq_by_cmp nat_cmp x y ≡ eq_by_cmp split_cmp x y
-same_tie = tied_alike nat_cmp split_cmp nat_cmp_total split_total nat_cmp-IsAntisymmetric split_cmp-IsAntisymmetric
-
-pub ordered-insert : (m : Map) (k v : ℕ) → ordered (insert m k v) ≡ put split_cmp k v (ordered m)
-ordered-insert m k v = ordered_is (insert m k v) (put split_cmp k v (ordered m)) (is_sorted-put split_cmp split_total k v (ordered m) (sorted-ordered m)) (λ q.
-    find-put nat_cmp nat_cmp_total q k v m.rows
-    ∙ (λ i. cond (same_tie q k i) (Some v) (sym (find-ordered m q) i))
-    ∙ sym (find-put split_cmp split_total q k v (ordered m)))
+same_tie = tied_alike nat_cmp split_cmp nat_cmp_total split_cmp_total nat_cmp-IsAntisymmetric split_cmp-IsAntisymmetric
 
 -- In a sorted list one entry at most ties with a key.
 none_ties : (R : ℕ → ℕ → Ordering) → IsTotalOrder R → (k : ℕ) (es : List (ℕ × ℕ)) → T (below_all R k es) → where_key R (λ x. not (eq_by_cmp R k x)) es ≡ es
@@ -137,10 +89,11 @@ remove_entry-sorted R r exact k (e ∷ es) h =
       | false ↦ λ t. ap (λ rest. e ∷ rest) (remove_entry-sorted R r exact k es (right _ _ h))
     ]) refl
 
+-- Without a key.
 pub ordered-remove : (m : Map) (k : ℕ) → ordered (remove m k) ≡ remove_entry (eq_by_cmp split_cmp k) (ordered m)
 ordered-remove m k =
-    ordered_is (remove m k) (where_key split_cmp (λ x. not (eq_by_cmp split_cmp k x)) (ordered m)) (is_sorted-where_key split_cmp _ (ordered m) (sorted-ordered m)) (λ q.
-    find-where_key nat_cmp (λ x. not (eq_by_cmp nat_cmp k x)) q (λ x t. ap (λ o. not (is_eq o)) (sym (alike_right nat_cmp_total q x k t))) m.rows
-    ∙ (λ i. cond (not (same_tie k q i)) (sym (find-ordered m q) i) None)
-    ∙ sym (find-where_key split_cmp (λ x. not (eq_by_cmp split_cmp k x)) q (λ x t. ap (λ o. not (is_eq o)) (sym (alike_right split_total q x k t))) (ordered m)))
-    ∙ remove_entry-sorted split_cmp split_total split_cmp-IsAntisymmetric k (ordered m) (sorted-ordered m)
+    sym (ordered_is (remove m k) (where_key split_cmp (λ x. not (eq_by_cmp split_cmp k x)) (ordered m)) (is_sorted-where_key split_cmp _ (ordered m) (sorted-ordered m)) (λ q.
+    find-where_key split_cmp (λ x. not (eq_by_cmp split_cmp k x)) q (λ x t. ap (λ o. not (is_eq o)) (sym (alike_right split_cmp_total q x k t))) (ordered m)
+    ∙ (λ i. cond (not (sym (same_tie k q) i)) (value_at-ordered m q i) None)
+    ∙ sym (find-where_key nat_cmp (λ x. not (eq_by_cmp nat_cmp k x)) q (λ x t. ap (λ o. not (is_eq o)) (sym (alike_right nat_cmp_total q x k t))) m.rows)))
+    ∙ remove_entry-sorted split_cmp split_cmp_total split_cmp-IsAntisymmetric k (ordered m) (sorted-ordered m)

@@ -12,7 +12,8 @@ use Rattle.std.specs.Cmp.{nat_cmp_total, tied_itself}
 use Rattle.std.specs.FinMap.{nat_cmp-IsAntisymmetric}
 use Rattle.std.specs.FinMap.Entries.{by_order, find, put}
 use Rattle.std.proofs.lemmas.List.Elements.{All-nil, All-cons, All-head, All-tail}
-use Rattle.txn_trace.specs.Ordered.{split, split_cmp}
+use Rattle.split_key.specs.Split.{split}
+use Rattle.txn_trace.specs.Ordered.{split_cmp}
 use Rattle.boost_core.specs.Pairs.{pairs_of, AllPlaced, IsPlaced}
 
 same_order : (r s : Ordering) → (r ≡ Equal → s ≡ Equal) → ordering_then r s ≡ r

@@ -39,6 +39,11 @@ state_of limits history stage = record (start limits) {
   placed = if sought_at stage then Some (Caller 0) else None
 }
 
+-- Without a transaction there is nothing to take back.
+abbrev pub IsOver : Phase → List (ℕ × Option ℕ) → Type 0
+IsOver Closed log = log ≡ []
+IsOver phase log = Unit {0}
+
 -- The key of an operation that waits is good.
 abbrev pub IsGood : Phase → Type 0
 IsGood (Waiting op) = key_of op < 2 ^ 63
@@ -70,6 +75,7 @@ pub record Tells (stripes : ℕ) (history : List Entry) (began committed : ℕ) 
   pub seat : seat_after (own 0 history) ≡ Some (seat_at phase (length (log_of 0 history)))
   pub begins : began ≡ how_many is_began history
   pub commits : committed ≡ how_many is_commit history
+  pub over : IsOver phase (log_of 0 history)
   pub good : IsGood phase
   pub pairs : content ≡ ordered (now history)
   pub ready : next ≡ next_of (now history) phase

@@ -1,7 +1,7 @@
 -- Pairs of key and value beside their split keys.
 use Rattle.std.specs.Prelude.{◌≡◌, ℕ, ◌<◌, ◌^◌, List, map}
 use Rattle.std.specs.List.{All}
-use Rattle.txn_trace.specs.Ordered.{split}
+use Rattle.split_key.specs.Split.{split}
 
 -- The pairs, in order.
 abbrev pub pairs_of : List (ℕ × (ℕ × ℕ)) → List (ℕ × ℕ)

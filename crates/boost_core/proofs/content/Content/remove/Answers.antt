@@ -1,5 +1,4 @@
 use Rattle.std.proofs.Common.{◌∙◌, sym}
-use Rattle.boost_core.proofs.Split.{split_is}
 use Rattle.boost_core.proofs.Pairs.{pairs_of-remove_entry, placed-remove_entry}
 use Rattle.boost_core.proofs.content.Content.remove.Goals as goal
 
@@ -8,5 +7,5 @@ invariant_of-self c = rw c.remove.ensures.entries (placed-remove_entry _ c.self.
 
 pub returns : goal.returns
 returns c =
-    rw (c.remove.ensures.entries, c.regular.ensures.value, split_is, ← c.self.view_is)
-    (pairs_of-remove_entry c.args.key (λ j below same. c.regular.ensures.apart j below (split_is j ∙ same ∙ sym (split_is c.args.key) ∙ sym c.regular.ensures.value)) c.self.inside.pairs.entries c.self.invariant)
+    rw (c.remove.ensures.entries, c.regular.ensures.value, ← c.self.view_is)
+    (pairs_of-remove_entry c.args.key (λ j below same. c.regular.ensures.apart j below (same ∙ sym c.regular.ensures.value)) c.self.inside.pairs.entries c.self.invariant)

@@ -2,7 +2,7 @@ use Rattle.std.proofs.Common.{ap, ◌∙◌, length}
 use Rattle.txn_trace.specs.Map.{count_of}
 use Rattle.txn_trace.specs.Now.{now}
 use Rattle.boost_core.specs.State.{State}
-use Rattle.boost_core.proofs.Ordered.{length-ordered}
+use Rattle.txn_trace.proofs.Order.{length-ordered}
 use Rattle.boost_core.proofs.machine.Core.count.Goals as goal
 
 pub returns : goal.returns
