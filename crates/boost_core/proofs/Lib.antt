@@ -4,3 +4,5 @@ pub mod Pairs
 pub mod Shape
 pub mod Locks
 pub mod ContentList
+pub mod Told
+pub mod Counts
