@@ -23,5 +23,5 @@ no_copies stripes h b m content next copies t = length-copies stripes h b m cont
 
 -- What holds where a result is no error.
 pub when_ok : {A E P : Type 0} (r : Result A E) → false ≡ is_err r → OnOk r P → P
-when_ok (Ok a) no p = p
-when_ok (Err e) no p = absurd (cc no)
+when_ok (Ok a) fine p = p
+when_ok (Err e) fine p = absurd (cc fine)
