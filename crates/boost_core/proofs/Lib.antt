@@ -5,4 +5,4 @@ pub mod Shape
 pub mod Locks
 pub mod ContentList
 pub mod Told
-pub mod Counts
+pub mod Seats

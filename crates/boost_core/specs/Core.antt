@@ -54,6 +54,11 @@ abbrev pub next_of : Map → Phase → Option (List (ℕ × ℕ))
 next_of m (Waiting op) = if takes_node op then Some (ordered (after m op)) else None
 next_of m phase = None
 
+-- A place to take a change back is sought only where one stands.
+abbrev pub IsAimed : Stage → ℕ → Type 0
+IsAimed (stages.Leaving true) standing = 0 < standing
+IsAimed stage standing = Unit {0}
+
 -- How many places are kept for a copy.
 abbrev pub places_for : Phase → ℕ
 places_for (Waiting op) = 1
@@ -85,5 +90,7 @@ pub record Tells (stripes : ℕ) (history : List Entry) (began committed : ℕ) 
 pub record Holds (limits : Sizes) (history : Vec Entry) (began committed : ℕ) (stage : Stage) (content : List (ℕ × ℕ)) (next : Option (List (ℕ × ℕ))) (copies : Vec (List (ℕ × ℕ))) : Type 0 where
   pub one : limits.callers ≡ 1
   pub told : Tells limits.stripes history.items began committed (phase_of stage) content next copies.items
+  pub seat : seat_after (own 0 history.items) ≡ Some (seat_at (phase_of stage) (vec_len copies))
+  pub aimed : IsAimed stage (vec_len copies)
   pub room : vec_len history + owed_in (vec_len copies) (phase_of stage) ≤ vec_capacity history
   pub places : vec_len copies + places_for (phase_of stage) ≤ vec_capacity copies

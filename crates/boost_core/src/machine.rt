@@ -1,4 +1,4 @@
-ghost use Rattle.std.specs.Prelude.{◌≡◌, ℕ, ◌+◌, ◌<◌, false, IsTrue, IfOk, IfErr, OnErr};
+ghost use Rattle.std.specs.Prelude.{◌≡◌, ℕ, ◌+◌, ◌<◌, false, IsTrue, IsSome, IfOk, IfErr, OnErr};
 ghost use Rattle.std.specs.List.{All};
 ghost use Rattle.std.specs.Ordering.{nat_cmp};
 ghost use Rattle.std.specs.BTreeMap.{get as value_at};
@@ -46,8 +46,8 @@ impl Model for Core {
 
 impl Core {
     ghost use Rattle.boost_core.specs.Machine.{Move, Moves};
-    ghost use Rattle.boost_core.specs.Refusals.{refusal_of, has_job};
-    ghost use Rattle.boost_core.specs.State.{seat_in};
+    ghost use Rattle.boost_core.specs.Refusals.{has_job};
+    ghost use Rattle.boost_core.specs.State.{seat_in, turn_in};
     ghost use Rattle.txn_trace.specs.Shape.{Waiting, LeavingToEnd};
 
     /// A core in which nothing has happened.
@@ -236,8 +236,9 @@ impl Core {
 
     /// Acts for the operation that waits.
     fn reply(&mut self, caller: u64, op: Op) -> Answer
-        requires free { refusal_of self.old (Step.Act caller) ≡ None }
+        requires caller { caller < self.old.limits.callers }
         requires waiting { (seat_in self.old.history caller).phase ≡ Waiting op }
+        requires cursor { IsSome (turn_in self.old.cursors caller) }
         ensures { Move self.old (Step.Act caller) result self.new }
     {
         let key = Key::new(key_in(op)).unwrap();
@@ -255,8 +256,10 @@ impl Core {
 
     /// Takes the newest change back.
     fn take_back(&mut self, caller: u64) -> Answer
-        requires free { refusal_of self.old (Step.Act caller) ≡ None }
-        requires leaving { IsTrue (has_job (seat_in self.old.history caller)) }
+        requires caller { caller < self.old.limits.callers }
+        requires leaving { (seat_in self.old.history caller).phase ≡ LeavingToEnd }
+        requires job { IsTrue (has_job (seat_in self.old.history caller)) }
+        requires cursor { IsSome (turn_in self.old.cursors caller) }
         ensures { Move self.old (Step.Act caller) result self.new }
     {
         self.content = self.copies.pop().unwrap();
@@ -267,9 +270,10 @@ impl Core {
 
     /// Ends a transaction of which no change is left.
     fn end(&mut self, caller: u64) -> Answer
-        requires free { refusal_of self.old (Step.Act caller) ≡ None }
+        requires caller { caller < self.old.limits.callers }
         requires leaving { (seat_in self.old.history caller).phase ≡ LeavingToEnd }
         requires no_job { has_job (seat_in self.old.history caller) ≡ false }
+        requires no_cursor { turn_in self.old.cursors caller ≡ None }
         ensures { Move self.old (Step.Act caller) result self.new }
     {
         self.history.push(Entry::Aborted(caller)).unwrap();

@@ -8,6 +8,7 @@ use Rattle.txn_trace.specs.Owed.{owed_in}
 use Rattle.boost_core.specs.declared.stage.Stage.{Stage}
 use Rattle.boost_core.specs.declared.stage.Stage.TheVariants.{Open, Asked}
 use Rattle.boost_core.specs.Core.{Tells, phase_of}
+use Rattle.boost_core.proofs.Seats.{seated}
 use Rattle.boost_core.proofs.Told.{told-left, told-withdrawn}
 use Rattle.boost_core.proofs.machine.Core.abort.Goals as goal
 
@@ -28,9 +29,12 @@ invariant_of-self c =
     let first : c.args.caller ≡ 0 = omega (arith, c.if-caller-from.false, c.from.ensures, c.callers.ensures.value, c.self.invariant.one) in
     let items = rw c.unwrap.ensures at c.push.ensures.items in
     let len = rw c.unwrap.ensures at c.push.ensures.len in
+    let left = told c.self.inside.limits.stripes c.self.inside.history.items c.self.inside.began c.self.inside.committed c.self.inside.content c.self.inside.next c.self.inside.copies.items c.self.inside.stage c.in-Open.is c.self.invariant.told in
     record {
       one = c.self.invariant.one;
-      told = rw (items, first) (told c.self.inside.limits.stripes c.self.inside.history.items c.self.inside.began c.self.inside.committed c.self.inside.content c.self.inside.next c.self.inside.copies.items c.self.inside.stage c.in-Open.is c.self.invariant.told);
+      told = rw (items, first) left;
+      seat = rw (items, first) (seated _ _ _ _ _ _ _ _ _ left c.self.inside.copies.ok.0);
+      aimed = tt;
       room = omega (arith, len, c.self.invariant.room, c.push.ensures.capacity, owed c.self.inside.stage c.self.inside.copies.len c.in-Open.is);
       places = omega (arith, c.self.invariant.places);
     }
