@@ -6,3 +6,4 @@ pub mod Locks
 pub mod ContentList
 pub mod Told
 pub mod Seats
+pub mod Moves
