@@ -7,3 +7,4 @@ pub mod ContentList
 pub mod Told
 pub mod Seats
 pub mod Moves
+pub mod Replying

@@ -1,4 +1,4 @@
-ghost use Rattle.std.specs.Prelude.{◌≡◌, ◌≤◌, [], length, IfOk, OnOk, OnErr};
+ghost use Rattle.std.specs.Prelude.{◌≡◌, ◌<◌, ◌^◌, [], length, IfOk, OnOk, OnErr};
 ghost use Rattle.std.specs.Map.{remove_entry};
 ghost use Rattle.std.specs.Ordering.{eq_by_cmp, nat_cmp};
 ghost use Rattle.std.specs.FinMap.Entries.{find, put};
@@ -50,9 +50,11 @@ impl Content {
     }
 
     /// The value at a key, if the key is there. Costs the logarithm of the number of pairs.
-    pub(crate) fn get(&self, key: Key) -> Option<u64>
+    pub(crate) fn get(&self, key: u64) -> Option<u64>
+        requires { key < 2 ^ 63 }
         ensures { result ≡ find split_cmp key self.now }
     {
+        let key = Key::new(key).unwrap();
         let (_, value) = self.pairs.get(&regular(key)).copied()?;
         Some(value)
     }

@@ -6,6 +6,7 @@ ghost use Rattle.txn_trace.specs.Map.{get, count_of, key_of};
 ghost use Rattle.txn_trace.specs.Ordered.{ordered};
 ghost use Rattle.txn_trace.specs.History.{caller_of};
 ghost use Rattle.txn_trace.specs.Now.{now};
+ghost use Rattle.txn_trace.specs.Shape.{changes};
 ghost use Rattle.txn_trace.specs.Legal.{IsLegal};
 ghost use Rattle.txn_trace.specs.Owed.{owed_for};
 ghost use Rattle.boost_core.specs.Machine.{State, start};
@@ -17,7 +18,7 @@ use std::alloc::{AllocError, Global};
 use std::collections::BTreeMap;
 use std::marker::Model;
 use std::mem;
-use txn_trace::{Answer, Entry, Limits, Op, Refusal, Step};
+use txn_trace::{Answer, Entry, Limits, Op, Refusal, Reply, Step};
 
 /// The map, its callers and their history.
 #[derive(Drop)]
@@ -241,14 +242,13 @@ impl Core {
         requires cursor { IsSome (turn_in self.old.cursors caller) }
         ensures { Move self.old (Step.Act caller) result self.new }
     {
-        let key = Key::new(key_in(op)).unwrap();
-        let reply = self.content.get(key);
-        if let Some(next) = self.next.take() {
-            if reply.is_some() || matches!(op, Op::Put(..)) {
-                let before = mem::replace(&mut self.content, next);
-                self.copies.push(before).unwrap();
-            }
+        let reply = self.content.get(key_in(op));
+        if was_change(op, reply) {
+            let next = self.next.take().unwrap();
+            let before = mem::replace(&mut self.content, next);
+            self.copies.push(before).unwrap();
         }
+        self.next = None;
         self.history.push(Entry::Did(caller, reply)).unwrap();
         self.stage = Stage::Open;
         Answer::Done(reply)
@@ -336,5 +336,16 @@ fn entries_for(op: Op) -> usize
     match op {
         Op::Put(..) | Op::Take(_) => 5,
         Op::Get(_) => 4,
+    }
+}
+
+/// Whether an operation with this reply was a change.
+fn was_change(op: Op, reply: Reply) -> bool
+    ensures { result ≡ changes op reply }
+{
+    match op {
+        Op::Put(..) => true,
+        Op::Take(_) => reply.is_some(),
+        Op::Get(_) => false,
     }
 }
