@@ -45,7 +45,7 @@ module _ (stripes s : ℕ) (g : List Entry) (e : Entry) where
       ∙ ap (λ xs. front ++ xs) (map_one (holds_it stripes s (g ++ e ∷ []) line) line)
 
 module _ (stripes : ℕ) (g : List Entry) (e : Entry) (callers : Callers g) (shaped : is_shaped g e ≡ true) where
-  ended-push : is_end e ≡ false → (u : ℕ) → ended u (g ++ e ∷ []) ≡ ended u g
+  pub ended-push : is_end e ≡ false → (u : ℕ) → ended u (g ++ e ∷ []) ≡ ended u g
   ended-push goes u = elim (in_or_out (txn_at g e) u) [
     | inl at ↦
         let not_done : ended u (g ++ e ∷ []) ≡ false = ended_in g e callers shaped u at ∙ goes in

@@ -6,13 +6,13 @@ use Rattle.txn_trace.specs.Locks.{is_locked, LocksHold}
 use Rattle.txn_trace.specs.Shape.{is_shaped, IsShaped}
 use Rattle.txn_trace.proofs.Callers.{Callers, callers_none, callers_push, shape_front}
 
-module _ (P : List Entry → Type 0) (step : (g : List Entry) (e : Entry) → Callers g → is_shaped g e ≡ true → P g → P (g ++ e ∷ [])) where
+module _ (P : List Entry → Type 0) (step : (g : List Entry) (e : Entry) → IsShaped g → Callers g → is_shaped g e ≡ true → P g → P (g ++ e ∷ [])) where
   by_entries_from : (g rest : List Entry) → Callers g → P g → IsShaped (g ++ rest) → P (g ++ rest)
   by_entries_from g [] callers is shape = subst P (sym (append-nil g)) is
   by_entries_from g (e ∷ rest) callers is shape =
       let shaped = shape g e (rest, append_assoc g (e ∷ []) rest) in
       subst P (append_assoc g (e ∷ []) rest)
-      (by_entries_from (g ++ e ∷ []) rest (callers_push g e callers shaped) (step g e callers shaped is) (subst IsShaped (sym (append_assoc g (e ∷ []) rest)) shape))
+      (by_entries_from (g ++ e ∷ []) rest (callers_push g e callers shaped) (step g e (shape_front (g ++ e ∷ rest) g shape (e ∷ rest, refl)) callers shaped is) (subst IsShaped (sym (append_assoc g (e ∷ []) rest)) shape))
 
   -- What holds of the empty history, and of one more entry in right shape where it held before, holds of each history in right shape.
   pub by_entries : P [] → (h : List Entry) → IsShaped h → P h

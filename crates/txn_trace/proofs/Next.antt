@@ -1,5 +1,5 @@
 -- One more entry in a legal history: what all kinds of entries have in common.
-use Rattle.std.proofs.Common.{◌≡◌, ◌≢◌, ℕ, ◌+◌, Bool, true, false, cond, List, [], ◌∷◌, ◌++◌, take, slice_get, refl, ap, sym, subst, ◌∙◌, Some, None, Option, is_some}
+use Rattle.std.proofs.Common.{◌&&◌, ◌≡◌, ◌≢◌, ℕ, ◌+◌, Bool, true, false, cond, List, [], ◌∷◌, ◌++◌, take, slice_get, refl, ap, sym, subst, ◌∙◌, Some, None, Option, is_some}
 use Rattle.std.specs.Option.{option_eq, option_and_then}
 use Rattle.std.specs.Prelude.{nat_eq}
 use Rattle.std.proofs.lemmas.Bool.{false≢true, and_from}
@@ -15,7 +15,7 @@ use Rattle.txn_trace.specs.Locks.{holder_of, asks_in, is_locked}
 use Rattle.txn_trace.specs.Shape.{Seat, row, seat_after, own, is_numbered, is_shaped, IsShaped}
 use Rattle.txn_trace.specs.Log.{Log, log_after, log_of, log_step}
 use Rattle.txn_trace.specs.Legal.{IsLegal, runs, is_running}
-use Rattle.txn_trace.proofs.Pushes.{txn_in, txn_at, alone-push, own-push_in, own-push_out, seat_after-push}
+use Rattle.txn_trace.proofs.Pushes.{of-push_in, of-push_out, txn_in, txn_at, alone-push, own-push_in, own-push_out, seat_after-push}
 use Rattle.txn_trace.proofs.Callers.{Callers, callers_of, is_end, ended, not_equal}
 use Rattle.txn_trace.proofs.Running.{Running, running_txn}
 use Rattle.txn_trace.proofs.Stripes.{keys_in}
@@ -165,12 +165,12 @@ module _ (stripes : ℕ) (g : List Entry) (legal : IsLegal stripes g) (e : Entry
     -- An entry that commits nothing is legal where the run goes on.
     pub legal_next : (r : Run) → act run e ≡ Some r → is_began e ≡ false → is_commit e ≡ false → is_locked stripes g e ≡ true → IsLegal stripes (g ++ e ∷ [])
     legal_next r acts began commit locked = legal_push stripes g e legal shaped_by_row locked
-        (replies-push_other stripes g e txn legal.shape legal.locks shape_next (locks_push stripes g e legal.locks locked) shaped_by_row commit (at_txn began)
+        (replies-push_other g e txn legal.shape shape_next shaped_by_row commit (at_txn began)
         (legal.replies g ([], append-nil g)) (ap is_some (run_next r acts)))
 
     -- It leaves the committed map.
     pub serial_next : is_began e ≡ false → is_commit e ≡ false → is_locked stripes g e ≡ true → serial (g ++ e ∷ []) ≡ serial g
-    serial_next began commit locked = serial_is stripes g e txn legal.shape legal.locks shape_next (locks_push stripes g e legal.locks locked) shaped_by_row commit (at_txn began)
+    serial_next began commit locked = serial_is g e txn legal.shape shape_next shaped_by_row commit (at_txn began)
 
     -- A quiet entry leaves both maps and the log.
     pub quiet_next : (holder : ℕ → Option ℕ) → is_quiet e ≡ true → is_locked stripes g e ≡ true → ((s : ℕ) → holder_of stripes s (g ++ e ∷ []) ≡ holder s)
@@ -195,3 +195,31 @@ module _ (stripes : ℕ) (g : List Entry) (legal : IsLegal stripes g) (e : Entry
     -- One that asks for nothing leaves each holder too.
     pub still_next : is_quiet e ≡ true → is_locked stripes g e ≡ true → ((s : ℕ) → asks_in stripes s e ≡ false) → Next stripes g e next (log_of (caller_of e) g) (serial g) (now g) (λ s. holder_of stripes s g)
     still_next quiet locked asks = quiet_next (λ s. holder_of stripes s g) quiet locked (λ s. holder_of-other stripes g e callers shaped_by_row legal.shape legal.locks s (quiet_goes e quiet).1 (asks s))
+
+-- The entries of another transaction stay; those of the entry's transaction are one more.
+pub of-other : (u : ℕ) (g : List Entry) (e : Entry) → txn_at g e ≢ Some u → of u (g ++ e ∷ []) ≡ of u g
+of-other u g e away = of-push_out u g e away
+
+pub of-own : (t : ℕ) (g : List Entry) (e : Entry) → txn_at g e ≡ Some t → of t (g ++ e ∷ []) ≡ of t g ++ e ∷ []
+of-own t g e at = of-push_in t g e at
+
+-- Under an entry that commits nothing the run of another transaction stays, and that of the entry's transaction acts on it.
+pub run-other : (stripes : ℕ) (g : List Entry) → IsLegal stripes g → (e : Entry) (t u : ℕ) → is_shaped g e ≡ true → is_commit e ≡ false → txn_at g e ≡ Some t → u ≢ t
+    → alone (serial (g ++ e ∷ [])) (of u (g ++ e ∷ [])) ≡ alone (serial g) (of u g)
+run-other stripes g legal e t u shaped commit at away =
+    ap (λ m. alone m (of u (g ++ e ∷ []))) (serial_is g e t legal.shape (shape_push g e legal.shape shaped) shaped commit at)
+    ∙ ap (alone (serial g)) (of-push_out u g e (λ in_u. away (same (sym in_u ∙ at))))
+  where
+    same : Some u ≡ Some t → u ≡ t
+    same is = cc (is)
+
+pub run-own : (stripes : ℕ) (g : List Entry) → IsLegal stripes g → (e : Entry) (t : ℕ) → is_shaped g e ≡ true → is_commit e ≡ false → txn_at g e ≡ Some t
+    → alone (serial (g ++ e ∷ [])) (of t (g ++ e ∷ [])) ≡ option_and_then (λ r. act r e) (alone (serial g) (of t g))
+run-own stripes g legal e t shaped commit at =
+    ap (λ m. alone m (of t (g ++ e ∷ []))) (serial_is g e t legal.shape (shape_push g e legal.shape shaped) shaped commit at)
+    ∙ ap (alone (serial g)) (of-push_in t g e at) ∙ alone-push (serial g) (of t g) e
+
+-- An entry has the right shape where the table has a row for it, and it has the right number.
+pub is_shaped_is : (g : List Entry) (e : Entry) (seat : Seat) → seat_after (own (caller_of e) g) ≡ Some seat → is_shaped g e ≡ (is_some (row seat seat.phase e) && is_numbered g e)
+is_shaped_is g e seat seat_is =
+    ap (λ o. is_some o && is_numbered g e) (ap seat_after (own-push_in (caller_of e) g e refl) ∙ seat_after-push (own (caller_of e) g) e ∙ ap (option_and_then (λ (s : Seat). row s s.phase e)) seat_is)

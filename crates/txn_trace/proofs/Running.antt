@@ -16,8 +16,8 @@ use Rattle.txn_trace.proofs.Inductions.{by_entries}
 pub has_seat : (g : List Entry) → IsShaped g → (c : ℕ) → is_some (seat_after (own c g)) ≡ true
 has_seat g shape c = by_entries (λ h. is_some (seat_after (own c h)) ≡ true) step refl g shape
   where
-    step : (g : List Entry) (e : Entry) → Callers g → is_shaped g e ≡ true → is_some (seat_after (own c g)) ≡ true → is_some (seat_after (own c (g ++ e ∷ []))) ≡ true
-    step g e callers shaped is = elim (cases_eq c (caller_of e)) [
+    step : (g : List Entry) (e : Entry) → IsShaped g → Callers g → is_shaped g e ≡ true → is_some (seat_after (own c g)) ≡ true → is_some (seat_after (own c (g ++ e ∷ []))) ≡ true
+    step g e shape callers shaped is = elim (cases_eq c (caller_of e)) [
       | inl mine ↦ ap is_some (seat_of_mine g e callers shaped c mine) ∙ shaped_seat g e shaped
       | inr other ↦ ap is_some (seat_of_other g e callers shaped c other) ∙ is
     ]
@@ -37,8 +37,8 @@ closed_before g shape c = by_entries (λ h. txn_in h c ≡ None → seat_after (
     none_before g (Began c t) d is = (elim (c == d) as (λ b. cond b (Some t) (txn_in g d) ≡ None → txn_in g d ≡ None) [ true ↦ λ h. absurd (cc (h)) | false ↦ λ h. h ]) is
     none_before g _ d is = is
 
-    step : (g : List Entry) (e : Entry) → Callers g → is_shaped g e ≡ true → (txn_in g c ≡ None → seat_after (own c g) ≡ Some closed_seat) → txn_in (g ++ e ∷ []) c ≡ None → seat_after (own c (g ++ e ∷ [])) ≡ Some closed_seat
-    step g e callers shaped was is =
+    step : (g : List Entry) (e : Entry) → IsShaped g → Callers g → is_shaped g e ≡ true → (txn_in g c ≡ None → seat_after (own c g) ≡ Some closed_seat) → txn_in (g ++ e ∷ []) c ≡ None → seat_after (own c (g ++ e ∷ [])) ≡ Some closed_seat
+    step g e shape callers shaped was is =
         let now : txn_after (txn_in g) e c ≡ None = ap (λ f. f c) (sym (txn_in-push g e)) ∙ is in
         let closed = was (none_before g e c now) in
         elim (cases_eq c (caller_of e)) [
