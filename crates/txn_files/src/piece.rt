@@ -19,9 +19,12 @@ pub trait Piece: Sized + Drop {
     /// What a fault calls a piece of this kind.
     ghost part: { Part };
 
+    /// What a fault calls a piece of this kind. Fixed cost.
     fn part() -> Part
         ensures { result ≡ part };
 
+    /// The piece that has these elements, or none where no piece of this kind has them. Costs time and
+    /// memory in proportion to the elements; an error says that memory was refused.
     fn read(alloc: Global, values: &[Value]) -> Result<Option<Self>, AllocError>
         ensures { IfOk result (λ piece. piece ≡ of (map view values.now)) };
 }
