@@ -7,7 +7,7 @@ use crate::{Buckets, Double, InitLink, InitRefusal, InitSeek};
 use list_steps::{link, look, seek};
 use node_list::{Kind, NodeList};
 use split_key::{Key, bucket_of, regular};
-use std::alloc::Global;
+use std::alloc::{AllocError, Global};
 use std::process::Abort;
 use std::test::Fail;
 
@@ -212,5 +212,46 @@ fn maximum_size(rt: HostRuntime) -> Result<(), Fail> {
     assert_eq!(rt; buckets.double(&list, 4), Double::Moved(2));
     assert_eq!(rt; buckets.double(&list, 2), Double::AtLimit);
     assert_eq!(rt; buckets.size(), 2);
+    Ok(())
+}
+
+// A list of the dummy of bucket 0, which keeps the places of so many spares.
+fn with_spares(alloc: Global, spares: u32) -> Result<NodeList, Fail>
+    ensures { IfOk result (λ list. IsKeyed list.nodes) }
+{
+    let mut list = match NodeList::new(alloc, 0) {
+        Ok(list) => list,
+        Err(AllocError) => NodeList::new(alloc, 0)?,
+    };
+    for _ in 0..spares {
+        if list.spare().is_err() {
+            let _spare = list.spare()?;
+        }
+    }
+    Ok(list)
+}
+
+// Also run with each allocation refused in turn: buckets and list are then as they were, and the call
+// succeeds when it is made again.
+#[test]
+fn refused_allocations(rt: HostRuntime) -> Result<(), Fail> {
+    for spares in 0..9 {
+        let mut list = with_spares(rt.alloc(), spares)?;
+        let mut buckets = match Buckets::new(rt.alloc(), 2, 1, &list) {
+            Ok(buckets) => buckets,
+            Err(AllocError) => Buckets::new(rt.alloc(), 2, 1, &list)?,
+        };
+        assert_eq!(rt; buckets.init_seek(&mut list, 0, 1), Ok(InitSeek::Placed));
+        let mut answer = buckets.init_link(&mut list, 0);
+        if answer == Err(InitRefusal::NoMemory) {
+            assert_eq!(rt; (buckets.size(), list.turn()), (2, 0));
+            assert_eq!(rt; buckets.nearest(1), list.head());
+            answer = buckets.init_link(&mut list, 0);
+        }
+        assert_eq!(rt; answer, Ok(InitLink::Linked));
+        assert_eq!(rt; buckets.init_store(0), Ok(()));
+        let dummy = list.linked_node(buckets.nearest(1)).ok_or("no dummy")?;
+        assert_eq!(rt; dummy.split, 0x8000_0000_0000_0000);
+    }
     Ok(())
 }
