@@ -5,10 +5,11 @@ use Rattle.std.proofs.lemmas.Bool.{cases_lt}
 use Rattle.std.proofs.lemmas.Bool.Decides.{eqb_tells}
 use Rattle.node_list.specs.declared.node.Kind.{Kind}
 use Rattle.node_list.specs.declared.node.Kind.TheVariants.{Dummy, Regular}
-use Rattle.node_list.specs.Nodes.{NodeAt, IsLinked, node_of, linked_after, is_regular}
+use Rattle.node_list.specs.Nodes.{NodeAt, IsLinked, changed_at, node_of, linked_after, is_regular}
 use Rattle.node_list.specs.Sound.{AllPlain}
 use Rattle.node_list.proofs.OrderLemmas.{some-injective, some-none}
 use Rattle.list_steps.specs.Seek.{cleaned, sought}
+use Rattle.list_steps.specs.Steps.{without_first_marked}
 use Rattle.list_steps.proofs.SeekLemmas.{cleaned_marked, cleaned_passed, cleaned_stopped}
 use Rattle.split_key.specs.Split.{reversed, split}
 use Rattle.split_key.proofs.SplitLemmas.{same_from_reversed, split_odd, reversed_even}
@@ -58,7 +59,7 @@ is_dummy_other bucket n other = elim (eqb_tells n.split (reversed bucket)) [
     and_false true = refl
     and_false false = refl
 
-is_dummy_regular : (bucket : ℕ) (n : NodeAt) → (n.kind ≡ Dummy → ⊥) → is_dummy_of bucket n ≡ false
+pub is_dummy_regular : (bucket : ℕ) (n : NodeAt) → (n.kind ≡ Dummy → ⊥) → is_dummy_of bucket n ≡ false
 is_dummy_regular bucket n regular = go n.kind refl
   where
     go : (kind : Kind) → n.kind ≡ kind → is_dummy_of bucket n ≡ false
@@ -151,3 +152,21 @@ dummy_there n bucket fits keyed same = go n.kind refl
 -- a dummy is no regular node
 pub keyed_dummy : (n : NodeAt) → n.kind ≡ Dummy → IsKeyedNode n
 keyed_dummy n dummy key regular = absurd (cc (sym dummy ∙ regular))
+
+-- nor does a change that leaves kind and split key of a node
+pub has_dummy-changed_at : (nodes : List NodeAt) (place : ℕ) (change : NodeAt → NodeAt) (bucket : ℕ) → ((n : NodeAt) → is_dummy_of bucket (change n) ≡ is_dummy_of bucket n) → has_dummy (changed_at nodes place change) bucket ≡ has_dummy nodes bucket
+unfolding has_dummy changed_at
+has_dummy-changed_at [] place change bucket same = refl
+has_dummy-changed_at (n ∷ rest) place change bucket same = elim (eqb_tells n.place place) [
+  | inl here ↦ rw here.0 (ap (λ b. b || has_dummy rest bucket) (same n))
+  | inr past ↦ rw past.0 (ap (λ b. is_dummy_of bucket n || b) (has_dummy-changed_at rest place change bucket same))
+]
+
+-- nor does a sweep
+pub has_dummy-without_first_marked : (nodes : List NodeAt) (bucket : ℕ) → AllPlain nodes → has_dummy (without_first_marked nodes) bucket ≡ has_dummy nodes bucket
+unfolding has_dummy without_first_marked
+has_dummy-without_first_marked [] bucket plain = refl
+has_dummy-without_first_marked (n ∷ rest) bucket plain = elim (either n.marked) [
+  | inl marked ↦ rw (marked, is_dummy_regular bucket n (λ dummy. cc (plain.0 dummy))) refl
+  | inr unmarked ↦ rw unmarked (ap (λ b. is_dummy_of bucket n || b) (has_dummy-without_first_marked rest bucket plain.1))
+]

@@ -1,4 +1,4 @@
-//! What the calls on buckets answer.
+//! What the calls on buckets answer, and why they refuse.
 ghost use Rattle.std.specs.Prelude.{◌≡◌};
 ghost use Rattle.bucket_table.specs.Refusals.{refusal_of};
 
@@ -24,7 +24,7 @@ pub enum InitLink {
     Linked,
 }
 
-/// Why a step of a bucket's initialisation is refused.
+/// Why a step of a bucket's initialisation is refused. After each of these all is as it was.
 #[derive(Clone, Copy, Debug, PartialEq, Eq)]
 pub enum InitRefusal {
     /// The bucket is not below the size.
@@ -35,9 +35,9 @@ pub enum InitRefusal {
     NoSuchHelper,
     /// The helper has no cursor to link at, or no dummy to store.
     HelperOutOfOrder,
-    /// Memory for the dummy was refused.
+    /// The list could not grow by the dummy: memory was refused.
     NoMemory,
-    /// No stamp is left for the dummy.
+    /// No stamp is left for the dummy: the list's last one is 2^64 - 2.
     StampsUsedUp,
 }
 
@@ -52,7 +52,7 @@ impl From<SpareFault> for InitRefusal {
     }
 }
 
-/// What `Buckets::double` did. The numbers are sizes, in buckets.
+/// What `Buckets::double` did. All but `Doubled` leave the size. The numbers are sizes, in buckets.
 #[derive(Clone, Copy, Debug, PartialEq, Eq)]
 pub enum Double {
     /// The size is this one, and not the one that was seen.

@@ -1,4 +1,4 @@
-//! Buckets.
+//! The buckets.
 ghost use Rattle.std.specs.Prelude.{◌≡◌, ◌≢◌, ℕ, ◌%◌, ◌<◌, ◌≤◌, ◌^◌, Some, None, Ok, Err, true, length, replicate, nat_le, if◌then◌else◌, IfOk, OnErr, OnOk, IfErr, MatchResult};
 ghost use Rattle.node_list.specs.Nodes.{Listing, live_count, node_of};
 ghost use Rattle.node_list.specs.Follow.{Follows};
@@ -18,7 +18,9 @@ use split_key::{dummy, parent};
 use std::alloc::{AllocError, Global};
 use std::marker::Model;
 
-/// The buckets of a table.
+/// The buckets of a table: its size, the dummies of the stored buckets, and its helpers.
+///
+/// A contract sees them as a `Directory`. They belong to one list, which each call is lent.
 #[derive(Drop)]
 pub struct Buckets {
     size: u32,
@@ -54,7 +56,11 @@ impl Buckets {
     ghost use Rattle.bucket_table.specs.Answers.{seek_answer, link_answer, store_answer, double_answer};
     ghost use Rattle.bucket_table.specs.Changes.{SeekChanges, LinkChanges, StoreChanges, after_double};
 
-    /// Two buckets, of which bucket 0 is stored, and idle helpers.
+    /// Two buckets, of which bucket 0 is stored with the list's first node, and idle helpers. `max` is the
+    /// largest size, in buckets.
+    ///
+    /// `AllocError` where memory is refused. Takes memory for `max` entries and for the helpers, and time in
+    /// proportion.
     pub fn new(alloc: Global, max: u32, helpers: u32, list: &NodeList) -> Result<Self, AllocError>
         requires power { IsPowerOfTwo max }
         requires least { 2 ≤ max }
@@ -70,7 +76,7 @@ impl Buckets {
         })
     }
 
-    /// The size: how many buckets the table has now.
+    /// How many buckets the table has now: a power of two, at least 2. Constant time.
     pub fn size(&self) -> u32
         ensures size { result ≡ self.now.size }
         ensures sound { IsSoundDirectory self.now }
@@ -86,7 +92,10 @@ impl Buckets {
         self.entries.get(bucket as usize).copied().flatten()
     }
 
-    /// The dummy from which a key of this bucket is sought.
+    /// The dummy of a bucket, or that of its nearest stored ancestor: a seek for any key of the bucket may
+    /// begin there, since it stands before all of them.
+    ///
+    /// Takes no memory, and one step for each ancestor that is passed.
     pub fn nearest(&self, bucket: u32) -> NodeRef
         ensures nearest { IsNearest self.now bucket result }
         ensures before { (list : Listing) → IsHome self.now list → IsBeforeBucket list.nodes result bucket }
@@ -101,7 +110,7 @@ impl Buckets {
         }
     }
 
-    // What a helper has.
+    // What a helper has, or `NoSuchHelper`.
     fn helper(&self, helper: u64) -> Result<&Helper, InitRefusal>
         ensures ok { IfOk result (λ had. helper_of self.now helper ≡ Some had.now) }
         ensures err { IfErr result (λ refusal. (refusal ≡ InitRefusal.NoSuchHelper) × (helper_of self.now helper ≡ None)) }
@@ -112,7 +121,7 @@ impl Buckets {
             .ok_or(InitRefusal::NoSuchHelper)
     }
 
-    // Stores a bucket.
+    // Stores a bucket with its dummy.
     fn set_dummy(&mut self, bucket: u32, dummy: NodeRef)
         requires { IsReady self.old bucket }
         ensures { self.new ≡ with_dummy self.old bucket dummy }
@@ -129,7 +138,15 @@ impl Buckets {
         self.helpers[helper as usize] = now;
     }
 
-    /// Seeks the place of a bucket's dummy for a helper.
+    /// Seeks the place of a bucket's dummy, from the dummy of its parent, and gives the helper a cursor
+    /// there. Whatever the helper had is dropped. A bucket that is stored is `Ready`, and leaves the helper
+    /// idle.
+    ///
+    /// Refused, in this order: `NoSuchHelper`, `NoSuchBucket`; then, unless the bucket is stored,
+    /// `ParentMissing`. The helper, the buckets and the list are then as they were.
+    ///
+    /// The seek unlinks the marked nodes that it passes, and leaves the content of the list. Takes no
+    /// memory. Visits each node between the parent's dummy and the place.
     pub fn init_seek(
         &mut self,
         list: &mut NodeList,
@@ -164,7 +181,7 @@ impl Buckets {
         Ok(InitSeek::Placed)
     }
 
-    // Links the dummy of a bucket where the helper's cursor is.
+    // `init_link` at the bucket and the cursor of the helper.
     fn link_at(
         &mut self,
         list: &mut NodeList,
@@ -201,7 +218,14 @@ impl Buckets {
         }
     }
 
-    /// Links the dummy of a helper's bucket.
+    /// Links the dummy of a helper's bucket where the helper's cursor is, unless it is linked there already,
+    /// and gives the helper that dummy. Where the cursor does not fit, it is dropped and the helper is idle.
+    ///
+    /// Refused, in this order: `NoSuchHelper`; `HelperOutOfOrder` where the helper has no cursor; and where
+    /// a dummy is to be linked, `StampsUsedUp`, then `NoMemory`. The helper keeps its cursor then, and the
+    /// buckets and the list are as they were.
+    ///
+    /// The content of the list stays. May take memory for one node. Amortised constant time.
     pub fn init_link(&mut self, list: &mut NodeList, helper: u64) -> Result<InitLink, InitRefusal>
         requires home { IsHome self.old list.old }
         requires keyed { IsKeyed list.old.nodes }
@@ -217,7 +241,11 @@ impl Buckets {
         self.link_at(list, helper, bucket, cursor)
     }
 
-    /// Stores a helper's dummy as its bucket's.
+    /// Stores a helper's dummy as that of its bucket, also where the bucket was stored since; the helper is
+    /// idle then.
+    ///
+    /// Refused, in this order: `NoSuchHelper`; `HelperOutOfOrder` where the helper has no dummy. The helper
+    /// and the buckets are then as they were. Takes no memory. Constant time.
     pub fn init_store(&mut self, helper: u64) -> Result<(), InitRefusal>
         ensures answer { result ≡ store_answer self.old helper }
         ensures changes { StoreChanges self.old self.new helper result }
@@ -229,7 +257,11 @@ impl Buckets {
         Ok(())
     }
 
-    /// Doubles the size, where it is the one seen and the table is heavy.
+    /// Doubles the size, where it is the one that the caller saw, is not the largest, and the list has more
+    /// than twice as many keys as there are buckets; these are tested in this order.
+    ///
+    /// Nothing else changes: no node moves, and the new buckets are not stored yet. Takes no memory.
+    /// Constant time.
     pub fn double(&mut self, list: &NodeList, seen: u64) -> Double
         ensures answer { result ≡ double_answer self.old (live_count list.now.nodes) seen }
         ensures size { self.new ≡ after_double self.old result }

@@ -1,18 +1,18 @@
-//! Helpers.
+//! Helpers: the callers that initialise buckets.
 ghost use Rattle.std.specs.Prelude.{◌≡◌};
 
 use crate::answer::InitRefusal;
 use list_steps::Cursor;
 use node_list::NodeRef;
 
-/// What a helper has, of the bucket that it initialises.
+/// How far a helper is with a bucket that it initialises.
 #[derive(Clone, Copy, Debug)]
 pub enum Helper {
-    /// Nothing.
+    /// It has no bucket.
     Idle,
-    /// A bucket, and a cursor for its dummy.
+    /// It has a cursor for the dummy of this bucket.
     Seeking(u32, Cursor),
-    /// A bucket, and its linked dummy.
+    /// It has the linked dummy of this bucket, which it has not stored yet.
     Holding(u32, NodeRef),
 }
 
