@@ -128,12 +128,12 @@ not_after_end g e t callers shaped done at = elim (began_or_not e) [
       false≢true (sym b ∙ closed_begins e some)
 ]
 
-end_not_began : (e : Entry) → is_end e ≡ true → is_began e ≡ false
+pub end_not_began : (e : Entry) → is_end e ≡ true → is_began e ≡ false
 end_not_began (Began c t) h = absurd (false≢true h)
 end_not_began _ h = refl
 
 -- an end closes, and nothing else does
-end_closes : (e : Entry) (o : Option Seat) → is_end e ≡ true → is_some (option_and_then (λ s. row s s.phase e) o) ≡ true → option_and_then (λ s. row s s.phase e) o ≡ Some closed_seat
+pub end_closes : (e : Entry) (o : Option Seat) → is_end e ≡ true → is_some (option_and_then (λ s. row s s.phase e) o) ≡ true → option_and_then (λ s. row s s.phase e) o ≡ Some closed_seat
 end_closes e None c h = absurd (false≢true h)
 end_closes e (Some s) c h = at e s.phase c h
   where
@@ -173,7 +173,7 @@ other_runs e (Some s) c h = at e s.phase refl c h
     at _ q is c h = absurd (false≢true h)
 
 -- only a closed caller begins
-began_was_closed : (e : Entry) (o : Option Seat) → is_began e ≡ true → is_some (option_and_then (λ s. row s s.phase e) o) ≡ true → is_running o ≡ false
+pub began_was_closed : (e : Entry) (o : Option Seat) → is_began e ≡ true → is_some (option_and_then (λ s. row s s.phase e) o) ≡ true → is_running o ≡ false
 began_was_closed e None b h = refl
 began_was_closed e (Some s) b h = at e s.phase b h
   where

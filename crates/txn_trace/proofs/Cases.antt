@@ -1,11 +1,11 @@
 -- Worked histories, by computing: their verdicts, their maps, and what is left of them without what aborted.
 use Rattle.std.proofs.Common.{◌≡◌, ℕ, ◌^◌, ◌-◌, List, [], ◌∷◌, ◌++◌, Some, None, refl, take, map}
-use Rattle.std.specs.Int.{reverse_bits_onto}
+use Rattle.split_key.specs.Split.{split, reversed, reversed_low}
 use Rattle.txn_trace.specs.declared.op.Op.TheVariants.{Put, Take, Get}
 use Rattle.txn_trace.specs.declared.entry.Entry.{Entry}
 use Rattle.txn_trace.specs.declared.entry.Entry.TheVariants.{Began, Asked, Did, Saved, Leave, Undone, Returned, Committed, Busy, Aborted}
 use Rattle.txn_trace.specs.Map.{Map, empty, insert}
-use Rattle.txn_trace.specs.Ordered.{split, ordered}
+use Rattle.txn_trace.specs.Ordered.{ordered}
 use Rattle.txn_trace.specs.Serial.{serial}
 use Rattle.txn_trace.specs.Now.{now}
 use Rattle.txn_trace.specs.Legal.{IsLegal, verdict, Legal, Illegal}
@@ -14,42 +14,42 @@ use Rattle.txn_trace.specs.Owed.{owed}
 use Rattle.txn_trace.proofs.Judging.{legal_iff}
 
 -- A put is taken back by an abort.
-abbrev aborted_put : List Entry
-aborted_put = Began 0 1 ∷ Asked 0 (Put 1 10) ∷ Did 0 None ∷ Leave 0 None ∷ Undone 0 ∷ Aborted 0 ∷ []
+abbrev abort_takes_back : List Entry
+abort_takes_back = Began 0 1 ∷ Asked 0 (Put 1 10) ∷ Did 0 None ∷ Leave 0 None ∷ Undone 0 ∷ Aborted 0 ∷ []
 
-aborted_put_verdict : verdict 8 aborted_put ≡ Legal 0 0
-aborted_put_verdict = refl
+abort_takes_back_verdict : verdict 8 abort_takes_back ≡ Legal 0 0
+abort_takes_back_verdict = refl
 
-aborted_put_done : (now (take 3 aborted_put)).rows ≡ (1, 10) ∷ []
-aborted_put_done = refl
+abort_takes_back_done : (now (take 3 abort_takes_back)).rows ≡ (1, 10) ∷ []
+abort_takes_back_done = refl
 
-aborted_put_leaving : (now (take 4 aborted_put)).rows ≡ (1, 10) ∷ []
-aborted_put_leaving = refl
+abort_takes_back_leaving : (now (take 4 abort_takes_back)).rows ≡ (1, 10) ∷ []
+abort_takes_back_leaving = refl
 
-aborted_put_undone : (now (take 5 aborted_put)).rows ≡ []
-aborted_put_undone = refl
+abort_takes_back_undone : (now (take 5 abort_takes_back)).rows ≡ []
+abort_takes_back_undone = refl
 
-aborted_put_now : (now aborted_put).rows ≡ []
-aborted_put_now = refl
+abort_takes_back_now : (now abort_takes_back).rows ≡ []
+abort_takes_back_now = refl
 
-aborted_put_erased : erase aborted_put ≡ []
-aborted_put_erased = refl
+abort_takes_back_erased : erase abort_takes_back ≡ []
+abort_takes_back_erased = refl
 
 -- A caller finds the stripe of its key in the hands of another, and aborts.
-abbrev busy_get : List Entry
-busy_get = Began 0 1 ∷ Asked 0 (Put 1 10) ∷ Did 0 None ∷ Began 1 2 ∷ Busy 1 (Get 9) 0 ∷ Aborted 1 ∷ []
+abbrev busy_aborts : List Entry
+busy_aborts = Began 0 1 ∷ Asked 0 (Put 1 10) ∷ Did 0 None ∷ Began 1 2 ∷ Busy 1 (Get 9) 0 ∷ Aborted 1 ∷ []
 
-busy_get_verdict : verdict 8 busy_get ≡ Legal 0 1
-busy_get_verdict = refl
+busy_aborts_verdict : verdict 8 busy_aborts ≡ Legal 0 1
+busy_aborts_verdict = refl
 
-busy_get_now : (now busy_get).rows ≡ (1, 10) ∷ []
-busy_get_now = refl
+busy_aborts_now : (now busy_aborts).rows ≡ (1, 10) ∷ []
+busy_aborts_now = refl
 
-busy_get_serial : (serial busy_get).rows ≡ []
-busy_get_serial = refl
+busy_aborts_serial : (serial busy_aborts).rows ≡ []
+busy_aborts_serial = refl
 
-busy_get_erased : erase busy_get ≡ Began 0 1 ∷ Asked 0 (Put 1 10) ∷ Did 0 None ∷ []
-busy_get_erased = refl
+busy_aborts_erased : erase busy_aborts ≡ Began 0 1 ∷ Asked 0 (Put 1 10) ∷ Did 0 None ∷ []
+busy_aborts_erased = refl
 
 -- A transaction returns to a savepoint twice, and then to its beginning, and commits nothing.
 abbrev savepoints : List Entry
@@ -73,34 +73,34 @@ savepoints_serial : (serial savepoints).rows ≡ []
 savepoints_serial = refl
 
 -- A take is seen by no other caller, and is taken back.
-abbrev aborted_take : List Entry
-aborted_take = Began 0 1 ∷ Asked 0 (Put 3 30) ∷ Did 0 None ∷ Committed 0 1 ∷ Began 0 2 ∷ Asked 0 (Take 3) ∷ Did 0 (Some 30) ∷ Began 1 3 ∷ Busy 1 (Get 3) 0 ∷ Aborted 1
+abbrev aborted_take_restores : List Entry
+aborted_take_restores = Began 0 1 ∷ Asked 0 (Put 3 30) ∷ Did 0 None ∷ Committed 0 1 ∷ Began 0 2 ∷ Asked 0 (Take 3) ∷ Did 0 (Some 30) ∷ Began 1 3 ∷ Busy 1 (Get 3) 0 ∷ Aborted 1
     ∷ Leave 0 None ∷ Undone 0 ∷ Aborted 0 ∷ Began 1 4 ∷ Asked 1 (Get 3) ∷ Did 1 (Some 30) ∷ Committed 1 2 ∷ []
 
-aborted_take_verdict : verdict 8 aborted_take ≡ Legal 2 0
-aborted_take_verdict = refl
+aborted_take_restores_verdict : verdict 8 aborted_take_restores ≡ Legal 2 0
+aborted_take_restores_verdict = refl
 
-aborted_take_done : (now (take 7 aborted_take)).rows ≡ []
-aborted_take_done = refl
+aborted_take_restores_done : (now (take 7 aborted_take_restores)).rows ≡ []
+aborted_take_restores_done = refl
 
-aborted_take_serial : (serial (take 7 aborted_take)).rows ≡ (3, 30) ∷ []
-aborted_take_serial = refl
+aborted_take_restores_serial : (serial (take 7 aborted_take_restores)).rows ≡ (3, 30) ∷ []
+aborted_take_restores_serial = refl
 
-aborted_take_undone : (now (take 12 aborted_take)).rows ≡ (3, 30) ∷ []
-aborted_take_undone = refl
+aborted_take_restores_undone : (now (take 12 aborted_take_restores)).rows ≡ (3, 30) ∷ []
+aborted_take_restores_undone = refl
 
-aborted_take_now : (now aborted_take).rows ≡ (3, 30) ∷ []
-aborted_take_now = refl
+aborted_take_restores_now : (now aborted_take_restores).rows ≡ (3, 30) ∷ []
+aborted_take_restores_now = refl
 
-aborted_take_erased : erase aborted_take ≡ Began 0 1 ∷ Asked 0 (Put 3 30) ∷ Did 0 None ∷ Committed 0 1 ∷ Began 1 4 ∷ Asked 1 (Get 3) ∷ Did 1 (Some 30) ∷ Committed 1 2 ∷ []
-aborted_take_erased = refl
+aborted_take_restores_erased : erase aborted_take_restores ≡ Began 0 1 ∷ Asked 0 (Put 3 30) ∷ Did 0 None ∷ Committed 0 1 ∷ Began 1 4 ∷ Asked 1 (Get 3) ∷ Did 1 (Some 30) ∷ Committed 1 2 ∷ []
+aborted_take_restores_erased = refl
 
 -- What is owed to both callers before the reply of the take, and after the other one was busy.
-aborted_take_owed : owed 2 (take 6 aborted_take) ≡ 4
-aborted_take_owed = refl
+aborted_take_restores_owed : owed 2 (take 6 aborted_take_restores) ≡ 4
+aborted_take_restores_owed = refl
 
-aborted_take_owed_busy : owed 2 (take 9 aborted_take) ≡ 4
-aborted_take_owed_busy = refl
+aborted_take_restores_owed_busy : owed 2 (take 9 aborted_take_restores) ≡ 4
+aborted_take_restores_owed_busy = refl
 
 -- Two transactions commit in the other order than they began.
 abbrev crossed : List Entry
@@ -113,7 +113,7 @@ crossed_open : verdict 8 (take 7 crossed) ≡ Legal 1 1
 crossed_open = refl
 
 crossed_ordered : ordered (now crossed) ≡ (4, 40) ∷ (2, 20) ∷ []
-unfolding reverse_bits_onto
+unfolding split reversed reversed_low
 crossed_ordered = refl
 
 -- A second transaction changes what the first one put, and commits after it though its number is lower.
@@ -127,89 +127,89 @@ handed_on_serial : (serial handed_on).rows ≡ (1, 11) ∷ []
 handed_on_serial = refl
 
 -- A value of an aborted transaction is read by a later one.
-abbrev stale_front : List Entry
-stale_front = Began 0 1 ∷ Asked 0 (Put 1 10) ∷ Did 0 None ∷ Committed 0 1 ∷ Began 1 2 ∷ Asked 1 (Put 1 99) ∷ Did 1 (Some 10) ∷ Leave 1 None ∷ []
+abbrev checker_replies_front : List Entry
+checker_replies_front = Began 0 1 ∷ Asked 0 (Put 1 10) ∷ Did 0 None ∷ Committed 0 1 ∷ Began 1 2 ∷ Asked 1 (Put 1 99) ∷ Did 1 (Some 10) ∷ Leave 1 None ∷ []
 
-abbrev stale_read : List Entry
-stale_read = stale_front ++ Undone 1 ∷ Aborted 1 ∷ Began 0 3 ∷ Asked 0 (Get 1) ∷ Did 0 (Some 99) ∷ Committed 0 2 ∷ []
+abbrev checker_replies : List Entry
+checker_replies = checker_replies_front ++ Undone 1 ∷ Aborted 1 ∷ Began 0 3 ∷ Asked 0 (Get 1) ∷ Did 0 (Some 99) ∷ Committed 0 2 ∷ []
 
-abbrev right_read : List Entry
-right_read = stale_front ++ Undone 1 ∷ Aborted 1 ∷ Began 0 3 ∷ Asked 0 (Get 1) ∷ Did 0 (Some 10) ∷ Committed 0 2 ∷ []
+abbrev checker_replies_right : List Entry
+checker_replies_right = checker_replies_front ++ Undone 1 ∷ Aborted 1 ∷ Began 0 3 ∷ Asked 0 (Get 1) ∷ Did 0 (Some 10) ∷ Committed 0 2 ∷ []
 
-abbrev not_undone : List Entry
-not_undone = stale_front ++ Aborted 1 ∷ Began 0 3 ∷ Asked 0 (Get 1) ∷ Did 0 (Some 99) ∷ Committed 0 2 ∷ []
+abbrev checker_replies_not_undone : List Entry
+checker_replies_not_undone = checker_replies_front ++ Aborted 1 ∷ Began 0 3 ∷ Asked 0 (Get 1) ∷ Did 0 (Some 99) ∷ Committed 0 2 ∷ []
 
-stale_read_verdict : verdict 8 stale_read ≡ Illegal 12 1
-stale_read_verdict = refl
+checker_replies_verdict : verdict 8 checker_replies ≡ Illegal 12 1
+checker_replies_verdict = refl
 
-right_read_verdict : verdict 8 right_read ≡ Legal 2 0
-right_read_verdict = refl
+checker_replies_right_verdict : verdict 8 checker_replies_right ≡ Legal 2 0
+checker_replies_right_verdict = refl
 
-not_undone_verdict : verdict 8 not_undone ≡ Illegal 8 3
-not_undone_verdict = refl
+checker_replies_not_undone_verdict : verdict 8 checker_replies_not_undone ≡ Illegal 8 3
+checker_replies_not_undone_verdict = refl
 
 -- The same, entry by entry.
-fed_10 : verdict 8 (take 10 stale_read) ≡ Legal 1 0
-fed_10 = refl
+fed_entry_by_entry_10 : verdict 8 (take 10 checker_replies) ≡ Legal 1 0
+fed_entry_by_entry_10 = refl
 
-fed_11 : verdict 8 (take 11 stale_read) ≡ Legal 1 1
-fed_11 = refl
+fed_entry_by_entry_11 : verdict 8 (take 11 checker_replies) ≡ Legal 1 1
+fed_entry_by_entry_11 = refl
 
-fed_12 : verdict 8 (take 12 stale_read) ≡ Legal 1 1
-fed_12 = refl
+fed_entry_by_entry_12 : verdict 8 (take 12 checker_replies) ≡ Legal 1 1
+fed_entry_by_entry_12 = refl
 
-fed_13 : verdict 8 (take 13 stale_read) ≡ Illegal 12 1
-fed_13 = refl
+fed_entry_by_entry_13 : verdict 8 (take 13 checker_replies) ≡ Illegal 12 1
+fed_entry_by_entry_13 = refl
 
-fed_14 : verdict 8 (take 14 stale_read) ≡ Illegal 12 1
-fed_14 = refl
+fed_entry_by_entry_14 : verdict 8 (take 14 checker_replies) ≡ Illegal 12 1
+fed_entry_by_entry_14 = refl
 
 -- A stripe is taken from its holder, and a Busy names one that holds nothing.
-taken_stripe_verdict : verdict 8 (Began 0 1 ∷ Asked 0 (Put 1 10) ∷ Did 0 None ∷ Began 1 2 ∷ Asked 1 (Get 9) ∷ []) ≡ Illegal 4 2
-taken_stripe_verdict = refl
+checker_locks_asked : verdict 8 (Began 0 1 ∷ Asked 0 (Put 1 10) ∷ Did 0 None ∷ Began 1 2 ∷ Asked 1 (Get 9) ∷ []) ≡ Illegal 4 2
+checker_locks_asked = refl
 
-groundless_busy_verdict : verdict 8 (Began 0 1 ∷ Busy 0 (Get 9) 1 ∷ []) ≡ Illegal 1 2
-groundless_busy_verdict = refl
+checker_locks_busy : verdict 8 (Began 0 1 ∷ Busy 0 (Get 9) 1 ∷ []) ≡ Illegal 1 2
+checker_locks_busy = refl
 
-busy_by_itself_verdict : verdict 8 (Began 0 1 ∷ Asked 0 (Put 1 10) ∷ Did 0 None ∷ Busy 0 (Get 9) 0 ∷ []) ≡ Illegal 3 2
-busy_by_itself_verdict = refl
+checker_locks_busy_itself : verdict 8 (Began 0 1 ∷ Asked 0 (Put 1 10) ∷ Did 0 None ∷ Busy 0 (Get 9) 0 ∷ []) ≡ Illegal 3 2
+checker_locks_busy_itself = refl
 
 -- Forged histories.
-no_entries_verdict : verdict 8 [] ≡ Legal 0 0
-no_entries_verdict = refl
+forged_none : verdict 8 [] ≡ Legal 0 0
+forged_none = refl
 
-undone_alone_verdict : verdict 8 (Undone 0 ∷ []) ≡ Illegal 0 3
-undone_alone_verdict = refl
+forged_undone : verdict 8 (Undone 0 ∷ []) ≡ Illegal 0 3
+forged_undone = refl
 
-wrong_place_verdict : verdict 8 (Began 0 1 ∷ Committed 0 2 ∷ []) ≡ Illegal 1 3
-wrong_place_verdict = refl
+forged_place : verdict 8 (Began 0 1 ∷ Committed 0 2 ∷ []) ≡ Illegal 1 3
+forged_place = refl
 
-wrong_number_verdict : verdict 8 (Began 0 1 ∷ Began 1 3 ∷ []) ≡ Illegal 1 3
-wrong_number_verdict = refl
+forged_number : verdict 8 (Began 0 1 ∷ Began 1 3 ∷ []) ≡ Illegal 1 3
+forged_number = refl
 
-no_such_level_verdict : verdict 8 (Began 0 1 ∷ Leave 0 (Some 1) ∷ []) ≡ Illegal 1 3
-no_such_level_verdict = refl
+forged_level : verdict 8 (Began 0 1 ∷ Leave 0 (Some 1) ∷ []) ≡ Illegal 1 3
+forged_level = refl
 
-invented_reply_verdict : verdict 8 (Began 0 1 ∷ Asked 0 (Get 5) ∷ Did 0 (Some 7) ∷ Leave 0 None ∷ []) ≡ Illegal 2 1
-invented_reply_verdict = refl
+forged_reply : verdict 8 (Began 0 1 ∷ Asked 0 (Get 5) ∷ Did 0 (Some 7) ∷ Leave 0 None ∷ []) ≡ Illegal 2 1
+forged_reply = refl
 
 -- Two keys that share a stripe of eight, but not one of sixteen.
-abbrev two_gets : List Entry
-two_gets = Began 0 1 ∷ Asked 0 (Get 1) ∷ Began 1 2 ∷ Asked 1 (Get 9) ∷ []
+abbrev forged_stripes : List Entry
+forged_stripes = Began 0 1 ∷ Asked 0 (Get 1) ∷ Began 1 2 ∷ Asked 1 (Get 9) ∷ []
 
-two_gets_verdict : verdict 8 two_gets ≡ Illegal 3 2
-two_gets_verdict = refl
+forged_stripes_verdict : verdict 8 forged_stripes ≡ Illegal 3 2
+forged_stripes_verdict = refl
 
-two_gets_more_stripes_verdict : verdict 16 two_gets ≡ Legal 0 2
-two_gets_more_stripes_verdict = refl
+forged_stripes_more_stripes_verdict : verdict 16 forged_stripes ≡ Legal 0 2
+forged_stripes_more_stripes_verdict = refl
 
 -- Split keys, and maps in the order of them.
 split_10 : split 10 ≡ 0x5000000000000001
-unfolding reverse_bits_onto
+unfolding split reversed reversed_low
 split_10 = refl
 
 split_last : split (2 ^ 63 - 1) ≡ 0xffffffffffffffff
-unfolding reverse_bits_onto
+unfolding split reversed reversed_low
 split_last = refl
 
 abbrev with_keys : List ℕ → Map
@@ -217,23 +217,23 @@ with_keys [] = empty
 with_keys (k ∷ ks) = insert (with_keys ks) k k
 
 ordered_0_to_7 : map (λ pair. pair.0) (ordered (with_keys (0 ∷ 1 ∷ 2 ∷ 3 ∷ 4 ∷ 5 ∷ 6 ∷ 7 ∷ []))) ≡ 0 ∷ 4 ∷ 2 ∷ 6 ∷ 1 ∷ 5 ∷ 3 ∷ 7 ∷ []
-unfolding reverse_bits_onto
+unfolding split reversed reversed_low
 ordered_0_to_7 = refl
 
 ordered_five : ordered (insert (insert (insert (insert (insert empty 1 10) 2 20) 3 30) 4 40) 5 50) ≡ (4, 40) ∷ (2, 20) ∷ (1, 10) ∷ (5, 50) ∷ (3, 30) ∷ []
-unfolding reverse_bits_onto
+unfolding split reversed reversed_low
 ordered_five = refl
 
 ordered_last : ordered (insert (insert empty (2 ^ 63 - 1) 7) 3 30) ≡ (3, 30) ∷ (2 ^ 63 - 1, 7) ∷ []
-unfolding reverse_bits_onto
+unfolding split reversed reversed_low
 ordered_last = refl
 
 -- So the definition of legal histories is met, and excludes some.
-aborted_take_legal : IsLegal 8 aborted_take
-aborted_take_legal = (legal_iff 8 aborted_take).1 refl
+aborted_take_restores_legal : IsLegal 8 aborted_take_restores
+aborted_take_restores_legal = (legal_iff 8 aborted_take_restores).1 refl
 
 savepoints_legal : IsLegal 8 savepoints
 savepoints_legal = (legal_iff 8 savepoints).1 refl
 
-stale_read_not_legal : IsLegal 8 stale_read → ⊥
-stale_read_not_legal legal = cc ((legal_iff 8 stale_read).0 legal)
+checker_replies_not_legal : IsLegal 8 checker_replies → ⊥
+checker_replies_not_legal legal = cc ((legal_iff 8 checker_replies).0 legal)

@@ -16,7 +16,17 @@ pub mod Seated
 pub mod Acting
 pub mod Undoing
 pub mod Logs
+pub mod Holders
+pub mod Next
+pub mod Entries
+pub mod Held
 pub mod Bounds
 pub mod Erasing
 pub mod Erased
+pub mod Breaking
+pub mod Order
+pub mod Sums
+pub mod Room
+pub mod Verdicts
+pub mod Counts
 pub mod Cases

@@ -236,5 +236,5 @@ module _ (stripes : ℕ) (g : List Entry) (e : Entry) (callers : Callers g) (sha
 pub are_logged : (stripes : ℕ) (g : List Entry) → IsShaped g → AreLogged stripes g
 are_logged stripes g shape = (by_entries (λ h. AreSeated h × AreLogged stripes h) push ((λ c t is going. absurd (cc (is))), λ c t is going. absurd (cc (is))) g shape).1
   where
-    push : (g : List Entry) (e : Entry) → Callers g → is_shaped g e ≡ true → (AreSeated g × AreLogged stripes g) → AreSeated (g ++ e ∷ []) × AreLogged stripes (g ++ e ∷ [])
-    push g e callers shaped was = (seated_push g e callers shaped was.0, logged_push stripes g e callers shaped was.0 was.1)
+    push : (g : List Entry) (e : Entry) → IsShaped g → Callers g → is_shaped g e ≡ true → (AreSeated g × AreLogged stripes g) → AreSeated (g ++ e ∷ []) × AreLogged stripes (g ++ e ∷ [])
+    push g e shape callers shaped was = (seated_push g e callers shaped was.0, logged_push stripes g e callers shaped was.0 was.1)

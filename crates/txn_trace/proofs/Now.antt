@@ -162,8 +162,8 @@ module _ (stripes : ℕ) (g : List Entry) (e : Entry) (t : ℕ) (shape : IsShape
   apart : Apart stripes g
   apart = are_apart stripes g shape locks
 
-  serial_is : serial (g ++ e ∷ []) ≡ map_after (serial g) (of t g)
-  serial_is = serial-push_commit g e callers shape shaped shape_after t commit at ∙ ap (map_after (serial g)) (of-push_in t g e at) ∙ map_after-commit (serial g) (of t g) e commit
+  pub serial-commit : serial (g ++ e ∷ []) ≡ map_after (serial g) (of t g)
+  serial-commit = serial-push_commit g e callers shape shaped shape_after t commit at ∙ ap (map_after (serial g)) (of-push_in t g e at) ∙ map_after-commit (serial g) (of t g) e commit
 
   not_t : (u : ℕ) → ended u (g ++ e ∷ []) ≡ false → u ≢ t
   not_t u goes same = false≢true (sym goes ∙ ap (λ x. ended x (g ++ e ∷ [])) same ∙ ended_in g e callers shaped t at ∙ or_left (is_commit e) (is_abort e) commit)
@@ -180,7 +180,7 @@ module _ (stripes : ℕ) (g : List Entry) (e : Entry) (t : ℕ) (shape : IsShape
   -- the keys of another running transaction are left as they were
   same_there : (u : ℕ) → ended u g ≡ false → u ≢ t → (k : ℕ) → keys_in stripes (of u g) k ≡ true → get (serial g) k ≡ get (serial (g ++ e ∷ [])) k
   same_there u goes other k held =
-      sym (ap (λ m. get m k) serial_is ∙ untouched stripes (of t g) (serial g) (serial g) k (false_from_ne_true _ (λ is. other (apart u t (stripe_of stripes k) goes going held is))))
+      sym (ap (λ m. get m k) serial-commit ∙ untouched stripes (of t g) (serial g) (serial g) k (false_from_ne_true _ (λ is. other (apart u t (stripe_of stripes k) goes going held is))))
 
   -- the others' replies still hold
   pub replies-push_commit : RepliesHoldAt g → RepliesHoldAt (g ++ e ∷ [])
@@ -200,7 +200,7 @@ module _ (stripes : ℕ) (g : List Entry) (e : Entry) (t : ℕ) (shape : IsShape
           let other = not_t u goes_after in
           ap (λ es. keys_in stripes es k) (entries_stay u other)
           ∙ false_from_ne_true _ (λ is. other (apart u w.txn (stripe_of stripes k) (not_ended_before g e callers shaped u goes_after) w.running.going is w.held ∙ same)))
-          ∙ ap (λ m. get m k) serial_is
+          ∙ ap (λ m. get m k) serial-commit
           ∙ ap (λ x. get (map_after (serial g) (of x g)) k) (sym same)
           ∙ sym (now_at-holder stripes g k apart w.txn w.running w.held)
       | inr other ↦
@@ -214,7 +214,7 @@ module _ (stripes : ℕ) (g : List Entry) (e : Entry) (t : ℕ) (shape : IsShape
     ]
     | inr none ↦
         now_at-free stripes (g ++ e ∷ []) k (λ u goes_after. ap (λ es. keys_in stripes es k) (entries_stay u (not_t u goes_after)) ∙ none u (not_ended_before g e callers shaped u goes_after))
-        ∙ ap (λ m. get m k) serial_is
+        ∙ ap (λ m. get m k) serial-commit
         ∙ untouched stripes (of t g) (serial g) (serial g) k (none t going)
         ∙ sym (now_at-free stripes g k none)
   ]

@@ -9,15 +9,15 @@ use Rattle.txn_trace.specs.History.{caller_of, is_began, txn_after}
 use Rattle.txn_trace.specs.Shape.{Seat, row, closed_seat, seat_after, own, is_shaped, IsShaped}
 use Rattle.txn_trace.specs.Legal.{is_running}
 use Rattle.txn_trace.proofs.Pushes.{txn_in, txn_at, txn_in-push}
-use Rattle.txn_trace.proofs.Callers.{Callers, callers_of, ended, shaped_seat, closed_begins, seat_of_mine, seat_of_other}
+use Rattle.txn_trace.proofs.Callers.{Callers, callers_of, ended, shaped_seat, closed_begins, seat_of_mine, seat_of_other, began_or_not}
 use Rattle.txn_trace.proofs.Inductions.{by_entries}
 
 -- In right shape each caller has a seat.
 pub has_seat : (g : List Entry) → IsShaped g → (c : ℕ) → is_some (seat_after (own c g)) ≡ true
 has_seat g shape c = by_entries (λ h. is_some (seat_after (own c h)) ≡ true) step refl g shape
   where
-    step : (g : List Entry) (e : Entry) → Callers g → is_shaped g e ≡ true → is_some (seat_after (own c g)) ≡ true → is_some (seat_after (own c (g ++ e ∷ []))) ≡ true
-    step g e callers shaped is = elim (cases_eq c (caller_of e)) [
+    step : (g : List Entry) (e : Entry) → IsShaped g → Callers g → is_shaped g e ≡ true → is_some (seat_after (own c g)) ≡ true → is_some (seat_after (own c (g ++ e ∷ []))) ≡ true
+    step g e shape callers shaped is = elim (cases_eq c (caller_of e)) [
       | inl mine ↦ ap is_some (seat_of_mine g e callers shaped c mine) ∙ shaped_seat g e shaped
       | inr other ↦ ap is_some (seat_of_other g e callers shaped c other) ∙ is
     ]
@@ -37,8 +37,8 @@ closed_before g shape c = by_entries (λ h. txn_in h c ≡ None → seat_after (
     none_before g (Began c t) d is = (elim (c == d) as (λ b. cond b (Some t) (txn_in g d) ≡ None → txn_in g d ≡ None) [ true ↦ λ h. absurd (cc (h)) | false ↦ λ h. h ]) is
     none_before g _ d is = is
 
-    step : (g : List Entry) (e : Entry) → Callers g → is_shaped g e ≡ true → (txn_in g c ≡ None → seat_after (own c g) ≡ Some closed_seat) → txn_in (g ++ e ∷ []) c ≡ None → seat_after (own c (g ++ e ∷ [])) ≡ Some closed_seat
-    step g e callers shaped was is =
+    step : (g : List Entry) (e : Entry) → IsShaped g → Callers g → is_shaped g e ≡ true → (txn_in g c ≡ None → seat_after (own c g) ≡ Some closed_seat) → txn_in (g ++ e ∷ []) c ≡ None → seat_after (own c (g ++ e ∷ [])) ≡ Some closed_seat
+    step g e shape callers shaped was is =
         let now : txn_after (txn_in g) e c ≡ None = ap (λ f. f c) (sym (txn_in-push g e)) ∙ is in
         let closed = was (none_before g e c now) in
         elim (cases_eq c (caller_of e)) [
@@ -66,4 +66,22 @@ running_txn g shape c runs = from (txn_in g c) refl
     from (Some t) is = elim (cases_Bool (ended t g)) [
       | inl done ↦ absurd (false≢true (sym (ap is_running (callers.closed c t is done)) ∙ runs))
       | inr going ↦ record { txn = t; in_it = is; going = going }
+    ]
+
+-- An entry in right shape belongs to a transaction.
+pub has_txn : (g : List Entry) (e : Entry) → IsShaped g → is_shaped g e ≡ true → (t : ℕ) × (txn_at g e ≡ Some t)
+has_txn g e shape shaped = from (txn_at g e) refl
+  where
+    not_began_none : (g : List Entry) (e : Entry) → is_began e ≡ false → txn_at g e ≡ None → txn_in g (caller_of e) ≡ None
+    not_began_none g (Began c t) b is = absurd (false≢true (sym b))
+    not_began_none g _ b is = is
+
+    from : (o : Option ℕ) → txn_at g e ≡ o → (t : ℕ) × (txn_at g e ≡ Some t)
+    from (Some t) is = (t, is)
+    from None is = elim (began_or_not e) [
+      | inl b ↦ absurd (began_is_in g e b is)
+      | inr b ↦
+          let closed = closed_before g shape (caller_of e) (not_began_none g e b is) in
+          let opens : is_some (row closed_seat closed_seat.phase e) ≡ true = subst (λ o. is_some (option_and_then (λ (s : Seat). row s s.phase e) o) ≡ true) closed (shaped_seat g e shaped) in
+          absurd (false≢true (sym b ∙ closed_begins e opens))
     ]

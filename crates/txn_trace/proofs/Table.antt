@@ -14,7 +14,7 @@ use Rattle.txn_trace.specs.Now.{first_differing, set_at, open_maps, now, now_at}
 use Rattle.txn_trace.proofs.Maps.{get-insert, get-remove, overlaid}
 use Rattle.txn_trace.proofs.Now.{same_is}
 
-get-set_at : (m : Map) (j : ℕ) (o : Option ℕ) (k : ℕ) → get (set_at m j o) k ≡ cond (k == j) o (get m k)
+pub get-set_at : (m : Map) (j : ℕ) (o : Option ℕ) (k : ℕ) → get (set_at m j o) k ≡ cond (k == j) o (get m k)
 get-set_at m j None k = get-remove m j k
 get-set_at m j (Some v) k = get-insert m j v k
 

@@ -1,15 +1,11 @@
 -- The order in which a split-ordered table lists its keys.
-use Rattle.std.specs.Prelude.{ℕ, ◌+◌, ◌^◌, List, []}
+use Rattle.std.specs.Prelude.{ℕ, List, []}
 use Rattle.std.specs.FinMap.Entries.{put}
 use Rattle.std.specs.Ordering.{nat_cmp, then_cmp}
 use Rattle.std.specs.List.{fold}
-use Rattle.std.specs.Int.{reverse_bits, w64}
 use Rattle.std.specs.declared.cmp.Ordering.{Ordering}
+use Rattle.split_key.specs.Split.{split}
 use Rattle.txn_trace.specs.Map.{Map}
-
--- The split key of a key: its bits and a bit above them, in the other order.
-abbrev pub split : ℕ → ℕ
-split k = reverse_bits w64 (k + 2 ^ 63)
 
 -- Keys are compared by their split keys, and by themselves where these are equal.
 abbrev pub split_cmp : ℕ → ℕ → Ordering

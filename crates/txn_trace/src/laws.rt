@@ -16,5 +16,4 @@ pub fn erased()
     ensures now { (stripes : ℕ) (h : List Entry) → IsLegal stripes h → now (erase h) ≡ now h }
     ensures serial { (stripes : ℕ) (h : List Entry) → IsLegal stripes h → serial (erase h) ≡ serial h }
     ensures replies { (stripes : ℕ) (h : List Entry) → IsLegal stripes h → RepliesHold (erase h) }
-{
-}
+{}

@@ -1,0 +1,10 @@
+pub mod Runs
+pub mod Ordered
+pub mod Pairs
+pub mod Shape
+pub mod Locks
+pub mod ContentList
+pub mod Told
+pub mod Seats
+pub mod Moves
+pub mod Replying

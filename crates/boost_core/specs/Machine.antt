@@ -1,0 +1,30 @@
+-- The machine of steps: which moves there are.
+pub use Rattle.boost_core.specs.State.{State, start}
+use Rattle.std.specs.Prelude.{◌≡◌, ◌+◌, ◌≤◌, ◌⊎◌, true, List, [], ◌∷◌, Some, None}
+use Rattle.txn_trace.specs.declared.step.Step.{Step}
+use Rattle.txn_trace.specs.declared.answer.Answer.{Answer}
+use Rattle.txn_trace.specs.declared.answer.Answer.TheVariants as answers
+use Rattle.boost_core.specs.Refusals.{refusal_of, MayLack}
+use Rattle.boost_core.specs.Answers.{IsAnswer, keeps_list, after}
+
+-- Whether a step may be answered so: by the first refusal whose test holds, and where none does, by want of memory or of
+-- stamps, or by an answer of the step.
+abbrev pub IsAllowed : State → Step → Answer → Type 0
+IsAllowed state step (answers.Refused refusal) = (refusal_of state step ≡ Some refusal) ⊎ ((refusal_of state step ≡ None) × MayLack state step refusal)
+IsAllowed state step answer = (refusal_of state step ≡ None) × IsAnswer state step answer
+
+-- A step, its answer and the state after it. The change number never falls, and stays where the list does; the last stamp
+-- rises by at most one.
+pub record Move (old : State) (step : Step) (answer : Answer) (new : State) : Type 0 where
+  pub allowed : IsAllowed old step answer
+  pub state : new ≡ after old step answer new.changes new.last_stamp
+  pub changes_rise : old.changes ≤ new.changes
+  pub changes_stay : keeps_list answer ≡ true → new.changes ≡ old.changes
+  pub stamps_rise : old.last_stamp ≤ new.last_stamp
+  pub stamps_by_one : new.last_stamp ≤ old.last_stamp + 1
+
+-- These answers to these steps, one after the other.
+abbrev pub Moves : State → List Step → List Answer → State → Type 0
+Moves old [] [] new = new ≡ old
+Moves old (step ∷ steps) (answer ∷ answers) new = (between : State) × Move old step answer between × Moves between steps answers new
+Moves old steps answers new = ⊥

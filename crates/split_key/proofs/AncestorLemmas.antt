@@ -1,0 +1,106 @@
+-- Parents and ancestors of buckets: an ancestor has the bucket's lowest bits, so its dummy stands before the bucket's.
+use Prim.Native.Nat.{zero, suc}
+use Rattle.std.proofs.Common.{◌≡◌, ◌≢◌, ℕ, ◌+◌, ◌*◌, ◌-◌, ◌/◌, ◌%◌, ◌^◌, ◌<◌, ◌≤◌, refl, sym, ◌∙◌, ap, arith, pow-suc, inl, inr}
+use Rattle.std.proofs.lemmas.Bool.{cases_lt}
+use Rattle.std.proofs.lemmas.Bool.Decides.{leb_tells}
+use Rattle.std.proofs.lemmas.Nat.{pow_pos, mod_below, mod_low, mod-pow-add}
+use Rattle.std.proofs.Math.Nat.{pow-le-pow_right, mod-eq_of_lt, mod-le}
+use Rattle.split_key.specs.Split.{reversed, split, highest_cleared, parent_of, ancestor_of, IsAncestor}
+use Rattle.split_key.proofs.SplitLemmas.{lowest_before, lowest_before_key}
+
+-- the exponent of a power of two that fits a word
+pub exponent_below : (bit width : ℕ) → 2 ^ bit < 2 ^ width → bit < width
+exponent_below bit width small =
+    elim (cases_lt bit width) [
+      | inl less ↦ less
+      | inr more ↦ let large : 2 ^ width ≤ 2 ^ bit = pow-le-pow_right {n = 2} (omega arith) more in absurd (omega arith)
+    ]
+
+-- the lowest bits of the lowest bits
+mod_pow_twice : (number j k : ℕ) → (bits : ℕ) × (bits ≤ j) × (number % 2 ^ j % 2 ^ k ≡ number % 2 ^ bits)
+mod_pow_twice number j k =
+    elim (cases_lt j k) [
+      | inl less ↦
+          let within = mod_below number (2 ^ j) (pow_pos j) in
+          let power : 2 ^ j ≤ 2 ^ k = pow-le-pow_right {n = 2} (omega arith) (omega arith) in
+          (j, omega arith, mod-eq_of_lt {n = number % 2 ^ j} (omega arith))
+      | inr more ↦
+          let exponent : j - k + k ≡ j = omega arith in
+          let split_there = mod-pow-add number (j - k) k in
+          let parts = rw exponent at split_there in
+          (k, more, rw parts (mod_low (number / 2 ^ k % 2 ^ (j - k)) k (number % 2 ^ k) (mod_below number (2 ^ k) (pow_pos k))))
+    ]
+
+-- the highest 1 bit of a number, and the rest
+pub highest_cleared_is : (width number bit rest : ℕ) → number ≡ 2 ^ bit + rest → rest < 2 ^ bit → bit < width → highest_cleared width number ≡ rest
+unfolding highest_cleared
+highest_cleared_is zero number bit rest is below small = absurd (omega arith)
+highest_cleared_is (suc width) number bit rest is below small =
+    elim (cases_lt bit width) [
+      | inl less ↦
+          let more : 2 ^ suc bit ≤ 2 ^ width = pow-le-pow_right {n = 2} (omega arith) (omega arith) in
+          elim (leb_tells (2 ^ width) number) [
+            | inl over ↦ absurd (omega (arith, pow-suc 2 bit))
+            | inr under ↦ rw (under.0) (highest_cleared_is width number bit rest is below less)
+          ]
+      | inr same ↦
+          let power : 2 ^ bit ≡ 2 ^ width = ap (λ k. 2 ^ k) (omega arith) in
+          elim (leb_tells (2 ^ width) number) [
+            | inl over ↦ rw (over.0) (omega arith)
+            | inr under ↦ absurd (omega arith)
+          ]
+    ]
+
+-- without its highest 1 bit a number is its bits below some place
+highest_cleared_lowest : (width number : ℕ) → number < 2 ^ width → (bits : ℕ) × (highest_cleared width number ≡ number % 2 ^ bits)
+unfolding highest_cleared
+highest_cleared_lowest zero number small = (0, omega arith)
+highest_cleared_lowest (suc width) number small =
+    elim (leb_tells (2 ^ width) number) [
+      | inl over ↦
+          let rest : number - 2 ^ width < 2 ^ width = omega (arith, pow-suc 2 width) in
+          let number_is : number ≡ 1 * 2 ^ width + (number - 2 ^ width) = omega arith in
+          (width, rw (over.0) (sym (mod_low 1 width (number - 2 ^ width) rest) ∙ ap (λ n. n % 2 ^ width) (sym number_is)))
+      | inr under ↦ let below = highest_cleared_lowest width number under.1 in (below.0, rw (under.0) below.1)
+    ]
+
+-- an ancestor is the bucket's bits below some place
+ancestor_of_lowest : (steps bucket : ℕ) → bucket < 2 ^ 32 → (bits : ℕ) × (bits ≤ 32) × (ancestor_of steps bucket ≡ bucket % 2 ^ bits)
+unfolding ancestor_of parent_of
+ancestor_of_lowest zero bucket small = (32, omega arith, omega arith)
+ancestor_of_lowest (suc steps) bucket small =
+    let near = ancestor_of_lowest steps bucket small in
+    let near_small : ancestor_of steps bucket < 2 ^ 32 = omega (arith, near.2, mod-le bucket (2 ^ near.0)) in
+    let cleared = highest_cleared_lowest 32 (ancestor_of steps bucket) near_small in
+    let twice = mod_pow_twice bucket near.0 cleared.0 in
+    (twice.0, omega arith, cleared.1 ∙ ap (λ n. n % 2 ^ cleared.0) near.2 ∙ twice.2)
+
+-- a bucket is its own ancestor
+pub IsAncestor-self : (bucket : ℕ) → IsAncestor bucket bucket
+unfolding ancestor_of
+IsAncestor-self bucket = record { steps = 0; reached = refl }
+
+-- the parent of an ancestor is one
+pub IsAncestor-parent_of : (ancestor descendant : ℕ) → IsAncestor ancestor descendant → IsAncestor (parent_of ancestor) descendant
+unfolding ancestor_of
+IsAncestor-parent_of ancestor descendant is = record { steps = suc is.steps; reached = ap parent_of is.reached }
+
+-- another ancestor's dummy stands before the bucket's
+pub ancestor_before : (ancestor bucket : ℕ) → bucket < 2 ^ 32 → IsAncestor ancestor bucket → ancestor ≢ bucket → reversed ancestor < reversed bucket
+ancestor_before ancestor bucket small is other =
+    let lowest = ancestor_of_lowest is.steps bucket small in
+    let low : ancestor ≡ bucket % 2 ^ lowest.0 = is.reached ∙ lowest.2 in
+    elim (cases_lt bucket (2 ^ lowest.0)) [
+      | inl short ↦ absurd (other (low ∙ mod-eq_of_lt short))
+      | inr longer ↦ rw low (lowest_before lowest.0 bucket (omega (arith, lowest.1)) (omega arith) longer)
+    ]
+
+-- the dummies of the key's bucket and of its ancestors stand before the key
+pub ancestor_before_key : (ancestor key exponent : ℕ) → key < 2 ^ 63 → exponent ≤ 32 → IsAncestor ancestor (key % 2 ^ exponent) → reversed ancestor < split key
+ancestor_before_key ancestor key exponent fits small is =
+    let within = mod_below key (2 ^ exponent) (pow_pos exponent) in
+    let power : 2 ^ exponent ≤ 2 ^ 32 = pow-le-pow_right {n = 2} (omega arith) small in
+    let lowest = ancestor_of_lowest is.steps (key % 2 ^ exponent) (omega arith) in
+    let twice = mod_pow_twice key exponent lowest.0 in
+    let low : ancestor ≡ key % 2 ^ twice.0 = is.reached ∙ lowest.2 ∙ twice.2 in
+    rw low (lowest_before_key twice.0 key (omega (arith, twice.1)) fits)

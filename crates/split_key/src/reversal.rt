@@ -1,0 +1,31 @@
+ghost use Rattle.std.specs.Prelude.{◌≡◌, ℕ, ◌-◌, ◌*◌, ◌/◌, ◌%◌, ◌<◌};
+ghost use Rattle.std.specs.Int.{bit_at};
+ghost use Rattle.split_key.specs.Split.{reversed};
+ghost use Rattle.split_key.specs.Swap.{swapped_place};
+
+/// The word with each two neighbouring groups of `width` bits swapped, where `low` has a 1 at each bit of the lower
+/// group of each two.
+fn swapped(word: u64, width: u32, low: u64) -> u64
+    requires some { 0 < width }
+    requires fits { width < 64 }
+    requires groups { (place : ℕ) → place < 64 → bit_at low place ≡ 1 - place / width % 2 }
+    ensures { (place : ℕ) → place < 64 → bit_at result place ≡ bit_at word (swapped_place width place) }
+{
+    (word >> width & low) | ((word & low) << width)
+}
+
+/// The word with its 64 bits in reverse order: bit `i` of the result is bit `63 - i` of the word.
+///
+/// Bits, pairs of bits, half bytes, bytes, pairs of bytes and halves change places, in about thirty instructions.
+pub fn reverse(word: u64) -> u64
+    ensures value { result ≡ reversed word }
+    ensures bits { (place : ℕ) → place < 64 → bit_at result place ≡ bit_at word (63 - place) }
+    ensures again { reversed result ≡ word }
+{
+    let pairs = swapped(word, 1, 0x5555_5555_5555_5555);
+    let nibbles = swapped(pairs, 2, 0x3333_3333_3333_3333);
+    let bytes = swapped(nibbles, 4, 0x0f0f_0f0f_0f0f_0f0f);
+    let double_bytes = swapped(bytes, 8, 0x00ff_00ff_00ff_00ff);
+    let halves = swapped(double_bytes, 16, 0x0000_ffff_0000_ffff);
+    swapped(halves, 32, 0x0000_0000_ffff_ffff)
+}

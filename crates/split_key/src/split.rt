@@ -1,0 +1,29 @@
+ghost use Rattle.std.specs.Prelude.{◌≡◌, ◌≢◌, ℕ, ◌%◌, ◌^◌, ◌<◌};
+ghost use Rattle.split_key.specs.Split.{reversed, split, IsAncestor};
+
+use crate::key::Key;
+use crate::reversal::reverse;
+
+/// The bit that a key lacks, and that makes its split key odd.
+const TOP_BIT: u64 = 1 << 63;
+
+/// The split key of a key's node, a regular node: the key's bits in reverse order behind a 1. It is odd, and no other
+/// key has it.
+pub fn regular(key: Key) -> u64
+    ensures value { result ≡ split key }
+    ensures odd { result % 2 ≡ 1 }
+    ensures apart { (other : ℕ) → other < 2 ^ 63 → split other ≡ result → other ≡ key }
+{
+    reverse(key.number() + TOP_BIT)
+}
+
+/// The split key of a bucket's dummy node: the bucket's bits in reverse order. It is even, no other bucket has it, and
+/// it is above those of the bucket's ancestors.
+pub fn dummy(bucket: u32) -> u64
+    ensures value { result ≡ reversed bucket }
+    ensures even { result % 2 ≡ 0 }
+    ensures apart { (other : ℕ) → other < 2 ^ 32 → reversed other ≡ result → other ≡ bucket }
+    ensures order { (ancestor : ℕ) → IsAncestor ancestor bucket → ancestor ≢ bucket → reversed ancestor < result }
+{
+    reverse(u64::from(bucket))
+}

@@ -1,0 +1,69 @@
+use crate::{BadKey, Key, bucket_of, dummy, parent, regular, reverse};
+use std::test::Fail;
+
+#[test]
+fn split_keys_of_dummies(rt: HostRuntime) {
+    assert_eq!(rt; dummy(0), 0x0000_0000_0000_0000);
+    assert_eq!(rt; dummy(2), 0x4000_0000_0000_0000);
+    assert_eq!(rt; dummy(1), 0x8000_0000_0000_0000);
+    assert_eq!(rt; dummy(3), 0xc000_0000_0000_0000);
+}
+
+#[test]
+fn split_keys_of_keys(rt: HostRuntime) -> Result<(), Fail> {
+    let table = [
+        (0, 0x0000_0000_0000_0001),
+        (4, 0x2000_0000_0000_0001),
+        (2, 0x4000_0000_0000_0001),
+        (10, 0x5000_0000_0000_0001),
+        (6, 0x6000_0000_0000_0001),
+        (1, 0x8000_0000_0000_0001),
+        (5, 0xa000_0000_0000_0001),
+        (3, 0xc000_0000_0000_0001),
+        (7, 0xe000_0000_0000_0001),
+        (0x7fff_ffff_ffff_ffff, 0xffff_ffff_ffff_ffff),
+    ];
+    for (number, split) in table {
+        let key = Key::new(number)?;
+        assert_eq!(rt; key.number(), number);
+        assert_eq!(rt; regular(key), split, "of key {number}");
+    }
+    Ok(())
+}
+
+#[test]
+fn a_key_is_below_half_of_all_numbers(rt: HostRuntime) {
+    assert_eq!(rt; Key::new(0x8000_0000_0000_0000), Err(BadKey));
+    assert_eq!(rt; Key::new(0xffff_ffff_ffff_ffff), Err(BadKey));
+}
+
+#[test]
+fn a_bad_key_in_words(rt: HostRuntime) -> Result<(), Fail> {
+    let words = format!(in rt.alloc(); "{BadKey}")?;
+    assert_eq!(rt; words.as_str(), "a key is a number below 2^63");
+    Ok(())
+}
+
+#[test]
+fn parents(rt: HostRuntime) {
+    for (bucket, wanted) in [(1, 0), (2, 0), (3, 1), (4, 0), (5, 1), (6, 2), (7, 3)] {
+        assert_eq!(rt; parent(bucket), wanted, "of bucket {bucket}");
+    }
+}
+
+#[test]
+fn buckets_at_rising_sizes(rt: HostRuntime) -> Result<(), Fail> {
+    let key = Key::new(14)?;
+    let at_two = bucket_of(key, 2);
+    let at_four = bucket_of(key, 4);
+    let at_eight = bucket_of(key, 8);
+    let at_largest = bucket_of(key, 0x8000_0000);
+    assert_eq!(rt; [at_two, at_four, at_eight, at_largest], [0, 2, 6, 14]);
+    Ok(())
+}
+
+#[test]
+fn bits_in_reverse(rt: HostRuntime) {
+    assert_eq!(rt; reverse(0x0123_4567_89ab_cdef), 0xf7b3_d591_e6a2_c480);
+    assert_eq!(rt; reverse(1), 0x8000_0000_0000_0000);
+}

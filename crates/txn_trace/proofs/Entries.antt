@@ -1,0 +1,307 @@
+-- Each kind of entry after a legal history: under which conditions it is legal, and what the history says after it.
+use Rattle.std.proofs.Common.{drop, ◌≡◌, ℕ, ◌+◌, ◌-◌, ◌<◌, ◌==◌, Bool, true, false, cond, List, [], ◌∷◌, ◌++◌, take, length, slice_index, refl, ap, sym, subst, ◌∙◌, Some, None, Option, is_some, arith}
+use Rattle.std.specs.Option.{option_eq}
+use Rattle.std.specs.Prelude.{nat_eq}
+use Rattle.std.specs.List.{fold, list_any}
+use Rattle.std.proofs.lemmas.Bool.{or_parts, or_cases, cases_Bool, eqb-true, lt-ltb, false≢true, and_from, eq-eqb, cases_eq, ne_eqb}
+use Rattle.std.proofs.lemmas.List.{append-nil}
+use mathlib.Core.Logic.{inl, inr}
+use Rattle.txn_trace.specs.declared.op.Op.{Op}
+use Rattle.txn_trace.specs.declared.entry.Entry.{Entry}
+use Rattle.txn_trace.specs.declared.entry.Entry.TheVariants.{Began, Asked, Did, Saved, Leave, Undone, Returned, Committed, Busy, Aborted}
+use Rattle.txn_trace.specs.Map.{Map, get, key_of, reply_of, after}
+use Rattle.txn_trace.specs.History.{is_began, is_commit, of}
+use Rattle.txn_trace.specs.Alone.{alone}
+use Rattle.txn_trace.specs.Serial.{serial}
+use Rattle.txn_trace.specs.Now.{now, set_at}
+use Rattle.txn_trace.specs.Locks.{stripe_of, holder_of, is_locked}
+use Rattle.txn_trace.specs.Shape.{Seat, Closed, Opened, Waiting, LeavingTo, LeavingToEnd, closed_seat, changes, row, seat_after, own, how_many}
+use Rattle.txn_trace.specs.Log.{Log, log_after, log_of, log_did}
+use Rattle.txn_trace.specs.Legal.{IsLegal, runs}
+use Rattle.txn_trace.proofs.Maps.{same_map}
+use Rattle.txn_trace.proofs.Pushes.{txn_in, txn_at}
+use Rattle.txn_trace.proofs.Callers.{callers_of}
+use Rattle.txn_trace.proofs.Stripes.{keys_in, are_apart}
+use Rattle.txn_trace.proofs.Now.{running_of, now_at-holder, serial-commit, replies-push_commit, now_at-push_commit}
+use Rattle.txn_trace.proofs.Table.{get-set_at, get-now}
+use Rattle.txn_trace.proofs.Judging.{legal_push, shape_push, locks_push}
+use Rattle.txn_trace.proofs.Others.{replies-push_other, serial_is}
+use Rattle.txn_trace.proofs.Seated.{none_before, are_seated}
+use Rattle.txn_trace.proofs.Acting.{did_legal, now-did}
+use Rattle.txn_trace.proofs.Undoing.{IsLogged, undone_legal, get-now_undone, get-now_undone_other}
+use Rattle.txn_trace.proofs.Bounds.{now-began, now-aborted, unchanged_run, first_map, StartsAt, alone_starts}
+use Rattle.txn_trace.proofs.Logs.{PhaseLogged, seat_logged}
+use Rattle.txn_trace.proofs.Holders.{holder_of-other, holder_of-end, holder_of-asked}
+use Rattle.txn_trace.proofs.Next.{Next, seat-other, log_of-other, txn, in_txn, going, at_txn, run, run_is, run_fits, run_logs, last_is, shaped_by_row, next_seat, next_log, legal_next, serial_next, quiet_next, still_next}
+
+abbrev is_active : Seat → Type 0
+is_active seat = runs seat.phase ≡ true
+
+-- Asked: an open caller asks where no other holds the stripe. The stripe is the caller's from now on.
+pub asked : (stripes : ℕ) (g : List Entry) → IsLegal stripes g → (c : ℕ) (op : Op) (seat : Seat) → seat_after (own c g) ≡ Some seat → seat.phase ≡ Opened → is_locked stripes g (Asked c op) ≡ true
+    → Next stripes g (Asked c op) (record seat { phase = Waiting op }) (log_of c g) (serial g) (now g) (λ s. cond (stripe_of stripes (key_of op) == s) (Some c) (holder_of stripes s g))
+asked stripes g legal c op seat seat_is opened locked =
+    let next : Seat = record seat { phase = Waiting op } in
+    let goes : row seat seat.phase (Asked c op) ≡ Some next = ap (λ q. row seat q (Asked c op)) opened in
+    let active : is_active seat = ap runs opened in
+    quiet_next stripes g legal (Asked c op) seat next seat_is goes refl active (λ s. cond (stripe_of stripes (key_of op) == s) (Some c) (holder_of stripes s g)) refl locked
+    (holder_of-asked stripes g c (txn stripes g legal (Asked c op) seat next seat_is goes refl active) op (callers_of g legal.shape) (shaped_by_row stripes g legal (Asked c op) seat next seat_is goes refl) locked
+    (at_txn stripes g legal (Asked c op) seat next seat_is goes refl active refl))
+
+-- Saved: an open caller sets a savepoint at the changes that stand.
+pub saved : (stripes : ℕ) (g : List Entry) → IsLegal stripes g → (c : ℕ) (seat : Seat) → seat_after (own c g) ≡ Some seat → seat.phase ≡ Opened
+    → Next stripes g (Saved c) (record seat { kept = seat.kept ++ seat.standing ∷ [] }) (log_of c g) (serial g) (now g) (λ s. holder_of stripes s g)
+saved stripes g legal c seat seat_is opened =
+    still_next stripes g legal (Saved c) seat (record seat { kept = seat.kept ++ seat.standing ∷ [] }) seat_is (ap (λ q. row seat q (Saved c)) opened) refl (ap runs opened) refl refl (λ s. refl)
+
+-- Leave to the end: an open caller aborts.
+pub left_to_end : (stripes : ℕ) (g : List Entry) → IsLegal stripes g → (c : ℕ) (seat : Seat) → seat_after (own c g) ≡ Some seat → seat.phase ≡ Opened
+    → Next stripes g (Leave c None) (record seat { phase = LeavingToEnd }) (log_of c g) (serial g) (now g) (λ s. holder_of stripes s g)
+left_to_end stripes g legal c seat seat_is opened =
+    still_next stripes g legal (Leave c None) seat (record seat { phase = LeavingToEnd }) seat_is (ap (λ q. row seat q (Leave c None)) opened) refl (ap runs opened) refl refl (λ s. refl)
+
+-- The same of a caller whose operation has no reply yet: it is withdrawn.
+pub withdrawn : (stripes : ℕ) (g : List Entry) → IsLegal stripes g → (c : ℕ) (op : Op) (seat : Seat) → seat_after (own c g) ≡ Some seat → seat.phase ≡ Waiting op
+    → Next stripes g (Leave c None) (record seat { phase = LeavingToEnd }) (log_of c g) (serial g) (now g) (λ s. holder_of stripes s g)
+withdrawn stripes g legal c op seat seat_is waits =
+    still_next stripes g legal (Leave c None) seat (record seat { phase = LeavingToEnd }) seat_is (ap (λ q. row seat q (Leave c None)) waits) refl (ap runs waits) refl refl (λ s. refl)
+
+-- Leave to a level: an open caller goes back to one of its levels.
+pub left_to : (stripes : ℕ) (g : List Entry) → IsLegal stripes g → (c n : ℕ) (seat : Seat) → seat_after (own c g) ≡ Some seat → seat.phase ≡ Opened → n < length seat.kept
+    → Next stripes g (Leave c (Some n)) (record seat { phase = LeavingTo n }) (log_of c g) (serial g) (now g) (λ s. holder_of stripes s g)
+left_to stripes g legal c n seat seat_is opened within =
+    still_next stripes g legal (Leave c (Some n)) seat (record seat { phase = LeavingTo n }) seat_is
+    (ap (λ q. row seat q (Leave c (Some n))) opened ∙ ap (λ b. cond b (Some (record seat { phase = LeavingTo n })) None) (lt-ltb n (length seat.kept) within)) refl (ap runs opened) refl refl (λ s. refl)
+
+-- Returned: a caller that leaves to a level is there where just the changes of that level stand. Later savepoints are dropped.
+pub returned : (stripes : ℕ) (g : List Entry) → IsLegal stripes g → (c n : ℕ) (seat : Seat) → seat_after (own c g) ≡ Some seat → seat.phase ≡ LeavingTo n → slice_index seat.kept n ≡ seat.standing
+    → Next stripes g (Returned c n) (record seat { phase = Opened; kept = take (n + 1) seat.kept }) (log_of c g) (serial g) (now g) (λ s. holder_of stripes s g)
+returned stripes g legal c n seat seat_is leaving reached =
+    let next : Seat = record seat { phase = Opened; kept = take (n + 1) seat.kept } in
+    still_next stripes g legal (Returned c n) seat next seat_is
+    (ap (λ q. row seat q (Returned c n)) leaving ∙ ap (λ b. cond b (Some next) None) (and_from (n == n) _ (eq-eqb n n refl) (eq-eqb _ _ reached))) refl (ap runs leaving) refl refl (λ s. refl)
+
+-- Busy: an open caller finds the stripe in the hands of another, and aborts.
+pub busy : (stripes : ℕ) (g : List Entry) → IsLegal stripes g → (c : ℕ) (op : Op) (x : ℕ) (seat : Seat) → seat_after (own c g) ≡ Some seat → seat.phase ≡ Opened → is_locked stripes g (Busy c op x) ≡ true
+    → Next stripes g (Busy c op x) (record seat { phase = LeavingToEnd }) (log_of c g) (serial g) (now g) (λ s. holder_of stripes s g)
+busy stripes g legal c op x seat seat_is opened locked =
+    still_next stripes g legal (Busy c op x) seat (record seat { phase = LeavingToEnd }) seat_is (ap (λ q. row seat q (Busy c op x)) opened) refl (ap runs opened) refl locked (λ s. refl)
+
+-- Began: a closed caller begins the next transaction.
+pub began : (stripes : ℕ) (g : List Entry) → IsLegal stripes g → (c t : ℕ) (seat : Seat) → seat_after (own c g) ≡ Some seat → seat.phase ≡ Closed → t ≡ how_many is_began g + 1
+    → Next stripes g (Began c t) (record closed_seat { phase = Opened }) [] (serial g) (now g) (λ s. holder_of stripes s g)
+began stripes g legal c t seat seat_is closed numbered =
+    let e : Entry = Began c t in
+    let next : Seat = record closed_seat { phase = Opened } in
+    let goes : row seat seat.phase e ≡ Some next = ap (λ q. row seat q e) closed in
+    let callers = callers_of g legal.shape in
+    let number : (t == how_many is_began g + 1) ≡ true = eq-eqb t _ numbered in
+    let shaped = shaped_by_row stripes g legal e seat next seat_is goes number in
+    let at : txn_at g e ≡ Some t = ap (λ b. cond b (Some t) (txn_in g c)) (eq-eqb c c refl) in
+    let none : of t g ≡ [] = none_before g e callers shaped (are_seated g legal.shape) t refl at in
+    let shape_after = shape_push g e legal.shape shaped in
+    let locks_after = locks_push stripes g e legal.locks refl in
+    record {
+      legal = legal_push stripes g e legal shaped refl
+          (replies-push_other g e t legal.shape shape_after shaped refl at (legal.replies g ([], append-nil g))
+          (ap (λ es. is_some (alone (serial g) (es ++ e ∷ []))) none));
+      seat_is = next_seat stripes g legal e seat next seat_is goes number;
+      other_seats = λ d other. seat-other d g e other;
+      log_is = next_log stripes g legal e seat next seat_is goes number;
+      other_logs = λ d other. log_of-other d g e other;
+      serial_is = serial_is g e t legal.shape shape_after shaped refl at;
+      now_is = now-began stripes g legal c t shaped at;
+      holder_is = λ s. holder_of-other stripes g e callers shaped legal.shape legal.locks s refl refl;
+    }
+
+-- Aborted: a caller that leaves to the end is closed where no change stands. Its stripes are given back.
+pub aborted : (stripes : ℕ) (g : List Entry) → IsLegal stripes g → (c : ℕ) (seat : Seat) → seat_after (own c g) ≡ Some seat → seat.phase ≡ LeavingToEnd → seat.standing ≡ 0
+    → Next stripes g (Aborted c) closed_seat [] (serial g) (now g) (λ s. cond (option_eq nat_eq (holder_of stripes s g) (Some c)) None (holder_of stripes s g))
+aborted stripes g legal c seat seat_is leaving none =
+    let e : Entry = Aborted c in
+    let goes : row seat seat.phase e ≡ Some closed_seat = ap (λ q. row seat q e) leaving ∙ ap (λ b. cond b (Some closed_seat) None) (eq-eqb seat.standing 0 none) in
+    let active : is_active seat = ap runs leaving in
+    let shaped = shaped_by_row stripes g legal e seat closed_seat seat_is goes refl in
+    let at = at_txn stripes g legal e seat closed_seat seat_is goes refl active refl in
+    let the_run = run stripes g legal e seat closed_seat seat_is goes refl active in
+    let run_is = run_is stripes g legal e seat closed_seat seat_is goes refl active in
+    let unchanged : the_run.last ≡ serial g = unchanged_run (serial g) (of (txn stripes g legal e seat closed_seat seat_is goes refl active) g) the_run run_is (no_elements the_run.earlier (sym (run_fits stripes g legal e seat closed_seat seat_is goes refl active).standing ∙ none)) in
+    record {
+      legal = legal_next stripes g legal e seat closed_seat seat_is goes refl active the_run refl refl refl refl;
+      seat_is = next_seat stripes g legal e seat closed_seat seat_is goes refl;
+      other_seats = λ d other. seat-other d g e other;
+      log_is = next_log stripes g legal e seat closed_seat seat_is goes refl;
+      other_logs = λ d other. log_of-other d g e other;
+      serial_is = serial_next stripes g legal e seat closed_seat seat_is goes refl active refl refl refl;
+      now_is = now-aborted stripes g legal c _ shaped at (last_is stripes g legal e seat closed_seat seat_is goes refl active ∙ unchanged);
+      holder_is = λ s. holder_of-end stripes g e (callers_of g legal.shape) shaped legal.shape legal.locks s _ refl at;
+    }
+  where
+    no_elements : {A : Type 0} (xs : List A) → length xs ≡ 0 → xs ≡ []
+    no_elements [] is = refl
+    no_elements (x ∷ xs) is = absurd (omega arith)
+
+-- Did: a caller that waits gets the reply of the map now, which changes as the operation does. A change is noted in the log.
+pub did : (stripes : ℕ) (g : List Entry) → IsLegal stripes g → (c : ℕ) (op : Op) (x : Option ℕ) (seat : Seat) → seat_after (own c g) ≡ Some seat → seat.phase ≡ Waiting op → x ≡ reply_of (now g) op
+    → Next stripes g (Did c x) (record seat { phase = Opened; standing = cond (changes op x) (seat.standing + 1) seat.standing })
+    (cond (changes op x) ((key_of op, x) ∷ log_of c g) (log_of c g)) (serial g) (after (now g) op) (λ s. holder_of stripes s g)
+did stripes g legal c op x seat seat_is waits right =
+    let e : Entry = Did c x in
+    let next : Seat = record seat { phase = Opened; standing = cond (changes op x) (seat.standing + 1) seat.standing } in
+    let goes : row seat seat.phase e ≡ Some next = ap (λ q. row seat q e) waits in
+    let active : is_active seat = ap runs waits in
+    let shaped = shaped_by_row stripes g legal e seat next seat_is goes refl in
+    let in_txn = in_txn stripes g legal e seat next seat_is goes refl active in
+    let going = going stripes g legal e seat next seat_is goes refl active in
+    let log : Log = log_after (own c g) in
+    let pending : log.pending ≡ Some op = subst (λ q. PhaseLogged q log) waits (seat_logged (own c g) seat seat_is).phase in
+    record {
+      legal = did_legal stripes g legal c _ op x seat in_txn going seat_is waits right shaped;
+      seat_is = next_seat stripes g legal e seat next seat_is goes refl;
+      other_seats = λ d other. seat-other d g e other;
+      log_is = next_log stripes g legal e seat next seat_is goes refl ∙ ap (λ p. (log_did log p x).standing) pending;
+      other_logs = λ d other. log_of-other d g e other;
+      serial_is = serial_next stripes g legal e seat next seat_is goes refl active refl refl refl;
+      now_is = now-did stripes g legal c _ op x seat in_txn going seat_is waits right shaped;
+      holder_is = λ s. holder_of-other stripes g e (callers_of g legal.shape) shaped legal.shape legal.locks s refl refl;
+    }
+
+-- A caller's log is as long as the number of its standing changes.
+pub length-log_of : (g : List Entry) (c : ℕ) (seat : Seat) → seat_after (own c g) ≡ Some seat → length (log_of c g) ≡ seat.standing
+length-log_of g c seat seat_is = (seat_logged (own c g) seat seat_is).count
+
+earlier_map : (keys : ℕ → Bool) (job : ℕ × Option ℕ) (jobs : List (ℕ × Option ℕ)) (last : Map) (ms : List Map) → IsLogged keys (job ∷ jobs) last ms → (m : Map) × (rest : List Map) × (ms ≡ m ∷ rest)
+earlier_map keys job jobs last [] is = absurd is
+earlier_map keys job jobs last (m ∷ ms) is = (m, ms, refl)
+
+undone_by : (stripes : ℕ) (g : List Entry) (legal : IsLegal stripes g) (c : ℕ) (seat : Seat) (seat_is : seat_after (own c g) ≡ Some seat) (active : is_active seat)
+    → row seat seat.phase (Undone c) ≡ Some (record seat { standing = seat.standing - 1 }) → (job : ℕ × Option ℕ) (jobs : List (ℕ × Option ℕ)) → log_of c g ≡ job ∷ jobs
+    → Next stripes g (Undone c) (record seat { standing = seat.standing - 1 }) jobs (serial g) (set_at (now g) job.0 job.1) (λ s. holder_of stripes s g)
+undone_by stripes g legal c seat seat_is active goes job jobs log_is =
+    let e : Entry = Undone c in
+    let next : Seat = record seat { standing = seat.standing - 1 } in
+    let shaped = shaped_by_row stripes g legal e seat next seat_is goes refl in
+    let t : ℕ = txn stripes g legal e seat next seat_is goes refl active in
+    let in_txn = in_txn stripes g legal e seat next seat_is goes refl active in
+    let going = going stripes g legal e seat next seat_is goes refl active in
+    let the_run = run stripes g legal e seat next seat_is goes refl active in
+    let run_is = run_is stripes g legal e seat next seat_is goes refl active in
+    let logs = run_logs stripes g legal e seat next seat_is goes refl active in
+    let logged : IsLogged (keys_in stripes (of t g)) (job ∷ jobs) the_run.last the_run.earlier = subst (λ js. IsLogged (keys_in stripes (of t g)) js the_run.last the_run.earlier) log_is logs.standing in
+    let before = earlier_map (keys_in stripes (of t g)) job jobs the_run.last the_run.earlier logged in
+    let logged' : IsLogged (keys_in stripes (of t g)) (job ∷ jobs) the_run.last (before.0 ∷ before.1) = subst (IsLogged (keys_in stripes (of t g)) (job ∷ jobs) the_run.last) before.2 logged in
+    record {
+      legal = undone_legal stripes g legal c t the_run job jobs before.0 before.1 in_txn going run_is before.2 logged' shaped;
+      seat_is = next_seat stripes g legal e seat next seat_is goes refl;
+      other_seats = λ d other. seat-other d g e other;
+      log_is = next_log stripes g legal e seat next seat_is goes refl ∙ ap (drop 1) log_is;
+      other_logs = λ d other. log_of-other d g e other;
+      serial_is = serial_next stripes g legal e seat next seat_is goes refl active refl refl refl;
+      now_is = same_map (now (g ++ e ∷ [])) (set_at (now g) job.0 job.1) (λ q. elim (cases_eq q job.0) [
+        | inl same ↦ ap (get (now (g ++ e ∷ []))) same ∙ get-now_undone stripes g legal c t the_run job jobs before.0 before.1 in_txn going run_is before.2 logged' shaped
+            ∙ sym (get-set_at (now g) job.0 job.1 q ∙ ap (λ b. cond b job.1 (get (now g) q)) (eq-eqb q job.0 same))
+        | inr other ↦ get-now_undone_other stripes g legal c t the_run job jobs before.0 before.1 in_txn going run_is before.2 logged' shaped q other
+            ∙ sym (get-set_at (now g) job.0 job.1 q ∙ ap (λ b. cond b job.1 (get (now g) q)) (ne_eqb q job.0 other))
+      ]);
+      holder_is = λ s. holder_of-other stripes g e (callers_of g legal.shape) shaped legal.shape legal.locks s refl refl;
+    }
+
+-- Undone to a level: where more changes stand than at the level, the newest is taken back. Its key has what it had before, and every other key what it has.
+pub undone_to : (stripes : ℕ) (g : List Entry) → IsLegal stripes g → (c n : ℕ) (seat : Seat) → seat_after (own c g) ≡ Some seat → seat.phase ≡ LeavingTo n → slice_index seat.kept n < seat.standing
+    → (job : ℕ × Option ℕ) (jobs : List (ℕ × Option ℕ)) → log_of c g ≡ job ∷ jobs
+    → Next stripes g (Undone c) (record seat { standing = seat.standing - 1 }) jobs (serial g) (set_at (now g) job.0 job.1) (λ s. holder_of stripes s g)
+undone_to stripes g legal c n seat seat_is leaving more job jobs log_is =
+    undone_by stripes g legal c seat seat_is (ap runs leaving)
+    (ap (λ q. row seat q (Undone c)) leaving ∙ ap (λ b. cond b (Some (record seat { standing = seat.standing - 1 })) None) (lt-ltb (slice_index seat.kept n) seat.standing more)) job jobs log_is
+
+-- Undone to the end: the same of a caller that takes all its changes back.
+pub undone_to_end : (stripes : ℕ) (g : List Entry) → IsLegal stripes g → (c : ℕ) (seat : Seat) → seat_after (own c g) ≡ Some seat → seat.phase ≡ LeavingToEnd → 0 < seat.standing
+    → (job : ℕ × Option ℕ) (jobs : List (ℕ × Option ℕ)) → log_of c g ≡ job ∷ jobs
+    → Next stripes g (Undone c) (record seat { standing = seat.standing - 1 }) jobs (serial g) (set_at (now g) job.0 job.1) (λ s. holder_of stripes s g)
+undone_to_end stripes g legal c seat seat_is leaving some job jobs log_is =
+    undone_by stripes g legal c seat seat_is (ap runs leaving)
+    (ap (λ q. row seat q (Undone c)) leaving ∙ ap (λ b. cond b (Some (record seat { standing = seat.standing - 1 })) None) (lt-ltb 0 seat.standing some)) job jobs log_is
+
+-- The newest change that stands.
+pub newest : (g : List Entry) (c : ℕ) (seat : Seat) → seat_after (own c g) ≡ Some seat → 0 < seat.standing → (job : ℕ × Option ℕ) × (jobs : List (ℕ × Option ℕ)) × (log_of c g ≡ job ∷ jobs)
+newest g c seat seat_is some = at (log_of c g) refl
+  where
+    at : (xs : List (ℕ × Option ℕ)) → log_of c g ≡ xs → (job : ℕ × Option ℕ) × (jobs : List (ℕ × Option ℕ)) × (log_of c g ≡ job ∷ jobs)
+    at [] is = let none : seat.standing ≡ 0 = sym (length-log_of g c seat seat_is) ∙ ap length is in absurd (omega arith)
+    at (job ∷ jobs) is = (job, jobs, is)
+
+-- The map with the changes of a log: each of its keys has what another map has there.
+abbrev pub settled : Map → Map → List (ℕ × Option ℕ) → Map
+settled base current jobs = fold (λ m job. set_at m job.0 (get current job.0)) base jobs
+
+settled_out : (current : Map) (k : ℕ) (jobs : List (ℕ × Option ℕ)) (base : Map) → list_any (λ job. k == job.0) jobs ≡ false → get (settled base current jobs) k ≡ get base k
+settled_out current k [] base out = refl
+settled_out current k (job ∷ jobs) base out =
+    let parts = or_parts (k == job.0) _ out in
+    settled_out current k jobs (set_at base job.0 (get current job.0)) parts.1 ∙ get-set_at base job.0 (get current job.0) k ∙ ap (λ b. cond b (get current job.0) (get base k)) parts.0
+
+settled_in : (current : Map) (k : ℕ) (jobs : List (ℕ × Option ℕ)) (base : Map) → list_any (λ job. k == job.0) jobs ≡ true → get (settled base current jobs) k ≡ get current k
+settled_in current k [] base there = absurd (false≢true there)
+settled_in current k (job ∷ jobs) base there = elim (cases_Bool (list_any (λ (j : ℕ × Option ℕ). k == j.0) jobs)) [
+  | inl later ↦ settled_in current k jobs (set_at base job.0 (get current job.0)) later
+  | inr not_later ↦
+      let here : (k == job.0) ≡ true = elim (or_cases (k == job.0) _ there) [ inl h ↦ h | inr h ↦ absurd (false≢true (sym not_later ∙ h)) ] in
+      settled_out current k jobs (set_at base job.0 (get current job.0)) not_later ∙ get-set_at base job.0 (get current job.0) k ∙ ap (λ b. cond b (get current job.0) (get base k)) here
+      ∙ ap (get current) (sym (eqb-true k job.0 here))
+]
+
+-- A key that no change names is as in the first map; one that some change names passes.
+same_as_first : (keys : ℕ → Bool) (k : ℕ) (jobs : List (ℕ × Option ℕ)) (last : Map) (ms : List Map) → IsLogged keys jobs last ms → list_any (λ job. k == job.0) jobs ≡ false → get last k ≡ get (first_map last ms) k
+same_as_first keys k [] last [] is out = refl
+same_as_first keys k [] last (m ∷ ms) is out = absurd is
+same_as_first keys k (job ∷ jobs) last [] is out = absurd is
+same_as_first keys k (job ∷ jobs) last (m ∷ ms) is out =
+    let parts = or_parts (k == job.0) _ out in
+    sym (is.2 k (λ same. false≢true (sym parts.0 ∙ eq-eqb k job.0 same))) ∙ same_as_first keys k jobs m ms is.3 parts.1
+
+named_passes : (keys : ℕ → Bool) (k : ℕ) (jobs : List (ℕ × Option ℕ)) (last : Map) (ms : List Map) → IsLogged keys jobs last ms → list_any (λ job. k == job.0) jobs ≡ true → keys k ≡ true
+named_passes keys k [] last ms is there = absurd (false≢true there)
+named_passes keys k (job ∷ jobs) last [] is there = absurd is
+named_passes keys k (job ∷ jobs) last (m ∷ ms) is there = elim (or_cases (k == job.0) _ there) [
+  | inl here ↦ ap keys (eqb-true k job.0 here) ∙ is.0
+  | inr later ↦ named_passes keys k jobs m ms is.3 later
+]
+
+-- Committed: an open caller commits, at the next place. The map now stays; the committed map takes over the caller's standing
+-- changes. Its stripes are given back.
+pub committed : (stripes : ℕ) (g : List Entry) → IsLegal stripes g → (c p : ℕ) (seat : Seat) → seat_after (own c g) ≡ Some seat → seat.phase ≡ Opened → p ≡ how_many is_commit g + 1
+    → Next stripes g (Committed c p) closed_seat [] (settled (serial g) (now g) (log_of c g)) (now g) (λ s. cond (option_eq nat_eq (holder_of stripes s g) (Some c)) None (holder_of stripes s g))
+committed stripes g legal c p seat seat_is opened numbered =
+    let e : Entry = Committed c p in
+    let goes : row seat seat.phase e ≡ Some closed_seat = ap (λ q. row seat q e) opened in
+    let active : is_active seat = ap runs opened in
+    let number : (p == how_many is_commit g + 1) ≡ true = eq-eqb p _ numbered in
+    let shaped = shaped_by_row stripes g legal e seat closed_seat seat_is goes number in
+    let t : ℕ = txn stripes g legal e seat closed_seat seat_is goes number active in
+    let in_t = in_txn stripes g legal e seat closed_seat seat_is goes number active in
+    let not_ended = going stripes g legal e seat closed_seat seat_is goes number active in
+    let at : txn_at g e ≡ Some t = in_t in
+    let the_run = run stripes g legal e seat closed_seat seat_is goes number active in
+    let runs_so = run_is stripes g legal e seat closed_seat seat_is goes number active in
+    let logs = run_logs stripes g legal e seat closed_seat seat_is goes number active in
+    let last_so = last_is stripes g legal e seat closed_seat seat_is goes number active in
+    let shape_after = shape_push g e legal.shape shaped in
+    let keys : ℕ → Bool = keys_in stripes (of t g) in
+    let first_is : first_map the_run.last the_run.earlier ≡ serial g = subst (StartsAt (serial g)) runs_so (alone_starts (serial g) (of t g)) in
+    let at_key : (k : ℕ) → get the_run.last k ≡ get (settled (serial g) (now g) (log_of c g)) k = λ k. elim (cases_Bool (list_any (λ (job : ℕ × Option ℕ). k == job.0) (log_of c g))) [
+      | inl there ↦
+          let held = named_passes keys k (log_of c g) the_run.last the_run.earlier logs.standing there in
+          sym (settled_in (now g) k (log_of c g) (serial g) there ∙ get-now g k
+          ∙ now_at-holder stripes g k (are_apart stripes g legal.shape legal.locks) t (running_of g c t in_t not_ended) held ∙ ap (λ m. get m k) last_so)
+      | inr out ↦ same_as_first keys k (log_of c g) the_run.last the_run.earlier logs.standing out ∙ ap (λ m. get m k) first_is ∙ sym (settled_out (now g) k (log_of c g) (serial g) out)
+    ] in
+    record {
+      legal = legal_push stripes g e legal shaped refl (replies-push_commit stripes g e t legal.shape legal.locks shape_after shaped refl at not_ended (legal.replies g ([], append-nil g)));
+      seat_is = next_seat stripes g legal e seat closed_seat seat_is goes number;
+      other_seats = λ d other. seat-other d g e other;
+      log_is = next_log stripes g legal e seat closed_seat seat_is goes number;
+      other_logs = λ d other. log_of-other d g e other;
+      serial_is = serial-commit stripes g e t legal.shape legal.locks shape_after shaped refl at not_ended ∙ last_so ∙ same_map the_run.last (settled (serial g) (now g) (log_of c g)) at_key;
+      now_is = same_map (now (g ++ e ∷ [])) (now g) (λ k. get-now (g ++ e ∷ []) k ∙ now_at-push_commit stripes g e t legal.shape legal.locks shape_after shaped refl at not_ended k ∙ sym (get-now g k));
+      holder_is = λ s. holder_of-end stripes g e (callers_of g legal.shape) shaped legal.shape legal.locks s t refl at;
+    }

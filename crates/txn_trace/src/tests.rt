@@ -1,0 +1,115 @@
+use crate::{Answer, Limits, Refusal, answer_text, laws};
+use std::test::Fail;
+
+#[test]
+fn answers_as_text(rt: HostRuntime) -> Result<(), Fail> {
+    let table = [
+        (Answer::Began(1), "began 1"),
+        (Answer::Asked, "asked"),
+        (Answer::Busy(0), "busy 0"),
+        (Answer::Placed, "placed"),
+        (Answer::Again, "again"),
+        (Answer::Done(None), "done none"),
+        (Answer::Done(Some(0)), "done 0"),
+        (
+            Answer::Done(Some(0xffff_ffff_ffff_ffff)),
+            "done 18446744073709551615",
+        ),
+        (Answer::Undone, "undone"),
+        (Answer::Returned(0), "returned 0"),
+        (Answer::Aborted, "aborted"),
+        (Answer::Saved(2), "saved 2"),
+        (Answer::Leaving, "leaving"),
+        (Answer::Committed(10), "committed 10"),
+        (Answer::Swept, "swept"),
+        (Answer::Clean, "clean"),
+        (Answer::Ready, "ready"),
+        (Answer::Present, "present"),
+        (Answer::Linked, "linked"),
+        (Answer::Stored, "stored"),
+        (Answer::Moved(2), "moved 2"),
+        (Answer::AtLimit, "at limit"),
+        (Answer::Light, "light"),
+        (Answer::Doubled(65536), "doubled 65536"),
+        (Answer::Refused(Refusal::BadKey), "refused 1"),
+        (Answer::Refused(Refusal::StampsUsedUp), "refused 16"),
+    ];
+    for (answer, text) in table {
+        let words = answer_text(rt.alloc(), &answer)?;
+        assert_eq!(rt; words.as_str(), text);
+    }
+    Ok(())
+}
+
+#[test]
+fn numbers_of_refusals(rt: HostRuntime) {
+    let table = [
+        (Refusal::BadKey, 1),
+        (Refusal::NoSuchCaller, 2),
+        (Refusal::NotOpen, 3),
+        (Refusal::AlreadyOpen, 4),
+        (Refusal::OperationUnfinished, 5),
+        (Refusal::Leaving, 6),
+        (Refusal::Unplaced, 7),
+        (Refusal::NothingToSeek, 8),
+        (Refusal::NoSuchLevel, 9),
+        (Refusal::NoSuchBucket, 10),
+        (Refusal::ParentMissing, 11),
+        (Refusal::NoSuchHelper, 12),
+        (Refusal::HelperOutOfOrder, 13),
+        (Refusal::NoMemory, 14),
+        (Refusal::OutOfStep, 15),
+        (Refusal::StampsUsedUp, 16),
+        (Refusal::CallersMissing, 17),
+        (Refusal::NoThread, 18),
+        (Refusal::StaleWord, 19),
+        (Refusal::NotJson, 20),
+        (Refusal::WrongShape, 21),
+        (Refusal::Limit, 22),
+    ];
+    for (refusal, number) in table {
+        assert_eq!(rt; refusal.number(), number);
+    }
+}
+
+#[test]
+fn limits_in_range(rt: HostRuntime) {
+    for (stripes, buckets) in [(8, 8), (1, 2), (4096, 65536)] {
+        let made = Limits::new(1, stripes, buckets);
+        assert!(rt; made.is_ok());
+        if let Ok(limits) = made {
+            assert_eq!(rt; limits.callers(), 1);
+            assert_eq!(rt; u64::from(limits.stripes()), stripes);
+            assert_eq!(rt; u64::from(limits.buckets()), buckets);
+        }
+    }
+}
+
+#[test]
+fn limits_out_of_range(rt: HostRuntime) {
+    let table = [
+        (0, 8, 8),
+        (2, 8, 8),
+        (65, 8, 8),
+        (1, 0, 8),
+        (1, 4097, 8),
+        (1, 8, 0),
+        (1, 8, 1),
+        (1, 8, 6),
+        (1, 8, 65535),
+        (1, 8, 131072),
+        (1, 0x1_0000_0001, 8),
+    ];
+    for (callers, stripes, buckets) in table {
+        assert_eq!(rt;
+            Limits::new(callers, stripes, buckets),
+            Err(Refusal::Limit),
+            "{callers} callers, {stripes} stripes, {buckets} buckets"
+        );
+    }
+}
+
+#[test]
+fn laws_run(_rt: HostRuntime) {
+    laws::erased();
+}
