@@ -39,7 +39,7 @@ right_reply op m content key x content_is key_is is = is ∙ (λ i. find split_c
 
 module _ (limits : Sizes) (old : Vec Entry) (b m : ℕ) (stage : Stage) (content : Pairs) (next : Option Pairs) (copies : Vec Pairs) (op : Op) (x : Option ℕ)
     (holds : Holds limits old b m stage content next copies) (waiting : phase_of stage ≡ Waiting op) (right : x ≡ reply_of (now old.items) op)
-    (new : Vec Entry) (items : new.items ≡ old.items ++ Did 0 x ∷ []) (len : new.len ≡ old.len + 1) (capacity : vec_capacity old ≤ vec_capacity new) where
+    (new : Vec Entry) (items : new.items ≡ old.items ++ Did 0 x ∷ []) (len : new.len ≡ old.len + 1) (capacity : vec_capacity new ≡ vec_capacity old) where
   before : Tells limits.stripes old.items b m (Waiting op) content next copies.items
   before = subst (λ p. Tells limits.stripes old.items b m p content next copies.items) waiting holds.told
 
@@ -50,7 +50,7 @@ module _ (limits : Sizes) (old : Vec Entry) (b m : ℕ) (stage : Stage) (content
   places = subst (λ p. copies.len + places_for p ≤ vec_capacity copies) waiting holds.places
 
   -- It was a change, and what was made ready takes the place of the content.
-  pub replied_change : (ready : Pairs) (more : Vec Pairs) → next ≡ Some ready → changes op x ≡ true → more.items ≡ copies.items ++ content ∷ [] → more.len ≡ copies.len + 1 → vec_capacity copies ≤ vec_capacity more
+  pub replied_change : (ready : Pairs) (more : Vec Pairs) → next ≡ Some ready → changes op x ≡ true → more.items ≡ copies.items ++ content ∷ [] → more.len ≡ copies.len + 1 → vec_capacity more ≡ vec_capacity copies
       → Holds limits new b m Open ready None more
   replied_change ready more ready_is change more_items more_len more_capacity =
       let told = told-did_change limits.stripes old.items b m content next copies.items op x before right ready ready_is change in

@@ -5,10 +5,11 @@ use Rattle.std.proofs.lemmas.List.Sums.{length-filter, count_by-le-length}
 use Rattle.txn_trace.specs.declared.entry.Entry.{Entry}
 use Rattle.txn_trace.specs.History.{is_began, is_commit}
 use Rattle.txn_trace.specs.Shape.{Phase, Closed, Waiting, LeavingToEnd, Seat, closed_seat, seat_after, own, how_many}
-use Rattle.boost_core.specs.Core.{Tells, phase_of, sought_at, seat_at}
+use Rattle.boost_core.specs.Core.{Tells, state_of, phase_of, sought_at, seat_at}
 use Rattle.boost_core.specs.declared.stage.Stage.{Stage}
 use Rattle.boost_core.specs.declared.stage.Stage.TheVariants as stages
-use Rattle.boost_core.specs.State.{seat_in}
+use Rattle.boost_core.specs.State.{State, seat_in}
+use Rattle.txn_trace.specs.Sizes.{Sizes}
 use Rattle.boost_core.specs.Refusals.{has_job}
 use Rattle.txn_trace.specs.declared.op.Op.{Op}
 use Rattle.std.specs.Prelude.{nat_lt, unwrap_or}
@@ -72,3 +73,18 @@ module _ (h : List Entry) (phase : Phase) (n c : ℕ) (seat : seat_after (own 0 
   some_left leaving some =
       let below : nat_lt 0 n ≡ true = ap (λ q. has_job (seat_at q n)) (sym leaving) ∙ ap has_job (sym seat_in-first) ∙ some in
       ltb-true 0 n below
+
+-- What a step finds, from what its state says.
+module _ (limits : Sizes) (h : List Entry) (stage : Stage) (n c : ℕ) (old : State) (view_is : state_of limits h stage ≡ old) (one : limits.callers ≡ 1) (seat : seat_after (own 0 h) ≡ Some (seat_at (phase_of stage) n))
+    (caller : c < old.limits.callers) where
+  pub first_caller : c ≡ 0
+  first_caller = let callers = ap (λ (s : State). s.limits.callers) view_is in omega arith
+
+  pub phase_found : (q : Phase) → (seat_in old.history c).phase ≡ q → phase_of stage ≡ q
+  phase_found q is = phase_here h (phase_of stage) n c seat first_caller q (ap (λ (s : State). (seat_in s.history c).phase) view_is ∙ is)
+
+  pub none_found : phase_of stage ≡ LeavingToEnd → has_job (seat_in old.history c) ≡ false → n ≡ 0
+  none_found leaving none = none_left h (phase_of stage) n c seat first_caller leaving (ap (λ (s : State). has_job (seat_in s.history c)) view_is ∙ none)
+
+  pub some_found : phase_of stage ≡ LeavingToEnd → has_job (seat_in old.history c) ≡ true → 0 < n
+  some_found leaving some = some_left h (phase_of stage) n c seat first_caller leaving (ap (λ (s : State). has_job (seat_in s.history c)) view_is ∙ some)

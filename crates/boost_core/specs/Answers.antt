@@ -93,11 +93,11 @@ keeps_list answer = true
 -- The state after a step and its answer, with the change number and the last stamp that there then are. A refusal leaves
 -- the state.
 abbrev pub after : State → Step → Answer → ℕ → ℕ → State
-after state step (answers.Refused refusal) changes stamp = state
-after state step answer changes stamp = record state {
+after state step (answers.Refused refusal) changes last_stamp = state
+after state step answer changes last_stamp = record state {
   history = state.history ++ entries_of step answer;
   changes = changes;
-  stamp = stamp;
+  last_stamp = last_stamp;
   cursors = cursors_after state.cursors step answer changes;
   placed = placed_by step answer;
 }

@@ -75,7 +75,7 @@ takes_node (Get k) = false
 
 -- Whether there is a stamp for the node that an operation takes, if it takes one.
 abbrev pub has_stamp : State → Op → Bool
-has_stamp state op = not (takes_node op) || nat_lt state.stamp (2 ^ 64 - 2)
+has_stamp state op = not (takes_node op) || nat_lt state.last_stamp (2 ^ 64 - 2)
 
 -- Memory may be refused to a step that reserves some, and stamps may be used up. These tests stand behind all others.
 abbrev pub MayLack : State → Step → Refusal → Type 0

@@ -25,7 +25,7 @@ pub record State : Type 0 where
   pub stored : List ℕ
   pub linked : List ℕ
   pub changes : ℕ
-  pub stamp : ℕ
+  pub last_stamp : ℕ
   pub cursors : List (Option ℕ)
   pub helpers : List Help
   pub placed : Option Owner
@@ -39,7 +39,7 @@ start limits = record {
   stored = 0 ∷ [];
   linked = 0 ∷ [];
   changes = 0;
-  stamp = 0;
+  last_stamp = 0;
   cursors = replicate limits.callers None;
   helpers = replicate limits.callers Idle;
   placed = None;

@@ -91,7 +91,7 @@ impl Core {
         let mut answers = Vec::with_capacity(alloc, steps.len())?;
         for step in steps {
             let answer = self.step(*step);
-            answers.push(answer).unwrap();
+            answers.push_reserved(answer);
         }
         Ok(answers)
     }
@@ -148,7 +148,7 @@ impl Core {
                     return Answer::Refused(Refusal::NoMemory);
                 }
                 let txn = self.began + 1;
-                self.history.push(Entry::Began(caller, txn)).unwrap();
+                self.history.push_reserved(Entry::Began(caller, txn));
                 self.began = txn;
                 self.stage = Stage::Open;
                 Answer::Began(txn)
@@ -182,7 +182,7 @@ impl Core {
                     return Answer::Refused(Refusal::NoMemory);
                 };
                 self.next = next;
-                self.history.push(Entry::Asked(caller, op)).unwrap();
+                self.history.push_reserved(Entry::Asked(caller, op));
                 self.stage = Stage::Asked(op, false);
                 Answer::Asked
             }
@@ -246,10 +246,10 @@ impl Core {
         if was_change(op, reply) {
             let next = self.next.take().unwrap();
             let before = mem::replace(&mut self.content, next);
-            self.copies.push(before).unwrap();
+            self.copies.push_reserved(before);
         }
         self.next = None;
-        self.history.push(Entry::Did(caller, reply)).unwrap();
+        self.history.push_reserved(Entry::Did(caller, reply));
         self.stage = Stage::Open;
         Answer::Done(reply)
     }
@@ -263,7 +263,7 @@ impl Core {
         ensures { Move self.old (Step.Act caller) result self.new }
     {
         self.content = self.copies.pop().unwrap();
-        self.history.push(Entry::Undone(caller)).unwrap();
+        self.history.push_reserved(Entry::Undone(caller));
         self.stage = Stage::Leaving(false);
         Answer::Undone
     }
@@ -276,7 +276,7 @@ impl Core {
         requires no_cursor { turn_in self.old.cursors caller ≡ None }
         ensures { Move self.old (Step.Act caller) result self.new }
     {
-        self.history.push(Entry::Aborted(caller)).unwrap();
+        self.history.push_reserved(Entry::Aborted(caller));
         self.stage = Stage::Closed;
         Answer::Aborted
     }
@@ -293,7 +293,7 @@ impl Core {
             Stage::Asked(..) => Answer::Refused(Refusal::OperationUnfinished),
             Stage::Open => {
                 let place = self.committed + 1;
-                self.history.push(Entry::Committed(caller, place)).unwrap();
+                self.history.push_reserved(Entry::Committed(caller, place));
                 self.committed = place;
                 self.copies.clear();
                 self.stage = Stage::Closed;
@@ -312,7 +312,7 @@ impl Core {
             Stage::Closed => Answer::Refused(Refusal::NotOpen),
             Stage::Leaving(_) => Answer::Refused(Refusal::Leaving),
             Stage::Open | Stage::Asked(..) => {
-                self.history.push(Entry::Leave(caller, None)).unwrap();
+                self.history.push_reserved(Entry::Leave(caller, None));
                 self.next = None;
                 self.stage = Stage::Leaving(false);
                 Answer::Leaving

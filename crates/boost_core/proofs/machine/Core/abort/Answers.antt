@@ -26,15 +26,14 @@ owed stage standing (inr asked) = subst (λ s. 2 + standing ≤ owed_in standing
 
 pub invariant_of-self : goal.invariant_of-self
 invariant_of-self c =
+    let i = c.self.inside in
     let first : c.args.caller ≡ 0 = omega (arith, c.if-caller-from.false, c.from.ensures, c.callers.ensures.value, c.self.invariant.one) in
-    let items = rw c.unwrap.ensures at c.push.ensures.items in
-    let len = rw c.unwrap.ensures at c.push.ensures.len in
-    let left = told c.self.inside.limits.stripes c.self.inside.history.items c.self.inside.began c.self.inside.committed c.self.inside.content c.self.inside.next c.self.inside.copies.items c.self.inside.stage c.in-Open.is c.self.invariant.told in
+    let left = told i.limits.stripes i.history.items i.began i.committed i.content i.next i.copies.items i.stage c.in-Open.is c.self.invariant.told in
     record {
       one = c.self.invariant.one;
-      told = rw (items, first) left;
-      seat = rw (items, first) (seated _ _ _ _ _ _ _ _ _ left c.self.inside.copies.ok.0);
+      told = rw (c.push_reserved.ensures.items, first) left;
+      seat = rw (c.push_reserved.ensures.items, first) (seated _ _ _ _ _ _ _ _ _ left i.copies.ok.0);
       aimed = tt;
-      room = omega (arith, len, c.self.invariant.room, c.push.ensures.capacity, owed c.self.inside.stage c.self.inside.copies.len c.in-Open.is);
+      room = omega (arith, c.self.invariant.room, c.push_reserved.ensures.len, c.push_reserved.ensures.capacity, owed i.stage i.copies.len c.in-Open.is);
       places = omega (arith, c.self.invariant.places);
     }

@@ -8,17 +8,16 @@ overflow_add-place c = omega (arith, committed_bound _ _ _ _ _ _ _ _ c.self.inva
 
 pub invariant_of-self : goal.invariant_of-self
 invariant_of-self c =
+    let i = c.self.inside in
     let first : c.args.caller ≡ 0 = omega (arith, c.if-caller-from.false, c.from.ensures, c.callers.ensures.value, c.self.invariant.one) in
-    let items = rw c.unwrap.ensures at c.push.ensures.items in
-    let len = rw c.unwrap.ensures at c.push.ensures.len in
     let opened = rw c.in-Open.is at c.self.invariant.told in
     let room = rw c.in-Open.is at c.self.invariant.room in
-    let told = told-committed c.self.inside.limits.stripes c.self.inside.history.items c.self.inside.began c.self.inside.committed c.self.inside.content c.self.inside.next c.self.inside.copies.items opened in
+    let told = told-committed i.limits.stripes i.history.items i.began i.committed i.content i.next i.copies.items opened in
     record {
       one = c.self.invariant.one;
-      told = rw (items, first, c.clear.ensures.items) told;
-      seat = rw (items, first) (seated _ _ _ _ _ _ _ _ _ told c.clear.ensures.len);
+      told = rw (c.push_reserved.ensures.items, first, c.clear.ensures.items) told;
+      seat = rw (c.push_reserved.ensures.items, first) (seated _ _ _ _ _ _ _ _ _ told c.clear.ensures.len);
       aimed = tt;
-      room = omega (arith, len, room, c.push.ensures.capacity, c.clear.ensures.len);
+      room = omega (arith, room, c.push_reserved.ensures.len, c.push_reserved.ensures.capacity, c.clear.ensures.len);
       places = omega (arith, c.clear.ensures.len);
     }
