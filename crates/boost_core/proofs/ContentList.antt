@@ -1,5 +1,5 @@
 -- The claim of the content with its list: what an operation, and taking it back, make of them.
-use Rattle.std.proofs.Common.{◌≡◌, ℕ, ◌<◌, ◌^◌, Option, Some, None, List, [], ◌∷◌, refl, sym, ap, ◌∙◌, cond, ◌==◌}
+use Rattle.std.proofs.Common.{◌≡◌, ℕ, ◌<◌, ◌^◌, Bool, true, false, Option, Some, None, List, [], ◌∷◌, refl, sym, ap, ◌∙◌, cond, ◌==◌}
 use Rattle.std.specs.List.{fold}
 use Rattle.std.specs.Option.{option_map}
 use Rattle.std.specs.BTreeMap.{is_at}
@@ -9,7 +9,13 @@ use Rattle.std.specs.Cmp.{nat_cmp_total, eq_by_cmp_equiv}
 use Rattle.std.specs.FinMap.Entries.{find, put, find-put}
 use Rattle.txn_trace.specs.declared.op.Op.{Op}
 use Rattle.txn_trace.specs.declared.op.Op.TheVariants.{Put, Take, Get}
-use Rattle.txn_trace.specs.Map.{Map, key_of, get}
+use mathlib.Core.Logic.{inl, inr}
+use Rattle.std.proofs.lemmas.Bool.{cases_eq, eq-eqb, ne_eqb}
+use Rattle.txn_trace.specs.Map.{Map, key_of, get, reply_of, after}
+use Rattle.txn_trace.specs.Now.{set_at}
+use Rattle.txn_trace.proofs.Maps.{same_map}
+use Rattle.txn_trace.proofs.Table.{get-set_at}
+use Rattle.txn_trace.proofs.Acting.{get-after_other}
 use Rattle.split_key.specs.Split.{split}
 use Rattle.txn_trace.specs.Ordered.{split_cmp, ordered}
 use Rattle.txn_trace.specs.Shape.{Waiting}
@@ -58,3 +64,15 @@ update_all-found (p ∷ ps) es q =
 -- So the list of a map gives the map.
 pub update_all-ordered : (m : Map) (q : ℕ) → update_all (eq_by_cmp nat_cmp) (λ _. None) (ordered m) q ≡ get m q
 update_all-ordered m q = update_all-found (ordered m) [] q ∙ ap (find nat_cmp q) (rows-ordered m)
+
+-- What was made ready is what the operation leaves.
+pub some_ready : (takes : Bool) (ready wanted : List (ℕ × ℕ)) → Some ready ≡ cond {A = Option (List (ℕ × ℕ))} takes (Some wanted) None → ready ≡ wanted
+some_ready true ready wanted is = cc is
+some_ready false ready wanted is = absurd (cc is)
+
+-- A key with the value that it had before an operation: the map before it.
+pub set_at-after : (m : Map) (op : Op) → set_at (after m op) (key_of op) (reply_of m op) ≡ m
+set_at-after m op = same_map (set_at (after m op) (key_of op) (reply_of m op)) m (λ q. get-set_at (after m op) (key_of op) (reply_of m op) q ∙ elim (cases_eq q (key_of op)) [
+  | inl same ↦ ap (λ b. cond b (reply_of m op) (get (after m op) q)) (eq-eqb q (key_of op) same) ∙ ap (get m) (sym same)
+  | inr other ↦ ap (λ b. cond b (reply_of m op) (get (after m op) q)) (ne_eqb q (key_of op) other) ∙ get-after_other m op q other
+])

@@ -1,10 +1,10 @@
-pub mod Runs
 pub mod Ordered
 pub mod Pairs
+pub mod Runs
 pub mod Shape
 pub mod Locks
+pub mod Replies
 pub mod ContentList
 pub mod Told
-pub mod Seats
-pub mod Moves
 pub mod Replying
+pub mod Moves

@@ -17,7 +17,7 @@ use Rattle.txn_trace.proofs.Order.{value_at-ordered}
 use Rattle.boost_core.specs.declared.stage.Stage.{Stage}
 use Rattle.boost_core.specs.declared.stage.Stage.TheVariants.{Open}
 use Rattle.boost_core.specs.Core.{Tells, Holds, phase_of, places_for}
-use Rattle.boost_core.proofs.Seats.{seated}
+use Rattle.boost_core.proofs.Shape.{seated}
 use Rattle.boost_core.proofs.Told.{told-did_same, told-did_change}
 
 abbrev Pairs : Type 0
@@ -32,10 +32,6 @@ owed_some : (op : Op) → 1 ≤ owed_for op
 owed_some (Put k v) = omega arith
 owed_some (Take k) = omega arith
 owed_some (Get k) = omega arith
-
--- What the content has at the key of an operation is the reply.
-pub right_reply : (op : Op) (m : Map) (content : Pairs) (key : ℕ) (x : Option ℕ) → content ≡ ordered m → key ≡ key_of op → x ≡ find split_cmp key content → x ≡ reply_of m op
-right_reply op m content key x content_is key_is is = is ∙ (λ i. find split_cmp (key_is i) (content_is i)) ∙ value_at-ordered m (key_of op)
 
 module _ (limits : Sizes) (old : Vec Entry) (b m : ℕ) (stage : Stage) (content : Pairs) (next : Option Pairs) (copies : Vec Pairs) (op : Op) (x : Option ℕ)
     (holds : Holds limits old b m stage content next copies) (waiting : phase_of stage ≡ Waiting op) (right : x ≡ reply_of (now old.items) op)

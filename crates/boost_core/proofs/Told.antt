@@ -27,7 +27,9 @@ use Rattle.txn_trace.proofs.Next.{Next}
 use Rattle.txn_trace.proofs.Entries as entries
 use Rattle.boost_core.specs.Core.{Tells, IsOver, IsGood, next_of, maps_before, seat_at}
 use Rattle.boost_core.specs.Refusals.{takes_node}
+use Rattle.boost_core.proofs.Shape.{length-copies}
 use Rattle.boost_core.proofs.Locks.{asked_locked}
+use Rattle.boost_core.proofs.ContentList.{some_ready, set_at-after}
 
 abbrev Pairs : Type 0
 Pairs = List (ℕ × ℕ)
@@ -61,21 +63,6 @@ none_more n = omega arith
 
 less_one : (n : ℕ) → suc n - 1 ≡ n
 less_one n = omega arith
-
-length-maps_before : (m : Map) (log : List (ℕ × Option ℕ)) → length (maps_before m log) ≡ length log
-length-maps_before m [] = refl
-length-maps_before m (job ∷ jobs) = ap suc (length-maps_before (set_at m job.0 job.1) jobs)
-
-some_ready : (takes : Bool) (ready wanted : Pairs) → Some ready ≡ cond {A = Option Pairs} takes (Some wanted) None → ready ≡ wanted
-some_ready true ready wanted is = cc is
-some_ready false ready wanted is = absurd (cc is)
-
--- A key with the value that it had before an operation: the map before it.
-set_at-after : (m : Map) (op : Op) → set_at (after m op) (key_of op) (reply_of m op) ≡ m
-set_at-after m op = same_map (set_at (after m op) (key_of op) (reply_of m op)) m (λ q. get-set_at (after m op) (key_of op) (reply_of m op) q ∙ elim (cases_eq q (key_of op)) [
-  | inl same ↦ ap (λ b. cond b (reply_of m op) (get (after m op) q)) (eq-eqb q (key_of op) same) ∙ ap (get m) (sym same)
-  | inr other ↦ ap (λ b. cond b (reply_of m op) (get (after m op) q)) (ne_eqb q (key_of op) other) ∙ get-after_other m op q other
-])
 
 module _ (stripes : ℕ) (g : List Entry) (b m : ℕ) (content : Pairs) (next : Option Pairs) (copies : List Pairs) where
   -- A transaction begins.
@@ -113,14 +100,10 @@ module _ (stripes : ℕ) (g : List Entry) (b m : ℕ) (content : Pairs) (next : 
       (entries.committed stripes g t.legal 0 (m + 1) (seat_at Opened (length (log_of 0 g))) t.seat refl (ap (λ n. n + 1) t.commits))
       (none_more b) refl refl tt t.pairs t.ready refl
 
-  -- There is a copy for each change that stands.
-  pub length-copies : (phase : Phase) → Tells stripes g b m phase content next copies → length copies ≡ length (log_of 0 g)
-  length-copies phase t = sym (length-reverse copies) ∙ ap length t.before ∙ length-map (maps_before (now g) (log_of 0 g)) ordered ∙ length-maps_before (now g) (log_of 0 g)
-
   -- A transaction ends of which no change stands.
   pub told-aborted : copies ≡ [] → Tells stripes g b m LeavingToEnd content next copies → Tells stripes (g ++ Aborted 0 ∷ []) b m Closed content next []
   told-aborted none t =
-      let no_log : length (log_of 0 g) ≡ 0 = sym (length-copies LeavingToEnd t) ∙ ap length none in
+      let no_log : length (log_of 0 g) ≡ 0 = sym (length-copies stripes g b m LeavingToEnd content next copies t) ∙ ap length none in
       grown stripes g b m LeavingToEnd content next copies t (Aborted 0) b m Closed [] _ (now g) _ content next [] refl
       (entries.aborted stripes g t.legal 0 (seat_at LeavingToEnd (length (log_of 0 g))) t.seat refl no_log)
       (none_more b) (none_more m) refl tt t.pairs t.ready refl

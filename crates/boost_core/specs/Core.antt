@@ -36,7 +36,7 @@ abbrev pub state_of : Sizes → List Entry → Stage → State
 state_of limits history stage = record (start limits) {
   history = history;
   cursors = (if sought_at stage then Some 0 else None) ∷ [];
-  placed = if sought_at stage then Some (Caller 0) else None
+  placed = if sought_at stage then Some (Caller 0) else None;
 }
 
 -- Without a transaction there is nothing to take back.

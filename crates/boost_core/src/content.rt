@@ -11,7 +11,7 @@ use std::collections::BTreeMap;
 use std::marker::Model;
 use txn_trace::Op;
 
-/// The pairs of key and value, in the order of their split keys. A contract sees the list of them.
+/// The pairs of key and value, in an ordered map from split key to pair. A contract sees the list of them, in that order.
 #[derive(Drop)]
 pub(crate) struct Content {
     pairs: BTreeMap<u64, (u64, u64)>,
@@ -34,6 +34,7 @@ impl Content {
     ghost use Rattle.txn_trace.specs.Shape.{Waiting};
     ghost use Rattle.boost_core.specs.Core.{next_of};
 
+    /// No pairs. Takes no memory.
     pub(crate) fn new(alloc: Global) -> Content
         ensures { result ≡ [] }
     {
@@ -59,7 +60,7 @@ impl Content {
         Some(value)
     }
 
-    /// A copy of it all.
+    /// A copy of all pairs. Costs their number.
     pub(crate) fn copied(&self) -> Result<Content, AllocError>
         ensures { IfOk result (λ copy. copy ≡ self.now) }
     {
@@ -67,7 +68,7 @@ impl Content {
         Ok(Content { pairs })
     }
 
-    /// Puts a value at a key.
+    /// Puts a value at a key. Costs the logarithm of the number of pairs. Where memory is refused the pairs stay.
     pub(crate) fn insert(&mut self, key: Key, value: u64) -> Result<(), AllocError>
         ensures ok { OnOk result (self.new ≡ put split_cmp key value self.old) }
         ensures err { OnErr result (self.new ≡ self.old) }
@@ -76,14 +77,14 @@ impl Content {
         Ok(())
     }
 
-    /// Takes a key out.
+    /// Takes a key out, if it is there. Costs the logarithm of the number of pairs, and takes no memory.
     pub(crate) fn remove(&mut self, key: Key)
         ensures { self.new ≡ remove_entry (eq_by_cmp split_cmp key) self.old }
     {
         self.pairs.remove(&regular(key));
     }
 
-    /// The content after an operation that may change it. The key is the operation's.
+    /// The content after an operation that may change it, of which this is the key; none for a look-up. Costs a copy.
     pub(crate) fn after(&self, key: Key, op: Op) -> Result<Option<Content>, AllocError>
         requires { key ≡ key_of op }
         ensures { IfOk result (λ next. (m : Map) → self.now ≡ ordered m → next ≡ next_of m (Waiting op)) }
@@ -103,14 +104,14 @@ impl Content {
         }
     }
 
-    /// The pairs, in order.
+    /// The pairs, in order. Costs their number.
     pub(crate) fn to_vec(&self, alloc: Global) -> Result<Vec<(u64, u64)>, AllocError>
         ensures { IfOk result (λ pairs. pairs.items ≡ self.now) }
     {
         self.pairs.values().copied().collect(alloc)
     }
 
-    /// The pairs as a map.
+    /// The pairs as a map by key. Costs their number, times its logarithm.
     pub(crate) fn to_map(&self, alloc: Global) -> Result<BTreeMap<u64, u64>, AllocError>
         ensures { IfOk result (IsFromIterResult nat_cmp self.now) }
     {

@@ -12,24 +12,30 @@ ghost use Rattle.txn_trace.specs.Owed.{owed_for};
 ghost use Rattle.boost_core.specs.Machine.{State, start};
 
 use crate::content::Content;
-use split_key::Key;
 use crate::stage::Stage;
+use split_key::Key;
 use std::alloc::{AllocError, Global};
 use std::collections::BTreeMap;
 use std::marker::Model;
 use std::mem;
 use txn_trace::{Answer, Entry, Limits, Op, Refusal, Reply, Step};
 
-/// The map, its callers and their history.
+/// The size of the table, in buckets.
+const SIZE: u32 = 2;
+
+/// The map, the caller and the history of what was done. A contract sees the state of the machine that it is in.
 #[derive(Drop)]
 pub struct Core {
     limits: Limits,
     history: Vec<Entry>,
+    /// How many transactions began and how many committed.
     began: u64,
     committed: u64,
     stage: Stage,
     content: Content,
+    /// The content that the operation that waits will leave, where it may be a change.
     next: Option<Content>,
+    /// The content before each change that stands, the newest last.
     copies: Vec<Content>,
 }
 
@@ -51,7 +57,9 @@ impl Core {
     ghost use Rattle.boost_core.specs.State.{seat_in, turn_in};
     ghost use Rattle.txn_trace.specs.Shape.{Waiting, LeavingToEnd};
 
-    /// A core in which nothing has happened.
+    /// A core in which nothing has happened: the map is empty, and so is the history.
+    ///
+    /// `Refusal::NoMemory` where memory is refused.
     pub fn new(alloc: Global, limits: Limits) -> Result<Core, Refusal>
         ensures ok { IfOk result (λ core. core ≡ start limits) }
         ensures err { IfErr result (λ refusal. refusal ≡ Refusal.NoMemory) }
@@ -69,7 +77,20 @@ impl Core {
         })
     }
 
-    /// Takes a step.
+    /// Takes a step of a caller. The tests of a step are made in this order, and the first that holds refuses it; a
+    /// refused step changes nothing.
+    ///
+    /// | Step | Refusals in order | Answers |
+    /// |---|---|---|
+    /// | Begin | `NoSuchCaller`, `Leaving`, `AlreadyOpen`, `NoMemory` | `Began` |
+    /// | Ask | `NoSuchCaller`, `NotOpen`, `Leaving`, `OperationUnfinished`, `BadKey`, `NoMemory` | `Asked` |
+    /// | Seek | `NoSuchCaller`, `NotOpen`, `NothingToSeek` | `Placed` |
+    /// | Act | `NoSuchCaller`, `NotOpen`, `NothingToSeek`, `Unplaced` | `Done`, `Undone` or `Aborted` |
+    /// | Commit | `NoSuchCaller`, `NotOpen`, `Leaving`, `OperationUnfinished` | `Committed` |
+    /// | Abort | `NoSuchCaller`, `NotOpen`, `Leaving` | `Leaving` |
+    ///
+    /// An Ask of a put or a take costs a copy of the map, an Act the logarithm of its number of keys, every other step a
+    /// fixed number of steps, but for what Begin and Ask reserve.
     pub fn step(&mut self, step: Step) -> Answer
         ensures { Move self.old step result self.new }
     {
@@ -83,7 +104,9 @@ impl Core {
         }
     }
 
-    /// Takes the steps one after another.
+    /// Takes the steps, one after another, and gives their answers.
+    ///
+    /// Room for all answers is made first: where memory is refused there, no step is taken.
     pub fn run(&mut self, alloc: Global, steps: &[Step]) -> Result<Vec<Answer>, AllocError>
         ensures ok { IfOk result (λ answers. Moves self.old steps.now answers.items self.new) }
         ensures err { OnErr result (self.new ≡ self.old) }
@@ -96,7 +119,7 @@ impl Core {
         Ok(answers)
     }
 
-    /// The history.
+    /// The history: what was done since the beginning, in order. It is legal, and each entry is of a caller. Fixed cost.
     pub fn trace(&self) -> &[Entry]
         ensures value { result.now ≡ self.now.history }
         ensures legal { IsLegal self.now.limits.stripes self.now.history }
@@ -105,35 +128,37 @@ impl Core {
         &self.history
     }
 
-    /// The map as it is now.
+    /// The map as it is now: that of the committed transactions with the changes of the open one that stand. Costs the
+    /// number of keys, times its logarithm.
     pub fn map(&self, alloc: Global) -> Result<BTreeMap<u64, u64>, AllocError>
         ensures { IfOk result (λ map. (key : ℕ) → value_at nat_cmp map key ≡ get (now self.now.history) key) }
     {
         self.content.to_map(alloc)
     }
 
-    /// The pairs of the map as it is now.
+    /// The pairs of the map as it is now, in the order of their split keys. Costs their number.
     pub fn regular_list(&self, alloc: Global) -> Result<Vec<(u64, u64)>, AllocError>
         ensures { IfOk result (λ pairs. pairs.items ≡ ordered (now self.now.history)) }
     {
         self.content.to_vec(alloc)
     }
 
-    /// The number of buckets.
+    /// The size of the table, in buckets. Fixed cost.
     pub fn size(&self) -> u32
         ensures { result ≡ self.now.size }
     {
         let _ = &self.limits;
-        2
+        SIZE
     }
 
-    /// The number of keys.
+    /// How many keys the map has now. It is kept, not counted: fixed cost.
     pub fn count(&self) -> u64
         ensures { result ≡ count_of (now self.now.history) }
     {
         self.content.len() as u64
     }
 
+    /// Begins a transaction: its beginning, its leaving and its end are reserved.
     fn begin(&mut self, caller: u64) -> Answer
         ensures { Move self.old (Step.Begin caller) result self.new }
     {
@@ -156,6 +181,7 @@ impl Core {
         }
     }
 
+    /// Asks for an operation: all that it and its undoing need is reserved or made ready.
     fn ask(&mut self, caller: u64, op: Op) -> Answer
         ensures { Move self.old (Step.Ask caller op) result self.new }
     {
@@ -189,6 +215,7 @@ impl Core {
         }
     }
 
+    /// Seeks the place of the operation that waits, or of the newest change.
     fn seek(&mut self, caller: u64) -> Answer
         ensures { Move self.old (Step.Seek caller) result self.new }
     {
@@ -212,6 +239,7 @@ impl Core {
         }
     }
 
+    /// Acts at the place that was sought, or ends the undoing.
     fn act(&mut self, caller: u64) -> Answer
         ensures { Move self.old (Step.Act caller) result self.new }
     {
@@ -235,7 +263,7 @@ impl Core {
         }
     }
 
-    /// Acts for the operation that waits.
+    /// Gives the operation that waits its reply. What a change made ready takes the place of the content.
     fn reply(&mut self, caller: u64, op: Op) -> Answer
         requires caller { caller < self.old.limits.callers }
         requires waiting { (seat_in self.old.history caller).phase ≡ Waiting op }
@@ -254,7 +282,7 @@ impl Core {
         Answer::Done(reply)
     }
 
-    /// Takes the newest change back.
+    /// Takes the newest change back: its copy takes the place of the content.
     fn take_back(&mut self, caller: u64) -> Answer
         requires caller { caller < self.old.limits.callers }
         requires leaving { (seat_in self.old.history caller).phase ≡ LeavingToEnd }
@@ -281,6 +309,7 @@ impl Core {
         Answer::Aborted
     }
 
+    /// Commits the transaction, whose changes stay.
     fn commit(&mut self, caller: u64) -> Answer
         ensures { Move self.old (Step.Commit caller) result self.new }
     {
@@ -302,6 +331,7 @@ impl Core {
         }
     }
 
+    /// Aborts the transaction: an operation that waits is withdrawn, and from here the changes are taken back.
     fn abort(&mut self, caller: u64) -> Answer
         ensures { Move self.old (Step.Abort caller) result self.new }
     {
@@ -329,7 +359,7 @@ fn key_in(op: Op) -> u64
     key
 }
 
-/// How many entries an operation and its undoing need, and the end of the transaction.
+/// How many entries an operation and its undoing may need, with the two by which the transaction may abort.
 fn entries_for(op: Op) -> usize
     ensures { result ≡ 3 + owed_for op }
 {

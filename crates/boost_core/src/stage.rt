@@ -1,6 +1,6 @@
 use txn_trace::Op;
 
-/// Where the caller is, and in its last two stages whether the place of its next act was sought.
+/// Where the caller is, and, while there is something to seek, whether its place was sought.
 #[derive(Clone, Copy, Debug, PartialEq, Eq)]
 pub(crate) enum Stage {
     /// It has no transaction.

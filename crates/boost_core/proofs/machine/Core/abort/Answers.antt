@@ -8,7 +8,7 @@ use Rattle.txn_trace.specs.Owed.{owed_in}
 use Rattle.boost_core.specs.declared.stage.Stage.{Stage}
 use Rattle.boost_core.specs.declared.stage.Stage.TheVariants.{Open, Asked}
 use Rattle.boost_core.specs.Core.{Tells, phase_of}
-use Rattle.boost_core.proofs.Seats.{seated}
+use Rattle.boost_core.proofs.Shape.{seated}
 use Rattle.boost_core.proofs.Told.{told-left, told-withdrawn}
 use Rattle.boost_core.proofs.machine.Core.abort.Goals as goal
 

@@ -1,7 +1,7 @@
 use Rattle.std.proofs.Common.{◌≡◌, ◌<◌, ◌^◌, arith, rules, ◌∙◌}
 use Rattle.txn_trace.specs.Map.{key_of}
 use Rattle.txn_trace.specs.Now.{now}
-use Rattle.boost_core.proofs.Seats.{seated, when_ok}
+use Rattle.boost_core.proofs.Shape.{seated, when_ok}
 use Rattle.boost_core.proofs.Moves.{asked_allowed}
 use Rattle.boost_core.proofs.Told.{told-asked}
 use Rattle.boost_core.proofs.machine.Core.ask.Goals as goal

@@ -1,5 +1,5 @@
 use Rattle.std.proofs.Common.{◌≡◌, arith}
-use Rattle.boost_core.proofs.Seats.{began_bound, no_copies, seated, when_ok}
+use Rattle.boost_core.proofs.Shape.{began_bound, no_copies, seated, when_ok}
 use Rattle.boost_core.proofs.Told.{told-began}
 use Rattle.boost_core.proofs.machine.Core.begin.Goals as goal
 

@@ -1,5 +1,5 @@
 use Rattle.std.proofs.Common.{◌≡◌, arith}
-use Rattle.boost_core.proofs.Seats.{committed_bound, seated}
+use Rattle.boost_core.proofs.Shape.{committed_bound, seated}
 use Rattle.boost_core.proofs.Told.{told-committed}
 use Rattle.boost_core.proofs.machine.Core.commit.Goals as goal
 

@@ -1,6 +1,6 @@
 use Rattle.std.proofs.Common.{◌≡◌, arith, rules, sym, ◌∙◌}
 use Rattle.txn_trace.specs.Shape.{LeavingToEnd}
-use Rattle.boost_core.proofs.Seats.{first_caller, phase_found, none_found, stage_leaving, seated, empty_list}
+use Rattle.boost_core.proofs.Shape.{first_caller, phase_found, none_found, stage_leaving, seated, empty_list}
 use Rattle.boost_core.proofs.Told.{told-aborted}
 use Rattle.boost_core.proofs.machine.Core.end.Goals as goal
 

@@ -1,8 +1,9 @@
 use Rattle.std.proofs.Common.{rules, ◌∙◌, sym}
 use Rattle.txn_trace.specs.Now.{now}
 use Rattle.txn_trace.specs.Shape.{Waiting}
-use Rattle.boost_core.proofs.Seats.{first_caller, phase_found, stage_waiting}
-use Rattle.boost_core.proofs.Replying.{right_reply, replied_change, replied_same}
+use Rattle.boost_core.proofs.Shape.{first_caller, phase_found, stage_waiting}
+use Rattle.boost_core.proofs.Replies.{right_reply}
+use Rattle.boost_core.proofs.Replying.{replied_change, replied_same}
 use Rattle.boost_core.proofs.machine.Core.reply.Goals as goal
 use Rattle.boost_core.proofs.machine.Core.reply.Goals.{then-was_change, else-was_change}
 

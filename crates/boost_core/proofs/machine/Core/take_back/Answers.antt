@@ -1,6 +1,6 @@
 use Rattle.std.proofs.Common.{arith, rules}
 use Rattle.txn_trace.specs.Shape.{LeavingToEnd}
-use Rattle.boost_core.proofs.Seats.{first_caller, phase_found, some_found, stage_leaving, seated}
+use Rattle.boost_core.proofs.Shape.{first_caller, phase_found, some_found, stage_leaving, seated}
 use Rattle.boost_core.proofs.Told.{told-undone}
 use Rattle.boost_core.proofs.machine.Core.take_back.Goals as goal
 
