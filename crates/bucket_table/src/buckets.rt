@@ -1,14 +1,13 @@
 //! The buckets.
-ghost use Rattle.std.specs.Prelude.{◌≡◌, ◌≢◌, ℕ, ◌%◌, ◌<◌, ◌≤◌, ◌^◌, Some, None, Ok, Err, true, length, replicate, nat_le, if◌then◌else◌, IfOk, OnErr, OnOk, IfErr, MatchResult};
-ghost use Rattle.node_list.specs.Nodes.{Listing, live_count, node_of};
+ghost use Rattle.std.specs.Prelude.{◌≡◌, ◌≢◌, ℕ, ◌%◌, ◌<◌, ◌≤◌, ◌^◌, Some, None, Ok, Err, true, length, replicate, IfOk, IfErr};
+ghost use Rattle.node_list.specs.Nodes.{Listing, live_count};
 ghost use Rattle.node_list.specs.Follow.{Follows};
-ghost use Rattle.node_list.specs.Sound.{IsSound};
 ghost use Rattle.list_steps.specs.Content.{pairs};
 ghost use Rattle.list_steps.specs.Found.{IsPlaced, fits, split_of, node_there};
 ghost use Rattle.list_steps.specs.Seek.{IsStart};
-ghost use Rattle.split_key.specs.Split.{IsPowerOfTwo, ancestor_of, reversed, split};
+ghost use Rattle.split_key.specs.Split.{IsPowerOfTwo, reversed, split};
 ghost use Rattle.bucket_table.specs.Links.{IsUnlinked, LinksAt};
-ghost use Rattle.bucket_table.specs.Dummies.{IsBeforeBucket, IsDummyAt, IsKeyed, has_dummy};
+ghost use Rattle.bucket_table.specs.Dummies.{IsBeforeBucket, IsKeyed, has_dummy};
 
 use crate::answer::{Double, InitLink, InitRefusal, InitSeek};
 use crate::helper::Helper;
@@ -50,9 +49,9 @@ fn filled<T: Copy>(alloc: Global, count: u32, value: T) -> Result<Vec<T>, AllocE
 }
 
 impl Buckets {
-    ghost use Rattle.bucket_table.specs.Directory.{beginning, dummy_of, helper_of, is_stored, with_helper, with_dummy, with_size, IsSound as IsSoundDirectory, IsInOrder, IsReady, IsNearest};
+    ghost use Rattle.bucket_table.specs.Directory.{beginning, dummy_of, helper_of, with_helper, with_dummy, IsSound as IsSoundDirectory, IsInOrder, IsReady, IsNearest};
     ghost use Rattle.bucket_table.specs.declared.helper.Helper.TheVariants.{Seeking};
-    ghost use Rattle.bucket_table.specs.Home.{IsHome, IsHelperHome};
+    ghost use Rattle.bucket_table.specs.Home.{IsHome};
     ghost use Rattle.bucket_table.specs.Answers.{seek_answer, link_answer, store_answer, double_answer};
     ghost use Rattle.bucket_table.specs.Changes.{SeekChanges, LinkChanges, StoreChanges, after_double};
 
@@ -175,6 +174,7 @@ impl Buckets {
         let Some(from) = self.dummy(parent) else {
             return Err(InitRefusal::ParentMissing);
         };
+        // The list says here that no dummy is marked, so the seek unlinks none.
         let _turn = list.turn();
         let cursor = seek(list, from, dummy(bucket));
         self.set_helper(helper, Helper::Seeking(bucket, cursor));

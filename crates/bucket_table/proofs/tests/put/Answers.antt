@@ -1,4 +1,4 @@
-use Rattle.std.proofs.Common.{◌≡◌, ℕ, ◌<◌, ◌^◌, refl, sym, ◌∙◌, ap, arith}
+use Rattle.std.proofs.Common.{◌≡◌, ℕ, ◌<◌, ◌^◌, sym, ◌∙◌, ap, arith}
 use Rattle.node_list.proofs.OrderLemmas.{each_linked}
 use Rattle.node_list.specs.Nodes.{NodeAt, SpareAt, filled}
 use Rattle.node_list.specs.declared.node.Kind.TheVariants.{Regular}
