@@ -23,7 +23,7 @@ linked-injective e = cc
 pub out-not-linked : {stamp : ℕ} {n : Node} → Some (Out stamp) ≡ Some (Linked n) → ⊥
 out-not-linked e = cc
 
-true-ne-false : true ≡ false → ⊥
+pub true-ne-false : true ≡ false → ⊥
 true-ne-false e = cc
 
 -- a walk finds the chain

@@ -13,7 +13,7 @@ use Rattle.node_list.specs.Sound.{AllPlain, IsFirst, IsStamped, IsSound}
 use Rattle.node_list.specs.Layout.{nodes_in, listing_of, IsLaidOut, HasStamps, IsKept}
 use Rattle.node_list.proofs.OrderLemmas.{some-injective, some-none, each_found}
 use Rattle.node_list.proofs.NodesLemmas.{same_node, same_after, found_linked, first_found, next_found, found_linked_after, found_changed, found_unlinked, still_found_linked, still_found_changed, still_found_unlinked}
-use Rattle.node_list.proofs.ChainLemmas.{out-not-linked, linked_node, node_found, spread}
+use Rattle.node_list.proofs.ChainLemmas.{true-ne-false, out-not-linked, linked_node, node_found, spread}
 use Rattle.node_list.proofs.SlabSteps.{out_in, slot_out}
 
 -- a list follows itself
@@ -112,9 +112,6 @@ changes_follow old new changed change same now = record {
   out = λ place stamp is. inl (sym (now.out place) ∙ is);
   dummies = λ place n is dummy. rw now.nodes (still_found_changed old.nodes changed place change n same is);
 }
-
-true-ne-false : true ≡ false → ⊥
-true-ne-false e = cc
 
 pub unlinks_follow : (old new : Listing) (pred : ℕ) → IsSpread old.nodes → AllPlain old.nodes → IsBeforeMarked old.nodes pred → Becomes old new (unlinked_after old.nodes pred) → Follows old new
 unlinks_follow old new pred spread plain behind now = record {

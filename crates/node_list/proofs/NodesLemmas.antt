@@ -1,7 +1,7 @@
 -- What is found in a list of nodes, before and after a change.
 use Rattle.std.proofs.Common.{◌≡◌, ◌≢◌, ℕ, ◌⊎◌, inl, inr, List, [], ◌∷◌, Option, Some, None, Bool, true, refl, sym, ◌∙◌, ap, is_some}
 use Rattle.std.proofs.lemmas.Bool.Decides.{eqb_tells}
-use Rattle.node_list.specs.Nodes.{NodeAt, node_of, next_of, first, without_first, place_of, IsLinked, linked_after, unlinked_after, changed_at}
+use Rattle.node_list.specs.Nodes.{NodeAt, node_of, next_of, first, without_first, place_of, IsLinked, linked_after, unlinked_after, changed_at, marked_at, written_at}
 use Rattle.node_list.specs.Order.{AbsentFrom, IsSpread}
 use Rattle.node_list.specs.Follow.{IsSameNode}
 use Rattle.node_list.proofs.OrderLemmas.{some-injective, some-none}
@@ -117,6 +117,19 @@ next_found (n ∷ rest) pred m apart is = elim (eqb_tells n.place pred) [
     behind : first rest ≡ Some m → node_of rest m.place ≡ Some m → node_of (n ∷ rest) m.place ≡ Some m
     behind is_first there = deeper there
 
+-- the next node is the one at the next place
+pub next-found : (nodes : List NodeAt) (pred place : ℕ) (n : NodeAt) → IsSpread nodes → place_of (next_of nodes pred) ≡ Some place → node_of nodes place ≡ Some n → next_of nodes pred ≡ Some n
+next-found nodes pred place n apart next is = go (next_of nodes pred) refl next
+  where
+    go : (behind : Option NodeAt) → next_of nodes pred ≡ behind → place_of behind ≡ Some place → next_of nodes pred ≡ Some n
+    go None same there = absurd (some-none (sym there))
+    go (Some m) same there = same ∙ sym (next_found nodes pred m apart same) ∙ ap (node_of nodes) (some-injective there) ∙ is
+
+-- one node alone has none behind it
+pub next_of-single : (n : NodeAt) (place : ℕ) → next_of (n ∷ []) place ≡ None
+unfolding next_of
+next_of-single n place = elim (eqb_tells n.place place) [ inl here ↦ rw here.0 refl | inr apart ↦ rw apart.0 refl ]
+
 -- which places stay linked
 pub still_linked : (nodes : List NodeAt) (pred place : ℕ) (x : NodeAt) → IsLinked nodes place → IsLinked (linked_after nodes pred x) place
 unfolding linked_after IsLinked
@@ -141,6 +154,14 @@ changed_linked (n ∷ rest) place other change same is = elim (eqb_tells n.place
   | inl here ↦ rw here.0 (elim is [ inl first ↦ inl (sym (same n).place ∙ first) | inr later ↦ inr later ])
   | inr apart ↦ rw apart.0 (elim is [ inl first ↦ inl first | inr later ↦ inr (changed_linked rest place other change same later) ])
 ]
+
+pub marked_linked : (nodes : List NodeAt) (place other : ℕ) → IsLinked nodes other → IsLinked (marked_at nodes place) other
+marked_linked nodes place other =
+    changed_linked nodes place other (λ n. record n { marked = true }) (λ n. record { place = refl; split = refl; kind = refl; stamp = refl })
+
+pub written_linked : (nodes : List NodeAt) (place value other : ℕ) → IsLinked nodes other → IsLinked (written_at nodes place value) other
+written_linked nodes place value other =
+    changed_linked nodes place other (λ n. record n { value = value }) (λ n. record { place = refl; split = refl; kind = refl; stamp = refl })
 
 pub others_linked : (nodes : List NodeAt) (pred gone place : ℕ) → place_of (next_of nodes pred) ≡ Some gone → place ≢ gone → IsLinked nodes place → IsLinked (unlinked_after nodes pred) place
 unfolding unlinked_after IsLinked next_of

@@ -1,4 +1,4 @@
--- The order of nodes.
+-- The order of nodes, and their places.
 use Rattle.std.specs.Prelude.{◌≢◌, ℕ, ◌<◌, List, [], ◌∷◌}
 use Rattle.std.specs.List.{AllByRecursion}
 use Rattle.node_list.specs.Nodes.{NodeAt}

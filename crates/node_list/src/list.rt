@@ -114,7 +114,8 @@ impl NodeList {
         let weight = node.kind.weight();
         node.next = replace_next(&mut self.slab, pred.place(), Some(NodeRef::new(place)));
         set_slot(&mut self.slab, place, Slot::Linked(node));
-        let _used = self.slab.len();
+        // No more nodes are counted than places are in use, so the counts fit.
+        let _places = self.slab.len();
         self.count += weight;
         self.turn = self.turn.saturating_add(1);
     }
@@ -145,7 +146,8 @@ impl NodeList {
         ensures follows { Follows self.old self.new }
     {
         mark(&mut self.slab, node.place());
-        let _used = self.slab.len();
+        // No more nodes are counted than places are in use, so the counts fit.
+        let _places = self.slab.len();
         self.count -= 1;
         self.marked += 1;
         self.turn = self.turn.saturating_add(1);

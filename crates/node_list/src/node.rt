@@ -14,6 +14,18 @@ pub enum Kind {
     Regular(u64),
 }
 
+impl Kind {
+    // How much a new node of this kind counts.
+    pub(crate) fn weight(self) -> u64
+        ensures { result ≡ (if is_regular self then 1 else 0) }
+    {
+        match self {
+            Kind::Dummy => 0,
+            Kind::Regular(_) => 1,
+        }
+    }
+}
+
 /// The place of a node. It names that node until the node is unlinked; whether it is the same node
 /// later is told by the stamp.
 #[derive(Clone, Copy, Debug, PartialEq, Eq)]
@@ -81,18 +93,6 @@ impl Node {
             stamp,
             marked: false,
             next: None,
-        }
-    }
-}
-
-impl Kind {
-    // How much a new node of this kind counts.
-    pub(crate) fn weight(self) -> u64
-        ensures { result ≡ (if is_regular self then 1 else 0) }
-    {
-        match self {
-            Kind::Dummy => 0,
-            Kind::Regular(_) => 1,
         }
     }
 }

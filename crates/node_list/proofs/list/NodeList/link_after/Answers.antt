@@ -26,7 +26,7 @@ overflow_add-self c =
     let order = rw (← c.self.view_is, ← c.spare.view_is) at c.requires.order in
     let now = filled_in _ _ c.self.inside.turn _ _ _ c.self.invariant _ _ _ _ slot.0 c.spare.inside.node _ slot.1 out c.spare.invariant (next_was slot.1) (pointed slot.1) _ c.weight-weight.ensures c.set_slot.ensures linked order in
     let fits = counted_fit _ _ _ _ _ now.0 in
-    omega (arith, fits, c.len-used.ensures, c.len-used.type_inv)
+    omega (arith, fits, c.len-places.ensures, c.len-places.type_inv)
 
 pub invariant_of-self : goal.invariant_of-self
 invariant_of-self c =

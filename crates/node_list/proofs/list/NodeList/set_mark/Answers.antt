@@ -18,7 +18,7 @@ overflow_add-self c =
     let is_written = rw c.place.ensures at c.mark.ensures slot.0 in
     let now = node_marked _ _ c.self.inside.turn _ _ _ c.self.invariant _ _ slot.0 regular slot.1 (is_written slot.1) in
     let fits = counted_fit _ _ _ _ _ now.0 in
-    omega (arith, fits, c.len-used.ensures, c.len-used.type_inv)
+    omega (arith, fits, c.len-places.ensures, c.len-places.type_inv)
 
 pub invariant_of-self : goal.invariant_of-self
 invariant_of-self c =
