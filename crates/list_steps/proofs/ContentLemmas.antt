@@ -104,8 +104,8 @@ module _ (nodes : List NodeAt) (place : ℕ) (n : NodeAt) (is : node_of nodes pl
     pub pairs_contain : Contains (pairs nodes) (key, n.value)
     pairs_contain =
         let parts : pairs nodes ≡ pairs at.front ++ ((key, n.value) ∷ pairs at.rest) =
-              ap pairs at.is ∙ pairs-append at.front (n ∷ at.rest)
-              ∙ ap (λ ps. pairs at.front ++ ps) (pairs_cons n at.rest ∙ ap (λ ps. ps ++ pairs at.rest) (pair_regular n key regular unmarked)) in
+        ap pairs at.is ∙ pairs-append at.front (n ∷ at.rest)
+        ∙ ap (λ ps. pairs at.front ++ ps) (pairs_cons n at.rest ∙ ap (λ ps. ps ++ pairs at.rest) (pair_regular n key regular unmarked)) in
         let P : List (ℕ × ℕ) → Type 0 = λ ps. Contains ps (key, n.value) in
         subst P (sym parts) (Contains-append_right (pairs at.front) ((key, n.value) ∷ pairs at.rest) (key, n.value) (0, omega arith, refl))
 
@@ -116,10 +116,10 @@ pairs_unlinked nodes place before =
     let at = found_at nodes place found.0 found.1 in
     let rest_is = first_is at.rest before.node (sym (next_at nodes place found.0 at) ∙ before.next) in
     let keeps : pairs (without_first at.rest) ≡ pairs at.rest =
-          sym (
-            ap pairs rest_is ∙ pairs_cons before.node (without_first at.rest)
-            ∙ ap (λ ps. ps ++ pairs (without_first at.rest)) (pair_marked before.node before.marked)
-          ) in
+    sym (
+    ap pairs rest_is ∙ pairs_cons before.node (without_first at.rest)
+    ∙ ap (λ ps. ps ++ pairs (without_first at.rest)) (pair_marked before.node before.marked)
+    ) in
     ap pairs (unlinked_at nodes place found.0 at) ∙ pairs_same_rest at.front found.0 (without_first at.rest) at.rest keeps ∙ sym (ap pairs at.is)
 
 -- unlinking marked nodes keeps the content
@@ -134,8 +134,8 @@ pairs_cleaned split (n ∷ rest) = go n.marked refl (pairs_cleaned split rest)
         ∙ sym (pairs_cons n rest ∙ ap (λ ps. ps ++ pairs rest) (pair_marked n marked))
     go false unmarked later = elim (cases_lt n.split split) [
       | inl less ↦
-        ap pairs (cleaned_passed n rest split unmarked less)
-        ∙ pairs_cons n (cleaned split rest) ∙ ap (λ ps. pair_of n ++ ps) later ∙ sym (pairs_cons n rest)
+          ap pairs (cleaned_passed n rest split unmarked less)
+          ∙ pairs_cons n (cleaned split rest) ∙ ap (λ ps. pair_of n ++ ps) later ∙ sym (pairs_cons n rest)
       | inr more ↦ ap pairs (cleaned_stopped n rest split unmarked more)
     ]
 

@@ -9,9 +9,10 @@ use Rattle.node_list.specs.Sound.{IsSound, IsStamped}
 use Rattle.list_steps.specs.declared.cursor.Cursor.{Cursor}
 use Rattle.list_steps.specs.declared.cursor.Noted.{Noted}
 use Rattle.list_steps.specs.Found.{behind, fits, is_noted, is_next_noted, noted, node_there, pred_of, split_of, turn_of, with_split, IsBeyond, IsFound, IsPlaced, IsRoomFor}
-use Rattle.list_steps.specs.Seek.{IsStart}
-use Rattle.list_steps.proofs.NodeLemmas.{found_at, found_linked, linked_found, next_found, next_linked, next_node, same_test, some-injective, some-none}
-use Rattle.list_steps.proofs.OrderLemmas.{IsAbove}
+use Rattle.list_steps.specs.Seek.{IsPred}
+use Rattle.node_list.proofs.OrderLemmas.{some-injective, some-none}
+use Rattle.node_list.proofs.NodesLemmas.{found_linked, linked_found, next_found}
+use Rattle.list_steps.proofs.NodeLemmas.{found_at, next_linked, next_node, same_test}
 
 and_left : (a b : Bool) → (a && b) ≡ true → a ≡ true
 and_left true b is = refl
@@ -90,6 +91,7 @@ module _ (l : Listing) (c : Cursor) (fitting : fits l c ≡ true) where
     where
       holds : is_next_noted (Some m) c.cur ≡ true
       holds = ap (λ o. is_next_noted o c.cur) (sym is) ∙ and_right (is_noted (node_of l.nodes (pred_of c)) c.pred.stamp) _ fitting
+
       go : (cur : Option Noted) → c.cur ≡ cur → (k : Noted) × (c.cur ≡ Some k) × Fits m k
       go None cur_is = absurd (true-false (sym (sym (ap (λ o. is_next_noted (Some m) o) cur_is) ∙ holds)))
       go (Some k) cur_is = (k, cur_is, next_fits m k (sym (ap (λ o. is_next_noted (Some m) o) cur_is) ∙ holds))
@@ -106,23 +108,19 @@ module _ (l : Listing) (c : Cursor) (sound : IsSound l) (placed : IsPlaced l c) 
   pub high : (m : NodeAt) → behind l c ≡ Some m → split_of c ≤ m.split
   high m is =
       let next = fits_next l c fitting m is in
-      let there = next_found l.nodes (pred_of c) m (fits_linked l c fitting) sound.spread is in
+      let there = next_found l.nodes (pred_of c) m sound.spread is in
       let P : ℕ → Type 0 = λ p. node_of l.nodes p ≡ Some m in
       placed.beyond m next.0 next.1 (subst P next.2.place there) next.2.stamp
 
   -- and is above it where it does not have it
-  pub above : node_there l c ≡ None → IsAbove (behind l c) (split_of c)
-  above none = go (behind l c) refl none
-    where
-      go : (o : Option NodeAt) → behind l c ≡ o → with_split o (split_of c) ≡ None → IsAbove o (split_of c)
-      go None o_is none = tt
-      go (Some m) o_is none = elim (eqb_tells m.split (split_of c)) [
-        | inl same ↦ absurd (some-none (rw same.0 at none))
-        | inr differs ↦ elim (cases_order (split_of c) m.split) [
-          | inl same ↦ absurd (differs.1 (sym same))
-          | inr either ↦ elim either [ inl less ↦ less | inr more ↦ absurd (omega (arith, high m o_is)) ]
-        ]
-      ]
+  pub above : node_there l c ≡ None → (m : NodeAt) → behind l c ≡ Some m → split_of c < m.split
+  above none m is = elim (eqb_tells m.split (split_of c)) [
+    | inl same ↦ absurd (some-none (rw same.0 at (sym (ap (λ o. with_split o (split_of c)) is) ∙ none)))
+    | inr differs ↦ elim (cases_order (split_of c) m.split) [
+      | inl same ↦ absurd (differs.1 (sym same))
+      | inr either ↦ elim either [ inl less ↦ less | inr more ↦ absurd (omega (arith, high m is)) ]
+    ]
+  ]
 
 -- the node of the split key, where a cursor fits
 pub record There (l : Listing) (c : Cursor) (n : NodeAt) : Type 0 where
@@ -138,14 +136,14 @@ there l c n spread fitting is = go (behind l c) refl is
     go None o_is with_is = absurd (some-none (sym with_is))
     go (Some m) o_is with_is = elim (eqb_tells m.split (split_of c)) [
       | inl same ↦
-        let node_is : m ≡ n = some-injective (rw same.0 at with_is) in
-        let is_behind : behind l c ≡ Some n = o_is ∙ ap (λ (v : NodeAt). Some v) node_is in
-        record {
-          behind_is = is_behind;
-          is = next_found l.nodes (pred_of c) n (fits_linked l c fitting) spread is_behind;
-          split = sym (ap (λ (v : NodeAt). v.split) node_is) ∙ same.1;
-          unmarked = (fits_next l c fitting n is_behind).2.unmarked;
-        }
+          let node_is : m ≡ n = some-injective (rw same.0 at with_is) in
+          let is_behind : behind l c ≡ Some n = o_is ∙ ap (λ (v : NodeAt). Some v) node_is in
+          record {
+            behind_is = is_behind;
+            is = next_found l.nodes (pred_of c) n spread is_behind;
+            split = sym (ap (λ (v : NodeAt). v.split) node_is) ∙ same.1;
+            unmarked = (fits_next l c fitting n is_behind).2.unmarked;
+          }
       | inr differs ↦ absurd (some-none (sym (rw differs.0 at with_is)))
     ]
 
@@ -159,6 +157,7 @@ module _ (l : Listing) (c : Cursor) (found : IsFound l c) where
     where
       pred_noted : is_noted (Some found.pred) c.pred.stamp ≡ true
       pred_noted = rw (same_test found.pred.stamp c.pred.stamp found.pred_noted, found.unmarked) refl
+
       go : (o : Option NodeAt) (cur : Option Noted) → noted o ≡ cur → IsBeyond o (split_of c) → is_next_noted o cur ≡ true
       go None None is beyond = refl
       go None (Some cur) is beyond = absurd (some-none (sym is))
@@ -175,14 +174,14 @@ module _ (l : Listing) (c : Cursor) (found : IsFound l c) where
     pred_known = omega (arith, sound.stamped.bound (pred_of c) found.pred found.pred_is, found.pred_noted);
     pred_apart = λ place is. sound.stamped.apart (pred_of c) place found.pred found.pred_is (is ∙ ap Some (sym found.pred_noted));
     below = λ n is stamp.
-      let same : found.pred.split ≡ n.split = ap (λ (v : NodeAt). v.split) (some-injective (sym found.pred_is ∙ is)) in
-      omega (arith, found.below);
+        let same : found.pred.split ≡ n.split = ap (λ (v : NodeAt). v.split) (some-injective (sym found.pred_is ∙ is)) in
+        omega (arith, found.below);
     cur_known = λ cur cur_is. let k = cur_node cur cur_is in omega (arith, sound.stamped.bound cur.place k.0 k.1, k.2);
     cur_apart = λ cur place cur_is is. let k = cur_node cur cur_is in sound.stamped.apart cur.place place k.0 k.1 (is ∙ ap Some (sym k.2));
     beyond = λ m cur cur_is is stamp.
-      let k = cur_node cur cur_is in
-      let same : k.0.split ≡ m.split = ap (λ (v : NodeAt). v.split) (some-injective (sym k.1 ∙ is)) in
-      omega (arith, k.3);
+        let k = cur_node cur cur_is in
+        let same : k.0.split ≡ m.split = ap (λ (v : NodeAt). v.split) (some-injective (sym k.1 ∙ is)) in
+        omega (arith, k.3);
     turn_known = omega (arith, found.turn);
     held = λ same below. found_fits;
   }
@@ -193,38 +192,42 @@ module _ (l : Listing) (c : Cursor) (found : IsFound l c) where
           let place : k.place ≡ cur.place = ap (λ (n : Noted). n.place) (some-injective noted_is) in
           let stamp : k.stamp ≡ cur.stamp = ap (λ (n : Noted). n.stamp) (some-injective noted_is) in
           let P : ℕ → Type 0 = λ p. node_of l.nodes p ≡ Some k in
-          let linked = found_linked l.nodes (pred_of c) found.pred found.pred_is in
-          (k, subst P place (next_found l.nodes (pred_of c) k linked sound.spread o_is), stamp, beyond.1)
+          (k, subst P place (next_found l.nodes (pred_of c) k sound.spread o_is), stamp, beyond.1)
+
       cur_node : (cur : Noted) → c.cur ≡ Some cur → (k : NodeAt) × (node_of l.nodes cur.place ≡ Some k) × (k.stamp ≡ cur.stamp) × (split_of c ≤ k.split)
       cur_node cur cur_is = go (behind l c) cur refl (found.cur_noted ∙ cur_is) found.beyond
 
 -- what is noted of the node behind a place
-pub noted_next : (nodes : List NodeAt) (place next : ℕ) (k : Noted) → IsLinked nodes place → IsSpread nodes → place_of (next_of nodes place) ≡ Some next → noted (node_of nodes next) ≡ Some k → noted (next_of nodes place) ≡ Some k
-noted_next nodes place next k linked spread is note =
-    let found = linked_found nodes next (next_linked nodes place next linked spread is) in
-    ap noted (next_node nodes place next linked spread is found.0 found.1 ∙ sym found.1) ∙ note
+pub noted_next : (nodes : List NodeAt) (place next : ℕ) (k : Noted) → IsSpread nodes → place_of (next_of nodes place) ≡ Some next → noted (node_of nodes next) ≡ Some k → noted (next_of nodes place) ≡ Some k
+noted_next nodes place next k spread is note =
+    let found = linked_found nodes next (next_linked nodes place next spread is) in
+    ap noted (next_node nodes place next spread is found.0 found.1 ∙ sym found.1) ∙ note
 
 -- a cursor that notes the place of its split key is found
-pub noted_found : (l : Listing) (place : ℕ) (c : Cursor) → IsStart l.nodes place (split_of c) → IsBeyond (next_of l.nodes place) (split_of c) → noted (node_of l.nodes place) ≡ Some c.pred → c.cur ≡ noted (next_of l.nodes place) → turn_of c ≡ l.turn → IsFound l c
-noted_found l place c start beyond pred_is cur_is turn_is = record {
-  pred = start.node;
-  pred_is = subst At here start.is;
+pub noted_found : (l : Listing) (place : ℕ) (c : Cursor) → IsPred l.nodes place (split_of c) → IsBeyond (next_of l.nodes place) (split_of c) → noted (node_of l.nodes place) ≡ Some c.pred → c.cur ≡ noted (next_of l.nodes place) → turn_of c ≡ l.turn → IsFound l c
+noted_found l place c before beyond pred_is cur_is turn_is = record {
+  pred = before.node;
+  pred_is = subst At here before.is;
   pred_noted = ap (λ (n : Noted). n.stamp) same;
-  unmarked = start.unmarked;
-  below = start.below;
+  unmarked = before.unmarked;
+  below = before.below;
   cur_noted = subst Behind here (sym cur_is);
   beyond = subst Beyond here beyond;
   turn = turn_is;
 }
   where
-    same : record { place = start.node.place; stamp = start.node.stamp } ≡ c.pred
-    same = some-injective {X = Noted} (sym (ap noted start.is) ∙ pred_is)
+    same : record { place = before.node.place; stamp = before.node.stamp } ≡ c.pred
+    same = some-injective {X = Noted} (sym (ap noted before.is) ∙ pred_is)
+
     here : place ≡ c.pred.place
-    here = sym (found_at l.nodes place start.node start.is).here ∙ ap (λ (n : Noted). n.place) same
+    here = sym (found_at l.nodes place before.node before.is).here ∙ ap (λ (n : Noted). n.place) same
+
     At : ℕ → Type 0
-    At p = node_of l.nodes p ≡ Some start.node
+    At p = node_of l.nodes p ≡ Some before.node
+
     Behind : ℕ → Type 0
     Behind p = noted (next_of l.nodes p) ≡ c.cur
+
     Beyond : ℕ → Type 0
     Beyond p = IsBeyond (next_of l.nodes p) (split_of c)
 
@@ -243,8 +246,8 @@ still_placed old new c placed follows = record {
   ];
   below = λ n is stamp. elim (follows.linked (pred_of c) n is) [
     | inl there ↦
-      let low = placed.below there.0 there.1 (there.2.stamp ∙ stamp) in
-      omega (arith, there.2.split)
+        let low = placed.below there.0 there.1 (there.2.stamp ∙ stamp) in
+        omega (arith, there.2.split)
     | inr fresh ↦ elim fresh [
       | inl was ↦ absurd (placed.pred_apart (pred_of c) (was ∙ ap Some stamp))
       | inr above ↦ absurd (omega (arith, placed.pred_known))
@@ -257,8 +260,8 @@ still_placed old new c placed follows = record {
   ];
   beyond = λ m cur cur_is is stamp. elim (follows.linked cur.place m is) [
     | inl there ↦
-      let low = placed.beyond there.0 cur cur_is there.1 (there.2.stamp ∙ stamp) in
-      omega (arith, there.2.split)
+        let low = placed.beyond there.0 cur cur_is there.1 (there.2.stamp ∙ stamp) in
+        omega (arith, there.2.split)
     | inr fresh ↦ elim fresh [
       | inl was ↦ absurd (placed.cur_apart cur cur.place cur_is (was ∙ ap Some stamp))
       | inr above ↦ absurd (omega (arith, placed.cur_known cur cur_is))
@@ -266,7 +269,7 @@ still_placed old new c placed follows = record {
   ];
   turn_known = omega (arith, placed.turn_known, follows.turn);
   held = λ same below.
-    let at_old : old.turn ≡ turn_of c = omega (arith, placed.turn_known, follows.turn) in
-    let unchanged : new.turn ≡ old.turn = omega arith in
-    fits_same old new c (follows.still unchanged below) ∙ placed.held at_old (omega arith);
+      let at_old : old.turn ≡ turn_of c = omega (arith, placed.turn_known, follows.turn) in
+      let unchanged : new.turn ≡ old.turn = omega arith in
+      fits_same old new c (follows.still unchanged below) ∙ placed.held at_old (omega arith);
 }

@@ -3,12 +3,8 @@ use Rattle.std.proofs.Common.{◌≡◌, ◌≢◌, ℕ, ◌<◌, ◌⊎◌, inl
 use Rattle.std.proofs.lemmas.Bool.Decides.{eqb_tells}
 use Rattle.node_list.specs.Nodes.{NodeAt, IsLinked, node_of, next_of, first, without_first, place_of, linked_after, unlinked_after, changed_at}
 use Rattle.node_list.specs.Order.{AbsentFrom, IsSpread}
-
-pub some-injective : {X : Type 0} {x y : X} → Some x ≡ Some y → x ≡ y
-some-injective e = cc
-
-pub some-none : {X : Type 0} {x : X} → Some x ≡ None → ⊥
-some-none e = cc
+use Rattle.node_list.proofs.OrderLemmas.{some-injective, some-none}
+use Rattle.node_list.proofs.NodesLemmas.{found_linked, next_found}
 
 pub same_test : (a b : ℕ) → a ≡ b → (a == b) ≡ true
 same_test a b same = elim (eqb_tells a b) [
@@ -36,23 +32,23 @@ unfolding node_of
 found_at [] place n is = absurd (some-none (sym is))
 found_at (m ∷ rest) place n is = elim (eqb_tells m.place place) [
   | inl here ↦
-    let same : m ≡ n = some-injective (rw here.0 at is) in
-    record {
-      front = [];
-      rest = rest;
-      is = ap (λ k. k ∷ rest) same;
-      absent = tt;
-      here = sym (ap (λ (v : NodeAt). v.place) same) ∙ here.1;
-    }
+      let same : m ≡ n = some-injective (rw here.0 at is) in
+      record {
+        front = [];
+        rest = rest;
+        is = ap (λ k. k ∷ rest) same;
+        absent = tt;
+        here = sym (ap (λ (v : NodeAt). v.place) same) ∙ here.1;
+      }
   | inr apart ↦
-    let later = found_at rest place n (rw apart.0 at is) in
-    record {
-      front = m ∷ later.front;
-      rest = later.rest;
-      is = ap (λ ns. m ∷ ns) later.is;
-      absent = (apart.1, later.absent);
-      here = later.here;
-    }
+      let later = found_at rest place n (rw apart.0 at is) in
+      record {
+        front = m ∷ later.front;
+        rest = later.rest;
+        is = ap (λ ns. m ∷ ns) later.is;
+        absent = (apart.1, later.absent);
+        here = later.here;
+      }
 ]
 
 -- each function of a list at a place, on a list that is taken apart there
@@ -124,7 +120,7 @@ module _ (nodes : List NodeAt) (place : ℕ) (n : NodeAt) (at : IsAt nodes place
 
   pub is_linked : IsLinked nodes place
   is_linked = let P : List NodeAt → Type 0 = λ ns. IsLinked ns place in
-    subst P (sym at.is) (linked-append place n at.rest at.here at.front)
+      subst P (sym at.is) (linked-append place n at.rest at.here at.front)
 
   -- the list without the next node
   abbrev pub at_unlinked : IsAt (unlinked_after nodes place) place n
@@ -135,7 +131,7 @@ module _ (nodes : List NodeAt) (place : ℕ) (n : NodeAt) (at : IsAt nodes place
   at_next m spread is =
       let rest_is : at.rest ≡ m ∷ without_first at.rest = first_is at.rest m is in
       let apart : nodes ≡ (at.front ++ n ∷ []) ++ m ∷ without_first at.rest =
-            at.is ∙ ap (λ ns. at.front ++ n ∷ ns) rest_is ∙ sym (append_assoc at.front (n ∷ []) (m ∷ without_first at.rest)) in
+      at.is ∙ ap (λ ns. at.front ++ n ∷ ns) rest_is ∙ sym (append_assoc at.front (n ∷ []) (m ∷ without_first at.rest)) in
       let P : List NodeAt → Type 0 = IsSpread in
       record {
         front = at.front ++ n ∷ [];
@@ -144,28 +140,6 @@ module _ (nodes : List NodeAt) (place : ℕ) (n : NodeAt) (at : IsAt nodes place
         absent = absent_front (at.front ++ n ∷ []) m (without_first at.rest) (subst P apart spread);
         here = refl;
       }
-
--- a linked node is found
-pub linked_found : (nodes : List NodeAt) (place : ℕ) → IsLinked nodes place → (n : NodeAt) × (node_of nodes place ≡ Some n)
-unfolding IsLinked node_of
-linked_found [] place linked = absurd linked
-linked_found (m ∷ rest) place linked = elim (eqb_tells m.place place) [
-  | inl here ↦ (m, rw here.0 refl)
-  | inr apart ↦
-    let later = linked_found rest place (elim linked [ inl first ↦ absurd (apart.1 first) | inr more ↦ more ]) in
-    (later.0, rw apart.0 later.1)
-]
-
--- a node that is found is linked
-pub found_linked : (nodes : List NodeAt) (place : ℕ) (n : NodeAt) → node_of nodes place ≡ Some n → IsLinked nodes place
-found_linked nodes place n is = is_linked nodes place n (found_at nodes place n is)
-
--- the node behind a place is found at its own
-pub next_found : (nodes : List NodeAt) (place : ℕ) (m : NodeAt) → IsLinked nodes place → IsSpread nodes → next_of nodes place ≡ Some m → node_of nodes m.place ≡ Some m
-next_found nodes place m linked spread is =
-    let found = linked_found nodes place linked in
-    let at = found_at nodes place found.0 found.1 in
-    node_at nodes m.place m (at_next nodes place found.0 at m spread (sym (next_at nodes place found.0 at) ∙ is))
 
 some_place : (o : Option NodeAt) (place : ℕ) → place_of o ≡ Some place → (m : NodeAt) × (o ≡ Some m) × (m.place ≡ place)
 some_place None place is = absurd (some-none (sym is))
@@ -176,20 +150,20 @@ pub no_place : (o : Option NodeAt) → place_of o ≡ None → o ≡ None
 no_place None is = refl
 no_place (Some n) is = absurd (some-none is)
 
-module _ (nodes : List NodeAt) (place next : ℕ) (linked : IsLinked nodes place) (spread : IsSpread nodes) (is : place_of (next_of nodes place) ≡ Some next) where
+module _ (nodes : List NodeAt) (place next : ℕ) (spread : IsSpread nodes) (is : place_of (next_of nodes place) ≡ Some next) where
   -- the place behind a node is linked
   pub next_linked : IsLinked nodes next
   next_linked =
       let there = some_place (next_of nodes place) next is in
       let P : ℕ → Type 0 = λ p. IsLinked nodes p in
-      subst P there.2 (found_linked nodes there.0.place there.0 (next_found nodes place there.0 linked spread there.1))
+      subst P there.2 (found_linked nodes there.0.place there.0 (next_found nodes place there.0 spread there.1))
 
   -- and the node there is the next one
   pub next_node : (m : NodeAt) → node_of nodes next ≡ Some m → next_of nodes place ≡ Some m
   next_node m found =
       let there = some_place (next_of nodes place) next is in
       let same : Some there.0 ≡ Some m =
-            sym (next_found nodes place there.0 linked spread there.1) ∙ ap (λ p. node_of nodes p) there.2 ∙ found in
+      sym (next_found nodes place there.0 spread there.1) ∙ ap (λ p. node_of nodes p) there.2 ∙ found in
       there.1 ∙ same
 
 -- a node that is linked is found at its place, if that is its alone
@@ -197,7 +171,7 @@ pub linked_here : (nodes : List NodeAt) (place : ℕ) (n x : NodeAt) → node_of
 linked_here nodes place n x is spread =
     let at = found_at nodes place n is in
     let now : IsAt (linked_after nodes place x) place n =
-          record { front = at.front; rest = x ∷ at.rest; is = linked_at nodes place n at x; absent = at.absent; here = at.here } in
+    record { front = at.front; rest = x ∷ at.rest; is = linked_at nodes place n at x; absent = at.absent; here = at.here } in
     node_at (linked_after nodes place x) x.place x (at_next (linked_after nodes place x) place n now x spread refl)
 
 -- a place with a next node is linked

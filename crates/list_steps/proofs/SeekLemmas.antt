@@ -1,23 +1,36 @@
 -- What is left of a seek at each node.
 use Rattle.std.proofs.Common.{◌≡◌, ◌≢◌, ℕ, ◌+◌, ◌<◌, ◌≤◌, List, [], ◌∷◌, ◌++◌, Option, Some, None, Bool, true, false, length, refl, sym, ◌∙◌, ap, subst, arith, if◌then◌else◌, ◌==◌, nat_lt, append_assoc}
 use Rattle.std.proofs.lemmas.Bool.Decides.{nat_tests}
-use Rattle.node_list.specs.Nodes.{NodeAt, Listing, IsBeforeMarked, node_of, next_of, first, without_first, unlinked_after, Becomes}
+use Rattle.node_list.specs.Nodes.{NodeAt, Listing, IsLinked, node_of, next_of, first, without_first, unlinked_after, Becomes}
 use Rattle.node_list.specs.Order.{AbsentFrom, IsSpread}
 use Rattle.node_list.specs.Follow.{Follows}
-use Rattle.list_steps.specs.Seek.{cleaned, sought, IsBelow, IsStart, KeepsRest}
-use Rattle.list_steps.proofs.NodeLemmas.{IsAt, found_at, node_at, next_at, unlinked_at, at_unlinked, at_next, first_is, first_none, same_test, apart_test, some-none, some-injective}
+use Rattle.node_list.specs.declared.node.Kind.TheVariants.{Dummy}
+use Rattle.node_list.specs.Sound.{AllPlain}
+use Rattle.node_list.proofs.OrderLemmas.{each_found}
+use Rattle.list_steps.specs.Seek.{cleaned, sought, IsBelow, IsPred, IsStart, KeepsRest}
+use Rattle.list_steps.proofs.NodeLemmas.{IsAt, found_at, node_at, next_at, unlinked_at, at_unlinked, at_next, first_is, first_none, same_test, apart_test}
 
 -- the nodes behind a place
 unfoldable pub nodes_behind : List NodeAt → ℕ → List NodeAt
 nodes_behind [] place = []
 nodes_behind (n ∷ rest) place = if n.place == place then rest else nodes_behind rest place
 
--- the seek is at a node, and the rest of it gives what the whole would
+-- the seek is at a node before the place sought, and the rest of it gives what the whole would
 pub record IsSeeking (old now : Listing) (from place split : ℕ) : Type 0 where
+  pub linked : IsLinked now.nodes place
+  pub pred : AllPlain now.nodes → IsPred now.nodes place split
   pub rest : sought now.nodes place split ≡ sought old.nodes from split
-  pub start : IsStart now.nodes place split
   pub kept : KeepsRest old now
   pub follows : Follows old now
+
+-- a seek begins at an unmarked node
+pub pred_from_start : (nodes : List NodeAt) (place split : ℕ) → IsStart nodes place split → AllPlain nodes → IsPred nodes place split
+pred_from_start nodes place split start plain = record {
+  node = start.node;
+  is = start.is;
+  unmarked = each_found (λ n. n.kind ≡ Dummy → n.marked ≡ false) nodes place start.node plain start.is start.dummy;
+  below = start.below;
+}
 
 below_is : (a b : ℕ) → a < b → nat_lt a b ≡ true
 below_is a b less = grind (arith, nat_tests)
@@ -59,84 +72,84 @@ module _ (nodes : List NodeAt) (place : ℕ) (n : NodeAt) (at : IsAt nodes place
   pub behind_at : nodes_behind nodes place ≡ at.rest
   behind_at = ap (λ ns. nodes_behind ns place) at.is ∙ nodes_behind-append place n at.rest at.here at.front at.absent
 
--- at an unmarked node below the split key
-module _ (nodes : List NodeAt) (place split : ℕ) (start : IsStart nodes place split) where
-  start_at : IsAt nodes place start.node
-  start_at = found_at nodes place start.node start.is
+-- at a node before the place sought
+module _ (nodes : List NodeAt) (place split : ℕ) (pred : IsPred nodes place split) where
+  pred_at : IsAt nodes place pred.node
+  pred_at = found_at nodes place pred.node pred.is
 
-  first_rest : (o : Option NodeAt) → next_of nodes place ≡ o → first start_at.rest ≡ o
-  first_rest o is = sym (next_at nodes place start.node start_at) ∙ is
+  first_rest : (o : Option NodeAt) → next_of nodes place ≡ o → first pred_at.rest ≡ o
+  first_rest o is = sym (next_at nodes place pred.node pred_at) ∙ is
 
   -- nothing is left where nothing is behind
   pub sought_at_end : next_of nodes place ≡ None → sought nodes place split ≡ nodes
   sought_at_end is =
-      sought_at nodes place start.node start_at split
-      ∙ ap (λ ns. start_at.front ++ start.node ∷ ns) (ap (cleaned split) nothing ∙ cleaned_nil split ∙ sym nothing)
-      ∙ sym start_at.is
+      sought_at nodes place pred.node pred_at split
+      ∙ ap (λ ns. pred_at.front ++ pred.node ∷ ns) (ap (cleaned split) nothing ∙ cleaned_nil split ∙ sym nothing)
+      ∙ sym pred_at.is
     where
-      nothing : start_at.rest ≡ []
-      nothing = first_none start_at.rest (first_rest None is)
+      nothing : pred_at.rest ≡ []
+      nothing = first_none pred_at.rest (first_rest None is)
 
   module _ (m : NodeAt) (is : next_of nodes place ≡ Some m) where
-    rest_is : start_at.rest ≡ m ∷ without_first start_at.rest
-    rest_is = first_is start_at.rest m (first_rest (Some m) is)
+    rest_is : pred_at.rest ≡ m ∷ without_first pred_at.rest
+    rest_is = first_is pred_at.rest m (first_rest (Some m) is)
 
     -- nor where an unmarked node that is not below the split key is behind
     pub sought_stopped : m.marked ≡ false → split ≤ m.split → sought nodes place split ≡ nodes
     sought_stopped unmarked above =
-        sought_at nodes place start.node start_at split
-        ∙ ap (λ ns. start_at.front ++ start.node ∷ ns)
-          (ap (cleaned split) rest_is ∙ cleaned_stopped m (without_first start_at.rest) split unmarked above ∙ sym rest_is)
-        ∙ sym start_at.is
+        sought_at nodes place pred.node pred_at split
+        ∙ ap (λ ns. pred_at.front ++ pred.node ∷ ns)
+        (ap (cleaned split) rest_is ∙ cleaned_stopped m (without_first pred_at.rest) split unmarked above ∙ sym rest_is)
+        ∙ sym pred_at.is
 
     -- an unmarked node below the split key is passed
     pub sought_passed : IsSpread nodes → m.marked ≡ false → IsBelow m split → sought nodes m.place split ≡ sought nodes place split
     sought_passed spread unmarked below =
         sought_at nodes m.place m next split
-        ∙ append_assoc start_at.front (start.node ∷ []) (m ∷ cleaned split (without_first start_at.rest))
+        ∙ append_assoc pred_at.front (pred.node ∷ []) (m ∷ cleaned split (without_first pred_at.rest))
         ∙ sym (
-          sought_at nodes place start.node start_at split
-          ∙ ap (λ ns. start_at.front ++ start.node ∷ ns)
-            (ap (cleaned split) rest_is ∙ cleaned_passed m (without_first start_at.rest) split unmarked below)
+        sought_at nodes place pred.node pred_at split
+        ∙ ap (λ ns. pred_at.front ++ pred.node ∷ ns)
+        (ap (cleaned split) rest_is ∙ cleaned_passed m (without_first pred_at.rest) split unmarked below)
         )
       where
         next : IsAt nodes m.place m
-        next = at_next nodes place start.node start_at m spread (first_rest (Some m) is)
+        next = at_next nodes place pred.node pred_at m spread (first_rest (Some m) is)
 
     pub behind_passed : IsSpread nodes → length (nodes_behind nodes m.place) < length (nodes_behind nodes place)
     behind_passed spread =
         omega (
           arith,
           ap length (behind_at nodes m.place m next),
-          ap length (behind_at nodes place start.node start_at ∙ rest_is),
+          ap length (behind_at nodes place pred.node pred_at ∙ rest_is),
         )
       where
         next : IsAt nodes m.place m
-        next = at_next nodes place start.node start_at m spread (first_rest (Some m) is)
+        next = at_next nodes place pred.node pred_at m spread (first_rest (Some m) is)
 
     -- a marked node is unlinked
     pub sought_unlinked : m.marked ≡ true → sought (unlinked_after nodes place) place split ≡ sought nodes place split
     sought_unlinked marked =
-        sought_at (unlinked_after nodes place) place start.node (at_unlinked nodes place start.node start_at) split
-        ∙ ap (λ ns. start_at.front ++ start.node ∷ ns)
-          (sym (ap (cleaned split) rest_is ∙ cleaned_marked m (without_first start_at.rest) split marked))
-        ∙ sym (sought_at nodes place start.node start_at split)
+        sought_at (unlinked_after nodes place) place pred.node (at_unlinked nodes place pred.node pred_at) split
+        ∙ ap (λ ns. pred_at.front ++ pred.node ∷ ns)
+        (sym (ap (cleaned split) rest_is ∙ cleaned_marked m (without_first pred_at.rest) split marked))
+        ∙ sym (sought_at nodes place pred.node pred_at split)
 
     pub behind_unlinked : length (nodes_behind (unlinked_after nodes place) place) < length (nodes_behind nodes place)
     behind_unlinked =
         omega (
           arith,
-          ap length (behind_at (unlinked_after nodes place) place start.node (at_unlinked nodes place start.node start_at)),
-          ap length (behind_at nodes place start.node start_at ∙ rest_is),
+          ap length (behind_at (unlinked_after nodes place) place pred.node (at_unlinked nodes place pred.node pred_at)),
+          ap length (behind_at nodes place pred.node pred_at ∙ rest_is),
         )
 
   -- the node at the place stays
-  pub start_unlinked : IsStart (unlinked_after nodes place) place split
-  start_unlinked = record {
-    node = start.node;
-    is = node_at (unlinked_after nodes place) place start.node (at_unlinked nodes place start.node start_at);
-    unmarked = start.unmarked;
-    below = start.below;
+  pub pred_unlinked : IsPred (unlinked_after nodes place) place split
+  pred_unlinked = record {
+    node = pred.node;
+    is = node_at (unlinked_after nodes place) place pred.node (at_unlinked nodes place pred.node pred_at);
+    unmarked = pred.unmarked;
+    below = pred.below;
   }
 
 -- at any linked node

@@ -10,8 +10,9 @@ use Rattle.list_steps.specs.declared.cursor.Cursor.{Cursor}
 use Rattle.list_steps.specs.Content.{pairs, pair_of, Replaces}
 use Rattle.list_steps.specs.Found.{fits, behind, node_there, pred_of, split_of, IsPlaced, IsKeyThere}
 use Rattle.list_steps.specs.Steps.{IsThere, IsAbsent, Finds, Links, Marks, Swaps}
-use Rattle.list_steps.proofs.NodeLemmas.{found_at, found_linked, some-injective, some-none, linked_here}
-use Rattle.list_steps.proofs.OrderLemmas.{IsAbove, rising_linked, differs_all}
+use Rattle.node_list.proofs.OrderLemmas.{before-split, rising_linked, some-injective, some-none}
+use Rattle.list_steps.proofs.NodeLemmas.{found_at, linked_here}
+use Rattle.list_steps.proofs.OrderLemmas.{none_between}
 use Rattle.list_steps.proofs.ContentLemmas.{pairs_linked, pairs_marked, pairs_written, pairs_contain}
 use Rattle.list_steps.proofs.CursorLemmas.{There, there, above, low, fits_pred, fits_linked}
 
@@ -22,11 +23,12 @@ module _ (l : Listing) (c : Cursor) (sound : IsSound l) (placed : IsPlaced l c) 
     where
       pred : (n : NodeAt) × (node_of l.nodes (pred_of c) ≡ Some n) × (n.stamp ≡ c.pred.stamp)
       pred = fits_pred l c fitting
+
       go : (o : Option NodeAt) (place : Option ℕ) → node_there l c ≡ o → place ≡ place_of o → Finds l c place
       go None None is place_is = record {
         none = is;
-        others = differs_all l.nodes (pred_of c) pred.0 (split_of c) sound.rising pred.1
-          (low l c sound placed fitting pred.0 pred.1) (above l c sound placed fitting is);
+        others = none_between l.nodes (pred_of c) pred.0 (split_of c) sound.rising pred.1
+            (low l c sound placed fitting pred.0 pred.1) (above l c sound placed fitting is);
       }
       go None (Some place) is place_is = absurd (some-none place_is)
       go (Some n) None is place_is = absurd (some-none (sym place_is))
@@ -46,11 +48,9 @@ module _ (l : Listing) (c : Cursor) (sound : IsSound l) (placed : IsPlaced l c) 
   pub rising_where_fits : node_there l c ≡ None → (x : NodeAt) → x.split ≡ split_of c → IsRising (linked_after l.nodes (pred_of c) x)
   rising_where_fits none x split_is =
       let pred = fits_pred l c fitting in
-      let Below : ℕ → Type 0 = λ split. pred.0.split < split in
-      let Above : ℕ → Type 0 = λ split. IsAbove (behind l c) split in
-      rising_linked l.nodes (pred_of c) pred.0 x sound.rising pred.1
-        (subst Below (sym split_is) (low l c sound placed fitting pred.0 pred.1))
-        (subst Above (sym split_is) (above l c sound placed fitting none))
+      let is_below : pred.0.split < x.split = omega (arith, low l c sound placed fitting pred.0 pred.1, split_is) in
+      rising_linked l.nodes (pred_of c) pred.0 x sound.rising pred.1 (before-split pred.0 x is_below)
+      (λ m is. before-split x m (omega (arith, above l c sound placed fitting none m is, split_is)))
 
   -- a node that is linked
   pub links : (new : Listing) (x : NodeAt) → Takes l new (linked_after l.nodes (pred_of c) x) x.place → IsSpread new.nodes → Links l new c x

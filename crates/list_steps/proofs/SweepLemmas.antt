@@ -81,8 +81,8 @@ module _ (nodes : List NodeAt) (place : ℕ) (sweeping : IsSweeping nodes place)
       unlinked_at nodes place sweeping.node sweeping.at
       ∙ sym (append_assoc sweeping.at.front (sweeping.node ∷ []) (without_first sweeping.at.rest))
       ∙ sym (
-        ap without_first_marked apart
-        ∙ without_first_marked-append (sweeping.at.front ++ sweeping.node ∷ []) m (without_first sweeping.at.rest) sweeping.passed marked
+      ap without_first_marked apart
+      ∙ without_first_marked-append (sweeping.at.front ++ sweeping.node ∷ []) m (without_first sweeping.at.rest) sweeping.passed marked
       )
     where
       apart : nodes ≡ (sweeping.at.front ++ sweeping.node ∷ []) ++ m ∷ without_first sweeping.at.rest

@@ -1,5 +1,6 @@
 -- What a seek does to the nodes.
 use Rattle.std.specs.Prelude.{◌≡◌, ℕ, ◌<◌, ◌≤◌, List, [], ◌∷◌, Option, Some, Bool, false, ◌==◌, nat_lt, if◌then◌else◌}
+use Rattle.node_list.specs.declared.node.Kind.TheVariants.{Dummy}
 use Rattle.node_list.specs.Nodes.{NodeAt, Listing, node_of, out_at}
 
 -- the node is before the place of the split key
@@ -21,8 +22,15 @@ unfoldable pub sought : List NodeAt → ℕ → ℕ → List NodeAt
 sought [] from split = []
 sought (n ∷ rest) from split = if n.place == from then n ∷ cleaned split rest else n ∷ sought rest from split
 
--- an unmarked node before the place of the split key is linked here
+-- a dummy before the place of the split key is linked here
 pub record IsStart (nodes : List NodeAt) (place split : ℕ) : Type 0 where
+  pub node : NodeAt
+  pub is : node_of nodes place ≡ Some node
+  pub dummy : node.kind ≡ Dummy
+  pub below : IsBelow node split
+
+-- an unmarked node before the place of the split key is linked here
+pub record IsPred (nodes : List NodeAt) (place split : ℕ) : Type 0 where
   pub node : NodeAt
   pub is : node_of nodes place ≡ Some node
   pub unmarked : node.marked ≡ false

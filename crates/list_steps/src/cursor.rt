@@ -1,11 +1,11 @@
-//! Cursors.
+//! Cursors, and the test whether one fits.
 ghost use Rattle.std.specs.Prelude.{◌≡◌, Some, true, ◌==◌, ◌&&◌, not};
 ghost use Rattle.node_list.specs.Nodes.{IsLinked, next_of, node_of};
 ghost use Rattle.node_list.specs.Sound.{IsSound};
 
 use node_list::{Node, NodeList, NodeRef};
 
-/// A node that a cursor noted: its place, and the stamp that tells it from others there.
+/// A node that a cursor noted: its place, and the stamp that tells it from any other node there.
 #[derive(Clone, Copy, Debug, PartialEq, Eq)]
 pub struct Noted {
     pub(crate) place: NodeRef,
@@ -13,6 +13,9 @@ pub struct Noted {
 }
 
 /// Where a split key belongs in a list, as a seek found it.
+///
+/// It is plain data: the list may change while it is kept, and the step that is handed the cursor tests
+/// whether it still fits.
 #[derive(Clone, Copy, Debug, PartialEq, Eq)]
 pub struct Cursor {
     pub(crate) pred: Noted,
@@ -21,14 +24,14 @@ pub struct Cursor {
     pub(crate) turn: u64,
 }
 
-/// The list is no longer as the cursor noted it.
+/// The cursor does not fit: the list is not as the cursor noted it, and nothing was changed. Seek again.
 #[derive(Clone, Copy, Debug, PartialEq, Eq)]
 pub struct Again;
 
 impl Noted {
     ghost use Rattle.list_steps.specs.Found.{noted};
 
-    // The linked node at a place.
+    // The node that is linked at a place.
     fn of(list: &NodeList, place: NodeRef) -> Noted
         requires { IsLinked list.now.nodes place }
         ensures { noted (node_of list.now.nodes place) ≡ Some result }
@@ -57,12 +60,12 @@ fn is_unmarked_with(node: &Node, stamp: u64) -> bool
 }
 
 impl Cursor {
-    ghost use Rattle.list_steps.specs.Seek.{IsStart};
+    ghost use Rattle.list_steps.specs.Seek.{IsPred};
     ghost use Rattle.list_steps.specs.Found.{IsBeyond, IsFound, IsPlaced, fits, split_of, behind, is_next_noted};
 
-    // The cursor of a split key behind this place.
+    // The cursor of a split key, which belongs behind this place.
     pub(crate) fn behind(list: &NodeList, place: NodeRef, split: u64) -> Cursor
-        requires start { IsStart list.now.nodes place split }
+        requires pred { IsPred list.now.nodes place split }
         requires beyond { IsBeyond (next_of list.now.nodes place) split }
         ensures found { IsFound list.now result }
         ensures placed { IsPlaced list.now result }
@@ -98,9 +101,7 @@ impl Cursor {
         ensures sound { IsSound list.now }
     {
         match list.linked_node(self.pred.place) {
-            Some(pred) => {
-                is_unmarked_with(pred, self.pred.stamp) && self.is_next_fitting(list)
-            }
+            Some(pred) => { is_unmarked_with(pred, self.pred.stamp) && self.is_next_fitting(list) }
             None => false,
         }
     }

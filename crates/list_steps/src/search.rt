@@ -1,4 +1,4 @@
-//! The seek.
+//! The seek of a place.
 ghost use Rattle.std.specs.Prelude.{◌≡◌, true};
 ghost use Rattle.node_list.specs.Nodes.{Listing};
 ghost use Rattle.node_list.specs.Follow.{Follows};
@@ -9,7 +9,12 @@ ghost use Rattle.list_steps.specs.Seek.{IsStart, KeepsRest, sought};
 use crate::cursor::Cursor;
 use node_list::{NodeList, NodeRef};
 
-/// Seeks a split key from a dummy, and unlinks the marked nodes that it passes.
+/// Seeks the place of a split key from a dummy before it, and unlinks the marked nodes that it passes:
+/// all between its start and the first unmarked node that is not below the split key (`sought`).
+///
+/// The cursor fits the list as the seek leaves it. The content stays as it was, and so do the spares
+/// that are out; the change number grows by one with each node that is unlinked. Each node from the start
+/// to the place is visited once.
 pub fn seek(list: &mut NodeList, from: NodeRef, split: u64) -> Cursor
     requires { IsStart list.old.nodes from split }
     ensures nodes { list.new.nodes ≡ sought list.old.nodes from split }

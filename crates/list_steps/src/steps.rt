@@ -21,7 +21,11 @@ fn node_there(list: &NodeList, cursor: &Cursor) -> Option<NodeRef>
     }
 }
 
-/// Says whether the split key that a cursor was placed for is there.
+/// Looks whether a node with the split key sought is linked where the cursor is, and which. That node is
+/// unmarked, and its pair is in the content if it is regular. `None`: no linked node, marked or not, has
+/// the split key.
+///
+/// `Again` exactly where the cursor does not fit. A fixed number of look-ups.
 pub fn look(list: &NodeList, cursor: &Cursor) -> Result<Option<NodeRef>, Again>
     requires { IsPlaced list.now cursor.now }
     ensures again { is_ok result ≡ fits list.now cursor.now }
@@ -35,7 +39,7 @@ pub fn look(list: &NodeList, cursor: &Cursor) -> Result<Option<NodeRef>, Again>
     }
 }
 
-/// Says whether the cursor fits and the split key that it was placed for is there.
+/// Says whether the cursor fits and a node with the split key sought is there. A fixed number of look-ups.
 pub fn is_there(list: &NodeList, cursor: &Cursor) -> bool
     requires { IsPlaced list.now cursor.now }
     ensures { result ≡ (fits list.now cursor.now && is_some (node_there list.now cursor.now)) }
@@ -43,7 +47,12 @@ pub fn is_there(list: &NodeList, cursor: &Cursor) -> bool
     matches!(look(list, cursor), Ok(Some(_)))
 }
 
-/// Links the node of a spare where a cursor is.
+/// Links the node of a spare of this list, which is filled with the split key sought, where the cursor
+/// is, and answers that node. Where the cursor fits, no node may have the split key: `look` tells.
+///
+/// The content gains the pair of a regular node; a dummy keeps it as it was. `Again` exactly where the
+/// cursor does not fit; then nothing changes, and the spare comes back. Takes no memory. A fixed number
+/// of look-ups.
 pub fn link(list: &mut NodeList, cursor: Cursor, spare: Spare) -> Result<NodeRef, (Again, Spare)>
     requires out { IsOut list.old spare }
     requires filled { spare.split ≡ split_of cursor }
@@ -60,6 +69,7 @@ pub fn link(list: &mut NodeList, cursor: Cursor, spare: Spare) -> Result<NodeRef
     if cursor.is_fitting(list) {
         let node = spare.node();
         list.link_after(cursor.pred.place, spare);
+        // What holds of every list holds again: the node is at a place of its own.
         let _turn = list.turn();
         Ok(node)
     } else {
@@ -67,7 +77,12 @@ pub fn link(list: &mut NodeList, cursor: Cursor, spare: Spare) -> Result<NodeRef
     }
 }
 
-/// Marks the node of the split key sought, and answers the value that it had.
+/// Marks the regular node of the split key sought, and answers its value. Where the cursor fits, that
+/// node has to be there: `look` tells.
+///
+/// Its pair leaves the content. The node stays linked until a seek passes it or a sweep comes to it
+/// (Harris 2001). `Again` exactly where the cursor does not fit; then nothing changes. Takes no memory. A
+/// fixed number of look-ups.
 pub fn mark(list: &mut NodeList, cursor: Cursor) -> Result<u64, Again>
     requires placed { IsPlaced list.old cursor }
     requires there { IsKeyThere list.old cursor }
@@ -87,7 +102,11 @@ pub fn mark(list: &mut NodeList, cursor: Cursor) -> Result<u64, Again>
     }
 }
 
-/// Writes the value of the node of the split key sought, and answers the value that it had.
+/// Writes a value into the regular node of the split key sought, and answers the value that it had. Where
+/// the cursor fits, that node has to be there: `look` tells.
+///
+/// The pair in the content has the new value; its place stays. `Again` exactly where the cursor does not
+/// fit; then nothing changes. Takes no memory. A fixed number of look-ups.
 pub fn swap(list: &mut NodeList, cursor: Cursor, value: u64) -> Result<u64, Again>
     requires placed { IsPlaced list.old cursor }
     requires there { IsKeyThere list.old cursor }

@@ -1,4 +1,4 @@
-//! The sweep.
+//! The sweep of marked nodes.
 ghost use Rattle.std.specs.Prelude.{◌≡◌, ◌↔◌, false};
 ghost use Rattle.std.specs.List.{AllByRecursion};
 ghost use Rattle.node_list.specs.Follow.{Follows};
@@ -13,7 +13,7 @@ use node_list::{NodeList, NodeRef};
 pub enum SweepOutcome {
     /// The first marked node is unlinked.
     Swept,
-    /// No node is marked.
+    /// No node is marked, and nothing was done.
     Clean,
 }
 
@@ -33,7 +33,11 @@ fn before_first_marked(list: &NodeList) -> NodeRef
     unreachable!()
 }
 
-/// Unlinks the first marked node.
+/// Unlinks the first marked node, and nothing else, or answers that no node is marked.
+///
+/// `Clean` exactly where none is, which is known at once; the list is then as it was. The content and the
+/// spares that are out stay as they were. Takes no memory. The walk to the first marked node is the whole
+/// cost.
 pub fn sweep(list: &mut NodeList) -> SweepOutcome
     ensures clean { (result ≡ SweepOutcome.Clean) ↔ AllByRecursion (λ n. n.marked ≡ false) list.old.nodes }
     ensures sweeps { Sweeps list.old list.new result }

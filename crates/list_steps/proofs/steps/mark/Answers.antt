@@ -1,5 +1,5 @@
 use Rattle.std.proofs.Common.{sym}
-use Rattle.list_steps.proofs.NodeLemmas.{found_linked}
+use Rattle.node_list.proofs.NodesLemmas.{found_linked}
 use Rattle.list_steps.proofs.StepLemmas.{regular_at, marks}
 use Rattle.list_steps.proofs.steps.mark.Goals as goal
 

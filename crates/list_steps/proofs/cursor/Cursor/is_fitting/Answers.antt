@@ -1,5 +1,5 @@
 use Rattle.std.proofs.Common.{sym, ◌∙◌}
-use Rattle.list_steps.proofs.NodeLemmas.{found_linked}
+use Rattle.node_list.proofs.NodesLemmas.{found_linked}
 use Rattle.list_steps.proofs.CursorLemmas.{fits_then, fits_else, fits_none}
 use Rattle.list_steps.proofs.cursor.Cursor.is_fitting.Goals as goal
 
