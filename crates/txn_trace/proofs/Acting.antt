@@ -104,7 +104,7 @@ module _ (stripes : ℕ) (g : List Entry) (legal : IsLegal stripes g) (c t : ℕ
 
   pub did_legal : IsLegal stripes (g ++ Did c x ∷ [])
   did_legal = legal_push stripes g (Did c x) legal shaped refl
-      (replies-push_other stripes g (Did c x) t legal.shape legal.locks (shape_push g (Did c x) legal.shape shaped) (locks_push stripes g (Did c x) legal.locks refl) shaped refl in_t
+      (replies-push_other g (Did c x) t legal.shape (shape_push g (Did c x) legal.shape shaped) shaped refl in_t
       (legal.replies g ([], append-nil g)) (ap is_some goes))
 
   changed : map_after (serial g) (of t g ++ Did c x ∷ []) ≡ after run.last op

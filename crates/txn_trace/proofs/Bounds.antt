@@ -93,10 +93,10 @@ module _ (stripes : ℕ) (g : List Entry) (legal : IsLegal stripes g) (c t : ℕ
   gone u goes same = false≢true (sym goes ∙ ap (λ x. ended x (g ++ Aborted c ∷ [])) same ∙ ended_in g (Aborted c) (callers_of g legal.shape) shaped t at)
 
   serial_same : serial (g ++ Aborted c ∷ []) ≡ serial g
-  serial_same = serial_is stripes g (Aborted c) t legal.shape legal.locks (shape_push g (Aborted c) legal.shape shaped) (locks_push stripes g (Aborted c) legal.locks refl) shaped refl at
+  serial_same = serial_is g (Aborted c) t legal.shape (shape_push g (Aborted c) legal.shape shaped) shaped refl at
 
   stay : (u : ℕ) → u ≢ t → of u (g ++ Aborted c ∷ []) ≡ of u g
-  stay u away = entries_stay stripes g (Aborted c) t legal.shape legal.locks (shape_push g (Aborted c) legal.shape shaped) (locks_push stripes g (Aborted c) legal.locks refl) shaped refl at u away
+  stay u away = entries_stay g (Aborted c) t legal.shape (shape_push g (Aborted c) legal.shape shaped) shaped refl at u away
 
   free_after : (k : ℕ) → ((u : ℕ) → ended u g ≡ false → u ≢ t → keys_in stripes (of u g) k ≡ false) → now_at (g ++ Aborted c ∷ []) k ≡ get (serial g) k
   free_after k free = now_at-free stripes (g ++ Aborted c ∷ []) k (λ u goes.

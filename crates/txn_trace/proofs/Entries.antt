@@ -103,13 +103,13 @@ began stripes g legal c t seat seat_is closed numbered =
     let locks_after = locks_push stripes g e legal.locks refl in
     record {
       legal = legal_push stripes g e legal shaped refl
-          (replies-push_other stripes g e t legal.shape legal.locks shape_after locks_after shaped refl at (legal.replies g ([], append-nil g))
+          (replies-push_other g e t legal.shape shape_after shaped refl at (legal.replies g ([], append-nil g))
           (ap (λ es. is_some (alone (serial g) (es ++ e ∷ []))) none));
       seat_is = next_seat stripes g legal e seat next seat_is goes number;
       other_seats = λ d other. seat-other d g e other;
       log_is = next_log stripes g legal e seat next seat_is goes number;
       other_logs = λ d other. log_of-other d g e other;
-      serial_is = serial_is stripes g e t legal.shape legal.locks shape_after locks_after shaped refl at;
+      serial_is = serial_is g e t legal.shape shape_after shaped refl at;
       now_is = now-began stripes g legal c t shaped at;
       holder_is = λ s. holder_of-other stripes g e callers shaped legal.shape legal.locks s refl refl;
     }

@@ -22,4 +22,7 @@ pub mod Entries
 pub mod Bounds
 pub mod Erasing
 pub mod Erased
+pub mod Order
+pub mod Sums
+pub mod Room
 pub mod Cases

@@ -165,12 +165,12 @@ module _ (stripes : ℕ) (g : List Entry) (legal : IsLegal stripes g) (e : Entry
     -- An entry that commits nothing is legal where the run goes on.
     pub legal_next : (r : Run) → act run e ≡ Some r → is_began e ≡ false → is_commit e ≡ false → is_locked stripes g e ≡ true → IsLegal stripes (g ++ e ∷ [])
     legal_next r acts began commit locked = legal_push stripes g e legal shaped_by_row locked
-        (replies-push_other stripes g e txn legal.shape legal.locks shape_next (locks_push stripes g e legal.locks locked) shaped_by_row commit (at_txn began)
+        (replies-push_other g e txn legal.shape shape_next shaped_by_row commit (at_txn began)
         (legal.replies g ([], append-nil g)) (ap is_some (run_next r acts)))
 
     -- It leaves the committed map.
     pub serial_next : is_began e ≡ false → is_commit e ≡ false → is_locked stripes g e ≡ true → serial (g ++ e ∷ []) ≡ serial g
-    serial_next began commit locked = serial_is stripes g e txn legal.shape legal.locks shape_next (locks_push stripes g e legal.locks locked) shaped_by_row commit (at_txn began)
+    serial_next began commit locked = serial_is g e txn legal.shape shape_next shaped_by_row commit (at_txn began)
 
     -- A quiet entry leaves both maps and the log.
     pub quiet_next : (holder : ℕ → Option ℕ) → is_quiet e ≡ true → is_locked stripes g e ≡ true → ((s : ℕ) → holder_of stripes s (g ++ e ∷ []) ≡ holder s)

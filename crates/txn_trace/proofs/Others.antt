@@ -21,10 +21,11 @@ use Rattle.txn_trace.proofs.Stripes.{keys_in, are_apart}
 use Rattle.txn_trace.proofs.Now.{IsRunning, running_of, now_at-mine, now_at-holder, holder_or_none, open_going, going_open}
 use Rattle.txn_trace.proofs.Table.{get-now}
 
-module _ (stripes : ℕ) (g : List Entry) (e : Entry) (t : ℕ) (shape : IsShaped g) (locks : LocksHold stripes g) (shape_after : IsShaped (g ++ e ∷ [])) (locks_after : LocksHold stripes (g ++ e ∷ [])) (shaped : is_shaped g e ≡ true) (other : is_commit e ≡ false) (at : txn_at g e ≡ Some t) where
+module _ (g : List Entry) (e : Entry) (t : ℕ) (shape : IsShaped g) (shape_after : IsShaped (g ++ e ∷ [])) (shaped : is_shaped g e ≡ true) (other : is_commit e ≡ false) (at : txn_at g e ≡ Some t) where
   callers : Callers g
   callers = callers_of g shape
 
+  -- the committed map stays
   pub serial_is : serial (g ++ e ∷ []) ≡ serial g
   serial_is = serial-push_other g e callers shape shaped shape_after other
 
@@ -44,30 +45,40 @@ module _ (stripes : ℕ) (g : List Entry) (e : Entry) (t : ℕ) (shape : IsShape
         (hold u (open_going u g (not_ended_before g e callers shaped u (going_open u (g ++ e ∷ []) is_open_after))))
   ])
 
+module _ (stripes : ℕ) (g : List Entry) (e : Entry) (t : ℕ) (shape : IsShaped g) (locks : LocksHold stripes g) (shape_after : IsShaped (g ++ e ∷ [])) (locks_after : LocksHold stripes (g ++ e ∷ [])) (shaped : is_shaped g e ≡ true) (other : is_commit e ≡ false) (at : txn_at g e ≡ Some t) where
+  same_committed : serial (g ++ e ∷ []) ≡ serial g
+  same_committed = serial_is g e t shape shape_after shaped other at
+
+  stay : (u : ℕ) → u ≢ t → of u (g ++ e ∷ []) ≡ of u g
+  stay u away = entries_stay g e t shape shape_after shaped other at u away
+
+  here_callers : Callers g
+  here_callers = callers_of g shape
+
   -- a key of another's stripe stays
   pub now_at-push_else : (k w : ℕ) → IsRunning g w → w ≢ t → keys_in stripes (of w g) k ≡ true → now_at (g ++ e ∷ []) k ≡ now_at g k
   now_at-push_else k w running away held =
       now_at-holder stripes (g ++ e ∷ []) k (are_apart stripes (g ++ e ∷ []) shape_after locks_after) w
-      (record { began = subst (λ ts. list_any (λ x. x == w) ts ≡ true) (sym (txns_of-push is_began g e)) (any-append_left (λ x. x == w) (txns_of is_began g) _ running.began); going = ap (ends_in is_end) (entries_stay w away) ∙ running.going })
-      (ap (λ es. keys_in stripes es k) (entries_stay w away) ∙ held)
-      ∙ ap (λ m. get (map_after m (of w (g ++ e ∷ []))) k) serial_is
-      ∙ ap (λ es. get (map_after (serial g) es) k) (entries_stay w away)
+      (record { began = subst (λ ts. list_any (λ x. x == w) ts ≡ true) (sym (txns_of-push is_began g e)) (any-append_left (λ x. x == w) (txns_of is_began g) _ running.began); going = ap (ends_in is_end) (stay w away) ∙ running.going })
+      (ap (λ es. keys_in stripes es k) (stay w away) ∙ held)
+      ∙ ap (λ m. get (map_after m (of w (g ++ e ∷ []))) k) same_committed
+      ∙ ap (λ es. get (map_after (serial g) es) k) (stay w away)
       ∙ sym (now_at-holder stripes g k (are_apart stripes g shape locks) w running held)
 
   -- any other key is as in the transaction's last map
   pub now_at-push_mine : (k : ℕ) → is_end e ≡ false → ((u : ℕ) → ended u g ≡ false → u ≢ t → keys_in stripes (of u g) k ≡ false) → now_at (g ++ e ∷ []) k ≡ get (map_after (serial g) (of t g ++ e ∷ [])) k
   now_at-push_mine k goes none =
       now_at-mine stripes (g ++ e ∷ []) k t
-      (running_of (g ++ e ∷ []) (caller_of e) t (ap (λ f. f (caller_of e)) (txn_in-push g e) ∙ at) (ended_in g e callers shaped t at ∙ goes))
-      (λ u goes_after away. ap (λ es. keys_in stripes es k) (entries_stay u away) ∙ none u (not_ended_before g e callers shaped u goes_after) away)
-      ∙ ap (λ m. get (map_after m (of t (g ++ e ∷ []))) k) serial_is
+      (running_of (g ++ e ∷ []) (caller_of e) t (ap (λ f. f (caller_of e)) (txn_in-push g e) ∙ at) (ended_in g e here_callers shaped t at ∙ goes))
+      (λ u goes_after away. ap (λ es. keys_in stripes es k) (stay u away) ∙ none u (not_ended_before g e here_callers shaped u goes_after) away)
+      ∙ ap (λ m. get (map_after m (of t (g ++ e ∷ []))) k) same_committed
       ∙ ap (λ es. get (map_after (serial g) es) k) (of-push_in t g e at)
 
   -- the map changes just as the last map of the transaction does
   pub now_at-push : (k : ℕ) → is_end e ≡ false → IsRunning g t
       → ((now_at (g ++ e ∷ []) k ≡ now_at g k) × (keys_in stripes (of t g) k ≡ false))
       ⊎ ((now_at (g ++ e ∷ []) k ≡ get (map_after (serial g) (of t g ++ e ∷ [])) k) × (now_at g k ≡ get (map_after (serial g) (of t g)) k))
-  now_at-push k goes running = elim (holder_or_none stripes g k callers) [
+  now_at-push k goes running = elim (holder_or_none stripes g k here_callers) [
     | inl w ↦ elim (cases_eq w.txn t) [
       | inl same ↦
           let none : (u : ℕ) → ended u g ≡ false → u ≢ t → keys_in stripes (of u g) k ≡ false =

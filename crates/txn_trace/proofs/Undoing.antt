@@ -49,7 +49,7 @@ module _ (stripes : ℕ) (g : List Entry) (legal : IsLegal stripes g) (c t : ℕ
 
   pub undone_legal : IsLegal stripes (g ++ Undone c ∷ [])
   undone_legal = legal_push stripes g (Undone c) legal shaped refl
-      (replies-push_other stripes g (Undone c) t legal.shape legal.locks (shape_push g (Undone c) legal.shape shaped) (locks_push stripes g (Undone c) legal.locks refl) shaped refl in_t
+      (replies-push_other g (Undone c) t legal.shape (shape_push g (Undone c) legal.shape shaped) shaped refl in_t
       (legal.replies g ([], append-nil g)) (ap is_some goes))
 
   before : map_after (serial g) (of t g) ≡ run.last

@@ -1,7 +1,6 @@
 -- Legal histories, and the judge of any history.
-use Rattle.std.specs.Prelude.{ℕ, ◌+◌, Bool, true, false, not, Option, Some, None, is_some, List, [], ◌∷◌, ◌++◌, map, length, nat_eq, if◌then◌else◌}
-use Rattle.std.specs.List.{filter, list_all}
-use Rattle.std.specs.Set.{unique_keys}
+use Rattle.std.specs.Prelude.{ℕ, ◌+◌, Bool, true, false, not, Option, Some, None, is_some, List, [], ◌∷◌, ◌++◌, length, max, if◌then◌else◌}
+use Rattle.std.specs.List.{filter, fold, list_all, range_with_len}
 use Rattle.txn_trace.specs.declared.entry.Entry.{Entry}
 use Rattle.txn_trace.specs.History.{caller_of, is_commit, of, open_txns}
 use Rattle.txn_trace.specs.Alone.{alone}
@@ -45,9 +44,13 @@ abbrev pub is_running : Option Seat → Bool
 is_running None = false
 is_running (Some s) = runs s.phase
 
--- The callers that are not closed, each once.
-abbrev pub running : List Entry → List ℕ
-running h = filter (λ c. is_running (seat_after (own c h))) (unique_keys nat_eq (map caller_of h))
+-- One more than the greatest caller of a history.
+abbrev pub callers_in : List Entry → ℕ
+callers_in h = fold (λ n e. max n (caller_of e + 1)) 0 h
+
+-- Of so many callers, numbered from 0, those that are not closed.
+abbrev pub running : ℕ → List Entry → List ℕ
+running callers h = filter (λ c. is_running (seat_after (own c h))) (range_with_len 0 callers)
 
 -- A verdict is Legal with the numbers of commits and of callers that are not closed, or Illegal with the first bad entry and its rule.
 pub data Verdict : Type 0 where
@@ -57,6 +60,6 @@ pub data Verdict : Type 0 where
 -- The verdict on a history.
 abbrev pub verdict : ℕ → List Entry → Verdict
 verdict stripes h = elim (first_bad stripes [] h 0) [
-  | None ↦ Legal (how_many is_commit h) (length (running h))
+  | None ↦ Legal (how_many is_commit h) (length (running (callers_in h) h))
   | Some bad ↦ Illegal bad.0 bad.1
 ]
