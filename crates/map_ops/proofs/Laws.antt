@@ -1,9 +1,10 @@
 -- What layers above rest on.
-use Rattle.std.proofs.Common.{◌≡◌, ◌≢◌, ℕ, ◌<◌, ◌-◌, ◌^◌, true, cond, Option, Some, None, refl, sym, ap, ◌∙◌}
+use Rattle.std.proofs.Common.{◌≡◌, ◌≢◌, ℕ, ◌<◌, ◌-◌, ◌^◌, true, cond, Option, Some, None, [], refl, sym, ap, ◌∙◌}
 use Rattle.std.proofs.lemmas.Bool.{eq-eqb}
 use Rattle.node_list.specs.Nodes.{SpareAt, out_at}
 use Rattle.list_steps.specs.declared.cursor.Cursor.{Cursor}
 use Rattle.list_steps.proofs.CursorLemmas as cursors
+use Rattle.bucket_table.specs.Directory.{Directory}
 use Rattle.txn_trace.specs.Map.{Map, get}
 use Rattle.txn_trace.specs.Now.{set_at}
 use Rattle.txn_trace.proofs.Table.{get-set_at}
@@ -40,3 +41,7 @@ get-set_at-here m k value = get-set_at m k value k ∙ ap (λ b. cond b value (g
 pub shows_before : (old new : TableAt) (job : MapJob) → TakesBack old new job → ShowsBefore job new
 shows_before old new job back =
     ap (λ m. get m (key_of_job job)) back.content_is ∙ get-set_at-here (content old) (key_of_job job) (value_before job)
+
+-- Some buckets, for what holds with any.
+abbrev pub no_buckets : Directory
+no_buckets = record { size = 0; entries = []; helpers = [] }

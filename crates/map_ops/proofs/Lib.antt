@@ -1,1 +1,7 @@
 pub mod Laws
+pub mod ContentLemmas
+pub mod ThereLemmas
+pub mod BelongLemmas
+pub mod ChangeLemmas
+pub mod DoesLemmas
+pub mod PlanLemmas

@@ -4,3 +4,4 @@ pub mod Plans
 pub mod Changes
 pub mod Buckets
 pub mod Sound
+pub mod Steps

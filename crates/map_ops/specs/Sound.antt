@@ -15,8 +15,12 @@ IsEvenDummy n = n.kind ≡ Dummy → n.split % 2 ≡ 0
 abbrev pub AllEven : List NodeAt → Type 0
 AllEven nodes = AllByRecursion IsEvenDummy nodes
 
--- the buckets are the list's, and each node stands where its key or its bucket belongs
+-- each node stands where its key belongs, or where no key does
+pub record Belong (nodes : List NodeAt) : Type 0 where
+  pub keyed : IsKeyed nodes
+  pub even : AllEven nodes
+
+-- the buckets are the list's, and each node stands where it belongs
 pub record IsSound (list : Listing) (buckets : Directory) : Type 0 where
   pub home : IsHome buckets list
-  pub keyed : IsKeyed list.nodes
-  pub even : AllEven list.nodes
+  pub belong : Belong list.nodes

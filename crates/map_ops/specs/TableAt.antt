@@ -18,6 +18,10 @@ pub record TableAt : Type 0 where
   pub list : Listing
   pub buckets : Directory
 
+-- the table of a list and of buckets
+abbrev pub table_of : Listing → Directory → TableAt
+table_of list buckets = record { list = list; buckets = buckets }
+
 -- the map of these pairs
 abbrev pub map_of : List (ℕ × ℕ) → Map
 map_of rows = fold (λ m pair. insert m pair.0 pair.1) empty rows

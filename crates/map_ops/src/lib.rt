@@ -2,6 +2,7 @@
 #![tactic(auto)]
 
 mod act;
+mod change;
 mod job;
 mod pending;
 mod table;

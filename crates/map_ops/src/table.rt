@@ -7,10 +7,11 @@ ghost use Rattle.txn_trace.specs.Map.{count_of, key_of};
 ghost use Rattle.txn_trace.specs.Ordered.{ordered};
 
 use crate::act::{Act, Undo};
+use crate::change::{change, find, give_up, give_up_job, plan, restore, seek_key};
 use crate::job::MapJob;
-use crate::pending::{Pending, Plan};
+use crate::pending::Pending;
 use bucket_table::{Buckets, Double, InitLink, InitRefusal, InitSeek};
-use list_steps::{Cursor, SweepOutcome};
+use list_steps::{Again, Cursor, SweepOutcome};
 use node_list::NodeList;
 use std::alloc::{AllocError, Global};
 use std::collections::BTreeMap;
@@ -58,8 +59,9 @@ impl Table {
         ensures unchanged { OnErr result (self.new ≡ self.old) }
         ensures follows { Follows self.old self.new }
     {
-        let _ = oracle();
-        unreachable!()
+        let _turn = self.list.turn();
+        let plan = plan(&mut self.list, op)?;
+        Ok(Pending::new(plan))
     }
 
     /// Seeks the key of an operation.
@@ -67,8 +69,7 @@ impl Table {
         ensures places { Places self.old self.new (key_of pending.now.op) result }
         ensures follows { Follows self.old self.new }
     {
-        let _ = oracle();
-        unreachable!()
+        seek_key(&mut self.list, &self.buckets, pending.key())
     }
 
     /// Does an operation at a cursor.
@@ -78,8 +79,13 @@ impl Table {
         ensures acts { Acts self.old self.new pending cursor result }
         ensures follows { Follows self.old self.new }
     {
-        let _ = oracle();
-        unreachable!()
+        match find(&self.list, &cursor, pending.key()) {
+            Ok(before) => {
+                let job = change(&mut self.list, pending.into_plan(), cursor, before);
+                Act::Acted(before, job)
+            }
+            Err(Again) => Act::Again(pending),
+        }
     }
 
     /// Gives up an operation that is not done.
@@ -88,8 +94,7 @@ impl Table {
         ensures back { GivesBack self.old self.new pending.spare }
         ensures follows { Follows self.old self.new }
     {
-        let _ = oracle();
-        unreachable!()
+        give_up(&mut self.list, pending.into_plan());
     }
 
     /// Seeks the key of a job.
@@ -97,8 +102,7 @@ impl Table {
         ensures places { Places self.old self.new (key_of_job job.now) result }
         ensures follows { Follows self.old self.new }
     {
-        let _ = oracle();
-        unreachable!()
+        seek_key(&mut self.list, &self.buckets, job.key())
     }
 
     /// Takes a change back at a cursor.
@@ -109,8 +113,13 @@ impl Table {
         ensures undoes { Undoes self.old self.new job cursor result }
         ensures follows { Follows self.old self.new }
     {
-        let _ = oracle();
-        unreachable!()
+        match find(&self.list, &cursor, job.key()) {
+            Ok(_) => {
+                restore(&mut self.list, job, cursor);
+                Undo::Undone
+            }
+            Err(Again) => Undo::Again(job),
+        }
     }
 
     /// Gives up a job whose change is to stay.
@@ -119,8 +128,7 @@ impl Table {
         ensures back { GivesBack self.old self.new (spare_of_job job) }
         ensures follows { Follows self.old self.new }
     {
-        let _ = oracle();
-        unreachable!()
+        give_up_job(&mut self.list, job);
     }
 
     /// Does an operation at once.
@@ -130,8 +138,12 @@ impl Table {
         ensures unchanged { OnErr result (self.new ≡ self.old) }
         ensures follows { Follows self.old self.new }
     {
-        let _ = oracle();
-        unreachable!()
+        let pending = self.prepare(op)?;
+        let cursor = self.place(&pending);
+        match self.act(pending, cursor) {
+            Act::Acted(reply, job) => Ok((reply, job)),
+            Act::Again(_) => unreachable!(),
+        }
     }
 
     /// Takes a change back at once.
@@ -141,8 +153,11 @@ impl Table {
         ensures back { TakesBack self.old self.new job }
         ensures follows { Follows self.old self.new }
     {
-        let _ = oracle();
-        unreachable!()
+        let cursor = self.place_job(&job);
+        match self.undo(job, cursor) {
+            Undo::Undone => {}
+            Undo::Again(_) => unreachable!(),
+        }
     }
 
     /// The keys with their values.
@@ -168,16 +183,15 @@ impl Table {
         ensures ordered { regular self.now ≡ ordered (content self.now) }
         ensures rising { IsRising self.now.list.nodes }
     {
-        let _ = oracle();
-        unreachable!()
+        let _turn = self.list.turn();
+        self.buckets.size()
     }
 
     /// The change number.
     pub fn turn(&self) -> u64
         ensures { result ≡ turn_of self.now }
     {
-        let _ = oracle();
-        unreachable!()
+        self.list.turn()
     }
 
     /// How many keys there are.
@@ -185,8 +199,8 @@ impl Table {
         ensures count { result ≡ count_of (content self.now) }
         ensures length { result ≡ length (regular self.now) }
     {
-        let _ = oracle();
-        unreachable!()
+        let _turn = self.list.turn();
+        self.list.count()
     }
 
     /// Unlinks the first marked node.
