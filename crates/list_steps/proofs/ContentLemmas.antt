@@ -1,13 +1,14 @@
 -- What steps do to the content.
-use Rattle.std.proofs.Common.{◌≡◌, ℕ, ◌<◌, ◌≤◌, ◌⊎◌, inl, inr, List, [], ◌∷◌, ◌++◌, Bool, true, false, Some, arith, subst, ◌+◌, length, refl, sym, ◌∙◌, ap, append_assoc}
+use Rattle.std.proofs.Common.{◌≡◌, ℕ, inl, inr, List, [], ◌∷◌, ◌++◌, Bool, true, false, Some, arith, subst, refl, sym, ◌∙◌, ap, append_assoc}
 use Rattle.std.proofs.lemmas.Bool.{cases_lt}
 use Rattle.std.specs.Prelude.{Contains}
+use Rattle.std.specs.List.{AllByRecursion}
 use Rattle.std.proofs.lemmas.List.Elements.{Contains-append_right}
 use Rattle.node_list.specs.declared.node.Kind.{Kind}
 use Rattle.node_list.specs.declared.node.Kind.TheVariants.{Dummy, Regular}
-use Rattle.node_list.specs.Nodes.{NodeAt, IsBeforeMarked, linked_after, marked_at, written_at, unlinked_after, changed_at, node_of, next_of, without_first}
+use Rattle.node_list.specs.Nodes.{NodeAt, IsBeforeMarked, linked_after, marked_at, written_at, unlinked_after, changed_at, node_of, without_first}
 use Rattle.list_steps.specs.Content.{pair_if, pair_of, pairs, Replaces}
-use Rattle.list_steps.specs.Seek.{IsBelow, IsStart, cleaned, sought}
+use Rattle.list_steps.specs.Seek.{IsStart, cleaned, sought}
 use Rattle.list_steps.proofs.NodeLemmas.{IsAt, found_at, next_from, linked_at, changed_is, unlinked_at, next_at, first_is}
 use Rattle.list_steps.proofs.SeekLemmas.{cleaned_marked, cleaned_passed, cleaned_stopped, sought_at}
 
@@ -145,3 +146,14 @@ pairs_sought nodes from split start =
     ap pairs (sought_at nodes from start.node at split)
     ∙ pairs_same_rest at.front start.node (cleaned split at.rest) at.rest (pairs_cleaned split at.rest)
     ∙ sym (ap pairs at.is)
+
+-- what holds of each regular, unmarked node holds of each pair
+pub each_pair : (P : NodeAt → Type 0) (Q : ℕ → ℕ → Type 0) → ((n : NodeAt) (key : ℕ) → n.kind ≡ Regular key → n.marked ≡ false → P n → Q key n.value) → (nodes : List NodeAt) → AllByRecursion P nodes → AllByRecursion (λ pair. Q pair.0 pair.1) (pairs nodes)
+unfolding pairs
+each_pair P Q holds [] each = tt
+each_pair P Q holds (n ∷ rest) each = go n.kind n.marked refl refl (each_pair P Q holds rest each.1)
+  where
+    go : (k : Kind) (b : Bool) → n.kind ≡ k → n.marked ≡ b → AllByRecursion (λ pair. Q pair.0 pair.1) (pairs rest) → AllByRecursion (λ pair. Q pair.0 pair.1) (pair_if k b n.value ++ pairs rest)
+    go Dummy b kind marked later = later
+    go (Regular key) true kind marked later = later
+    go (Regular key) false kind marked later = (holds n key kind marked each.0, later)

@@ -1,14 +1,14 @@
 -- Cursors that fit, and cursors that were placed.
-use Rattle.std.proofs.Common.{◌≡◌, ◌≢◌, ℕ, ◌+◌, ◌-◌, ◌<◌, ◌≤◌, ◌^◌, min, ◌⊎◌, inl, inr, List, Option, Some, None, Bool, true, false, refl, sym, ◌∙◌, ap, subst, arith, ◌==◌, ◌&&◌, not}
+use Rattle.std.proofs.Common.{◌≡◌, ℕ, ◌<◌, ◌≤◌, inl, inr, List, Option, Some, None, Bool, true, false, refl, sym, ◌∙◌, ap, subst, arith, ◌==◌, ◌&&◌, not}
 use Rattle.std.proofs.lemmas.Bool.Decides.{eqb_tells}
 use Rattle.std.proofs.lemmas.Bool.{cases_order}
-use Rattle.node_list.specs.Nodes.{NodeAt, Listing, IsLinked, node_of, next_of, place_of, out_at}
+use Rattle.node_list.specs.Nodes.{NodeAt, Listing, IsLinked, node_of, next_of, place_of}
 use Rattle.node_list.specs.Order.{IsSpread}
 use Rattle.node_list.specs.Follow.{Follows}
-use Rattle.node_list.specs.Sound.{IsSound, IsStamped}
+use Rattle.node_list.specs.Sound.{IsSound}
 use Rattle.list_steps.specs.declared.cursor.Cursor.{Cursor}
 use Rattle.list_steps.specs.declared.cursor.Noted.{Noted}
-use Rattle.list_steps.specs.Found.{behind, fits, is_noted, is_next_noted, noted, node_there, pred_of, split_of, turn_of, with_split, IsBeyond, IsFound, IsPlaced, IsRoomFor}
+use Rattle.list_steps.specs.Found.{behind, fits, is_noted, is_next_noted, noted, node_there, pred_of, split_of, turn_of, with_split, IsBeyond, IsFound, IsPlaced}
 use Rattle.list_steps.specs.Seek.{IsPred}
 use Rattle.node_list.proofs.OrderLemmas.{some-injective, some-none}
 use Rattle.node_list.proofs.NodesLemmas.{found_linked, linked_found, next_found}

@@ -1,11 +1,11 @@
 -- The place of a split key in a list in order.
-use Rattle.std.proofs.Common.{◌≡◌, ◌≢◌, ℕ, ◌<◌, ◌≤◌, List, [], ◌∷◌, ◌++◌, Option, Some, None, refl, sym, ◌∙◌, subst, arith}
+use Rattle.std.proofs.Common.{◌≡◌, ◌≢◌, ℕ, ◌<◌, List, [], ◌∷◌, ◌++◌, Some, refl, sym, ◌∙◌, subst, arith}
 use Rattle.std.specs.List.{AllByRecursion}
 use Rattle.node_list.specs.Nodes.{NodeAt, node_of, next_of, first}
 use Rattle.node_list.specs.Order.{IsBefore, IsRising}
 use Rattle.node_list.proofs.OrderLemmas.{split-before}
 use Rattle.list_steps.specs.Seek.{IsBelow}
-use Rattle.list_steps.proofs.NodeLemmas.{IsAt, found_at, next_at}
+use Rattle.list_steps.proofs.NodeLemmas.{found_at, next_at}
 
 -- what is before all that follow it is before one that does
 pub before_later : (k n : NodeAt) (front rest : List NodeAt) → AllByRecursion (IsBefore k) (front ++ n ∷ rest) → IsBefore k n

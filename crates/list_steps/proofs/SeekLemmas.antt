@@ -1,14 +1,16 @@
 -- What is left of a seek at each node.
-use Rattle.std.proofs.Common.{◌≡◌, ◌≢◌, ℕ, ◌+◌, ◌<◌, ◌≤◌, List, [], ◌∷◌, ◌++◌, Option, Some, None, Bool, true, false, length, refl, sym, ◌∙◌, ap, subst, arith, if◌then◌else◌, ◌==◌, nat_lt, append_assoc}
-use Rattle.std.proofs.lemmas.Bool.Decides.{nat_tests}
-use Rattle.node_list.specs.Nodes.{NodeAt, Listing, IsLinked, node_of, next_of, first, without_first, unlinked_after, Becomes}
+use Rattle.std.proofs.Common.{◌≡◌, ℕ, ◌<◌, ◌≤◌, inl, inr, List, [], ◌∷◌, ◌++◌, Option, Some, None, Bool, true, false, length, refl, sym, ◌∙◌, ap, subst, arith, if◌then◌else◌, ◌==◌, nat_lt, append_assoc}
+use Rattle.std.proofs.lemmas.Bool.{cases_lt}
+use Rattle.std.proofs.lemmas.Bool.Decides.{eqb_tells, nat_tests}
+use Rattle.std.specs.List.{AllByRecursion}
+use Rattle.node_list.specs.Nodes.{NodeAt, Listing, IsLinked, node_of, next_of, first, without_first, unlinked_after}
 use Rattle.node_list.specs.Order.{AbsentFrom, IsSpread}
 use Rattle.node_list.specs.Follow.{Follows}
 use Rattle.node_list.specs.declared.node.Kind.TheVariants.{Dummy}
 use Rattle.node_list.specs.Sound.{AllPlain}
 use Rattle.node_list.proofs.OrderLemmas.{each_found}
 use Rattle.list_steps.specs.Seek.{cleaned, sought, IsBelow, IsPred, IsStart, KeepsRest}
-use Rattle.list_steps.proofs.NodeLemmas.{IsAt, found_at, node_at, next_at, unlinked_at, at_unlinked, at_next, first_is, first_none, same_test, apart_test}
+use Rattle.list_steps.proofs.NodeLemmas.{IsAt, found_at, node_at, next_at, at_unlinked, at_next, first_is, first_none, same_test, apart_test}
 
 -- the nodes behind a place
 unfoldable pub nodes_behind : List NodeAt → ℕ → List NodeAt
@@ -116,17 +118,6 @@ module _ (nodes : List NodeAt) (place split : ℕ) (pred : IsPred nodes place sp
         next : IsAt nodes m.place m
         next = at_next nodes place pred.node pred_at m spread (first_rest (Some m) is)
 
-    pub behind_passed : IsSpread nodes → length (nodes_behind nodes m.place) < length (nodes_behind nodes place)
-    behind_passed spread =
-        omega (
-          arith,
-          ap length (behind_at nodes m.place m next),
-          ap length (behind_at nodes place pred.node pred_at ∙ rest_is),
-        )
-      where
-        next : IsAt nodes m.place m
-        next = at_next nodes place pred.node pred_at m spread (first_rest (Some m) is)
-
     -- a marked node is unlinked
     pub sought_unlinked : m.marked ≡ true → sought (unlinked_after nodes place) place split ≡ sought nodes place split
     sought_unlinked marked =
@@ -134,14 +125,6 @@ module _ (nodes : List NodeAt) (place split : ℕ) (pred : IsPred nodes place sp
         ∙ ap (λ ns. pred_at.front ++ pred.node ∷ ns)
         (sym (ap (cleaned split) rest_is ∙ cleaned_marked m (without_first pred_at.rest) split marked))
         ∙ sym (sought_at nodes place pred.node pred_at split)
-
-    pub behind_unlinked : length (nodes_behind (unlinked_after nodes place) place) < length (nodes_behind nodes place)
-    behind_unlinked =
-        omega (
-          arith,
-          ap length (behind_at (unlinked_after nodes place) place pred.node (at_unlinked nodes place pred.node pred_at)),
-          ap length (behind_at nodes place pred.node pred_at ∙ rest_is),
-        )
 
   -- the node at the place stays
   pub pred_unlinked : IsPred (unlinked_after nodes place) place split
@@ -175,3 +158,26 @@ module _ (nodes : List NodeAt) (place : ℕ) (n m : NodeAt) (is : node_of nodes 
         ap length (behind_at (unlinked_after nodes place) place n (at_unlinked nodes place n at)),
         ap length behind_first,
       )
+
+-- what holds of each node holds of each that a seek leaves
+pub each_cleaned : (P : NodeAt → Type 0) (split : ℕ) (nodes : List NodeAt) → AllByRecursion P nodes → AllByRecursion P (cleaned split nodes)
+each_cleaned P split [] each = let Each : List NodeAt → Type 0 = λ ns. AllByRecursion P ns in subst Each (sym (cleaned_nil split)) tt
+each_cleaned P split (n ∷ rest) each = go n.marked refl (each_cleaned P split rest each.1)
+  where
+    Each : List NodeAt → Type 0
+    Each ns = AllByRecursion P ns
+
+    go : (b : Bool) → n.marked ≡ b → AllByRecursion P (cleaned split rest) → AllByRecursion P (cleaned split (n ∷ rest))
+    go true marked later = subst Each (sym (cleaned_marked n rest split marked)) later
+    go false unmarked later = elim (cases_lt n.split split) [
+      | inl less ↦ subst Each (sym (cleaned_passed n rest split unmarked less)) (each.0, later)
+      | inr more ↦ subst Each (sym (cleaned_stopped n rest split unmarked more)) each
+    ]
+
+pub each_sought : (P : NodeAt → Type 0) (nodes : List NodeAt) (from split : ℕ) → AllByRecursion P nodes → AllByRecursion P (sought nodes from split)
+unfolding sought
+each_sought P [] from split each = tt
+each_sought P (n ∷ rest) from split each = elim (eqb_tells n.place from) [
+  | inl here ↦ rw here.0 (each.0, each_cleaned P split rest each.1)
+  | inr apart ↦ rw apart.0 (each.0, each_sought P rest from split each.1)
+]

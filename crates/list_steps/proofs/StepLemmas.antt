@@ -1,20 +1,20 @@
 -- What each step does where its cursor fits.
-use Rattle.std.proofs.Common.{◌≡◌, ◌≢◌, ℕ, ◌<◌, ◌≤◌, List, [], ◌∷◌, Option, Some, None, Bool, true, false, refl, sym, ◌∙◌, ap, subst, arith}
+use Rattle.std.proofs.Common.{◌≡◌, ℕ, ◌<◌, List, [], ◌∷◌, Option, Some, None, true, refl, sym, ◌∙◌, ap, subst, arith}
 use Rattle.std.specs.Prelude.{IsSomeAnd, IsTrue}
 use Rattle.node_list.specs.declared.node.Kind.{Kind}
 use Rattle.node_list.specs.declared.node.Kind.TheVariants.{Dummy, Regular}
-use Rattle.node_list.specs.Nodes.{NodeAt, Listing, Becomes, Takes, IsLinked, IsRegularAt, node_of, is_regular, place_of, linked_after, marked_at, written_at}
+use Rattle.node_list.specs.Nodes.{NodeAt, Listing, Becomes, Takes, IsRegularAt, node_of, is_regular, place_of, linked_after, marked_at, written_at}
 use Rattle.node_list.specs.Order.{IsRising, IsSpread}
 use Rattle.node_list.specs.Sound.{IsSound}
 use Rattle.list_steps.specs.declared.cursor.Cursor.{Cursor}
 use Rattle.list_steps.specs.Content.{pairs, pair_of, Replaces}
-use Rattle.list_steps.specs.Found.{fits, behind, node_there, pred_of, split_of, IsPlaced, IsKeyThere}
-use Rattle.list_steps.specs.Steps.{IsThere, IsAbsent, Finds, Links, Marks, Swaps}
+use Rattle.list_steps.specs.Found.{fits, node_there, pred_of, split_of, IsPlaced, IsKeyThere}
+use Rattle.list_steps.specs.Steps.{IsThere, Finds, Links, Marks, Swaps}
 use Rattle.node_list.proofs.OrderLemmas.{before-split, rising_linked, some-injective, some-none}
 use Rattle.list_steps.proofs.NodeLemmas.{found_at, linked_here}
 use Rattle.list_steps.proofs.OrderLemmas.{none_between}
 use Rattle.list_steps.proofs.ContentLemmas.{pairs_linked, pairs_marked, pairs_written, pairs_contain}
-use Rattle.list_steps.proofs.CursorLemmas.{There, there, above, low, fits_pred, fits_linked}
+use Rattle.list_steps.proofs.CursorLemmas.{there, above, low, fits_pred}
 
 module _ (l : Listing) (c : Cursor) (sound : IsSound l) (placed : IsPlaced l c) (fitting : fits l c ≡ true) where
   -- what a look finds

@@ -1,8 +1,8 @@
 -- What a sweep has passed at each node.
-use Rattle.std.proofs.Common.{◌≡◌, ◌≢◌, ℕ, ◌<◌, List, [], ◌∷◌, ◌++◌, Option, Some, None, Bool, true, false, refl, sym, ◌∙◌, ap, subst, arith, append_assoc}
+use Rattle.std.proofs.Common.{◌≡◌, ℕ, List, [], ◌∷◌, ◌++◌, Option, Some, None, true, false, refl, sym, ◌∙◌, ap, subst, arith, append_assoc, if◌then◌else◌}
 use Rattle.std.specs.List.{AllByRecursion}
 use Rattle.node_list.specs.declared.node.Kind.TheVariants.{Dummy}
-use Rattle.node_list.specs.Nodes.{NodeAt, Listing, node_of, next_of, first, without_first, unlinked_after}
+use Rattle.node_list.specs.Nodes.{NodeAt, Listing, next_of, first, without_first, unlinked_after}
 use Rattle.node_list.specs.Order.{IsBefore, IsRising, IsSpread}
 use Rattle.node_list.specs.Sound.{AllPlain, IsSound}
 use Rattle.list_steps.specs.Steps.{without_first_marked}
@@ -43,13 +43,6 @@ without_first_marked-append [] m rest passed marked = rw marked refl
 without_first_marked-append (n ∷ front) m rest passed marked =
     without_first_marked-cons n (front ++ m ∷ rest) passed.0
     ∙ ap (λ ns. n ∷ ns) (without_first_marked-append front m rest passed.1 marked)
-
-true-false : true ≡ false → ⊥
-true-false e = cc
-
-clean_next : (front : List NodeAt) (n m : NodeAt) (rest : List NodeAt) → m.marked ≡ true → IsClean (front ++ n ∷ (m ∷ rest)) → ⊥
-clean_next [] n m rest marked clean = true-false (sym marked ∙ clean.1.0)
-clean_next (k ∷ front) n m rest marked clean = clean_next front n m rest marked clean.1
 
 -- it begins at the first node
 pub sweeping_first : (l : Listing) → IsSound l → IsSweeping l.nodes l.head
@@ -97,9 +90,11 @@ module _ (nodes : List NodeAt) (place : ℕ) (sweeping : IsSweeping nodes place)
       let C : List NodeAt → Type 0 = IsClean in
       subst C (sym (sweeping.at.is ∙ ap (λ ns. sweeping.at.front ++ sweeping.node ∷ ns) nothing)) sweeping.passed
 
-  -- where one is marked, not all are unmarked
-  pub sweeping_not_clean : (m : NodeAt) → next_of nodes place ≡ Some m → m.marked ≡ true → IsClean nodes → ⊥
-  sweeping_not_clean m is marked clean =
-      let C : List NodeAt → Type 0 = IsClean in
-      let parts = sweeping.at.is ∙ ap (λ ns. sweeping.at.front ++ sweeping.node ∷ ns) (first_is sweeping.at.rest m (first_rest (Some m) is)) in
-      clean_next sweeping.at.front sweeping.node m (without_first sweeping.at.rest) marked (subst C parts clean)
+-- what holds of each node holds of each that a sweep leaves
+pub each_swept : (P : NodeAt → Type 0) (nodes : List NodeAt) → AllByRecursion P nodes → AllByRecursion P (without_first_marked nodes)
+unfolding without_first_marked
+each_swept P [] each = tt
+each_swept P (n ∷ rest) each = elim n.marked as (λ b. AllByRecursion P (if b then rest else n ∷ without_first_marked rest)) [
+  | true ↦ each.1
+  | false ↦ (each.0, each_swept P rest each.1)
+]

@@ -3,7 +3,7 @@ use Rattle.std.specs.Prelude.{◌≡◌, ◌≢◌, ℕ, ◌<◌, ◌≤◌, ◌
 use Rattle.node_list.specs.Nodes.{NodeAt, Listing, node_of, next_of, out_at, is_regular}
 use Rattle.list_steps.specs.declared.cursor.Cursor.{Cursor}
 use Rattle.list_steps.specs.declared.cursor.Noted.{Noted}
-use Rattle.list_steps.specs.Seek.{IsBelow}
+use Rattle.list_steps.specs.Seek.{IsBelow, IsNotBelow}
 
 -- the split key that was sought
 abbrev pub split_of : Cursor → ℕ
@@ -29,7 +29,7 @@ noted (Some n) = Some (record { place = n.place; stamp = n.stamp })
 -- the node, if there is one, is unmarked and not below the split key
 abbrev pub IsBeyond : Option NodeAt → ℕ → Type 0
 IsBeyond None split = Unit {0}
-IsBeyond (Some n) split = (n.marked ≡ false) × (split ≤ n.split)
+IsBeyond (Some n) split = (n.marked ≡ false) × IsNotBelow n split
 
 -- the cursor notes an unmarked node below its split key and the node behind that, which is
 -- unmarked and not below it
@@ -69,7 +69,7 @@ pub record IsPlaced (l : Listing) (c : Cursor) : Type 0 where
   pub below : (n : NodeAt) → node_of l.nodes (pred_of c) ≡ Some n → n.stamp ≡ c.pred.stamp → IsBelow n (split_of c)
   pub cur_known : (cur : Noted) → c.cur ≡ Some cur → cur.stamp ≤ l.last
   pub cur_apart : (cur : Noted) (place : ℕ) → c.cur ≡ Some cur → out_at l place ≢ Some cur.stamp
-  pub beyond : (m : NodeAt) (cur : Noted) → c.cur ≡ Some cur → node_of l.nodes cur.place ≡ Some m → m.stamp ≡ cur.stamp → split_of c ≤ m.split
+  pub beyond : (m : NodeAt) (cur : Noted) → c.cur ≡ Some cur → node_of l.nodes cur.place ≡ Some m → m.stamp ≡ cur.stamp → IsNotBelow m (split_of c)
   pub turn_known : min (turn_of c) (2 ^ 64 - 1) ≤ l.turn
   pub held : l.turn ≡ turn_of c → l.turn < 2 ^ 64 - 1 → fits l c ≡ true
 

@@ -1,5 +1,5 @@
 -- What a seek does to the nodes.
-use Rattle.std.specs.Prelude.{◌≡◌, ℕ, ◌<◌, ◌≤◌, List, [], ◌∷◌, Option, Some, Bool, false, ◌==◌, nat_lt, if◌then◌else◌}
+use Rattle.std.specs.Prelude.{◌≡◌, ℕ, ◌<◌, ◌≤◌, List, [], ◌∷◌, Some, Bool, false, ◌==◌, nat_lt, if◌then◌else◌}
 use Rattle.node_list.specs.declared.node.Kind.TheVariants.{Dummy}
 use Rattle.node_list.specs.Nodes.{NodeAt, Listing, node_of, out_at}
 
@@ -7,7 +7,11 @@ use Rattle.node_list.specs.Nodes.{NodeAt, Listing, node_of, out_at}
 abbrev pub IsBelow : NodeAt → ℕ → Type 0
 IsBelow n split = n.split < split
 
--- the same, as a test
+-- the node is at the place of the split key, or behind it
+abbrev pub IsNotBelow : NodeAt → ℕ → Type 0
+IsNotBelow n split = split ≤ n.split
+
+-- whether the node is before the place of the split key
 abbrev pub is_below : NodeAt → ℕ → Bool
 is_below n split = nat_lt n.split split
 

@@ -14,8 +14,8 @@ pub struct Noted {
 
 /// Where a split key belongs in a list, as a seek found it.
 ///
-/// It is plain data: the list may change while it is kept, and the step that is handed the cursor tests
-/// whether it still fits.
+/// It is plain data: the list may change while it is kept, and the step that is handed the cursor
+/// tests whether it still fits.
 #[derive(Clone, Copy, Debug, PartialEq, Eq)]
 pub struct Cursor {
     pub(crate) pred: Noted,
@@ -24,7 +24,7 @@ pub struct Cursor {
     pub(crate) turn: u64,
 }
 
-/// The cursor does not fit: the list is not as the cursor noted it, and nothing was changed. Seek again.
+/// The cursor does not fit: the list is not as it noted it. Nothing was changed; seek again.
 #[derive(Clone, Copy, Debug, PartialEq, Eq)]
 pub struct Again;
 
@@ -61,7 +61,7 @@ fn is_unmarked_with(node: &Node, stamp: u64) -> bool
 
 impl Cursor {
     ghost use Rattle.list_steps.specs.Seek.{IsPred};
-    ghost use Rattle.list_steps.specs.Found.{IsBeyond, IsFound, IsPlaced, fits, split_of, behind, is_next_noted};
+    ghost use Rattle.list_steps.specs.Found.{IsBeyond, IsFound, IsPlaced, behind, fits, is_next_noted, pred_of, split_of};
 
     // The cursor of a split key, which belongs behind this place.
     pub(crate) fn behind(list: &NodeList, place: NodeRef, split: u64) -> Cursor
@@ -82,7 +82,7 @@ impl Cursor {
 
     // Whether the node behind the first one is what was noted, and unmarked.
     fn is_next_fitting(&self, list: &NodeList) -> bool
-        requires { IsLinked list.now.nodes self.now.pred.place }
+        requires { IsLinked list.now.nodes (pred_of self.now) }
         ensures { result ≡ is_next_noted (behind list.now self.now) self.now.cur }
     {
         match (list.node(self.pred.place).next, self.cur) {
@@ -101,7 +101,7 @@ impl Cursor {
         ensures sound { IsSound list.now }
     {
         match list.linked_node(self.pred.place) {
-            Some(pred) => { is_unmarked_with(pred, self.pred.stamp) && self.is_next_fitting(list) }
+            Some(pred) => is_unmarked_with(pred, self.pred.stamp) && self.is_next_fitting(list),
             None => false,
         }
     }

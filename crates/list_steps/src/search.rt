@@ -9,12 +9,12 @@ ghost use Rattle.list_steps.specs.Seek.{IsStart, KeepsRest, sought};
 use crate::cursor::Cursor;
 use node_list::{NodeList, NodeRef};
 
-/// Seeks the place of a split key from a dummy before it, and unlinks the marked nodes that it passes:
-/// all between its start and the first unmarked node that is not below the split key (`sought`).
+/// Seeks the place of a split key from a dummy before it, and unlinks the marked nodes that it
+/// passes: all between its start and the first unmarked node that is not below the split key.
 ///
-/// The cursor fits the list as the seek leaves it. The content stays as it was, and so do the spares
-/// that are out; the change number grows by one with each node that is unlinked. Each node from the start
-/// to the place is visited once.
+/// The cursor fits the list as the seek leaves it. The content stays as it was, and so do the
+/// spares that are out. Takes no memory. Each node from the start to the place is visited once
+/// (Harris 2001, the search that unlinks).
 pub fn seek(list: &mut NodeList, from: NodeRef, split: u64) -> Cursor
     requires { IsStart list.old.nodes from split }
     ensures nodes { list.new.nodes ≡ sought list.old.nodes from split }

@@ -21,9 +21,9 @@ fn node_there(list: &NodeList, cursor: &Cursor) -> Option<NodeRef>
     }
 }
 
-/// Looks whether a node with the split key sought is linked where the cursor is, and which. That node is
-/// unmarked, and its pair is in the content if it is regular. `None`: no linked node, marked or not, has
-/// the split key.
+/// Looks whether a node with the split key sought is linked where the cursor is, and which one.
+/// That node is unmarked, and if it is regular its pair is in the content. `None` says that no
+/// linked node, marked or not, has the split key.
 ///
 /// `Again` exactly where the cursor does not fit. A fixed number of look-ups.
 pub fn look(list: &NodeList, cursor: &Cursor) -> Result<Option<NodeRef>, Again>
@@ -39,7 +39,8 @@ pub fn look(list: &NodeList, cursor: &Cursor) -> Result<Option<NodeRef>, Again>
     }
 }
 
-/// Says whether the cursor fits and a node with the split key sought is there. A fixed number of look-ups.
+/// Says whether the cursor fits and a node with the split key sought is there. A fixed number of
+/// look-ups.
 pub fn is_there(list: &NodeList, cursor: &Cursor) -> bool
     requires { IsPlaced list.now cursor.now }
     ensures { result ≡ (fits list.now cursor.now && is_some (node_there list.now cursor.now)) }
@@ -47,12 +48,13 @@ pub fn is_there(list: &NodeList, cursor: &Cursor) -> bool
     matches!(look(list, cursor), Ok(Some(_)))
 }
 
-/// Links the node of a spare of this list, which is filled with the split key sought, where the cursor
-/// is, and answers that node. Where the cursor fits, no node may have the split key: `look` tells.
+/// Links the node of a spare where the cursor is, and answers that node. The spare is this list's
+/// and filled with the split key sought; where the cursor fits, no node may have that split key, as
+/// `look` tells.
 ///
-/// The content gains the pair of a regular node; a dummy keeps it as it was. `Again` exactly where the
-/// cursor does not fit; then nothing changes, and the spare comes back. Takes no memory. A fixed number
-/// of look-ups.
+/// The content gains the pair of a regular node; a dummy keeps it as it was. `Again` exactly where
+/// the cursor does not fit; then nothing changes, and the spare comes back. Takes no memory. A fixed
+/// number of look-ups.
 pub fn link(list: &mut NodeList, cursor: Cursor, spare: Spare) -> Result<NodeRef, (Again, Spare)>
     requires out { IsOut list.old spare }
     requires filled { spare.split ≡ split_of cursor }
@@ -77,12 +79,12 @@ pub fn link(list: &mut NodeList, cursor: Cursor, spare: Spare) -> Result<NodeRef
     }
 }
 
-/// Marks the regular node of the split key sought, and answers its value. Where the cursor fits, that
-/// node has to be there: `look` tells.
+/// Marks the regular node of the split key sought, and answers its value. Where the cursor fits,
+/// that node has to be there, as `look` tells.
 ///
 /// Its pair leaves the content. The node stays linked until a seek passes it or a sweep comes to it
-/// (Harris 2001). `Again` exactly where the cursor does not fit; then nothing changes. Takes no memory. A
-/// fixed number of look-ups.
+/// (Harris 2001). `Again` exactly where the cursor does not fit; then nothing changes. Takes no
+/// memory. A fixed number of look-ups.
 pub fn mark(list: &mut NodeList, cursor: Cursor) -> Result<u64, Again>
     requires placed { IsPlaced list.old cursor }
     requires there { IsKeyThere list.old cursor }
@@ -102,11 +104,11 @@ pub fn mark(list: &mut NodeList, cursor: Cursor) -> Result<u64, Again>
     }
 }
 
-/// Writes a value into the regular node of the split key sought, and answers the value that it had. Where
-/// the cursor fits, that node has to be there: `look` tells.
+/// Writes a value into the regular node of the split key sought, and answers the value that it had.
+/// Where the cursor fits, that node has to be there, as `look` tells.
 ///
-/// The pair in the content has the new value; its place stays. `Again` exactly where the cursor does not
-/// fit; then nothing changes. Takes no memory. A fixed number of look-ups.
+/// In the content its pair has the new value, at its old place. `Again` exactly where the cursor
+/// does not fit; then nothing changes. Takes no memory. A fixed number of look-ups.
 pub fn swap(list: &mut NodeList, cursor: Cursor, value: u64) -> Result<u64, Again>
     requires placed { IsPlaced list.old cursor }
     requires there { IsKeyThere list.old cursor }

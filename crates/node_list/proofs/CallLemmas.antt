@@ -1,17 +1,17 @@
 -- What each call does to a list, by its fields.
-use Rattle.std.proofs.Common.{◌≡◌, ◌≢◌, ℕ, ◌+◌, ◌-◌, ◌^◌, min, ◌<◌, ◌≤◌, List, Option, Some, None, Bool, true, false, refl, sym, ◌∙◌, ap, ap₂, arith, cond}
+use Rattle.std.proofs.Common.{◌≡◌, ℕ, ◌+◌, ◌-◌, ◌^◌, ◌<◌, ◌≤◌, Option, Some, None, Bool, true, false, refl, sym, ◌∙◌, ap, ap₂, arith, cond}
 use Rattle.slab.specs.Slab.{Slab, get, slab_len, Updates, with_value}
 use Rattle.node_list.specs.declared.node.Node.{Node}
 use Rattle.node_list.specs.declared.node.Kind.TheVariants.{Dummy, Regular}
 use Rattle.node_list.specs.declared.slots.Slot.{Slot}
 use Rattle.node_list.specs.declared.slots.Slot.TheVariants.{Linked, Out}
-use Rattle.node_list.specs.Nodes.{NodeAt, SpareAt, Listing, filled, out_at, node_of, next_of, place_of, IsLinked, IsRegularAt, IsBeforeMarked, is_regular, is_live, is_marked, live_count, marked_count, linked_after, unlinked_after, changed_at, marked_at, written_at, turn_after, GivesOut, TakesBack, Becomes, Takes}
+use Rattle.node_list.specs.Nodes.{NodeAt, out_at, node_of, place_of, IsLinked, IsRegularAt, IsBeforeMarked, is_regular, is_live, is_marked, live_count, marked_count, linked_after, unlinked_after, changed_at, marked_at, written_at, turn_after, GivesOut, TakesBack, Becomes, Takes}
 use Rattle.node_list.specs.Order.{IsRising}
 use Rattle.node_list.specs.Seen.{seen}
 use Rattle.node_list.specs.Follow.{IsSameNode, Follows}
 use Rattle.node_list.specs.Layout.{stored, nodes_in, listing_of, IsKept}
-use Rattle.node_list.proofs.OrderLemmas.{some-injective, some-none}
-use Rattle.node_list.proofs.NodesLemmas.{same_node, found_linked, next_linked, linked_more}
+use Rattle.node_list.proofs.OrderLemmas.{some-injective}
+use Rattle.node_list.proofs.NodesLemmas.{found_linked, next_linked, linked_more}
 use Rattle.node_list.proofs.ChainLemmas.{spread, nodes_in_is, nodes_fit, absent_free, linked_node, node_found, next_is}
 use Rattle.node_list.proofs.CountLemmas.{gain, count-linked, count-unlinked, count-changed, live-marked, live-regular, live-fresh, counts_fit}
 use Rattle.node_list.proofs.SlabSteps.{kept, spare_laid_out, spare_stamps, spare_out, spare_was_free, spare_others, back_laid_out, back_stamps, back_gone, back_others, link_absent, link_laid_out, link_stamps, link_gone, link_others, mid_spare, change_laid_out, change_stamps, change_out, unlink_laid_out, unlink_stamps, unlink_out}

@@ -1,11 +1,10 @@
 -- How many nodes pass a test.
-use Rattle.std.proofs.Common.{◌≡◌, ◌≢◌, ℕ, ◌+◌, ◌<◌, ◌≤◌, ◌↔◌, inl, inr, List, [], ◌∷◌, Some, None, Bool, true, false, length, refl, sym, ◌∙◌, ap, arith, cond, if◌then◌else◌, ◌&&◌, not}
+use Rattle.std.proofs.Common.{◌≡◌, ℕ, ◌+◌, ◌≤◌, ◌↔◌, inl, inr, List, [], ◌∷◌, Some, Bool, true, false, length, refl, sym, ap, arith, cond, ◌&&◌, not}
 use Rattle.std.proofs.lemmas.Bool.Decides.{eqb_tells}
-use Prim.Native.Nat.{suc}
 use Rattle.std.specs.List.{AllByRecursion}
 use Rattle.node_list.specs.declared.node.Kind.{Kind}
 use Rattle.node_list.specs.declared.node.Kind.TheVariants.{Dummy, Regular}
-use Rattle.node_list.specs.Nodes.{NodeAt, node_of, next_of, IsLinked, linked_after, unlinked_after, changed_at, count_where, is_live, is_marked, is_regular, live_count, marked_count, IsRegularAt}
+use Rattle.node_list.specs.Nodes.{NodeAt, node_of, next_of, IsLinked, linked_after, unlinked_after, changed_at, count_where, is_live, is_regular, live_count, marked_count}
 use Rattle.node_list.proofs.OrderLemmas.{some-none, some-injective}
 
 -- what one node counts

@@ -1,5 +1,5 @@
 -- What is true of every list, and that each change follows.
-use Rattle.std.proofs.Common.{◌≡◌, ◌≢◌, ℕ, ◌+◌, ◌-◌, ◌^◌, min, ◌<◌, ◌≤◌, inl, inr, List, Some, None, true, false, refl, sym, ◌∙◌, ap, arith}
+use Rattle.std.proofs.Common.{◌≡◌, ◌≢◌, ℕ, ◌+◌, ◌-◌, ◌^◌, ◌<◌, inl, inr, Some, false, refl, sym, ◌∙◌, ap, arith}
 use Rattle.std.proofs.lemmas.Bool.{cases_eq}
 use Rattle.slab.specs.Slab.{Slab, get}
 use Rattle.node_list.specs.declared.node.Node.{Node}
@@ -9,10 +9,10 @@ use Rattle.node_list.specs.declared.slots.Slot.TheVariants.{Linked, Out}
 use Rattle.node_list.specs.Nodes.{NodeAt, Listing, node_of, out_at, linked_after, unlinked_after, changed_at, GivesOut, TakesBack, Becomes, Takes, IsBeforeMarked}
 use Rattle.node_list.specs.Order.{AbsentFrom, IsSpread}
 use Rattle.node_list.specs.Follow.{IsSameNode, Follows}
-use Rattle.node_list.specs.Sound.{AllPlain, IsFirst, IsStamped, IsSound}
+use Rattle.node_list.specs.Sound.{AllPlain, IsStamped, IsSound}
 use Rattle.node_list.specs.Layout.{nodes_in, listing_of, IsLaidOut, HasStamps, IsKept}
 use Rattle.node_list.proofs.OrderLemmas.{some-injective, some-none, each_found}
-use Rattle.node_list.proofs.NodesLemmas.{same_node, same_after, found_linked, first_found, next_found, found_linked_after, found_changed, found_unlinked, still_found_linked, still_found_changed, still_found_unlinked}
+use Rattle.node_list.proofs.NodesLemmas.{same_node, same_after, found_linked, first_found, found_linked_after, found_changed, found_unlinked, still_found_linked, still_found_changed, still_found_unlinked}
 use Rattle.node_list.proofs.ChainLemmas.{true-ne-false, out-not-linked, linked_node, node_found, spread}
 use Rattle.node_list.proofs.SlabSteps.{out_in, slot_out}
 

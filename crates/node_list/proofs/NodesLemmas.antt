@@ -1,5 +1,5 @@
 -- What is found in a list of nodes, before and after a change.
-use Rattle.std.proofs.Common.{◌≡◌, ◌≢◌, ℕ, ◌⊎◌, inl, inr, List, [], ◌∷◌, Option, Some, None, Bool, true, refl, sym, ◌∙◌, ap, is_some}
+use Rattle.std.proofs.Common.{◌≡◌, ◌≢◌, ℕ, ◌⊎◌, inl, inr, List, [], ◌∷◌, Option, Some, None, true, refl, sym, ◌∙◌, ap, is_some}
 use Rattle.std.proofs.lemmas.Bool.Decides.{eqb_tells}
 use Rattle.node_list.specs.Nodes.{NodeAt, node_of, next_of, first, without_first, place_of, IsLinked, linked_after, unlinked_after, changed_at, marked_at, written_at}
 use Rattle.node_list.specs.Order.{AbsentFrom, IsSpread}

@@ -1,18 +1,17 @@
 -- What each step on the slab does to the list in it.
-use Rattle.std.proofs.Common.{◌≡◌, ◌≢◌, ℕ, ◌+◌, ◌-◌, ◌^◌, ◌<◌, ◌≤◌, inl, inr, List, [], ◌∷◌, Option, Some, None, Bool, true, false, map, refl, sym, ◌∙◌, ap, arith, get_or}
+use Rattle.std.proofs.Common.{◌≡◌, ◌≢◌, ℕ, ◌+◌, ◌-◌, ◌^◌, ◌<◌, inl, inr, List, [], ◌∷◌, Option, Some, None, false, map, refl, sym, ◌∙◌, ap, arith, get_or}
 use Rattle.std.proofs.Math.ListN.{get_or-map}
 use Rattle.std.proofs.lemmas.Bool.{cases_eq}
 use Rattle.slab.specs.Slab.{Slab, get, Updates, with_value}
 use Rattle.slab.proofs.SlabLemmas.{Updates-with_value}
 use Rattle.node_list.specs.declared.node.Node.{Node}
-use Rattle.node_list.specs.declared.node.Kind.TheVariants.{Dummy, Regular}
+use Rattle.node_list.specs.declared.node.Kind.TheVariants.{Dummy}
 use Rattle.node_list.specs.declared.slots.Slot.{Slot}
 use Rattle.node_list.specs.declared.slots.Slot.TheVariants.{Linked, Out}
-use Rattle.node_list.specs.Nodes.{NodeAt, first_dummy, IsLinked, linked_after, unlinked_after, changed_at, node_of, next_of, place_of, IsRegularAt, live_count, marked_count}
+use Rattle.node_list.specs.Nodes.{NodeAt, first_dummy, IsLinked, linked_after, unlinked_after, changed_at, node_of, next_of, place_of, live_count, marked_count}
 use Rattle.node_list.specs.Order.{IsRising, IsSpread}
 use Rattle.node_list.specs.Follow.{IsSameNode}
-use Rattle.node_list.specs.Layout.{stored, IsChain, nodes_in, listing_of, StartsAt, IsLaidOut, HasStamps, IsKept, out_stamp}
-use Rattle.node_list.specs.Sound.{AllPlain}
+use Rattle.node_list.specs.Layout.{stored, IsChain, nodes_in, listing_of, IsLaidOut, HasStamps, IsKept, out_stamp}
 use Rattle.node_list.proofs.OrderLemmas.{some-injective, some-none, each_linked, each_unlinked, each_changed, rising_unlinked, rising_changed}
 use Rattle.node_list.proofs.NodesLemmas.{absent_unlinked, still_linked, now_linked, changed_linked, others_linked}
 use Rattle.node_list.proofs.ChainLemmas.{out-not-linked, spread, nodes_in_is, next_is, chain_absent, absent_free, chain_linked, chain_unlinked, chain_changed, starts_linked, starts_unlinked, starts_changed, stamps_set, stamps_kept, stamps_freed}

@@ -1,5 +1,5 @@
 -- How a list lies in its slab.
-use Rattle.std.specs.Prelude.{◌≡◌, ℕ, ◌<◌, ◌≤◌, ◌-◌, ◌^◌, List, [], ◌∷◌, Option, Some, None, Bool, false, map}
+use Rattle.std.specs.Prelude.{◌≡◌, ℕ, ◌<◌, ◌≤◌, ◌-◌, ◌^◌, List, [], ◌∷◌, Option, Some, None, map}
 use Prim.Native.Nat.{zero, suc}
 use Rattle.slab.specs.Slab.{Slab, get, slab_len}
 use Rattle.node_list.specs.declared.node.Node.{Node}

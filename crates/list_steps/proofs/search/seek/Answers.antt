@@ -4,7 +4,7 @@ use Rattle.node_list.proofs.FollowLemmas.{follows_self, follows_twice}
 use Rattle.list_steps.specs.Content.{pairs}
 use Rattle.list_steps.proofs.NodeLemmas.{next_linked, next_node, no_place}
 use Rattle.node_list.proofs.NodesLemmas.{found_linked}
-use Rattle.list_steps.proofs.SeekLemmas.{behind_passed, behind_unlinked, sought_at_end, sought_passed, sought_stopped, sought_unlinked, pred_from_start, pred_unlinked}
+use Rattle.list_steps.proofs.SeekLemmas.{behind_fewer, behind_next, sought_at_end, sought_passed, sought_stopped, sought_unlinked, pred_from_start, pred_unlinked}
 use Rattle.list_steps.proofs.ContentLemmas.{pairs_sought}
 use Rattle.list_steps.proofs.search.seek.Goals as goal
 
@@ -26,7 +26,7 @@ unlink_after-requires c =
 pub search-smaller-then-node : goal.search-smaller-then-node
 search-smaller-then-node c =
     let next = next_node _ _ _ c.node.ensures.sound.spread (c.node.ensures.next ∙ c.in-Some.is) _ c.node-node.ensures.node in
-    rw c.unlink_after.ensures.unlinked.nodes (behind_unlinked _ _ _ (c.search.invariant.pred c.node.ensures.sound.plain) _ next)
+    rw c.unlink_after.ensures.unlinked.nodes (behind_fewer _ _ _ _ (c.search.invariant.pred c.node.ensures.sound.plain).is next)
 
 pub search-preserved-then-node : goal.search-preserved-then-node
 search-preserved-then-node c =
@@ -48,7 +48,7 @@ search-preserved-then-node c =
 pub search-smaller : goal.search-smaller
 search-smaller c =
     let next = next_node _ _ _ c.node.ensures.sound.spread (c.node.ensures.next ∙ c.in-Some.is) _ c.node-node.ensures.node in
-    behind_passed _ _ _ (c.search.invariant.pred c.node.ensures.sound.plain) _ next c.node.ensures.sound.spread
+    behind_next _ _ _ _ (c.search.invariant.pred c.node.ensures.sound.plain).is next c.node.ensures.sound.spread
 
 pub search-preserved : goal.search-preserved
 search-preserved c =

@@ -1,4 +1,4 @@
-use Rattle.std.proofs.Common.{Some, refl, sym, ◌∙◌, ap}
+use Rattle.std.proofs.Common.{refl, ◌∙◌}
 use Rattle.list_steps.proofs.NodeLemmas.{next_linked, next_node, same_test, apart_test}
 use Rattle.list_steps.proofs.steps.node_there.Goals as goal
 

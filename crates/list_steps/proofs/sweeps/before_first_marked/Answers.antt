@@ -1,8 +1,8 @@
-use Rattle.std.proofs.Common.{sym, ◌∙◌, ap, subst}
+use Rattle.std.proofs.Common.{◌∙◌}
 use Rattle.node_list.specs.Seen.{seen}
 use Rattle.list_steps.proofs.NodeLemmas.{is_linked, next_linked, next_node, no_place, node_at}
 use Rattle.list_steps.proofs.SeekLemmas.{behind_next}
-use Rattle.list_steps.proofs.SweepLemmas.{IsSweeping, sweeping_first, sweeping_passed, sweeping_found, sweeping_ends}
+use Rattle.list_steps.proofs.SweepLemmas.{sweeping_first, sweeping_passed, sweeping_found, sweeping_ends}
 use Rattle.list_steps.proofs.sweeps.before_first_marked.Goals as goal
 
 pub walk-init : goal.walk-init

@@ -1,4 +1,4 @@
-use Rattle.std.proofs.Common.{◌≡◌, ℕ, ◌<◌, Some, None, refl, sym, ◌∙◌, ap, arith}
+use Rattle.std.proofs.Common.{◌≡◌, ◌<◌, Some, sym, ◌∙◌, ap, arith}
 use Rattle.node_list.specs.Nodes.{NodeAt, IsLinked, filled, next_of}
 use Rattle.node_list.specs.Order.{IsBefore}
 use Rattle.node_list.specs.Seen.{seen}

@@ -1,5 +1,3 @@
-use Rattle.std.proofs.Common.{◌≡◌, ◌∙◌, ap}
-use Rattle.node_list.specs.Nodes.{out_at}
 use Rattle.node_list.proofs.CallLemmas.{taken_back}
 use Rattle.node_list.proofs.list.NodeList.give_back.Goals as goal
 

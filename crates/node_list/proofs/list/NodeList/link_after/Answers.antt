@@ -1,4 +1,4 @@
-use Rattle.std.proofs.Common.{◌≡◌, ℕ, ◌+◌, ◌≤◌, Some, refl, arith, Fits, w64}
+use Rattle.std.proofs.Common.{refl, arith}
 use Rattle.node_list.proofs.CallLemmas.{slot_linked, counted_fit, filling_slot, filled_in}
 use Rattle.node_list.proofs.list.NodeList.link_after.Goals as goal
 

@@ -1,4 +1,4 @@
-use Rattle.std.proofs.Common.{◌≡◌, Some, None, sym, ◌∙◌, ap}
+use Rattle.std.proofs.Common.{Some, sym, ◌∙◌, ap}
 use Rattle.node_list.proofs.OrderLemmas.{some-none}
 use Rattle.node_list.proofs.NodesLemmas.{none_found}
 use Rattle.node_list.proofs.ChainLemmas.{out-not-linked, next_is, node_found, not_linked}

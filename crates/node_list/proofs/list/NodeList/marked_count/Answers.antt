@@ -1,4 +1,3 @@
-use Rattle.std.proofs.Common.{◌≡◌, ◌↔◌, ◌∙◌, sym}
 use Rattle.node_list.proofs.CountLemmas.{marked_count-zero}
 use Rattle.node_list.proofs.list.NodeList.marked_count.Goals as goal
 

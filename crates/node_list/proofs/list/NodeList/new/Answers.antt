@@ -1,4 +1,4 @@
-use Rattle.std.proofs.Common.{◌≡◌, refl}
+use Rattle.std.proofs.Common.{refl}
 use Rattle.node_list.specs.Nodes.{count_where}
 use Rattle.node_list.proofs.ChainLemmas.{nodes_in_is}
 use Rattle.node_list.proofs.SlabSteps.{kept, new_laid_out, new_stamps, new_out}

@@ -1,4 +1,3 @@
-use Rattle.std.proofs.Common.{◌≡◌}
 use Rattle.node_list.proofs.ChainLemmas.{linked_node, next_is, node_found}
 use Rattle.node_list.proofs.FollowLemmas.{sound}
 use Rattle.node_list.proofs.list.NodeList.node.Goals as goal

@@ -1,4 +1,4 @@
-use Rattle.std.proofs.Common.{◌≡◌, ℕ, ◌+◌, ◌-◌, ◌≤◌, arith, Fits, w64}
+use Rattle.std.proofs.Common.{arith}
 use Rattle.node_list.proofs.NodesLemmas.{found_linked}
 use Rattle.node_list.proofs.CallLemmas.{slot_linked, counted_fit, counts_one, node_marked}
 use Rattle.node_list.proofs.list.NodeList.set_mark.Goals as goal

@@ -1,4 +1,4 @@
-use Rattle.std.proofs.Common.{◌≡◌, ◌∙◌, arith}
+use Rattle.std.proofs.Common.{◌∙◌, arith}
 use Rattle.node_list.proofs.SlabSteps.{kept_grown, listing_grown}
 use Rattle.node_list.proofs.FollowLemmas.{follows_self}
 use Rattle.node_list.proofs.CallLemmas.{spared}

@@ -1,4 +1,3 @@
-use Rattle.std.proofs.Common.{◌≡◌}
 use Rattle.node_list.proofs.FollowLemmas.{sound}
 use Rattle.node_list.proofs.list.NodeList.turn.Goals as goal
 

@@ -1,4 +1,3 @@
-use Rattle.std.proofs.Common.{◌≡◌, ◌≢◌, ℕ, ◌-◌, ◌≤◌, Some}
 use Rattle.node_list.proofs.CallLemmas.{slot_linked, behind_linked, behind_place, behind_slot, marks_one, unlinked}
 use Rattle.node_list.proofs.list.NodeList.unlink_after.Goals as goal
 

@@ -1,4 +1,3 @@
-use Rattle.std.proofs.Common.{◌≡◌, rules}
 use Rattle.node_list.proofs.CallLemmas.{slot_linked, value_written}
 use Rattle.node_list.proofs.list.NodeList.write.Goals as goal
 
