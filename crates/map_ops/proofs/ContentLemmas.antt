@@ -1,20 +1,20 @@
 -- The content of a list of nodes, and what a step at a node does to it.
-use Rattle.std.proofs.Common.{◌≡◌, ◌≢◌, ℕ, ◌<◌, ◌^◌, ◌==◌, inl, inr, List, [], ◌∷◌, ◌++◌, Option, Some, None, Bool, true, false, cond, refl, sym, ◌∙◌, ap, subst, arith}
+use Rattle.std.proofs.Common.{◌≡◌, ◌≢◌, ℕ, ◌<◌, ◌^◌, ◌==◌, inl, inr, List, [], ◌∷◌, ◌++◌, Option, Some, None, Bool, true, false, cond, not, ◌&&◌, ◌+◌, if◌then◌else◌, length, refl, sym, ◌∙◌, ap, subst, arith}
 use Rattle.std.specs.List.{fold, AllByRecursion}
 use Rattle.std.proofs.lemmas.Bool.{cases_eq, eq-eqb, ne_eqb}
 use Rattle.std.proofs.lemmas.Bool.Decides.{eqb_tells}
 use Rattle.node_list.specs.declared.node.Kind.{Kind}
 use Rattle.node_list.specs.declared.node.Kind.TheVariants.{Dummy, Regular}
-use Rattle.node_list.specs.Nodes.{NodeAt, node_of}
+use Rattle.node_list.specs.Nodes.{NodeAt, node_of, count_where, is_regular, live_count}
 use Rattle.node_list.specs.Order.{IsBefore, IsRising}
 use Rattle.node_list.proofs.OrderLemmas.{some-injective, some-none, each_found}
 use Rattle.list_steps.specs.Content.{pair_if, pair_of, pairs, Replaces}
 use Rattle.split_key.specs.Split.{split}
 use Rattle.bucket_table.specs.Dummies.{IsKeyed, IsKeyedNode}
-use Rattle.txn_trace.specs.Map.{Map, empty, get, insert, remove}
+use Rattle.txn_trace.specs.Map.{Map, count_of, empty, get, insert, remove}
 use Rattle.txn_trace.specs.Ordered.{split_cmp, ordered}
 use Rattle.txn_trace.proofs.Maps.{get-insert, same_map}
-use Rattle.txn_trace.proofs.Order.{Rises, IsSortedBySplit, value_at, split_cmp_tied, sorted-rises, value_at-ordered, ordered_rising, ordered-linked, ordered-written, ordered-unlinked}
+use Rattle.txn_trace.proofs.Order.{Rises, IsSortedBySplit, value_at, split_cmp_tied, sorted-rises, value_at-ordered, ordered_rising, ordered-linked, ordered-written, ordered-unlinked, length-ordered}
 use Rattle.map_ops.specs.TableAt.{map_of}
 
 -- Where all split keys are above that of a key, the key is not there.
@@ -143,3 +143,17 @@ value_at-there key (m ∷ rest) place n rising keyed is kind unmarked = elim (eq
       value_at-other key m.kind m.marked m.value (pairs rest) (λ k is_k same. apart m n key k below ((keyed.0 k is_k).1) (each_found IsKeyedNode rest place n keyed.1 later key kind).1 same)
       ∙ value_at-there key rest place n rising.1 keyed.1 later kind unmarked
 ]
+
+-- There are as many pairs as live nodes, and as keys.
+length_pair : (kind : Kind) (marked : Bool) (value : ℕ) (ps : List (ℕ × ℕ)) (count : ℕ) → length ps ≡ count → length (pair_if kind marked value ++ ps) ≡ (if is_regular kind && not marked then 1 else 0) + count
+length_pair Dummy marked value ps count is = omega (arith, is)
+length_pair (Regular key) true value ps count is = omega (arith, is)
+length_pair (Regular key) false value ps count is = omega (arith, is)
+
+pub length-pairs : (nodes : List NodeAt) → length (pairs nodes) ≡ live_count nodes
+unfolding pairs count_where
+length-pairs [] = refl
+length-pairs (n ∷ rest) = length_pair n.kind n.marked n.value (pairs rest) (live_count rest) (length-pairs rest)
+
+pub count_of-map_of : (ps : List (ℕ × ℕ)) → Rises ps → count_of (map_of ps) ≡ length ps
+count_of-map_of ps rises = sym (ap (λ (es : List (ℕ × ℕ)). length es) (ordered-map_of ps rises) ∙ length-ordered (map_of ps))

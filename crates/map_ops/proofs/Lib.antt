@@ -5,3 +5,4 @@ pub mod BelongLemmas
 pub mod ChangeLemmas
 pub mod DoesLemmas
 pub mod PlanLemmas
+pub mod SoundLemmas
