@@ -37,7 +37,7 @@ module _ (old new : Listing) (c : Cursor) (key : ℕ) (sound : IsSound old) (aft
   pub marks_sets : (value : ℕ) → Marks old new c value → (buckets : Directory) → Sets (table_of old buckets) (table_of new buckets) key None
   marks_sets value marks buckets =
       let replaces : Replaces (pairs old.nodes) (pairs new.nodes) ((key, value) ∷ []) [] =
-          subst (λ k. Replaces (pairs old.nodes) (pairs new.nodes) ((k, value) ∷ []) []) (same_key marks.node marks.key marks.there marks.regular) marks.content in
+      subst (λ k. Replaces (pairs old.nodes) (pairs new.nodes) ((k, value) ∷ []) []) (same_key marks.node marks.key marks.there marks.regular) marks.content in
       record {
         content_is = map_of-unlinked (pairs old.nodes) (pairs new.nodes) key old_rises (rises-pairs new.nodes after.rising (marks_belong value marks).keyed) value replaces;
         buckets = refl;
@@ -52,7 +52,7 @@ module _ (old new : Listing) (c : Cursor) (key : ℕ) (sound : IsSound old) (aft
   pub swaps_sets : (was now : ℕ) → Swaps old new c was now → (buckets : Directory) → Sets (table_of old buckets) (table_of new buckets) key (Some now)
   swaps_sets was now swaps buckets =
       let replaces : Replaces (pairs old.nodes) (pairs new.nodes) ((key, was) ∷ []) ((key, now) ∷ []) =
-          subst (λ k. Replaces (pairs old.nodes) (pairs new.nodes) ((k, was) ∷ []) ((k, now) ∷ [])) (same_key swaps.node swaps.key swaps.there swaps.regular) swaps.content in
+      subst (λ k. Replaces (pairs old.nodes) (pairs new.nodes) ((k, was) ∷ []) ((k, now) ∷ [])) (same_key swaps.node swaps.key swaps.there swaps.regular) swaps.content in
       record {
         content_is = map_of-written (pairs old.nodes) (pairs new.nodes) key old_rises (rises-pairs new.nodes after.rising (swaps_belong was now swaps).keyed) was now replaces;
         buckets = refl;
@@ -68,7 +68,7 @@ module _ (old new : Listing) (c : Cursor) (key : ℕ) (sound : IsSound old) (aft
     pub links_sets : Links old new c x → (buckets : Directory) → Sets (table_of old buckets) (table_of new buckets) key (Some x.value)
     links_sets links buckets =
         let replaces : Replaces (pairs old.nodes) (pairs new.nodes) [] ((key, x.value) ∷ []) =
-            subst (λ now. Replaces (pairs old.nodes) (pairs new.nodes) [] now) (pair_regular x key kind unmarked) links.content in
+        subst (λ now. Replaces (pairs old.nodes) (pairs new.nodes) [] now) (pair_regular x key kind unmarked) links.content in
         record {
           content_is = map_of-linked (pairs old.nodes) (pairs new.nodes) key old_rises (rises-pairs new.nodes after.rising (links_belong links).keyed) x.value replaces;
           buckets = refl;

@@ -6,3 +6,6 @@ pub mod ChangeLemmas
 pub mod DoesLemmas
 pub mod PlanLemmas
 pub mod SoundLemmas
+pub mod BucketLemmas
+pub mod WalkLemmas
+pub mod MadeLemmas

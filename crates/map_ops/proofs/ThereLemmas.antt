@@ -51,6 +51,7 @@ module _ (l : Listing) (c : Cursor) (key : ℕ) (sound : IsSound l) (belong : Be
   get-absent is =
       let absent = finds l c sound placed fitting None (ap place_of (sym is)) in
       get-map_of (pairs l.nodes) key rises ∙ value_at-absent key l.nodes belong.keyed (subst (λ s. AllByRecursion (λ (n : NodeAt). n.split ≢ s) l.nodes) same absent.others)
+
   pub room : get (map_of (pairs l.nodes)) key ≡ None → IsRoomFor l c
   room none fit = go (node_there l c) refl
     where

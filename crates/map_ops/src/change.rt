@@ -209,7 +209,12 @@ pub(crate) fn give_up_job(list: &mut NodeList, job: MapJob)
 }
 
 /// Does an operation at a cursor that fits, where its key has this value.
-pub(crate) fn change(list: &mut NodeList, plan: Plan, cursor: Cursor, before: Reply) -> Option<MapJob>
+pub(crate) fn change(
+    list: &mut NodeList,
+    plan: Plan,
+    cursor: Cursor,
+    before: Reply,
+) -> Option<MapJob>
     requires belong { Belong list.old.nodes }
     requires placed { IsPlaced list.old cursor }
     requires split { split_of cursor ≡ split (key_of (pending_of plan).op) }

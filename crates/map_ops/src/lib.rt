@@ -4,6 +4,7 @@
 mod act;
 mod change;
 mod job;
+mod listing;
 mod pending;
 mod table;
 mod undo_job;

@@ -3,15 +3,18 @@ ghost use Rattle.std.specs.Prelude.{◌≡◌, ◌≢◌, ℕ, ◌<◌, ◌≤�
 ghost use Rattle.std.specs.List.{slice_get};
 ghost use Rattle.node_list.specs.Order.{IsRising};
 ghost use Rattle.split_key.specs.Split.{IsPowerOfTwo};
-ghost use Rattle.txn_trace.specs.Map.{count_of, key_of};
+ghost use Rattle.std.specs.BTreeMap.{get as value_at};
+ghost use Rattle.std.specs.Ordering.{nat_cmp};
+ghost use Rattle.txn_trace.specs.Map.{count_of, get, key_of};
 ghost use Rattle.txn_trace.specs.Ordered.{ordered};
 
 use crate::act::{Act, Undo};
 use crate::change::{change, find, give_up, give_up_job, plan, restore, seek_key};
 use crate::job::MapJob;
+use crate::listing::{map_of, pairs_of};
 use crate::pending::Pending;
 use bucket_table::{Buckets, Double, InitLink, InitRefusal, InitSeek};
-use list_steps::{Again, Cursor, SweepOutcome};
+use list_steps::{Again, Cursor, SweepOutcome, sweep};
 use node_list::NodeList;
 use std::alloc::{AllocError, Global};
 use std::collections::BTreeMap;
@@ -48,8 +51,10 @@ impl Table {
         requires least { 2 ≤ max }
         ensures { IfOk result (λ table. IsNew table max callers) }
     {
-        let _ = oracle();
-        unreachable!()
+        let list = NodeList::new(alloc, 0)?;
+        let _turn = list.turn();
+        let buckets = Buckets::new(alloc, max, callers, &list)?;
+        Ok(Table { list, buckets })
     }
 
     /// Prepares an operation.
@@ -162,10 +167,11 @@ impl Table {
 
     /// The keys with their values.
     pub fn content(&self, alloc: Global) -> Result<BTreeMap<u64, u64>, AllocError>
-        ensures { IfOk result (λ map. map.entries ≡ (content self.now).rows) }
+        ensures { IfOk result (λ map. (key : ℕ) → value_at nat_cmp map key ≡ get (content self.now) key) }
     {
-        let _ = oracle();
-        unreachable!()
+        let _turn = self.list.turn();
+        let pairs = pairs_of(alloc, &self.list)?;
+        map_of(alloc, &pairs)
     }
 
     /// The keys with their values, in the order of the list.
@@ -173,8 +179,8 @@ impl Table {
         ensures regular { IfOk result (λ pairs. pairs.items ≡ regular self.now) }
         ensures ordered { IfOk result (λ pairs. pairs.items ≡ ordered (content self.now)) }
     {
-        let _ = oracle();
-        unreachable!()
+        let _turn = self.list.turn();
+        pairs_of(alloc, &self.list)
     }
 
     /// The size: how many buckets there are now.
@@ -212,8 +218,8 @@ impl Table {
         ensures turn { result ≡ SweepOutcome.Clean → turn_of self.new ≡ turn_of self.old }
         ensures follows { Follows self.old self.new }
     {
-        let _ = oracle();
-        unreachable!()
+        let _turn = self.list.turn();
+        sweep(&mut self.list)
     }
 
     /// Seeks the place of a bucket's dummy for a helper.
@@ -222,8 +228,8 @@ impl Table {
         ensures changes { SeekChanges self.old self.new helper bucket result }
         ensures follows { Follows self.old self.new }
     {
-        let _ = oracle();
-        unreachable!()
+        let _turn = self.list.turn();
+        self.buckets.init_seek(&mut self.list, helper, bucket)
     }
 
     /// Links the dummy of a helper's bucket.
@@ -234,8 +240,9 @@ impl Table {
         ensures changes { LinkChanges self.old self.new helper result }
         ensures follows { Follows self.old self.new }
     {
-        let _ = oracle();
-        unreachable!()
+        let _turn = self.list.turn();
+        let _size = self.buckets.size();
+        self.buckets.init_link(&mut self.list, helper)
     }
 
     /// Stores a helper's dummy as its bucket's.
@@ -244,8 +251,8 @@ impl Table {
         ensures changes { StoreChanges self.old self.new helper result }
         ensures follows { Follows self.old self.new }
     {
-        let _ = oracle();
-        unreachable!()
+        let _turn = self.list.turn();
+        self.buckets.init_store(helper)
     }
 
     /// Doubles the size, where it is the one seen and the table is heavy.
@@ -254,12 +261,7 @@ impl Table {
         ensures changes { Doubles self.old self.new result }
         ensures follows { Follows self.old self.new }
     {
-        let _ = oracle();
-        unreachable!()
+        let _turn = self.list.turn();
+        self.buckets.double(&self.list, seen)
     }
-}
-
-unsafe extern "C" {
-    safe fn oracle() -> u64
-        ensures { ⊥ };
 }
