@@ -12,7 +12,7 @@ use Rattle.txn_trace.specs.History.{caller_of, is_began, is_commit, is_open, txn
 use Rattle.txn_trace.specs.Shape.{Seat, row, seat_after, own, how_many, is_shaped, IsShaped}
 use Rattle.txn_trace.specs.Legal.{is_running, callers_in, running}
 use Rattle.txn_trace.proofs.Pushes.{txn_in, txn_at, how_many-push}
-use Rattle.txn_trace.proofs.Callers.{Callers, is_end, ended, is_open-ended, ended_in, ended_out, not_after_end, shaped_seat, shaped_number, began_or_not, began_number, at_is, not_began_is, some_same, seat_of_mine, seat_of_other, other_runs, end_closes, began_was_closed, end_not_began}
+use Rattle.txn_trace.proofs.Callers.{Callers, callers_of, is_end, ended, is_open-ended, ended_in, ended_out, not_after_end, shaped_seat, shaped_number, began_or_not, began_number, at_is, not_began_is, some_same, seat_of_mine, seat_of_other, other_runs, end_closes, began_was_closed, end_not_began}
 use Rattle.txn_trace.proofs.Steps.{txns_of-push, commits_are, are_listed}
 use Rattle.txn_trace.proofs.Inductions.{by_entries}
 use Rattle.txn_trace.proofs.Running.{has_txn}
@@ -66,7 +66,8 @@ began_txns h shape = by_entries (λ g. txns_of is_began g ≡ range_with_len 1 (
           txns_of-push is_began g e ∙ ap (λ x. txns_of is_began g ++ cons_option (cond x (txn_at g e) None) []) b ∙ append-nil (txns_of is_began g) ∙ was ∙ ap (range_with_len 1) (sym same)
     ]
 
-abbrev one_if : Bool → ℕ
+-- One where a test holds, else none.
+abbrev pub one_if : Bool → ℕ
 one_if b = cond b 1 0
 
 abbrev opens : List Entry → ℕ
@@ -176,3 +177,49 @@ pub length-open_txns : (n : ℕ) (h : List Entry) → IsShaped h → callers_in 
 length-open_txns n h shape within =
     length-filter (λ t. is_open t h) (txns_of is_began h) ∙ ap (sum_by (λ t. one_if (is_open t h))) (began_txns h shape) ∙ counted n h shape within
     ∙ sym (length-filter (λ c. is_running (seat_after (own c h))) (range_with_len 0 n))
+
+-- Counting beyond the callers of the history changes nothing.
+pub length-running : (n : ℕ) (h : List Entry) → IsShaped h → callers_in h ≤ n → length (running n h) ≡ length (running (callers_in h) h)
+length-running n h shape within = let same : callers_in h ≤ callers_in h = omega arith in sym (length-open_txns n h shape within) ∙ length-open_txns (callers_in h) h shape same
+
+-- A Began is one caller more that is not closed, an end is one less, and every other entry leaves their number.
+pub length-running-push : (g : List Entry) (e : Entry) → IsShaped g → is_shaped g e ≡ true
+    → length (running (callers_in (g ++ e ∷ [])) (g ++ e ∷ [])) + one_if (is_end e) ≡ length (running (callers_in g) g) + one_if (is_began e)
+length-running-push g e shape shaped = elim (began_or_not e) [
+  | inl b ↦
+      let goes : is_end e ≡ false = began_goes_on e b in
+      let ends : one_if (is_end e) ≡ 0 = ap one_if goes in
+      let begins : one_if (is_began e) ≡ 1 = ap one_if b in
+      omega (arith, ends, begins, changed, after, before, runs_after n g e shape callers shaped within goes, closed_before_it n g e shape callers shaped within b)
+  | inr b ↦
+      let begins : one_if (is_began e) ≡ 0 = ap one_if b in
+      let was = runs_before n g e shape callers shaped within b in
+      elim (cases_Bool (is_end e)) [
+        | inl ends ↦ let one : one_if (is_end e) ≡ 1 = ap one_if ends in omega (arith, one, begins, was, changed, after, before, stops_after n g e shape callers shaped within ends)
+        | inr goes ↦ let none : one_if (is_end e) ≡ 0 = ap one_if goes in omega (arith, none, begins, was, changed, after, before, runs_after n g e shape callers shaped within goes)
+      ]
+]
+  where
+    n : ℕ
+    n = callers_in (g ++ e ∷ [])
+
+    callers : Callers g
+    callers = callers_of g shape
+
+    grown : callers_in (g ++ e ∷ []) ≡ max (callers_in g) (caller_of e + 1)
+    grown = callers_in-push g e
+
+    within : caller_of e < n
+    within = omega (arith, grown)
+
+    changed : in_txns n (g ++ e ∷ []) + one_if (is_running (seat_after (own (caller_of e) g))) ≡ in_txns n g + one_if (is_running (seat_after (own (caller_of e) (g ++ e ∷ []))))
+    changed = change n g e shape callers shaped within
+
+    after : length (running n (g ++ e ∷ [])) ≡ in_txns n (g ++ e ∷ [])
+    after = length-filter (λ c. is_running (seat_after (own c (g ++ e ∷ [])))) (range_with_len 0 n)
+
+    before : length (running (callers_in g) g) ≡ in_txns n g
+    before = let wider : callers_in g ≤ n = omega (arith, grown) in sym (length-running n g shape wider) ∙ length-filter (λ c. is_running (seat_after (own c g))) (range_with_len 0 n)
+
+    began_goes_on : (f : Entry) → is_began f ≡ true → is_end f ≡ false
+    began_goes_on f b = elim (cases_Bool (is_end f)) [ inl ends ↦ absurd (false≢true (sym (end_not_began f ends) ∙ b)) | inr goes ↦ goes ]

@@ -49,6 +49,13 @@ seat-other d g e other = ap seat_after (own-other d g e other)
 pub log_of-other : (d : ℕ) (g : List Entry) (e : Entry) → d ≢ caller_of e → log_of d (g ++ e ∷ []) ≡ log_of d g
 log_of-other d g e other = ap (λ (l : Log). l.standing) (log_after-other d g e other)
 
+-- An entry of the caller's own: its seat takes the row of the table, and its log the step.
+pub seat-own : (g : List Entry) (e : Entry) → seat_after (own (caller_of e) (g ++ e ∷ [])) ≡ option_and_then (λ s. row s s.phase e) (seat_after (own (caller_of e) g))
+seat-own g e = ap seat_after (own-push_in (caller_of e) g e refl) ∙ seat_after-push (own (caller_of e) g) e
+
+pub log_of-own : (g : List Entry) (e : Entry) → log_of (caller_of e) (g ++ e ∷ []) ≡ (log_step (log_after (own (caller_of e) g)) e).standing
+log_of-own g e = ap (λ (l : Log). l.standing) (log_after-own g e)
+
 txn_at-not_began : (g : List Entry) (e : Entry) → is_began e ≡ false → txn_at g e ≡ txn_in g (caller_of e)
 txn_at-not_began g (Began c t) b = absurd (false≢true (sym b))
 txn_at-not_began g _ b = refl
@@ -103,7 +110,7 @@ module _ (stripes : ℕ) (g : List Entry) (legal : IsLegal stripes g) (e : Entry
   callers = callers_of g legal.shape
 
   pub next_seat : seat_after (own (caller_of e) (g ++ e ∷ [])) ≡ Some next
-  next_seat = ap seat_after (own-push_in (caller_of e) g e refl) ∙ seat_after-push (own (caller_of e) g) e ∙ ap (option_and_then (λ (s : Seat). row s s.phase e)) seat_is ∙ goes
+  next_seat = seat-own g e ∙ ap (option_and_then (λ (s : Seat). row s s.phase e)) seat_is ∙ goes
 
   -- A row of the table and the right number are the right shape.
   pub shaped_by_row : is_shaped g e ≡ true
@@ -113,7 +120,7 @@ module _ (stripes : ℕ) (g : List Entry) (legal : IsLegal stripes g) (e : Entry
   shape_next = shape_push g e legal.shape shaped_by_row
 
   pub next_log : (log_of (caller_of e) (g ++ e ∷ [])) ≡ (log_step (log_after (own (caller_of e) g)) e).standing
-  next_log = ap (λ (l : Log). l.standing) (log_after-own g e)
+  next_log = log_of-own g e
 
   -- Where the caller is in a transaction.
   module _ (active : runs seat.phase ≡ true) where
@@ -222,4 +229,4 @@ run-own stripes g legal e t shaped commit at =
 -- An entry has the right shape where the table has a row for it, and it has the right number.
 pub is_shaped_is : (g : List Entry) (e : Entry) (seat : Seat) → seat_after (own (caller_of e) g) ≡ Some seat → is_shaped g e ≡ (is_some (row seat seat.phase e) && is_numbered g e)
 is_shaped_is g e seat seat_is =
-    ap (λ o. is_some o && is_numbered g e) (ap seat_after (own-push_in (caller_of e) g e refl) ∙ seat_after-push (own (caller_of e) g) e ∙ ap (option_and_then (λ (s : Seat). row s s.phase e)) seat_is)
+    ap (λ o. is_some o && is_numbered g e) (seat-own g e ∙ ap (option_and_then (λ (s : Seat). row s s.phase e)) seat_is)

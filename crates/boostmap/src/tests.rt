@@ -1,0 +1,60 @@
+use super::*;
+use std::process::Abort;
+use std::test::Fail;
+
+/// The words of a call, which are given as one text with blanks between them.
+fn words_of(rt: &(impl Abort + AllocGlobal), text: &str) -> Result<Vec<String>, Fail> {
+    let mut words = Vec::new(rt.alloc());
+    for word in text.split(' ') {
+        let word = word.to_string(rt.alloc())?;
+        words.push(word)?;
+    }
+    Ok(words)
+}
+
+#[test]
+fn calls_of_replay(rt: HostRuntime) -> Result<(), Fail> {
+    for text in [
+        "boostmap replay a.json",
+        "boostmap replay -- a.json",
+        "/usr/bin/x replay a.json",
+    ] {
+        let words = words_of(&rt, text)?;
+        let Ok(call) = call_in(rt.alloc(), &words) else {
+            return Err("refused")?;
+        };
+        assert_eq!(rt; call, Call::Replay { file: "a.json" }, "{text}");
+    }
+    Ok(())
+}
+
+#[test]
+fn other_words(rt: HostRuntime) -> Result<(), Fail> {
+    for text in [
+        "boostmap",
+        "boostmap ",
+        "boostmap a.json",
+        "boostmap replay",
+        "boostmap replay a.json b.json",
+        "boostmap replay --seed 7 a.json",
+        "boostmap replay -x",
+        "boostmap Replay a.json",
+        "boostmap repla a.json",
+        "boostmap run a.json",
+        "boostmap mix --seed 7 a.json",
+        "boostmap check a.json",
+        "boostmap help",
+        "boostmap help replay",
+        "boostmap -h",
+        "boostmap --help",
+        "boostmap replay -h",
+        "boostmap replay --help",
+        "boostmap --version",
+        "boostmap -V",
+    ] {
+        let words = words_of(&rt, text)?;
+        let answer = call_in(rt.alloc(), &words);
+        assert!(rt; matches!(answer, Err(Fault::Usage)), "{text}");
+    }
+    Ok(())
+}

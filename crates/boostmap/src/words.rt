@@ -1,0 +1,51 @@
+ghost use Rattle.std.specs.Prelude.{◌≡◌, ◌⊎◌, IfErr};
+ghost use Rattle.boostmap_engine.specs.declared.fault.Fault.TheVariants as faults;
+
+use boostmap_engine::Fault;
+use clap::error::ErrorKind;
+use clap::{Arg, ArgAction, Command};
+use std::alloc::{AllocError, Global};
+
+/// What the words of a call ask for.
+#[derive(Clone, Copy, Debug, PartialEq, Eq)]
+pub enum Call<'a> {
+    /// To run the steps of this file.
+    Replay { file: &'a str },
+}
+
+fn command<'a>(alloc: Global) -> Result<Command<'a>, AllocError> {
+    let file = Arg::new(alloc, "FILE")
+        .required(true)
+        .action(ArgAction::Set);
+    let replay = Command::new(alloc, "replay").arg(file)?;
+    Command::new(alloc, "boostmap")
+        .subcommand_required(true)
+        .subcommand(replay)
+}
+
+/// What the words ask for, of which the first is the program's name.
+///
+/// `Usage` for words that are no call of the program, a call for help among them; `NoMemory` where
+/// memory was refused. Costs time in proportion to the words.
+pub fn call_in<'a>(alloc: Global, words: &'a [String]) -> Result<Call<'a>, Fault>
+    ensures { IfErr result (λ fault. (fault ≡ faults.Usage) ⊎ (fault ≡ faults.NoMemory)) }
+{
+    let command = command(alloc)?;
+    let matches = match command.try_get_matches_from(words) {
+        Ok(matches) => matches,
+        Err(error) => {
+            return Err(if error.kind() == ErrorKind::OutOfMemory {
+                Fault::NoMemory
+            } else {
+                Fault::Usage
+            });
+        }
+    };
+    let Some(("replay", found)) = matches.subcommand() else {
+        return Err(Fault::Usage);
+    };
+    let Some(file) = found.get_str("FILE") else {
+        return Err(Fault::Usage);
+    };
+    Ok(Call::Replay { file })
+}

@@ -1,0 +1,66 @@
+ghost use Rattle.std.specs.Prelude.{◌≡◌};
+ghost use Rattle.boostmap_engine.specs.Faults.{status_of, of_file};
+ghost use Rattle.boostmap_engine.specs.declared.fault.Fault.TheVariants as faults;
+
+use std::alloc::AllocError;
+use thiserror::Error;
+use txn_files::FileFault;
+
+/// Why the program gives up. Its text is the line for standard error.
+#[derive(Debug, Drop, Error)]
+pub enum Fault {
+    /// The words of the call are none that the program has.
+    #[error("usage: boostmap replay FILE\n\nreplay FILE  runs the steps of a file and prints their answers, the size, the count and the pairs\n\nexample: boostmap replay examples/first_commit.json")]
+    Usage,
+    /// The input was refused, for a fault of the file.
+    #[error("refused {0}")]
+    Input(FileFault),
+    /// Memory was refused.
+    #[error("no memory")]
+    NoMemory,
+    /// A thread could not be started.
+    #[error("no thread")]
+    NoThread,
+    /// A read failed, or the file could not be opened.
+    #[error("read failed")]
+    Read,
+    /// A write failed, or took nothing of the bytes that there were.
+    #[error("write failed")]
+    Write,
+    /// A core answered what the state of a caller excludes.
+    #[error("out of step")]
+    OutOfStep,
+}
+
+impl Fault {
+    /// The exit status of the program: 2 for `Usage`, 3 for `Input`, 4 for every other. Fixed cost.
+    pub fn status(&self) -> u8
+        ensures { result ≡ status_of self.now }
+    {
+        match self {
+            Fault::Usage => 2,
+            Fault::Input(_) => 3,
+            Fault::NoMemory | Fault::NoThread | Fault::Read | Fault::Write | Fault::OutOfStep => 4,
+        }
+    }
+}
+
+impl From<AllocError> for Fault {
+    ghost from_gives = { λ _ fault. fault ≡ faults.NoMemory };
+
+    fn from(_error: AllocError) -> Fault {
+        Fault::NoMemory
+    }
+}
+
+impl From<FileFault> for Fault {
+    ghost from_gives = { λ file_fault fault. fault ≡ of_file file_fault };
+
+    fn from(fault: FileFault) -> Fault {
+        match fault {
+            FileFault::NoMemory => Fault::NoMemory,
+            FileFault::NotJson | FileFault::Member | FileFault::Piece(..) | FileFault::Limit =>
+                Fault::Input(fault),
+        }
+    }
+}

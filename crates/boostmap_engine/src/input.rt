@@ -1,0 +1,40 @@
+ghost use Rattle.std.specs.Prelude.{◌≡◌, length, IfOk, IfErr};
+ghost use Rattle.boostmap_engine.specs.Report.{IsRead};
+ghost use Rattle.boostmap_engine.specs.Faults.{IsReadFault};
+
+use crate::fault::Fault;
+use std::alloc::{AllocError, Global};
+use std::io::Read;
+
+/// One byte more than a file may have.
+const MAX_READ: usize = 16_777_217;
+
+/// How many bytes a read is asked for at most.
+const CHUNK: usize = 65_536;
+
+fn zeros(alloc: Global, count: usize) -> Result<Vec<u8>, AllocError>
+    ensures { IfOk result (λ zeros. length zeros.items ≡ count) }
+{
+    vec![in alloc; 0u8; count]
+}
+
+/// Reads to the end, or as far as shows that there is too much.
+pub fn read_input<R: Read>(alloc: Global, input: &mut R) -> Result<Vec<u8>, Fault>
+    ensures ok { IfOk result (λ bytes. IsRead (R.remaining input.old) bytes.items) }
+    ensures err { IfErr result IsReadFault }
+{
+    let mut bytes = Vec::new(alloc);
+    let mut place = zeros(alloc, CHUNK)?;
+    let chunk = place.as_mut_slice();
+    while bytes.len() < MAX_READ {
+        let room = (MAX_READ - bytes.len()).min(CHUNK);
+        let Ok(count) = input.read(&mut chunk[..room]) else {
+            return Err(Fault::Read);
+        };
+        if count == 0 {
+            return Ok(bytes);
+        }
+        bytes.extend_from_slice(&chunk[..count])?;
+    }
+    Ok(bytes)
+}

@@ -1,0 +1,24 @@
+ghost use Rattle.std.specs.Prelude.{◌≡◌, OnOk, OnErr, IfErr};
+ghost use Rattle.std.specs.Io.KnownBytes.{Appends};
+ghost use Rattle.boostmap_engine.specs.declared.fault.Fault.TheVariants as faults;
+ghost use Rattle.boostmap_engine.specs.Report.{AppendsPart};
+
+use crate::fault::Fault;
+use std::io::Write;
+
+/// Writes the whole text, or a part of it where the writer fails or takes nothing.
+pub fn write_text<W: Write>(output: &mut W, text: &[u8]) -> Result<(), Fault>
+    ensures ok { OnOk result (Appends (W.contents output.old) (W.contents output.new) text.now) }
+    ensures err { OnErr result (AppendsPart (W.contents output.old) (W.contents output.new) text.now) }
+    ensures fault { IfErr result (λ fault. fault ≡ faults.Write) }
+{
+    let mut done = 0;
+    while done < text.len() {
+        match output.write(&text[done..]) {
+            Ok(0) => return Err(Fault::Write),
+            Ok(count) => done += count,
+            Err(_) => return Err(Fault::Write),
+        }
+    }
+    Ok(())
+}

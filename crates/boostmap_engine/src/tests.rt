@@ -1,0 +1,318 @@
+use super::*;
+use std::io;
+use std::io::{ErrorKind, Read, Write};
+use std::process::Abort;
+use std::test::Fail;
+use txn_files::{FileFault, Part};
+
+/// Gives one byte a call, and fails at the call `fails_at`, counted from 0.
+#[derive(Drop)]
+struct Trickle<'a> {
+    rest: &'a [u8],
+    calls: usize,
+    fails_at: usize,
+}
+
+impl<'a> Trickle<'a> {
+    fn new(rest: &'a [u8], fails_at: usize) -> Trickle<'a> {
+        Trickle {
+            rest,
+            calls: 0,
+            fails_at,
+        }
+    }
+}
+
+impl Read for Trickle<'_> {
+    fn read(&mut self, buf: &mut [u8]) -> io::Result<usize> {
+        let call = self.calls;
+        self.calls = call.saturating_add(1);
+        if call == self.fails_at {
+            return Err(ErrorKind::Interrupted.into());
+        }
+        let Some((first, rest)) = self.rest.split_first() else {
+            return Ok(0);
+        };
+        if buf.is_empty() {
+            return Ok(0);
+        }
+        buf[0] = *first;
+        self.rest = rest;
+        Ok(1)
+    }
+}
+
+/// Gives as many bytes as there is room for, and never ends.
+#[derive(Drop)]
+struct Endless {
+    given: usize,
+}
+
+impl Read for Endless {
+    fn read(&mut self, buf: &mut [u8]) -> io::Result<usize> {
+        self.given = self.given.saturating_add(buf.len());
+        Ok(buf.len())
+    }
+}
+
+/// Takes one byte a call, and fails or takes nothing at the call `fails_at`, counted from 0.
+#[derive(Drop)]
+struct Narrow {
+    page: [u8; 256],
+    len: usize,
+    calls: usize,
+    fails_at: usize,
+    takes_nothing: bool,
+}
+
+impl Narrow {
+    fn new(fails_at: usize, takes_nothing: bool) -> Narrow {
+        Narrow {
+            page: [0; 256],
+            len: 0,
+            calls: 0,
+            fails_at,
+            takes_nothing,
+        }
+    }
+
+    fn written(&self) -> &[u8] {
+        &self.page[..self.len.min(256)]
+    }
+}
+
+impl Write for Narrow {
+    fn write(&mut self, buf: &[u8]) -> io::Result<usize> {
+        let call = self.calls;
+        self.calls = call.saturating_add(1);
+        if call == self.fails_at {
+            return if self.takes_nothing {
+                Ok(0)
+            } else {
+                Err(ErrorKind::Interrupted.into())
+            };
+        }
+        let Some(first) = buf.first() else {
+            return Ok(0);
+        };
+        if self.len >= 256 {
+            return Err(ErrorKind::Other.into());
+        }
+        self.page[self.len] = *first;
+        self.len += 1;
+        Ok(1)
+    }
+
+    fn flush(&mut self) -> io::Result<()> {
+        Ok(())
+    }
+}
+
+const FIRST_COMMIT: &str =
+    "{\"version\":1,\"callers\":1,\"stripes\":8,\"buckets\":8,\"steps\":[[\"begin\",0],[\"ask\",0,\"put\",1,10],[\"seek\",0],[\"act\",0],[\"commit\",0]]}";
+
+const FIRST_REPORT: &str = "began 1\nasked\nplaced\ndone none\ncommitted 1\nsize 2 count 1\n1 10\n";
+
+/// What `replay` prints of a file with these steps.
+fn printed(rt: &(impl Abort + AllocGlobal), callers: u64, steps: &str) -> Result<String, Fail> {
+    let text = format!(in rt.alloc();
+        "{{\"version\":1,\"callers\":{callers},\"stripes\":8,\"buckets\":8,\"steps\":[{steps}]}}"
+    )?;
+    let mut input = text.as_bytes();
+    let mut output: Vec<u8> = Vec::new(rt.alloc());
+    match replay(rt.alloc(), &mut input, &mut output) {
+        Ok(()) => {}
+        Err(fault) => {
+            assert!(rt; output.is_empty(), "{steps}");
+            output = fault.to_string(rt.alloc())?.into_bytes();
+        }
+    }
+    Ok(String::from_utf8(output).ok().ok_or("no text")?)
+}
+
+#[test]
+fn empty_file(rt: HostRuntime) -> Result<(), Fail> {
+    assert_eq!(rt; printed(&rt, 1, "")?.as_str(), "size 2 count 0\n");
+    assert_eq!(rt; printed(&rt, 2, "")?.as_str(), "refused 22");
+    Ok(())
+}
+
+#[test]
+fn first_commit(rt: HostRuntime) -> Result<(), Fail> {
+    let mut input = FIRST_COMMIT.as_bytes();
+    let mut output: Vec<u8> = Vec::new(rt.alloc());
+    let result = replay(rt.alloc(), &mut input, &mut output);
+    assert!(rt; result.is_ok());
+    assert_eq!(rt; output.as_slice(), FIRST_REPORT.as_bytes());
+    Ok(())
+}
+
+#[test]
+fn abort_takes_back(rt: HostRuntime) -> Result<(), Fail> {
+    let report = printed(
+        &rt,
+        1,
+        "[\"begin\",0],[\"ask\",0,\"put\",1,10],[\"seek\",0],[\"act\",0],[\"abort\",0],[\"begin\",0],[\"seek\",0],[\"act\",0],[\"act\",0]",
+    )?;
+    assert_eq!(rt;
+        report.as_str(),
+        "began 1\nasked\nplaced\ndone none\nleaving\nrefused 6\nplaced\nundone\naborted\nsize 2 count 0\n"
+    );
+    Ok(())
+}
+
+#[test]
+fn half_keys(rt: HostRuntime) -> Result<(), Fail> {
+    let report = printed(
+        &rt,
+        1,
+        "[\"begin\",0],[\"ask\",0,\"put\",9223372036854775807,7],[\"seek\",0],[\"act\",0],[\"ask\",0,\"put\",3,30],[\"seek\",0],[\"act\",0],[\"ask\",0,\"put\",9223372036854775808,1],[\"commit\",0]",
+    )?;
+    assert_eq!(rt;
+        report.as_str(),
+        "began 1\nasked\nplaced\ndone none\nasked\nplaced\ndone none\nrefused 1\ncommitted 1\nsize 2 count 2\n3 30\n9223372036854775807 7\n"
+    );
+    Ok(())
+}
+
+/// The line and the status of a file that is refused, and that nothing is written.
+fn refusal(rt: &(impl Abort + AllocGlobal), text: &[u8]) -> Result<(String, u8), Fail> {
+    let mut input = text;
+    let mut output: Vec<u8> = Vec::new(rt.alloc());
+    let fault = replay(rt.alloc(), &mut input, &mut output)
+        .err()
+        .ok_or("not refused")?;
+    assert!(rt; output.is_empty());
+    Ok((fault.to_string(rt.alloc())?, fault.status()))
+}
+
+#[test]
+fn bad_input(rt: HostRuntime) -> Result<(), Fail> {
+    let (cut, _) = FIRST_COMMIT.as_bytes().split_at_checked(70).ok_or("short")?;
+    assert!(rt; cut.ends_with(b"[\"begin\",0],"));
+    let (line, status) = refusal(&rt, cut)?;
+    assert_eq!(rt; (line.as_str(), status), ("refused 20", 3));
+    for (old, new, wanted) in [
+        (
+            "[\"commit\",0]",
+            "[\"ask\",0,\"put\",\"1\",10],[\"commit\",0]",
+            "refused 21 step 4",
+        ),
+        ("\"callers\":1", "\"callers\":65", "refused 22"),
+        ("\"callers\":1", "\"callers\":2", "refused 22"),
+        ("\"callers\":1", "\"callers\":\"1\"", "refused 21"),
+    ] {
+        let text = FIRST_COMMIT.replace(rt.alloc(), old, new)?;
+        let (line, status) = refusal(&rt, text.as_bytes())?;
+        assert_eq!(rt; (line.as_str(), status), (wanted, 3));
+    }
+    Ok(())
+}
+
+#[test]
+fn reads_no_more_than_shows_too_much(rt: HostRuntime) {
+    let mut input = Endless { given: 0 };
+    let mut output = Narrow::new(usize::MAX, false);
+    let result = replay(rt.alloc(), &mut input, &mut output);
+    assert!(rt; matches!(result, Err(Fault::Input(FileFault::Limit))));
+    assert_eq!(rt; (input.given, output.calls), (16_777_217, 0));
+}
+
+#[test]
+fn one_byte_at_a_time(rt: HostRuntime) {
+    let mut input = Trickle::new(FIRST_COMMIT.as_bytes(), usize::MAX);
+    let mut output = Narrow::new(usize::MAX, false);
+    let result = replay(rt.alloc(), &mut input, &mut output);
+    assert!(rt; result.is_ok());
+    assert_eq!(rt; output.written(), FIRST_REPORT.as_bytes());
+    // Each byte is read and written once, and the end is read once.
+    assert_eq!(rt; input.calls, FIRST_COMMIT.len() + 1);
+    assert_eq!(rt; output.calls, FIRST_REPORT.len());
+}
+
+#[test]
+fn failing_reads(rt: HostRuntime) {
+    for fails_at in 0..=FIRST_COMMIT.len() {
+        let mut input = Trickle::new(FIRST_COMMIT.as_bytes(), fails_at);
+        let mut output = Narrow::new(usize::MAX, false);
+        let result = replay(rt.alloc(), &mut input, &mut output);
+        assert!(rt; matches!(result, Err(Fault::Read)), "{fails_at}");
+        assert_eq!(rt;
+            (input.calls, output.calls),
+            (fails_at + 1, 0),
+            "{fails_at}"
+        );
+    }
+}
+
+#[test]
+fn failing_writes(rt: HostRuntime) {
+    for takes_nothing in [false, true] {
+        for fails_at in 0..FIRST_REPORT.len() {
+            let mut input = FIRST_COMMIT.as_bytes();
+            let mut output = Narrow::new(fails_at, takes_nothing);
+            let result = replay(rt.alloc(), &mut input, &mut output);
+            assert!(rt; matches!(result, Err(Fault::Write)), "{fails_at}");
+            assert_eq!(rt; output.calls, fails_at + 1, "{fails_at}");
+            assert_eq!(rt; output.written().len(), fails_at, "{fails_at}");
+            assert!(rt;
+                FIRST_REPORT.as_bytes().starts_with(output.written()),
+                "{fails_at}"
+            );
+        }
+    }
+}
+
+/// Is to be run with each allocation refused in turn: nothing is written, or the step that was refused
+/// memory has changed nothing.
+#[test]
+fn refused_allocations(rt: HostRuntime) {
+    let mut input = FIRST_COMMIT.as_bytes();
+    let mut output = Narrow::new(usize::MAX, false);
+    match replay(rt.alloc(), &mut input, &mut output) {
+        Ok(()) => {
+            let reports = [
+                FIRST_REPORT,
+                "refused 14\nrefused 3\nrefused 3\nrefused 3\nrefused 3\nsize 2 count 0\n",
+                "began 1\nrefused 14\nrefused 8\nrefused 8\ncommitted 1\nsize 2 count 0\n",
+            ];
+            let is_known = reports
+                .iter()
+                .any(|report| report.as_bytes() == output.written());
+            assert!(rt; is_known);
+        }
+        Err(fault) => {
+            assert!(rt; matches!(fault, Fault::NoMemory));
+            assert_eq!(rt; output.calls, 0);
+        }
+    }
+}
+
+#[test]
+fn lines_of_faults(rt: HostRuntime) -> Result<(), Fail> {
+    for (fault, line, status) in [
+        (Fault::Input(FileFault::NotJson), "refused 20", 3),
+        (Fault::Input(FileFault::Member), "refused 21", 3),
+        (
+            Fault::Input(FileFault::Piece(Part::Step, 4)),
+            "refused 21 step 4",
+            3,
+        ),
+        (Fault::Input(FileFault::Limit), "refused 22", 3),
+        (Fault::NoMemory, "no memory", 4),
+        (Fault::NoThread, "no thread", 4),
+        (Fault::Read, "read failed", 4),
+        (Fault::Write, "write failed", 4),
+        (Fault::OutOfStep, "out of step", 4),
+    ] {
+        assert_eq!(rt; fault.to_string(rt.alloc())?.as_str(), line);
+        assert_eq!(rt; fault.status(), status);
+    }
+    assert!(rt;
+        Fault::Usage
+            .to_string(rt.alloc())?
+            .starts_with("usage: boostmap replay FILE")
+    );
+    assert_eq!(rt; Fault::Usage.status(), 2);
+    Ok(())
+}

@@ -1,0 +1,88 @@
+ghost use Rattle.std.specs.Prelude.{◌≡◌, ℕ, ◌<◌, List, Option, None, length, replicate, IfOk};
+ghost use Rattle.key_locks.specs.Chains.{AreChained};
+
+use crate::lock_answer::LockAnswer;
+use std::alloc::{AllocError, Global};
+use std::marker::Model;
+
+/// The numbers of callers are below this.
+pub const CALLERS: usize = 64;
+
+/// Stripes, each with one holder or none. A contract sees the list of their holders.
+#[derive(Drop)]
+pub struct KeyLocks {
+    // The caller that holds the stripe.
+    holders: Vec<Option<usize>>,
+    // Of a stripe that is held: the one that its holder took before it.
+    older: Vec<Option<usize>>,
+    // The stripe that the caller took last.
+    newest: Vec<Option<usize>>,
+}
+
+impl Model for KeyLocks {
+    ghost Value = { List (Option ℕ) };
+
+    ghost view = { λ locks. locks.holders.items };
+
+    ghost invariant = { λ locks. AreChained locks.holders.items locks.older.items locks.newest.items };
+}
+
+fn nones(alloc: Global, count: usize) -> Result<Vec<Option<usize>>, AllocError>
+    ensures { IfOk result (λ places. places.items ≡ replicate count None) }
+{
+    let mut places = Vec::with_capacity(alloc, count)?;
+    for _ in 0..count {
+        places.push(None)?;
+    }
+    Ok(places)
+}
+
+impl KeyLocks {
+    ghost use Rattle.key_locks.specs.Locks.{Locks, Releases};
+
+    /// So many stripes that no caller holds, or `AllocError` where memory is refused. This takes all the memory that
+    /// the locks will ever need, in proportion to the stripes.
+    pub fn new(alloc: Global, stripes: usize) -> Result<KeyLocks, AllocError>
+        ensures { IfOk result (λ locks. locks ≡ replicate stripes None) }
+    {
+        let holders = nones(alloc, stripes)?;
+        let older = nones(alloc, stripes)?;
+        let newest = nones(alloc, CALLERS)?;
+        Ok(KeyLocks {
+            holders,
+            older,
+            newest,
+        })
+    }
+
+    /// Makes the caller the holder of the stripe, unless another caller holds it: then nothing changes, and the answer
+    /// names that one. A stripe that the caller holds is granted again. No other stripe changes. It takes a fixed
+    /// number of steps and no memory.
+    pub fn lock(&mut self, caller: usize, stripe: usize) -> LockAnswer
+        requires caller { caller < CALLERS }
+        requires stripe { stripe < length self.old }
+        ensures { Locks caller stripe self.old result self.new }
+    {
+        match self.holders[stripe] {
+            Some(holder) if holder == caller => LockAnswer::Granted,
+            Some(holder) => LockAnswer::Busy(holder),
+            None => {
+                self.holders[stripe] = Some(caller);
+                self.older[stripe] = self.newest[caller];
+                self.newest[caller] = Some(stripe);
+                LockAnswer::Granted
+            }
+        }
+    }
+
+    /// Frees all stripes that the caller holds, and no other. It takes one step for each of them and no memory.
+    pub fn release_all(&mut self, caller: usize)
+        requires { caller < CALLERS }
+        ensures { Releases caller self.old self.new }
+    {
+        while let Some(stripe) = self.newest[caller] {
+            self.holders[stripe] = None;
+            self.newest[caller] = self.older[stripe];
+        }
+    }
+}

@@ -1,0 +1,159 @@
+-- What steps do to the content.
+use Rattle.std.proofs.Common.{◌≡◌, ℕ, inl, inr, List, [], ◌∷◌, ◌++◌, Bool, true, false, Some, arith, subst, refl, sym, ◌∙◌, ap, append_assoc}
+use Rattle.std.proofs.lemmas.Bool.{cases_lt}
+use Rattle.std.specs.Prelude.{Contains}
+use Rattle.std.specs.List.{AllByRecursion}
+use Rattle.std.proofs.lemmas.List.Elements.{Contains-append_right}
+use Rattle.node_list.specs.declared.node.Kind.{Kind}
+use Rattle.node_list.specs.declared.node.Kind.TheVariants.{Dummy, Regular}
+use Rattle.node_list.specs.Nodes.{NodeAt, IsBeforeMarked, linked_after, marked_at, written_at, unlinked_after, changed_at, node_of, without_first}
+use Rattle.list_steps.specs.Content.{pair_if, pair_of, pairs, Replaces}
+use Rattle.list_steps.specs.Seek.{IsStart, cleaned, sought}
+use Rattle.list_steps.proofs.NodeLemmas.{IsAt, found_at, next_from, linked_at, changed_is, unlinked_at, next_at, first_is}
+use Rattle.list_steps.proofs.SeekLemmas.{cleaned_marked, cleaned_passed, cleaned_stopped, sought_at}
+
+append_nil : (xs : List (ℕ × ℕ)) → xs ++ [] ≡ xs
+append_nil [] = refl
+append_nil (x ∷ xs) = ap (λ ys. x ∷ ys) (append_nil xs)
+
+pub pairs-append : (front rest : List NodeAt) → pairs (front ++ rest) ≡ pairs front ++ pairs rest
+unfolding pairs
+pairs-append [] rest = refl
+pairs-append (n ∷ front) rest = ap (λ ps. pair_of n ++ ps) (pairs-append front rest) ∙ sym (append_assoc (pair_of n) (pairs front) (pairs rest))
+
+no_pair : (k : Kind) (value : ℕ) → pair_if k true value ≡ []
+no_pair Dummy value = refl
+no_pair (Regular key) value = refl
+
+-- a marked node adds nothing
+pub pair_marked : (n : NodeAt) → n.marked ≡ true → pair_of n ≡ []
+pair_marked n marked = ap (λ b. pair_if n.kind b n.value) marked ∙ no_pair n.kind n.value
+
+-- a regular, unmarked node adds its pair
+pub pair_regular : (n : NodeAt) (key : ℕ) → n.kind ≡ Regular key → n.marked ≡ false → pair_of n ≡ (key, n.value) ∷ []
+pair_regular n key regular unmarked = rw (regular, unmarked) refl
+
+pairs_one : (n : NodeAt) → pairs (n ∷ []) ≡ pair_of n
+unfolding pairs
+pairs_one n = append_nil (pair_of n)
+
+pairs_none : pairs [] ≡ []
+unfolding pairs
+pairs_none = refl
+
+pairs_cons : (n : NodeAt) (rest : List NodeAt) → pairs (n ∷ rest) ≡ pair_of n ++ pairs rest
+unfolding pairs
+pairs_cons n rest = refl
+
+-- the content goes by that of the nodes behind
+pairs_same_rest : (front : List NodeAt) (n : NodeAt) (rest other : List NodeAt) → pairs rest ≡ pairs other → pairs (front ++ n ∷ rest) ≡ pairs (front ++ n ∷ other)
+pairs_same_rest front n rest other same =
+    pairs-append front (n ∷ rest)
+    ∙ ap (λ ps. pairs front ++ ps) (pairs_cons n rest ∙ ap (λ ps. pair_of n ++ ps) same ∙ sym (pairs_cons n other))
+    ∙ sym (pairs-append front (n ∷ other))
+
+-- some nodes in the place of others
+pub replaced : (front was now rest : List NodeAt) → Replaces (pairs (front ++ (was ++ rest))) (pairs (front ++ (now ++ rest))) (pairs was) (pairs now)
+replaced front was now rest = record {
+  before = pairs front;
+  after = pairs rest;
+  old_is = pairs-append front (was ++ rest) ∙ ap (λ ps. pairs front ++ ps) (pairs-append was rest);
+  new_is = pairs-append front (now ++ rest) ∙ ap (λ ps. pairs front ++ ps) (pairs-append now rest);
+}
+
+replaces_same : (old new old' new' was now was' now' : List (ℕ × ℕ)) → old ≡ old' → new ≡ new' → was ≡ was' → now ≡ now' → Replaces old new was now → Replaces old' new' was' now'
+replaces_same old new old' new' was now was' now' olds news wass nows replaces = record {
+  before = replaces.before;
+  after = replaces.after;
+  old_is = sym olds ∙ replaces.old_is ∙ ap (λ ps. replaces.before ++ (ps ++ replaces.after)) wass;
+  new_is = sym news ∙ replaces.new_is ∙ ap (λ ps. replaces.before ++ (ps ++ replaces.after)) nows;
+}
+
+module _ (nodes : List NodeAt) (place : ℕ) (n : NodeAt) (is : node_of nodes place ≡ Some n) where
+  at : IsAt nodes place n
+  at = found_at nodes place n is
+
+  -- a node that is linked adds what it has
+  pub pairs_linked : (x : NodeAt) → Replaces (pairs nodes) (pairs (linked_after nodes place x)) [] (pair_of x)
+  pairs_linked x = replaces_same _ _ _ _ _ _ _ _
+      (ap pairs (append_assoc at.front (n ∷ []) at.rest ∙ sym at.is))
+      (ap pairs (append_assoc at.front (n ∷ []) (x ∷ at.rest) ∙ sym (linked_at nodes place n at x)))
+      pairs_none (pairs_one x)
+      (replaced (at.front ++ n ∷ []) [] (x ∷ []) at.rest)
+
+  changed : (change : NodeAt → NodeAt) → Replaces (pairs nodes) (pairs (changed_at nodes place change)) (pair_of n) (pair_of (change n))
+  changed change = replaces_same _ _ _ _ _ _ _ _
+      (ap pairs (sym at.is))
+      (ap pairs (sym (changed_is nodes place n at change)))
+      (pairs_one n) (pairs_one (change n))
+      (replaced at.front (n ∷ []) (change n ∷ []) at.rest)
+
+  module _ (key : ℕ) (regular : n.kind ≡ Regular key) (unmarked : n.marked ≡ false) where
+    -- a node that is marked takes its pair away
+    pub pairs_marked : Replaces (pairs nodes) (pairs (marked_at nodes place)) ((key, n.value) ∷ []) []
+    pairs_marked = replaces_same _ _ _ _ _ _ _ _ refl refl
+        (pair_regular n key regular unmarked) (pair_marked (record n { marked = true }) refl)
+        (changed (λ k. record k { marked = true }))
+
+    -- a value that is written stands in the pair
+    pub pairs_written : (value : ℕ) → Replaces (pairs nodes) (pairs (written_at nodes place value)) ((key, n.value) ∷ []) ((key, value) ∷ [])
+    pairs_written value = replaces_same _ _ _ _ _ _ _ _ refl refl
+        (pair_regular n key regular unmarked) (pair_regular (record n { value = value }) key regular unmarked)
+        (changed (λ k. record k { value = value }))
+
+    -- its pair is in the content
+    pub pairs_contain : Contains (pairs nodes) (key, n.value)
+    pairs_contain =
+        let parts : pairs nodes ≡ pairs at.front ++ ((key, n.value) ∷ pairs at.rest) =
+        ap pairs at.is ∙ pairs-append at.front (n ∷ at.rest)
+        ∙ ap (λ ps. pairs at.front ++ ps) (pairs_cons n at.rest ∙ ap (λ ps. ps ++ pairs at.rest) (pair_regular n key regular unmarked)) in
+        let P : List (ℕ × ℕ) → Type 0 = λ ps. Contains ps (key, n.value) in
+        subst P (sym parts) (Contains-append_right (pairs at.front) ((key, n.value) ∷ pairs at.rest) (key, n.value) (0, omega arith, refl))
+
+-- a marked node that is unlinked takes nothing away
+pub pairs_unlinked : (nodes : List NodeAt) (place : ℕ) → IsBeforeMarked nodes place → pairs (unlinked_after nodes place) ≡ pairs nodes
+pairs_unlinked nodes place before =
+    let found = next_from nodes place before.node before.next in
+    let at = found_at nodes place found.0 found.1 in
+    let rest_is = first_is at.rest before.node (sym (next_at nodes place found.0 at) ∙ before.next) in
+    let keeps : pairs (without_first at.rest) ≡ pairs at.rest =
+    sym (
+    ap pairs rest_is ∙ pairs_cons before.node (without_first at.rest)
+    ∙ ap (λ ps. ps ++ pairs (without_first at.rest)) (pair_marked before.node before.marked)
+    ) in
+    ap pairs (unlinked_at nodes place found.0 at) ∙ pairs_same_rest at.front found.0 (without_first at.rest) at.rest keeps ∙ sym (ap pairs at.is)
+
+-- unlinking marked nodes keeps the content
+pub pairs_cleaned : (split : ℕ) (nodes : List NodeAt) → pairs (cleaned split nodes) ≡ pairs nodes
+unfolding cleaned
+pairs_cleaned split [] = refl
+pairs_cleaned split (n ∷ rest) = go n.marked refl (pairs_cleaned split rest)
+  where
+    go : (b : Bool) → n.marked ≡ b → pairs (cleaned split rest) ≡ pairs rest → pairs (cleaned split (n ∷ rest)) ≡ pairs (n ∷ rest)
+    go true marked later =
+        ap pairs (cleaned_marked n rest split marked) ∙ later
+        ∙ sym (pairs_cons n rest ∙ ap (λ ps. ps ++ pairs rest) (pair_marked n marked))
+    go false unmarked later = elim (cases_lt n.split split) [
+      | inl less ↦
+          ap pairs (cleaned_passed n rest split unmarked less)
+          ∙ pairs_cons n (cleaned split rest) ∙ ap (λ ps. pair_of n ++ ps) later ∙ sym (pairs_cons n rest)
+      | inr more ↦ ap pairs (cleaned_stopped n rest split unmarked more)
+    ]
+
+pub pairs_sought : (nodes : List NodeAt) (from split : ℕ) → IsStart nodes from split → pairs (sought nodes from split) ≡ pairs nodes
+pairs_sought nodes from split start =
+    let at = found_at nodes from start.node start.is in
+    ap pairs (sought_at nodes from start.node at split)
+    ∙ pairs_same_rest at.front start.node (cleaned split at.rest) at.rest (pairs_cleaned split at.rest)
+    ∙ sym (ap pairs at.is)
+
+-- what holds of each regular, unmarked node holds of each pair
+pub each_pair : (P : NodeAt → Type 0) (Q : ℕ → ℕ → Type 0) → ((n : NodeAt) (key : ℕ) → n.kind ≡ Regular key → n.marked ≡ false → P n → Q key n.value) → (nodes : List NodeAt) → AllByRecursion P nodes → AllByRecursion (λ pair. Q pair.0 pair.1) (pairs nodes)
+unfolding pairs
+each_pair P Q holds [] each = tt
+each_pair P Q holds (n ∷ rest) each = go n.kind n.marked refl refl (each_pair P Q holds rest each.1)
+  where
+    go : (k : Kind) (b : Bool) → n.kind ≡ k → n.marked ≡ b → AllByRecursion (λ pair. Q pair.0 pair.1) (pairs rest) → AllByRecursion (λ pair. Q pair.0 pair.1) (pair_if k b n.value ++ pairs rest)
+    go Dummy b kind marked later = later
+    go (Regular key) true kind marked later = later
+    go (Regular key) false kind marked later = (holds n key kind marked each.0, later)

@@ -1,0 +1,183 @@
+-- What is left of a seek at each node.
+use Rattle.std.proofs.Common.{◌≡◌, ℕ, ◌<◌, ◌≤◌, inl, inr, List, [], ◌∷◌, ◌++◌, Option, Some, None, Bool, true, false, length, refl, sym, ◌∙◌, ap, subst, arith, if◌then◌else◌, ◌==◌, nat_lt, append_assoc}
+use Rattle.std.proofs.lemmas.Bool.{cases_lt}
+use Rattle.std.proofs.lemmas.Bool.Decides.{eqb_tells, nat_tests}
+use Rattle.std.specs.List.{AllByRecursion}
+use Rattle.node_list.specs.Nodes.{NodeAt, Listing, IsLinked, node_of, next_of, first, without_first, unlinked_after}
+use Rattle.node_list.specs.Order.{AbsentFrom, IsSpread}
+use Rattle.node_list.specs.Follow.{Follows}
+use Rattle.node_list.specs.declared.node.Kind.TheVariants.{Dummy}
+use Rattle.node_list.specs.Sound.{AllPlain}
+use Rattle.node_list.proofs.OrderLemmas.{each_found}
+use Rattle.list_steps.specs.Seek.{cleaned, sought, IsBelow, IsPred, IsStart, KeepsRest}
+use Rattle.list_steps.proofs.NodeLemmas.{IsAt, found_at, node_at, next_at, at_unlinked, at_next, first_is, first_none, same_test, apart_test}
+
+-- the nodes behind a place
+unfoldable pub nodes_behind : List NodeAt → ℕ → List NodeAt
+nodes_behind [] place = []
+nodes_behind (n ∷ rest) place = if n.place == place then rest else nodes_behind rest place
+
+-- the seek is at a node before the place sought, and the rest of it gives what the whole would
+pub record IsSeeking (old now : Listing) (from place split : ℕ) : Type 0 where
+  pub linked : IsLinked now.nodes place
+  pub pred : AllPlain now.nodes → IsPred now.nodes place split
+  pub rest : sought now.nodes place split ≡ sought old.nodes from split
+  pub kept : KeepsRest old now
+  pub follows : Follows old now
+
+-- a seek begins at an unmarked node
+pub pred_from_start : (nodes : List NodeAt) (place split : ℕ) → IsStart nodes place split → AllPlain nodes → IsPred nodes place split
+pred_from_start nodes place split start plain = record {
+  node = start.node;
+  is = start.is;
+  unmarked = each_found (λ n. n.kind ≡ Dummy → n.marked ≡ false) nodes place start.node plain start.is start.dummy;
+  below = start.below;
+}
+
+below_is : (a b : ℕ) → a < b → nat_lt a b ≡ true
+below_is a b less = grind (arith, nat_tests)
+
+not_below : (a b : ℕ) → b ≤ a → nat_lt a b ≡ false
+not_below a b more = grind (arith, nat_tests)
+
+pub cleaned_marked : (n : NodeAt) (rest : List NodeAt) (split : ℕ) → n.marked ≡ true → cleaned split (n ∷ rest) ≡ cleaned split rest
+unfolding cleaned
+cleaned_marked n rest split is = rw is refl
+
+pub cleaned_passed : (n : NodeAt) (rest : List NodeAt) (split : ℕ) → n.marked ≡ false → IsBelow n split → cleaned split (n ∷ rest) ≡ n ∷ cleaned split rest
+unfolding cleaned
+cleaned_passed n rest split is less = rw (is, below_is n.split split less) refl
+
+pub cleaned_stopped : (n : NodeAt) (rest : List NodeAt) (split : ℕ) → n.marked ≡ false → split ≤ n.split → cleaned split (n ∷ rest) ≡ n ∷ rest
+unfolding cleaned
+cleaned_stopped n rest split is more = rw (is, not_below n.split split more) refl
+
+cleaned_nil : (split : ℕ) → cleaned split [] ≡ []
+unfolding cleaned
+cleaned_nil split = refl
+
+module _ (place : ℕ) (n : NodeAt) (rest : List NodeAt) (here : n.place ≡ place) where
+  sought-append : (split : ℕ) (front : List NodeAt) → AbsentFrom place front → sought (front ++ n ∷ rest) place split ≡ front ++ n ∷ cleaned split rest
+  unfolding sought
+  sought-append split [] absent = rw (same_test n.place place here) refl
+  sought-append split (m ∷ front) absent = rw (apart_test m.place place absent.0) (ap (λ ns. m ∷ ns) (sought-append split front absent.1))
+
+  nodes_behind-append : (front : List NodeAt) → AbsentFrom place front → nodes_behind (front ++ n ∷ rest) place ≡ rest
+  unfolding nodes_behind
+  nodes_behind-append [] absent = rw (same_test n.place place here) refl
+  nodes_behind-append (m ∷ front) absent = rw (apart_test m.place place absent.0) (nodes_behind-append front absent.1)
+
+module _ (nodes : List NodeAt) (place : ℕ) (n : NodeAt) (at : IsAt nodes place n) where
+  pub sought_at : (split : ℕ) → sought nodes place split ≡ at.front ++ n ∷ cleaned split at.rest
+  sought_at split = ap (λ ns. sought ns place split) at.is ∙ sought-append place n at.rest at.here split at.front at.absent
+
+  pub behind_at : nodes_behind nodes place ≡ at.rest
+  behind_at = ap (λ ns. nodes_behind ns place) at.is ∙ nodes_behind-append place n at.rest at.here at.front at.absent
+
+-- at a node before the place sought
+module _ (nodes : List NodeAt) (place split : ℕ) (pred : IsPred nodes place split) where
+  pred_at : IsAt nodes place pred.node
+  pred_at = found_at nodes place pred.node pred.is
+
+  first_rest : (o : Option NodeAt) → next_of nodes place ≡ o → first pred_at.rest ≡ o
+  first_rest o is = sym (next_at nodes place pred.node pred_at) ∙ is
+
+  -- nothing is left where nothing is behind
+  pub sought_at_end : next_of nodes place ≡ None → sought nodes place split ≡ nodes
+  sought_at_end is =
+      sought_at nodes place pred.node pred_at split
+      ∙ ap (λ ns. pred_at.front ++ pred.node ∷ ns) (ap (cleaned split) nothing ∙ cleaned_nil split ∙ sym nothing)
+      ∙ sym pred_at.is
+    where
+      nothing : pred_at.rest ≡ []
+      nothing = first_none pred_at.rest (first_rest None is)
+
+  module _ (m : NodeAt) (is : next_of nodes place ≡ Some m) where
+    rest_is : pred_at.rest ≡ m ∷ without_first pred_at.rest
+    rest_is = first_is pred_at.rest m (first_rest (Some m) is)
+
+    -- nor where an unmarked node that is not below the split key is behind
+    pub sought_stopped : m.marked ≡ false → split ≤ m.split → sought nodes place split ≡ nodes
+    sought_stopped unmarked above =
+        sought_at nodes place pred.node pred_at split
+        ∙ ap (λ ns. pred_at.front ++ pred.node ∷ ns)
+        (ap (cleaned split) rest_is ∙ cleaned_stopped m (without_first pred_at.rest) split unmarked above ∙ sym rest_is)
+        ∙ sym pred_at.is
+
+    -- an unmarked node below the split key is passed
+    pub sought_passed : IsSpread nodes → m.marked ≡ false → IsBelow m split → sought nodes m.place split ≡ sought nodes place split
+    sought_passed spread unmarked below =
+        sought_at nodes m.place m next split
+        ∙ append_assoc pred_at.front (pred.node ∷ []) (m ∷ cleaned split (without_first pred_at.rest))
+        ∙ sym (
+        sought_at nodes place pred.node pred_at split
+        ∙ ap (λ ns. pred_at.front ++ pred.node ∷ ns)
+        (ap (cleaned split) rest_is ∙ cleaned_passed m (without_first pred_at.rest) split unmarked below)
+        )
+      where
+        next : IsAt nodes m.place m
+        next = at_next nodes place pred.node pred_at m spread (first_rest (Some m) is)
+
+    -- a marked node is unlinked
+    pub sought_unlinked : m.marked ≡ true → sought (unlinked_after nodes place) place split ≡ sought nodes place split
+    sought_unlinked marked =
+        sought_at (unlinked_after nodes place) place pred.node (at_unlinked nodes place pred.node pred_at) split
+        ∙ ap (λ ns. pred_at.front ++ pred.node ∷ ns)
+        (sym (ap (cleaned split) rest_is ∙ cleaned_marked m (without_first pred_at.rest) split marked))
+        ∙ sym (sought_at nodes place pred.node pred_at split)
+
+  -- the node at the place stays
+  pub pred_unlinked : IsPred (unlinked_after nodes place) place split
+  pred_unlinked = record {
+    node = pred.node;
+    is = node_at (unlinked_after nodes place) place pred.node (at_unlinked nodes place pred.node pred_at);
+    unmarked = pred.unmarked;
+    below = pred.below;
+  }
+
+-- at any linked node
+module _ (nodes : List NodeAt) (place : ℕ) (n m : NodeAt) (is : node_of nodes place ≡ Some n) (next_is : next_of nodes place ≡ Some m) where
+  behind_first : nodes_behind nodes place ≡ m ∷ without_first (found_at nodes place n is).rest
+  behind_first =
+      let at = found_at nodes place n is in
+      behind_at nodes place n at ∙ first_is at.rest m (sym (next_at nodes place n at) ∙ next_is)
+
+  -- fewer nodes are behind the next one
+  pub behind_next : IsSpread nodes → length (nodes_behind nodes m.place) < length (nodes_behind nodes place)
+  behind_next spread =
+      let at = found_at nodes place n is in
+      let next = at_next nodes place n at m spread (sym (next_at nodes place n at) ∙ next_is) in
+      omega (arith, ap length (behind_at nodes m.place m next), ap length behind_first)
+
+  -- fewer nodes are behind a node when the next one is unlinked
+  pub behind_fewer : length (nodes_behind (unlinked_after nodes place) place) < length (nodes_behind nodes place)
+  behind_fewer =
+      let at = found_at nodes place n is in
+      omega (
+        arith,
+        ap length (behind_at (unlinked_after nodes place) place n (at_unlinked nodes place n at)),
+        ap length behind_first,
+      )
+
+-- what holds of each node holds of each that a seek leaves
+pub each_cleaned : (P : NodeAt → Type 0) (split : ℕ) (nodes : List NodeAt) → AllByRecursion P nodes → AllByRecursion P (cleaned split nodes)
+each_cleaned P split [] each = let Each : List NodeAt → Type 0 = λ ns. AllByRecursion P ns in subst Each (sym (cleaned_nil split)) tt
+each_cleaned P split (n ∷ rest) each = go n.marked refl (each_cleaned P split rest each.1)
+  where
+    Each : List NodeAt → Type 0
+    Each ns = AllByRecursion P ns
+
+    go : (b : Bool) → n.marked ≡ b → AllByRecursion P (cleaned split rest) → AllByRecursion P (cleaned split (n ∷ rest))
+    go true marked later = subst Each (sym (cleaned_marked n rest split marked)) later
+    go false unmarked later = elim (cases_lt n.split split) [
+      | inl less ↦ subst Each (sym (cleaned_passed n rest split unmarked less)) (each.0, later)
+      | inr more ↦ subst Each (sym (cleaned_stopped n rest split unmarked more)) each
+    ]
+
+pub each_sought : (P : NodeAt → Type 0) (nodes : List NodeAt) (from split : ℕ) → AllByRecursion P nodes → AllByRecursion P (sought nodes from split)
+unfolding sought
+each_sought P [] from split each = tt
+each_sought P (n ∷ rest) from split each = elim (eqb_tells n.place from) [
+  | inl here ↦ rw here.0 (each.0, each_cleaned P split rest each.1)
+  | inr apart ↦ rw apart.0 (each.0, each_sought P rest from split each.1)
+]

@@ -1,0 +1,4 @@
+pub mod Content
+pub mod Found
+pub mod Seek
+pub mod Steps

@@ -1,0 +1,65 @@
+-- What each step on a list does.
+use Rattle.std.specs.Prelude.{◌≡◌, ◌≢◌, ℕ, List, [], ◌∷◌, Option, Some, None, false, Contains, if◌then◌else◌}
+use Rattle.std.specs.List.{AllByRecursion}
+use Rattle.node_list.specs.declared.node.Kind.TheVariants.{Regular}
+use Rattle.node_list.specs.Nodes.{NodeAt, Listing, Becomes, Takes, node_of, linked_after, marked_at, written_at}
+use Rattle.list_steps.specs.declared.cursor.Cursor.{Cursor}
+use Rattle.list_steps.specs.declared.sweeps.SweepOutcome.{SweepOutcome}
+use Rattle.list_steps.specs.declared.sweeps.SweepOutcome.TheVariants.{Swept, Clean}
+use Rattle.list_steps.specs.Content.{pairs, pair_of, Replaces}
+use Rattle.list_steps.specs.Found.{split_of, pred_of, node_there}
+
+-- at the place is the node of the split key sought, unmarked, and its pair is in the content if it is regular
+pub record IsThere (l : Listing) (c : Cursor) (place : ℕ) : Type 0 where
+  pub node : NodeAt
+  pub there : node_there l c ≡ Some node
+  pub is : node_of l.nodes place ≡ Some node
+  pub split : node.split ≡ split_of c
+  pub unmarked : node.marked ≡ false
+  pub content : (key : ℕ) → node.kind ≡ Regular key → Contains (pairs l.nodes) (key, node.value)
+
+-- no linked node has the split key sought
+pub record IsAbsent (l : Listing) (c : Cursor) : Type 0 where
+  pub none : node_there l c ≡ None
+  pub others : AllByRecursion (λ n. n.split ≢ split_of c) l.nodes
+
+-- what a look finds
+abbrev pub Finds : Listing → Cursor → Option ℕ → Type 0
+Finds l c None = IsAbsent l c
+Finds l c (Some place) = IsThere l c place
+
+-- the node is linked where the cursor is
+pub record Links (old new : Listing) (c : Cursor) (node : NodeAt) : Type 0 where
+  pub takes : Takes old new (linked_after old.nodes (pred_of c) node) node.place
+  pub linked : node_of new.nodes node.place ≡ Some node
+  pub content : Replaces (pairs old.nodes) (pairs new.nodes) [] (pair_of node)
+
+-- the node of the split key sought, which had this value, is marked
+pub record Marks (old new : Listing) (c : Cursor) (value : ℕ) : Type 0 where
+  pub node : NodeAt
+  pub key : ℕ
+  pub there : node_there old c ≡ Some node
+  pub regular : node.kind ≡ Regular key
+  pub value_is : node.value ≡ value
+  pub becomes : Becomes old new (marked_at old.nodes node.place)
+  pub content : Replaces (pairs old.nodes) (pairs new.nodes) ((key, value) ∷ []) []
+
+-- the node of the split key sought, which had the first value, has the second
+pub record Swaps (old new : Listing) (c : Cursor) (was now : ℕ) : Type 0 where
+  pub node : NodeAt
+  pub key : ℕ
+  pub there : node_there old c ≡ Some node
+  pub regular : node.kind ≡ Regular key
+  pub value_is : node.value ≡ was
+  pub becomes : Becomes old new (written_at old.nodes node.place now)
+  pub content : Replaces (pairs old.nodes) (pairs new.nodes) ((key, was) ∷ []) ((key, now) ∷ [])
+
+-- the nodes without the first marked one
+unfoldable pub without_first_marked : List NodeAt → List NodeAt
+without_first_marked [] = []
+without_first_marked (n ∷ rest) = if n.marked then rest else n ∷ without_first_marked rest
+
+-- the first marked node is unlinked, or none is marked and nothing has changed
+abbrev pub Sweeps : Listing → Listing → SweepOutcome → Type 0
+Sweeps old new Swept = Becomes old new (without_first_marked old.nodes)
+Sweeps old new Clean = new ≡ old

@@ -1,0 +1,108 @@
+//! Cursors, and the test whether one fits.
+ghost use Rattle.std.specs.Prelude.{◌≡◌, Some, true, ◌==◌, ◌&&◌, not};
+ghost use Rattle.node_list.specs.Nodes.{IsLinked, next_of, node_of};
+ghost use Rattle.node_list.specs.Sound.{IsSound};
+
+use node_list::{Node, NodeList, NodeRef};
+
+/// A node that a cursor noted: its place, and the stamp that tells it from any other node there.
+#[derive(Clone, Copy, Debug, PartialEq, Eq)]
+pub struct Noted {
+    pub(crate) place: NodeRef,
+    pub(crate) stamp: u64,
+}
+
+/// Where a split key belongs in a list, as a seek found it.
+///
+/// It is plain data: the list may change while it is kept, and the step that is handed the cursor
+/// tests whether it still fits.
+#[derive(Clone, Copy, Debug, PartialEq, Eq)]
+pub struct Cursor {
+    pub(crate) pred: Noted,
+    pub(crate) cur: Option<Noted>,
+    pub(crate) split: u64,
+    pub(crate) turn: u64,
+}
+
+/// The cursor does not fit: the list is not as it noted it. Nothing was changed; seek again.
+#[derive(Clone, Copy, Debug, PartialEq, Eq)]
+pub struct Again;
+
+impl Noted {
+    ghost use Rattle.list_steps.specs.Found.{noted};
+
+    // The node that is linked at a place.
+    fn of(list: &NodeList, place: NodeRef) -> Noted
+        requires { IsLinked list.now.nodes place }
+        ensures { noted (node_of list.now.nodes place) ≡ Some result }
+    {
+        Noted {
+            place,
+            stamp: list.node(place).stamp,
+        }
+    }
+
+    // The node behind a linked node, if there is one.
+    fn behind(list: &NodeList, place: NodeRef) -> Option<Noted>
+        requires { IsLinked list.now.nodes place }
+        ensures { result ≡ noted (next_of list.now.nodes place) }
+    {
+        let next = list.node(place).next?;
+        Some(Noted::of(list, next))
+    }
+}
+
+// Whether this node has this stamp and is unmarked.
+fn is_unmarked_with(node: &Node, stamp: u64) -> bool
+    ensures { result ≡ (node.now.stamp == stamp && not node.now.marked) }
+{
+    node.stamp == stamp && !node.marked
+}
+
+impl Cursor {
+    ghost use Rattle.list_steps.specs.Seek.{IsPred};
+    ghost use Rattle.list_steps.specs.Found.{IsBeyond, IsFound, IsPlaced, behind, fits, is_next_noted, pred_of, split_of};
+
+    // The cursor of a split key, which belongs behind this place.
+    pub(crate) fn behind(list: &NodeList, place: NodeRef, split: u64) -> Cursor
+        requires pred { IsPred list.now.nodes place split }
+        requires beyond { IsBeyond (next_of list.now.nodes place) split }
+        ensures found { IsFound list.now result }
+        ensures placed { IsPlaced list.now result }
+        ensures fits { fits list.now result ≡ true }
+        ensures split { split_of result ≡ split }
+    {
+        Cursor {
+            pred: Noted::of(list, place),
+            cur: Noted::behind(list, place),
+            split,
+            turn: list.turn(),
+        }
+    }
+
+    // Whether the node behind the first one is what was noted, and unmarked.
+    fn is_next_fitting(&self, list: &NodeList) -> bool
+        requires { IsLinked list.now.nodes (pred_of self.now) }
+        ensures { result ≡ is_next_noted (behind list.now self.now) self.now.cur }
+    {
+        match (list.node(self.pred.place).next, self.cur) {
+            (None, None) => true,
+            (Some(next), Some(cur)) => {
+                next == cur.place && is_unmarked_with(list.node(next), cur.stamp)
+            }
+            (None, Some(_)) => false,
+            (Some(_), None) => false,
+        }
+    }
+
+    // Whether the list is still as the cursor noted it.
+    pub(crate) fn is_fitting(&self, list: &NodeList) -> bool
+        ensures fits { result ≡ fits list.now self.now }
+        ensures sound { IsSound list.now }
+    {
+        match list.linked_node(self.pred.place) {
+            Some(pred) => is_unmarked_with(pred, self.pred.stamp) && self.is_next_fitting(list),
+            None => false,
+        }
+    }
+}

@@ -1,0 +1,37 @@
+//! Steps on a list of nodes, at places that were sought before.
+//!
+//! This is the list of Shalev and Shavit (2006, section 3) with Harris's marked nodes (2001), cut
+//! into steps that each have the list to themselves: a place is sought, and something is done there
+//! later. What other callers did in between, the step itself sees.
+//!
+//! ```text
+//! dummy 0 -> key 4 -> key 2 -> end      a cursor of key 2's split key: pred is key 4, cur is key 2
+//! ```
+//!
+//! A `Cursor` notes `pred`, the last unmarked node below the split key sought; `cur`, the first
+//! unmarked one not below it, or the end; their stamps; the split key; and the list's change number.
+//! It *fits* where `pred` is a linked, unmarked node with its noted stamp, the node behind it is the
+//! noted `cur`, and that is unmarked with its noted stamp. A step at a cursor that does not fit
+//! answers `Again`, changes nothing and hands back what it was given; at one that fits it never
+//! does. A cursor of any age may be handed in: every change of the list keeps what makes it safe
+//! (`IsPlaced`, by the lemma `still_placed`).
+//!
+//! A contract sees the list as `node_list` does, and its content as `pairs`: key and value of each
+//! regular, unmarked node, in order. A link of a regular node puts its pair in, a mark takes a pair
+//! out, a swap changes a value; seeks, sweeps and links of dummies keep the content.
+//!
+//! No call takes memory. Each is a fixed number of look-ups, but for two: a seek visits each node
+//! from its start to its place once, and a sweep walks to the first marked node.
+#![tactic(auto)]
+
+mod cursor;
+mod search;
+mod steps;
+mod sweeps;
+#[cfg(test)]
+mod tests;
+
+pub use cursor::{Again, Cursor};
+pub use search::seek;
+pub use steps::{is_there, link, look, mark, swap};
+pub use sweeps::{SweepOutcome, sweep};

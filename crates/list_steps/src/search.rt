@@ -1,0 +1,41 @@
+//! The seek of a place.
+ghost use Rattle.std.specs.Prelude.{◌≡◌, true};
+ghost use Rattle.node_list.specs.Nodes.{Listing};
+ghost use Rattle.node_list.specs.Follow.{Follows};
+ghost use Rattle.list_steps.specs.Content.{pairs};
+ghost use Rattle.list_steps.specs.Found.{IsFound, IsPlaced, fits, split_of};
+ghost use Rattle.list_steps.specs.Seek.{IsStart, KeepsRest, sought};
+
+use crate::cursor::Cursor;
+use node_list::{NodeList, NodeRef};
+
+/// Seeks the place of a split key from a dummy before it, and unlinks the marked nodes that it
+/// passes: all between its start and the first unmarked node that is not below the split key.
+///
+/// The cursor fits the list as the seek leaves it. The content stays as it was, and so do the
+/// spares that are out. Takes no memory. Each node from the start to the place is visited once
+/// (Harris 2001, the search that unlinks).
+pub fn seek(list: &mut NodeList, from: NodeRef, split: u64) -> Cursor
+    requires { IsStart list.old.nodes from split }
+    ensures nodes { list.new.nodes ≡ sought list.old.nodes from split }
+    ensures kept { KeepsRest list.old list.new }
+    ensures content { pairs list.new.nodes ≡ pairs list.old.nodes }
+    ensures found { IsFound list.new result }
+    ensures placed { IsPlaced list.new result }
+    ensures fits { fits list.new result ≡ true }
+    ensures split { split_of result ≡ split }
+    ensures follows { Follows list.old list.new }
+{
+    let mut place = from;
+    'search: while let Some(next) = list.node(place).next {
+        let node = list.node(next);
+        if node.marked {
+            list.unlink_after(place);
+        } else if node.split < split {
+            place = next;
+        } else {
+            return Cursor::behind(list, place, split);
+        }
+    }
+    Cursor::behind(list, place, split)
+}

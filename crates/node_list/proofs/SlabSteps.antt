@@ -1,0 +1,294 @@
+-- What each step on the slab does to the list in it.
+use Rattle.std.proofs.Common.{◌≡◌, ◌≢◌, ℕ, ◌+◌, ◌-◌, ◌^◌, ◌<◌, inl, inr, List, [], ◌∷◌, Option, Some, None, false, map, refl, sym, ◌∙◌, ap, arith, get_or}
+use Rattle.std.proofs.Math.ListN.{get_or-map}
+use Rattle.std.proofs.lemmas.Bool.{cases_eq}
+use Rattle.slab.specs.Slab.{Slab, get, Updates, with_value}
+use Rattle.slab.proofs.SlabLemmas.{Updates-with_value}
+use Rattle.node_list.specs.declared.node.Node.{Node}
+use Rattle.node_list.specs.declared.node.Kind.TheVariants.{Dummy}
+use Rattle.node_list.specs.declared.slots.Slot.{Slot}
+use Rattle.node_list.specs.declared.slots.Slot.TheVariants.{Linked, Out}
+use Rattle.node_list.specs.Nodes.{NodeAt, first_dummy, IsLinked, linked_after, unlinked_after, changed_at, node_of, next_of, place_of, live_count, marked_count}
+use Rattle.node_list.specs.Order.{IsRising, IsSpread}
+use Rattle.node_list.specs.Follow.{IsSameNode}
+use Rattle.node_list.specs.Layout.{stored, IsChain, nodes_in, listing_of, IsLaidOut, HasStamps, IsKept, out_stamp}
+use Rattle.node_list.proofs.OrderLemmas.{some-injective, some-none, each_linked, each_unlinked, each_changed, rising_unlinked, rising_changed}
+use Rattle.node_list.proofs.NodesLemmas.{absent_unlinked, still_linked, now_linked, changed_linked, others_linked}
+use Rattle.node_list.proofs.ChainLemmas.{out-not-linked, spread, nodes_in_is, next_is, chain_absent, absent_free, chain_linked, chain_unlinked, chain_changed, starts_linked, starts_unlinked, starts_changed, stamps_set, stamps_kept, stamps_freed}
+
+-- what is out at a place, by its slot
+pub out_in : (slab : Slab Slot) (place : ℕ) → get_or (map out_stamp slab.slots) place None ≡ out_stamp (get slab place)
+out_in slab place = get_or-map out_stamp slab.slots place None
+
+-- the slot of a spare that is out
+pub slot_out : (slot : Option Slot) (stamp : ℕ) → out_stamp slot ≡ Some stamp → slot ≡ Some (Out stamp)
+slot_out None stamp is = absurd (some-none (sym is))
+slot_out (Some (Linked n)) stamp is = absurd (some-none (sym is))
+slot_out (Some (Out t)) stamp is = ap (λ n. Some (Out n)) (some-injective is)
+
+-- a write at a slot in use
+write_updates : (old new : Slab Slot) (place : ℕ) (was slot : Slot) → get old place ≡ Some was → new ≡ with_value old place slot → Updates old new place (Some slot)
+write_updates old new place was slot is written = rw written (Updates-with_value old place slot (rw is refl))
+
+-- a new list
+module _ (old new : Slab Slot) (head stamp : ℕ) (empty : old.slots ≡ []) (updates : Updates old new head (Some (Linked (stored (first_dummy head stamp) None)))) where
+  nothing_at : (place : ℕ) → get old place ≡ None
+  nothing_at place = ap (λ (slots : List (Option Slot)). get_or slots place None) empty
+
+  pub new_laid_out : IsLaidOut new head (first_dummy head stamp ∷ [])
+  unfolding IsChain IsRising IsLinked
+  new_laid_out = record {
+    chain = (updates.changed, tt);
+    starts = record { node = first_dummy head stamp; is = refl; place = refl; split = refl; kind = refl };
+    rising = (tt, tt);
+    plain = (λ dummy. refl, tt);
+    all = λ place node is. elim (cases_eq place head) [
+      | inl here ↦ inl (sym here)
+      | inr apart ↦ absurd (some-none (sym is ∙ updates.others place apart ∙ nothing_at place))
+    ];
+  }
+
+  pub new_stamps : HasStamps new stamp
+  new_stamps =
+      let none : HasStamps old stamp = record { bound = λ p s is. absurd (some-none (sym is ∙ nothing_at p)); one_place = λ p q s t is_s is_t same. absurd (some-none (sym is_s ∙ nothing_at p)) } in
+      stamps_set old new stamp stamp head _ none updates (omega arith) (omega arith) (λ other there apart is. absurd (some-none (sym is ∙ nothing_at other)))
+
+  pub new_out : (place : ℕ) → get_or (map out_stamp new.slots) place None ≡ None
+  new_out place = out_in new place ∙ elim (cases_eq place head) [
+    | inl here ↦ rw here (ap out_stamp updates.changed)
+    | inr apart ↦ ap out_stamp (updates.others place apart ∙ nothing_at place)
+  ]
+
+-- a spare is given out
+module _ (old new : Slab Slot) (head place stamp : ℕ) (nodes : List NodeAt) (free : get old place ≡ None) (updates : Updates old new place (Some (Out stamp))) where
+  pub spare_laid_out : IsLaidOut old head nodes → IsLaidOut new head nodes
+  spare_laid_out laid =
+      let absent = absent_free (get old) nodes place laid.chain (λ node is. some-none (sym is ∙ free)) in
+      record {
+        chain = chain_absent (get old) (get new) place nodes laid.chain absent updates.others;
+        starts = laid.starts;
+        rising = laid.rising;
+        plain = laid.plain;
+        all = λ other node is. elim (cases_eq other place) [
+          | inl here ↦ absurd (out-not-linked (sym updates.changed ∙ rw here at is))
+          | inr apart ↦ laid.all other node (sym (updates.others other apart) ∙ is)
+        ];
+      }
+
+  pub spare_stamps : (last : ℕ) → stamp ≡ last + 1 → HasStamps old last → HasStamps new stamp
+  spare_stamps last above stamps =
+      stamps_set old new last stamp place (Out stamp) stamps updates (omega arith) (omega arith)
+      (λ other there apart is same. let low = stamps.bound other there is in absurd (omega arith))
+
+  pub spare_out : get_or (map out_stamp new.slots) place None ≡ Some stamp
+  spare_out = out_in new place ∙ ap out_stamp updates.changed
+
+  pub spare_was_free : get_or (map out_stamp old.slots) place None ≡ None
+  spare_was_free = out_in old place ∙ ap out_stamp free
+
+  pub spare_others : (other : ℕ) → other ≢ place → get_or (map out_stamp new.slots) other None ≡ get_or (map out_stamp old.slots) other None
+  spare_others other apart = out_in new other ∙ ap out_stamp (updates.others other apart) ∙ sym (out_in old other)
+
+-- a spare is given back
+module _ (old new : Slab Slot) (head place stamp : ℕ) (nodes : List NodeAt)
+    (is_out : get_or (map out_stamp old.slots) place None ≡ Some stamp)
+    (freed : Updates old new place None) where
+  back_slot : get old place ≡ Some (Out stamp)
+  back_slot = slot_out (get old place) stamp (sym (out_in old place) ∙ is_out)
+
+  pub back_laid_out : IsLaidOut old head nodes → IsLaidOut new head nodes
+  back_laid_out laid =
+      let absent = absent_free (get old) nodes place laid.chain (λ node is. out-not-linked (sym back_slot ∙ is)) in
+      record {
+        chain = chain_absent (get old) (get new) place nodes laid.chain absent freed.others;
+        starts = laid.starts;
+        rising = laid.rising;
+        plain = laid.plain;
+        all = λ other node is. elim (cases_eq other place) [
+          | inl here ↦ absurd (some-none (sym (rw here at is) ∙ freed.changed))
+          | inr apart ↦ laid.all other node (sym (freed.others other apart) ∙ is)
+        ];
+      }
+
+  pub back_stamps : (last : ℕ) → HasStamps old last → HasStamps new last
+  back_stamps last stamps = stamps_freed old new last place stamps freed
+
+  pub back_gone : get_or (map out_stamp new.slots) place None ≡ None
+  back_gone = out_in new place ∙ ap out_stamp freed.changed
+
+  pub back_others : (other : ℕ) → other ≢ place → get_or (map out_stamp new.slots) other None ≡ get_or (map out_stamp old.slots) other None
+  back_others other apart = out_in new other ∙ ap out_stamp (freed.others other apart) ∙ sym (out_in old other)
+
+-- a node is linked
+module _ (old mid new : Slab Slot) (head last pred : ℕ) (nodes : List NodeAt) (x : NodeAt) (before : Node)
+    (laid : IsLaidOut old head nodes) (stamps : HasStamps old last)
+    (is_before : get old pred ≡ Some (Linked before))
+    (is_out : get_or (map out_stamp old.slots) x.place None ≡ Some x.stamp)
+    (mid_is : mid ≡ with_value old pred (Linked (record before { next = Some x.place })))
+    (new_is : new ≡ with_value mid x.place (Linked (stored x before.next))) where
+  pub spare_slot : get old x.place ≡ Some (Out x.stamp)
+  spare_slot = slot_out (get old x.place) x.stamp (sym (out_in old x.place) ∙ is_out)
+
+  x_apart : x.place ≢ pred
+  x_apart same = out-not-linked (sym spare_slot ∙ ap (get old) same ∙ is_before)
+
+  joined : Updates old mid pred (Some (Linked (record before { next = Some x.place })))
+  joined = write_updates old mid pred (Linked before) _ is_before mid_is
+
+  pub mid_spare : get mid x.place ≡ Some (Out x.stamp)
+  mid_spare = joined.others x.place x_apart ∙ spare_slot
+
+  filled_in : Updates mid new x.place (Some (Linked (stored x before.next)))
+  filled_in = write_updates mid new x.place (Out x.stamp) _ mid_spare new_is
+
+  others_kept : (other : ℕ) → other ≢ pred → other ≢ x.place → get new other ≡ get old other
+  others_kept other not_pred not_x = filled_in.others other not_x ∙ joined.others other not_pred
+
+  new_pred : get new pred ≡ Some (Linked (record before { next = Some x.place }))
+  new_pred = filled_in.others pred (λ same. x_apart (sym same)) ∙ joined.changed
+
+  pub link_absent : (node : Node) → get old x.place ≢ Some (Linked node)
+  link_absent node is = out-not-linked (sym spare_slot ∙ is)
+
+  pub link_laid_out : x.marked ≡ false → IsRising (linked_after nodes pred x) → IsLaidOut new head (linked_after nodes pred x)
+  link_laid_out unmarked rising = record {
+    chain = chain_linked (get old) (get new) nodes pred x before laid.chain
+        (spread (get old) nodes laid.chain laid.rising)
+        (absent_free (get old) nodes x.place laid.chain link_absent)
+        is_before new_pred filled_in.changed others_kept;
+    starts = starts_linked nodes head pred x laid.starts;
+    rising = rising;
+    plain = each_linked (λ n. n.kind ≡ Dummy → n.marked ≡ false) nodes pred x (λ dummy. unmarked) laid.plain;
+    all = λ place node is. elim (cases_eq place pred) [
+      | inl at_pred ↦ still_linked nodes pred place x (rw at_pred (laid.all pred before is_before))
+      | inr apart ↦ elim (cases_eq place x.place) [
+        | inl at_x ↦ rw at_x (now_linked nodes pred x (laid.all pred before is_before))
+        | inr further ↦ still_linked nodes pred place x (laid.all place node (sym (others_kept place apart further) ∙ is))
+      ]
+    ];
+  }
+
+  pub link_stamps : HasStamps new last
+  link_stamps =
+      let first_write = stamps_kept old mid last pred (Linked before) _ stamps is_before refl joined in
+      stamps_kept mid new last x.place (Out x.stamp) _ first_write mid_spare refl filled_in
+
+  pub link_gone : get_or (map out_stamp new.slots) x.place None ≡ None
+  link_gone = out_in new x.place ∙ ap out_stamp filled_in.changed
+
+  pub link_others : (other : ℕ) → other ≢ x.place → get_or (map out_stamp new.slots) other None ≡ get_or (map out_stamp old.slots) other None
+  link_others other apart = out_in new other ∙ elim (cases_eq other pred) [
+    | inl here ↦ rw here (ap out_stamp new_pred ∙ sym (ap out_stamp is_before)) ∙ sym (out_in old other)
+    | inr more ↦ ap out_stamp (others_kept other more apart) ∙ sym (out_in old other)
+  ]
+
+-- a node is changed
+module _ (old new : Slab Slot) (head last place : ℕ) (nodes : List NodeAt) (change : NodeAt → NodeAt) (node written : Node)
+    (laid : IsLaidOut old head nodes) (stamps : HasStamps old last)
+    (same : (n : NodeAt) → IsSameNode n (change n))
+    (changes : (n : NodeAt) (next : Option ℕ) → node ≡ stored n next → written ≡ stored (change n) next)
+    (stamp : written.stamp ≡ node.stamp)
+    (is_node : get old place ≡ Some (Linked node))
+    (new_is : new ≡ with_value old place (Linked written)) where
+  changed_in : Updates old new place (Some (Linked written))
+  changed_in = write_updates old new place (Linked node) _ is_node new_is
+
+  pub change_laid_out : ((n : NodeAt) → node_of nodes place ≡ Some n → (n.kind ≡ Dummy → n.marked ≡ false) → (change n).kind ≡ Dummy → (change n).marked ≡ false) → IsLaidOut new head (changed_at nodes place change)
+  change_laid_out plain = record {
+    chain = chain_changed (get old) (get new) nodes place change node written laid.chain (spread (get old) nodes laid.chain laid.rising) same changes is_node changed_in.changed changed_in.others;
+    starts = starts_changed nodes head place change same laid.starts;
+    rising = rising_changed nodes place change same laid.rising;
+    plain = each_changed (λ n. n.kind ≡ Dummy → n.marked ≡ false) nodes place change plain laid.plain;
+    all = λ other n is. elim (cases_eq other place) [
+      | inl here ↦ changed_linked nodes place other change same (rw here (laid.all place node is_node))
+      | inr apart ↦ changed_linked nodes place other change same (laid.all other n (sym (changed_in.others other apart) ∙ is))
+    ];
+  }
+
+  pub change_stamps : HasStamps new last
+  change_stamps = stamps_kept old new last place (Linked node) _ stamps is_node stamp changed_in
+
+  pub change_out : (other : ℕ) → get_or (map out_stamp new.slots) other None ≡ get_or (map out_stamp old.slots) other None
+  change_out other = out_in new other ∙ elim (cases_eq other place) [
+    | inl here ↦ rw here (ap out_stamp changed_in.changed ∙ sym (ap out_stamp is_node)) ∙ sym (out_in old other)
+    | inr more ↦ ap out_stamp (changed_in.others other more) ∙ sym (out_in old other)
+  ]
+
+-- a node is unlinked
+module _ (old mid new : Slab Slot) (head last pred place : ℕ) (nodes : List NodeAt) (before behind : Node)
+    (laid : IsLaidOut old head nodes) (stamps : HasStamps old last)
+    (linked : IsLinked nodes pred)
+    (is_before : get old pred ≡ Some (Linked before))
+    (next : before.next ≡ Some place)
+    (is_behind : get old place ≡ Some (Linked behind))
+    (mid_is : mid ≡ with_value old pred (Linked (record before { next = behind.next })))
+    (freed : Updates mid new place None) where
+  passed : Updates old mid pred (Some (Linked (record before { next = behind.next })))
+  passed = write_updates old mid pred (Linked before) _ is_before mid_is
+
+  place_next : place_of (next_of nodes pred) ≡ Some place
+  place_next = next_is (get old) nodes pred before laid.chain linked is_before ∙ next
+
+  apart_nodes : IsSpread nodes
+  apart_nodes = spread (get old) nodes laid.chain laid.rising
+
+  pub unlink_laid_out : IsLaidOut new head (unlinked_after nodes pred)
+  unlink_laid_out = record {
+    chain = chain_absent (get mid) (get new) place (unlinked_after nodes pred)
+        (chain_unlinked (get old) (get mid) nodes pred place before behind laid.chain apart_nodes is_before next is_behind passed.changed passed.others)
+        (absent_unlinked nodes pred place apart_nodes place_next)
+        freed.others;
+    starts = starts_unlinked nodes head pred laid.starts;
+    rising = rising_unlinked nodes pred laid.rising;
+    plain = each_unlinked (λ n. n.kind ≡ Dummy → n.marked ≡ false) nodes pred laid.plain;
+    all = λ other n is. elim (cases_eq other place) [
+      | inl here ↦ absurd (some-none (sym (rw here at is) ∙ freed.changed))
+      | inr apart ↦ others_linked nodes pred place other place_next apart (elim (cases_eq other pred) [
+        | inl at_pred ↦ rw at_pred linked
+        | inr further ↦ laid.all other n (sym (passed.others other further) ∙ sym (freed.others other apart) ∙ is)
+      ])
+    ];
+  }
+
+  pub unlink_stamps : HasStamps new last
+  unlink_stamps = stamps_freed mid new last place (stamps_kept old mid last pred (Linked before) _ stamps is_before refl passed) freed
+
+  pub unlink_out : (other : ℕ) → get_or (map out_stamp new.slots) other None ≡ get_or (map out_stamp old.slots) other None
+  unlink_out other = out_in new other ∙ elim (cases_eq other place) [
+    | inl here ↦ rw here (ap out_stamp freed.changed ∙ sym (ap out_stamp is_behind)) ∙ sym (out_in old other)
+    | inr more ↦ ap out_stamp (freed.others other more) ∙ elim (cases_eq other pred) [
+      | inl at_pred ↦ rw at_pred (ap out_stamp passed.changed ∙ sym (ap out_stamp is_before)) ∙ sym (out_in old other)
+      | inr further ↦ ap out_stamp (passed.others other further) ∙ sym (out_in old other)
+    ]
+  ]
+
+-- the fields are kept with these nodes
+pub kept : (slab : Slab Slot) (head last count marked : ℕ) (nodes : List NodeAt) → IsLaidOut slab head nodes → HasStamps slab last → last < 2 ^ 64 - 1 → count ≡ live_count nodes → marked ≡ marked_count nodes → IsKept slab head last count marked
+kept slab head last count marked nodes laid stamps below counted marks =
+    let same = nodes_in_is slab head nodes laid in
+    record {
+      laid_out = rw same laid;
+      stamps = stamps;
+      below = below;
+      counted = rw same counted;
+      marks = rw same marks;
+    }
+
+-- a slab that only has more room
+pub grown : (slab : Slab Slot) (room head : ℕ) → nodes_in (record slab { capacity = room }) head ≡ nodes_in slab head
+unfolding nodes_in
+grown slab room head = refl
+
+pub kept_grown : (slab : Slab Slot) (room head last count marked : ℕ) → IsKept slab head last count marked → IsKept (record slab { capacity = room }) head last count marked
+kept_grown slab room head last count marked is =
+    let laid : IsLaidOut (record slab { capacity = room }) head (nodes_in slab head) = record {
+      chain = is.laid_out.chain;
+      starts = is.laid_out.starts;
+      rising = is.laid_out.rising;
+      plain = is.laid_out.plain;
+      all = is.laid_out.all;
+    } in
+    kept _ head last count marked (nodes_in slab head) laid (record { bound = is.stamps.bound; one_place = is.stamps.one_place }) is.below is.counted is.marks
+
+pub listing_grown : (slab : Slab Slot) (room head turn last : ℕ) → listing_of (record slab { capacity = room }) head turn last ≡ listing_of slab head turn last
+listing_grown slab room head turn last = rw (grown slab room head) refl

@@ -1,0 +1,31 @@
+-- What stays true of nodes and spares while a list changes.
+use Rattle.std.specs.Prelude.{◌≡◌, ℕ, ◌<◌, ◌≤◌, ◌-◌, ◌^◌, min, ◌⊎◌, Some}
+use Rattle.node_list.specs.declared.node.Kind.TheVariants.{Dummy}
+use Rattle.node_list.specs.Nodes.{NodeAt, Listing, node_of, out_at}
+
+-- one node at two times: only its value and its mark may differ
+pub record IsSameNode (n m : NodeAt) : Type 0 where
+  pub place : n.place ≡ m.place
+  pub split : n.split ≡ m.split
+  pub kind : n.kind ≡ m.kind
+  pub stamp : n.stamp ≡ m.stamp
+
+-- the node was linked at this place before, or its stamp was out there or is new
+abbrev pub WasThere : Listing → ℕ → NodeAt → Type 0
+WasThere old place n =
+    ((m : NodeAt) × (node_of old.nodes place ≡ Some m) × IsSameNode m n)
+    ⊎ ((out_at old place ≡ Some n.stamp) ⊎ (old.last < n.stamp))
+
+-- the node is linked at this place still
+abbrev pub IsStillThere : Listing → ℕ → NodeAt → Type 0
+IsStillThere new place n = (m : NodeAt) × (node_of new.nodes place ≡ Some m) × IsSameNode n m
+
+-- A list at two times: no stamp comes back, a linked dummy stays linked, and while the change number
+-- stays the nodes do.
+pub record Follows (old new : Listing) : Type 0 where
+  pub last : old.last ≤ new.last
+  pub turn : min old.turn (2 ^ 64 - 1) ≤ new.turn
+  pub still : new.turn ≡ old.turn → new.turn < 2 ^ 64 - 1 → new.nodes ≡ old.nodes
+  pub linked : (place : ℕ) (n : NodeAt) → node_of new.nodes place ≡ Some n → WasThere old place n
+  pub out : (place stamp : ℕ) → out_at new place ≡ Some stamp → (out_at old place ≡ Some stamp) ⊎ (old.last < stamp)
+  pub dummies : (place : ℕ) (n : NodeAt) → node_of old.nodes place ≡ Some n → n.kind ≡ Dummy → IsStillThere new place n

@@ -1,0 +1,224 @@
+//! The list.
+ghost use Rattle.std.specs.Prelude.{◌≡◌, ◌≢◌, ℕ, ◌+◌, ◌-◌, ◌<◌, ◌≤◌, ◌^◌, ◌↔◌, Some, None, Err, [], ◌∷◌, IfOk, OnErr, IfSome, IfNone, false};
+ghost use Rattle.std.specs.List.{AllByRecursion};
+ghost use Rattle.node_list.specs.Follow.{Follows};
+ghost use Rattle.node_list.specs.Nodes.{out_at, IsOut, filled, first_dummy, IsLinked, IsRegularAt, IsBeforeMarked, node_of, next_of, place_of, live_count, marked_count, linked_after, unlinked_after, marked_at, written_at, GivesOut, Becomes, Takes, TakesBack};
+ghost use Rattle.node_list.specs.Order.{IsRising};
+ghost use Rattle.node_list.specs.Seen.{seen};
+ghost use Rattle.node_list.specs.Sound.{IsSound};
+
+use crate::node::{Kind, Node, NodeRef};
+use crate::slots::{Slot, mark, node_at, replace_next, set_slot, set_value};
+use crate::spare::{Spare, SpareFault};
+use slab::Slab;
+use std::alloc::{AllocError, Global};
+use std::marker::Model;
+
+/// Linked nodes in the strict order of their split keys, and the spares that are out.
+#[derive(Drop)]
+pub struct NodeList {
+    slab: Slab<Slot>,
+    head: usize,
+    turn: u64,
+    last: u64,
+    count: u64,
+    marked: u64,
+}
+
+impl Model for NodeList {
+    ghost use Rattle.node_list.specs.Nodes.{Listing};
+
+    ghost Value = { Listing };
+
+    ghost use Rattle.node_list.specs.Layout.{listing_of, IsKept};
+
+    ghost view = { λ f. listing_of f.slab f.head f.turn f.last };
+
+    ghost invariant = { λ f. IsKept f.slab f.head f.last f.count f.marked };
+}
+
+impl NodeList {
+    /// The list of the dummy of bucket 0 alone, with this stamp. Its change number is 0.
+    ///
+    /// Allocates. Constant time.
+    pub fn new(alloc: Global, first_stamp: u64) -> Result<Self, AllocError>
+        requires { first_stamp < 2 ^ 64 - 1 }
+        ensures nodes { IfOk result (λ list. list.nodes ≡ first_dummy list.head first_stamp ∷ []) }
+        ensures out { IfOk result (λ list. (place : ℕ) → out_at list place ≡ None) }
+        ensures turn { IfOk result (λ list. list.turn ≡ 0) }
+        ensures last { IfOk result (λ list. list.last ≡ first_stamp) }
+    {
+        let mut slab = Slab::new(alloc);
+        let node = Node::dummy(0, first_stamp);
+        match slab.insert(Slot::Linked(node)) {
+            Ok(head) => Ok(NodeList {
+                slab,
+                head,
+                turn: 0,
+                last: first_stamp,
+                count: 0,
+                marked: 0,
+            }),
+            Err(_) => Err(AllocError),
+        }
+    }
+
+    /// A place that is kept for a node, with the stamp one above the last that was given. It is filled
+    /// as a dummy with split key 0.
+    ///
+    /// `Worn` exactly where the last stamp was 2^64 - 2; then `NoMemory` where the slab could not grow.
+    /// Either leaves the list as it was. May allocate. Amortised constant time.
+    pub fn spare(&mut self) -> Result<Spare, SpareFault>
+        ensures worn { (result ≡ Err SpareFault.Worn) ↔ (self.old.last ≡ 2 ^ 64 - 2) }
+        ensures stamp { IfOk result (λ spare. spare.stamp ≡ self.old.last + 1) }
+        ensures ok { IfOk result (λ spare. GivesOut self.old self.new spare.place spare.stamp) }
+        ensures unchanged { OnErr result (self.new ≡ self.old) }
+        ensures follows { Follows self.old self.new }
+    {
+        if self.last >= u64::MAX - 1 {
+            return Err(SpareFault::Worn);
+        }
+        let stamp = self.last + 1;
+        let node = Node::dummy(0, stamp);
+        match self.slab.insert(Slot::Out(stamp)) {
+            Ok(place) => {
+                self.last = stamp;
+                Ok(Spare { place, node })
+            }
+            Err(_) => Err(SpareFault::NoMemory),
+        }
+    }
+
+    /// Takes a spare back that was not linked, and frees its place. Its stamp is never given again.
+    ///
+    /// Takes no memory. Constant time.
+    pub fn give_back(&mut self, spare: Spare)
+        requires { IsOut self.old spare }
+        ensures back { TakesBack self.old self.new spare.place }
+        ensures follows { Follows self.old self.new }
+    {
+        let _ = self.slab.try_remove(spare.place);
+    }
+
+    /// Links the node of a spare behind a linked node. The spare is out no more.
+    ///
+    /// Takes no memory. Constant time.
+    pub fn link_after(&mut self, pred: NodeRef, spare: Spare)
+        requires linked { IsLinked self.old.nodes pred }
+        requires out { IsOut self.old spare }
+        requires order { IsRising (linked_after self.old.nodes pred (filled spare)) }
+        ensures linked { Takes self.old self.new
+            (linked_after self.old.nodes pred (filled spare)) spare.place }
+        ensures follows { Follows self.old self.new }
+    {
+        let Spare { place, mut node } = spare;
+        let weight = node.kind.weight();
+        node.next = replace_next(&mut self.slab, pred.place(), Some(NodeRef::new(place)));
+        set_slot(&mut self.slab, place, Slot::Linked(node));
+        // No more nodes are counted than places are in use, so the counts fit.
+        let _places = self.slab.len();
+        self.count += weight;
+        self.turn = self.turn.saturating_add(1);
+    }
+
+    /// Unlinks the marked node behind a linked node, and frees its place.
+    ///
+    /// Takes no memory. Constant time.
+    pub fn unlink_after(&mut self, pred: NodeRef)
+        requires { IsBeforeMarked self.old.nodes pred }
+        ensures unlinked { Becomes self.old self.new (unlinked_after self.old.nodes pred) }
+        ensures follows { Follows self.old self.new }
+    {
+        if let Some(node) = node_at(&self.slab, pred.place()).next {
+            let next = node_at(&self.slab, node.place()).next;
+            let _ = replace_next(&mut self.slab, pred.place(), next);
+            let _ = self.slab.try_remove(node.place());
+            self.marked -= 1;
+            self.turn = self.turn.saturating_add(1);
+        }
+    }
+
+    /// Marks an unmarked regular node. It stays linked, and counts no more.
+    ///
+    /// Takes no memory. Constant time.
+    pub fn set_mark(&mut self, node: NodeRef)
+        requires { IsRegularAt self.old.nodes node }
+        ensures marked { Becomes self.old self.new (marked_at self.old.nodes node) }
+        ensures follows { Follows self.old self.new }
+    {
+        mark(&mut self.slab, node.place());
+        // No more nodes are counted than places are in use, so the counts fit.
+        let _places = self.slab.len();
+        self.count -= 1;
+        self.marked += 1;
+        self.turn = self.turn.saturating_add(1);
+    }
+
+    /// Writes the value of a linked node.
+    ///
+    /// Takes no memory. Constant time.
+    pub fn write(&mut self, node: NodeRef, value: u64)
+        requires { IsLinked self.old.nodes node }
+        ensures written { Becomes self.old self.new (written_at self.old.nodes node value) }
+        ensures follows { Follows self.old self.new }
+    {
+        set_value(&mut self.slab, node.place(), value);
+        self.turn = self.turn.saturating_add(1);
+    }
+
+    /// A linked node. Constant time.
+    pub fn node(&self, node: NodeRef) -> &Node
+        requires { IsLinked self.now.nodes node }
+        ensures node { node_of self.now.nodes node ≡ Some (seen node result.now) }
+        ensures next { place_of (next_of self.now.nodes node) ≡ result.now.next }
+        ensures sound { IsSound self.now }
+    {
+        node_at(&self.slab, node.place())
+    }
+
+    /// The node that is linked at a place now, if one is. Constant time.
+    pub fn linked_node(&self, node: NodeRef) -> Option<&Node>
+        ensures absent { IfNone result (node_of self.now.nodes node ≡ None) }
+        ensures node { IfSome result (λ n. node_of self.now.nodes node ≡ Some (seen node n.now)) }
+        ensures next { IfSome result (λ n. place_of (next_of self.now.nodes node) ≡ n.now.next) }
+        ensures sound { IsSound self.now }
+    {
+        match self.slab.get(node.place()) {
+            Some(Slot::Linked(node)) => Some(node),
+            Some(Slot::Out(_)) => None,
+            None => None,
+        }
+    }
+
+    /// The dummy of bucket 0, which is the first node. Constant time.
+    pub fn head(&self) -> NodeRef
+        ensures place { result ≡ self.now.head }
+        ensures sound { IsSound self.now }
+    {
+        NodeRef::new(self.head)
+    }
+
+    /// The change number: how many links, marks, unlinks and writes there were, and 2^64 - 1 from there
+    /// on. Constant time.
+    pub fn turn(&self) -> u64
+        ensures turn { result ≡ self.now.turn }
+        ensures sound { IsSound self.now }
+    {
+        self.turn
+    }
+
+    /// How many regular nodes are linked and unmarked. It is kept, so this takes constant time.
+    pub fn count(&self) -> u64
+        ensures { result ≡ live_count self.now.nodes }
+    {
+        self.count
+    }
+
+    /// How many linked nodes are marked. It is kept, so this takes constant time.
+    pub fn marked_count(&self) -> u64
+        ensures count { result ≡ marked_count self.now.nodes }
+        ensures none { (result ≡ 0) ↔ AllByRecursion (λ n. n.marked ≡ false) self.now.nodes }
+    {
+        self.marked
+    }
+}

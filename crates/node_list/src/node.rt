@@ -1,0 +1,98 @@
+//! Nodes, and what names them.
+ghost use Rattle.std.specs.Prelude.{◌≡◌, if◌then◌else◌, None, false};
+ghost use Rattle.node_list.specs.Nodes.{is_regular};
+ghost use Rattle.node_list.specs.declared.node.Kind.TheVariants.{Dummy};
+
+use std::marker::Model;
+
+/// What a node stands for.
+#[derive(Clone, Copy, Debug, PartialEq, Eq)]
+pub enum Kind {
+    /// The beginning of a bucket.
+    Dummy,
+    /// An entry of the table, with its key.
+    Regular(u64),
+}
+
+impl Kind {
+    // How much a new node of this kind counts.
+    pub(crate) fn weight(self) -> u64
+        ensures { result ≡ (if is_regular self then 1 else 0) }
+    {
+        match self {
+            Kind::Dummy => 0,
+            Kind::Regular(_) => 1,
+        }
+    }
+}
+
+/// The place of a node. It names that node until the node is unlinked; whether it is the same node
+/// later is told by the stamp.
+#[derive(Clone, Copy, Debug, PartialEq, Eq)]
+pub struct NodeRef {
+    place: usize,
+}
+
+impl Model for NodeRef {
+    ghost use Rattle.std.specs.Prelude.{ℕ};
+
+    ghost Value = { ℕ };
+
+    ghost view = { λ r. r.place };
+
+    ghost inverse = { λ place. record { place = place } };
+}
+
+impl NodeRef {
+    pub(crate) fn new(place: usize) -> Self
+        ensures { result ≡ place }
+    {
+        NodeRef { place }
+    }
+
+    pub(crate) fn place(self) -> usize
+        ensures { result ≡ self }
+    {
+        self.place
+    }
+}
+
+/// A linked node.
+#[derive(Clone, Copy, Debug)]
+pub struct Node {
+    /// The split key, by which the list is ordered.
+    pub split: u64,
+    /// A dummy, or a regular node with its key.
+    pub kind: Kind,
+    /// The value of a regular node.
+    pub value: u64,
+    /// The stamp, which no other node ever had.
+    pub stamp: u64,
+    /// Whether the node is taken out of the table, and waits to be unlinked.
+    pub marked: bool,
+    /// The node behind it.
+    pub next: Option<NodeRef>,
+}
+
+impl Node {
+    // A dummy with nothing behind it.
+    pub(crate) fn dummy(split: u64, stamp: u64) -> Self
+        ensures { result ≡ record {
+          split = split;
+          kind = Dummy;
+          value = 0;
+          stamp = stamp;
+          marked = false;
+          next = None;
+        } }
+    {
+        Node {
+            split,
+            kind: Kind::Dummy,
+            value: 0,
+            stamp,
+            marked: false,
+            next: None,
+        }
+    }
+}

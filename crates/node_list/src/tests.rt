@@ -1,0 +1,65 @@
+//! What no clause says: that each call succeeds, and what a refused allocation leaves.
+use crate::{Kind, NodeList, SpareFault};
+use std::alloc::AllocError;
+use std::test::Fail;
+
+#[test]
+fn stamps_used_up(rt: HostRuntime) -> Result<(), Fail> {
+    let mut list = NodeList::new(rt.alloc(), 18446744073709551613)?;
+    assert_eq!(rt; list.spare()?.stamp(), 18446744073709551614);
+    assert_eq!(rt; list.spare().err(), Some(SpareFault::Worn));
+    Ok(())
+}
+
+#[test]
+fn calls_in_turn(rt: HostRuntime) -> Result<(), Fail> {
+    let mut list = NodeList::new(rt.alloc(), 6)?;
+    let head = list.head();
+    let mut spare = list.spare()?;
+    spare.fill(5, Kind::Regular(3), 30);
+    let three = spare.node();
+    list.link_after(head, spare);
+    assert_eq!(rt; (list.count(), list.marked_count(), list.turn()), (1, 0, 1));
+    list.write(three, 31);
+    let node = *list.node(three);
+    assert_eq!(rt; (node.split, node.value, node.stamp), (5, 31, 7));
+    assert_eq!(rt; node.kind, Kind::Regular(3));
+    assert!(rt; !node.marked);
+    list.set_mark(three);
+    assert_eq!(rt; (list.count(), list.marked_count(), list.turn()), (0, 1, 3));
+    if let Some(next) = list.node(head).next {
+        assert_eq!(rt; next, three);
+        if list.node(next).marked {
+            list.unlink_after(head);
+        }
+    }
+    assert_eq!(rt; (list.count(), list.marked_count(), list.turn()), (0, 0, 4));
+    assert!(rt; list.linked_node(three).is_none());
+    let spare = list.spare()?;
+    assert_eq!(rt; spare.stamp(), 8);
+    list.give_back(spare);
+    assert_eq!(rt; list.spare()?.stamp(), 9);
+    Ok(())
+}
+
+// Also run with each allocation refused in turn: the list is then as it was, and gives the spare at
+// the next call.
+#[test]
+fn refused_allocations(rt: HostRuntime) -> Result<(), Fail> {
+    let mut list = match NodeList::new(rt.alloc(), 0) {
+        Ok(list) => list,
+        Err(AllocError) => NodeList::new(rt.alloc(), 0)?,
+    };
+    for stamp in 1..=9 {
+        let spare = match list.spare() {
+            Ok(spare) => spare,
+            Err(fault) => {
+                assert_eq!(rt; fault, SpareFault::NoMemory);
+                assert_eq!(rt; (list.count(), list.marked_count(), list.turn()), (0, 0, 0));
+                list.spare()?
+            }
+        };
+        assert_eq!(rt; spare.stamp(), stamp);
+    }
+    Ok(())
+}

@@ -1,0 +1,13 @@
+-- The items of an array, as a list.
+use Rattle.std.proofs.Common.{◌≡◌, List, [], ◌∷◌, map, refl, ap}
+use Rattle.serde_json.specs.Data.{Data}
+use Rattle.serde_json.specs.View.{view, items_of}
+use Rattle.serde_json.specs.declared.value.Value.{Value}
+use Rattle.txn_files.specs.Elements.{list_of}
+
+pub list_of-items_of : (ds : List Data) → list_of (items_of ds) ≡ ds
+list_of-items_of [] = refl
+list_of-items_of (d ∷ ds) = ap (λ (es : List Data). d ∷ es) (list_of-items_of ds)
+
+pub list_of_view : (vs : List Value) → list_of (items_of (map view vs)) ≡ map view vs
+list_of_view vs = list_of-items_of (map view vs)

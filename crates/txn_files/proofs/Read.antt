@@ -1,0 +1,23 @@
+-- What reading JSON says of the bytes.
+use Rattle.std.proofs.Common.{◌≡◌, ℕ, ◌≤◌, Bool, true, false, cond, List, length, Option, Some, None, Ok, Err, refl, ap}
+use Rattle.std.specs.Str.{IsUtf8, is_utf8}
+use Rattle.std.proofs.lemmas.Str.{is_utf8-from_IsUtf8, IsUtf8-from_is_utf8}
+use Rattle.std.proofs.lemmas.Bool.{le-leb}
+use Rattle.serde_json.specs.Data.{Data}
+use Rattle.serde_json.specs.Read.{read}
+use Rattle.txn_files.specs.declared.file_fault.FileFault.TheVariants.{NotJson}
+use Rattle.txn_files.specs.Faults.{or_fault}
+use Rattle.txn_files.specs.Json.{json_of, max_bytes}
+
+pub json_of-read : (bytes : List ℕ) (d : Data) → length bytes ≤ max_bytes → IsUtf8 bytes → read bytes ≡ Some d → json_of bytes ≡ Ok d
+unfolding json_of
+json_of-read bytes d short text e = rw (le-leb (length bytes) max_bytes short, is_utf8-from_IsUtf8 bytes text) (ap (or_fault NotJson) e)
+
+-- by what is read, where the bytes are text
+chosen : (is_text : Bool) (found : Option Data) → (is_text ≡ true → found ≡ None) → cond is_text (or_fault NotJson found) (Err NotJson) ≡ Err NotJson
+chosen true found none = ap (or_fault NotJson) (none refl)
+chosen false found none = refl
+
+pub json_of-unread : (bytes : List ℕ) → length bytes ≤ max_bytes → (IsUtf8 bytes → read bytes ≡ None) → json_of bytes ≡ Err NotJson
+unfolding json_of
+json_of-unread bytes short none = rw (le-leb (length bytes) max_bytes short) (chosen (is_utf8 bytes) (read bytes) (λ e. none (IsUtf8-from_is_utf8 bytes e)))

@@ -1,0 +1,46 @@
+-- The elements of an array in JSON, taken one after the other.
+use Rattle.std.specs.Prelude.{ℕ, List, [], ◌∷◌, length, ◌==◌, Option, Some, None, option_map, option_and_then, if◌then◌else◌}
+use Rattle.serde_json.specs.Data.{Data, Items, no_items, item}
+use Rattle.serde_json.specs.Find.{as_number, as_str, as_array, as_u64}
+
+-- go on with what is there
+infixl 10 ◌>>=◌
+abbrev pub ◌>>=◌ : {A B : Type 0} → Option A → (A → Option B) → Option B
+(Some x) >>= f = f x
+None >>= f = None
+
+-- a whole number below 2^64 with no sign, fraction or exponent: 2.0, 1e2, -0 and 2^64 are read as floats
+abbrev pub number_of : Data → Option ℕ
+number_of d = option_and_then as_u64 (as_number d)
+
+-- items as a list
+abbrev pub list_of : Items → List Data
+list_of no_items = []
+list_of (item d ds) = d ∷ list_of ds
+
+-- the elements of an array
+abbrev pub elements_of : Data → Option (List Data)
+elements_of d = option_map list_of (as_array d)
+
+-- the first element, a number, and the elements after it
+unfoldable pub number_at : List Data → Option (ℕ × List Data)
+number_at [] = None
+number_at (d ∷ ds) = option_map (λ n. (n, ds)) (number_of d)
+
+-- the first element, a text, and the elements after it
+unfoldable pub word_at : List Data → Option (List ℕ × List Data)
+word_at [] = None
+word_at (d ∷ ds) = option_map (λ s. (s, ds)) (as_str d)
+
+-- one number and nothing else
+unfoldable pub one_of : List Data → Option ℕ
+one_of ds = do
+  n ← number_at ds
+  if length n.1 == 0 then Some n.0 else None
+
+-- two numbers and nothing else
+unfoldable pub two_of : List Data → Option (ℕ × ℕ)
+two_of ds = do
+  m ← number_at ds
+  n ← one_of m.1
+  Some (m.0, n)

@@ -1,0 +1,41 @@
+-- The step file that bytes are, or its first fault.
+use Rattle.std.specs.Prelude.{ℕ, List, length, ◌==◌, ◌&&◌, nat_le, Result, Ok, Err, if◌then◌else◌, codes}
+use Rattle.serde_json.specs.Data.{Data}
+use Rattle.txn_trace.specs.Sizes.{Sizes, limits_of}
+use Rattle.txn_trace.specs.declared.refusal.Refusal.{Refusal}
+use Rattle.txn_trace.specs.declared.step.Step.{Step}
+use Rattle.txn_files.specs.declared.part.Part.TheVariants as parts
+use Rattle.txn_files.specs.declared.file_fault.FileFault.{FileFault}
+use Rattle.txn_files.specs.declared.file_fault.FileFault.TheVariants.{Limit}
+use Rattle.txn_files.specs.Faults.{◌>>=◌}
+use Rattle.txn_files.specs.Json.{json_of, number_member, array_member}
+use Rattle.txn_files.specs.Pieces.{pieces_from}
+use Rattle.txn_files.specs.Steps.{step_of}
+
+-- how many steps a file may have
+abbrev pub max_steps : ℕ
+max_steps = 1000000
+
+abbrev in_limits : Result Sizes Refusal → Result Sizes FileFault
+in_limits (Ok sizes) = Ok sizes
+in_limits (Err refusal) = Err Limit
+
+-- the numbers as limits, where they are in range
+abbrev pub sizes_at : ℕ → ℕ → ℕ → Result Sizes FileFault
+sizes_at callers stripes buckets = in_limits (limits_of callers stripes buckets)
+
+-- the limits and the steps that a value is: members in this order, then the steps, then the ranges
+unfoldable pub steps_of : Data → Result (Sizes × List Step) FileFault
+steps_of d = do
+  version ← number_member (codes "version") d
+  callers ← number_member (codes "callers") d
+  stripes ← number_member (codes "stripes") d
+  buckets ← number_member (codes "buckets") d
+  pieces ← array_member (codes "steps") d
+  steps ← pieces_from step_of parts.Step 0 pieces
+  sizes ← sizes_at callers stripes buckets
+  if (version == 1) && nat_le (length steps) max_steps then Ok (sizes, steps) else Err Limit
+
+-- the step file that the bytes are
+abbrev pub file_of : List ℕ → Result (Sizes × List Step) FileFault
+file_of bytes = json_of bytes >>= steps_of

@@ -1,0 +1,26 @@
+//! Files of steps, in JSON, and what they are.
+//!
+//! A file is a function of its bytes: the limits and the steps, or the first fault in a fixed order:
+//! too long, not JSON, a member of the wrong shape, a piece of the wrong shape, out of range.
+//! That function is `file_of` of `specs/StepFile.antt`, and `read_steps` computes it, or says that
+//! memory was refused. What the bytes mean as JSON is what `serde_json` reads.
+//!
+//! A kind of file is an array of pieces in an object. Each kind of piece is a `Piece`, and the loop
+//! over the pieces is written and proved once, for all kinds.
+//!
+//! Time and memory are proportional to the length of the file.
+#![tactic(auto)]
+
+mod elements;
+mod file_fault;
+mod json;
+mod part;
+mod piece;
+mod step_file;
+
+pub use file_fault::FileFault;
+pub use part::Part;
+pub use step_file::read_steps;
+
+#[cfg(test)]
+mod tests;

@@ -1,0 +1,135 @@
+ghost use Rattle.std.specs.Prelude.{◌≡◌, map};
+ghost use Rattle.serde_json.specs.View.{view};
+ghost use Rattle.txn_files.specs.Faults.{Gives};
+ghost use Rattle.txn_files.specs.Steps.{op_of, ask_of, step_of};
+ghost use Rattle.txn_files.specs.StepFile.{sizes_at, file_of, steps_of};
+
+use crate::elements::{number_in, one_in, two_in, word_in};
+use crate::file_fault::FileFault;
+use crate::json::{array_member_in, number_member_in, value_in};
+use crate::part::Part;
+use crate::piece::{Piece, pieces_in};
+use serde_json::Value;
+use std::alloc::{AllocError, Global};
+use txn_trace::{Limits, Op, Step};
+
+/// How many steps a file may have.
+const MAX_STEPS: usize = 1_000_000;
+
+#[tactic(auto, unfolding(crate::specs::Steps::op_of))]
+fn op_in(values: &[Value]) -> Option<Op>
+    ensures { result ≡ op_of (map view values.now) }
+{
+    let (name, rest) = word_in(values)?;
+    if name == "put" {
+        let (key, value) = two_in(rest)?;
+        Some(Op::Put(key, value))
+    } else if name == "take" {
+        let key = one_in(rest)?;
+        Some(Op::Take(key))
+    } else if name == "get" {
+        let key = one_in(rest)?;
+        Some(Op::Get(key))
+    } else {
+        None
+    }
+}
+
+#[tactic(auto, unfolding(crate::specs::Steps::ask_of))]
+fn ask_in(values: &[Value]) -> Option<Step>
+    ensures { result ≡ ask_of (map view values.now) }
+{
+    let (caller, rest) = number_in(values)?;
+    let op = op_in(rest)?;
+    Some(Step::Ask(caller, op))
+}
+
+#[tactic(auto, unfolding(crate::specs::Steps::step_of))]
+fn step_in(values: &[Value]) -> Option<Step>
+    ensures { result ≡ step_of (map view values.now) }
+{
+    let (name, rest) = word_in(values)?;
+    if name == "begin" {
+        let caller = one_in(rest)?;
+        Some(Step::Begin(caller))
+    } else if name == "ask" {
+        ask_in(rest)
+    } else if name == "seek" {
+        let caller = one_in(rest)?;
+        Some(Step::Seek(caller))
+    } else if name == "act" {
+        let caller = one_in(rest)?;
+        Some(Step::Act(caller))
+    } else if name == "commit" {
+        let caller = one_in(rest)?;
+        Some(Step::Commit(caller))
+    } else if name == "abort" {
+        let caller = one_in(rest)?;
+        Some(Step::Abort(caller))
+    } else {
+        None
+    }
+}
+
+impl Piece for Step {
+    ghost use Rattle.txn_files.specs.declared.part.Part.TheVariants as parts;
+
+    ghost of = { step_of };
+
+    ghost part = { parts.Step };
+
+    fn part() -> Part {
+        Part::Step
+    }
+
+    fn read(_alloc: Global, values: &[Value]) -> Result<Option<Step>, AllocError> {
+        Ok(step_in(values))
+    }
+}
+
+fn limits_in(callers: u64, stripes: u64, buckets: u64) -> Result<Limits, FileFault>
+    ensures { Gives (λ limits. limits) result (sizes_at callers stripes buckets) }
+{
+    match Limits::new(callers, stripes, buckets) {
+        Ok(limits) => Ok(limits),
+        Err(_) => Err(FileFault::Limit),
+    }
+}
+
+#[tactic(auto, unfolding(crate::specs::StepFile::steps_of))]
+fn steps_in(alloc: Global, value: &Value) -> Result<(Limits, Vec<Step>), FileFault>
+    ensures { Gives (λ file. (file.0, file.1.items)) result (steps_of (view value.now)) }
+{
+    let version = number_member_in(value, "version")?;
+    let callers = number_member_in(value, "callers")?;
+    let stripes = number_member_in(value, "stripes")?;
+    let buckets = number_member_in(value, "buckets")?;
+    let pieces = array_member_in(value, "steps")?;
+    let steps: Vec<Step> = pieces_in(alloc, pieces)?;
+    let limits = limits_in(callers, stripes, buckets)?;
+    if version == 1 && steps.len() <= MAX_STEPS {
+        Ok((limits, steps))
+    } else {
+        Err(FileFault::Limit)
+    }
+}
+
+/// The limits and the steps of a step file: `{"version":1,"callers":C,"stripes":S,"buckets":B,"steps":[..]}`,
+/// where each step is an array, as `["ask",0,"put",1,10]`.
+///
+/// The first fault in this order is the answer:
+/// `Limit` where there are more than 16,777,216 bytes; `NotJson`; `Member` where the value is no
+/// object or one of the five members, in the order above, is missing or of the wrong kind; `Piece`
+/// for the first step that is none; `Limit` where the version is not 1, `Limits::new` refuses the
+/// numbers, or there are more than 1,000,000 steps. `NoMemory` can come in place of any answer.
+///
+/// Other members of the object are passed over, and of a member that is given twice the last counts.
+/// A number is written without a sign, a fraction or an exponent, and is below 2^64.
+///
+/// Time and memory are proportional to the number of bytes.
+pub fn read_steps(alloc: Global, bytes: &[u8]) -> Result<(Limits, Vec<Step>), FileFault>
+    ensures { Gives (λ file. (file.0, file.1.items)) result (file_of bytes.now) }
+{
+    let value = value_in(alloc, bytes)?;
+    steps_in(alloc, &value)
+}

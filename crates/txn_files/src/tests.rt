@@ -1,0 +1,248 @@
+use super::*;
+use std::process::Abort;
+use std::test::Fail;
+use txn_trace::{Op, Step};
+
+/// One transaction that puts one key.
+const FIRST_COMMIT: &str = "{\"version\":1,\"callers\":1,\"stripes\":8,\"buckets\":8,\"steps\":\
+    [[\"begin\",0],[\"ask\",0,\"put\",1,10],[\"seek\",0],[\"act\",0],[\"commit\",0]]}";
+
+/// What a file is refused with, where it is refused.
+fn fault_of(rt: &(impl Abort + AllocGlobal), bytes: &[u8]) -> Option<FileFault> {
+    read_steps(rt.alloc(), bytes).err()
+}
+
+/// A file with these steps.
+fn file_with(rt: &(impl Abort + AllocGlobal), callers: &str, steps: &str) -> Result<String, Fail> {
+    let text = format!(in rt.alloc();
+        "{{\"version\":1,\"callers\":{callers},\"stripes\":8,\"buckets\":8,\"steps\":{steps}}}"
+    )?;
+    Ok(text)
+}
+
+#[test]
+fn first_commit(rt: HostRuntime) -> Result<(), Fail> {
+    let Ok((limits, steps)) = read_steps(rt.alloc(), FIRST_COMMIT.as_bytes()) else {
+        return Err("refused")?;
+    };
+    assert_eq!(rt;
+        (limits.callers(), limits.stripes(), limits.buckets()),
+        (1, 8, 8)
+    );
+    let wanted = [
+        Step::Begin(0),
+        Step::Ask(0, Op::Put(1, 10)),
+        Step::Seek(0),
+        Step::Act(0),
+        Step::Commit(0),
+    ];
+    assert_eq!(rt; steps.as_slice(), wanted.as_slice());
+    Ok(())
+}
+
+#[test]
+fn every_step(rt: HostRuntime) -> Result<(), Fail> {
+    // White space, numbers at both ends, members in another order, others beside them, and one given twice.
+    let text = " { \"steps\" : [[\"abort\",18446744073709551615], [\"ask\",7,\"take\",0],\n\
+        [\"ask\",0,\"get\",9223372036854775808],[\"ask\",1,\"put\",18446744073709551615,0]], \"note\" : null,\n\
+        \"buckets\":65536,\"stripes\":4096,\"callers\":1,\"version\":7,\"version\":1,\"\":[{\"steps\":-1.5e3}]}\n";
+    let Ok((limits, steps)) = read_steps(rt.alloc(), text.as_bytes()) else {
+        return Err("refused")?;
+    };
+    assert_eq!(rt;
+        (limits.callers(), limits.stripes(), limits.buckets()),
+        (1, 4096, 65536)
+    );
+    let wanted = [
+        Step::Abort(u64::MAX),
+        Step::Ask(7, Op::Take(0)),
+        Step::Ask(0, Op::Get(9_223_372_036_854_775_808)),
+        Step::Ask(1, Op::Put(u64::MAX, 0)),
+    ];
+    assert_eq!(rt; steps.as_slice(), wanted.as_slice());
+    Ok(())
+}
+
+#[test]
+fn cut_files(rt: HostRuntime) -> Result<(), Fail> {
+    let bytes = FIRST_COMMIT.as_bytes();
+    for length in 0..bytes.len() {
+        assert_eq!(rt;
+            fault_of(&rt, &bytes[..length]),
+            Some(FileFault::NotJson),
+            "{length}"
+        );
+    }
+    let mut nested = String::new(rt.alloc());
+    for bracket in ["[", "]"] {
+        for _ in 0..200 {
+            nested.push_str(bracket)?;
+        }
+    }
+    assert_eq!(rt; fault_of(&rt, nested.as_bytes()), Some(FileFault::NotJson));
+    let mut spoilt = bytes.to_vec(rt.alloc())?;
+    for place in [0, 3, 60] {
+        assert!(rt; place < spoilt.len());
+        let byte = spoilt[place];
+        spoilt[place] = 255;
+        assert_eq!(rt; fault_of(&rt, &spoilt), Some(FileFault::NotJson), "{place}");
+        assert!(rt; place < spoilt.len());
+        spoilt[place] = byte;
+    }
+    Ok(())
+}
+
+#[test]
+fn too_long(rt: HostRuntime) -> Result<(), Fail> {
+    let spaces = vec![in rt.alloc(); b' '; 16_777_217]?;
+    assert_eq!(rt; fault_of(&rt, &spaces), Some(FileFault::Limit));
+    assert!(rt; 1 < spaces.len());
+    assert_eq!(rt; fault_of(&rt, &spaces[1..]), Some(FileFault::NotJson));
+    Ok(())
+}
+
+#[test]
+fn wrong_members(rt: HostRuntime) -> Result<(), Fail> {
+    let rest = "\"stripes\":8,\"buckets\":8,\"steps\":[]";
+    let cases = [
+        ("[]", FileFault::Member),
+        ("null", FileFault::Member),
+        ("7", FileFault::Member),
+        ("\"steps\"", FileFault::Member),
+        ("{}", FileFault::Member),
+        ("{{}}", FileFault::NotJson),
+        ("{\"version\":1e999}", FileFault::NotJson),
+        ("{\"callers\":1,@}", FileFault::Member),
+        ("{\"version\":1,@}", FileFault::Member),
+        ("{\"version\":null,\"callers\":1,@}", FileFault::Member),
+        ("{\"version\":1.0,\"callers\":1,@}", FileFault::Member),
+        ("{\"version\":-1,\"callers\":1,@}", FileFault::Member),
+        ("{\"version\":1e0,\"callers\":1,@}", FileFault::Member),
+        ("{\"version\":-0,\"callers\":1,@}", FileFault::Member),
+        (
+            "{\"version\":18446744073709551616,\"callers\":1,@}",
+            FileFault::Member,
+        ),
+        ("{\"version\":1,\"callers\":\"1\",@}", FileFault::Member),
+        ("{\"version\":1,\"callers\":-1,@}", FileFault::Member),
+        ("{\"version\":1,\"callers\":2.0,@}", FileFault::Member),
+        ("{\"version\":1,\"callers\":[1],@}", FileFault::Member),
+        (
+            "{\"version\":1,\"callers\":1,@,\"stripes\":true}",
+            FileFault::Member,
+        ),
+        (
+            "{\"version\":1,\"callers\":1,@,\"buckets\":{}}",
+            FileFault::Member,
+        ),
+        (
+            "{\"version\":1,\"callers\":1,@,\"steps\":{}}",
+            FileFault::Member,
+        ),
+        (
+            "{\"version\":1,\"callers\":1,@,\"steps\":0}",
+            FileFault::Member,
+        ),
+        (
+            "{\"version\":7,\"callers\":1,@,\"steps\":null}",
+            FileFault::Member,
+        ),
+        ("{\"version\":7,\"callers\":1,@}", FileFault::Limit),
+        ("{\"version\":0,\"callers\":1,@}", FileFault::Limit),
+        ("{\"version\":1,\"callers\":0,@}", FileFault::Limit),
+        ("{\"version\":1,\"callers\":2,@}", FileFault::Limit),
+        ("{\"version\":1,\"callers\":65,@}", FileFault::Limit),
+        (
+            "{\"version\":1,\"callers\":1,@,\"stripes\":0}",
+            FileFault::Limit,
+        ),
+        (
+            "{\"version\":1,\"callers\":1,@,\"stripes\":4097}",
+            FileFault::Limit,
+        ),
+        (
+            "{\"version\":1,\"callers\":1,@,\"buckets\":1}",
+            FileFault::Limit,
+        ),
+        (
+            "{\"version\":1,\"callers\":1,@,\"buckets\":12}",
+            FileFault::Limit,
+        ),
+        (
+            "{\"version\":1,\"callers\":1,@,\"buckets\":131072}",
+            FileFault::Limit,
+        ),
+    ];
+    for (pattern, wanted) in cases {
+        let text = pattern.replace(rt.alloc(), "@", rest)?;
+        assert_eq!(rt; fault_of(&rt, text.as_bytes()), Some(wanted), "{text}");
+    }
+    Ok(())
+}
+
+#[test]
+fn wrong_steps(rt: HostRuntime) -> Result<(), Fail> {
+    let wrong = [
+        "0",
+        "null",
+        "\"begin\"",
+        "{\"begin\":0}",
+        "[]",
+        "[0]",
+        "[\"begin\"]",
+        "[0,\"begin\"]",
+        "[\"begin\",-1]",
+        "[\"begin\",0.0]",
+        "[\"begin\",1e2]",
+        "[\"begin\",-0]",
+        "[\"begin\",18446744073709551616]",
+        "[\"begin\",\"0\"]",
+        "[\"begin\",null]",
+        "[\"begin\",0,0]",
+        "[\"Begin\",0]",
+        "[\"sweep\",0]",
+        "[\"sweep\"]",
+        "[\"save\",0]",
+        "[\"double\",2]",
+        "[\"ask\",0]",
+        "[\"ask\",0,\"put\",1]",
+        "[\"ask\",0,\"put\",\"1\",10]",
+        "[\"ask\",0,\"put\",1,10,1]",
+        "[\"ask\",0,\"take\",1,10]",
+        "[\"ask\",0,\"take\"]",
+        "[\"ask\",0,\"get\",[1]]",
+        "[\"ask\",0,\"update\",1]",
+        "[\"ask\",0,[\"get\",1]]",
+        "[\"ask\",\"get\",1]",
+        "[\"seek\",0,0]",
+        "[\"act\"]",
+        "[\"commit\",true]",
+        "[\"abort\",0,null]",
+    ];
+    for step in wrong {
+        let steps = format!(in rt.alloc(); "[[\"begin\",0],{step},[\"begin\"]]")?;
+        // Too many callers are found only after the steps.
+        for callers in ["1", "65"] {
+            let text = file_with(&rt, callers, &steps)?;
+            let wanted = Some(FileFault::Piece(Part::Step, 1));
+            assert_eq!(rt; fault_of(&rt, text.as_bytes()), wanted, "{text}");
+        }
+    }
+    Ok(())
+}
+
+#[test]
+fn words_of_faults(rt: HostRuntime) -> Result<(), Fail> {
+    for (fault, wanted) in [
+        (FileFault::NotJson, "20"),
+        (FileFault::Member, "21"),
+        (FileFault::Piece(Part::Step, 4), "21 step 4"),
+        (FileFault::Piece(Part::Script, 0), "21 script 0"),
+        (FileFault::Piece(Part::Entry, 10), "21 entry 10"),
+        (FileFault::Limit, "22"),
+        (FileFault::NoMemory, "14"),
+    ] {
+        assert_eq!(rt; fault.to_string(rt.alloc())?.as_str(), wanted);
+    }
+    Ok(())
+}

@@ -1,0 +1,2 @@
+pub mod SideValue
+pub mod UndoLog

@@ -1,0 +1,190 @@
+ghost use Rattle.std.specs.Prelude.{◌≡◌, ◌+◌, ◌-◌, ◌<◌, ◌≤◌, ◌↔◌, [], ◌∷◌, ◌++◌, length, take, IsTrue, IsOk, IsSome, IfOk, OnOk, OnErr, option_to_list, option_copied};
+ghost use Rattle.undo_log.specs.UndoLog.{kept_at, newest_above};
+
+use crate::job::UndoJob;
+use std::alloc::{AllocError, Global};
+use std::marker::Model;
+
+/// The inverses of a transaction's changes, and its savepoints.
+///
+/// Contracts see the `jobs`, oldest first; in `kept` how many jobs there were at each savepoint, savepoint 1 first; and the `room` for
+/// jobs and the `save_room` for savepoints that is there already. A level is the number of a savepoint, or 0, the beginning.
+#[derive(Drop)]
+pub struct UndoLog<J: UndoJob> {
+    jobs: Vec<J>,
+    kept: Vec<usize>,
+}
+
+impl<J: UndoJob> Model for UndoLog<J> {
+    ghost use Rattle.std.specs.Prelude.{◌-◌, vec_len, vec_capacity};
+    ghost use Rattle.undo_log.specs.UndoLog.{Log};
+
+    ghost Value = { Log J };
+
+    ghost view = { λ log. record {
+      jobs = log.jobs.items;
+      kept = log.kept.items;
+      room = vec_capacity log.jobs - vec_len log.jobs;
+      save_room = vec_capacity log.kept - vec_len log.kept;
+    } };
+}
+
+impl<J: UndoJob> UndoLog<J> {
+    /// An empty log at level 0. Takes no memory.
+    pub fn new(alloc: Global) -> UndoLog<J>
+        ensures jobs { result.jobs ≡ [] }
+        ensures kept { result.kept ≡ [] }
+    {
+        UndoLog {
+            jobs: Vec::new(alloc),
+            kept: Vec::new(alloc),
+        }
+    }
+
+    /// The number of jobs. Constant time.
+    pub fn len(&self) -> usize
+        ensures { result ≡ length self.now.jobs }
+    {
+        self.jobs.len()
+    }
+
+    /// Whether there is no job. Constant time.
+    pub fn is_empty(&self) -> bool
+        ensures { IsTrue result ↔ (self.now.jobs ≡ []) }
+    {
+        self.jobs.is_empty()
+    }
+
+    /// The number of savepoints, which is the highest level. Constant time.
+    pub fn level(&self) -> usize
+        ensures { result ≡ length self.now.kept }
+    {
+        self.kept.len()
+    }
+
+    /// The number of jobs that a return to the level keeps: those that were there at its savepoint, none at level 0.
+    /// Constant time.
+    pub fn kept(&self, level: usize) -> usize
+        requires { level ≤ length self.now.kept }
+        ensures { result ≡ kept_at self.now.kept level }
+    {
+        match level.checked_sub(1) {
+            Some(savepoint) => self.kept[savepoint],
+            None => 0,
+        }
+    }
+
+    /// Makes room for one more job, if there is none. The room stays until a job is pushed into it.
+    ///
+    /// Amortized constant time.
+    ///
+    /// # Errors
+    ///
+    /// `AllocError` where memory is refused, and only where there was no room. Then nothing has changed.
+    pub fn reserve_one(&mut self) -> Result<(), AllocError>
+        ensures jobs { self.new.jobs ≡ self.old.jobs }
+        ensures kept { self.new.kept ≡ self.old.kept }
+        ensures room { self.old.room ≤ self.new.room }
+        ensures save_room { self.new.save_room ≡ self.old.save_room }
+        ensures ok { OnOk result (0 < self.new.room) }
+        ensures err { OnErr result (self.new ≡ self.old) }
+        ensures full { OnErr result (self.old.room ≡ 0) }
+    {
+        self.jobs.reserve(1)
+    }
+
+    /// Adds a job as the newest, in room that is there already. Takes no memory, constant time.
+    pub fn push_reserved(&mut self, job: J)
+        requires { 0 < self.old.room }
+        ensures jobs { self.new.jobs ≡ self.old.jobs ++ job ∷ [] }
+        ensures kept { self.new.kept ≡ self.old.kept }
+        ensures room { self.new.room + 1 ≡ self.old.room }
+        ensures save_room { self.new.save_room ≡ self.old.save_room }
+    {
+        self.jobs.push_reserved(job);
+    }
+
+    /// Makes room for one more savepoint, if there is none, so that the next `save` succeeds.
+    ///
+    /// Amortized constant time.
+    ///
+    /// # Errors
+    ///
+    /// `AllocError` where memory is refused, and only where there was no room. Then nothing has changed.
+    pub fn save_room(&mut self) -> Result<(), AllocError>
+        ensures jobs { self.new.jobs ≡ self.old.jobs }
+        ensures kept { self.new.kept ≡ self.old.kept }
+        ensures room { self.new.room ≡ self.old.room }
+        ensures save_room { self.old.save_room ≤ self.new.save_room }
+        ensures ok { OnOk result (0 < self.new.save_room) }
+        ensures err { OnErr result (self.new ≡ self.old) }
+        ensures full { OnErr result (self.old.save_room ≡ 0) }
+    {
+        self.kept.reserve(1)
+    }
+
+    /// Makes a savepoint here, which keeps all jobs, and gives its number: one more than there were savepoints.
+    ///
+    /// Amortized constant time.
+    ///
+    /// # Errors
+    ///
+    /// `AllocError` where memory is refused, and only where there was no room for a savepoint. Then nothing has changed.
+    pub fn save(&mut self) -> Result<usize, AllocError>
+        ensures jobs { self.new.jobs ≡ self.old.jobs }
+        ensures room { self.new.room ≡ self.old.room }
+        ensures number { IfOk result (λ level. level ≡ length self.old.kept + 1) }
+        ensures kept { OnOk result (self.new.kept ≡ self.old.kept ++ length self.old.jobs ∷ []) }
+        ensures save_room { OnOk result (self.old.save_room ≤ self.new.save_room + 1) }
+        ensures err { OnErr result (self.new ≡ self.old) }
+        ensures full { OnErr result (self.old.save_room ≡ 0) }
+    {
+        self.save_room()?;
+        self.kept.push_reserved(self.jobs.len());
+        Ok(self.kept.len())
+    }
+
+    /// The job that `pop_above` would give. Constant time.
+    pub fn newest_above(&self, level: usize) -> Option<&J>
+        requires { level ≤ length self.now.kept }
+        ensures newest { option_copied result ≡ newest_above self.now level }
+        ensures some { IsSome result ↔ (kept_at self.now.kept level < length self.now.jobs) }
+    {
+        if self.len() > self.kept(level) {
+            self.jobs.last()
+        } else {
+            None
+        }
+    }
+
+    /// Takes out the newest job, or gives none where only those are left that the level keeps.
+    ///
+    /// Savepoints stay, those above the level too, until `cut`. The job's place is room again, in which it may be pushed back.
+    /// A transaction that commits takes out all its jobs so, by level 0, discards them and cuts at 0. Takes no memory, constant time.
+    pub fn pop_above(&mut self, level: usize) -> Option<J>
+        requires { level ≤ length self.old.kept }
+        ensures newest { result ≡ newest_above self.old level }
+        ensures some { IsSome result ↔ (kept_at self.old.kept level < length self.old.jobs) }
+        ensures jobs { self.old.jobs ≡ self.new.jobs ++ option_to_list result }
+        ensures kept { self.new.kept ≡ self.old.kept }
+        ensures room { self.new.room ≡ self.old.room + length (option_to_list result) }
+        ensures save_room { self.new.save_room ≡ self.old.save_room }
+    {
+        self.newest_above(level)?;
+        self.jobs.pop()
+    }
+
+    /// Drops the savepoints above the level, once no job above it is left, and keeps the level's own.
+    ///
+    /// Takes no memory, and time for each savepoint that is dropped.
+    pub fn cut(&mut self, level: usize)
+        requires level { level ≤ length self.old.kept }
+        requires none_above { length self.old.jobs ≤ kept_at self.old.kept level }
+        ensures jobs { self.new.jobs ≡ self.old.jobs }
+        ensures kept { self.new.kept ≡ take level self.old.kept }
+        ensures room { self.new.room ≡ self.old.room }
+        ensures save_room { self.old.save_room ≤ self.new.save_room }
+    {
+        self.kept.truncate(level);
+    }
+}

@@ -1,0 +1,51 @@
+use crate::job::UndoJob;
+
+/// A value of the caller's own, kept beside a transaction, whose changes can be taken back, each by a job of its own.
+///
+/// The library makes no such value and looks into none: it sees four words, and a job names those before its change and after it.
+pub trait Side: Drop + Send {
+    /// The inverse of one change, which is used up once.
+    type Job: Drop + Send;
+
+    ghost use Rattle.std.specs.Prelude.{◌≡◌, ℕ, List};
+
+    /// The words that a value has.
+    ghost words_of: { Self → List ℕ };
+
+    /// The words that a job names as before its change.
+    ghost before: { Self.Job → List ℕ };
+
+    /// The words that a job names as after its change.
+    ghost after: { Self.Job → List ℕ };
+
+    /// The four words of the value.
+    fn words(&self) -> [u64; 4]
+        ensures { result ≡ words_of self.now };
+
+    /// The value without the job's change, by what the job keeps.
+    fn undo(self, job: Self::Job) -> Self
+        requires { words_of self ≡ after job }
+        ensures { words_of result ≡ before job };
+}
+
+/// A side value's job as an `UndoJob`, whose world is the side value.
+#[derive(Drop)]
+pub struct SideJob<S: Side> {
+    /// The inverse of one change.
+    pub job: S::Job,
+}
+
+impl<S: Side> UndoJob for SideJob<S> {
+    type World = S;
+
+    ghost use Rattle.std.specs.Prelude.{◌≡◌};
+
+    ghost shows_after = { λ side world. S.words_of world ≡ S.after side.job };
+
+    ghost shows_before = { λ side world. S.words_of world ≡ S.before side.job };
+
+    fn run(self, world: S) -> S {
+        let SideJob { job } = self;
+        world.undo(job)
+    }
+}

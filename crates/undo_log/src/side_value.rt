@@ -1,0 +1,178 @@
+ghost use Rattle.std.specs.Prelude.{◌≡◌, ◌+◌, ◌<◌, ◌≤◌, [], ◌∷◌, ◌++◌, length, take, slice_get, IsOk, IfOk, IfErr, OnOk, OnErr};
+
+use crate::job::UndoJob;
+use crate::log::UndoLog;
+use crate::side::{Side, SideJob};
+use core::mem::replace_with;
+use std::alloc::{AllocError, AllocFailed, Global};
+use std::marker::Model;
+
+/// A side value with the jobs of its changes and its savepoints.
+///
+/// Contracts see the `value`; in `levels` the words that it had at the beginning and at each savepoint, level 0 first; and the `room` for
+/// changes and the `save_room` for savepoints that is there already. No words are stored: each job names those that it gives.
+#[derive(Drop)]
+pub struct SideValue<S: Side> {
+    value: S,
+    log: UndoLog<SideJob<S>>,
+}
+
+impl<S: Side> Model for SideValue<S> {
+    ghost use Rattle.undo_log.specs.SideValue.{Leveled, levels_of, IsUndoable};
+
+    ghost Value = { Leveled S };
+
+    ghost view = { λ side. record {
+      value = side.value;
+      levels = levels_of (λ j. S.before j.job) (S.words_of side.value) side.log;
+      room = side.log.room;
+      save_room = side.log.save_room;
+    } };
+
+    ghost invariant = { λ side. IsUndoable (λ j. S.before j.job) (λ j. S.after j.job) (S.words_of side.value) side.log };
+}
+
+impl<S: Side> SideValue<S> {
+    /// The value as level 0, with no change to take back. Takes no memory.
+    pub fn new(alloc: Global, value: S) -> SideValue<S>
+        ensures value { result.value ≡ value }
+        ensures levels { result.levels ≡ S.words_of value ∷ [] }
+    {
+        SideValue {
+            value,
+            log: UndoLog::new(alloc),
+        }
+    }
+
+    /// The words of the value now. Takes no memory.
+    pub fn words(&self) -> [u64; 4]
+        ensures { result ≡ S.words_of self.now.value }
+    {
+        self.value.words()
+    }
+
+    /// The number of savepoints, which is the highest level. Constant time.
+    pub fn level(&self) -> usize
+        ensures { result + 1 ≡ length self.now.levels }
+    {
+        self.log.level()
+    }
+
+    /// Changes the value, and logs the job that takes the change back.
+    ///
+    /// The job names the words now as before, and those that `change` gives as after. Calls `change` once, in amortized
+    /// constant time beside it.
+    ///
+    /// # Errors
+    ///
+    /// `AllocFailed` where memory is refused, and only where there was no room for a change. Then `change` was not called, nothing has
+    /// changed, and the error's `value` is the change and the job that were handed in.
+    pub fn change<F: FnOnce(S) -> S>(
+        &mut self,
+        change: F,
+        job: SideJob<S>,
+    ) -> Result<(), AllocFailed<(F, SideJob<S>)>>
+        requires before { S.words_of self.old.value ≡ S.before job.job }
+        requires callable { F.pre change self.old.value }
+        requires after { (value : S) → F.post change self.old.value value → S.words_of value ≡ S.after job.job }
+        ensures changed { OnOk result (F.post change self.old.value self.new.value) }
+        ensures levels { self.new.levels ≡ self.old.levels }
+        ensures room { OnOk result (self.old.room ≤ self.new.room + 1) }
+        ensures save_room { self.new.save_room ≡ self.old.save_room }
+        ensures err { OnErr result (self.new ≡ self.old) }
+        ensures full { OnErr result (self.old.room ≡ 0) }
+        ensures handed_back { IfErr result (λ refused. refused.value ≡ (change, job)) }
+    {
+        if self.log.reserve_one().is_err() {
+            return Err(AllocFailed {
+                value: (change, job),
+            });
+        }
+        replace_with(
+            &mut self.value,
+            change,
+            |value, change|
+                requires { F.pre change value }
+                ensures { F.post change value result.0 }
+            { (change(value), ()) },
+        );
+        self.log.push_reserved(job);
+        Ok(())
+    }
+
+    /// Makes room for one more savepoint, if there is none, so that the next `save` succeeds.
+    ///
+    /// Amortized constant time.
+    ///
+    /// # Errors
+    ///
+    /// `AllocError` where memory is refused, and only where there was no room. Then nothing has changed.
+    pub fn save_room(&mut self) -> Result<(), AllocError>
+        ensures value { self.new.value ≡ self.old.value }
+        ensures levels { self.new.levels ≡ self.old.levels }
+        ensures room { self.new.room ≡ self.old.room }
+        ensures save_room { self.old.save_room ≤ self.new.save_room }
+        ensures ok { OnOk result (0 < self.new.save_room) }
+        ensures err { OnErr result (self.new ≡ self.old) }
+        ensures full { OnErr result (self.old.save_room ≡ 0) }
+    {
+        self.log.save_room()
+    }
+
+    /// Makes a savepoint of the value as it is now, and gives its number: one more than there were savepoints.
+    ///
+    /// Amortized constant time.
+    ///
+    /// # Errors
+    ///
+    /// `AllocError` where memory is refused, and only where there was no room for a savepoint. Then nothing has changed.
+    pub fn save(&mut self) -> Result<usize, AllocError>
+        ensures value { self.new.value ≡ self.old.value }
+        ensures number { IfOk result (λ level. level ≡ length self.old.levels) }
+        ensures levels { OnOk result (self.new.levels ≡ self.old.levels ++ S.words_of self.old.value ∷ []) }
+        ensures room { self.new.room ≡ self.old.room }
+        ensures save_room { OnOk result (self.old.save_room ≤ self.new.save_room + 1) }
+        ensures err { OnErr result (self.new ≡ self.old) }
+        ensures full { OnErr result (self.old.save_room ≡ 0) }
+    {
+        self.log.save()
+    }
+
+    /// Takes back each change since the level, newest first, and drops the savepoints above it.
+    ///
+    /// The value then has the words that it had there. Takes no memory; runs one job for each change.
+    pub fn back(&mut self, level: usize)
+        requires { level < length self.old.levels }
+        ensures words { slice_get self.old.levels level ≡ Some (S.words_of self.new.value) }
+        ensures levels { self.new.levels ≡ take (level + 1) self.old.levels }
+        ensures room { self.old.room ≤ self.new.room }
+        ensures save_room { self.old.save_room ≤ self.new.save_room }
+    {
+        while let Some(job) = self.log.pop_above(level) {
+            replace_with(
+                &mut self.value,
+                job,
+                |value, job|
+                    requires { S.words_of value ≡ S.after job.job }
+                    ensures { S.words_of result.0 ≡ S.before job.job }
+                { (job.run(value), ()) },
+            );
+        }
+        self.log.cut(level);
+    }
+
+    /// Keeps the value, which is level 0 from now on: drops all jobs, none of them run, and all savepoints.
+    ///
+    /// Takes no memory, and time for each job and savepoint.
+    pub fn settle(&mut self)
+        ensures value { self.new.value ≡ self.old.value }
+        ensures levels { self.new.levels ≡ S.words_of self.old.value ∷ [] }
+        ensures room { self.old.room ≤ self.new.room }
+        ensures save_room { self.old.save_room ≤ self.new.save_room }
+    {
+        while let Some(job) = self.log.pop_above(0) {
+            drop(job);
+        }
+        self.log.cut(0);
+    }
+}

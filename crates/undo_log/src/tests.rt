@@ -1,0 +1,281 @@
+ghost use Rattle.std.specs.Prelude.{◌≡◌, [], ◌∷◌, ◌++◌, IsSome, OnOk};
+
+mod register;
+mod register_job;
+
+use crate::{Side, SideJob, SideValue, UndoJob, UndoLog};
+use register::Register;
+use register_job::RegisterJob;
+use std::alloc::Global;
+use std::process::Abort;
+use std::test::Fail;
+
+/// The job of the change that raised a count to this number.
+#[derive(Drop)]
+struct Raised(u64);
+
+impl UndoJob for Raised {
+    type World = u64;
+
+    ghost use Rattle.std.specs.Prelude.{◌≡◌, ◌+◌, ◌<◌};
+
+    ghost shows_after = { λ job count. (count ≡ job.0) × (0 < job.0) };
+
+    ghost shows_before = { λ job count. count + 1 ≡ job.0 };
+
+    fn run(self, count: u64) -> u64 {
+        count - 1
+    }
+}
+
+/// Pushes the job, and asks twice for room where memory is refused once.
+fn push(rt: &impl Abort, log: &mut UndoLog<Raised>, job: Raised) -> Result<(), Fail> {
+    let jobs = log.len();
+    if log.reserve_one().is_err() {
+        assert_eq!(rt; log.len(), jobs);
+        log.reserve_one()?;
+    }
+    log.push_reserved(job);
+    Ok(())
+}
+
+/// Makes a savepoint, and asks twice where memory is refused once.
+fn save(rt: &impl Abort, log: &mut UndoLog<Raised>) -> Result<usize, Fail> {
+    let level = log.level();
+    if let Ok(saved) = log.save() {
+        return Ok(saved);
+    }
+    assert_eq!(rt; log.level(), level);
+    log.save_room()?;
+    Ok(log.save()?)
+}
+
+#[test]
+fn nine_jobs_come_out_newest_first(rt: HostRuntime) -> Result<(), Fail> {
+    let mut log = UndoLog::new(rt.alloc());
+    for number in 1..10 {
+        push(&rt, &mut log, Raised(number))?;
+    }
+    assert_eq!(rt; log.len(), 9);
+    for expected in [9, 8, 7, 6, 5, 4, 3, 2, 1] {
+        let Raised(number) = log.pop_above(0).ok_or("a job")?;
+        assert_eq!(rt; number, expected);
+    }
+    assert!(rt; log.is_empty() && log.pop_above(0).is_none());
+    log.cut(0);
+    assert_eq!(rt; log.level(), 0);
+    Ok(())
+}
+
+#[test]
+fn a_savepoint_keeps_its_jobs(rt: HostRuntime) -> Result<(), Fail> {
+    let mut log = UndoLog::new(rt.alloc());
+    push(&rt, &mut log, Raised(1))?;
+    assert_eq!(rt; save(&rt, &mut log)?, 1);
+    assert_eq!(rt; save(&rt, &mut log)?, 2);
+    push(&rt, &mut log, Raised(2))?;
+    assert_eq!(rt; log.level(), 2);
+    assert_eq!(rt; [log.kept(0), log.kept(1), log.kept(2)], [0, 1, 1]);
+    assert!(rt; matches!(log.newest_above(1), Some(Raised(2))));
+    let newest = log.pop_above(1).ok_or("a job above savepoint 1")?;
+    assert_eq!(rt; newest.run(2), 1);
+    assert!(rt; log.newest_above(1).is_none() && log.pop_above(1).is_none());
+    log.cut(1);
+    assert_eq!(rt; (log.level(), log.len(), log.is_empty()), (1, 1, false));
+    Ok(())
+}
+
+#[test]
+fn one_log_for_each_caller(rt: HostRuntime) -> Result<(), Fail> {
+    let mut logs = Vec::new(rt.alloc());
+    for _ in 0..3 {
+        logs.push(UndoLog::new(rt.alloc()))?;
+    }
+    let log = logs.get_mut(1).ok_or("a log for caller 1")?;
+    push(&rt, log, Raised(1))?;
+    let lengths = logs.iter().map(|log| log.len());
+    assert!(rt; lengths.eq([0, 1, 0]));
+    Ok(())
+}
+
+/// Changes the value, and asks twice where memory is refused once.
+fn change<S: Side, F: FnOnce(S) -> S>(
+    rt: &impl Abort,
+    side: &mut SideValue<S>,
+    change: F,
+    job: S::Job,
+) -> Option<()>
+    requires before { S.words_of side.old.value ≡ S.before job }
+    requires callable { F.pre change side.old.value }
+    requires after { (value : S) → F.post change side.old.value value → S.words_of value ≡ S.after job }
+    ensures words { IsSome result → S.words_of side.new.value ≡ S.after job }
+    ensures levels { side.new.levels ≡ side.old.levels }
+{
+    let words = side.words();
+    let Err(refused) = side.change(change, SideJob { job }) else {
+        return Some(());
+    };
+    assert_eq!(rt; side.words(), words);
+    let (change, job) = refused.value;
+    side.change(change, job).ok()
+}
+
+/// Makes a savepoint, and asks twice where memory is refused once.
+fn save_side<S: Side>(rt: &impl Abort, side: &mut SideValue<S>) -> Result<usize, Fail>
+    ensures value { side.new.value ≡ side.old.value }
+    ensures levels { OnOk result (side.new.levels ≡ side.old.levels ++ S.words_of side.old.value ∷ []) }
+{
+    let level = side.level();
+    if let Ok(saved) = side.save() {
+        return Ok(saved);
+    }
+    assert_eq!(rt; side.level(), level);
+    side.save_room()?;
+    Ok(side.save()?)
+}
+
+/// The words after a change, a savepoint and two more changes, back at the savepoint, and back at the beginning.
+fn words_there_and_back<S: Side, A: FnOnce(S) -> S, B: FnOnce(S) -> S, C: FnOnce(S) -> S>(
+    rt: &impl Abort,
+    alloc: Global,
+    value: S,
+    first: (A, S::Job),
+    second: (B, S::Job),
+    third: (C, S::Job),
+) -> Result<[[u64; 4]; 3], Fail>
+    requires first_before { S.words_of value ≡ S.before first.1 }
+    requires second_before { S.after first.1 ≡ S.before second.1 }
+    requires third_before { S.after second.1 ≡ S.before third.1 }
+    requires first_callable { (value : S) → A.pre first.0 value }
+    requires first_after { (value left : S) → A.post first.0 value left → S.words_of left ≡ S.after first.1 }
+    requires second_callable { (value : S) → B.pre second.0 value }
+    requires second_after { (value left : S) → B.post second.0 value left → S.words_of left ≡ S.after second.1 }
+    requires third_callable { (value : S) → C.pre third.0 value }
+    requires third_after { (value left : S) → C.post third.0 value left → S.words_of left ≡ S.after third.1 }
+{
+    let mut side = SideValue::new(alloc, value);
+    change(rt, &mut side, first.0, first.1).ok_or("the first change")?;
+    assert_eq!(rt; save_side(rt, &mut side)?, 1);
+    change(rt, &mut side, second.0, second.1).ok_or("the second change")?;
+    change(rt, &mut side, third.0, third.1).ok_or("the third change")?;
+    let there = side.words();
+    side.back(1);
+    assert_eq!(rt; side.level(), 1);
+    let at_savepoint = side.words();
+    side.back(0);
+    Ok([there, at_savepoint, side.words()])
+}
+
+/// The words after a change, a savepoint and a return to level 0, with or without a settling before it.
+fn words_back<S: Side, F: FnOnce(S) -> S>(
+    rt: &impl Abort,
+    alloc: Global,
+    value: S,
+    first: (F, S::Job),
+    settles: bool,
+) -> Result<[u64; 4], Fail>
+    requires before { S.words_of value ≡ S.before first.1 }
+    requires callable { F.pre first.0 value }
+    requires after { (left : S) → F.post first.0 value left → S.words_of left ≡ S.after first.1 }
+{
+    let mut side = SideValue::new(alloc, value);
+    change(rt, &mut side, first.0, first.1).ok_or("the change")?;
+    save_side(rt, &mut side)?;
+    if settles {
+        side.settle();
+        assert_eq!(rt; side.level(), 0);
+    }
+    side.back(0);
+    Ok(side.words())
+}
+
+#[test]
+fn a_settled_value_stays(rt: HostRuntime) -> Result<(), Fail> {
+    for (settles, words) in [(false, [0, 0, 0, 0]), (true, [1, 0, 0, 0])] {
+        let job = RegisterJob {
+            before: [0, 0, 0, 0],
+            after: [1, 0, 0, 0],
+            run: Box::new(
+                rt.alloc(),
+                |_| Register {
+                    words: [0, 0, 0, 0],
+                },
+            )?,
+        };
+        let value = Register {
+            words: [0, 0, 0, 0],
+        };
+        let first = (
+            |_| Register {
+                words: [1, 0, 0, 0],
+            },
+            job,
+        );
+        assert_eq!(rt; words_back(&rt, rt.alloc(), value, first, settles)?, words);
+    }
+    Ok(())
+}
+
+#[test]
+fn side_value_returns(rt: HostRuntime) -> Result<(), Fail> {
+    let to_zero = Box::new(
+        rt.alloc(),
+        |_| Register {
+            words: [0, 0, 0, 0],
+        },
+    )?;
+    let to_one = Box::new(
+        rt.alloc(),
+        |_| Register {
+            words: [1, 0, 0, 0],
+        },
+    )?;
+    let to_two = Box::new(
+        rt.alloc(),
+        |_| Register {
+            words: [2, 0, 0, 0],
+        },
+    )?;
+    let first = RegisterJob {
+        before: [0, 0, 0, 0],
+        after: [1, 0, 0, 0],
+        run: to_zero,
+    };
+    let second = RegisterJob {
+        before: [1, 0, 0, 0],
+        after: [2, 0, 0, 0],
+        run: to_one,
+    };
+    let third = RegisterJob {
+        before: [2, 0, 0, 0],
+        after: [3, 0, 0, 0],
+        run: to_two,
+    };
+    let words = words_there_and_back(
+        &rt,
+        rt.alloc(),
+        Register {
+            words: [0, 0, 0, 0],
+        },
+        (
+            |_| Register {
+                words: [1, 0, 0, 0],
+            },
+            first,
+        ),
+        (
+            |_| Register {
+                words: [2, 0, 0, 0],
+            },
+            second,
+        ),
+        (
+            |_| Register {
+                words: [3, 0, 0, 0],
+            },
+            third,
+        ),
+    )?;
+    assert_eq!(rt; words, [[3, 0, 0, 0], [1, 0, 0, 0], [0, 0, 0, 0]]);
+    Ok(())
+}
