@@ -1,5 +1,5 @@
 -- What a step that is not refused may be answered, and the state after it.
-use Rattle.std.specs.Prelude.{◌≡◌, ℕ, ◌+◌, ◌-◌, ◌^◌, ◌==◌, Bool, true, false, not, nat_lt, ◌&&◌, ◌||◌, IsTrue, List, [], ◌∷◌, ◌++◌, Option, Some, None, slice_set}
+use Rattle.std.specs.Prelude.{◌≡◌, ℕ, ◌+◌, ◌-◌, ◌^◌, ◌==◌, Bool, true, false, not, nat_lt, ◌&&◌, IsTrue, List, [], ◌∷◌, ◌++◌, Option, Some, None, slice_set}
 use Rattle.txn_trace.specs.declared.step.Step.{Step}
 use Rattle.txn_trace.specs.declared.step.Step.TheVariants.{Begin, Ask, Seek, Act, Commit, Abort}
 use Rattle.txn_trace.specs.declared.answer.Answer.{Answer}
@@ -11,7 +11,7 @@ use Rattle.txn_trace.specs.History.{is_began, is_commit}
 use Rattle.txn_trace.specs.Now.{now}
 use Rattle.txn_trace.specs.Shape.{Phase, Waiting, LeavingTo, LeavingToEnd, how_many}
 use Rattle.txn_trace.specs.Locks.{is_locked}
-use Rattle.boost_core.specs.State.{State, Owner, Caller, Helper, seat_in, turn_in}
+use Rattle.boost_core.specs.State.{State, Owner, Caller, seat_in, turn_in}
 use Rattle.boost_core.specs.Refusals.{has_job, has_target, has_stamp}
 
 -- Whether the last move placed the cursor of this caller.

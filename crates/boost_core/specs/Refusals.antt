@@ -7,7 +7,7 @@ use Rattle.txn_trace.specs.declared.step.Step.TheVariants.{Begin, Ask, Seek, Act
 use Rattle.txn_trace.specs.declared.refusal.Refusal.{Refusal}
 use Rattle.txn_trace.specs.declared.refusal.Refusal.TheVariants.{BadKey, NoSuchCaller, NotOpen, AlreadyOpen, OperationUnfinished, Leaving, Unplaced, NothingToSeek, NoMemory, StampsUsedUp}
 use Rattle.txn_trace.specs.Map.{key_of}
-use Rattle.txn_trace.specs.Shape.{Phase, Closed, Opened, Waiting, LeavingTo, LeavingToEnd, Seat}
+use Rattle.txn_trace.specs.Shape.{Phase, Closed, Waiting, LeavingTo, LeavingToEnd, Seat}
 use Rattle.boost_core.specs.State.{State, seat_in, turn_in}
 
 -- The caller of a step.
