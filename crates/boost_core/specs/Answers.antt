@@ -32,11 +32,12 @@ abbrev pub IsReply : Phase → Map → Option ℕ → Type 0
 IsReply (Waiting op) m reply = reply ≡ reply_of m op
 IsReply phase m reply = ⊥
 
--- Whether a caller that has taken back all changes above the level is back at this level.
+-- Whether a caller takes changes back to this level.
 abbrev pub is_back_at : ℕ → Phase → Bool
 is_back_at n (LeavingTo m) = n == m
 is_back_at n phase = false
 
+-- Whether a caller takes all its changes back.
 abbrev pub is_at_end : Phase → Bool
 is_at_end LeavingToEnd = true
 is_at_end phase = false

@@ -19,14 +19,17 @@ caller_of (Act c) = c
 caller_of (Commit c) = c
 caller_of (Abort c) = c
 
+-- Whether a caller has no transaction.
 abbrev pub is_closed : Phase → Bool
 is_closed Closed = true
 is_closed _ = false
 
+-- Whether an operation waits for its reply.
 abbrev pub is_waiting : Phase → Bool
 is_waiting (Waiting op) = true
 is_waiting _ = false
 
+-- Whether a caller takes changes back.
 abbrev pub is_leaving : Phase → Bool
 is_leaving (LeavingTo n) = true
 is_leaving LeavingToEnd = true
