@@ -7,7 +7,7 @@ use Rattle.txn_trace.specs.declared.op.Op.{Op}
 use Rattle.txn_trace.specs.declared.entry.Entry.{Entry}
 use Rattle.txn_trace.specs.declared.entry.Entry.TheVariants.{Asked}
 use Rattle.txn_trace.specs.Map.{key_of}
-use Rattle.txn_trace.specs.History.{Line, caller_of, txn_after, lines_from, lines_of}
+use Rattle.txn_trace.specs.History.{Line, caller_of, txn_after, lines_from}
 use Rattle.txn_trace.specs.Locks.{stripe_of, asks_in, is_in_open, is_locked}
 
 -- Each line of the history has the caller.

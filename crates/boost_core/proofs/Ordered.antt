@@ -8,7 +8,7 @@ use Rattle.std.specs.Ordering.{nat_cmp, eq_by_cmp, is_eq, is_lt}
 use Rattle.std.specs.Cmp.{IsTotalOrder, nat_cmp_total, alike_right, both_ways, tied_itself, Equal-is}
 use Rattle.std.specs.FinMap.{IsAntisymmetric, nat_cmp-IsAntisymmetric}
 use Rattle.std.specs.FinMap.Entries.{find, put, where_key, below_all, is_sorted, is_sorted-put, is_sorted-where_key, find-put, find-where_key, same_entries}
-use Rattle.txn_trace.specs.Map.{Map, get, remove}
+use Rattle.txn_trace.specs.Map.{Map, remove}
 use Rattle.txn_trace.specs.Ordered.{split_cmp, ordered}
 use Rattle.txn_trace.proofs.Order.{split_cmp_total, split_cmp-IsAntisymmetric, sorted-ordered, value_at-ordered, ordered_is}
 

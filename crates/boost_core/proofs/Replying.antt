@@ -1,19 +1,16 @@
 -- The fields after the reply to the operation that waits.
-use Rattle.std.proofs.Common.{◌≡◌, ℕ, ◌+◌, ◌≤◌, true, false, Option, Some, None, List, [], ◌∷◌, ◌++◌, refl, ap, sym, subst, ◌∙◌, arith}
-use Rattle.std.specs.Prelude.{vec_len, vec_capacity}
+use Rattle.std.proofs.Common.{◌≡◌, ℕ, ◌+◌, ◌≤◌, true, false, Option, Some, None, List, [], ◌∷◌, ◌++◌, refl, sym, subst, arith}
+use Rattle.std.specs.Prelude.{vec_capacity}
 use Rattle.std.specs.Global.{Vec}
-use Rattle.std.specs.FinMap.Entries.{find}
 use Rattle.txn_trace.specs.declared.op.Op.{Op}
 use Rattle.txn_trace.specs.declared.op.Op.TheVariants.{Put, Take, Get}
 use Rattle.txn_trace.specs.declared.entry.Entry.{Entry}
 use Rattle.txn_trace.specs.declared.entry.Entry.TheVariants.{Did}
 use Rattle.txn_trace.specs.Sizes.{Sizes}
-use Rattle.txn_trace.specs.Map.{Map, key_of, reply_of}
-use Rattle.txn_trace.specs.Ordered.{split_cmp, ordered}
+use Rattle.txn_trace.specs.Map.{reply_of}
 use Rattle.txn_trace.specs.Now.{now}
 use Rattle.txn_trace.specs.Shape.{Waiting, changes}
 use Rattle.txn_trace.specs.Owed.{owed_in, owed_for}
-use Rattle.txn_trace.proofs.Order.{value_at-ordered}
 use Rattle.boost_core.specs.declared.stage.Stage.{Stage}
 use Rattle.boost_core.specs.declared.stage.Stage.TheVariants.{Open}
 use Rattle.boost_core.specs.Core.{Tells, Holds, phase_of, places_for}

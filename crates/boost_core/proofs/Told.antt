@@ -1,26 +1,21 @@
 -- What the fields tell after each kind of entry of the one caller.
-use Rattle.std.proofs.Common.{◌≡◌, ℕ, ◌+◌, ◌<◌, ◌^◌, Bool, true, false, cond, Option, Some, None, List, [], ◌∷◌, ◌++◌, length, refl, sym, ap, subst, ◌∙◌, ◌-◌, add-one, arith}
+use Rattle.std.proofs.Common.{◌≡◌, ℕ, ◌+◌, ◌<◌, ◌^◌, true, false, cond, Option, Some, None, List, [], ◌∷◌, ◌++◌, length, refl, sym, ap, subst, ◌∙◌, ◌-◌, add-one, arith}
 use Rattle.std.specs.Prelude.{map, reverse}
-use Rattle.std.specs.List.{All}
 use Prim.Native.Nat.{suc}
-use Rattle.std.proofs.lemmas.Bool.{cases_eq, eq-eqb, ne_eqb}
-use Rattle.std.proofs.lemmas.List.{reverse-append, length-reverse, length-map}
+use Rattle.std.proofs.lemmas.List.{reverse-append}
 use Rattle.std.proofs.lemmas.List.Elements.{All-push}
 use Rattle.txn_trace.specs.declared.op.Op.{Op}
 use Rattle.txn_trace.specs.declared.entry.Entry.{Entry}
 use Rattle.txn_trace.specs.declared.entry.Entry.TheVariants.{Began, Asked, Did, Leave, Undone, Committed, Aborted}
-use Rattle.txn_trace.specs.Map.{Map, get, key_of, reply_of, after}
+use Rattle.txn_trace.specs.Map.{Map, key_of, reply_of, after}
 use Rattle.txn_trace.specs.Ordered.{ordered}
 use Rattle.txn_trace.specs.History.{caller_of, is_began, is_commit}
 use Rattle.txn_trace.specs.Now.{set_at, now}
-use Rattle.txn_trace.specs.Shape.{Phase, Closed, Opened, Waiting, LeavingToEnd, Seat, changes, seat_after, own, how_many}
+use Rattle.txn_trace.specs.Shape.{Phase, Closed, Opened, Waiting, LeavingToEnd, changes, seat_after, own}
 use Rattle.txn_trace.specs.Serial.{serial}
 use Rattle.txn_trace.specs.Log.{log_of}
-use mathlib.Core.Logic.{inl, inr}
-use Rattle.txn_trace.proofs.Maps.{same_map}
-use Rattle.txn_trace.proofs.Table.{get-set_at}
 use Rattle.txn_trace.proofs.Fits.{changes-reply}
-use Rattle.txn_trace.proofs.Acting.{after_unchanged, get-after_other}
+use Rattle.txn_trace.proofs.Acting.{after_unchanged}
 use Rattle.txn_trace.specs.Locks.{holder_of}
 use Rattle.txn_trace.proofs.Pushes.{how_many-push}
 use Rattle.txn_trace.proofs.Next.{Next}

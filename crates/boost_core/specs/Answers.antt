@@ -1,5 +1,5 @@
 -- What a step that is not refused may be answered, and the state after it.
-use Rattle.std.specs.Prelude.{◌≡◌, ℕ, ◌+◌, ◌-◌, ◌^◌, ◌==◌, Bool, true, false, not, nat_lt, ◌&&◌, ◌||◌, IsTrue, List, [], ◌∷◌, ◌++◌, Option, Some, None, slice_set}
+use Rattle.std.specs.Prelude.{◌≡◌, ℕ, ◌+◌, ◌-◌, ◌^◌, ◌==◌, Bool, true, false, not, nat_lt, ◌&&◌, IsTrue, List, [], ◌∷◌, ◌++◌, Option, Some, None, slice_set}
 use Rattle.txn_trace.specs.declared.step.Step.{Step}
 use Rattle.txn_trace.specs.declared.step.Step.TheVariants.{Begin, Ask, Seek, Act, Commit, Abort}
 use Rattle.txn_trace.specs.declared.answer.Answer.{Answer}
@@ -11,7 +11,7 @@ use Rattle.txn_trace.specs.History.{is_began, is_commit}
 use Rattle.txn_trace.specs.Now.{now}
 use Rattle.txn_trace.specs.Shape.{Phase, Waiting, LeavingTo, LeavingToEnd, how_many}
 use Rattle.txn_trace.specs.Locks.{is_locked}
-use Rattle.boost_core.specs.State.{State, Owner, Caller, Helper, seat_in, turn_in}
+use Rattle.boost_core.specs.State.{State, Owner, Caller, seat_in, turn_in}
 use Rattle.boost_core.specs.Refusals.{has_job, has_target, has_stamp}
 
 -- Whether the last move placed the cursor of this caller.
@@ -32,11 +32,12 @@ abbrev pub IsReply : Phase → Map → Option ℕ → Type 0
 IsReply (Waiting op) m reply = reply ≡ reply_of m op
 IsReply phase m reply = ⊥
 
--- Whether a caller that has taken back all changes above the level is back at this level.
+-- Whether a caller takes changes back to this level.
 abbrev pub is_back_at : ℕ → Phase → Bool
 is_back_at n (LeavingTo m) = n == m
 is_back_at n phase = false
 
+-- Whether a caller takes all its changes back.
 abbrev pub is_at_end : Phase → Bool
 is_at_end LeavingToEnd = true
 is_at_end phase = false

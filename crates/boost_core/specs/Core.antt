@@ -2,7 +2,6 @@
 use Rattle.std.specs.Prelude.{◌≡◌, ℕ, ◌+◌, ◌<◌, ◌^◌, ◌≤◌, Bool, true, false, Option, Some, None, List, [], ◌∷◌, length, map, reverse, vec_len, vec_capacity, if◌then◌else◌}
 use Rattle.std.specs.Global.{Vec}
 use Rattle.std.specs.List.{All}
-use Rattle.txn_trace.specs.declared.op.Op.{Op}
 use Rattle.txn_trace.specs.declared.entry.Entry.{Entry}
 use Rattle.txn_trace.specs.Sizes.{Sizes}
 use Rattle.txn_trace.specs.Map.{Map, key_of, after}
@@ -15,7 +14,7 @@ use Rattle.txn_trace.specs.Legal.{IsLegal}
 use Rattle.txn_trace.specs.Owed.{owed_in}
 use Rattle.boost_core.specs.declared.stage.Stage.{Stage}
 use Rattle.boost_core.specs.declared.stage.Stage.TheVariants as stages
-use Rattle.boost_core.specs.State.{State, Owner, Caller, start}
+use Rattle.boost_core.specs.State.{State, Caller, start}
 use Rattle.boost_core.specs.Refusals.{takes_node}
 
 -- The phase of the caller at a stage.

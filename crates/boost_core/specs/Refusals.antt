@@ -7,7 +7,7 @@ use Rattle.txn_trace.specs.declared.step.Step.TheVariants.{Begin, Ask, Seek, Act
 use Rattle.txn_trace.specs.declared.refusal.Refusal.{Refusal}
 use Rattle.txn_trace.specs.declared.refusal.Refusal.TheVariants.{BadKey, NoSuchCaller, NotOpen, AlreadyOpen, OperationUnfinished, Leaving, Unplaced, NothingToSeek, NoMemory, StampsUsedUp}
 use Rattle.txn_trace.specs.Map.{key_of}
-use Rattle.txn_trace.specs.Shape.{Phase, Closed, Opened, Waiting, LeavingTo, LeavingToEnd, Seat}
+use Rattle.txn_trace.specs.Shape.{Phase, Closed, Waiting, LeavingTo, LeavingToEnd, Seat}
 use Rattle.boost_core.specs.State.{State, seat_in, turn_in}
 
 -- The caller of a step.
@@ -19,14 +19,17 @@ caller_of (Act c) = c
 caller_of (Commit c) = c
 caller_of (Abort c) = c
 
+-- Whether a caller has no transaction.
 abbrev pub is_closed : Phase → Bool
 is_closed Closed = true
 is_closed _ = false
 
+-- Whether an operation waits for its reply.
 abbrev pub is_waiting : Phase → Bool
 is_waiting (Waiting op) = true
 is_waiting _ = false
 
+-- Whether a caller takes changes back.
 abbrev pub is_leaving : Phase → Bool
 is_leaving (LeavingTo n) = true
 is_leaving LeavingToEnd = true

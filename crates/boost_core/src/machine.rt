@@ -28,8 +28,9 @@ const SIZE: u32 = 2;
 pub struct Core {
     limits: Limits,
     history: Vec<Entry>,
-    /// How many transactions began and how many committed.
+    /// How many transactions began.
     began: u64,
+    /// How many committed.
     committed: u64,
     stage: Stage,
     content: Content,
@@ -89,8 +90,9 @@ impl Core {
     /// | Commit | `NoSuchCaller`, `NotOpen`, `Leaving`, `OperationUnfinished` | `Committed` |
     /// | Abort | `NoSuchCaller`, `NotOpen`, `Leaving` | `Leaving` |
     ///
-    /// An Ask of a put or a take costs a copy of the map, an Act the logarithm of its number of keys, every other step a
-    /// fixed number of steps, but for what Begin and Ask reserve.
+    /// An Ask of a put or a take costs a copy of the map, an Act the logarithm of its number of keys, and every other step
+    /// a fixed number of steps. What Begin and Ask reserve, and each copy that is let go, by an Act, a Commit or an Abort,
+    /// costs its size.
     pub fn step(&mut self, step: Step) -> Answer
         ensures { Move self.old step result self.new }
     {

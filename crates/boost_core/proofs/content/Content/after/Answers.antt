@@ -1,4 +1,4 @@
-use Rattle.std.proofs.Common.{◌∙◌, ap}
+use Rattle.std.proofs.Common.{◌∙◌}
 use Rattle.boost_core.proofs.ContentList.{next_put, next_take}
 use Rattle.boost_core.proofs.content.Content.after.Goals as goal
 

@@ -1,4 +1,4 @@
-use Rattle.std.proofs.Common.{◌≡◌, arith, rules, sym, ◌∙◌}
+use Rattle.std.proofs.Common.{arith, rules, sym, ◌∙◌}
 use Rattle.txn_trace.specs.Shape.{LeavingToEnd}
 use Rattle.boost_core.proofs.Shape.{first_caller, phase_found, none_found, stage_leaving, seated, empty_list}
 use Rattle.boost_core.proofs.Told.{told-aborted}
