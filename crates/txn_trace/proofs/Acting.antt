@@ -31,7 +31,7 @@ none_is : (o : Option ℕ) → is_some o ≡ false → o ≡ None
 none_is None h = refl
 none_is (Some v) h = absurd (false≢true (sym h))
 
--- an operation that is no change leaves the map
+-- An operation that is no change leaves the map.
 pub after_unchanged : (m : Map) (op : Op) → is_change m op ≡ false → after m op ≡ m
 after_unchanged m (Put k v) h = absurd (false≢true (sym h))
 after_unchanged m (Take k) h = same_map (remove m k) m (λ q. get-remove m k q ∙ at q)
@@ -43,13 +43,13 @@ after_unchanged m (Take k) h = same_map (remove m k) m (λ q. get-remove m k q �
     ]
 after_unchanged m (Get k) h = refl
 
--- another key stays
+-- Another key stays.
 pub get-after_other : (m : Map) (op : Op) (q : ℕ) → q ≢ key_of op → get (after m op) q ≡ get m q
 get-after_other m (Put k v) q other = get-insert m k v q ∙ ap (λ b. cond b (Some v) (get m q)) (ne_eqb q k other)
 get-after_other m (Take k) q other = get-remove m k q ∙ ap (λ b. cond b None (get m q)) (ne_eqb q k other)
 get-after_other m (Get k) q other = refl
 
--- maps that have the same at a key and at the operation's have the same there after it
+-- Maps that have the same at a key and at the operation's have the same there after it.
 pub get-after_same : (m n : Map) (op : Op) (q : ℕ) → get m q ≡ get n q → get m (key_of op) ≡ get n (key_of op) → get (after m op) q ≡ get (after n op) q
 get-after_same m n (Put k v) q same at = get-insert m k v q ∙ ap (cond (q == k) (Some v)) same ∙ sym (get-insert n k v q)
 get-after_same m n (Take k) q same at = get-remove m k q ∙ ap (cond (q == k) None) same ∙ sym (get-remove n k q)
@@ -61,14 +61,14 @@ added r op = (elim (is_change r.last op) as (λ b. is_change r.last op ≡ b →
   | false ↦ λ is. sym (after_unchanged r.last op is)
 ]) refl
 
--- the operation that a run waits for is of a stripe that it holds
+-- The operation that a run waits for is of a stripe that it holds.
 waits_in : (stripes : ℕ) (es : List Entry) (m : Map) (r : Run) (op : Op) → alone m es ≡ Some r → r.pending ≡ Some op → keys_in stripes es (key_of op) ≡ true
 waits_in stripes es m r op run waits =
     let alike : RunsAlike (keys_in stripes es) m m (alone m es) (alone m es) = alone_alike (keys_in stripes es) m m es (asks_own stripes es) (λ k is. refl) in
     let alike' : RunsAlike (keys_in stripes es) m m (Some r) (Some r) = subst (λ o. RunsAlike (keys_in stripes es) m m o o) run alike in
     subst (WaitsFor (keys_in stripes es)) waits alike'.waits
 
--- a caller that waits for a reply gets that of the map as it is now
+-- A caller that waits for a reply gets that of the map as it is now.
 module _ (stripes : ℕ) (g : List Entry) (legal : IsLegal stripes g) (c t : ℕ) (op : Op) (x : Option ℕ) (seat : Seat)
     (in_t : txn_in g c ≡ Some t) (going : ended t g ≡ false) (seat_is : seat_after (own c g) ≡ Some seat) (waiting : seat.phase ≡ Waiting op)
     (right : x ≡ reply_of (now g) op) (shaped : is_shaped g (Did c x) ≡ true) where

@@ -26,7 +26,7 @@ use Rattle.txn_trace.proofs.Judging.{shape_push, locks_push}
 use Rattle.txn_trace.proofs.Others.{now_at-push_mine, now_at-push_else, serial_is, entries_stay}
 use Rattle.txn_trace.proofs.Seated.{none_before, are_seated}
 
--- the first of a run's maps
+-- The first of a run's maps.
 abbrev pub first_map : Map → List Map → Map
 first_map last [] = last
 first_map last (m ∷ ms) = first_map m ms
@@ -58,7 +58,7 @@ fold_starts m [] o is = is
 fold_starts m (e ∷ es) None is = fold_starts m es None tt
 fold_starts m (e ∷ es) (Some r) is = fold_starts m es (act r e) (act_starts m r e is)
 
--- a run with no change left has its first map
+-- A run with no change left has its first map.
 pub alone_starts : (m : Map) (es : List Entry) → StartsAt m (alone m es)
 alone_starts m es = fold_starts m es (Some (start m)) refl
 
@@ -67,7 +67,7 @@ unchanged_run m es r run none =
     let is : StartsAt m (Some r) = subst (StartsAt m) run (alone_starts m es) in
     subst (λ ms. first_map r.last ms ≡ m) none is
 
--- a transaction that begins
+-- A transaction that begins.
 module _ (stripes : ℕ) (g : List Entry) (legal : IsLegal stripes g) (c t : ℕ) (shaped : is_shaped g (Began c t) ≡ true) (at : txn_at g (Began c t) ≡ Some t) where
   callers : Callers g
   callers = callers_of g legal.shape
@@ -87,7 +87,7 @@ module _ (stripes : ℕ) (g : List Entry) (legal : IsLegal stripes g) (c t : ℕ
       at_key k (inr free) = now_at-push_mine stripes g (Began c t) t legal.shape legal.locks (shape_push g (Began c t) legal.shape shaped) (locks_push stripes g (Began c t) legal.locks refl) shaped refl at k refl (λ u going away. free u going)
           ∙ ap (λ m. get m k) last_is ∙ sym (now_at-free stripes g k free)
 
--- a transaction that aborts, with no change left
+-- A transaction that aborts, with no change left.
 module _ (stripes : ℕ) (g : List Entry) (legal : IsLegal stripes g) (c t : ℕ) (shaped : is_shaped g (Aborted c) ≡ true) (at : txn_at g (Aborted c) ≡ Some t) (empty_run : map_after (serial g) (of t g) ≡ serial g) where
   gone : (u : ℕ) → ended u (g ++ Aborted c ∷ []) ≡ false → u ≢ t
   gone u goes same = false≢true (sym goes ∙ ap (λ x. ended x (g ++ Aborted c ∷ [])) same ∙ ended_in g (Aborted c) (callers_of g legal.shape) shaped t at)

@@ -79,7 +79,7 @@ module _ (stripes : ℕ) (g : List Entry) (legal : IsLegal stripes g) (e : Entry
   hold_now : RepliesHoldAt g
   hold_now = legal.replies g ([], append-nil g)
 
-  -- in a transaction, where the run goes on
+  -- In a transaction, where the run goes on.
   module _ (not_began : is_began e ≡ false) where
     active : runs parts.before.phase ≡ true
     active = row_active parts.before parts.before.phase e not_began (ap is_some parts.goes)

@@ -17,7 +17,7 @@ use Rattle.txn_trace.proofs.Pushes.{txn_in, txn_at, lines_of-push, txn_in-push, 
 abbrev pub is_end : Entry → Bool
 is_end e = is_commit e || is_abort e
 
--- whether a transaction has committed or aborted
+-- Whether a transaction has committed or aborted.
 abbrev pub ended : ℕ → List Entry → Bool
 ended t g = ends_in is_end (of t g)
 
@@ -28,7 +28,7 @@ ends_either (e ∷ es) a b = ends_either es (is_commit e) (is_abort e)
 pub is_open-ended : (t : ℕ) (g : List Entry) → is_open t g ≡ not (ended t g)
 is_open-ended t g = ap not (sym (ends_either (of t g) false false))
 
--- a line of a transaction that has not ended is of the caller that is in it
+-- A line of a transaction that has not ended is of the caller that is in it.
 abbrev pub IsOwned : List Entry → Line → Type 0
 IsOwned g line = (t : ℕ) → line.txn ≡ Some t → ended t g ≡ false → txn_in g (caller_of line.entry) ≡ Some t
 
@@ -50,7 +50,7 @@ callers_none = record {
   owned = tt;
 }
 
--- whose transaction an entry is in: that of its caller before, or the one that it begins
+-- Whose transaction an entry is in: that of its caller before, or the one that it begins.
 abbrev pub IsIn : List Entry → Entry → ℕ → Type 0
 IsIn g (Began c u) t = u ≡ t
 IsIn g e t = txn_in g (caller_of e) ≡ Some t
@@ -62,7 +62,7 @@ pub at_is : (g : List Entry) (e : Entry) (t : ℕ) → txn_at g e ≡ Some t →
 at_is g (Began c u) t is = some_same u t (subst (λ b. cond b (Some u) (txn_in g c) ≡ Some t) (eq-eqb c c refl) is)
 at_is g _ t is = is
 
--- a caller is in a transaction after the entry, by it or from before
+-- A caller is in a transaction after the entry, by it or from before.
 pub after_is : (g : List Entry) (e : Entry) (x t : ℕ) → txn_after (txn_in g) e x ≡ Some t → ((x ≡ caller_of e) × (txn_at g e ≡ Some t)) ⊎ ((x ≡ caller_of e → ⊥) × (txn_in g x ≡ Some t))
 after_is g e x t is = elim (cases_eq x (caller_of e)) [
   | inl same ↦ inl (same, subst (λ y. txn_after (txn_in g) e y ≡ Some t) same is)
@@ -73,7 +73,7 @@ after_is g e x t is = elim (cases_eq x (caller_of e)) [
     from (Began c u) other got = subst (λ b. cond b (Some u) (txn_in g x) ≡ Some t) (ne_eqb c x (λ k. other (sym k))) got
     from _ other got = got
 
--- a closed caller only begins
+-- A closed caller only begins.
 pub closed_begins : (e : Entry) → is_some (row closed_seat closed_seat.phase e) ≡ true → is_began e ≡ true
 closed_begins (Began c t) h = refl
 closed_begins _ h = absurd (false≢true h)
@@ -105,7 +105,7 @@ pub began_or_not : (e : Entry) → (is_began e ≡ true) ⊎ (is_began e ≡ fal
 began_or_not (Began c t) = inl refl
 began_or_not _ = inr refl
 
--- after a shaped entry, its transaction's number is in range; and where it begins, the number is new
+-- After a shaped entry, its transaction's number is in range; and where it begins, the number is new.
 number_in : (g : List Entry) (e : Entry) (t : ℕ) → Callers g → is_shaped g e ≡ true → txn_at g e ≡ Some t → t ≤ how_many is_began (g ++ e ∷ [])
 number_in g e t callers shaped at = elim (began_or_not e) [
   | inl b ↦
@@ -115,7 +115,7 @@ number_in g e t callers shaped at = elim (began_or_not e) [
   | inr b ↦ let n = callers.numbers (caller_of e) t (not_began_is g e t b (at_is g e t at)) in omega (arith, more g e)
 ]
 
--- nothing comes after the end
+-- Nothing comes after the end.
 pub not_after_end : (g : List Entry) (e : Entry) (t : ℕ) → Callers g → is_shaped g e ≡ true → ended t g ≡ true → txn_at g e ≡ Some t → ⊥
 not_after_end g e t callers shaped done at = elim (began_or_not e) [
   | inl b ↦
@@ -132,7 +132,7 @@ pub end_not_began : (e : Entry) → is_end e ≡ true → is_began e ≡ false
 end_not_began (Began c t) h = absurd (false≢true h)
 end_not_began _ h = refl
 
--- an end closes, and nothing else does
+-- An end closes, and nothing else does.
 pub end_closes : (e : Entry) (o : Option Seat) → is_end e ≡ true → is_some (option_and_then (λ s. row s s.phase e) o) ≡ true → option_and_then (λ s. row s s.phase e) o ≡ Some closed_seat
 end_closes e None c h = absurd (false≢true h)
 end_closes e (Some s) c h = at e s.phase c h
@@ -172,7 +172,7 @@ other_runs e (Some s) c h = at e s.phase refl c h
     at (Undone x) LeavingToEnd is c h = runs_if (nat_lt 0 s.standing) (record s { standing = s.standing - 1 }) (runs_still s.phase LeavingToEnd is refl) h
     at _ q is c h = absurd (false≢true h)
 
--- only a closed caller begins
+-- Only a closed caller begins.
 pub began_was_closed : (e : Entry) (o : Option Seat) → is_began e ≡ true → is_some (option_and_then (λ s. row s s.phase e) o) ≡ true → is_running o ≡ false
 began_was_closed e None b h = refl
 began_was_closed e (Some s) b h = at e s.phase b h
@@ -185,7 +185,7 @@ began_was_closed e (Some s) b h = at e s.phase b h
 pub not_equal : (a b : ℕ) → (a ≡ b → ⊥) → (b == a) ≡ false
 not_equal a b h = ne_eqb b a (λ k. h (sym k))
 
--- a caller that does not begin stays in its transaction
+-- A caller that does not begin stays in its transaction.
 txn_stays : (g : List Entry) (e : Entry) (x t : ℕ) → (is_began e ≡ true → x ≡ caller_of e → ⊥) → txn_in g x ≡ Some t → txn_in (g ++ e ∷ []) x ≡ Some t
 txn_stays g e x t other is = ap (λ f. f x) (txn_in-push g e) ∙ at e other
   where
@@ -204,7 +204,7 @@ module _ (g : List Entry) (e : Entry) (callers : Callers g) (shaped : is_shaped 
   pub ended_out : (t : ℕ) → (txn_at g e ≡ Some t → ⊥) → ended t (g ++ e ∷ []) ≡ ended t g
   ended_out t out = ap (ends_in is_end) (of-push_out t g e out)
 
-  -- an ended transaction stays so, and one that has not ended had not
+  -- An ended transaction stays so, and one that has not ended had not.
   pub ended_stays : (t : ℕ) → ended t g ≡ true → of t (g ++ e ∷ []) ≡ of t g
   ended_stays t done = of-push_out t g e (not_after_end g e t callers shaped done)
 
@@ -232,7 +232,7 @@ module _ (g : List Entry) (e : Entry) (callers : Callers g) (shaped : is_shaped 
   pub seat_of_other : (c : ℕ) → (c ≡ caller_of e → ⊥) → seat_after (own c (g ++ e ∷ [])) ≡ seat_after (own c g)
   seat_of_other c other = ap seat_after (own-push_out c g e (not_equal c (caller_of e) other))
 
-  -- where the transaction of the entry has ended with it, or has not
+  -- Where the transaction of the entry has ended with it, or has not.
   closed_push : (c t : ℕ) → txn_in (g ++ e ∷ []) c ≡ Some t → ended t (g ++ e ∷ []) ≡ true → seat_after (own c (g ++ e ∷ [])) ≡ Some closed_seat
   closed_push c t is done = elim (in_or_out (txn_at g e) t) [
     | inl at ↦
@@ -305,7 +305,7 @@ callers_all g (e ∷ rest) callers shape =
 pub callers_of : (h : List Entry) → IsShaped h → Callers h
 callers_of h shape = callers_all [] h callers_none shape
 
--- a transaction that has ended has all its entries
+-- A transaction that has ended has all its entries.
 pub ended_whole : (t : ℕ) (g rest : List Entry) → Callers g → IsShaped (g ++ rest) → ended t g ≡ true → of t (g ++ rest) ≡ of t g
 ended_whole t g [] callers shape done = ap (of t) (append-nil g)
 ended_whole t g (e ∷ rest) callers shape done =
@@ -315,7 +315,7 @@ ended_whole t g (e ∷ rest) callers shape done =
     ∙ ended_whole t (g ++ e ∷ []) rest (callers_push g e callers shaped) (subst IsShaped (sym (append_assoc g (e ∷ []) rest)) shape) (ap (ends_in is_end) out ∙ done)
     ∙ out
 
--- a beginning of a history of the right shape has it
+-- A beginning of a history of the right shape has it.
 pub shape_front : (h g : List Entry) → IsShaped h → IsPrefix g h → IsShaped g
 shape_front h g shape p k e q = shape k e (q.0 ++ p.0, sym (append_assoc (k ++ e ∷ []) q.0 p.0) ∙ ap (λ w. w ++ p.0) q.1 ∙ p.1)
 

@@ -1,6 +1,7 @@
 -- Worked histories, by computing: their verdicts, their maps, and what is left of them without what aborted.
-use Rattle.std.proofs.Common.{◌≡◌, ℕ, ◌^◌, ◌-◌, List, [], ◌∷◌, ◌++◌, Some, None, refl, take, map}
+use Rattle.std.proofs.Common.{◌≡◌, ℕ, ◌^◌, ◌-◌, List, [], ◌∷◌, ◌++◌, Some, None, Option, refl, take, map}
 use Rattle.split_key.specs.Split.{split, reversed, reversed_low}
+use Rattle.txn_trace.specs.declared.op.Op.{Op}
 use Rattle.txn_trace.specs.declared.op.Op.TheVariants.{Put, Take, Get}
 use Rattle.txn_trace.specs.declared.entry.Entry.{Entry}
 use Rattle.txn_trace.specs.declared.entry.Entry.TheVariants.{Began, Asked, Did, Saved, Leave, Undone, Returned, Committed, Busy, Aborted}
@@ -8,6 +9,8 @@ use Rattle.txn_trace.specs.Map.{Map, empty, insert}
 use Rattle.txn_trace.specs.Ordered.{ordered}
 use Rattle.txn_trace.specs.Serial.{serial}
 use Rattle.txn_trace.specs.Now.{now}
+use Rattle.txn_trace.specs.Locks.{holder_of}
+use Rattle.txn_trace.specs.Log.{log_of}
 use Rattle.txn_trace.specs.Legal.{IsLegal, verdict, Legal, Illegal}
 use Rattle.txn_trace.specs.Erase.{erase}
 use Rattle.txn_trace.specs.Owed.{owed}
@@ -101,6 +104,57 @@ aborted_take_restores_owed = refl
 
 aborted_take_restores_owed_busy : owed 2 (take 9 aborted_take_restores) ≡ 4
 aborted_take_restores_owed_busy = refl
+
+-- A caller aborts while its operation has no reply: the operation is withdrawn.
+abbrev withdrawn_put : List Entry
+withdrawn_put = Began 0 1 ∷ Asked 0 (Put 1 10) ∷ Leave 0 None ∷ Aborted 0 ∷ []
+
+withdrawn_put_verdict : verdict 8 withdrawn_put ≡ Legal 0 0
+withdrawn_put_verdict = refl
+
+withdrawn_put_now : (now (take 3 withdrawn_put)).rows ≡ []
+withdrawn_put_now = refl
+
+-- Three callers change keys of their own, and take all back in rounds.
+abbrev round : (ℕ → Entry) → List Entry
+round entry = entry 0 ∷ entry 1 ∷ entry 2 ∷ []
+
+abbrev asked_and_done : ℕ → Op → Option ℕ → List Entry
+asked_and_done c op x = Asked c op ∷ Did c x ∷ []
+
+abbrev callers_undone : List Entry
+callers_undone =
+    Began 0 1 ∷ asked_and_done 0 (Put 1 10) None ++ Began 1 2 ∷ asked_and_done 1 (Put 2 10) None ++ Began 2 3 ∷ asked_and_done 2 (Put 3 10) None
+    ++ asked_and_done 0 (Put 1 20) (Some 10) ++ asked_and_done 0 (Take 1) (Some 20) ++ asked_and_done 1 (Put 2 20) (Some 10) ++ asked_and_done 1 (Take 2) (Some 20)
+    ++ asked_and_done 2 (Put 3 20) (Some 10) ++ asked_and_done 2 (Take 3) (Some 20)
+    ++ round (λ c. Leave c None) ++ round (λ c. Undone c) ++ round (λ c. Undone c) ++ round (λ c. Undone c) ++ round (λ c. Aborted c)
+
+callers_undone_verdict : verdict 8 callers_undone ≡ Legal 0 0
+callers_undone_verdict = refl
+
+callers_undone_taken : (now (take 24 callers_undone)).rows ≡ []
+callers_undone_taken = refl
+
+callers_undone_first : (now (take 27 callers_undone)).rows ≡ (1, 20) ∷ (2, 20) ∷ (3, 20) ∷ []
+callers_undone_first = refl
+
+callers_undone_second : (now (take 30 callers_undone)).rows ≡ (1, 10) ∷ (2, 10) ∷ (3, 10) ∷ []
+callers_undone_second = refl
+
+callers_undone_third : (now (take 33 callers_undone)).rows ≡ []
+callers_undone_third = refl
+
+callers_undone_log : log_of 1 (take 28 callers_undone) ≡ (2, Some 10) ∷ (2, None) ∷ []
+callers_undone_log = refl
+
+callers_undone_log_further : log_of 1 (take 29 callers_undone) ≡ (2, None) ∷ []
+callers_undone_log_further = refl
+
+callers_undone_holder : holder_of 8 3 (take 33 callers_undone) ≡ Some 2
+callers_undone_holder = refl
+
+callers_undone_free : holder_of 8 3 callers_undone ≡ None
+callers_undone_free = refl
 
 -- Two transactions commit in the other order than they began.
 abbrev crossed : List Entry

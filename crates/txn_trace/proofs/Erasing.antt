@@ -14,14 +14,14 @@ use Rattle.txn_trace.specs.Now.{open_maps, now}
 use Rattle.txn_trace.proofs.Maps.{overlaid}
 use Rattle.txn_trace.proofs.Lists.{filter_within, fold_filter, map_filter}
 
--- the lines whose transaction passes the test, and the history of their entries
+-- The lines whose transaction passes the test, and the history of their entries.
 abbrev pub kept_lines : (Option ℕ → Bool) → (ℕ → Option ℕ) → List Entry → List Line
 kept_lines keep before h = filter (λ line. keep line.txn) (lines_from before h)
 
 abbrev pub kept : (Option ℕ → Bool) → (ℕ → Option ℕ) → List Entry → List Entry
 kept keep before h = map (λ line. line.entry) (kept_lines keep before h)
 
--- each caller in a transaction that is kept is in it there too
+-- Each caller in a transaction that is kept is in it there too.
 abbrev pub Agree : (Option ℕ → Bool) → (ℕ → Option ℕ) → (ℕ → Option ℕ) → Type 0
 Agree keep before there = (c : ℕ) → keep (before c) ≡ true → there c ≡ before c
 
@@ -42,7 +42,7 @@ agree_left keep before there (Began c t) same out x is =
     ] is
 agree_left keep before there _ same out x is = same x is
 
--- what is kept has the same lines
+-- What is kept has the same lines.
 pub lines_from-kept : (keep : Option ℕ → Bool) (before there : ℕ → Option ℕ) → Agree keep before there → (h : List Entry) → lines_from there (kept keep before h) ≡ kept_lines keep before h
 lines_from-kept keep before there same [] = refl
 lines_from-kept keep before there same (e ∷ h) =
@@ -58,7 +58,7 @@ of_is : (t : ℕ) (o : Option ℕ) → option_eq nat_eq o (Some t) ≡ true → 
 of_is t None is = absurd (false≢true is)
 of_is t (Some u) is = ap Some (eqb-true u t is)
 
--- a transaction's lines are all kept, or none
+-- A transaction's lines are all kept, or none.
 pub filter_of_kept : (keep : Option ℕ → Bool) (t : ℕ) (lines : List Line) → filter (is_of t) (filter (λ line. keep line.txn) lines) ≡ cond (keep (Some t)) (filter (is_of t) lines) []
 filter_of_kept keep t lines =
     elim (keep (Some t)) as (λ b. keep (Some t) ≡ b → filter (is_of t) (filter (λ line. keep line.txn) lines) ≡ cond b (filter (is_of t) lines) []) [
@@ -90,7 +90,7 @@ map_cond : {X Y : Type 0} (f : X → Y) (b : Bool) (xs : List X) → map f (cond
 map_cond f true xs = refl
 map_cond f false xs = refl
 
--- a kept transaction has its entries, another has none
+-- A kept transaction has its entries, another has none.
 pub of-kept : (keep : Option ℕ → Bool) (t : ℕ) (h : List Entry) → of t (kept_of keep h) ≡ cond (keep (Some t)) (of t h) []
 of-kept keep t h =
     ap (λ ls. map (λ (l : Line). l.entry) (filter (is_of t) ls)) (lines_of-kept keep h)
@@ -103,7 +103,7 @@ of-kept_in keep t h is = of-kept keep t h ∙ ap (λ b. cond b (of t h) []) is
 pub of-kept_out : (keep : Option ℕ → Bool) (t : ℕ) (h : List Entry) → keep (Some t) ≡ false → of t (kept_of keep h) ≡ []
 of-kept_out keep t h is = of-kept keep t h ∙ ap (λ b. cond b (of t h) []) is
 
--- the transactions of the entries that are kept
+-- The transactions of the entries that are kept.
 abbrev picked : (Entry → Bool) → List Line → List ℕ
 picked test ls = filter_map (λ l. cond (test l.entry) l.txn None) ls
 
@@ -140,7 +140,7 @@ picked_kept keep test (l ∷ ls) = one_kept keep test l.txn l.entry (filter (λ 
 pub txns_of-kept : (keep : Option ℕ → Bool) (test : Entry → Bool) (h : List Entry) → txns_of test (kept_of keep h) ≡ filter (λ t. keep (Some t)) (txns_of test h)
 txns_of-kept keep test h = ap (picked test) (lines_of-kept keep h) ∙ picked_kept keep test (lines_of h)
 
--- no history ends both ways
+-- No history ends both ways.
 not_both : (es : List Entry) (a b : Bool) → (a ≡ true → b ≡ false) → fold (λ x e. is_commit e) a es ≡ true → fold (λ x e. is_abort e) b es ≡ false
 not_both [] a b apart is = apart is
 not_both (e ∷ es) a b apart is = not_both es (is_commit e) (is_abort e) (λ c. one e c) is
@@ -152,7 +152,7 @@ not_both (e ∷ es) a b apart is = not_both es (is_commit e) (is_abort e) (λ c.
 pub committed_not_aborted : (t : ℕ) (h : List Entry) → is_committed t h ≡ true → is_aborted t h ≡ false
 committed_not_aborted t h is = not_both (of t h) false false (λ x. refl) is
 
--- what holds where the aborted transactions are among those left out
+-- What holds where the aborted transactions are among those left out.
 module _ (keep : Option ℕ → Bool) (h : List Entry) (lasting : (t : ℕ) → is_aborted t h ≡ false → keep (Some t) ≡ true) where
   kept_committed : (t : ℕ) → keep (Some t) ≡ true → is_committed t (kept_of keep h) ≡ is_committed t h
   kept_committed t is = ap (ends_in is_commit) (of-kept_in keep t h is)

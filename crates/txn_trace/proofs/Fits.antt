@@ -13,7 +13,7 @@ use Rattle.txn_trace.specs.Shape.{Seat, Phase, Opened, Waiting, LeavingTo, Leavi
 use Rattle.txn_trace.proofs.Callers.{is_end}
 use Rattle.txn_trace.proofs.Now.{same_is}
 
--- what a phase says of the run
+-- What a phase says of the run.
 abbrev pub PhaseFits : Phase → Seat → Run → Type 0
 PhaseFits (Waiting op) s r = r.pending ≡ Some op
 PhaseFits (LeavingTo n) s r = n < length s.kept
@@ -29,12 +29,12 @@ FitsAfter None r = Unit {0}
 FitsAfter (Some s) None = ⊥
 FitsAfter (Some s) (Some r) = Fits s r
 
--- the reply is that of the last map
+-- The reply is that of the last map.
 abbrev pub IsReply : Run → Entry → Type 0
 IsReply r (Did c x) = (op : Op) → r.pending ≡ Some op → x ≡ reply_of r.last op
 IsReply r _ = Unit {0}
 
--- a change by its reply is a change on the map
+-- A change by its reply is a change on the map.
 pub changes-reply : (m : Map) (op : Op) → changes op (reply_of m op) ≡ is_change m op
 changes-reply m (Put k v) = refl
 changes-reply m (Take k) = refl
@@ -89,7 +89,7 @@ when : {A : Type 0} (b : Bool) (x : A) → is_some (cond b (Some x) None) ≡ tr
 when true x h = refl
 when false x h = absurd (false≢true h)
 
--- one entry: where the row is there and the reply is right, the run goes on and still agrees
+-- One entry: where the row is there and the reply is right, the run goes on and still agrees.
 pub fits_act : (s : Seat) (r : Run) (e : Entry) (q : Phase) → s.phase ≡ q → is_began e ≡ false → is_end e ≡ false → Fits s r → IsReply r e → is_some (row s q e) ≡ true → FitsAfter (row s q e) (act r e)
 fits_act s r (Began c t) q at b n fits right h = absurd (false≢true (sym b))
 fits_act s r (Committed c p) q at b n fits right h = absurd (false≢true (sym n))

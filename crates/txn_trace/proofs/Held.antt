@@ -1,28 +1,33 @@
 -- What a caller in a transaction holds: the stripes of its standing changes and of the operation that waits.
-use Rattle.std.proofs.Common.{◌≡◌, ◌≢◌, ℕ, ◌==◌, Bool, true, false, cond, ◌&&◌, List, [], ◌∷◌, map, slice_get, refl, ap, sym, subst, ◌∙◌, Some, Option}
+use Rattle.std.proofs.Common.{None, Option, ◌++◌, append_assoc, ◌≡◌, ◌≢◌, ℕ, ◌==◌, Bool, true, false, cond, ◌&&◌, List, [], ◌∷◌, map, slice_get, refl, ap, sym, subst, ◌∙◌, Some}
+use Rattle.std.specs.Option.{option_eq}
+use Rattle.std.specs.Prelude.{nat_eq}
 use Rattle.std.specs.List.{filter, list_any, AllByRecursion}
-use Rattle.std.proofs.lemmas.Bool.{false≢true, eq-eqb, or_left, or_right, or_cases}
+use Rattle.std.proofs.lemmas.Bool.{cases_Bool, and_parts, false≢true, eq-eqb, or_left, or_right, or_cases}
 use Rattle.std.proofs.lemmas.List.{append-nil}
 use mathlib.Core.Logic.{inl, inr}
 use Rattle.txn_trace.specs.declared.op.Op.{Op}
 use Rattle.txn_trace.specs.declared.entry.Entry.{Entry}
-use Rattle.txn_trace.specs.Map.{Map, key_of}
-use Rattle.txn_trace.specs.History.{Line, caller_of, lines_of, is_of, of}
+use Rattle.txn_trace.specs.Map.{Map, get, key_of}
+use Rattle.txn_trace.specs.Now.{now, now_at}
+use Rattle.txn_trace.specs.History.{is_commit, Line, caller_of, lines_of, is_of, of}
 use Rattle.txn_trace.specs.Alone.{Run, alone}
 use Rattle.txn_trace.specs.Serial.{serial}
 use Rattle.txn_trace.specs.Locks.{stripe_of, asks_in, is_in_open, holders, holder_of, LocksHold}
-use Rattle.txn_trace.specs.Shape.{Waiting, Seat, seat_after, own, IsShaped}
+use Rattle.txn_trace.specs.Shape.{Waiting, Seat, seat_after, own, IsShaped, is_shaped}
 use Rattle.txn_trace.specs.Log.{log_after, log_of}
 use Rattle.txn_trace.specs.Legal.{IsLegal, runs, is_running}
-use Rattle.txn_trace.proofs.Pushes.{txn_in}
-use Rattle.txn_trace.proofs.Callers.{Callers, callers_of, IsOwned, ended}
+use Rattle.txn_trace.proofs.Pushes.{txn_in, txn_at}
+use Rattle.txn_trace.proofs.Callers.{same as same_caller, not_after_end, Callers, callers_of, IsOwned, ended}
 use Rattle.txn_trace.proofs.Local.{WaitsFor}
 use Rattle.txn_trace.proofs.Stripes.{holds, keys_in, of_is}
-use Rattle.txn_trace.proofs.Now.{open_going}
+use Rattle.txn_trace.proofs.Now.{open_going, going_open, running_of, now_at-push_commit}
+use Rattle.txn_trace.proofs.Table.{get-now}
+use Rattle.txn_trace.proofs.Others.{now_at-push_else}
 use Rattle.txn_trace.proofs.Undoing.{IsLogged}
 use Rattle.txn_trace.proofs.Logs.{Logs, are_logged, seat_logged, PhaseLogged}
 use Rattle.txn_trace.proofs.Seated.{the_some}
-use Rattle.txn_trace.proofs.Running.{Running, running_txn}
+use Rattle.txn_trace.proofs.Running.{Running, running_txn, has_txn}
 use Rattle.txn_trace.proofs.Holders.{AreSame, one_holder}
 
 first_of_same : (c : ℕ) (xs : List ℕ) → AreSame xs → list_any (λ x. x == c) xs ≡ true → slice_get xs 0 ≡ Some c
@@ -101,3 +106,85 @@ held_apart stripes g c d k j of_c of_d apart same = apart (some_same c d (sym of
   where
     some_same : (a b : ℕ) → Some a ≡ Some b → a ≡ b
     some_same a b is = cc (is)
+
+-- The open transaction by which a caller holds a stripe.
+pub record HeldTxn (stripes s : ℕ) (g : List Entry) (c : ℕ) : Type 0 where
+  pub txn : ℕ
+  pub in_it : txn_in g c ≡ Some txn
+  pub going : ended txn g ≡ false
+  pub held : holds stripes s (of txn g) ≡ true
+
+asks_among : (stripes s w : ℕ) (ls : List Line) (l : Line) (front : List Line) → l.txn ≡ Some w → asks_in stripes s l.entry ≡ true
+    → list_any (asks_in stripes s) (map (λ (k : Line). k.entry) (filter (is_of w) (front ++ l ∷ ls))) ≡ true
+asks_among stripes s w ls l [] of_w asks =
+    ap (λ b. list_any (asks_in stripes s) (map (λ (k : Line). k.entry) (cond b (l ∷ filter (is_of w) ls) (filter (is_of w) ls)))) (ap (λ o. option_eq nat_eq o (Some w)) of_w ∙ eq-eqb w w refl)
+    ∙ or_left (asks_in stripes s l.entry) _ asks
+asks_among stripes s w ls l (f ∷ front) of_w asks =
+    let rest = asks_among stripes s w ls l front of_w asks in
+    elim (is_of w f) as (λ b. list_any (asks_in stripes s) (map (λ (k : Line). k.entry) (cond b (f ∷ filter (is_of w) (front ++ l ∷ ls)) (filter (is_of w) (front ++ l ∷ ls)))) ≡ true) [
+      | true ↦ or_right (asks_in stripes s f.entry) _ rest
+      | false ↦ rest
+    ]
+
+module _ (stripes s : ℕ) (g : List Entry) (c : ℕ) where
+  first_line : (ls front : List Line) → front ++ ls ≡ lines_of g → AllByRecursion (IsOwned g) ls → slice_get (map (λ (l : Line). caller_of l.entry) (filter (λ l. asks_in stripes s l.entry && is_in_open g l) ls)) 0 ≡ Some c → HeldTxn stripes s g c
+  first_line [] front whole owned first = absurd (cc (first))
+  first_line (l ∷ ls) front whole owned first =
+      (elim (asks_in stripes s l.entry && is_in_open g l) as (λ b. (asks_in stripes s l.entry && is_in_open g l) ≡ b
+      → slice_get (map (λ (k : Line). caller_of k.entry) (cond b (l ∷ filter (λ k. asks_in stripes s k.entry && is_in_open g k) ls) (filter (λ k. asks_in stripes s k.entry && is_in_open g k) ls))) 0 ≡ Some c → HeldTxn stripes s g c) [
+        | false ↦ λ other later. first_line ls (front ++ l ∷ []) (append_assoc front (l ∷ []) ls ∙ whole) owned.1 later
+        | true ↦ λ here is.
+            let parts = and_parts (asks_in stripes s l.entry) (is_in_open g l) here in
+            from l.txn refl parts.0 parts.1 (same_caller (caller_of l.entry) is)
+      ]) refl first
+    where
+      same_caller : (d : ℕ) → Some d ≡ Some c → d ≡ c
+      same_caller d is = cc (is)
+
+      from : (o : Option ℕ) → l.txn ≡ o → asks_in stripes s l.entry ≡ true → is_in_open g l ≡ true → caller_of l.entry ≡ c → HeldTxn stripes s g c
+      from None none asks opened mine = absurd (false≢true (ap (λ o. is_in_open g (record { txn = o; entry = l.entry })) (sym none) ∙ opened))
+      from (Some w) some asks opened mine =
+          let going = going_open w g (ap (λ o. is_in_open g (record { txn = o; entry = l.entry })) (sym some) ∙ opened) in
+          record {
+            txn = w;
+            in_it = ap (txn_in g) (sym mine) ∙ owned.0 w some going;
+            going = going;
+            held = subst (λ ks. list_any (asks_in stripes s) (map (λ (k : Line). k.entry) (filter (is_of w) ks)) ≡ true) whole (asks_among stripes s w ls l front some asks);
+          }
+
+-- The holder of a stripe has an open transaction that has asked for a key of it.
+pub holder_txn : (stripes : ℕ) (g : List Entry) → IsShaped g → (s c : ℕ) → holder_of stripes s g ≡ Some c → HeldTxn stripes s g c
+holder_txn stripes g shape s c held = first_line stripes s g c (lines_of g) [] refl (callers_of g shape).owned held
+
+-- So the holder of a stripe is in a transaction: a closed caller holds none.
+pub holder_running : (stripes : ℕ) (g : List Entry) → IsShaped g → (s c : ℕ) → holder_of stripes s g ≡ Some c → is_running (seat_after (own c g)) ≡ true
+holder_running stripes g shape s c held = let there = holder_txn stripes g shape s c held in (callers_of g shape).running c there.txn there.in_it there.going
+
+-- An entry leaves the value now of each key whose stripe another caller holds.
+pub get-now_held : (stripes : ℕ) (g : List Entry) (e : Entry) → IsLegal stripes g → IsLegal stripes (g ++ e ∷ []) → (k d : ℕ) → holder_of stripes (stripe_of stripes k) g ≡ Some d → d ≢ caller_of e
+    → get (now (g ++ e ∷ [])) k ≡ get (now g) k
+get-now_held stripes g e legal after k d held other = get-now (g ++ e ∷ []) k ∙ at_key ∙ sym (get-now g k)
+  where
+    shaped : is_shaped g e ≡ true
+    shaped = after.shape g e ([], append-nil (g ++ e ∷ []))
+
+    owner : HeldTxn stripes (stripe_of stripes k) g d
+    owner = holder_txn stripes g legal.shape (stripe_of stripes k) d held
+
+    mine : (t : ℕ) × (txn_at g e ≡ Some t)
+    mine = has_txn g e legal.shape shaped
+
+    apart : owner.txn ≢ mine.0
+    apart same = other (sym (same_caller g e (callers_of g legal.shape) shaped d owner.txn (mine.1 ∙ ap Some (sym same)) owner.in_it))
+
+    not_ended : ended mine.0 g ≡ false
+    not_ended = elim (cases_Bool (ended mine.0 g)) [
+      | inl done ↦ absurd (not_after_end g e mine.0 (callers_of g legal.shape) shaped done mine.1)
+      | inr going ↦ going
+    ]
+
+    at_key : now_at (g ++ e ∷ []) k ≡ now_at g k
+    at_key = elim (cases_Bool (is_commit e)) [
+      | inr goes ↦ now_at-push_else stripes g e mine.0 legal.shape legal.locks after.shape after.locks shaped goes mine.1 k owner.txn (running_of g d owner.txn owner.in_it owner.going) apart owner.held
+      | inl commits ↦ now_at-push_commit stripes g e mine.0 legal.shape legal.locks after.shape shaped commits mine.1 not_ended k
+    ]

@@ -89,7 +89,7 @@ module _ (stripes : ℕ) (g : List Entry) (e : Entry) (callers : Callers g) (sha
     in_t : txn_in g (caller_of e) ≡ Some t
     in_t = not_began_is g e t (end_not_began e ends) (at_is g e t at)
 
-    -- an open transaction other than the one that ends stays open, and that one is the caller's
+    -- An open transaction other than the one that ends stays open, and that one is the caller's.
     stays_if : (line : Line) → IsOwned g line → (o : Option ℕ) → line.txn ≡ o → is_in_open g line ≡ true → is_in_open (g ++ e ∷ []) line ≡ not (caller_on line == caller_of e)
     stays_if line owned None is opened = absurd (false≢true (ap (λ o. is_in_open g (record { txn = o; entry = line.entry })) (sym is) ∙ opened))
     stays_if line owned (Some u) is opened =

@@ -20,7 +20,7 @@ use Rattle.txn_trace.proofs.Steps.{are_listed}
 use Rattle.txn_trace.proofs.Stripes.{of_is}
 use Rattle.txn_trace.proofs.Now.{any-filter, going_open}
 
--- a beginning of a history with one more entry
+-- A beginning of a history with one more entry.
 prefix_push : {A : Type 0} (g h : List A) (e : A) → IsPrefix g (h ++ e ∷ []) → IsPrefix g h ⊎ (g ≡ h ++ e ∷ [])
 prefix_push [] h e p = inl (h, refl)
 prefix_push (x ∷ []) [] e p = inr (cc (p.1))
@@ -43,7 +43,7 @@ last_same (z ∷ g) (w ∷ h) x y is =
     let rest = last_same g h x y (cc (is)) in
     (cc (heads, rest.0), rest.1)
 
--- one entry more is legal where it breaks no rule
+-- One entry more is legal where it breaks no rule.
 pub legal_push : (stripes : ℕ) (h : List Entry) (e : Entry) → IsLegal stripes h → is_shaped h e ≡ true → is_locked stripes h e ≡ true → RepliesHoldAt (h ++ e ∷ []) → IsLegal stripes (h ++ e ∷ [])
 legal_push stripes h e legal shaped locked hold = record {
   replies = λ g p. elim (prefix_push g h e p) [ inl q ↦ legal.replies g q | inr q ↦ subst RepliesHoldAt (sym q) hold ];
@@ -61,7 +61,7 @@ legal_push stripes h e legal shaped locked hold = record {
   ];
 }
 
--- a transaction that has not ended has a caller, or no entries
+-- A transaction that has not ended has a caller, or no entries.
 pub empty_or_owned : (t : ℕ) (g : List Entry) (going : ended t g ≡ false) (ls : List Line) → AllByRecursion (IsOwned g) ls
     → (map (λ l. l.entry) (filter (is_of t) ls) ≡ []) ⊎ ((c : ℕ) × (txn_in g c ≡ Some t))
 empty_or_owned t g going [] owned = inl refl
@@ -85,7 +85,7 @@ filter_passes p q (x ∷ xs) to =
       | false ↦ λ is. filter_passes p q xs to
     ]) refl
 
--- the test says what the rule says
+-- The test says what the rule says.
 pub replies_hold_from : (g : List Entry) → RepliesHoldAt g → replies_hold g ≡ true
 replies_hold_from g hold = filter_passes (λ t. is_open t g) (λ t. is_some (alone (serial g) (of t g))) (txns_of is_began g) hold
 
@@ -98,7 +98,7 @@ RepliesHoldAt-from g shape holds t is_open_there =
           (any-filter (λ u. is_open u g) t is_open_there (txns_of is_began g) (are_listed g w.0 t w.1))
     ]
 
--- an entry that breaks no rule
+-- An entry that breaks no rule.
 not_broken : (stripes : ℕ) (g : List Entry) (e : Entry) → broken stripes g e ≡ None → (is_shaped g e ≡ true) × (replies_hold (g ++ e ∷ []) ≡ true) × (is_locked stripes g e ≡ true)
 not_broken stripes g e is = at (is_shaped g e) (replies_hold (g ++ e ∷ [])) (is_locked stripes g e) is
   where
@@ -160,6 +160,6 @@ legal_none stripes = record {
     nothing [] p t = refl
     nothing (x ∷ g) p t = absurd (cc (p.1))
 
--- a history is legal exactly where the search finds no bad entry
+-- A history is legal exactly where the search finds no bad entry.
 pub legal_iff : (stripes : ℕ) (h : List Entry) → IsLegal stripes h ↔ (first_bad stripes [] h 0 ≡ None)
 legal_iff stripes h = (λ legal. none_bad stripes [] h 0 legal, λ none. legal_from stripes [] h 0 (legal_none stripes) none)

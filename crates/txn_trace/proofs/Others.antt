@@ -25,7 +25,7 @@ module _ (g : List Entry) (e : Entry) (t : ℕ) (shape : IsShaped g) (shape_afte
   callers : Callers g
   callers = callers_of g shape
 
-  -- the committed map stays
+  -- The committed map stays.
   pub serial_is : serial (g ++ e ∷ []) ≡ serial g
   serial_is = serial-push_other g e callers shape shaped shape_after other
 
@@ -55,7 +55,7 @@ module _ (stripes : ℕ) (g : List Entry) (e : Entry) (t : ℕ) (shape : IsShape
   here_callers : Callers g
   here_callers = callers_of g shape
 
-  -- a key of another's stripe stays
+  -- A key of another's stripe stays.
   pub now_at-push_else : (k w : ℕ) → IsRunning g w → w ≢ t → keys_in stripes (of w g) k ≡ true → now_at (g ++ e ∷ []) k ≡ now_at g k
   now_at-push_else k w running away held =
       now_at-holder stripes (g ++ e ∷ []) k (are_apart stripes (g ++ e ∷ []) shape_after locks_after) w
@@ -65,7 +65,7 @@ module _ (stripes : ℕ) (g : List Entry) (e : Entry) (t : ℕ) (shape : IsShape
       ∙ ap (λ es. get (map_after (serial g) es) k) (stay w away)
       ∙ sym (now_at-holder stripes g k (are_apart stripes g shape locks) w running held)
 
-  -- any other key is as in the transaction's last map
+  -- Any other key is as in the transaction's last map.
   pub now_at-push_mine : (k : ℕ) → is_end e ≡ false → ((u : ℕ) → ended u g ≡ false → u ≢ t → keys_in stripes (of u g) k ≡ false) → now_at (g ++ e ∷ []) k ≡ get (map_after (serial g) (of t g ++ e ∷ [])) k
   now_at-push_mine k goes none =
       now_at-mine stripes (g ++ e ∷ []) k t
@@ -74,7 +74,7 @@ module _ (stripes : ℕ) (g : List Entry) (e : Entry) (t : ℕ) (shape : IsShape
       ∙ ap (λ m. get (map_after m (of t (g ++ e ∷ []))) k) same_committed
       ∙ ap (λ es. get (map_after (serial g) es) k) (of-push_in t g e at)
 
-  -- the map changes just as the last map of the transaction does
+  -- The map changes just as the last map of the transaction does.
   pub now_at-push : (k : ℕ) → is_end e ≡ false → IsRunning g t
       → ((now_at (g ++ e ∷ []) k ≡ now_at g k) × (keys_in stripes (of t g) k ≡ false))
       ⊎ ((now_at (g ++ e ∷ []) k ≡ get (map_after (serial g) (of t g ++ e ∷ [])) k) × (now_at g k ≡ get (map_after (serial g) (of t g)) k))
@@ -92,6 +92,6 @@ module _ (stripes : ℕ) (g : List Entry) (e : Entry) (t : ℕ) (shape : IsShape
     | inr none ↦ inr (now_at-push_mine k goes (λ u going away. none u going), now_at-mine stripes g k t running (λ u going away. none u going))
   ]
 
-  -- an entry that leaves the transaction's last map leaves the map as it is now
+  -- An entry that leaves the transaction's last map leaves the map as it is now.
   pub now-push_same : is_end e ≡ false → IsRunning g t → map_after (serial g) (of t g ++ e ∷ []) ≡ map_after (serial g) (of t g) → now (g ++ e ∷ []) ≡ now g
   now-push_same goes running same = same_map (now (g ++ e ∷ [])) (now g) (λ k. get-now (g ++ e ∷ []) k ∙ elim (now_at-push k goes running) [ inl w ↦ w.0 | inr w ↦ w.0 ∙ ap (λ m. get m k) same ∙ sym w.1 ] ∙ sym (get-now g k))

@@ -16,11 +16,11 @@ use Rattle.txn_trace.specs.Shape.{row, seat_after, own, how_many}
 abbrev pub no_txn : ℕ → Option ℕ
 no_txn c = None
 
--- the transaction that each caller is in after the history
+-- The transaction that each caller is in after the history.
 abbrev pub txn_in : List Entry → ℕ → Option ℕ
 txn_in h = fold txn_after no_txn h
 
--- the transaction of an entry that comes after g
+-- The transaction of an entry that comes after g.
 abbrev pub txn_at : List Entry → Entry → Option ℕ
 txn_at g e = txn_after (txn_in g) e (caller_of e)
 
@@ -53,7 +53,7 @@ some_other : (t : ℕ) (o : Option ℕ) → (o ≡ Some t → ⊥) → option_eq
 some_other t None apart = refl
 some_other t (Some u) apart = elim (nat_eq u t) as (λ b. nat_eq u t ≡ b → b ≡ false) [ true ↦ λ is. absurd (apart (ap Some (eqb-true u t is))) | false ↦ λ is. refl ] refl
 
--- an entry of the transaction, and one of another
+-- An entry of the transaction, and one of another.
 pub of-push_in : (t : ℕ) (g : List Entry) (e : Entry) → txn_at g e ≡ Some t → of t (g ++ e ∷ []) ≡ of t g ++ e ∷ []
 of-push_in t g e is = of-push t g e ∙ ap (λ b. of t g ++ cond b (e ∷ []) []) (some_itself t _ is)
 

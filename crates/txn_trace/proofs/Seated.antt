@@ -17,7 +17,7 @@ use Rattle.txn_trace.proofs.Now.{same_option}
 use Rattle.txn_trace.proofs.Judging.{empty_or_owned}
 use Rattle.txn_trace.proofs.Fits.{Fits, FitsAfter, IsReply, fits_act, fits_start}
 
--- the seat, and that it agrees with the run on each map
+-- The seat, and that it agrees with the run on each map.
 pub record Seated (g : List Entry) (c t : ℕ) : Type 0 where
   pub seat : Seat
   pub is : seat_after (own c g) ≡ Some seat
@@ -26,7 +26,7 @@ pub record Seated (g : List Entry) (c t : ℕ) : Type 0 where
 abbrev pub AreSeated : List Entry → Type 0
 AreSeated g = (c t : ℕ) → txn_in g c ≡ Some t → ended t g ≡ false → Seated g c t
 
--- where an entry goes through its reply is right
+-- Where an entry goes through its reply is right.
 pub reply_of_act : (r r' : Run) (e : Entry) → act r e ≡ Some r' → IsReply r e
 reply_of_act r r' (Did c x) is = λ op waits.
     let goes : act_did r (Some op) x ≡ Some r' = ap (λ p. act_did r p x) (sym waits) ∙ is in
@@ -52,7 +52,7 @@ the_some None h = absurd (false≢true h)
 the_some (Some a) h = (a, refl)
 
 module _ (g : List Entry) (e : Entry) (callers : Callers g) (shaped : is_shaped g e ≡ true) (seated : AreSeated g) where
-  -- a transaction that begins has no entries before
+  -- A transaction that begins has no entries before.
   pub none_before : (t : ℕ) → is_began e ≡ true → txn_at g e ≡ Some t → of t g ≡ []
   none_before t b at =
       let n = began_number g e t b (shaped_number g e shaped) (at_is g e t at) in
@@ -67,7 +67,7 @@ module _ (g : List Entry) (e : Entry) (callers : Callers g) (shaped : is_shaped 
   seat_now : (s : Seat) → seat_after (own (caller_of e) g) ≡ Some s → is_some (row s s.phase e) ≡ true
   seat_now s is = subst (λ o. is_some (option_and_then (λ s. row s s.phase e) o) ≡ true) is (shaped_seat g e shaped)
 
-  -- the run after the entry, from the run before
+  -- The run after the entry, from the run before.
   goes_on : (s s' : Seat) (m : Map) (t : ℕ) → is_began e ≡ false → is_end e ≡ false → ((r : Run) → alone m (of t g) ≡ Some r → Fits s r) → is_some (row s s.phase e) ≡ true → row s s.phase e ≡ Some s'
       → (o : Option Run) → alone m (of t g) ≡ o → (r : Run) → option_and_then (λ q. act q e) o ≡ Some r → Fits s' r
   goes_on s s' m t b n fits h is None was r goes = absurd (cc (goes))

@@ -25,7 +25,7 @@ pub filter_all : {X : Type 0} (p : X → Bool) (xs : List X) → AllByRecursion 
 filter_all p [] all = refl
 filter_all p (x ∷ xs) all = ap (λ b. cond b (x ∷ filter p xs) (filter p xs)) all.0 ∙ ap (λ ys. x ∷ ys) (filter_all p xs all.1)
 
--- the transactions so far, and that of the entry, if it passes the test
+-- The transactions so far, and that of the entry, if it passes the test.
 pub txns_of-push : (test : Entry → Bool) (g : List Entry) (e : Entry) → txns_of test (g ++ e ∷ []) ≡ txns_of test g ++ cons_option (cond (test e) (txn_at g e) None) []
 txns_of-push test g e =
     let f : Line → Option ℕ = λ l. cond (test l.entry) l.txn None in
@@ -53,7 +53,7 @@ committed_all g (e ∷ rest) callers all shape =
 pub are_committed : (g : List Entry) → IsShaped g → AreCommitted g (txns_of is_commit g)
 are_committed g shape = committed_all [] g callers_none tt shape
 
--- in a history of the right shape each Committed entry is the last of its transaction
+-- In a history of the right shape each Committed entry is the last of its transaction.
 pub commits_are : (g : List Entry) → IsShaped g → commits g ≡ txns_of is_commit g
 commits_are g shape = filter_all (λ t. is_committed t g) (txns_of is_commit g) (are_committed g shape)
 
@@ -61,18 +61,18 @@ module _ (g : List Entry) (e : Entry) (callers : Callers g) (shape : IsShaped g)
   commits-push : commits (g ++ e ∷ []) ≡ commits g ++ cons_option (cond (is_commit e) (txn_at g e) None) []
   commits-push = commits_are (g ++ e ∷ []) shape_after ∙ txns_of-push is_commit g e ∙ ap (λ ts. ts ++ cons_option (cond (is_commit e) (txn_at g e) None) []) (sym (commits_are g shape))
 
-  -- the fold over the earlier commits is as before
+  -- The fold over the earlier commits is as before.
   same_fold : fold (λ m t. map_after m (of t (g ++ e ∷ []))) empty (commits g) ≡ serial g
   same_fold = fold_filter (λ t. is_committed t g) (λ m t. map_after m (of t (g ++ e ∷ []))) (λ m t. map_after m (of t g))
       (λ m t is. ap (map_after m) (ended_stays g e callers shaped t (committed_ended t g is))) empty (txns_of is_commit g)
 
-  -- an entry that commits nothing leaves the committed map
+  -- An entry that commits nothing leaves the committed map.
   pub serial-push_other : is_commit e ≡ false → serial (g ++ e ∷ []) ≡ serial g
   serial-push_other is =
       ap (fold (λ m t. map_after m (of t (g ++ e ∷ []))) empty) (commits-push ∙ ap (λ b. commits g ++ cons_option (cond b (txn_at g e) None) []) is ∙ append-nil (commits g))
       ∙ same_fold
 
-  -- a commit leaves the last map of the transaction alone on the committed map
+  -- A commit leaves the last map of the transaction alone on the committed map.
   pub serial-push_commit : (t : ℕ) → is_commit e ≡ true → txn_at g e ≡ Some t → serial (g ++ e ∷ []) ≡ map_after (serial g) (of t (g ++ e ∷ []))
   serial-push_commit t is at =
       let f : Map → ℕ → Map = λ m t. map_after m (of t (g ++ e ∷ [])) in
@@ -85,7 +85,7 @@ same_run (Committed c p) is None = refl
 same_run (Committed c p) is (Some r) = refl
 same_run _ is o = absurd (false≢true is)
 
--- the Committed entry itself changes no map
+-- The Committed entry itself changes no map.
 pub map_after-commit : (m : Map) (es : List Entry) (e : Entry) → is_commit e ≡ true → map_after m (es ++ e ∷ []) ≡ map_after m es
 map_after-commit m es e is = ap (last_map m) (alone-push m es e ∙ same_run e is (alone m es))
 
@@ -100,7 +100,7 @@ any-append_last : (p : ℕ → Bool) (xs : List ℕ) (y : ℕ) → p y ≡ true 
 any-append_last p [] y is = or_left (p y) false is
 any-append_last p (x ∷ xs) y is = or_right (p x) (list_any p (xs ++ y ∷ [])) (any-append_last p xs y is)
 
--- a caller's transaction is among those that began
+-- A caller's transaction is among those that began.
 pub listed_push : (g : List Entry) (e : Entry) → IsListed g → IsListed (g ++ e ∷ [])
 listed_push g e listed c t is =
     subst (λ ts. list_any (λ u. u == t) ts ≡ true) (sym (txns_of-push is_began g e))

@@ -17,7 +17,7 @@ use Rattle.txn_trace.proofs.Pushes.{txn_in, txn_at, of-push_in, of-push_out}
 use Rattle.txn_trace.proofs.Callers.{Callers, callers_none, callers_push, IsOwned, ended, is_open-ended, in_or_out, not_ended_before}
 use Rattle.txn_trace.proofs.Local.{AsksFor, AllAskFor, RunsAlike, alone_alike}
 
--- the entries ask for a key of the stripe
+-- The entries ask for a key of the stripe.
 abbrev pub holds : ℕ → ℕ → List Entry → Bool
 holds stripes s es = list_any (asks_in stripes s) es
 
@@ -28,7 +28,7 @@ pub of_is : (t : ℕ) (o : Option ℕ) → option_eq nat_eq o (Some t) ≡ true 
 of_is t None is = absurd (false≢true is)
 of_is t (Some u) is = ap Some (eqb-true u t is)
 
--- where each holder of a stripe is c, a transaction that holds it is that of c
+-- Where each holder of a stripe is c, a transaction that holds it is that of c.
 holder_is : (stripes s c u : ℕ) (g : List Entry) → ended u g ≡ false → (ls : List Line) → AllByRecursion (IsOwned g) ls
     → list_any (asks_in stripes s) (map (λ l. l.entry) (filter (is_of u) ls)) ≡ true
     → list_all (λ x. x == c) (map (λ l. caller_of l.entry) (filter (λ l. asks_in stripes s l.entry && is_in_open g l) ls)) ≡ true → txn_in g c ≡ Some u
@@ -56,7 +56,7 @@ holder_is stripes s c u g going (l ∷ ls) owned asks all =
       | false ↦ λ of_u h. holder_is stripes s c u g going ls owned.1 h tail
     ]) refl asks
 
--- of two transactions that have not ended, not both hold a stripe
+-- Of two transactions that have not ended, not both hold a stripe.
 abbrev pub Apart : ℕ → List Entry → Type 0
 Apart stripes g = (t u s : ℕ) → ended t g ≡ false → ended u g ≡ false → holds stripes s (of t g) ≡ true → holds stripes s (of u g) ≡ true → t ≡ u
 
@@ -67,7 +67,7 @@ any-push p (x ∷ es) e is = elim (or_cases (p x) _ is) [
   | inr b ↦ elim (any-push p es e b) [ inl a ↦ inl (or_right (p x) _ a) | inr a ↦ inr a ]
 ]
 
--- an entry that asks for a key of a stripe is of the transaction that holds it
+-- An entry that asks for a key of a stripe is of the transaction that holds it.
 asked_by : (stripes s t u : ℕ) (g : List Entry) (e : Entry) → Callers g → is_locked stripes g e ≡ true → txn_at g e ≡ Some t → asks_in stripes s e ≡ true
     → ended u g ≡ false → holds stripes s (of u g) ≡ true → t ≡ u
 asked_by stripes s t u g (Asked c op) callers locked at asks going held =
@@ -121,7 +121,7 @@ asks_more keys wide to (e ∷ es) all = (at e all.0, asks_more keys wide to es a
     at (Asked c op) h = to (key_of op) h
     at _ h = tt
 
--- what the entries ask for is of the stripes that they hold
+-- What the entries ask for is of the stripes that they hold.
 pub asks_own : (stripes : ℕ) (es : List Entry) → AllAskFor (keys_in stripes es) es
 asks_own stripes [] = tt
 asks_own stripes (e ∷ es) = (at e, asks_more (keys_in stripes es) (keys_in stripes (e ∷ es)) (λ k is. or_right (asks_in stripes (stripe_of stripes k) e) _ is) es (asks_own stripes es))
@@ -147,11 +147,11 @@ runs_too keys m n (Some r) None alike is = absurd alike
 runs_too keys m n (Some r) (Some s) alike is = refl
 
 module _ (stripes : ℕ) (es : List Entry) (m n : Map) where
-  -- a key of another stripe stays
+  -- A key of another stripe stays.
   pub untouched : (k : ℕ) → keys_in stripes es k ≡ false → get (map_after m es) k ≡ get m k
   untouched k out = left_of (keys_in stripes es) m m (alone m es) (alone m es) (alone_alike (keys_in stripes es) m m es (asks_own stripes es) (λ q is. refl)) k out
 
-  -- on maps that have the same at the keys of these stripes the entries run alike
+  -- On maps that have the same at the keys of these stripes the entries run alike.
   pub touched : ((k : ℕ) → keys_in stripes es k ≡ true → get m k ≡ get n k) → (k : ℕ) → keys_in stripes es k ≡ true → get (map_after m es) k ≡ get (map_after n es) k
   touched same k is = inside_of (keys_in stripes es) m n (alone m es) (alone n es) (alone_alike (keys_in stripes es) m n es (asks_own stripes es) same) k (same k is) is
 

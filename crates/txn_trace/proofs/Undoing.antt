@@ -24,14 +24,14 @@ use Rattle.txn_trace.proofs.Judging.{legal_push, shape_push, locks_push}
 use Rattle.txn_trace.proofs.Others.{replies-push_other, now_at-push}
 use Rattle.txn_trace.proofs.Acting.{get-after_other}
 
--- each job names a key of a held stripe and the value that it had before
+-- Each job names a key of a held stripe and the value that it had before.
 abbrev pub IsLogged : (ℕ → Bool) → List (ℕ × Option ℕ) → Map → List Map → Type 0
 IsLogged keys [] last [] = Unit {0}
 IsLogged keys (job ∷ jobs) last (m ∷ ms) = (keys job.0 ≡ true) × (get m job.0 ≡ job.1) × ((q : ℕ) → q ≢ job.0 → get m q ≡ get last q) × IsLogged keys jobs m ms
 IsLogged keys [] last (m ∷ ms) = ⊥
 IsLogged keys (job ∷ jobs) last [] = ⊥
 
--- a change adds its key and its reply to the log
+-- A change adds its key and its reply to the log.
 pub logged_add : (keys : ℕ → Bool) (jobs : List (ℕ × Option ℕ)) (r : Run) (op : Op) → keys (key_of op) ≡ true → IsLogged keys jobs r.last r.earlier → is_change r.last op ≡ true
     → IsLogged keys ((key_of op, reply_of r.last op) ∷ jobs) (after r.last op) (r.last ∷ r.earlier)
 logged_add keys jobs r op in_keys logged is = (in_keys, refl, λ q other. sym (get-after_other r.last op q other), logged)
@@ -40,7 +40,7 @@ any-push_same : (p : Entry → Bool) (es : List Entry) (e : Entry) → p e ≡ f
 any-push_same p [] e is = ap (λ b. b || false) is
 any-push_same p (x ∷ es) e is = ap (λ b. p x || b) (any-push_same p es e is)
 
--- a caller that leaves takes its newest change back
+-- A caller that leaves takes its newest change back.
 module _ (stripes : ℕ) (g : List Entry) (legal : IsLegal stripes g) (c t : ℕ) (run : Run) (job : ℕ × Option ℕ) (jobs : List (ℕ × Option ℕ)) (m : Map) (ms : List Map)
     (in_t : txn_in g c ≡ Some t) (going : ended t g ≡ false) (run_is : alone (serial g) (of t g) ≡ Some run) (earlier : run.earlier ≡ m ∷ ms)
     (logged : IsLogged (keys_in stripes (of t g)) (job ∷ jobs) run.last (m ∷ ms)) (shaped : is_shaped g (Undone c) ≡ true) where
@@ -62,14 +62,14 @@ module _ (stripes : ℕ) (g : List Entry) (legal : IsLegal stripes g) (c t : ℕ
       ⊎ ((now_at (g ++ Undone c ∷ []) q ≡ get (map_after (serial g) (of t g ++ Undone c ∷ [])) q) × (now_at g q ≡ get (map_after (serial g) (of t g)) q))
   each q = now_at-push stripes g (Undone c) t legal.shape legal.locks (shape_push g (Undone c) legal.shape shaped) (locks_push stripes g (Undone c) legal.locks refl) shaped refl in_t q refl (running_of g c t in_t going)
 
-  -- the key of the newest job has what it had before
+  -- The key of the newest job has what it had before.
   pub get-now_undone : get (now (g ++ Undone c ∷ [])) job.0 ≡ job.1
   get-now_undone = get-now (g ++ Undone c ∷ []) job.0 ∙ elim (each job.0) [
     | inl w ↦ absurd (false≢true (sym w.1 ∙ logged.0))
     | inr w ↦ w.0 ∙ ap (λ n. get n job.0) afterwards ∙ logged.1
   ]
 
-  -- and each other key what it has
+  -- And each other key what it has.
   pub get-now_undone_other : (q : ℕ) → q ≢ job.0 → get (now (g ++ Undone c ∷ [])) q ≡ get (now g) q
   get-now_undone_other q other = get-now (g ++ Undone c ∷ []) q ∙ elim (each q) [
     | inl w ↦ w.0

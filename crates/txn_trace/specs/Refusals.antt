@@ -3,7 +3,7 @@ use Rattle.std.specs.Prelude.{ℕ}
 use Rattle.txn_trace.specs.declared.refusal.Refusal.{Refusal}
 use Rattle.txn_trace.specs.declared.refusal.Refusal.TheVariants.{BadKey, NoSuchCaller, NotOpen, AlreadyOpen, OperationUnfinished, Leaving, Unplaced, NothingToSeek, NoSuchLevel, NoSuchBucket, ParentMissing, NoSuchHelper, HelperOutOfOrder, NoMemory, OutOfStep, StampsUsedUp, CallersMissing, NoThread, StaleWord, NotJson, WrongShape, Limit}
 
--- the number by which a refusal is known
+-- The number by which a refusal is known.
 abbrev pub number_of : Refusal → ℕ
 number_of BadKey = 1
 number_of NoSuchCaller = 2

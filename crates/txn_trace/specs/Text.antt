@@ -4,7 +4,7 @@ use Rattle.txn_trace.specs.declared.answer.Answer.{Answer}
 use Rattle.txn_trace.specs.declared.answer.Answer.TheVariants.{Began, Asked, Busy, Placed, Again, Done, Undone, Returned, Aborted, Saved, Leaving, Committed, Swept, Clean, Ready, Present, Linked, Stored, Moved, AtLimit, Light, Doubled, Refused}
 use Rattle.txn_trace.specs.Refusals.{number_of}
 
--- the text of an answer: words and decimal numbers
+-- The text of an answer: words and decimal numbers.
 abbrev pub text_of : Answer → List ℕ
 text_of (Began t) = codes "began " ++ decimal t
 text_of Asked = codes "asked"

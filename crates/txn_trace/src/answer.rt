@@ -95,7 +95,9 @@ impl fmt::Display for Answer {
     }
 }
 
-/// An answer as text, without a line feed. Costs one allocation.
+/// An answer as text, without a line feed.
+///
+/// `AllocError` where memory is refused. Costs one allocation and time by the text's length.
 pub fn answer_text(alloc: Global, answer: &Answer) -> Result<String, AllocError>
     ensures { IfOk result (λ text. string_bytes text ≡ text_of answer.now) }
 {

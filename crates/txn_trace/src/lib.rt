@@ -1,4 +1,16 @@
-//! Operations on a map, the entries of a history, steps and their answers, and what a history says.
+//! The words in which transactions on a map are spoken of: operations, steps and their answers, refusals, limits, and
+//! the entries of a history; and what a history of them means.
+//!
+//! A history is a list of entries of one or more callers. The definitions in `specs/` say which transaction an entry
+//! belongs to, what a transaction does when it runs alone, which map the committed transactions leave in commit order
+//! (`serial`) and which map there is with the changes of the open ones (`now`), and which histories are legal: those
+//! in which each transaction has the replies of running alone, each stripe of keys belongs to one open transaction,
+//! and each entry has the right shape. This is the meaning of "serialisable" after Herlihy and Koskinen,
+//! "Transactional Boosting: A Methodology for Highly-Concurrent Transactional Objects" (PPoPP 2008).
+//!
+//! Proved: the laws of histories in `proofs/`, entry by entry, for crates above to cite; and, as the contract of
+//! `laws::erased`, that nothing is left of aborted transactions. The code itself makes limits and texts, at fixed cost
+//! but for one allocation of `answer_text`.
 #![tactic(auto)]
 
 mod answer;

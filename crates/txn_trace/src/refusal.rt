@@ -51,7 +51,7 @@ pub enum Refusal {
 }
 
 impl Refusal {
-    /// The refusal's number.
+    /// The refusal's number, from 1 to 22. Fixed cost.
     pub fn number(self) -> u64
         ensures { result ≡ number_of self }
     {
