@@ -48,11 +48,11 @@ pub verdict-tells : (stripes : ℕ) (h : List Entry) (state : State) (running : 
 verdict-tells stripes h state count t count_is =
     let all : length state.callers.items ≡ 64 = sym state.callers.ok.0 ∙ state.all_callers in
     let in_table : count ≡ length (running 64 h) =
-        count_is ∙ count_by-sits h state.callers.items 0 (λ k. let same : k ≡ 0 + k = omega arith in subst (λ c. IfSome (slice_get state.callers.items k) (Sits h c)) same (t.seats k))
-        ∙ ap (λ n. count_by (λ c. is_running (seat_after (own c h))) (range_with_len 0 n)) all ∙ sym (length-filter (λ c. is_running (seat_after (own c h))) (range_with_len 0 64)) in
+    count_is ∙ count_by-sits h state.callers.items 0 (λ k. let same : k ≡ 0 + k = omega arith in subst (λ c. IfSome (slice_get state.callers.items k) (Sits h c)) same (t.seats k))
+    ∙ ap (λ n. count_by (λ c. is_running (seat_after (own c h))) (range_with_len 0 n)) all ∙ sym (length-filter (λ c. is_running (seat_after (own c h))) (range_with_len 0 64)) in
     let some : 0 ≤ 64 = omega arith in
     let same : length (running 64 h) ≡ length (running (callers_in h) h) =
-        sym (length-open_txns 64 h t.legal.shape (callers_below 0 h some t.callers)) ∙ length-open_txns (callers_in h) h t.legal.shape (omega arith) in
+    sym (length-open_txns 64 h t.legal.shape (callers_below 0 h some t.callers)) ∙ length-open_txns (callers_in h) h t.legal.shape (omega arith) in
     (λ i. legal.Legal (t.commits i) ((in_table ∙ same) i)) ∙ sym (verdict-legal stripes h t.legal)
 
 -- A bad entry stays the first one.
@@ -76,10 +76,13 @@ bad_now stripes h e i rule is_legal index breaks = first_bad-found stripes (h ++
 
 -- A verdict says that the history is legal exactly where it is.
 pub says_legal : (stripes : ℕ) (h : List Entry) (v : Verdict) → meaning_of v ≡ verdict stripes h → SaysLegal v ↔ IsLegal stripes h
-says_legal stripes h (Legal commits running) is = (λ u. elim (legal_or_bad stripes h) [
-  | inl fine ↦ fine
-  | inr bad ↦ absurd (differ (is ∙ verdict-illegal stripes h bad.0 bad.1 bad.2))
-], λ u. tt)
+says_legal stripes h (Legal commits running) is = (
+  λ u. elim (legal_or_bad stripes h) [
+    | inl fine ↦ fine
+    | inr bad ↦ absurd (differ (is ∙ verdict-illegal stripes h bad.0 bad.1 bad.2))
+  ],
+  λ u. tt,
+)
   where
     differ : {c r i n : ℕ} → legal.Legal c r ≡ legal.Illegal i n → ⊥
     differ same = cc (same)

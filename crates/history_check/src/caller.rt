@@ -85,6 +85,7 @@ impl Caller {
         }
     }
 
+    /// Whether it has one in an open transaction.
     fn allows_open(&self, entry: &Entry) -> bool
         ensures { result ≡ is_some (row (seat_of self.now) Opened entry.now) }
     {

@@ -116,6 +116,7 @@ impl State {
         }
     }
 
+    /// A transaction begins.
     fn begin(&mut self, caller: u64, txn: u64)
         requires { caller < 64 }
         ensures { Grows (Entry.Began caller txn) self.old self.new }
@@ -124,6 +125,7 @@ impl State {
         self.began = txn;
     }
 
+    /// An operation is asked for, where no other caller holds the stripe of its key.
     fn ask(&mut self, caller: u64, op: Op) -> Option<Rule>
         requires { caller < 64 }
         ensures { JudgesLocks (Entry.Asked caller op) self.old result self.new }
@@ -138,6 +140,7 @@ impl State {
         }
     }
 
+    /// The stripe of an operation's key is held by another caller, this one.
     fn find_busy(&mut self, caller: u64, op: Op, holder: u64) -> Option<Rule>
         requires { caller < 64 }
         ensures { JudgesLocks (Entry.Busy caller op holder) self.old result self.new }
@@ -155,6 +158,7 @@ impl State {
         }
     }
 
+    /// The operation that waits has its reply.
     fn reply(&mut self, caller: u64, reply: Reply) -> Result<(), AllocError>
         requires { caller < 64 }
         ensures ok { OnOk result (Grows (Entry.Did caller reply) self.old self.new) }
@@ -170,6 +174,7 @@ impl State {
         Ok(())
     }
 
+    /// A savepoint is set.
     fn save(&mut self, caller: u64) -> Result<(), AllocError>
         requires { caller < 64 }
         ensures ok { OnOk result (Grows (Entry.Saved caller) self.old self.new) }
@@ -178,6 +183,7 @@ impl State {
         self.callers[caller as usize].save()
     }
 
+    /// The caller goes back to a level, or to none.
     fn leave(&mut self, caller: u64, level: Option<u64>)
         requires { caller < 64 }
         ensures { Grows (Entry.Leave caller level) self.old self.new }
@@ -185,6 +191,7 @@ impl State {
         self.callers[caller as usize].leave(level);
     }
 
+    /// The newest change is taken back: its key has what it had before.
     fn undo(&mut self, caller: u64) -> Result<(), AllocError>
         requires { caller < 64 }
         ensures ok { OnOk result (Grows (Entry.Undone caller) self.old self.new) }
@@ -198,6 +205,7 @@ impl State {
         Ok(())
     }
 
+    /// The caller is back at a level.
     fn return_to(&mut self, caller: u64, level: u64)
         requires { caller < 64 }
         ensures { Grows (Entry.Returned caller level) self.old self.new }
@@ -205,6 +213,7 @@ impl State {
         self.callers[caller as usize].return_to(level);
     }
 
+    /// The transaction commits, and gives its stripes back.
     fn commit(&mut self, caller: u64, place: u64)
         requires { caller < 64 }
         ensures { Grows (Entry.Committed caller place) self.old self.new }
@@ -214,6 +223,7 @@ impl State {
         self.committed = place;
     }
 
+    /// The transaction has taken all back, and gives its stripes back.
     fn end(&mut self, caller: u64)
         requires { caller < 64 }
         ensures { Grows (Entry.Aborted caller) self.old self.new }
@@ -252,6 +262,7 @@ fn has_next_number(began: u64, committed: u64, entry: &Entry) -> bool
     }
 }
 
+/// Whether the number is one more than that before it.
 fn is_next(before: u64, number: u64) -> bool
     ensures { result ≡ (number == before + 1) }
 {

@@ -33,7 +33,11 @@ pub(crate) fn operate(values: &mut BTreeMap<u64, u64>, op: Op) -> Result<(), All
 }
 
 /// Puts back what a key had. Costs the logarithm of the number of keys.
-pub(crate) fn restore(values: &mut BTreeMap<u64, u64>, key: u64, before: Option<u64>) -> Result<(), AllocError>
+pub(crate) fn restore(
+    values: &mut BTreeMap<u64, u64>,
+    key: u64,
+    before: Option<u64>,
+) -> Result<(), AllocError>
     ensures ok { OnOk result ((m : Map) → Has m values.old → Has (set_at m key before) values.new) }
     ensures err { OnErr result ((m : Map) → Has m values.old → Has m values.new) }
 {

@@ -29,6 +29,7 @@ returns-in-None-clause-ok c stripes h fed =
     let none = none_there c.args.self.now.bad (sym c.is_some.ensures ∙ c.if-is_some.false) in
     let told = subst (FedWith stripes h c.args.self.now.fed c.args.self.now.state) none fed in
     let one_more : c.in_ok-next.next ≡ c.args.self.now.fed + 1 = next_is c.checked_add.result _ (c.args.self.now.fed + 1) c.in_ok-next.next c.checked_add.ensures c.in_ok-next.ensures.ok_part in
-    subst (FedWith stripes (h ++ c.args.entry.now ∷ []) c.in_ok-next.next c.take_in.new.self) (sym none)
-    (subst (λ r. Judged stripes h c.args.entry.now r c.take_in.new.self) c.in-None.is (c.in_ok-rule.ensures.ok stripes h told.0),
-    (let n = length-append h (c.args.entry.now ∷ []) in let m = told.1 in omega (arith, one_more, m, n)))
+    subst (FedWith stripes (h ++ c.args.entry.now ∷ []) c.in_ok-next.next c.take_in.new.self) (sym none) (
+      subst (λ r. Judged stripes h c.args.entry.now r c.take_in.new.self) c.in-None.is (c.in_ok-rule.ensures.ok stripes h told.0),
+      (let n = length-append h (c.args.entry.now ∷ []) in let m = told.1 in omega (arith, one_more, m, n)),
+    )
