@@ -1,3 +1,7 @@
+ghost use Rattle.std.specs.Prelude.{◌<◌};
+ghost use Rattle.std.specs.List.{All};
+ghost use Rattle.txn_trace.specs.History.{caller_of};
+
 use crate::{Checker, Rule, Verdict, check};
 use std::process::Abort;
 use std::test::Fail;
@@ -12,7 +16,9 @@ fn legal(commits: u64, running: u64) -> Verdict {
 }
 
 /// A commit, a change that aborts, and a reader with this reply.
-fn replies(last: u64) -> [Entry; 14] {
+fn replies(last: u64) -> [Entry; 14]
+    ensures { All (λ entry. caller_of entry < 64) result }
+{
     [
         Entry::Began(0, 1),
         Entry::Asked(0, Op::Put(1, 10)),
