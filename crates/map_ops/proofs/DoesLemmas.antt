@@ -22,13 +22,7 @@ use Rattle.map_ops.specs.Jobs.{unput, relink, key_of_job, value_before, spare_of
 use Rattle.map_ops.specs.Changes.{Does, GivesBack, Places, Spends, TakesBack}
 use Rattle.map_ops.specs.Steps.{Sets}
 use Rattle.map_ops.proofs.BelongLemmas.{linked_same}
-
--- To take out a key that is not there changes nothing.
-pub remove-absent : (m : Map) (k : ℕ) → get m k ≡ None → remove m k ≡ m
-remove-absent m k none = same_map (remove m k) m (λ q. get-remove m k q ∙ elim (cases_eq q k) [
-  | inl same ↦ ap (λ b. cond b None (get m q)) (eq-eqb q k same) ∙ sym (ap (get m) same ∙ none)
-  | inr other ↦ ap (λ b. cond b None (get m q)) (ne_eqb q k other)
-])
+use Rattle.map_ops.proofs.RemoveLemmas.{remove-absent}
 
 module _ (old mid new : Listing) (buckets : Directory) (k : ℕ) (before : Option ℕ) (before_is : before ≡ get (content (table_of old buckets)) k) (spare : SpareAt) where
   pub does_put_new : (v : ℕ) → before ≡ None → Sets (table_of old buckets) (table_of new buckets) k (Some v) → Spends (table_of old buckets) (table_of new buckets) (Some spare)

@@ -1,17 +1,24 @@
 -- What layers above rest on.
-use Rattle.std.proofs.Common.{◌≡◌, ◌≢◌, ℕ, ◌<◌, ◌-◌, ◌^◌, true, cond, Option, Some, None, [], refl, sym, ap, ◌∙◌}
-use Rattle.std.proofs.lemmas.Bool.{eq-eqb}
+use Rattle.std.proofs.Common.{◌≡◌, ◌≢◌, ℕ, ◌<◌, ◌-◌, ◌^◌, ◌==◌, inl, inr, Bool, true, false, cond, Option, Some, None, [], refl, sym, ap, subst, ◌∙◌}
+use Rattle.std.specs.Prelude.{is_some, IfSome}
+use Rattle.std.proofs.lemmas.Bool.{cases_eq, eq-eqb, false≢true, ne_eqb}
 use Rattle.node_list.specs.Nodes.{SpareAt, out_at}
+use Rattle.node_list.proofs.OrderLemmas.{some-injective, some-none}
 use Rattle.list_steps.specs.declared.cursor.Cursor.{Cursor}
 use Rattle.list_steps.proofs.CursorLemmas as cursors
 use Rattle.bucket_table.specs.Directory.{Directory}
-use Rattle.txn_trace.specs.Map.{Map, get}
+use Rattle.txn_trace.specs.declared.op.Op.{Op}
+use Rattle.txn_trace.specs.declared.op.Op.TheVariants.{Put, Take, Get}
+use Rattle.txn_trace.specs.Map.{Map, after, get, insert, remove}
 use Rattle.txn_trace.specs.Now.{set_at}
+use Rattle.txn_trace.proofs.Maps.{get-insert, get-remove, same_map}
 use Rattle.txn_trace.proofs.Table.{get-set_at}
-use Rattle.map_ops.specs.TableAt.{TableAt, content, IsPlaced, Follows, Owns, KeepsOthers, KeepsSpares, turn_of, cursor_turn, fits}
 use Rattle.map_ops.specs.declared.job.MapJob.{MapJob}
-use Rattle.map_ops.specs.Jobs.{key_of_job, value_before}
-use Rattle.map_ops.specs.Changes.{GivesSpare, TakesBack, ShowsBefore}
+use Rattle.map_ops.specs.declared.job.MapJob.TheVariants.{Unput, Restore, Relink}
+use Rattle.map_ops.specs.TableAt.{TableAt, content, IsPlaced, Follows, Owns, KeepsOthers, KeepsSpares, turn_of, cursor_turn, fits}
+use Rattle.map_ops.specs.Jobs.{PendingAt, IsDue, job_of, key_of_job, relink, spare_of_job, takes_node, unput, value_before}
+use Rattle.map_ops.specs.Changes.{Applies, GivesFor, GivesSpare, JobSpare, OwnsIf, Prepares, ShowsAfter, ShowsBefore, TakesBack}
+use Rattle.map_ops.proofs.RemoveLemmas.{remove-absent}
 
 -- A cursor stays placed while the table changes.
 pub still_placed : (old new : TableAt) (cursor : Cursor) (key : ℕ) → IsPlaced old cursor key → Follows old new → IsPlaced new cursor key
@@ -45,3 +52,117 @@ shows_before old new job back =
 -- Some buckets, for what holds with any.
 abbrev pub no_buckets : Directory
 no_buckets = record { size = 0; entries = []; helpers = [] }
+
+-- A put has a value at its key, and a take none.
+get-insert-here : (m : Map) (k v : ℕ) → get (insert m k v) k ≡ Some v
+get-insert-here m k v = get-insert m k v k ∙ ap (λ b. cond b (Some v) (get m k)) (eq-eqb k k refl)
+
+get-remove-here : (m : Map) (k : ℕ) → get (remove m k) k ≡ None
+get-remove-here m k = get-remove m k k ∙ ap (λ b. cond b None (get m k)) (eq-eqb k k refl)
+
+-- A job is due on what its operation leaves, and gives the map before it.
+pub job_is_due : (m : Map) (op : Op) (spare : Option SpareAt) (job : MapJob) → job_of m op spare ≡ Some job → IsDue (after m op) job
+job_is_due m (Put k v) spare job is = go (get m k) is
+  where
+    go : (o : Option ℕ) → unput k o ≡ Some job → IsDue (insert m k v) job
+    go None same = subst (IsDue (insert m k v)) (some-injective same) (ap is_some (get-insert-here m k v))
+    go (Some old) same = subst (IsDue (insert m k v)) (some-injective same) (ap is_some (get-insert-here m k v))
+job_is_due m (Take k) spare job is = go (get m k) spare is
+  where
+    go : (o : Option ℕ) (s : Option SpareAt) → relink k o s ≡ Some job → IsDue (remove m k) job
+    go None s same = absurd (some-none (sym same))
+    go (Some old) None same = absurd (some-none (sym same))
+    go (Some old) (Some s) same = subst (IsDue (remove m k)) (some-injective same) (get-remove-here m k)
+job_is_due m (Get k) spare job is = absurd (some-none (sym is))
+
+-- Writing over a key and setting it to what it was.
+set_at-insert : (m : Map) (k v : ℕ) (before : Option ℕ) → get m k ≡ before → set_at (insert m k v) k before ≡ m
+set_at-insert m k v before is = same_map _ m (λ q. get-set_at (insert m k v) k before q ∙ elim (cases_eq q k) [
+  | inl same ↦ ap (λ b. cond b before (get (insert m k v) q)) (eq-eqb q k same) ∙ sym is ∙ ap (get m) (sym same)
+  | inr other ↦ ap (λ b. cond b before (get (insert m k v) q)) (ne_eqb q k other) ∙ get-insert m k v q ∙ ap (λ b. cond b (Some v) (get m q)) (ne_eqb q k other)
+])
+
+set_at-remove : (m : Map) (k : ℕ) (before : Option ℕ) → get m k ≡ before → set_at (remove m k) k before ≡ m
+set_at-remove m k before is = same_map _ m (λ q. get-set_at (remove m k) k before q ∙ elim (cases_eq q k) [
+  | inl same ↦ ap (λ b. cond b before (get (remove m k) q)) (eq-eqb q k same) ∙ sym is ∙ ap (get m) (sym same)
+  | inr other ↦ ap (λ b. cond b before (get (remove m k) q)) (ne_eqb q k other) ∙ get-remove m k q ∙ ap (λ b. cond b None (get m q)) (ne_eqb q k other)
+])
+
+pub set_at-after : (m : Map) (op : Op) (spare : Option SpareAt) (job : MapJob) → job_of m op spare ≡ Some job → set_at (after m op) (key_of_job job) (value_before job) ≡ m
+set_at-after m (Put k v) spare job is = go (get m k) refl is
+  where
+    go : (o : Option ℕ) → get m k ≡ o → unput k o ≡ Some job → set_at (insert m k v) (key_of_job job) (value_before job) ≡ m
+    go None was same = subst (λ j. set_at (insert m k v) (key_of_job j) (value_before j) ≡ m) (some-injective same) (set_at-insert m k v None was)
+    go (Some old) was same = subst (λ j. set_at (insert m k v) (key_of_job j) (value_before j) ≡ m) (some-injective same) (set_at-insert m k v (Some old) was)
+set_at-after m (Take k) spare job is = go (get m k) spare refl is
+  where
+    go : (o : Option ℕ) (s : Option SpareAt) → get m k ≡ o → relink k o s ≡ Some job → set_at (remove m k) (key_of_job job) (value_before job) ≡ m
+    go None s was same = absurd (some-none (sym same))
+    go (Some old) None was same = absurd (some-none (sym same))
+    go (Some old) (Some s) was same = subst (λ j. set_at (remove m k) (key_of_job j) (value_before j) ≡ m) (some-injective same) (set_at-remove m k (Some old) was)
+set_at-after m (Get k) spare job is = absurd (some-none (sym is))
+
+-- An operation without a job leaves the map.
+pub after-no_job : (m : Map) (op : Op) (spare : Option SpareAt) → is_some spare ≡ takes_node op → job_of m op spare ≡ None → after m op ≡ m
+after-no_job m (Put k v) spare given is = go (get m k) is
+  where
+    go : (o : Option ℕ) → unput k o ≡ None → insert m k v ≡ m
+    go None none = absurd (some-none none)
+    go (Some old) none = absurd (some-none none)
+after-no_job m (Take k) spare given is = go (get m k) spare refl given is
+  where
+    go : (o : Option ℕ) (s : Option SpareAt) → get m k ≡ o → is_some s ≡ true → relink k o s ≡ None → remove m k ≡ m
+    go None s was there none = remove-absent m k was
+    go (Some old) None was there none = absurd (false≢true there)
+    go (Some old) (Some s) was there none = absurd (some-none none)
+after-no_job m (Get k) spare given is = refl
+
+-- After an operation that was done at once, the table shows what its job names as after.
+pub shows_after : (old new : TableAt) (op : Op) (reply : Option ℕ) (job : MapJob) → Applies old new op reply (Some job) → ShowsAfter job new
+shows_after old new op reply job applies =
+    (subst (λ (m : Map). IsDue m job) (sym applies.content_is) (job_is_due (content old) op applies.spare job (sym applies.job_is)), owned job applies.spares)
+  where
+    owned : (job : MapJob) → JobSpare old new (Some job) → OwnsIf new (spare_of_job job)
+    owned (Unput k) spares = tt
+    owned (Restore k before) spares = tt
+    owned (Relink k before spare) gives = gives.owned
+
+-- An operation and its job leave the content.
+pub content-there_and_back : (old mid new : TableAt) (op : Op) (reply : Option ℕ) (job : MapJob) → Applies old mid op reply (Some job) → TakesBack mid new job → content new ≡ content old
+content-there_and_back old mid new op reply job applies back =
+    back.content_is ∙ ap (λ (m : Map). set_at m (key_of_job job) (value_before job)) applies.content_is ∙ set_at-after (content old) op applies.spare job (sym applies.job_is)
+
+-- An operation without a job leaves it too.
+pub content-no_job : (old new : TableAt) (op : Op) (reply : Option ℕ) → Applies old new op reply None → content new ≡ content old
+content-no_job old new op reply applies = applies.content_is ∙ after-no_job (content old) op applies.spare applies.spare_is (sym applies.job_is)
+
+-- What an operation was prepared with is the table's, while the spares stay.
+given_owned : (old new : TableAt) (takes : Bool) (spare : Option SpareAt) → GivesFor old new takes spare → OwnsIf new spare
+given_owned old new true None gives = absurd gives
+given_owned old new true (Some spare) gives = gives.owned
+given_owned old new false None gives = tt
+given_owned old new false (Some spare) gives = absurd gives
+
+pub prepared_owned : (old new : TableAt) (op : Op) (pending : PendingAt) → Prepares old new op pending → OwnsIf new pending.spare
+prepared_owned old new op pending prepares = given_owned old new (takes_node op) pending.spare prepares.given
+
+pub still_owned_if : (old new : TableAt) (spare : Option SpareAt) → KeepsSpares old new → OwnsIf old spare → OwnsIf new spare
+still_owned_if old new None keeps owned = tt
+still_owned_if old new (Some spare) keeps owned = still_owned old new spare keeps owned
+
+-- A put that was done at once keeps the spares.
+pub put_keeps : (old new : TableAt) (k v : ℕ) (reply : Option ℕ) (job : Option MapJob) → Applies old new (Put k v) reply job → KeepsSpares old new
+put_keeps old new k v reply job applies = go (get (content old) k) (subst (JobSpare old new) applies.job_is applies.spares)
+  where
+    go : (o : Option ℕ) → JobSpare old new (unput k o) → KeepsSpares old new
+    go None keeps = keeps
+    go (Some before) keeps = keeps
+
+-- A get that was done at once keeps the spares and the content.
+pub get_keeps : (old new : TableAt) (k : ℕ) (reply : Option ℕ) (job : Option MapJob) → Applies old new (Get k) reply job → KeepsSpares old new
+get_keeps old new k reply job applies = subst (JobSpare old new) applies.job_is applies.spares
+
+-- The same, where it was a change.
+pub applied_shows_after : (old new : TableAt) (op : Op) (reply : Option ℕ) (job : Option MapJob) → Applies old new op reply job → IfSome job (λ j. ShowsAfter j new)
+applied_shows_after old new op reply None applies = tt
+applied_shows_after old new op reply (Some job) applies = shows_after old new op reply job applies

@@ -9,3 +9,4 @@ pub mod SoundLemmas
 pub mod BucketLemmas
 pub mod WalkLemmas
 pub mod MadeLemmas
+pub mod RemoveLemmas

@@ -1,10 +1,11 @@
 //! Jobs.
-ghost use Rattle.std.specs.Prelude.{◌≡◌, ◌<◌, ◌^◌};
+ghost use Rattle.std.specs.Prelude.{◌≡◌};
 
 use node_list::Spare;
 use split_key::Key;
 
-/// What takes one change back, whatever the table has become since at other keys.
+/// What takes one change back, whatever the table has become since at other keys (an inverse method call in the sense of Herlihy
+/// and Koskinen 2008). A `Relink` owns a spare of the table, so that nothing is wanted to run it.
 #[derive(Debug, Drop)]
 pub enum MapJob {
     /// Takes out what was put at the key.
@@ -18,7 +19,7 @@ pub enum MapJob {
 impl MapJob {
     ghost use Rattle.map_ops.specs.Jobs.{key_of_job};
 
-    /// The key of the change.
+    /// The key of the change. Constant time.
     pub fn key(&self) -> Key
         ensures { result ≡ key_of_job self.now }
     {

@@ -49,7 +49,7 @@ impl Pending {
         self.plan
     }
 
-    /// The operation.
+    /// The operation. Its key is below 2^63, and it has a spare exactly where it is a put or a take. Constant time.
     pub fn op(&self) -> Op
         ensures op { result ≡ self.now.op }
         ensures key { key_of result < 2 ^ 63 }
@@ -62,7 +62,7 @@ impl Pending {
         }
     }
 
-    /// The key of the operation.
+    /// The key of the operation. Constant time.
     pub fn key(&self) -> Key
         ensures { result ≡ key_of self.now.op }
     {

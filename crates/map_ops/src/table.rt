@@ -21,7 +21,11 @@ use std::collections::BTreeMap;
 use std::marker::Model;
 use txn_trace::{Op, Refusal, Reply};
 
-/// The table: the nodes of its keys in one split-ordered list, and the buckets through which they are found.
+/// The table: the nodes of its keys in one split-ordered list, and the buckets through which they are found (Shalev and Shavit,
+/// "Split-Ordered Lists: Lock-Free Extensible Hash Tables", Journal of the ACM 53, 2006).
+///
+/// Contracts see the list and the buckets, by the words of `specs/TableAt.antt`: the `content` is a finite map, `regular` the list
+/// of its pairs in the order of their split keys.
 #[derive(Drop)]
 pub struct Table {
     list: NodeList,
@@ -40,12 +44,21 @@ impl Model for Table {
 }
 
 impl Table {
+    ghost use Rattle.bucket_table.specs.Directory.{IsSound as IsSoundDirectory};
+    ghost use Rattle.bucket_table.specs.Home.{IsHome};
     ghost use Rattle.map_ops.specs.TableAt.{IsNew, IsPlaced, Follows, Keeps, KeepsSpares, Sought, content, regular, helps_of, last_of, largest_of, linked_of, size_of, stored_of, turn_of};
     ghost use Rattle.map_ops.specs.Jobs.{IsDue, key_of_job, spare_of_job};
     ghost use Rattle.map_ops.specs.Changes.{Acts, Applies, GivesBack, IsClean, IsRefused, OwnsIf, Places, Prepares, Sweeps, TakesBack, Undoes};
     ghost use Rattle.map_ops.specs.Buckets.{Doubles, LinkChanges, SeekChanges, StoreChanges, double_answer, helper_fits, link_answer, seek_answer, store_answer};
 
-    /// An empty table.
+    /// An empty table of two buckets, of which bucket 0 is initialised, and of so many idle helpers. It can grow to `max`
+    /// buckets, a power of two.
+    ///
+    /// Allocates an entry a bucket and one a helper.
+    ///
+    /// # Errors
+    ///
+    /// `AllocError` where memory is refused.
     pub fn new(alloc: Global, max: u32, callers: u32) -> Result<Table, AllocError>
         requires power { IsPowerOfTwo max }
         requires least { 2 ≤ max }
@@ -57,7 +70,15 @@ impl Table {
         Ok(Table { list, buckets })
     }
 
-    /// Prepares an operation.
+    /// Prepares an operation: looks at its key, and takes the spare that a put or a take needs, so that no memory is wanted
+    /// from here on. Content and list stay.
+    ///
+    /// Amortised constant time.
+    ///
+    /// # Errors
+    ///
+    /// `BadKey` where the key is 2^63 or more; then, for a put or a take, `StampsUsedUp` where the last stamp, 2^64 - 2, is
+    /// given, and `NoMemory` where memory is refused. Each leaves the table as it was.
     pub fn prepare(&mut self, op: Op) -> Result<Pending, Refusal>
         ensures ok { IfOk result (Prepares self.old self.new op) }
         ensures err { IfErr result (IsRefused self.old op) }
@@ -69,7 +90,10 @@ impl Table {
         Ok(Pending::new(plan))
     }
 
-    /// Seeks the key of an operation.
+    /// Seeks the key of an operation, from the dummy of its bucket or of the nearest ancestor that is initialised (Shalev and
+    /// Shavit 2006, section 3.2), and unlinks the marked nodes that it passes. Content and list of pairs stay.
+    ///
+    /// The cursor fits until something changes where it is. Takes no memory. One step a node from that dummy on.
     pub fn place(&mut self, pending: &Pending) -> Cursor
         ensures places { Places self.old self.new (key_of pending.now.op) result }
         ensures follows { Follows self.old self.new }
@@ -77,7 +101,10 @@ impl Table {
         seek_key(&mut self.list, &self.buckets, pending.key())
     }
 
-    /// Does an operation at a cursor.
+    /// Does an operation at a cursor that was placed for its key, and gives the reply with what takes the change back.
+    ///
+    /// `Again` comes exactly where the cursor no longer fits, so never while the change number is still the cursor's and below
+    /// 2^64 - 1: then nothing has changed, and the operation comes back. Takes no memory. Constant time.
     pub fn act(&mut self, pending: Pending, cursor: Cursor) -> Act
         requires placed { IsPlaced self.old cursor (key_of pending.op) }
         requires owned { OwnsIf self.old pending.spare }
@@ -93,7 +120,9 @@ impl Table {
         }
     }
 
-    /// Gives up an operation that is not done.
+    /// Gives up an operation that is not done: its spare goes back to the list, and all else stays.
+    ///
+    /// Takes no memory. Constant time.
     pub fn withdraw(&mut self, pending: Pending)
         requires { OwnsIf self.old pending.spare }
         ensures back { GivesBack self.old self.new pending.spare }
@@ -102,7 +131,9 @@ impl Table {
         give_up(&mut self.list, pending.into_plan());
     }
 
-    /// Seeks the key of a job.
+    /// Seeks the key of a job, as `place` seeks that of an operation.
+    ///
+    /// Takes no memory. One step a node from the nearest dummy on.
     pub fn place_job(&mut self, job: &MapJob) -> Cursor
         ensures places { Places self.old self.new (key_of_job job.now) result }
         ensures follows { Follows self.old self.new }
@@ -110,7 +141,11 @@ impl Table {
         seek_key(&mut self.list, &self.buckets, job.key())
     }
 
-    /// Takes a change back at a cursor.
+    /// Takes a change back at a cursor that was placed for its key: the key has what it had before the change, and every other
+    /// key what it has now, whatever was changed there since.
+    ///
+    /// `Again` comes exactly where the cursor no longer fits: then nothing has changed, and the job comes back. Takes no memory.
+    /// Constant time.
     pub fn undo(&mut self, job: MapJob, cursor: Cursor) -> Undo
         requires placed { IsPlaced self.old cursor (key_of_job job) }
         requires due { IsDue (content self.old) job }
@@ -127,7 +162,9 @@ impl Table {
         }
     }
 
-    /// Gives up a job whose change is to stay.
+    /// Gives up a job whose change is to stay: the spare of a `Relink` goes back to the list, and all else stays.
+    ///
+    /// Takes no memory. Constant time.
     pub fn discard(&mut self, job: MapJob)
         requires { OwnsIf self.old (spare_of_job job) }
         ensures back { GivesBack self.old self.new (spare_of_job job) }
@@ -136,7 +173,12 @@ impl Table {
         give_up_job(&mut self.list, job);
     }
 
-    /// Does an operation at once.
+    /// Does an operation at once: its reply and what it leaves are those of a plain map, and a job is given exactly where it is
+    /// a change.
+    ///
+    /// # Errors
+    ///
+    /// Those of `prepare`, which leave the table as it was.
     pub fn apply(&mut self, op: Op) -> Result<(Reply, Option<MapJob>), Refusal>
         ensures ok { IfOk result (λ done. Applies self.old self.new op done.0 done.1) }
         ensures err { IfErr result (IsRefused self.old op) }
@@ -151,7 +193,10 @@ impl Table {
         }
     }
 
-    /// Takes a change back at once.
+    /// Takes a change back at once. So an operation and its job leave content and list of pairs as they were, and jobs of
+    /// different keys may run in either order.
+    ///
+    /// Takes no memory. One step a node from the nearest dummy on.
     pub fn take_back(&mut self, job: MapJob)
         requires due { IsDue (content self.old) job }
         requires owned { OwnsIf self.old (spare_of_job job) }
@@ -165,7 +210,11 @@ impl Table {
         }
     }
 
-    /// The keys with their values.
+    /// The keys with their values, as a map. Walks the list once.
+    ///
+    /// # Errors
+    ///
+    /// `AllocError` where memory is refused.
     pub fn content(&self, alloc: Global) -> Result<BTreeMap<u64, u64>, AllocError>
         ensures { IfOk result (λ map. (key : ℕ) → value_at nat_cmp map key ≡ get (content self.now) key) }
     {
@@ -174,7 +223,11 @@ impl Table {
         map_of(alloc, &pairs)
     }
 
-    /// The keys with their values, in the order of the list.
+    /// The keys with their values, in the order of the list, which is that of split keys. Walks the list once.
+    ///
+    /// # Errors
+    ///
+    /// `AllocError` where memory is refused.
     pub fn regular_list(&self, alloc: Global) -> Result<Vec<(u64, u64)>, AllocError>
         ensures regular { IfOk result (λ pairs. pairs.items ≡ regular self.now) }
         ensures ordered { IfOk result (λ pairs. pairs.items ≡ ordered (content self.now)) }
@@ -183,24 +236,29 @@ impl Table {
         pairs_of(alloc, &self.list)
     }
 
-    /// The size: how many buckets there are now.
+    /// The size: how many buckets there are now. Constant time.
+    ///
+    /// Its contract says also what is true of every table: the split keys of the linked nodes rise strictly, the list has the
+    /// pairs of the content in their order, and each initialised bucket names its linked dummy and has an initialised parent.
     pub fn size(&self) -> u32
         ensures size { result ≡ size_of self.now }
         ensures ordered { regular self.now ≡ ordered (content self.now) }
         ensures rising { IsRising self.now.list.nodes }
+        ensures stored { IsHome self.now.buckets self.now.list }
+        ensures parents { IsSoundDirectory self.now.buckets }
     {
         let _turn = self.list.turn();
         self.buckets.size()
     }
 
-    /// The change number.
+    /// The change number: how many links, marks, unlinks and writes there were, and 2^64 - 1 from there on. Constant time.
     pub fn turn(&self) -> u64
         ensures { result ≡ turn_of self.now }
     {
         self.list.turn()
     }
 
-    /// How many keys there are.
+    /// How many keys there are. It is kept, so this takes constant time.
     pub fn count(&self) -> u64
         ensures count { result ≡ count_of (content self.now) }
         ensures length { result ≡ length (regular self.now) }
@@ -209,7 +267,9 @@ impl Table {
         self.list.count()
     }
 
-    /// Unlinks the first marked node.
+    /// Unlinks the first marked node, if one is marked, and nothing else. `Clean` comes exactly where none is.
+    ///
+    /// Takes no memory. One step a node up to there.
     pub fn sweep(&mut self) -> SweepOutcome
         ensures clean { (result ≡ SweepOutcome.Clean) ↔ IsClean self.old }
         ensures sweeps { Sweeps self.old self.new result }
@@ -222,7 +282,15 @@ impl Table {
         sweep(&mut self.list)
     }
 
-    /// Seeks the place of a bucket's dummy for a helper.
+    /// Seeks the place of a bucket's dummy for a helper, from the dummy of the bucket's parent. Content and list of pairs stay.
+    ///
+    /// `Ready` where the bucket is initialised already: then the helper is idle. Else `Placed`, and the helper has a cursor that
+    /// fits, in place of whatever it had. Takes no memory.
+    ///
+    /// # Errors
+    ///
+    /// In this order: `NoSuchHelper`, `NoSuchBucket` where the bucket is not below the size, `ParentMissing` where it is not
+    /// initialised and its parent is not either. Each leaves the table as it was.
     pub fn init_seek(&mut self, helper: u64, bucket: u64) -> Result<InitSeek, InitRefusal>
         ensures answer { result ≡ seek_answer (size_of self.old) (stored_of self.old) (slice_get (helps_of self.old) helper) bucket }
         ensures changes { SeekChanges self.old self.new helper bucket result }
@@ -232,7 +300,15 @@ impl Table {
         self.buckets.init_seek(&mut self.list, helper, bucket)
     }
 
-    /// Links the dummy of a helper's bucket.
+    /// Links the dummy of a helper's bucket at the helper's cursor. Content and list of pairs stay.
+    ///
+    /// `Again` where the cursor no longer fits: it is dropped. `Present` where that dummy is linked already, else `Linked`: the
+    /// helper has the dummy. May allocate.
+    ///
+    /// # Errors
+    ///
+    /// In this order: `NoSuchHelper`, `HelperOutOfOrder` where the helper has no cursor, `StampsUsedUp`, `NoMemory`. Each leaves
+    /// the table as it was.
     pub fn init_link(&mut self, helper: u64) -> Result<InitLink, InitRefusal>
         ensures answer { result ≢ Err InitRefusal.NoMemory → result ≡ link_answer (helper_fits self.old helper) (linked_of self.old) (last_of self.old) (slice_get (helps_of self.old) helper) }
         ensures no_memory { result ≡ Err InitRefusal.NoMemory → link_answer (helper_fits self.old helper) (linked_of self.old) (last_of self.old) (slice_get (helps_of self.old) helper) ≡ Ok InitLink.Linked }
@@ -245,7 +321,13 @@ impl Table {
         self.buckets.init_link(&mut self.list, helper)
     }
 
-    /// Stores a helper's dummy as its bucket's.
+    /// Stores a helper's dummy as its bucket's, which is initialised from then on, and leaves the helper idle.
+    ///
+    /// Takes no memory. Constant time.
+    ///
+    /// # Errors
+    ///
+    /// In this order: `NoSuchHelper`, `HelperOutOfOrder` where the helper has no dummy. Each leaves the table as it was.
     pub fn init_store(&mut self, helper: u64) -> Result<(), InitRefusal>
         ensures answer { result ≡ store_answer (slice_get (helps_of self.old) helper) }
         ensures changes { StoreChanges self.old self.new helper result }
@@ -255,7 +337,10 @@ impl Table {
         self.buckets.init_store(helper)
     }
 
-    /// Doubles the size, where it is the one seen and the table is heavy.
+    /// Doubles the size. No node moves.
+    ///
+    /// Not so, in this order, where the size is not the one seen (`Moved`), where it is the largest (`AtLimit`), and where there
+    /// are at most twice as many keys as buckets (`Light`). Takes no memory. Constant time.
     pub fn double(&mut self, seen: u64) -> Double
         ensures answer { result ≡ double_answer (size_of self.old) (largest_of self.old) (count_of (content self.old)) seen }
         ensures changes { Doubles self.old self.new result }
