@@ -1,8 +1,13 @@
 //! Worked runs.
-ghost use Rattle.std.specs.Prelude.{IfOk, IfSome};
-ghost use Rattle.map_ops.specs.Changes.{ShowsAfter};
+ghost use Rattle.std.specs.Prelude.{◌≡◌, true, IfOk, IfSome};
+ghost use Rattle.txn_trace.specs.Map.{Map, get};
+ghost use Rattle.map_ops.specs.Jobs.{IsDue, key_of_job, spare_of_job};
+ghost use Rattle.map_ops.specs.Changes.{OwnsIf, ShowsAfter};
+ghost use Rattle.map_ops.specs.TableAt.{Follows, KeepsSpares};
 
-use crate::{Double, InitLink, InitRefusal, InitSeek, MapJob, SweepOutcome, Table, Undo};
+use crate::{
+    Act, Double, InitLink, InitRefusal, InitSeek, MapJob, Pending, SweepOutcome, Table, Undo,
+};
 use std::alloc::{AllocError, Global};
 use std::process::Abort;
 use std::test::Fail;
@@ -171,5 +176,77 @@ fn a_job_is_run_at_a_cursor(rt: HostRuntime) -> Result<(), Fail> {
         let cursor = table.place_job(&job);
         assert!(rt; matches!(table.undo(job, cursor), Undo::Undone));
     }
+    shows(&rt, rt.alloc(), &table, &[])
+}
+
+// Whether a job is due where its key has this value.
+fn is_due(value: Reply, job: &MapJob) -> bool
+    ensures { (m : Map) → get m (key_of_job job.now) ≡ value → result ≡ true → IsDue m job.now }
+{
+    match job {
+        MapJob::Unput(_) => value.is_some(),
+        MapJob::Restore(_, _) => value.is_some(),
+        MapJob::Relink(_, _, _) => value.is_none(),
+    }
+}
+
+// Takes a change back, where it is due.
+fn take_back(rt: &impl Abort, table: &mut Table, job: MapJob) -> Result<(), Refusal>
+    requires { OwnsIf table.old (spare_of_job job) }
+{
+    let (value, _) = table.apply(Op::Get(job.key().number()))?;
+    let due = is_due(value, &job);
+    assert!(rt; due, "{job:?}");
+    table.take_back(job);
+    Ok(())
+}
+
+// Puts a value at a key at once.
+fn put(table: &mut Table, key: u64, value: u64) -> Result<(Reply, Option<MapJob>), Refusal>
+    ensures spares { KeepsSpares table.old table.new }
+    ensures follows { Follows table.old table.new }
+{
+    table.apply(Op::Put(key, value))
+}
+
+// Does a prepared operation.
+fn finish(table: &mut Table, pending: Pending) -> (Reply, Option<MapJob>)
+    requires { OwnsIf table.old pending.spare }
+{
+    let cursor = table.place(&pending);
+    match table.act(pending, cursor) {
+        Act::Acted(reply, job) => (reply, job),
+        Act::Again(_) => unreachable!(),
+    }
+}
+
+// Takes back the put of a new key.
+fn unput(rt: &impl Abort, table: &mut Table, job: Option<MapJob>) -> Result<(), Refusal> {
+    if let Some(job) = job {
+        match job {
+            MapJob::Unput(key) => take_back(rt, table, MapJob::Unput(key))?,
+            MapJob::Restore(_, _) => {}
+            MapJob::Relink(_, _, _) => {}
+        }
+    }
+    Ok(())
+}
+
+#[test]
+fn stale_pending(rt: HostRuntime) -> Result<(), Fail> {
+    let mut table = table(rt.alloc())?;
+    let pending = table.prepare(Op::Put(2, 20))?;
+    let cursor = table.place(&pending);
+    let (reply, other) = put(&mut table, 4, 40)?;
+    assert_eq!(rt; reply, None);
+    let (reply, own) = match table.act(pending, cursor) {
+        Act::Acted(_, _) => (Some(0), None),
+        Act::Again(pending) => finish(&mut table, pending),
+    };
+    assert_eq!(rt; reply, None);
+    shows(&rt, rt.alloc(), &table, &[(4, 40), (2, 20)])?;
+    unput(&rt, &mut table, other)?;
+    shows(&rt, rt.alloc(), &table, &[(2, 20)])?;
+    unput(&rt, &mut table, own)?;
     shows(&rt, rt.alloc(), &table, &[])
 }
