@@ -22,6 +22,8 @@ mod job;
 mod listing;
 mod pending;
 mod table;
+#[cfg(test)]
+mod tests;
 mod undo_job;
 
 pub use act::{Act, Undo};

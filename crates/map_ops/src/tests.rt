@@ -1,0 +1,252 @@
+//! Worked runs.
+ghost use Rattle.std.specs.Prelude.{◌≡◌, true, IfOk, IfSome};
+ghost use Rattle.txn_trace.specs.Map.{Map, get};
+ghost use Rattle.map_ops.specs.Jobs.{IsDue, key_of_job, spare_of_job};
+ghost use Rattle.map_ops.specs.Changes.{OwnsIf, ShowsAfter};
+ghost use Rattle.map_ops.specs.TableAt.{Follows, KeepsSpares};
+
+use crate::{
+    Act, Double, InitLink, InitRefusal, InitSeek, MapJob, Pending, SweepOutcome, Table, Undo,
+};
+use std::alloc::{AllocError, Global};
+use std::process::Abort;
+use std::test::Fail;
+use txn_trace::{Op, Refusal, Reply};
+
+// A table of at most eight buckets and two helpers.
+fn table(alloc: Global) -> Result<Table, AllocError> {
+    Table::new(alloc, 8, 2)
+}
+
+// A table of two buckets that cannot grow, and one helper.
+fn small_table(alloc: Global) -> Result<Table, AllocError> {
+    Table::new(alloc, 2, 1)
+}
+
+// Does an operation.
+fn applied(table: &mut Table, op: Op) -> Result<(Reply, Option<MapJob>), Refusal>
+    ensures { IfOk result (λ done. IfSome done.1 (λ job. ShowsAfter job table.new)) }
+{
+    table.apply(op)
+}
+
+// Does an operation and takes it back.
+fn there_and_back(table: &mut Table, op: Op) -> Result<(), Refusal> {
+    let (_, job) = applied(table, op)?;
+    if let Some(job) = job {
+        table.take_back(job);
+    }
+    Ok(())
+}
+
+// Compares the pairs of the table.
+fn shows(rt: &impl Abort, alloc: Global, table: &Table, wanted: &[(u64, u64)]) -> Result<(), Fail> {
+    let pairs = table.regular_list(alloc)?;
+    assert_eq!(rt; pairs.as_slice(), wanted);
+    let content = table.content(alloc)?;
+    assert_eq!(rt; content.len(), wanted.len());
+    for (key, value) in wanted {
+        assert_eq!(rt; content.get(key).copied(), Some(*value));
+    }
+    assert_eq!(rt; table.count(), wanted.len() as u64);
+    Ok(())
+}
+
+#[test]
+fn each_operation_there_and_back(rt: HostRuntime) -> Result<(), Fail> {
+    let mut table = table(rt.alloc())?;
+    let _ = table.apply(Op::Put(1, 10))?;
+    for op in [
+        Op::Put(1, 11),
+        Op::Put(3, 30),
+        Op::Take(1),
+        Op::Take(5),
+        Op::Get(1),
+    ] {
+        there_and_back(&mut table, op)?;
+        shows(&rt, rt.alloc(), &table, &[(1, 10)])?;
+    }
+    Ok(())
+}
+
+#[test]
+fn keys_stand_by_split_keys(rt: HostRuntime) -> Result<(), Fail> {
+    let mut table = table(rt.alloc())?;
+    for key in 1..6 {
+        assert_eq!(rt; table.apply(Op::Put(key, 10 * key))?.0, None);
+    }
+    shows(
+        &rt,
+        rt.alloc(),
+        &table,
+        &[(4, 40), (2, 20), (1, 10), (5, 50), (3, 30)],
+    )
+}
+
+#[test]
+fn a_bad_key_is_refused(rt: HostRuntime) -> Result<(), Fail> {
+    let mut table = table(rt.alloc())?;
+    assert!(rt;
+        matches!(
+            table.apply(Op::Put(9223372036854775808, 1)),
+            Err(Refusal::BadKey)
+        )
+    );
+    assert_eq!(rt; table.apply(Op::Put(9223372036854775807, 7))?.0, None);
+    shows(&rt, rt.alloc(), &table, &[(9223372036854775807, 7)])
+}
+
+#[test]
+fn buckets_are_initialised_after_their_parents(rt: HostRuntime) -> Result<(), Fail> {
+    let mut table = table(rt.alloc())?;
+    for key in 1..5 {
+        assert_eq!(rt; table.apply(Op::Put(key, 10 * key))?.0, None);
+    }
+    assert_eq!(rt; table.double(2), Double::Light);
+    assert_eq!(rt; table.apply(Op::Put(5, 50))?.0, None);
+    assert_eq!(rt; table.double(2), Double::Doubled(4));
+    assert_eq!(rt; table.double(2), Double::Moved(4));
+    assert_eq!(rt; table.double(4), Double::Light);
+    assert_eq!(rt; table.size(), 4);
+    assert_eq!(rt; table.init_seek(0, 3), Err(InitRefusal::ParentMissing));
+    assert_eq!(rt; table.init_seek(0, 4), Err(InitRefusal::NoSuchBucket));
+    assert_eq!(rt; table.init_seek(2, 3), Err(InitRefusal::NoSuchHelper));
+    assert_eq!(rt; table.init_link(0), Err(InitRefusal::HelperOutOfOrder));
+    assert_eq!(rt; table.init_seek(0, 1), Ok(InitSeek::Placed));
+    assert_eq!(rt; table.init_link(0), Ok(InitLink::Linked));
+    assert_eq!(rt; table.init_store(0), Ok(()));
+    assert_eq!(rt; table.init_seek(0, 3), Ok(InitSeek::Placed));
+    assert_eq!(rt; table.init_seek(1, 3), Ok(InitSeek::Placed));
+    assert_eq!(rt; table.init_link(0), Ok(InitLink::Linked));
+    assert_eq!(rt; table.init_link(1), Ok(InitLink::Again));
+    assert_eq!(rt; table.init_seek(1, 3), Ok(InitSeek::Placed));
+    assert_eq!(rt; table.init_link(1), Ok(InitLink::Present));
+    assert_eq!(rt; table.init_store(0), Ok(()));
+    assert_eq!(rt; table.init_store(1), Ok(()));
+    assert_eq!(rt; table.init_seek(1, 3), Ok(InitSeek::Ready));
+    shows(
+        &rt,
+        rt.alloc(),
+        &table,
+        &[(4, 40), (2, 20), (1, 10), (5, 50), (3, 30)],
+    )
+}
+
+#[test]
+fn two_buckets_at_the_limit(rt: HostRuntime) -> Result<(), Fail> {
+    let mut table = small_table(rt.alloc())?;
+    assert_eq!(rt; table.double(4), Double::Moved(2));
+    assert_eq!(rt; table.double(2), Double::AtLimit);
+    Ok(())
+}
+
+#[test]
+fn a_sweep_unlinks_what_was_taken(rt: HostRuntime) -> Result<(), Fail> {
+    let mut table = table(rt.alloc())?;
+    there_and_back(&mut table, Op::Put(1, 10))?;
+    let turn = table.turn();
+    assert_eq!(rt; table.sweep(), SweepOutcome::Swept);
+    assert_eq!(rt; table.sweep(), SweepOutcome::Clean);
+    assert!(rt; table.turn() > turn);
+    shows(&rt, rt.alloc(), &table, &[])
+}
+
+#[test]
+fn what_is_given_up_changes_nothing(rt: HostRuntime) -> Result<(), Fail> {
+    let mut table = table(rt.alloc())?;
+    let _ = table.apply(Op::Put(1, 10))?;
+    let pending = table.prepare(Op::Put(2, 20))?;
+    assert_eq!(rt; pending.op(), Op::Put(2, 20));
+    assert_eq!(rt; pending.key().number(), 2);
+    table.withdraw(pending);
+    shows(&rt, rt.alloc(), &table, &[(1, 10)])?;
+    let (reply, job) = applied(&mut table, Op::Take(1))?;
+    assert_eq!(rt; reply, Some(10));
+    if let Some(job) = job {
+        table.discard(job);
+    }
+    shows(&rt, rt.alloc(), &table, &[])
+}
+
+#[test]
+fn a_job_is_run_at_a_cursor(rt: HostRuntime) -> Result<(), Fail> {
+    let mut table = table(rt.alloc())?;
+    let (_, job) = applied(&mut table, Op::Put(2, 20))?;
+    if let Some(job) = job {
+        let cursor = table.place_job(&job);
+        assert!(rt; matches!(table.undo(job, cursor), Undo::Undone));
+    }
+    shows(&rt, rt.alloc(), &table, &[])
+}
+
+// Whether a job is due where its key has this value.
+fn is_due(value: Reply, job: &MapJob) -> bool
+    ensures { (m : Map) → get m (key_of_job job.now) ≡ value → result ≡ true → IsDue m job.now }
+{
+    match job {
+        MapJob::Unput(_) => value.is_some(),
+        MapJob::Restore(_, _) => value.is_some(),
+        MapJob::Relink(_, _, _) => value.is_none(),
+    }
+}
+
+// Takes a change back, where it is due.
+fn take_back(rt: &impl Abort, table: &mut Table, job: MapJob) -> Result<(), Refusal>
+    requires { OwnsIf table.old (spare_of_job job) }
+{
+    let (value, _) = table.apply(Op::Get(job.key().number()))?;
+    let due = is_due(value, &job);
+    assert!(rt; due, "{job:?}");
+    table.take_back(job);
+    Ok(())
+}
+
+// Puts a value at a key at once.
+fn put(table: &mut Table, key: u64, value: u64) -> Result<(Reply, Option<MapJob>), Refusal>
+    ensures spares { KeepsSpares table.old table.new }
+    ensures follows { Follows table.old table.new }
+{
+    table.apply(Op::Put(key, value))
+}
+
+// Does a prepared operation.
+fn finish(table: &mut Table, pending: Pending) -> (Reply, Option<MapJob>)
+    requires { OwnsIf table.old pending.spare }
+{
+    let cursor = table.place(&pending);
+    match table.act(pending, cursor) {
+        Act::Acted(reply, job) => (reply, job),
+        Act::Again(_) => unreachable!(),
+    }
+}
+
+// Takes back the put of a new key.
+fn unput(rt: &impl Abort, table: &mut Table, job: Option<MapJob>) -> Result<(), Refusal> {
+    if let Some(job) = job {
+        match job {
+            MapJob::Unput(key) => take_back(rt, table, MapJob::Unput(key))?,
+            MapJob::Restore(_, _) => {}
+            MapJob::Relink(_, _, _) => {}
+        }
+    }
+    Ok(())
+}
+
+#[test]
+fn stale_pending(rt: HostRuntime) -> Result<(), Fail> {
+    let mut table = table(rt.alloc())?;
+    let pending = table.prepare(Op::Put(2, 20))?;
+    let cursor = table.place(&pending);
+    let (reply, other) = put(&mut table, 4, 40)?;
+    assert_eq!(rt; reply, None);
+    let (reply, own) = match table.act(pending, cursor) {
+        Act::Acted(_, _) => (Some(0), None),
+        Act::Again(pending) => finish(&mut table, pending),
+    };
+    assert_eq!(rt; reply, None);
+    shows(&rt, rt.alloc(), &table, &[(4, 40), (2, 20)])?;
+    unput(&rt, &mut table, other)?;
+    shows(&rt, rt.alloc(), &table, &[(2, 20)])?;
+    unput(&rt, &mut table, own)?;
+    shows(&rt, rt.alloc(), &table, &[])
+}
