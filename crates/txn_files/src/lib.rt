@@ -13,12 +13,15 @@
 
 mod elements;
 mod file_fault;
+mod history_file;
 mod json;
+mod operation;
 mod part;
 mod piece;
 mod step_file;
 
 pub use file_fault::FileFault;
+pub use history_file::read_history;
 pub use part::Part;
 pub use step_file::read_steps;
 
