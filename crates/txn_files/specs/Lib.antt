@@ -7,3 +7,4 @@ pub mod Steps
 pub mod StepFile
 pub mod Entries
 pub mod HistoryFile
+pub mod HistoryText

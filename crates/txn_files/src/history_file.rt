@@ -1,4 +1,5 @@
 ghost use Rattle.std.specs.Prelude.{◌≡◌, map};
+ghost use Rattle.std.specs.List.{list_all};
 ghost use Rattle.serde_json.specs.View.{view};
 ghost use Rattle.txn_files.specs.Faults.{Gives};
 ghost use Rattle.txn_files.specs.Entries.{busy_of, entry_named, entry_of};
@@ -108,6 +109,13 @@ fn is_in_range(entry: &Entry) -> bool
     }
 }
 
+/// Whether the callers of all entries are in range.
+fn are_in_range(entries: &[Entry]) -> bool
+    ensures { result ≡ list_all is_in_range entries.now }
+{
+    entries.iter().all(|entry| is_in_range(entry))
+}
+
 /// Whether the numbers of a history are in range.
 fn is_history(stripes: u64, entries: &[Entry]) -> bool
     ensures { result ≡ is_history stripes entries.now }
@@ -115,7 +123,7 @@ fn is_history(stripes: u64, entries: &[Entry]) -> bool
     1 <= stripes
         && stripes <= MAX_STRIPES
         && entries.len() <= MAX_ENTRIES
-        && entries.iter().all(|entry| is_in_range(entry))
+        && are_in_range(entries)
 }
 
 #[tactic(auto, unfolding(crate::specs::HistoryFile::entries_of))]
