@@ -6,7 +6,7 @@ use Rattle.txn_trace.specs.declared.entry.Entry.{Entry}
 use Rattle.txn_trace.specs.declared.entry.Entry.TheVariants.{Began, Asked, Did, Saved, Leave, Undone, Returned, Committed, Busy, Aborted}
 
 -- the byte of a comma
-abbrev comma : ℕ
+abbrev pub comma : ℕ
 comma = 44
 
 -- an array of elements, of which each is a text already

@@ -120,10 +120,7 @@ fn are_in_range(entries: &[Entry]) -> bool
 fn is_history(stripes: u64, entries: &[Entry]) -> bool
     ensures { result ≡ is_history stripes entries.now }
 {
-    1 <= stripes
-        && stripes <= MAX_STRIPES
-        && entries.len() <= MAX_ENTRIES
-        && are_in_range(entries)
+    1 <= stripes && stripes <= MAX_STRIPES && entries.len() <= MAX_ENTRIES && are_in_range(entries)
 }
 
 #[tactic(auto, unfolding(crate::specs::HistoryFile::entries_of))]

@@ -28,4 +28,6 @@ pub use step_file::read_steps;
 pub use text::history_text;
 
 #[cfg(test)]
+mod history_tests;
+#[cfg(test)]
 mod tests;

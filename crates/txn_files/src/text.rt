@@ -1,6 +1,6 @@
 ghost use Rattle.std.specs.Prelude.{◌≡◌, ◌∷◌, ◌++◌, map, OnOk, IfOk, string_bytes};
 ghost use Rattle.std.specs.List.{flat_map, join_with_byte};
-ghost use Rattle.txn_files.specs.HistoryText.{entry_text, text_of_history};
+ghost use Rattle.txn_files.specs.HistoryText.{comma, entry_text, text_of_history};
 
 use std::alloc::{AllocError, Global};
 use txn_trace::{Entry, Op};
@@ -30,7 +30,7 @@ fn put_entry(text: &mut String, entry: &Entry) -> Result<(), AllocError>
 
 /// Each entry after a comma.
 fn put_further_entries(text: &mut String, entries: &[Entry]) -> Result<(), AllocError>
-    ensures { OnOk result (string_bytes text.new ≡ string_bytes text.old ++ flat_map (λ e. 44 ∷ entry_text e) entries.now) }
+    ensures { OnOk result (string_bytes text.new ≡ string_bytes text.old ++ flat_map (λ e. comma ∷ entry_text e) entries.now) }
 {
     for entry in entries {
         text.push_str(",")?;
@@ -40,9 +40,8 @@ fn put_further_entries(text: &mut String, entries: &[Entry]) -> Result<(), Alloc
 }
 
 /// The entries with a comma between each two.
-#[tactic(auto, using(crate::proofs::Joined::join_with_byte_cons))]
 fn put_entries(text: &mut String, entries: &[Entry]) -> Result<(), AllocError>
-    ensures { OnOk result (string_bytes text.new ≡ string_bytes text.old ++ join_with_byte 44 (map entry_text entries.now)) }
+    ensures { OnOk result (string_bytes text.new ≡ string_bytes text.old ++ join_with_byte comma (map entry_text entries.now)) }
 {
     let Some((first, rest)) = entries.split_first() else {
         return Ok(());
