@@ -8,3 +8,6 @@ pub mod StepFile
 pub mod Entries
 pub mod HistoryFile
 pub mod HistoryText
+pub mod Work
+pub mod Actions
+pub mod ScriptFile

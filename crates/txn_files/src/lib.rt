@@ -18,12 +18,18 @@ mod json;
 mod operation;
 mod part;
 mod piece;
+mod script;
+mod script_file;
+mod scripts;
 mod step_file;
 mod text;
 
 pub use file_fault::FileFault;
 pub use history_file::read_history;
 pub use part::Part;
+pub use script::Script;
+pub use script_file::read_scripts;
+pub use scripts::Scripts;
 pub use step_file::read_steps;
 pub use text::history_text;
 

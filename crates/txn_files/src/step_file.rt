@@ -69,7 +69,8 @@ impl Piece for Step {
     }
 }
 
-fn limits_in(callers: u64, stripes: u64, buckets: u64) -> Result<Limits, FileFault>
+/// The limits of these numbers.
+pub fn limits_in(callers: u64, stripes: u64, buckets: u64) -> Result<Limits, FileFault>
     ensures { Gives (λ limits. limits) result (sizes_at callers stripes buckets) }
 {
     match Limits::new(callers, stripes, buckets) {
