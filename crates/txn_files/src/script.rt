@@ -21,7 +21,7 @@ impl Script {
     pub fn new(actions: Vec<Action>) -> Script
         ensures { result ≡ actions.items }
     {
-        Script { actions }
+        Self { actions }
     }
 
     /// The actions in order. Fixed cost.
@@ -35,6 +35,7 @@ impl Script {
     pub fn into_actions(self) -> Vec<Action>
         ensures { result.items ≡ self }
     {
-        self.actions
+        let Script { actions } = self;
+        actions
     }
 }
