@@ -1,5 +1,5 @@
 -- The action that an array in JSON is, and the script that an array of them is.
-use Rattle.std.specs.Prelude.{List, Option, Some, None, if◌then◌else◌, codes}
+use Rattle.std.specs.Prelude.{List, Option, Some, if◌then◌else◌, codes}
 use Rattle.std.specs.Result.{result_ok}
 use Rattle.std.specs.Str.{bytes_eq}
 use Rattle.serde_json.specs.Data.{Data}

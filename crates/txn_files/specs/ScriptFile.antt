@@ -2,7 +2,6 @@
 use Rattle.std.specs.Prelude.{ℕ, List, length, Bool, ◌==◌, ◌&&◌, nat_le, Result, Ok, Err, if◌then◌else◌, codes}
 use Rattle.std.specs.List.{list_all}
 use Rattle.serde_json.specs.Data.{Data}
-use Rattle.txn_trace.specs.Sizes.{Sizes}
 use Rattle.txn_trace.specs.declared.action.Action.{Action}
 use Rattle.txn_files.specs.declared.part.Part.TheVariants as parts
 use Rattle.txn_files.specs.declared.file_fault.FileFault.{FileFault}
