@@ -2,5 +2,12 @@ pub mod Faults
 pub mod Elements
 pub mod Json
 pub mod Pieces
+pub mod Operations
 pub mod Steps
 pub mod StepFile
+pub mod Entries
+pub mod HistoryFile
+pub mod HistoryText
+pub mod Work
+pub mod Actions
+pub mod ScriptFile

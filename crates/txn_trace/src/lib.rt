@@ -13,6 +13,7 @@
 //! but for one allocation of `answer_text`.
 #![tactic(auto)]
 
+mod action;
 mod answer;
 mod entry;
 pub mod laws;
@@ -23,6 +24,7 @@ mod step;
 #[cfg(test)]
 mod tests;
 
+pub use action::Action;
 pub use answer::{Answer, answer_text};
 pub use entry::Entry;
 pub use limits::Limits;

@@ -1,0 +1,25 @@
+-- The action that an array in JSON is, and the script that an array of them is.
+use Rattle.std.specs.Prelude.{List, Option, Some, if◌then◌else◌, codes}
+use Rattle.std.specs.Result.{result_ok}
+use Rattle.std.specs.Str.{bytes_eq}
+use Rattle.serde_json.specs.Data.{Data}
+use Rattle.txn_trace.specs.declared.action.Action.{Action}
+use Rattle.txn_trace.specs.declared.action.Action.TheVariants.{Op, Save, Back, Help, Abort}
+use Rattle.txn_files.specs.Elements.{◌>>=◌, word_at, one_of, end_of}
+use Rattle.txn_files.specs.Operations.{op_of}
+use Rattle.txn_files.specs.declared.part.Part.TheVariants as parts
+use Rattle.txn_files.specs.Pieces.{pieces_from}
+
+-- an action by its name, or an operation
+unfoldable pub action_of : List Data → Option Action
+action_of ds = do
+  name ← word_at ds
+  if bytes_eq name.0 (codes "save") then (end_of name.1 >>= λ none. Some Save)
+      else if bytes_eq name.0 (codes "back") then (one_of name.1 >>= λ n. Some (Back n))
+      else if bytes_eq name.0 (codes "help") then (one_of name.1 >>= λ k. Some (Help k))
+      else if bytes_eq name.0 (codes "abort") then (end_of name.1 >>= λ none. Some Abort)
+      else (op_of ds >>= λ op. Some (Op op))
+
+-- a script: its actions, where each element is one
+unfoldable pub script_of : List Data → Option (List Action)
+script_of ds = result_ok (pieces_from action_of parts.Script 0 ds)

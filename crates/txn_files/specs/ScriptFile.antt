@@ -1,0 +1,51 @@
+-- The script file that bytes are, or its first fault.
+use Rattle.std.specs.Prelude.{ℕ, List, length, Bool, ◌==◌, ◌&&◌, nat_le, Result, Ok, Err, if◌then◌else◌, codes}
+use Rattle.std.specs.List.{list_all}
+use Rattle.serde_json.specs.Data.{Data}
+use Rattle.txn_trace.specs.declared.action.Action.{Action}
+use Rattle.txn_files.specs.declared.part.Part.TheVariants as parts
+use Rattle.txn_files.specs.declared.file_fault.FileFault.{FileFault}
+use Rattle.txn_files.specs.declared.file_fault.FileFault.TheVariants.{Limit}
+use Rattle.txn_files.specs.Faults.{◌>>=◌}
+use Rattle.txn_files.specs.Json.{json_of, number_member, array_member}
+use Rattle.txn_files.specs.Pieces.{pieces_from}
+use Rattle.txn_files.specs.StepFile.{sizes_at}
+use Rattle.txn_files.specs.Actions.{script_of}
+use Rattle.txn_files.specs.Work.{Work}
+
+-- how many tries there may be after the first
+abbrev pub max_tries : ℕ
+max_tries = 1000
+
+-- how many scripts a file may have
+abbrev pub max_scripts : ℕ
+max_scripts = 10000
+
+-- how many actions a script may have
+abbrev pub max_actions : ℕ
+max_actions = 10000
+
+-- whether a script is no longer than it may be
+abbrev pub is_short : List Action → Bool
+is_short script = nat_le (length script) max_actions
+
+-- whether the tries and the scripts are in range
+abbrev pub are_scripts : ℕ → List (List Action) → Bool
+are_scripts tries scripts = nat_le tries max_tries && nat_le (length scripts) max_scripts && list_all is_short scripts
+
+-- the work that a value is: members in this order, then the scripts, then the ranges; the workers are the callers
+unfoldable pub work_of : Data → Result Work FileFault
+work_of d = do
+  version ← number_member (codes "version") d
+  workers ← number_member (codes "workers") d
+  stripes ← number_member (codes "stripes") d
+  buckets ← number_member (codes "buckets") d
+  tries ← number_member (codes "tries") d
+  pieces ← array_member (codes "scripts") d
+  scripts ← pieces_from script_of parts.Script 0 pieces
+  sizes ← sizes_at workers stripes buckets
+  if (version == 1) && are_scripts tries scripts then Ok (record { sizes = sizes; tries = tries; scripts = scripts }) else Err Limit
+
+-- the script file that the bytes are
+abbrev pub scripts_of : List ℕ → Result Work FileFault
+scripts_of bytes = json_of bytes >>= work_of

@@ -1,0 +1,145 @@
+ghost use Rattle.std.specs.Prelude.{◌≡◌, map};
+ghost use Rattle.std.specs.List.{list_all};
+ghost use Rattle.serde_json.specs.View.{view};
+ghost use Rattle.txn_files.specs.Faults.{Gives};
+ghost use Rattle.txn_files.specs.Actions.{action_of, script_of};
+ghost use Rattle.txn_files.specs.ScriptFile.{is_short, are_scripts, work_of, scripts_of};
+
+use crate::elements::{end_in, one_in, word_in};
+use crate::file_fault::FileFault;
+use crate::json::{array_member_in, number_member_in, value_in};
+use crate::operation::op_in;
+use crate::part::Part;
+use crate::piece::{Piece, pieces_in};
+use crate::script::Script;
+use crate::scripts::Scripts;
+use crate::step_file::limits_in;
+use serde_json::Value;
+use std::alloc::{AllocError, Global};
+use txn_trace::Action;
+
+/// How often a script may be tried again.
+const MAX_TRIES: u64 = 1000;
+
+/// How many scripts a file may have.
+const MAX_SCRIPTS: usize = 10_000;
+
+/// How many actions a script may have.
+const MAX_ACTIONS: usize = 10_000;
+
+#[tactic(auto, unfolding(crate::specs::Actions::action_of))]
+fn action_in(values: &[Value]) -> Option<Action>
+    ensures { result ≡ action_of (map view values.now) }
+{
+    let (name, rest) = word_in(values)?;
+    if name == "save" {
+        end_in(rest)?;
+        Some(Action::Save)
+    } else if name == "back" {
+        Some(Action::Back(one_in(rest)?))
+    } else if name == "help" {
+        Some(Action::Help(one_in(rest)?))
+    } else if name == "abort" {
+        end_in(rest)?;
+        Some(Action::Abort)
+    } else {
+        Some(Action::Op(op_in(values)?))
+    }
+}
+
+/// An action is a piece of a script.
+impl Piece for Action {
+    ghost use Rattle.txn_files.specs.declared.part.Part.TheVariants as parts;
+
+    ghost of = { action_of };
+
+    ghost part = { parts.Script };
+
+    fn part() -> Part {
+        Part::Script
+    }
+
+    fn read(_alloc: Global, values: &[Value]) -> Result<Option<Action>, AllocError> {
+        Ok(action_in(values))
+    }
+}
+
+impl Piece for Script {
+    ghost use Rattle.txn_files.specs.declared.part.Part.TheVariants as parts;
+
+    ghost of = { script_of };
+
+    ghost part = { parts.Script };
+
+    fn part() -> Part {
+        Part::Script
+    }
+
+    #[tactic(auto, unfolding(crate::specs::Actions::script_of))]
+    fn read(alloc: Global, values: &[Value]) -> Result<Option<Script>, AllocError> {
+        let actions: Result<Vec<Action>, FileFault> = pieces_in(alloc, values);
+        match actions {
+            Ok(actions) => Ok(Some(Script::new(actions))),
+            Err(FileFault::NoMemory) => Err(AllocError),
+            Err(_) => Ok(None),
+        }
+    }
+}
+
+/// Whether all scripts are no longer than they may be.
+fn are_short(scripts: &[Script]) -> bool
+    ensures { result ≡ list_all is_short scripts.now }
+{
+    scripts
+        .iter()
+        .all(|script| script.actions().len() <= MAX_ACTIONS)
+}
+
+/// Whether the tries and the scripts are in range.
+fn are_scripts(tries: u64, scripts: &[Script]) -> bool
+    ensures { result ≡ are_scripts tries scripts.now }
+{
+    tries <= MAX_TRIES && scripts.len() <= MAX_SCRIPTS && are_short(scripts)
+}
+
+#[tactic(auto, unfolding(crate::specs::ScriptFile::work_of))]
+fn work_in(alloc: Global, value: &Value) -> Result<Scripts, FileFault>
+    ensures { Gives (λ work. work) result (work_of (view value.now)) }
+{
+    let version = number_member_in(value, "version")?;
+    let workers = number_member_in(value, "workers")?;
+    let stripes = number_member_in(value, "stripes")?;
+    let buckets = number_member_in(value, "buckets")?;
+    let tries = number_member_in(value, "tries")?;
+    let pieces = array_member_in(value, "scripts")?;
+    let scripts: Vec<Script> = pieces_in(alloc, pieces)?;
+    let limits = limits_in(workers, stripes, buckets)?;
+    if version == 1 && are_scripts(tries, &scripts) {
+        Ok(Scripts::new(limits, tries, scripts))
+    } else {
+        Err(FileFault::Limit)
+    }
+}
+
+/// What a script file gives workers to do:
+/// `{"version":1,"workers":W,"stripes":S,"buckets":B,"tries":T,"scripts":[[..],..]}`, where each script is
+/// an array of actions, and each action an array, as `["put",1,10]` or `["save"]`.
+///
+/// The first fault in this order is the answer:
+/// `Limit` where there are more than 16,777,216 bytes; `NotJson`; `Member` where the value is no
+/// object or one of the six members, in the order above, is missing or of the wrong kind; `Piece`
+/// for the first script that is none, with its index; `Limit` where the version is not 1, `Limits::new`
+/// refuses the numbers with the workers as callers, the tries are above 1,000, there are more than
+/// 10,000 scripts, or one of them has more than 10,000 actions. `NoMemory` can come in place of any
+/// answer.
+///
+/// Other members of the object are passed over, and of a member that is given twice the last counts.
+/// A number is written without a sign, a fraction or an exponent, and is below 2^64.
+///
+/// Time and memory are proportional to the number of bytes.
+pub fn read_scripts(alloc: Global, bytes: &[u8]) -> Result<Scripts, FileFault>
+    ensures { Gives (λ work. work) result (scripts_of bytes.now) }
+{
+    let value = value_in(alloc, bytes)?;
+    work_in(alloc, &value)
+}

@@ -1,0 +1,16 @@
+use crate::op::Op;
+
+/// What a script asks of the worker that runs it, inside a transaction.
+#[derive(Clone, Copy, Debug, PartialEq, Eq)]
+pub enum Action {
+    /// Runs an operation to its reply.
+    Op(Op),
+    /// Sets a savepoint.
+    Save,
+    /// Goes back to the savepoint of this number, or to the start at 0.
+    Back(u64),
+    /// Helps the table along for this key: doubles it where it is due, and initialises the key's bucket.
+    Help(u64),
+    /// Aborts the transaction and ends the script.
+    Abort,
+}
