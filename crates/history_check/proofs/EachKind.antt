@@ -1,5 +1,5 @@
 -- Each kind of entry, where it breaks no rule after a legal history: what the history says after it.
-use Rattle.std.proofs.Common.{◌≡◌, ℕ, ◌+◌, ◌-◌, ◌<◌, ◌==◌, ◌&&◌, Bool, true, false, cond, not, List, [], ◌∷◌, ◌++◌, take, length, slice_index, refl, ap, sym, subst, ◌∙◌, Some, None, Option, is_some, arith}
+use Rattle.std.proofs.Common.{◌≡◌, ℕ, ◌+◌, ◌-◌, ◌<◌, ◌==◌, ◌&&◌, Bool, true, false, cond, not, List, [], ◌∷◌, ◌++◌, take, length, slice_index, refl, ap, sym, ◌∙◌, Some, None, Option, is_some, arith}
 use Rattle.std.specs.Prelude.{nat_eq, nat_lt}
 use Rattle.std.specs.Option.{option_eq}
 use Rattle.std.proofs.lemmas.Bool.{false≢true, and_parts, eqb-true, ltb-true}
@@ -7,7 +7,7 @@ use mathlib.Core.Logic.{◌⊎◌, inl, inr}
 use Rattle.txn_trace.specs.declared.op.Op.{Op}
 use Rattle.txn_trace.specs.declared.entry.Entry.{Entry}
 use Rattle.txn_trace.specs.declared.entry.Entry.TheVariants.{Began, Asked, Did, Saved, Leave, Undone, Returned, Committed, Busy, Aborted}
-use Rattle.txn_trace.specs.Map.{Map, key_of, reply_of, after}
+use Rattle.txn_trace.specs.Map.{key_of, reply_of, after}
 use Rattle.txn_trace.specs.History.{caller_of, is_began, is_commit}
 use Rattle.txn_trace.specs.Serial.{serial}
 use Rattle.txn_trace.specs.Now.{now, set_at}

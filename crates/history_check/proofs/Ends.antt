@@ -1,5 +1,5 @@
 -- What the checker says, from what it was fed.
-use Rattle.std.proofs.Common.{◌≡◌, ℕ, suc, zero, ◌+◌, ◌<◌, ◌≤◌, Bool, true, false, cond, List, [], ◌∷◌, ◌++◌, length, refl, ap, sym, subst, ◌∙◌, Some, None, Option, is_some, arith, append_assoc, max}
+use Rattle.std.proofs.Common.{◌≡◌, ℕ, suc, ◌+◌, ◌<◌, ◌≤◌, true, cond, List, [], ◌∷◌, ◌++◌, length, refl, ap, sym, subst, ◌∙◌, Some, None, Option, is_some, arith, append_assoc, max}
 use Rattle.std.specs.Prelude.{slice_get, ◌↔◌}
 use Rattle.std.specs.Option.{IfSome}
 use Rattle.std.specs.List.{All, fold, range_with_len, count_by}
@@ -8,12 +8,12 @@ use Rattle.std.proofs.lemmas.List.Sums.{length-filter, sum_by-cons}
 use Rattle.std.proofs.lemmas.List.Elements.{All-head, All-tail}
 use mathlib.Core.Logic.{inl, inr}
 use Rattle.txn_trace.specs.declared.entry.Entry.{Entry}
-use Rattle.txn_trace.specs.History.{caller_of, is_commit}
-use Rattle.txn_trace.specs.Shape.{seat_after, own, how_many}
+use Rattle.txn_trace.specs.History.{caller_of}
+use Rattle.txn_trace.specs.Shape.{seat_after, own}
 use Rattle.txn_trace.specs.Legal as legal
 use Rattle.txn_trace.specs.Legal.{IsLegal, broken, first_bad, runs, is_running, callers_in, running, verdict}
 use Rattle.txn_trace.proofs.Counts.{length-open_txns}
-use Rattle.txn_trace.proofs.Verdicts.{IsFirstBad, first_bad_is, first_bad-found, verdict-legal, verdict-illegal, legal_or_bad}
+use Rattle.txn_trace.proofs.Verdicts.{first_bad_is, first_bad-found, verdict-legal, verdict-illegal, legal_or_bad}
 use Rattle.history_check.specs.declared.caller.Caller.{Caller}
 use Rattle.history_check.specs.declared.state.State.{State}
 use Rattle.history_check.specs.declared.verdict.Rule.{Rule}

@@ -1,16 +1,14 @@
 -- The state after one more entry.
-use Rattle.std.proofs.Common.{get_or, vec_len, ◌≡◌, ◌≢◌, ℕ, zero, suc, ◌+◌, ◌<◌, ◌==◌, cond, List, [], ◌∷◌, ◌++◌, refl, ap, sym, subst, ◌∙◌, Some, None, Option, arith}
+use Rattle.std.proofs.Common.{get_or, vec_len, ◌≡◌, ◌≢◌, ℕ, zero, suc, ◌+◌, ◌<◌, cond, List, [], ◌∷◌, ◌++◌, ap, sym, subst, ◌∙◌, Some, None, Option, arith}
 use Rattle.std.specs.Prelude.{slice_get}
 use Rattle.std.specs.Option.{IfSome}
-use Rattle.std.specs.List.{All}
 use Rattle.std.proofs.Math.ListN.{set}
 use Rattle.std.proofs.lemmas.List.Elements.{All-push}
 use Rattle.std.proofs.lemmas.Option.{slice_get_read}
 use Rattle.txn_trace.specs.declared.entry.Entry.{Entry}
 use Rattle.txn_trace.specs.Map.{Map}
 use Rattle.txn_trace.specs.History.{caller_of, is_began, is_commit}
-use Rattle.txn_trace.specs.Shape.{Seat, seat_after, own}
-use Rattle.txn_trace.specs.Log.{log_of}
+use Rattle.txn_trace.specs.Shape.{Seat}
 use Rattle.txn_trace.specs.Now.{now}
 use Rattle.txn_trace.proofs.Pushes.{how_many-push}
 use Rattle.txn_trace.proofs.Next.{Next}

@@ -1,15 +1,13 @@
 -- The tests of an entry: its shape and its reply.
-use Rattle.std.proofs.Common.{◌≡◌, ℕ, ◌+◌, ◌<◌, Bool, true, false, cond, List, [], ◌∷◌, ◌++◌, drop, length, refl, ap, sym, subst, ◌∙◌, Some, None, Option, is_some, arith, ◌&&◌}
+use Rattle.std.proofs.Common.{◌≡◌, ℕ, ◌<◌, Bool, true, List, [], ◌∷◌, ◌++◌, drop, length, refl, ap, sym, ◌∙◌, Some, None, Option, arith}
 use Rattle.std.specs.Prelude.{slice_get}
 use Rattle.txn_trace.specs.declared.op.Op.{Op}
 use Rattle.txn_trace.specs.declared.entry.Entry.{Entry}
-use Rattle.txn_trace.specs.declared.entry.Entry.TheVariants.{Began, Asked, Did, Saved, Leave, Undone, Returned, Committed, Busy, Aborted}
-use Rattle.txn_trace.specs.History.{caller_of}
+use Rattle.txn_trace.specs.declared.entry.Entry.TheVariants.{Did, Undone}
 use Rattle.txn_trace.specs.Locks.{is_locked}
 use Rattle.txn_trace.specs.Shape as shape
 use Rattle.txn_trace.specs.Shape.{Seat, row, seat_after, own, is_numbered, is_shaped}
 use Rattle.txn_trace.specs.Legal.{IsLegal, replies_hold, broken}
-use Rattle.txn_trace.specs.Log.{log_of}
 use Rattle.txn_trace.proofs.Breaking.{is_right, replies_hold-push}
 use Rattle.txn_trace.proofs.Entries.{length-log_of}
 use Rattle.history_check.specs.declared.caller.Phase.{Phase}

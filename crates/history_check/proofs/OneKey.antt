@@ -1,9 +1,9 @@
 -- What a change of one key makes of the map.
-use Rattle.std.proofs.Common.{◌≡◌, ℕ, ◌==◌, cond, Option, sym, ap, ◌∙◌}
+use Rattle.std.proofs.Common.{◌≡◌, ℕ, ◌==◌, cond, Option, sym, ◌∙◌}
 use Rattle.std.specs.Ordering.{nat_cmp}
 use Rattle.std.specs.Cmp.{nat_cmp_total, eq_by_cmp_equiv, unsigned_tied}
 use Rattle.std.specs.BTreeMap.{BTreeMap, get as value_at, is_at}
-use Rattle.txn_trace.specs.Map.{Map, get}
+use Rattle.txn_trace.specs.Map.{Map}
 use Rattle.txn_trace.specs.Now.{set_at}
 use Rattle.txn_trace.proofs.Table.{get-set_at}
 use Rattle.history_check.specs.Values.{Has}

@@ -1,5 +1,5 @@
 -- The state before the first entry.
-use Rattle.std.proofs.Common.{◌≡◌, ℕ, suc, zero, ◌<◌, List, [], ◌∷◌, refl, ap, sym, ◌∙◌, Some, None, Option, replicate}
+use Rattle.std.proofs.Common.{◌≡◌, ℕ, suc, zero, ◌<◌, List, [], ◌∷◌, refl, ap, sym, ◌∙◌, Some, None, replicate}
 use Rattle.std.specs.Prelude.{slice_get}
 use Rattle.std.specs.Option.{IfSome}
 use Rattle.std.specs.List.{All}

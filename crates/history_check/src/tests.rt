@@ -3,6 +3,7 @@ ghost use Rattle.std.specs.List.{All};
 ghost use Rattle.txn_trace.specs.History.{caller_of};
 
 use crate::{Checker, Rule, Verdict, check};
+use std::alloc::{AllocError, Global};
 use std::process::Abort;
 use std::test::Fail;
 use txn_trace::{Entry, Op};
@@ -37,13 +38,24 @@ fn replies(last: u64) -> [Entry; 14]
     ]
 }
 
+/// The verdict, asked for once more where that is refused.
+fn judged(alloc: Global, entries: &[Entry], stripes: u64) -> Result<Verdict, AllocError>
+    requires stripes { 0 < stripes }
+    requires callers { All (λ entry. caller_of entry < 64) entries.now }
+{
+    match check(alloc, entries, stripes) {
+        Err(_) => check(alloc, entries, stripes),
+        verdict => verdict,
+    }
+}
+
 #[test]
 fn checker_replies(rt: HostRuntime) -> Result<(), Fail> {
     let alloc = rt.alloc();
     let stale = replies(99);
-    assert_eq!(rt; check(alloc, &stale, 8)?, illegal(12, Rule::Replies));
+    assert_eq!(rt; judged(alloc, &stale, 8)?, illegal(12, Rule::Replies));
     let right = replies(10);
-    assert_eq!(rt; check(alloc, &right, 8)?, legal(2, 0));
+    assert_eq!(rt; judged(alloc, &right, 8)?, legal(2, 0));
     let not_undone = [
         Entry::Began(0, 1),
         Entry::Asked(0, Op::Put(1, 10)),
@@ -55,7 +67,7 @@ fn checker_replies(rt: HostRuntime) -> Result<(), Fail> {
         Entry::Leave(1, None),
         Entry::Aborted(1),
     ];
-    assert_eq!(rt; check(alloc, &not_undone, 8)?, illegal(8, Rule::Shape));
+    assert_eq!(rt; judged(alloc, &not_undone, 8)?, illegal(8, Rule::Shape));
     Ok(())
 }
 
@@ -69,38 +81,46 @@ fn checker_locks(rt: HostRuntime) -> Result<(), Fail> {
         Entry::Began(1, 2),
         Entry::Asked(1, Op::Get(9)),
     ];
-    assert_eq!(rt; check(alloc, &asked, 8)?, illegal(4, Rule::Locks));
+    assert_eq!(rt; judged(alloc, &asked, 8)?, illegal(4, Rule::Locks));
     let busy = [Entry::Began(0, 1), Entry::Busy(0, Op::Get(9), 1)];
-    assert_eq!(rt; check(alloc, &busy, 8)?, illegal(1, Rule::Locks));
+    assert_eq!(rt; judged(alloc, &busy, 8)?, illegal(1, Rule::Locks));
     Ok(())
 }
 
 #[test]
 fn forged_histories(rt: HostRuntime) -> Result<(), Fail> {
     let alloc = rt.alloc();
-    assert_eq!(rt; check(alloc, &[], 8)?, legal(0, 0));
+    assert_eq!(rt; judged(alloc, &[], 8)?, legal(0, 0));
     let undone = [Entry::Undone(0)];
-    assert_eq!(rt; check(alloc, &undone, 8)?, illegal(0, Rule::Shape));
+    assert_eq!(rt; judged(alloc, &undone, 8)?, illegal(0, Rule::Shape));
     let second_place = [Entry::Began(0, 1), Entry::Committed(0, 2)];
-    assert_eq!(rt; check(alloc, &second_place, 8)?, illegal(1, Rule::Shape));
+    assert_eq!(rt; judged(alloc, &second_place, 8)?, illegal(1, Rule::Shape));
     let no_savepoint = [Entry::Began(0, 1), Entry::Leave(0, Some(1))];
-    assert_eq!(rt; check(alloc, &no_savepoint, 8)?, illegal(1, Rule::Shape));
+    assert_eq!(rt; judged(alloc, &no_savepoint, 8)?, illegal(1, Rule::Shape));
     let invented = [
         Entry::Began(0, 1),
         Entry::Asked(0, Op::Get(5)),
         Entry::Did(0, Some(7)),
         Entry::Leave(0, None),
     ];
-    assert_eq!(rt; check(alloc, &invented, 8)?, illegal(2, Rule::Replies));
+    assert_eq!(rt; judged(alloc, &invented, 8)?, illegal(2, Rule::Replies));
     let one_stripe = [
         Entry::Began(0, 1),
         Entry::Asked(0, Op::Get(1)),
         Entry::Began(1, 2),
         Entry::Asked(1, Op::Get(9)),
     ];
-    assert_eq!(rt; check(alloc, &one_stripe, 8)?, illegal(3, Rule::Locks));
-    assert_eq!(rt; check(alloc, &one_stripe, 16)?, legal(0, 2));
+    assert_eq!(rt; judged(alloc, &one_stripe, 8)?, illegal(3, Rule::Locks));
+    assert_eq!(rt; judged(alloc, &one_stripe, 16)?, legal(0, 2));
     Ok(())
+}
+
+/// Begins to check, once more where that is refused.
+fn started(alloc: Global) -> Result<Checker, AllocError> {
+    match Checker::new(alloc, 8) {
+        Err(_) => Checker::new(alloc, 8),
+        checker => checker,
+    }
 }
 
 /// Feeds an entry, once more where it is refused.
@@ -129,7 +149,7 @@ fn fed(checker: &mut Checker, entry: &Entry, rt: &impl Abort) {
 
 #[test]
 fn fed_entry_by_entry(rt: HostRuntime) -> Result<(), Fail> {
-    let mut checker = Checker::new(rt.alloc(), 8)?;
+    let mut checker = started(rt.alloc())?;
     for (i, entry) in replies(99).iter().enumerate() {
         fed(&mut checker, entry, &rt);
         let verdict = match i {
@@ -145,7 +165,7 @@ fn fed_entry_by_entry(rt: HostRuntime) -> Result<(), Fail> {
 
 #[test]
 fn savepoints(rt: HostRuntime) -> Result<(), Fail> {
-    let mut checker = Checker::new(rt.alloc(), 8)?;
+    let mut checker = started(rt.alloc())?;
     let entries = [
         Entry::Began(0, 1),
         Entry::Asked(0, Op::Put(1, 10)),

@@ -1,7 +1,5 @@
-use Rattle.std.proofs.Common.{◌≡◌, ◌<◌, take, length, subst, sym, ap, ◌∙◌, arith}
+use Rattle.std.proofs.Common.{take, subst, sym}
 use Rattle.std.proofs.lemmas.List.{take_more, take_all}
-use Rattle.std.proofs.lemmas.List.Elements.{All-get_or}
-use Rattle.txn_trace.specs.History.{caller_of}
 use Rattle.history_check.specs.Fed.{IsFed}
 use Rattle.history_check.proofs.Ends.{says_legal}
 use Rattle.history_check.proofs.history.check.Goals as goal

@@ -1,4 +1,4 @@
-use Rattle.std.proofs.Common.{ℕ, ◌≡◌, ◌+◌, ◌++◌, ◌∷◌, [], true, false, Bool, length, Some, None, Option, is_some, refl, sym, ap, subst, ◌∙◌, arith, length-append}
+use Rattle.std.proofs.Common.{ℕ, ◌≡◌, ◌+◌, ◌++◌, ◌∷◌, [], false, Some, None, Option, is_some, refl, sym, subst, ◌∙◌, arith, length-append}
 use Rattle.std.specs.Option.{SomeIff}
 use Rattle.history_check.specs.Fed.{FedWith}
 use Rattle.history_check.specs.States.{Judged}

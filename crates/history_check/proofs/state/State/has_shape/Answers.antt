@@ -1,8 +1,6 @@
-use Rattle.std.proofs.Common.{◌≡◌, ◌<◌, ◌&&◌, ap, sym, ◌∙◌, arith}
-use Rattle.txn_trace.specs.Shape.{seat_after, own, is_numbered, is_shaped, row}
-use Rattle.txn_trace.specs.History.{caller_of}
+use Rattle.std.proofs.Common.{◌<◌, ◌&&◌, ap, sym, ◌∙◌, arith}
+use Rattle.txn_trace.specs.Shape.{seat_after, own, is_numbered}
 use Rattle.txn_trace.proofs.Next.{is_shaped_is}
-use Rattle.std.proofs.Common.{is_some}
 use Rattle.history_check.specs.Callers.{seat_of}
 use Rattle.history_check.proofs.Growth.{sits_at}
 use Rattle.history_check.proofs.state.State.has_shape.Goals as goal

@@ -1,6 +1,4 @@
-use Rattle.std.proofs.Common.{◌≡◌, ◌++◌, ◌∷◌, [], refl, sym, ap, subst, ◌∙◌, true, None}
-use Rattle.txn_trace.specs.declared.entry.Entry.TheVariants.{Began, Did, Saved, Leave, Undone, Returned, Committed, Aborted}
-use Rattle.txn_trace.specs.Shape.{is_shaped}
+use Rattle.std.proofs.Common.{◌≡◌, ◌++◌, ◌∷◌, [], refl, sym, subst, ◌∙◌, None}
 use Rattle.txn_trace.specs.Legal.{broken}
 use Rattle.history_check.specs.States.{Tells}
 use Rattle.history_check.proofs.Judged.{fine}

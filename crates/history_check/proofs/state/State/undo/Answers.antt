@@ -1,4 +1,4 @@
-use Rattle.std.proofs.Common.{◌≡◌, ◌∷◌, drop, refl, sym, ap, ◌∙◌}
+use Rattle.std.proofs.Common.{◌≡◌, drop, refl, sym, ap, ◌∙◌}
 use Rattle.txn_trace.specs.declared.entry.Entry.TheVariants.{Undone}
 use Rattle.txn_trace.specs.Now.{now}
 use Rattle.history_check.specs.Callers.{seat_of, log_in}
