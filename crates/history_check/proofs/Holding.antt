@@ -1,0 +1,86 @@
+-- The stripes: which lock entries may stand, and who holds each stripe after them.
+use Rattle.std.proofs.Common.{◌≡◌, ℕ, ◌<◌, ◌%◌, ◌==◌, ◌&&◌, Bool, true, false, not, cond, List, refl, ap, sym, subst, ◌∙◌, Some, None, Option, arith}
+use Rattle.std.specs.Prelude.{nat_eq}
+use Rattle.std.specs.Option.{option_eq}
+use Rattle.std.proofs.lemmas.Bool.{cases_eq, eq-eqb, ne_eqb}
+use mathlib.Core.Logic.{inl, inr}
+use Rattle.txn_trace.specs.declared.op.Op.{Op}
+use Rattle.txn_trace.specs.declared.entry.Entry.{Entry}
+use Rattle.txn_trace.specs.declared.entry.Entry.TheVariants.{Asked, Busy}
+use Rattle.txn_trace.specs.Map.{key_of}
+use Rattle.txn_trace.specs.Locks.{stripe_of, holder_of, is_locked}
+use Rattle.txn_trace.proofs.Holders.{is_locked-asked, is_locked-busy}
+use Rattle.key_locks.specs.Locks as locks
+use Rattle.history_check.specs.declared.state.State.{State}
+use Rattle.history_check.specs.States.{Tells}
+
+same_test : (a b : ℕ) → (a == b) ≡ (b == a)
+same_test a b = elim (cases_eq a b) [
+  | inl is ↦ eq-eqb a b is ∙ sym (eq-eqb b a (sym is))
+  | inr other ↦ ne_eqb a b other ∙ sym (ne_eqb b a (λ is. other (sym is)))
+]
+
+and_false : (b : Bool) → (b && false) ≡ false
+and_false true = refl
+and_false false = refl
+
+not_both : (x c : ℕ) → (not (x == c) && nat_eq c x) ≡ false
+not_both x c = elim (cases_eq x c) [
+  | inl is ↦ ap (λ b. not b && nat_eq c x) (eq-eqb x c is)
+  | inr other ↦ ap (λ b. not (x == c) && b) (ne_eqb c x (λ is. other (sym is))) ∙ and_false (not (x == c))
+]
+
+named : (x c holder : ℕ) → (holder ≡ c → ⊥) → (not (x == c) && nat_eq holder x) ≡ (holder == x)
+named x c holder by_another = elim (cases_eq x c) [
+  | inl is ↦ ap (λ b. not b && nat_eq holder x) (eq-eqb x c is) ∙ sym (ne_eqb holder x (λ same. by_another (same ∙ is)))
+  | inr other ↦ ap (λ b. not b && nat_eq holder x) (ne_eqb x c other)
+]
+
+without : (c : ℕ) (o : Option ℕ) → locks.without_caller c o ≡ cond {A = Option ℕ} (option_eq nat_eq o (Some c)) None o
+without c None = refl
+without c (Some d) = refl
+
+module _ (stripes : ℕ) (h : List Entry) (state : State) (t : Tells stripes h state) (c : ℕ) where
+  -- A caller's stripes are free when it gives them back.
+  pub released : (new : List (Option ℕ)) → locks.Releases c state.locks new → (s : ℕ) → s < stripes → locks.holder_of new s ≡ cond (option_eq nat_eq (holder_of stripes s h) (Some c)) None (holder_of stripes s h)
+  released new is s below = is.each s ∙ ap (locks.without_caller c) (t.holders s below) ∙ without c (holder_of stripes s h)
+
+  module _ (op : Op) (key : ℕ) (key_is : key ≡ key_of op) where
+    stripe_is : key % state.stripes ≡ stripe_of stripes (key_of op)
+    stripe_is = λ i. key_is i % t.stripes_are i
+
+    below_stripes : stripe_of stripes (key_of op) < stripes
+    below_stripes = let some : 0 < state.stripes = state.some_stripes in let same = t.stripes_are in omega arith
+
+    held : locks.holder_of state.locks (key % state.stripes) ≡ holder_of stripes (stripe_of stripes (key_of op)) h
+    held = ap (locks.holder_of state.locks) stripe_is ∙ t.holders (stripe_of stripes (key_of op)) below_stripes
+
+    abbrev asked_test : Option ℕ → Bool
+    asked_test o = elim o as (λ o. Bool) [ None ↦ true | Some d ↦ d == c ]
+
+    abbrev busy_test : ℕ → Option ℕ → Bool
+    busy_test x o = not (x == c) && option_eq nat_eq o (Some x)
+
+    -- An Asked may stand where the stripe is granted, and not where another caller holds it.
+    pub asked-granted : (new : List (Option ℕ)) → locks.Grants c (key % state.stripes) state.locks new → is_locked stripes h (Asked c op) ≡ true
+    asked-granted new is = is_locked-asked stripes h c op t.legal.shape t.legal.locks ∙ elim is.open_to_caller [
+      | inl none ↦ ap asked_test (sym held ∙ none)
+      | inr mine ↦ ap asked_test (sym held ∙ mine) ∙ eq-eqb c c refl
+    ]
+
+    pub asked-refused : (holder : ℕ) (new : List (Option ℕ)) → locks.Refuses c (key % state.stripes) holder state.locks new → is_locked stripes h (Asked c op) ≡ false
+    asked-refused holder new is = is_locked-asked stripes h c op t.legal.shape t.legal.locks ∙ ap asked_test (sym held ∙ is.held) ∙ ne_eqb holder c is.by_another
+
+    -- A Busy may stand where another caller holds the stripe, and is the one that it names.
+    pub busy-granted : (x : ℕ) (new : List (Option ℕ)) → locks.Grants c (key % state.stripes) state.locks new → is_locked stripes h (Busy c op x) ≡ false
+    busy-granted x new is = is_locked-busy stripes h c op x t.legal.shape t.legal.locks ∙ elim is.open_to_caller [
+      | inl none ↦ ap (busy_test x) (sym held ∙ none) ∙ and_false (not (x == c))
+      | inr mine ↦ ap (busy_test x) (sym held ∙ mine) ∙ not_both x c
+    ]
+
+    pub busy-refused : (x holder : ℕ) (new : List (Option ℕ)) → locks.Refuses c (key % state.stripes) holder state.locks new → is_locked stripes h (Busy c op x) ≡ (holder == x)
+    busy-refused x holder new is = is_locked-busy stripes h c op x t.legal.shape t.legal.locks ∙ ap (busy_test x) (sym held ∙ is.held) ∙ named x c holder is.by_another
+
+    -- A stripe that is granted is the caller's.
+    pub granted : (new : List (Option ℕ)) → locks.Grants c (key % state.stripes) state.locks new → (s : ℕ) → s < stripes → locks.holder_of new s ≡ cond (stripe_of stripes (key_of op) == s) (Some c) (holder_of stripes s h)
+    granted new is s below = is.each s ∙ (λ i. cond ((ap (λ r. s == r) stripe_is ∙ same_test s (stripe_of stripes (key_of op))) i) (Some c) (t.holders s below i))

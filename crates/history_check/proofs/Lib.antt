@@ -1,0 +1,7 @@
+pub mod OneKey
+pub mod EachKind
+pub mod Growth
+pub mod Holding
+pub mod Starts
+pub mod Ends
+pub mod Judged

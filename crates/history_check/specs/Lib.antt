@@ -1,0 +1,5 @@
+pub mod Verdicts
+pub mod Callers
+pub mod Values
+pub mod States
+pub mod Fed

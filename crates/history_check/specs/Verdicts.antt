@@ -1,0 +1,23 @@
+-- What the verdict of the checker means.
+use Rattle.std.specs.Prelude.{ℕ}
+use Rattle.txn_trace.specs.Legal as legal
+use Rattle.history_check.specs.declared.verdict.Rule.{Rule}
+use Rattle.history_check.specs.declared.verdict.Rule.TheVariants.{Replies, Locks, Shape}
+use Rattle.history_check.specs.declared.verdict.Verdict.{Verdict}
+use Rattle.history_check.specs.declared.verdict.Verdict.TheVariants.{Legal, Illegal}
+
+-- The number of a rule.
+abbrev pub number_of : Rule → ℕ
+number_of Replies = 1
+number_of Locks = 2
+number_of Shape = 3
+
+-- The verdict of the definitions that a verdict of the checker is.
+abbrev pub meaning_of : Verdict → legal.Verdict
+meaning_of (Legal commits running) = legal.Legal commits running
+meaning_of (Illegal entry rule) = legal.Illegal entry (number_of rule)
+
+-- The verdict is that the history is legal.
+abbrev pub SaysLegal : Verdict → Type 0
+SaysLegal (Legal commits running) = Unit {0}
+SaysLegal (Illegal entry rule) = ⊥

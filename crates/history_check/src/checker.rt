@@ -1,0 +1,84 @@
+ghost use Rattle.std.specs.Prelude.{◌≡◌, ℕ, ◌<◌, ◌++◌, [], ◌∷◌, List, IfOk, OnOk, OnErr};
+ghost use Rattle.txn_trace.specs.History.{caller_of};
+ghost use Rattle.txn_trace.specs.Legal.{verdict};
+ghost use Rattle.history_check.specs.Verdicts.{meaning_of};
+
+use crate::state::State;
+use crate::verdict::{Rule, Verdict};
+use std::alloc::{AllocError, Global};
+use txn_trace::Entry;
+
+/// A checker that is fed the entries of a history one after another, and keeps none of them.
+///
+/// A contract sees which entries it was fed, of a map with how many stripes: `IsFed stripes h checker`.
+#[derive(Drop)]
+pub struct Checker {
+    state: State,
+    /// How many entries came before the first bad one, so far.
+    fed: u64,
+    /// The first bad entry and the rule that it breaks.
+    bad: Option<(u64, Rule)>,
+}
+
+impl Checker {
+    ghost use Rattle.history_check.specs.Fed.{IsFed};
+
+    /// A checker of the history of a map with so many stripes, before the first entry.
+    ///
+    /// It takes memory for 64 callers and for the stripes.
+    ///
+    /// # Errors
+    ///
+    /// `AllocError` where memory is refused.
+    pub fn new(alloc: Global, stripes: u64) -> Result<Checker, AllocError>
+        requires { 0 < stripes }
+        ensures { IfOk result (IsFed stripes []) }
+    {
+        let state = State::new(alloc, stripes)?;
+        Ok(Checker {
+            state,
+            fed: 0,
+            bad: None,
+        })
+    }
+
+    /// Feeds it the next entry, whose caller is below 64.
+    ///
+    /// Costs the logarithm of the number of keys. A Committed or an Aborted also takes a step for each stripe that it gives
+    /// back and each change that stood. After the first bad entry all further ones cost nothing and change nothing.
+    ///
+    /// # Errors
+    ///
+    /// `AllocError` where memory is refused for a change or a savepoint, or where 2^64 - 1 entries were fed. Then it was
+    /// fed no entry more, and the same one may be fed again.
+    pub fn feed(&mut self, entry: &Entry) -> Result<(), AllocError>
+        requires { caller_of entry.now < 64 }
+        ensures ok { OnOk result ((stripes : ℕ) (h : List Entry) → IsFed stripes h self.old → IsFed stripes (h ++ entry.now ∷ []) self.new) }
+        ensures err { OnErr result ((stripes : ℕ) (h : List Entry) → IsFed stripes h self.old → IsFed stripes h self.new) }
+    {
+        if self.bad.is_some() {
+            return Ok(());
+        }
+        let next = self.fed.checked_add(1).ok_or(AllocError)?;
+        match self.state.take_in(entry)? {
+            Some(rule) => self.bad = Some((self.fed, rule)),
+            None => self.fed = next,
+        }
+        Ok(())
+    }
+
+    /// What it says of the entries so far: the verdict on the history that they are.
+    ///
+    /// A fixed number of steps, one for each of 64 callers.
+    pub fn verdict(&self) -> Verdict
+        ensures { (stripes : ℕ) (h : List Entry) → IsFed stripes h self.now → meaning_of result ≡ verdict stripes h }
+    {
+        match self.bad {
+            Some((entry, rule)) => Verdict::Illegal { entry, rule },
+            None => Verdict::Legal {
+                commits: self.state.committed,
+                running: self.state.running(),
+            },
+        }
+    }
+}

@@ -1,0 +1,34 @@
+ghost use Rattle.std.specs.Prelude.{◌≡◌, ◌<◌, ◌↔◌, IfOk};
+ghost use Rattle.std.specs.List.{All};
+ghost use Rattle.txn_trace.specs.History.{caller_of};
+ghost use Rattle.txn_trace.specs.Legal.{IsLegal, verdict};
+ghost use Rattle.history_check.specs.Verdicts.{meaning_of, SaysLegal};
+
+use crate::checker::Checker;
+use crate::verdict::Verdict;
+use std::alloc::{AllocError, Global};
+use txn_trace::Entry;
+
+/// Judges a whole history of a map with so many stripes, whose callers are below 64.
+///
+/// The verdict is `Legal`, with the number of commits and of callers that are in a transaction at the end, exactly where
+/// the history is legal. Otherwise it is `Illegal`, with the index of the first entry that breaks a rule, from 0, and the
+/// rule: shape, or of replies and locks the first that it breaks.
+///
+/// Each entry costs the logarithm of the number of keys. No map is copied.
+///
+/// # Errors
+///
+/// `AllocError` where memory is refused.
+pub fn check(alloc: Global, entries: &[Entry], stripes: u64) -> Result<Verdict, AllocError>
+    requires stripes { 0 < stripes }
+    requires callers { All (λ entry. caller_of entry < 64) entries.now }
+    ensures verdict { IfOk result (λ outcome. meaning_of outcome ≡ verdict stripes entries.now) }
+    ensures legal { IfOk result (λ outcome. SaysLegal outcome ↔ IsLegal stripes entries.now) }
+{
+    let mut checker = Checker::new(alloc, stripes)?;
+    for entry in entries {
+        checker.feed(entry)?;
+    }
+    Ok(checker.verdict())
+}

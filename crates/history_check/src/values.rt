@@ -1,0 +1,53 @@
+ghost use Rattle.std.specs.Prelude.{◌≡◌, OnOk, OnErr};
+ghost use Rattle.txn_trace.specs.Map.{Map, after, get, key_of};
+ghost use Rattle.txn_trace.specs.Now.{set_at};
+ghost use Rattle.history_check.specs.Values.{Has};
+
+use std::alloc::AllocError;
+use std::collections::BTreeMap;
+use txn_trace::Op;
+
+/// The key of an operation.
+pub(crate) fn key_in(op: Op) -> u64
+    ensures { result ≡ key_of op }
+{
+    let (Op::Put(key, _) | Op::Take(key) | Op::Get(key)) = op;
+    key
+}
+
+/// Does an operation. Costs the logarithm of the number of keys.
+pub(crate) fn operate(values: &mut BTreeMap<u64, u64>, op: Op) -> Result<(), AllocError>
+    ensures ok { OnOk result ((m : Map) → Has m values.old → Has (after m op) values.new) }
+    ensures err { OnErr result ((m : Map) → Has m values.old → Has m values.new) }
+{
+    match op {
+        Op::Put(key, value) => {
+            values.insert(key, value)?;
+        }
+        Op::Take(key) => {
+            values.remove(&key);
+        }
+        Op::Get(_) => {}
+    }
+    Ok(())
+}
+
+/// Puts back what a key had. Costs the logarithm of the number of keys.
+pub(crate) fn restore(
+    values: &mut BTreeMap<u64, u64>,
+    key: u64,
+    before: Option<u64>,
+) -> Result<(), AllocError>
+    ensures ok { OnOk result ((m : Map) → Has m values.old → Has (set_at m key before) values.new) }
+    ensures err { OnErr result ((m : Map) → Has m values.old → Has m values.new) }
+{
+    match before {
+        Some(value) => {
+            values.insert(key, value)?;
+        }
+        None => {
+            values.remove(&key);
+        }
+    }
+    Ok(())
+}

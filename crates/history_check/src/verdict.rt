@@ -1,0 +1,41 @@
+ghost use Rattle.std.specs.Prelude.{◌≡◌};
+ghost use Rattle.history_check.specs.Verdicts.{number_of};
+
+/// A rule that an entry of a history may break, with its number.
+#[derive(Clone, Copy, Debug, PartialEq, Eq)]
+pub enum Rule {
+    /// Each open transaction has the replies of running alone on the map of the committed ones, those taken back too.
+    Replies = 1,
+    /// A stripe of keys belongs to one open transaction at a time: an Asked finds no other holder, and a Busy names one.
+    Locks = 2,
+    /// Each caller's entries follow the state table, and transactions and commits are numbered from 1.
+    Shape = 3,
+}
+
+impl Rule {
+    /// The rule's number, from 1 to 3. Constant time.
+    pub fn number(self) -> u8
+        ensures { result ≡ number_of self }
+    {
+        self as u8
+    }
+}
+
+/// What a checker says of a history.
+#[derive(Clone, Copy, Debug, PartialEq, Eq)]
+pub enum Verdict {
+    /// No entry breaks a rule.
+    Legal {
+        /// How many transactions are committed.
+        commits: u64,
+        /// How many callers are in a transaction at the end.
+        running: u64,
+    },
+    /// An entry breaks a rule.
+    Illegal {
+        /// The index of the first entry that does, from 0.
+        entry: u64,
+        /// The rule that it breaks: shape, or else the least.
+        rule: Rule,
+    },
+}
