@@ -1,3 +1,4 @@
 pub mod ItemLists
+pub mod Joined
 pub mod Loop
 pub mod Read

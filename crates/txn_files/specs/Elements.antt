@@ -1,7 +1,7 @@
 -- The elements of an array in JSON, taken one after the other.
-use Rattle.std.specs.Prelude.{ℕ, List, [], ◌∷◌, length, ◌==◌, Option, Some, None, option_map, option_and_then, if◌then◌else◌}
+use Rattle.std.specs.Prelude.{ℕ, List, [], ◌∷◌, length, ◌==◌, Option, Some, None, option_map, option_and_then, is_some, ⊤, if◌then◌else◌}
 use Rattle.serde_json.specs.Data.{Data, Items, no_items, item}
-use Rattle.serde_json.specs.Find.{as_number, as_str, as_array, as_u64}
+use Rattle.serde_json.specs.Find.{as_null, as_number, as_str, as_array, as_u64}
 
 -- go on with what is there
 infixl 10 ◌>>=◌
@@ -38,9 +38,15 @@ one_of ds = do
   n ← number_at ds
   if length n.1 == 0 then Some n.0 else None
 
--- two numbers and nothing else
-unfoldable pub two_of : List Data → Option (ℕ × ℕ)
-two_of ds = do
-  m ← number_at ds
-  n ← one_of m.1
-  Some (m.0, n)
+-- nothing else
+unfoldable pub end_of : List Data → Option ⊤
+end_of ds = if length ds == 0 then Some tt else None
+
+-- null as none, and a number as itself
+abbrev pub optional : Data → Option (Option ℕ)
+optional d = if is_some (as_null d) then Some None else option_map (λ n. Some n) (number_of d)
+
+-- null or one number, and nothing else
+unfoldable pub optional_of : List Data → Option (Option ℕ)
+optional_of [] = None
+optional_of (d ∷ ds) = if length ds == 0 then optional d else None

@@ -2,5 +2,9 @@ pub mod Faults
 pub mod Elements
 pub mod Json
 pub mod Pieces
+pub mod Operations
 pub mod Steps
 pub mod StepFile
+pub mod Entries
+pub mod HistoryFile
+pub mod HistoryText

@@ -2,20 +2,10 @@
 use Rattle.std.specs.Prelude.{List, Option, Some, None, if◌then◌else◌, codes}
 use Rattle.std.specs.Str.{bytes_eq}
 use Rattle.serde_json.specs.Data.{Data}
-use Rattle.txn_trace.specs.declared.op.Op.{Op}
-use Rattle.txn_trace.specs.declared.op.Op.TheVariants.{Put, Take, Get}
 use Rattle.txn_trace.specs.declared.step.Step.{Step}
 use Rattle.txn_trace.specs.declared.step.Step.TheVariants.{Begin, Ask, Seek, Act, Commit, Abort}
-use Rattle.txn_files.specs.Elements.{◌>>=◌, number_at, word_at, one_of, two_of}
-
--- an operation: "put", a key and a value; "take" or "get" and a key
-unfoldable pub op_of : List Data → Option Op
-op_of ds = do
-  name ← word_at ds
-  if bytes_eq name.0 (codes "put") then (two_of name.1 >>= λ kv. Some (Put kv.0 kv.1))
-      else if bytes_eq name.0 (codes "take") then (one_of name.1 >>= λ k. Some (Take k))
-      else if bytes_eq name.0 (codes "get") then (one_of name.1 >>= λ k. Some (Get k))
-      else None
+use Rattle.txn_files.specs.Elements.{◌>>=◌, number_at, word_at, one_of}
+use Rattle.txn_files.specs.Operations.{op_of}
 
 -- a caller and the operation that it asks for
 unfoldable pub ask_of : List Data → Option Step

@@ -2,7 +2,7 @@
 
 ghost use Rattle.std.specs.Prelude.{◌≡◌, map, option_map};
 ghost use Rattle.serde_json.specs.View.{view};
-ghost use Rattle.txn_files.specs.Elements.{elements_of, number_at, word_at, one_of, two_of};
+ghost use Rattle.txn_files.specs.Elements.{elements_of, number_at, word_at, one_of, end_of, optional_of};
 
 use serde_json::Value;
 
@@ -44,12 +44,26 @@ pub fn one_in(values: &[Value]) -> Option<u64>
     if rest.is_empty() { Some(number) } else { None }
 }
 
-/// The two elements, which are numbers.
-#[tactic(auto, unfolding(crate::specs::Elements::two_of))]
-pub fn two_in(values: &[Value]) -> Option<(u64, u64)>
-    ensures { result ≡ two_of (map view values.now) }
+/// No element.
+#[tactic(auto, unfolding(crate::specs::Elements::end_of))]
+pub fn end_in(values: &[Value]) -> Option<()>
+    ensures { result ≡ end_of (map view values.now) }
 {
-    let (first, rest) = number_in(values)?;
-    let second = one_in(rest)?;
-    Some((first, second))
+    if values.is_empty() { Some(()) } else { None }
+}
+
+/// The one element, which is `null` or a number.
+#[tactic(auto, unfolding(crate::specs::Elements::optional_of))]
+pub fn optional_in(values: &[Value]) -> Option<Option<u64>>
+    ensures { result ≡ optional_of (map view values.now) }
+{
+    let (first, rest) = values.split_first()?;
+    if !rest.is_empty() {
+        return None;
+    }
+    if first.is_null() {
+        return Some(None);
+    }
+    let number = first.as_u64()?;
+    Some(Some(number))
 }

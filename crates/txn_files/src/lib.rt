@@ -13,14 +13,21 @@
 
 mod elements;
 mod file_fault;
+mod history_file;
 mod json;
+mod operation;
 mod part;
 mod piece;
 mod step_file;
+mod text;
 
 pub use file_fault::FileFault;
+pub use history_file::read_history;
 pub use part::Part;
 pub use step_file::read_steps;
+pub use text::history_text;
 
+#[cfg(test)]
+mod history_tests;
 #[cfg(test)]
 mod tests;

@@ -1,39 +1,21 @@
 ghost use Rattle.std.specs.Prelude.{◌≡◌, map};
 ghost use Rattle.serde_json.specs.View.{view};
 ghost use Rattle.txn_files.specs.Faults.{Gives};
-ghost use Rattle.txn_files.specs.Steps.{op_of, ask_of, step_of};
+ghost use Rattle.txn_files.specs.Steps.{ask_of, step_of};
 ghost use Rattle.txn_files.specs.StepFile.{sizes_at, file_of, steps_of};
 
-use crate::elements::{number_in, one_in, two_in, word_in};
+use crate::elements::{number_in, one_in, word_in};
 use crate::file_fault::FileFault;
 use crate::json::{array_member_in, number_member_in, value_in};
+use crate::operation::op_in;
 use crate::part::Part;
 use crate::piece::{Piece, pieces_in};
 use serde_json::Value;
 use std::alloc::{AllocError, Global};
-use txn_trace::{Limits, Op, Step};
+use txn_trace::{Limits, Step};
 
 /// How many steps a file may have.
 const MAX_STEPS: usize = 1_000_000;
-
-#[tactic(auto, unfolding(crate::specs::Steps::op_of))]
-fn op_in(values: &[Value]) -> Option<Op>
-    ensures { result ≡ op_of (map view values.now) }
-{
-    let (name, rest) = word_in(values)?;
-    if name == "put" {
-        let (key, value) = two_in(rest)?;
-        Some(Op::Put(key, value))
-    } else if name == "take" {
-        let key = one_in(rest)?;
-        Some(Op::Take(key))
-    } else if name == "get" {
-        let key = one_in(rest)?;
-        Some(Op::Get(key))
-    } else {
-        None
-    }
-}
 
 #[tactic(auto, unfolding(crate::specs::Steps::ask_of))]
 fn ask_in(values: &[Value]) -> Option<Step>

@@ -1,0 +1,37 @@
+-- The entry that an array in JSON is: its name, its caller and what is entered.
+use Rattle.std.specs.Prelude.{ℕ, List, Option, Some, None, if◌then◌else◌, codes}
+use Rattle.std.specs.Str.{bytes_eq}
+use Rattle.serde_json.specs.Data.{Data}
+use Rattle.txn_trace.specs.declared.entry.Entry.{Entry}
+use Rattle.txn_trace.specs.declared.entry.Entry.TheVariants.{Began, Asked, Did, Saved, Leave, Undone, Returned, Committed, Busy, Aborted}
+use Rattle.txn_files.specs.Elements.{◌>>=◌, number_at, word_at, one_of, end_of, optional_of}
+use Rattle.txn_files.specs.Operations.{op_at, op_of}
+
+-- a caller's operation that found its stripe held, and the holder
+unfoldable pub busy_of : ℕ → List Data → Option Entry
+busy_of c ds = do
+  op ← op_at ds
+  x ← one_of op.1
+  Some (Busy c op.0 x)
+
+-- the entry of this name and caller that has these further elements
+unfoldable pub entry_named : List ℕ → ℕ → List Data → Option Entry
+entry_named name c ds =
+    if bytes_eq name (codes "began") then (one_of ds >>= λ t. Some (Began c t))
+    else if bytes_eq name (codes "asked") then (op_of ds >>= λ op. Some (Asked c op))
+    else if bytes_eq name (codes "did") then (optional_of ds >>= λ r. Some (Did c r))
+    else if bytes_eq name (codes "saved") then (end_of ds >>= λ none. Some (Saved c))
+    else if bytes_eq name (codes "leave") then (optional_of ds >>= λ n. Some (Leave c n))
+    else if bytes_eq name (codes "undone") then (end_of ds >>= λ none. Some (Undone c))
+    else if bytes_eq name (codes "returned") then (one_of ds >>= λ n. Some (Returned c n))
+    else if bytes_eq name (codes "committed") then (one_of ds >>= λ p. Some (Committed c p))
+    else if bytes_eq name (codes "busy") then busy_of c ds
+    else if bytes_eq name (codes "aborted") then (end_of ds >>= λ none. Some (Aborted c))
+    else None
+
+-- an entry by its name and its caller
+unfoldable pub entry_of : List Data → Option Entry
+entry_of ds = do
+  name ← word_at ds
+  c ← number_at name.1
+  entry_named name.0 c.0 c.1

@@ -1,0 +1,161 @@
+ghost use Rattle.std.specs.Prelude.{◌≡◌, map};
+ghost use Rattle.std.specs.List.{list_all};
+ghost use Rattle.serde_json.specs.View.{view};
+ghost use Rattle.txn_files.specs.Faults.{Gives};
+ghost use Rattle.txn_files.specs.Entries.{busy_of, entry_named, entry_of};
+ghost use Rattle.txn_files.specs.HistoryFile.{is_in_range, is_history, entries_of, history_of};
+
+use crate::elements::{end_in, number_in, one_in, optional_in, word_in};
+use crate::file_fault::FileFault;
+use crate::json::{array_member_in, number_member_in, value_in};
+use crate::operation::{leading_op_in, op_in};
+use crate::part::Part;
+use crate::piece::{Piece, pieces_in};
+use serde_json::Value;
+use std::alloc::{AllocError, Global};
+use txn_trace::Entry;
+
+/// The largest number that a caller may have.
+const MAX_CALLER: u64 = 63;
+
+/// How many stripes a history may have.
+const MAX_STRIPES: u64 = 4096;
+
+/// How many entries a file may have.
+const MAX_ENTRIES: usize = 1_000_000;
+
+#[tactic(auto, unfolding(crate::specs::Entries::busy_of))]
+fn busy_in(caller: u64, values: &[Value]) -> Option<Entry>
+    ensures { result ≡ busy_of caller (map view values.now) }
+{
+    let (op, rest) = leading_op_in(values)?;
+    let holder = one_in(rest)?;
+    Some(Entry::Busy(caller, op, holder))
+}
+
+/// The entry of this name and caller that has these further elements.
+#[tactic(auto, unfolding(crate::specs::Entries::entry_named))]
+fn entry_named_in(name: &str, caller: u64, values: &[Value]) -> Option<Entry>
+    ensures { result ≡ entry_named name.now caller (map view values.now) }
+{
+    if name == "began" {
+        Some(Entry::Began(caller, one_in(values)?))
+    } else if name == "asked" {
+        Some(Entry::Asked(caller, op_in(values)?))
+    } else if name == "did" {
+        Some(Entry::Did(caller, optional_in(values)?))
+    } else if name == "saved" {
+        end_in(values)?;
+        Some(Entry::Saved(caller))
+    } else if name == "leave" {
+        Some(Entry::Leave(caller, optional_in(values)?))
+    } else if name == "undone" {
+        end_in(values)?;
+        Some(Entry::Undone(caller))
+    } else if name == "returned" {
+        Some(Entry::Returned(caller, one_in(values)?))
+    } else if name == "committed" {
+        Some(Entry::Committed(caller, one_in(values)?))
+    } else if name == "busy" {
+        busy_in(caller, values)
+    } else if name == "aborted" {
+        end_in(values)?;
+        Some(Entry::Aborted(caller))
+    } else {
+        None
+    }
+}
+
+#[tactic(auto, unfolding(crate::specs::Entries::entry_of))]
+fn entry_in(values: &[Value]) -> Option<Entry>
+    ensures { result ≡ entry_of (map view values.now) }
+{
+    let (name, rest) = word_in(values)?;
+    let (caller, rest) = number_in(rest)?;
+    entry_named_in(name, caller, rest)
+}
+
+impl Piece for Entry {
+    ghost use Rattle.txn_files.specs.declared.part.Part.TheVariants as parts;
+
+    ghost of = { entry_of };
+
+    ghost part = { parts.Entry };
+
+    fn part() -> Part {
+        Part::Entry
+    }
+
+    fn read(_alloc: Global, values: &[Value]) -> Result<Option<Entry>, AllocError> {
+        Ok(entry_in(values))
+    }
+}
+
+/// Whether the callers of an entry are in range.
+fn is_in_range(entry: &Entry) -> bool
+    ensures { result ≡ is_in_range entry.now }
+{
+    match *entry {
+        Entry::Busy(caller, _, holder) => caller <= MAX_CALLER && holder <= MAX_CALLER,
+        Entry::Began(caller, _)
+        | Entry::Asked(caller, _)
+        | Entry::Did(caller, _)
+        | Entry::Saved(caller)
+        | Entry::Leave(caller, _)
+        | Entry::Undone(caller)
+        | Entry::Returned(caller, _)
+        | Entry::Committed(caller, _)
+        | Entry::Aborted(caller) => caller <= MAX_CALLER,
+    }
+}
+
+/// Whether the callers of all entries are in range.
+fn are_in_range(entries: &[Entry]) -> bool
+    ensures { result ≡ list_all is_in_range entries.now }
+{
+    entries.iter().all(|entry| is_in_range(entry))
+}
+
+/// Whether the numbers of a history are in range.
+fn is_history(stripes: u64, entries: &[Entry]) -> bool
+    ensures { result ≡ is_history stripes entries.now }
+{
+    1 <= stripes && stripes <= MAX_STRIPES && entries.len() <= MAX_ENTRIES && are_in_range(entries)
+}
+
+#[tactic(auto, unfolding(crate::specs::HistoryFile::entries_of))]
+fn entries_in(alloc: Global, value: &Value) -> Result<(u32, Vec<Entry>), FileFault>
+    ensures { Gives (λ file. (file.0, file.1.items)) result (entries_of (view value.now)) }
+{
+    let version = number_member_in(value, "version")?;
+    let stripes = number_member_in(value, "stripes")?;
+    let pieces = array_member_in(value, "entries")?;
+    let entries: Vec<Entry> = pieces_in(alloc, pieces)?;
+    if version == 1 && is_history(stripes, &entries) {
+        Ok((stripes as u32, entries))
+    } else {
+        Err(FileFault::Limit)
+    }
+}
+
+/// The number of stripes and the entries of a history file: `{"version":1,"stripes":S,"entries":[..]}`,
+/// where each entry is an array, as `["asked",0,"put",1,10]` or `["did",0,null]`.
+///
+/// The first fault in this order is the answer:
+/// `Limit` where there are more than 16,777,216 bytes; `NotJson`; `Member` where the value is no
+/// object or one of the three members, in the order above, is missing or of the wrong kind; `Piece`
+/// for the first entry that is none; `Limit` where the version is not 1, the stripes are not 1 to
+/// 4,096, a caller or the holder that an entry names is above 63, or there are more than 1,000,000
+/// entries. `NoMemory` can come in place of any answer.
+///
+/// Other members of the object are passed over, and of a member that is given twice the last counts.
+/// A number is written without a sign, a fraction or an exponent, and is below 2^64. Whether the
+/// history is legal is not asked.
+///
+/// Time and memory are proportional to the number of bytes.
+pub fn read_history(alloc: Global, bytes: &[u8]) -> Result<(u32, Vec<Entry>), FileFault>
+    ensures { Gives (λ file. (file.0, file.1.items)) result (history_of bytes.now) }
+{
+    let value = value_in(alloc, bytes)?;
+    entries_in(alloc, &value)
+}
