@@ -29,6 +29,22 @@ fn calls_of_replay(rt: HostRuntime) -> Result<(), Fail> {
 }
 
 #[test]
+fn calls_of_check(rt: HostRuntime) -> Result<(), Fail> {
+    for text in [
+        "boostmap check a.json",
+        "boostmap check -- a.json",
+        "/usr/bin/x check a.json",
+    ] {
+        let words = words_of(&rt, text)?;
+        let Ok(call) = call_in(rt.alloc(), &words) else {
+            return Err("refused")?;
+        };
+        assert_eq!(rt; call, Call::Check { file: "a.json" }, "{text}");
+    }
+    Ok(())
+}
+
+#[test]
 fn other_words(rt: HostRuntime) -> Result<(), Fail> {
     for text in [
         "boostmap",
@@ -42,7 +58,10 @@ fn other_words(rt: HostRuntime) -> Result<(), Fail> {
         "boostmap repla a.json",
         "boostmap run a.json",
         "boostmap mix --seed 7 a.json",
-        "boostmap check a.json",
+        "boostmap check",
+        "boostmap check a.json b.json",
+        "boostmap check --seed 7 a.json",
+        "boostmap Check a.json",
         "boostmap help",
         "boostmap help replay",
         "boostmap -h",

@@ -11,16 +11,25 @@ use std::alloc::{AllocError, Global};
 pub enum Call<'a> {
     /// To run the steps of this file.
     Replay { file: &'a str },
+    /// To judge the history of this file.
+    Check { file: &'a str },
 }
 
-fn command<'a>(alloc: Global) -> Result<Command<'a>, AllocError> {
+/// A command of this name over one file.
+fn command_on_file<'a>(alloc: Global, name: &'a str) -> Result<Command<'a>, AllocError> {
     let file = Arg::new(alloc, "FILE")
         .required(true)
         .action(ArgAction::Set);
-    let replay = Command::new(alloc, "replay").arg(file)?;
+    Command::new(alloc, name).arg(file)
+}
+
+fn command<'a>(alloc: Global) -> Result<Command<'a>, AllocError> {
+    let replay = command_on_file(alloc, "replay")?;
+    let check = command_on_file(alloc, "check")?;
     Command::new(alloc, "boostmap")
         .subcommand_required(true)
-        .subcommand(replay)
+        .subcommand(replay)?
+        .subcommand(check)
 }
 
 /// What the words ask for, of which the first is the program's name.
@@ -41,11 +50,15 @@ pub fn call_in<'a>(alloc: Global, words: &'a [String]) -> Result<Call<'a>, Fault
             });
         }
     };
-    let Some(("replay", found)) = matches.subcommand() else {
+    let Some((name, found)) = matches.subcommand() else {
         return Err(Fault::Usage);
     };
     let Some(file) = found.get_str("FILE") else {
         return Err(Fault::Usage);
     };
-    Ok(Call::Replay { file })
+    match name {
+        "replay" => Ok(Call::Replay { file }),
+        "check" => Ok(Call::Check { file }),
+        _ => Err(Fault::Usage),
+    }
 }

@@ -1,8 +1,11 @@
-ghost use Rattle.std.specs.Prelude.{OnOk, IfErr};
-ghost use Rattle.boostmap_engine.specs.Report.{Reports, Leaves};
+ghost use Rattle.std.specs.Prelude.{OnOk, IfOk, IfErr};
+ghost use Rattle.boostmap_engine.specs.Written.{Writes, Leaves};
+ghost use Rattle.boostmap_engine.specs.Report.{IsReportOf, IsNoStepFile};
+ghost use Rattle.boostmap_engine.specs.Judgement.{IsJudgement, IsJudgementOf, IsNoHistoryFile};
 
 use crate::fault::Fault;
 use crate::input::read_input;
+use crate::judgement::{is_legal, judge, line_of};
 use crate::output::write_text;
 use crate::report::report;
 use std::alloc::Global;
@@ -21,10 +24,34 @@ use std::io::{Read, Write};
 /// At most 16,777,217 bytes are read, and no call of the reader or the writer is made again after it
 /// failed. Costs what the steps cost, and time and memory in proportion to the file and the report.
 pub fn replay<R: Read, W: Write>(alloc: Global, input: &mut R, output: &mut W) -> Result<(), Fault>
-    ensures reports { OnOk result (Reports (R.remaining input.old) (W.contents output.old) (W.contents output.new)) }
-    ensures fault { IfErr result (Leaves (R.remaining input.old) (W.contents output.old) (W.contents output.new)) }
+    ensures reports { OnOk result (Writes IsReportOf (R.remaining input.old) (W.contents output.old) (W.contents output.new)) }
+    ensures fault { IfErr result (Leaves IsReportOf IsNoStepFile (R.remaining input.old) (W.contents output.old) (W.contents output.new)) }
 {
     let bytes = read_input(alloc, input)?;
     let text = report(alloc, &bytes)?;
     write_text(output, text.as_bytes())
+}
+
+/// Reads a history file to its end, judges the history, and writes the verdict as one line that ends
+/// with a line feed, and nothing else: `legal C commits O open` with the numbers of commits and of
+/// callers that are in a transaction at the end, or `illegal entry I rule R` with the index, from 0,
+/// of the first entry that breaks a rule, and the rule: 1 replies, 2 locks, 3 shape. The answer is
+/// whether the history is legal.
+///
+/// - `Input` where the file is refused: nothing is written.
+/// - `Read` where a read fails: nothing is written.
+/// - `NoMemory` where memory is refused: nothing is written.
+/// - `Write` where a write fails or takes nothing: a proper beginning of the line is written.
+///
+/// At most 16,777,217 bytes are read, and no call of the reader or the writer is made again after it
+/// failed. An entry costs the logarithm of the number of keys; memory is in proportion to the file.
+pub fn check<R: Read, W: Write>(alloc: Global, input: &mut R, output: &mut W) -> Result<bool, Fault>
+    ensures judges { IfOk result (λ legal. Writes (IsJudgement legal) (R.remaining input.old) (W.contents output.old) (W.contents output.new)) }
+    ensures fault { IfErr result (Leaves IsJudgementOf IsNoHistoryFile (R.remaining input.old) (W.contents output.old) (W.contents output.new)) }
+{
+    let bytes = read_input(alloc, input)?;
+    let verdict = judge(alloc, &bytes)?;
+    let line = line_of(alloc, verdict)?;
+    write_text(output, line.as_bytes())?;
+    Ok(is_legal(verdict))
 }

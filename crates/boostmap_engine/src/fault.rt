@@ -10,7 +10,7 @@ use txn_files::FileFault;
 #[derive(Debug, Drop, Error)]
 pub enum Fault {
     /// The words of the call are none that the program has.
-    #[error("usage: boostmap replay FILE\n\nreplay FILE  runs the steps of a file and prints their answers, the size, the count and the pairs\n\nexample: boostmap replay examples/first_commit.json")]
+    #[error("usage: boostmap replay FILE | boostmap check FILE\n\nreplay FILE  runs the steps of a file and prints their answers, the size, the count and the pairs\ncheck FILE   says whether a recorded history is legal, or which entry breaks which rule\n\nexample: boostmap check examples/checked.json")]
     Usage,
     /// The input was refused, for a fault of the file.
     #[error("refused {0}")]

@@ -1,5 +1,5 @@
 ghost use Rattle.std.specs.Prelude.{◌≡◌, length, IfOk, IfErr};
-ghost use Rattle.boostmap_engine.specs.Report.{IsRead};
+ghost use Rattle.boostmap_engine.specs.Written.{IsRead};
 ghost use Rattle.boostmap_engine.specs.Faults.{IsReadFault};
 
 use crate::fault::Fault;

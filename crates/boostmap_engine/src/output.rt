@@ -1,7 +1,7 @@
 ghost use Rattle.std.specs.Prelude.{◌≡◌, OnOk, OnErr, IfErr};
 ghost use Rattle.std.specs.Io.KnownBytes.{Appends};
 ghost use Rattle.boostmap_engine.specs.declared.fault.Fault.TheVariants as faults;
-ghost use Rattle.boostmap_engine.specs.Report.{AppendsPart};
+ghost use Rattle.boostmap_engine.specs.Written.{AppendsPart};
 
 use crate::fault::Fault;
 use std::io::Write;

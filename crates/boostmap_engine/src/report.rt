@@ -1,5 +1,6 @@
 ghost use Rattle.std.specs.Prelude.{◌≡◌, ◌++◌, OnOk, IfOk, IfErr, string_bytes};
-ghost use Rattle.boostmap_engine.specs.Report.{answers_text, size_text, pairs_text, report_text, IsReportOf, HasNoReport};
+ghost use Rattle.boostmap_engine.specs.Report.{answers_text, size_text, pairs_text, report_text, IsReportOf, IsNoStepFile};
+ghost use Rattle.boostmap_engine.specs.Written.{HasNone};
 
 use crate::fault::Fault;
 use boost_core::Core;
@@ -46,7 +47,7 @@ fn text_of_run(alloc: Global, answers: &[Answer], core: &Core) -> Result<String,
 /// The report of the steps that the bytes are, run on a new core.
 pub fn report(alloc: Global, bytes: &[u8]) -> Result<String, Fault>
     ensures ok { IfOk result (λ text. IsReportOf bytes.now (string_bytes text)) }
-    ensures err { IfErr result (HasNoReport bytes.now) }
+    ensures err { IfErr result (HasNone IsNoStepFile bytes.now) }
 {
     let (limits, steps) = read_steps(alloc, bytes)?;
     let Ok(mut core) = Core::new(alloc, limits) else {

@@ -1,0 +1,60 @@
+-- What a history file says is in range.
+use Rattle.std.proofs.Common.{◌≡◌, ℕ, ◌<◌, Bool, true, false, ◌&&◌, ◌==◌, if◌then◌else◌, List, Result, Ok, Err, codes, refl, subst, arith}
+use Rattle.std.specs.Prelude.{nat_le, length}
+use Rattle.std.specs.List.{All, list_all}
+use Rattle.std.proofs.lemmas.Bool.{and_parts, leb-true}
+use Rattle.std.proofs.lemmas.List.Sums.{AllPass-from_list_all}
+use Rattle.std.proofs.lemmas.List.Elements.{All-weaker}
+use Rattle.txn_trace.specs.declared.entry.Entry.{Entry}
+use Rattle.txn_trace.specs.declared.entry.Entry.TheVariants.{Began, Asked, Did, Saved, Leave, Undone, Returned, Committed, Busy, Aborted}
+use Rattle.txn_trace.specs.History.{caller_of}
+use Rattle.txn_files.specs.declared.part.Part.TheVariants as parts
+use Rattle.txn_files.specs.declared.file_fault.FileFault.{FileFault}
+use Rattle.txn_files.specs.declared.file_fault.FileFault.TheVariants.{Limit}
+use Rattle.txn_files.specs.Faults.{◌>>=◌}
+use Rattle.txn_files.specs.Json.{json_of, number_member, array_member}
+use Rattle.txn_files.specs.Pieces.{pieces_from}
+use Rattle.txn_files.specs.Entries.{entry_of}
+use Rattle.txn_files.specs.HistoryFile.{is_in_range, is_history, entries_of, history_of}
+
+-- what came of both was made from what came of the first
+gone_on : {A B : Type 0} (first : Result A FileFault) (next : A → Result B FileFault) (last : B) → (first >>= next) ≡ Ok last → (x : A) × (next x ≡ Ok last)
+gone_on (Ok x) next last e = (x, e)
+gone_on (Err fault) next last e = cc
+
+-- what was let through passed the test
+passed : {A : Type 0} (test : Bool) (x y : A) → ◌≡◌ {A = Result A FileFault} (if test then Ok x else Err Limit) (Ok y) → (test ≡ true) × (x ≡ y)
+passed true x y e = (refl, cc)
+passed false x y e = cc
+
+below_64 : (e : Entry) → is_in_range e ≡ true → caller_of e < 64
+below_64 (Began c t) h = omega (arith, leb-true c 63 h)
+below_64 (Asked c op) h = omega (arith, leb-true c 63 h)
+below_64 (Did c reply) h = omega (arith, leb-true c 63 h)
+below_64 (Saved c) h = omega (arith, leb-true c 63 h)
+below_64 (Leave c level) h = omega (arith, leb-true c 63 h)
+below_64 (Undone c) h = omega (arith, leb-true c 63 h)
+below_64 (Returned c level) h = omega (arith, leb-true c 63 h)
+below_64 (Committed c place) h = omega (arith, leb-true c 63 h)
+below_64 (Busy c op x) h = omega (arith, leb-true c 63 (and_parts _ _ h).0)
+below_64 (Aborted c) h = omega (arith, leb-true c 63 h)
+
+is_history-parts : (stripes : ℕ) (h : List Entry) → is_history stripes h ≡ true → (0 < stripes) × All (λ e. caller_of e < 64) h
+is_history-parts stripes h e =
+    let all = and_parts (nat_le 1 stripes && nat_le stripes 4096 && nat_le (length h) 1000000) (list_all is_in_range h) e in
+    let numbers = and_parts (nat_le 1 stripes && nat_le stripes 4096) (nat_le (length h) 1000000) all.0 in
+    let some = and_parts (nat_le 1 stripes) (nat_le stripes 4096) numbers.0 in
+    (omega (arith, leb-true 1 stripes some.0), All-weaker (λ e. is_in_range e ≡ true) (λ e. caller_of e < 64) below_64 h (AllPass-from_list_all is_in_range h all.1))
+
+-- a history has stripes, and its callers are below 64
+pub history_of-in_range : (bytes : List ℕ) (stripes : ℕ) (h : List Entry) → history_of bytes ≡ Ok (stripes, h) → (0 < stripes) × All (λ e. caller_of e < 64) h
+unfolding entries_of
+history_of-in_range bytes stripes h e =
+    let (d, e0) = gone_on (json_of bytes) entries_of (stripes, h) e in
+    let (version, e1) = gone_on (number_member (codes "version") d) _ _ e0 in
+    let (s, e2) = gone_on (number_member (codes "stripes") d) _ _ e1 in
+    let (pieces, e3) = gone_on (array_member (codes "entries") d) _ _ e2 in
+    let (entries, e4) = gone_on (pieces_from entry_of parts.Entry 0 pieces) _ _ e3 in
+    let (right, same) = passed ((version == 1) && is_history s entries) (s, entries) (stripes, h) e4 in
+    let whole : is_history stripes h ≡ true = subst (λ (file : ℕ × List Entry). is_history file.0 file.1 ≡ true) same (and_parts (version == 1) (is_history s entries) right).1 in
+    is_history-parts stripes h whole

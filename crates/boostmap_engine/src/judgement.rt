@@ -1,0 +1,43 @@
+ghost use Rattle.std.specs.Prelude.{◌≡◌, IfOk, IfErr, string_bytes};
+ghost use Rattle.history_check.specs.Verdicts.{meaning_of};
+ghost use Rattle.boostmap_engine.specs.Judgement.{verdict_line, says_legal, IsJudged, IsNoHistoryFile};
+ghost use Rattle.boostmap_engine.specs.Written.{HasNone};
+
+use crate::fault::Fault;
+use history_check::{Verdict, check};
+use std::alloc::{AllocError, Global};
+use txn_files::read_history;
+
+/// The verdict on the history that the bytes are.
+pub fn judge(alloc: Global, bytes: &[u8]) -> Result<Verdict, Fault>
+    ensures ok { IfOk result (λ verdict. IsJudged bytes.now (meaning_of verdict)) }
+    ensures err { IfErr result (HasNone IsNoHistoryFile bytes.now) }
+{
+    let (stripes, entries) = read_history(alloc, bytes)?;
+    let verdict = check(alloc, &entries, u64::from(stripes))?;
+    Ok(verdict)
+}
+
+/// The line of a verdict.
+pub fn line_of(alloc: Global, verdict: Verdict) -> Result<String, AllocError>
+    ensures { IfOk result (λ line. string_bytes line ≡ verdict_line (meaning_of verdict)) }
+{
+    let mut line = String::new(alloc);
+    match verdict {
+        Verdict::Legal { commits, running } => {
+            writeln!(line, "legal {commits} commits {running} open")?;
+        }
+        Verdict::Illegal { entry, rule } => {
+            let rule = rule.number();
+            writeln!(line, "illegal entry {entry} rule {rule}")?;
+        }
+    }
+    Ok(line)
+}
+
+/// Whether a verdict is that the history is legal.
+pub fn is_legal(verdict: Verdict) -> bool
+    ensures { result ≡ says_legal (meaning_of verdict) }
+{
+    matches!(verdict, Verdict::Legal { .. })
+}
