@@ -1,15 +1,15 @@
 -- The buckets of a table, as the words of its contracts say them.
 use Prim.Native.Nat.{zero, suc}
-use Rattle.std.proofs.Common.{◌≡◌, ◌≢◌, ℕ, ◌+◌, ◌-◌, ◌<◌, ◌≤◌, ◌^◌, ◌==◌, ◌||◌, inl, inr, List, [], ◌∷◌, Option, Some, None, Bool, true, false, not, map, length, refl, sym, ◌∙◌, ap, subst, arith, get_or, slice_index_or, slice_set, replicate, add-zero, cond, if◌then◌else◌, All}
+use Rattle.std.proofs.Common.{◌≡◌, ◌≢◌, ℕ, ◌+◌, ◌-◌, ◌<◌, ◌≤◌, ◌^◌, ◌==◌, ◌||◌, inl, inr, List, [], ◌∷◌, Option, Some, None, Bool, true, false, not, map, length, refl, sym, ◌∙◌, ap, subst, arith, get_or, slice_index_or, slice_set, replicate, if◌then◌else◌}
 use Rattle.std.specs.Prelude.{Result, Ok, Err, is_some, is_none, nat_le}
 use Rattle.std.specs.List.{slice_get, range_with_len}
 use Rattle.std.specs.Option.{option_map}
-use Rattle.std.proofs.lemmas.Bool.{false≢true, cases_eq, eq-eqb, ne_eqb}
+use Rattle.std.proofs.lemmas.Bool.{cases_eq, eq-eqb, ne_eqb}
 use Rattle.std.proofs.lemmas.Option.{slice_get-map, slice_get_within, slice_get-get_or}
 use Rattle.std.proofs.lemmas.List.{map-set, length-set, length-replicate, ext_get_or, get_or-set_same, get_or-set_other}
 use Rattle.std.proofs.lemmas.List.FromFn.{get_or-map-range_with_len, length-map-range_with_len}
 use Rattle.std.proofs.Math.ListN as lists
-use Rattle.node_list.specs.Nodes.{NodeAt, Listing, first_dummy, live_count, out_at}
+use Rattle.node_list.specs.Nodes.{NodeAt, Listing, first_dummy, out_at}
 use Rattle.node_list.specs.Sound.{IsSound}
 use Rattle.list_steps.specs.Content.{pairs}
 use Rattle.list_steps.specs.Found.{fits, pred_of, turn_of}
@@ -21,7 +21,7 @@ use Rattle.bucket_table.specs.declared.answer.InitSeek.TheVariants.{Ready, Place
 use Rattle.bucket_table.specs.declared.answer.InitLink.{InitLink}
 use Rattle.bucket_table.specs.declared.answer.InitLink.TheVariants.{Again, Present, Linked}
 use Rattle.bucket_table.specs.declared.answer.InitRefusal.{InitRefusal}
-use Rattle.bucket_table.specs.declared.answer.InitRefusal.TheVariants.{NoSuchBucket, ParentMissing, NoSuchHelper, HelperOutOfOrder, NoMemory, StampsUsedUp}
+use Rattle.bucket_table.specs.declared.answer.InitRefusal.TheVariants.{NoSuchBucket, ParentMissing, NoSuchHelper, NoMemory, StampsUsedUp}
 use Rattle.bucket_table.specs.declared.answer.Double.{Double}
 use Rattle.bucket_table.specs.declared.answer.Double.TheVariants.{Moved, AtLimit, Light, Doubled}
 use Rattle.bucket_table.specs.declared.helper.Helper.{Helper}
@@ -40,8 +40,8 @@ use Rattle.list_steps.specs.declared.sweeps.SweepOutcome.{SweepOutcome}
 use Rattle.list_steps.specs.declared.sweeps.SweepOutcome.TheVariants.{Swept, Clean}
 use Rattle.list_steps.specs.Steps as steps
 use Rattle.map_ops.specs.Sound.{AllEven, Belong, IsEvenDummy}
-use Rattle.map_ops.specs.TableAt.{TableAt, Help, Nothing, Sought, Dummy, help_of, helps_of, linked_of, map_of, table_of, IsNew, Keeps}
-use Rattle.map_ops.specs.Buckets.{Becomes, Doubles, Helps, Holds, Links, LinkChanges, SeekChanges, Seeks, Stores, StoreChanges, cursor_fits, helper_fits, seek_answer, link_answer, store_answer, double_answer, size_after}
+use Rattle.map_ops.specs.TableAt.{Help, Nothing, Sought, Dummy, help_of, linked_of, map_of, table_of, IsNew, Keeps}
+use Rattle.map_ops.specs.Buckets.{Doubles, Helps, Holds, Links, LinkChanges, SeekChanges, Seeks, Stores, StoreChanges, cursor_fits, helper_fits, seek_answer, link_answer, store_answer}
 use Rattle.map_ops.proofs.BelongLemmas.{belong_swept, has_dummy-swept, linked_same}
 
 stored_at : (entries : List (Option ℕ)) (bucket : ℕ) → slice_index_or (map is_some entries) bucket false ≡ is_some (slice_index_or entries bucket None)

@@ -1,12 +1,11 @@
 -- What a step at a key does to the table.
-use Rattle.std.proofs.Common.{◌≡◌, ℕ, ◌<◌, ◌^◌, List, [], ◌∷◌, Option, Some, None, Bool, true, false, refl, sym, ◌∙◌, ap, subst}
+use Rattle.std.proofs.Common.{◌≡◌, ℕ, ◌<◌, ◌^◌, List, [], ◌∷◌, Some, None, true, false, refl, sym, ◌∙◌, ap, subst}
 use Rattle.node_list.specs.declared.node.Kind.TheVariants.{Regular}
-use Rattle.node_list.specs.Nodes.{NodeAt, Listing, SpareAt, filled}
+use Rattle.node_list.specs.Nodes.{NodeAt, Listing}
 use Rattle.node_list.specs.Sound.{IsSound}
 use Rattle.list_steps.specs.declared.cursor.Cursor.{Cursor}
-use Rattle.list_steps.specs.Content.{pairs, pair_of, Replaces}
+use Rattle.list_steps.specs.Content.{pairs, Replaces}
 use Rattle.list_steps.specs.Found.{fits, node_there, pred_of, split_of, IsPlaced}
-use Rattle.list_steps.specs.Seek.{sought, KeepsRest}
 use Rattle.list_steps.specs.Steps.{Links, Marks, Swaps}
 use Rattle.list_steps.proofs.ContentLemmas.{pair_regular}
 use Rattle.list_steps.proofs.CursorLemmas.{fits_linked}

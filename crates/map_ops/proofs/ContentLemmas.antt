@@ -1,5 +1,5 @@
 -- The content of a list of nodes, and what a step at a node does to it.
-use Rattle.std.proofs.Common.{◌≡◌, ◌≢◌, ℕ, ◌<◌, ◌^◌, ◌==◌, inl, inr, List, [], ◌∷◌, ◌++◌, Option, Some, None, Bool, true, false, cond, not, ◌&&◌, ◌+◌, if◌then◌else◌, length, refl, sym, ◌∙◌, ap, subst, arith}
+use Rattle.std.proofs.Common.{◌≡◌, ◌≢◌, ℕ, ◌<◌, ◌==◌, inl, inr, List, [], ◌∷◌, ◌++◌, Option, Some, None, Bool, true, false, cond, not, ◌&&◌, ◌+◌, if◌then◌else◌, length, refl, sym, ◌∙◌, ap, subst, arith}
 use Rattle.std.specs.List.{fold, AllByRecursion}
 use Rattle.std.proofs.lemmas.Bool.{cases_eq, eq-eqb, ne_eqb}
 use Rattle.std.proofs.lemmas.Bool.Decides.{eqb_tells}
@@ -8,11 +8,11 @@ use Rattle.node_list.specs.declared.node.Kind.TheVariants.{Dummy, Regular}
 use Rattle.node_list.specs.Nodes.{NodeAt, node_of, count_where, is_regular, live_count}
 use Rattle.node_list.specs.Order.{IsBefore, IsRising}
 use Rattle.node_list.proofs.OrderLemmas.{some-injective, some-none, each_found}
-use Rattle.list_steps.specs.Content.{pair_if, pair_of, pairs, Replaces}
+use Rattle.list_steps.specs.Content.{pair_if, pairs, Replaces}
 use Rattle.split_key.specs.Split.{split}
 use Rattle.bucket_table.specs.Dummies.{IsKeyed, IsKeyedNode}
 use Rattle.txn_trace.specs.Map.{Map, count_of, empty, get, insert, remove}
-use Rattle.txn_trace.specs.Ordered.{split_cmp, ordered}
+use Rattle.txn_trace.specs.Ordered.{ordered}
 use Rattle.txn_trace.proofs.Maps.{get-insert, same_map}
 use Rattle.txn_trace.proofs.Order.{Rises, IsSortedBySplit, value_at, split_cmp_tied, sorted-rises, value_at-ordered, ordered_rising, ordered-linked, ordered-written, ordered-unlinked, length-ordered}
 use Rattle.map_ops.specs.TableAt.{map_of}

@@ -1,8 +1,7 @@
 -- What is done to the table by the steps at a key.
-use Rattle.std.proofs.Common.{◌≡◌, ◌≢◌, ℕ, ◌<◌, ◌^◌, ◌==◌, inl, inr, List, [], ◌∷◌, Option, Some, None, Bool, true, false, cond, map, refl, sym, ◌∙◌, ap, subst}
+use Rattle.std.proofs.Common.{◌≡◌, ℕ, List, Option, Some, None, true, map, refl, sym, ◌∙◌, ap}
 use Rattle.std.specs.List.{range_with_len}
-use Rattle.std.proofs.lemmas.Bool.{cases_eq, eq-eqb, ne_eqb}
-use Rattle.node_list.specs.Nodes.{NodeAt, Listing, SpareAt, out_at}
+use Rattle.node_list.specs.Nodes.{NodeAt, Listing, SpareAt}
 use Rattle.node_list.specs.Sound.{IsSound}
 use Rattle.list_steps.specs.declared.cursor.Cursor.{Cursor}
 use Rattle.list_steps.specs.Content.{pairs}
@@ -12,11 +11,10 @@ use Rattle.split_key.specs.Split.{split}
 use Rattle.bucket_table.specs.Directory.{Directory, limit_of}
 use Rattle.bucket_table.specs.Dummies.{has_dummy}
 use Rattle.bucket_table.proofs.DummyLemmas.{has_dummy-sought}
-use Rattle.txn_trace.specs.declared.op.Op.TheVariants.{Put, Take, Get}
-use Rattle.txn_trace.specs.Map.{Map, get, remove}
-use Rattle.txn_trace.proofs.Maps.{get-remove, same_map}
+use Rattle.txn_trace.specs.declared.op.Op.TheVariants.{Put, Take}
+use Rattle.txn_trace.specs.Map.{get}
 use Rattle.map_ops.specs.declared.job.MapJob.TheVariants.{Unput, Restore, Relink}
-use Rattle.map_ops.specs.TableAt.{content, map_of, table_of, regular, linked_of, KeepsSpares}
+use Rattle.map_ops.specs.TableAt.{content, map_of, table_of, KeepsSpares}
 use Rattle.map_ops.specs.declared.job.MapJob.{MapJob}
 use Rattle.map_ops.specs.Jobs.{unput, relink, key_of_job, value_before, spare_of_job}
 use Rattle.map_ops.specs.Changes.{Does, GivesBack, Places, Spends, TakesBack}

@@ -1,5 +1,5 @@
 -- The map that is made of the pairs.
-use Rattle.std.proofs.Common.{◌≡◌, ℕ, List, [], ◌∷◌, Option, Some, None, Ok, Err, Result, cond, refl, sym, ◌∙◌, ap}
+use Rattle.std.proofs.Common.{◌≡◌, ℕ, List, [], ◌∷◌, Some, None, Ok, Err, Result, cond, refl, sym, ◌∙◌, ap}
 use Rattle.std.specs.List.{fold}
 use Rattle.std.specs.Result.{IfOk}
 use Rattle.std.specs.Map.{update, update_all}

@@ -1,10 +1,10 @@
 -- What is prepared, and why not.
-use Rattle.std.proofs.Common.{◌≡◌, ℕ, ◌<◌, ◌^◌, Option, Some, Bool, true, refl, sym, ◌∙◌, ap, subst}
+use Rattle.std.proofs.Common.{◌≡◌, ℕ, ◌<◌, ◌^◌, Some, true, sym, ◌∙◌, ap, subst}
 use Rattle.node_list.specs.Nodes.{SpareAt}
 use Rattle.txn_trace.specs.declared.op.Op.{Op}
-use Rattle.txn_trace.specs.declared.op.Op.TheVariants.{Put, Take, Get}
+use Rattle.txn_trace.specs.declared.op.Op.TheVariants.{Put, Take}
 use Rattle.txn_trace.specs.declared.refusal.Refusal.{Refusal}
-use Rattle.txn_trace.specs.declared.refusal.Refusal.TheVariants.{StampsUsedUp, NoMemory, BadKey}
+use Rattle.txn_trace.specs.declared.refusal.Refusal.TheVariants.{StampsUsedUp, NoMemory}
 use Rattle.txn_trace.specs.Map.{key_of}
 use Rattle.map_ops.specs.TableAt.{TableAt}
 use Rattle.map_ops.specs.Jobs.{takes_node}

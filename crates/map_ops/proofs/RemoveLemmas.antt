@@ -1,5 +1,5 @@
 -- A key that is not there, taken out of a map.
-use Rattle.std.proofs.Common.{◌≡◌, ℕ, ◌==◌, inl, inr, None, cond, sym, ◌∙◌, ap}
+use Rattle.std.proofs.Common.{◌≡◌, ℕ, inl, inr, None, cond, sym, ◌∙◌, ap}
 use Rattle.std.proofs.lemmas.Bool.{cases_eq, eq-eqb, ne_eqb}
 use Rattle.txn_trace.specs.Map.{Map, get, remove}
 use Rattle.txn_trace.proofs.Maps.{get-remove, same_map}

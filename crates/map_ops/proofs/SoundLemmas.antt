@@ -1,6 +1,6 @@
 -- What keeps tables sound.
-use Rattle.std.proofs.Common.{◌≡◌, ℕ, List, sym, subst}
-use Rattle.node_list.specs.Nodes.{NodeAt, Listing}
+use Rattle.std.proofs.Common.{◌≡◌, sym, subst}
+use Rattle.node_list.specs.Nodes.{Listing}
 use Rattle.node_list.specs.Follow.{Follows}
 use Rattle.bucket_table.specs.Directory.{Directory}
 use Rattle.bucket_table.proofs.HomeLemmas.{still_home}

@@ -1,18 +1,17 @@
 -- What a cursor says of the content.
-use Rattle.std.proofs.Common.{◌≡◌, ◌≢◌, ℕ, ◌<◌, ◌^◌, ◌%◌, inl, inr, List, [], ◌∷◌, Option, Some, None, Bool, true, false, refl, sym, ◌∙◌, ap, subst, arith}
+use Rattle.std.proofs.Common.{◌≡◌, ◌≢◌, ℕ, ◌<◌, ◌^◌, ◌%◌, Option, Some, None, true, refl, sym, ◌∙◌, ap, subst, arith}
 use Rattle.std.specs.Prelude.{IsSome, IsSomeAnd, IsTrue, is_some}
 use Rattle.std.proofs.lemmas.Bool.{false≢true}
 use Rattle.std.specs.List.{AllByRecursion}
 use Rattle.node_list.specs.declared.node.Kind.{Kind}
 use Rattle.node_list.specs.declared.node.Kind.TheVariants.{Dummy, Regular}
-use Rattle.node_list.specs.Nodes.{NodeAt, Listing, node_of, is_regular, place_of}
+use Rattle.node_list.specs.Nodes.{NodeAt, Listing, is_regular, place_of}
 use Rattle.node_list.specs.Sound.{IsSound}
-use Rattle.node_list.proofs.OrderLemmas.{some-injective, some-none, each_found}
+use Rattle.node_list.proofs.OrderLemmas.{some-none, each_found}
 use Rattle.list_steps.specs.declared.cursor.Cursor.{Cursor}
 use Rattle.list_steps.specs.Content.{pairs}
 use Rattle.list_steps.specs.Found.{fits, node_there, split_of, IsPlaced, IsRoomFor, IsKeyThere}
-use Rattle.list_steps.specs.Steps.{Finds, IsThere, IsAbsent}
-use Rattle.list_steps.proofs.CursorLemmas.{There, there}
+use Rattle.list_steps.proofs.CursorLemmas.{there}
 use Rattle.list_steps.proofs.StepLemmas.{finds}
 use Rattle.split_key.specs.Split.{split}
 use Rattle.split_key.proofs.SplitLemmas.{same_from_split, split_odd}

@@ -1,5 +1,5 @@
 -- What each call on the buckets of a table answers and changes.
-use Rattle.std.specs.Prelude.{◌≡◌, ℕ, ◌<◌, ◌≤◌, ◌*◌, ◌+◌, ◌-◌, ◌^◌, Bool, true, false, not, ◌==◌, nat_le, Option, Some, None, Result, Ok, Err, List, [], ◌∷◌, length, slice_set, slice_index_or, if◌then◌else◌}
+use Rattle.std.specs.Prelude.{◌≡◌, ℕ, ◌*◌, ◌+◌, ◌-◌, ◌^◌, Bool, true, false, not, ◌==◌, nat_le, Option, Some, None, Result, Ok, Err, List, slice_set, slice_index_or, if◌then◌else◌}
 use Rattle.std.specs.List.{slice_get}
 use Rattle.split_key.specs.Split.{parent_of}
 use Rattle.bucket_table.specs.declared.answer.InitSeek.{InitSeek}
@@ -7,14 +7,12 @@ use Rattle.bucket_table.specs.declared.answer.InitSeek.TheVariants.{Ready, Place
 use Rattle.bucket_table.specs.declared.answer.InitLink.{InitLink}
 use Rattle.bucket_table.specs.declared.answer.InitLink.TheVariants.{Again, Present, Linked}
 use Rattle.bucket_table.specs.declared.answer.InitRefusal.{InitRefusal}
-use Rattle.bucket_table.specs.declared.answer.InitRefusal.TheVariants.{NoSuchBucket, ParentMissing, NoSuchHelper, HelperOutOfOrder, NoMemory, StampsUsedUp}
+use Rattle.bucket_table.specs.declared.answer.InitRefusal.TheVariants.{NoSuchBucket, ParentMissing, NoSuchHelper, HelperOutOfOrder, StampsUsedUp}
 use Rattle.bucket_table.specs.declared.answer.Double.{Double}
 use Rattle.bucket_table.specs.declared.answer.Double.TheVariants.{Moved, AtLimit, Light, Doubled}
 use Rattle.bucket_table.specs.declared.helper.Helper.{Helper}
 use Rattle.bucket_table.specs.declared.helper.Helper.TheVariants.{Idle, Seeking, Holding}
 use Rattle.bucket_table.specs.Directory.{helper_of}
-use Rattle.list_steps.specs.declared.sweeps.SweepOutcome.{SweepOutcome}
-use Rattle.list_steps.specs.declared.sweeps.SweepOutcome.TheVariants.{Swept, Clean}
 use Rattle.map_ops.specs.TableAt.{TableAt, Help, Nothing, Sought, Dummy, regular, turn_of, last_of, size_of, stored_of, linked_of, helps_of, KeepsSpares, fits}
 
 -- whether the cursor that a helper has fits

@@ -1,5 +1,5 @@
 -- Operations with a right key and their spares.
-use Rattle.std.specs.Prelude.{ℕ, Some, None}
+use Rattle.std.specs.Prelude.{Some, None}
 use Rattle.txn_trace.specs.declared.op.Op.TheVariants as ops
 use Rattle.map_ops.specs.declared.pending.Plan.{Plan}
 use Rattle.map_ops.specs.declared.pending.Plan.TheVariants.{Put, Take, Get}

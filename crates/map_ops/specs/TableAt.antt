@@ -1,5 +1,5 @@
 -- What a contract sees of a table.
-use Rattle.std.specs.Prelude.{◌≡◌, ◌≢◌, ℕ, ◌+◌, ◌-◌, Bool, true, false, Option, Some, None, List, [], ◌∷◌, map, length, is_some, replicate}
+use Rattle.std.specs.Prelude.{◌≡◌, ◌≢◌, ℕ, ◌-◌, Bool, true, false, None, List, [], ◌∷◌, map, is_some, replicate}
 use Rattle.std.specs.List.{fold, range_with_len}
 use Rattle.node_list.specs.Nodes.{Listing, SpareAt, out_at, IsOut}
 use Rattle.node_list.specs.Follow as nodes

@@ -7,6 +7,7 @@
 //! - `apply` answers and leaves what the operation does on that map, and gives a `MapJob` exactly where it was a change.
 //! - `take_back` gives the job's key what it had before and leaves every other key as it is now: the compensating actions of
 //!   boosting (Herlihy and Koskinen, "Transactional Boosting", 2008), each with its own inverse on whatever the table is then.
+//! - `law::there_and_back` says of these two that content and list of pairs are then as they were.
 //! - `prepare`, `place` and `act`, or `place_job` and `undo`, do the same in steps. What was changed in between where the cursor
 //!   is makes them answer `Again`, and nothing is lost.
 //! - All other calls leave content and list of pairs.
@@ -19,6 +20,7 @@
 mod act;
 mod change;
 mod job;
+pub mod law;
 mod listing;
 mod pending;
 mod table;

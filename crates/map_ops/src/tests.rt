@@ -232,6 +232,39 @@ fn unput(rt: &impl Abort, table: &mut Table, job: Option<MapJob>) -> Result<(), 
     Ok(())
 }
 
+// Takes back the put over a value.
+fn unwrite(rt: &impl Abort, table: &mut Table, job: Option<MapJob>) -> Result<(), Refusal> {
+    if let Some(job) = job {
+        match job {
+            MapJob::Restore(key, old) => take_back(rt, table, MapJob::Restore(key, old))?,
+            MapJob::Unput(_) => {}
+            MapJob::Relink(_, _, _) => {}
+        }
+    }
+    Ok(())
+}
+
+#[test]
+fn apply_then_take_back(rt: HostRuntime) -> Result<(), Fail> {
+    let mut table = table(rt.alloc())?;
+    let (reply, put) = table.apply(Op::Put(2, 20))?;
+    assert_eq!(rt; reply, None);
+    let (reply, over) = table.apply(Op::Put(2, 21))?;
+    assert_eq!(rt; reply, Some(20));
+    let (reply, taken) = applied(&mut table, Op::Take(2))?;
+    assert_eq!(rt; reply, Some(21));
+    shows(&rt, rt.alloc(), &table, &[])?;
+    if let Some(job) = taken {
+        assert!(rt; matches!(job, MapJob::Relink(_, _, _)));
+        table.take_back(job);
+    }
+    shows(&rt, rt.alloc(), &table, &[(2, 21)])?;
+    unwrite(&rt, &mut table, over)?;
+    shows(&rt, rt.alloc(), &table, &[(2, 20)])?;
+    unput(&rt, &mut table, put)?;
+    shows(&rt, rt.alloc(), &table, &[])
+}
+
 #[test]
 fn stale_pending(rt: HostRuntime) -> Result<(), Fail> {
     let mut table = table(rt.alloc())?;

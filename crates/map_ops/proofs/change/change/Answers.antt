@@ -1,4 +1,4 @@
-use Rattle.std.proofs.Common.{◌∙◌, sym, ap, subst}
+use Rattle.std.proofs.Common.{◌∙◌, sym, subst}
 use Rattle.map_ops.specs.Sound.{Belong}
 use Rattle.map_ops.proofs.Laws.{no_buckets}
 use Rattle.map_ops.proofs.DoesLemmas.{does_put_new, does_put_over, does_take, does_take_none}

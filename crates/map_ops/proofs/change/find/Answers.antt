@@ -1,4 +1,4 @@
-use Rattle.std.proofs.Common.{ℕ, ◌<◌, ◌^◌, ◌≡◌, ◌∙◌, ap, sym, subst, Some, None, true}
+use Rattle.std.proofs.Common.{ℕ, ◌<◌, ◌^◌, ◌∙◌, ap, sym, subst, Some}
 use Rattle.node_list.specs.Nodes.{NodeAt}
 use Rattle.node_list.proofs.NodesLemmas.{found_linked}
 use Rattle.node_list.proofs.OrderLemmas.{some-injective}

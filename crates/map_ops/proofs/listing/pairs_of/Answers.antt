@@ -1,5 +1,4 @@
 use Rattle.std.proofs.Common.{◌∙◌}
-use Rattle.node_list.specs.Seen.{seen}
 use Rattle.list_steps.proofs.NodeLemmas.{is_linked, next_linked, next_node, no_place, node_at}
 use Rattle.list_steps.proofs.SeekLemmas.{behind_next}
 use Rattle.map_ops.proofs.WalkLemmas.{walk_first, walk_next, walk_end}

@@ -1,5 +1,4 @@
-use Rattle.std.proofs.Common.{◌≡◌, ℕ, List, ◌∙◌, Ok, Err, Result}
-use Rattle.std.specs.Result.{IfOk}
+use Rattle.std.proofs.Common.{◌≡◌, ◌∙◌}
 use Rattle.std.proofs.lemmas.Result.{IfOk-weaker}
 use Rattle.list_steps.specs.Content.{pairs}
 use Rattle.txn_trace.specs.Ordered.{ordered}
