@@ -1,0 +1,5 @@
+pub mod DirectoryLemmas
+pub mod DummyLemmas
+pub mod HomeLemmas
+pub mod LinkLemmas
+pub mod NearestLemmas

@@ -1,0 +1,41 @@
+use Rattle.std.proofs.Common.{◌∙◌, ap, ℕ, false}
+use Rattle.std.proofs.lemmas.Result.{err_from_is_err_and}
+use Rattle.list_steps.proofs.CursorLemmas.{fits_same, fits_linked, still_placed}
+use Rattle.node_list.specs.declared.node.Kind.TheVariants.{Dummy}
+use Rattle.node_list.specs.Nodes.{NodeAt, SpareAt, filled}
+use Rattle.bucket_table.specs.Dummies.{IsKeyedNode}
+use Rattle.bucket_table.proofs.DummyLemmas.{keyed_dummy}
+use Rattle.node_list.proofs.OrderLemmas.{each_linked}
+use Rattle.bucket_table.proofs.LinkLemmas.{unlinked, links_at}
+use Rattle.bucket_table.proofs.buckets.link_dummy.Goals as goal
+
+-- a dummy with this split key
+abbrev dummy_with : ℕ → ℕ → ℕ → NodeAt
+dummy_with place split stamp = record { place = place; split = split; kind = Dummy; value = 0; stamp = stamp; marked = false }
+
+pub returns-in_err-spare-clause-err : goal.returns-in_err-spare-clause-err
+returns-in_err-spare-clause-err c =
+    let p = err_from_is_err_and c.from_residual.result c.from_residual.ensures.1 in
+    rw (p.1, p.2) (unlinked _ _ _ c.in_err-spare.ensures.worn c.in_err-spare.ensures.unchanged)
+
+pub link-requires-clause-placed : goal.link-requires-clause-placed
+link-requires-clause-placed c = still_placed _ _ _ c.requires.placed c.in_ok-spare.ensures.follows
+
+pub unreachable-requires : goal.unreachable-requires
+unreachable-requires c =
+    let same = fits_same c.args.list.now c.spare.new.self c.args.cursor c.in_ok-spare.ensures.ok.nodes in
+    cc (c.in-Err.ensures.again, same, c.requires.fits)
+
+pub returns-clause-ok : goal.returns-clause-ok
+returns-clause-ok c =
+    let given = c.in_ok-spare.ensures.ok in
+    let fit = fits_same c.args.list.now c.spare.new.self c.args.cursor given.nodes ∙ c.requires.fits in
+    let at_place = c.in-Ok.ensures.place ∙ ap (λ (s : SpareAt). s.place) c.fill.ensures in
+    let filled_is = ap filled c.fill.ensures ∙ ap (λ split. dummy_with c.in_ok-spare.spare.place split c.in_ok-spare.spare.stamp) c.dummy.ensures.value in
+    rw at_place (links_at _ _ _ _ _ _ _ given c.in_ok-spare.ensures.stamp (λ last. cc (c.in_ok-spare.ensures.worn.1 last)) c.ranges.bucket.fits
+    (fits_linked c.spare.new.self c.args.cursor fit) (filled c.fill.new.self) filled_is c.in-Ok.ensures.ok)
+
+pub returns-clause-keyed : goal.returns-clause-keyed
+returns-clause-keyed c keyed =
+    rw (c.in-Ok.ensures.ok.takes.nodes, c.in_ok-spare.ensures.ok.nodes)
+    (each_linked IsKeyedNode _ _ (filled c.fill.new.self) (keyed_dummy (filled c.fill.new.self) (ap (λ (s : SpareAt). s.kind) c.fill.ensures)) keyed)

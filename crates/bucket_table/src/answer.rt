@@ -1,0 +1,66 @@
+//! What the calls on buckets answer, and why they refuse.
+ghost use Rattle.std.specs.Prelude.{◌≡◌};
+ghost use Rattle.bucket_table.specs.Refusals.{refusal_of};
+
+use node_list::SpareFault;
+
+/// What `Buckets::init_seek` did.
+#[derive(Clone, Copy, Debug, PartialEq, Eq)]
+pub enum InitSeek {
+    /// The bucket is stored already, and the helper is idle.
+    Ready,
+    /// The helper has a cursor for the bucket's dummy.
+    Placed,
+}
+
+/// What `Buckets::init_link` did.
+#[derive(Clone, Copy, Debug, PartialEq, Eq)]
+pub enum InitLink {
+    /// The cursor no longer fits and is dropped: the helper is idle.
+    Again,
+    /// The bucket's dummy was linked before, and the helper has it.
+    Present,
+    /// The bucket's dummy is linked now, and the helper has it.
+    Linked,
+}
+
+/// Why a step of a bucket's initialisation is refused. After each of these all is as it was.
+#[derive(Clone, Copy, Debug, PartialEq, Eq)]
+pub enum InitRefusal {
+    /// The bucket is not below the size.
+    NoSuchBucket,
+    /// The bucket's parent is not stored.
+    ParentMissing,
+    /// The helper's number is not below the number of helpers.
+    NoSuchHelper,
+    /// The helper has no cursor to link at, or no dummy to store.
+    HelperOutOfOrder,
+    /// The list could not grow by the dummy: memory was refused.
+    NoMemory,
+    /// No stamp is left for the dummy: the list's last one is 2^64 - 2.
+    StampsUsedUp,
+}
+
+impl From<SpareFault> for InitRefusal {
+    ghost from_gives = { λ fault refusal. refusal ≡ refusal_of fault };
+
+    fn from(fault: SpareFault) -> Self {
+        match fault {
+            SpareFault::Worn => InitRefusal::StampsUsedUp,
+            SpareFault::NoMemory => InitRefusal::NoMemory,
+        }
+    }
+}
+
+/// What `Buckets::double` did. All but `Doubled` leave the size. The numbers are sizes, in buckets.
+#[derive(Clone, Copy, Debug, PartialEq, Eq)]
+pub enum Double {
+    /// The size is this one, and not the one that was seen.
+    Moved(u32),
+    /// The size is the largest one.
+    AtLimit,
+    /// There are at most twice as many keys as buckets.
+    Light,
+    /// The size is doubled to this one.
+    Doubled(u32),
+}

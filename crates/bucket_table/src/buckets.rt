@@ -1,0 +1,302 @@
+//! The buckets.
+ghost use Rattle.std.specs.Prelude.{◌≡◌, ◌≢◌, ℕ, ◌%◌, ◌<◌, ◌≤◌, ◌^◌, Some, None, Ok, Err, true, length, replicate, nat_le, if◌then◌else◌, IfOk, OnErr, OnOk, IfErr, MatchResult};
+ghost use Rattle.node_list.specs.Nodes.{Listing, live_count, node_of};
+ghost use Rattle.node_list.specs.Follow.{Follows};
+ghost use Rattle.node_list.specs.Sound.{IsSound};
+ghost use Rattle.list_steps.specs.Content.{pairs};
+ghost use Rattle.list_steps.specs.Found.{IsPlaced, fits, split_of, node_there};
+ghost use Rattle.list_steps.specs.Seek.{IsStart};
+ghost use Rattle.split_key.specs.Split.{IsPowerOfTwo, ancestor_of, reversed, split};
+ghost use Rattle.bucket_table.specs.Links.{IsUnlinked, LinksAt};
+ghost use Rattle.bucket_table.specs.Dummies.{IsBeforeBucket, IsDummyAt, IsKeyed, has_dummy};
+
+use crate::answer::{Double, InitLink, InitRefusal, InitSeek};
+use crate::helper::Helper;
+use list_steps::{Again, Cursor, link, look, seek};
+use node_list::{Kind, NodeList, NodeRef};
+use split_key::{dummy, parent};
+use std::alloc::{AllocError, Global};
+use std::marker::Model;
+
+/// The buckets of a table: its size, the dummies of the stored buckets, and its helpers.
+///
+/// A contract sees them as a `Directory`. They belong to one list, which each call is lent.
+#[derive(Drop)]
+pub struct Buckets {
+    size: u32,
+    entries: Vec<Option<NodeRef>>,
+    helpers: Vec<Helper>,
+}
+
+impl Model for Buckets {
+    ghost use Rattle.bucket_table.specs.Directory.{Directory, IsSound};
+
+    ghost Value = { Directory };
+
+    ghost view = { λ b. record { size = b.size; entries = b.entries.items; helpers = b.helpers.items } };
+
+    ghost invariant = { λ b. IsSound (record { size = b.size; entries = b.entries.items; helpers = b.helpers.items }) };
+}
+
+// A vector of so many equal values.
+fn filled<T: Copy>(alloc: Global, count: u32, value: T) -> Result<Vec<T>, AllocError>
+    ensures { IfOk result (λ items. items.items ≡ replicate count value) }
+{
+    let mut items = Vec::with_capacity(alloc, count as usize)?;
+    for _ in 0..count {
+        items.push(value)?;
+    }
+    Ok(items)
+}
+
+impl Buckets {
+    ghost use Rattle.bucket_table.specs.Directory.{beginning, dummy_of, helper_of, is_stored, with_helper, with_dummy, with_size, IsSound as IsSoundDirectory, IsInOrder, IsReady, IsNearest};
+    ghost use Rattle.bucket_table.specs.declared.helper.Helper.TheVariants.{Seeking};
+    ghost use Rattle.bucket_table.specs.Home.{IsHome, IsHelperHome};
+    ghost use Rattle.bucket_table.specs.Answers.{seek_answer, link_answer, store_answer, double_answer};
+    ghost use Rattle.bucket_table.specs.Changes.{SeekChanges, LinkChanges, StoreChanges, after_double};
+
+    /// Two buckets, of which bucket 0 is stored with the list's first node, and idle helpers. `max` is the
+    /// largest size, in buckets.
+    ///
+    /// `AllocError` where memory is refused. Takes memory for `max` entries and for the helpers, and time in
+    /// proportion.
+    pub fn new(alloc: Global, max: u32, helpers: u32, list: &NodeList) -> Result<Self, AllocError>
+        requires power { IsPowerOfTwo max }
+        requires least { 2 ≤ max }
+        ensures ok { IfOk result (λ buckets. buckets ≡ beginning max helpers list.now.head) }
+        ensures home { IfOk result (λ buckets. IsHome buckets list.now) }
+    {
+        let mut entries = filled(alloc, max, None)?;
+        entries[0] = Some(list.head());
+        Ok(Buckets {
+            size: 2,
+            entries,
+            helpers: filled(alloc, helpers, Helper::Idle)?,
+        })
+    }
+
+    /// How many buckets the table has now: a power of two, at least 2. Constant time.
+    pub fn size(&self) -> u32
+        ensures size { result ≡ self.now.size }
+        ensures sound { IsSoundDirectory self.now }
+    {
+        self.size
+    }
+
+    // The dummy of a bucket, if the bucket is stored.
+    fn dummy(&self, bucket: u32) -> Option<NodeRef>
+        ensures dummy { result ≡ dummy_of self.now bucket }
+        ensures sound { IsSoundDirectory self.now }
+    {
+        self.entries.get(bucket as usize).copied().flatten()
+    }
+
+    /// The dummy of a bucket, or that of its nearest stored ancestor: a seek for any key of the bucket may
+    /// begin there, since it stands before all of them.
+    ///
+    /// Takes no memory, and one step for each ancestor that is passed.
+    pub fn nearest(&self, bucket: u32) -> NodeRef
+        ensures nearest { IsNearest self.now bucket result }
+        ensures before { (list : Listing) → IsHome self.now list → IsBeforeBucket list.nodes result bucket }
+        ensures start { (list : Listing) (key : ℕ) → IsHome self.now list → key < 2 ^ 63 → key % self.now.size ≡ bucket → IsStart list.nodes result (split key) }
+    {
+        let mut at = bucket;
+        loop {
+            if let Some(dummy) = self.dummy(at) {
+                return dummy;
+            }
+            at = parent(at);
+        }
+    }
+
+    // What a helper has, or `NoSuchHelper`.
+    fn helper(&self, helper: u64) -> Result<&Helper, InitRefusal>
+        ensures ok { IfOk result (λ had. helper_of self.now helper ≡ Some had.now) }
+        ensures err { IfErr result (λ refusal. (refusal ≡ InitRefusal.NoSuchHelper) × (helper_of self.now helper ≡ None)) }
+        ensures sound { IsSoundDirectory self.now }
+    {
+        self.helpers
+            .get(helper as usize)
+            .ok_or(InitRefusal::NoSuchHelper)
+    }
+
+    // Stores a bucket with its dummy.
+    fn set_dummy(&mut self, bucket: u32, dummy: NodeRef)
+        requires { IsReady self.old bucket }
+        ensures { self.new ≡ with_dummy self.old bucket dummy }
+    {
+        self.entries[bucket as usize] = Some(dummy);
+    }
+
+    // Gives a helper something else.
+    fn set_helper(&mut self, helper: u64, now: Helper)
+        requires there { helper < length self.old.helpers }
+        requires order { IsInOrder self.old now }
+        ensures { self.new ≡ with_helper self.old helper now }
+    {
+        self.helpers[helper as usize] = now;
+    }
+
+    /// Seeks the place of a bucket's dummy, from the dummy of its parent, and gives the helper a cursor
+    /// there. Whatever the helper had is dropped. A bucket that is stored is `Ready`, and leaves the helper
+    /// idle.
+    ///
+    /// Refused, in this order: `NoSuchHelper`, `NoSuchBucket`; then, unless the bucket is stored,
+    /// `ParentMissing`. The helper, the buckets and the list are then as they were.
+    ///
+    /// The seek unlinks the marked nodes that it passes, and leaves the content of the list. Takes no
+    /// memory. Visits each node between the parent's dummy and the place.
+    pub fn init_seek(
+        &mut self,
+        list: &mut NodeList,
+        helper: u64,
+        bucket: u64,
+    ) -> Result<InitSeek, InitRefusal>
+        requires { IsHome self.old list.old }
+        ensures answer { result ≡ seek_answer self.old helper bucket }
+        ensures changes { SeekChanges self.old self.new list.old list.new helper bucket result }
+        ensures home { IsHome self.new list.new }
+        ensures content { pairs list.new.nodes ≡ pairs list.old.nodes }
+        ensures dummies { (other : ℕ) → has_dummy list.new.nodes other ≡ has_dummy list.old.nodes other }
+        ensures keyed { IsKeyed list.old.nodes → IsKeyed list.new.nodes }
+        ensures follows { Follows list.old list.new }
+    {
+        let _ = self.helper(helper)?;
+        if bucket >= u64::from(self.size()) {
+            return Err(InitRefusal::NoSuchBucket);
+        }
+        let bucket = bucket as u32;
+        if self.dummy(bucket).is_some() {
+            self.set_helper(helper, Helper::Idle);
+            return Ok(InitSeek::Ready);
+        }
+        let parent = parent(bucket);
+        let Some(from) = self.dummy(parent) else {
+            return Err(InitRefusal::ParentMissing);
+        };
+        let _turn = list.turn();
+        let cursor = seek(list, from, dummy(bucket));
+        self.set_helper(helper, Helper::Seeking(bucket, cursor));
+        Ok(InitSeek::Placed)
+    }
+
+    // `init_link` at the bucket and the cursor of the helper.
+    fn link_at(
+        &mut self,
+        list: &mut NodeList,
+        helper: u64,
+        bucket: u32,
+        cursor: Cursor,
+    ) -> Result<InitLink, InitRefusal>
+        requires home { IsHome self.old list.old }
+        requires keyed { IsKeyed list.old.nodes }
+        requires had { helper_of self.old helper ≡ Some (Seeking bucket cursor) }
+        requires ready { IsReady self.old bucket }
+        ensures answer { result ≢ Err InitRefusal.NoMemory → result ≡ link_answer self.old list.old helper }
+        ensures no_memory { result ≡ Err InitRefusal.NoMemory → link_answer self.old list.old helper ≡ Ok InitLink.Linked }
+        ensures changes { LinkChanges self.old self.new list.old list.new helper result }
+        ensures home { IsHome self.new list.new }
+        ensures content { pairs list.new.nodes ≡ pairs list.old.nodes }
+        ensures keyed { IsKeyed list.new.nodes }
+        ensures follows { Follows list.old list.new }
+    {
+        match look(list, &cursor) {
+            Err(Again) => {
+                self.set_helper(helper, Helper::Idle);
+                Ok(InitLink::Again)
+            }
+            Ok(Some(dummy)) => {
+                self.set_helper(helper, Helper::Holding(bucket, dummy));
+                Ok(InitLink::Present)
+            }
+            Ok(None) => {
+                let dummy = link_dummy(list, cursor, bucket)?;
+                self.set_helper(helper, Helper::Holding(bucket, dummy));
+                Ok(InitLink::Linked)
+            }
+        }
+    }
+
+    /// Links the dummy of a helper's bucket where the helper's cursor is, unless it is linked there already,
+    /// and gives the helper that dummy. Where the cursor does not fit, it is dropped and the helper is idle.
+    ///
+    /// Refused, in this order: `NoSuchHelper`; `HelperOutOfOrder` where the helper has no cursor; and where
+    /// a dummy is to be linked, `StampsUsedUp`, then `NoMemory`. The helper keeps its cursor then, and the
+    /// buckets and the list are as they were.
+    ///
+    /// The content of the list stays. May take memory for one node. Amortised constant time.
+    pub fn init_link(&mut self, list: &mut NodeList, helper: u64) -> Result<InitLink, InitRefusal>
+        requires home { IsHome self.old list.old }
+        requires keyed { IsKeyed list.old.nodes }
+        ensures answer { result ≢ Err InitRefusal.NoMemory → result ≡ link_answer self.old list.old helper }
+        ensures no_memory { result ≡ Err InitRefusal.NoMemory → link_answer self.old list.old helper ≡ Ok InitLink.Linked }
+        ensures changes { LinkChanges self.old self.new list.old list.new helper result }
+        ensures home { IsHome self.new list.new }
+        ensures content { pairs list.new.nodes ≡ pairs list.old.nodes }
+        ensures keyed { IsKeyed list.new.nodes }
+        ensures follows { Follows list.old list.new }
+    {
+        let (bucket, cursor) = self.helper(helper)?.seeking()?;
+        self.link_at(list, helper, bucket, cursor)
+    }
+
+    /// Stores a helper's dummy as that of its bucket, also where the bucket was stored since; the helper is
+    /// idle then.
+    ///
+    /// Refused, in this order: `NoSuchHelper`; `HelperOutOfOrder` where the helper has no dummy. The helper
+    /// and the buckets are then as they were. Takes no memory. Constant time.
+    pub fn init_store(&mut self, helper: u64) -> Result<(), InitRefusal>
+        ensures answer { result ≡ store_answer self.old helper }
+        ensures changes { StoreChanges self.old self.new helper result }
+        ensures home { (list : Listing) → IsHome self.old list → IsHome self.new list }
+    {
+        let (bucket, dummy) = self.helper(helper)?.holding()?;
+        self.set_dummy(bucket, dummy);
+        self.set_helper(helper, Helper::Idle);
+        Ok(())
+    }
+
+    /// Doubles the size, where it is the one that the caller saw, is not the largest, and the list has more
+    /// than twice as many keys as there are buckets; these are tested in this order.
+    ///
+    /// Nothing else changes: no node moves, and the new buckets are not stored yet. Takes no memory.
+    /// Constant time.
+    pub fn double(&mut self, list: &NodeList, seen: u64) -> Double
+        ensures answer { result ≡ double_answer self.old (live_count list.now.nodes) seen }
+        ensures size { self.new ≡ after_double self.old result }
+        ensures home { (other : Listing) → IsHome self.old other → IsHome self.new other }
+    {
+        if u64::from(self.size) != seen {
+            return Double::Moved(self.size);
+        }
+        if self.size as usize == self.entries.len() {
+            return Double::AtLimit;
+        }
+        if list.count() <= 2 * u64::from(self.size) {
+            return Double::Light;
+        }
+        self.size *= 2;
+        Double::Doubled(self.size)
+    }
+}
+
+// Links the dummy of a bucket where a cursor is.
+fn link_dummy(list: &mut NodeList, cursor: Cursor, bucket: u32) -> Result<NodeRef, InitRefusal>
+    requires split { split_of cursor ≡ reversed bucket }
+    requires placed { IsPlaced list.old cursor }
+    requires fits { fits list.old cursor ≡ true }
+    requires room { node_there list.old cursor ≡ None }
+    ensures ok { IfOk result (λ place. LinksAt list.old list.new cursor bucket place) }
+    ensures content { pairs list.new.nodes ≡ pairs list.old.nodes }
+    ensures keyed { IsKeyed list.old.nodes → IsKeyed list.new.nodes }
+    ensures follows { Follows list.old list.new }
+    ensures err { IfErr result (λ refusal. IsUnlinked list.old list.new refusal) }
+{
+    let mut spare = list.spare()?;
+    spare.fill(dummy(bucket), Kind::Dummy, 0);
+    match link(list, cursor, spare) {
+        Ok(dummy) => Ok(dummy),
+        Err(_) => unreachable!(),
+    }
+}

@@ -1,0 +1,77 @@
+-- What a step at a key does to the table.
+use Rattle.std.proofs.Common.{◌≡◌, ℕ, ◌<◌, ◌^◌, List, [], ◌∷◌, Option, Some, None, Bool, true, false, refl, sym, ◌∙◌, ap, subst}
+use Rattle.node_list.specs.declared.node.Kind.TheVariants.{Regular}
+use Rattle.node_list.specs.Nodes.{NodeAt, Listing, SpareAt, filled}
+use Rattle.node_list.specs.Sound.{IsSound}
+use Rattle.list_steps.specs.declared.cursor.Cursor.{Cursor}
+use Rattle.list_steps.specs.Content.{pairs, pair_of, Replaces}
+use Rattle.list_steps.specs.Found.{fits, node_there, pred_of, split_of, IsPlaced}
+use Rattle.list_steps.specs.Seek.{sought, KeepsRest}
+use Rattle.list_steps.specs.Steps.{Links, Marks, Swaps}
+use Rattle.list_steps.proofs.ContentLemmas.{pair_regular}
+use Rattle.list_steps.proofs.CursorLemmas.{fits_linked}
+use Rattle.split_key.specs.Split.{split}
+use Rattle.bucket_table.specs.Directory.{Directory}
+use Rattle.bucket_table.specs.Dummies.{has_dummy}
+use Rattle.txn_trace.proofs.Order.{Rises}
+use Rattle.map_ops.specs.TableAt.{table_of}
+use Rattle.map_ops.specs.Steps.{Sets}
+use Rattle.map_ops.specs.Sound.{Belong}
+use Rattle.map_ops.proofs.ContentLemmas.{rises-pairs, map_of-linked, map_of-written, map_of-unlinked}
+use Rattle.map_ops.proofs.ThereLemmas.{kind_there}
+use Rattle.map_ops.proofs.BelongLemmas.{belong_linked, belong_marked, belong_written, has_dummy-marked, has_dummy-written, has_dummy-regular, linked_same}
+
+module _ (old new : Listing) (c : Cursor) (key : ℕ) (sound : IsSound old) (after : IsSound new) (belong : Belong old.nodes) (placed : IsPlaced old c) (fitting : fits old c ≡ true) (same : split_of c ≡ split key) (small : key < 2 ^ 63) where
+  old_rises : Rises (pairs old.nodes)
+  old_rises = rises-pairs old.nodes sound.rising belong.keyed
+
+  same_key : (n : NodeAt) (other : ℕ) → node_there old c ≡ Some n → n.kind ≡ Regular other → other ≡ key
+  same_key n other is kind =
+      let own : Regular other ≡ Regular key = sym kind ∙ kind_there old c key sound belong placed fitting same small n is in
+      cc
+
+  pub marks_belong : (value : ℕ) → Marks old new c value → Belong new.nodes
+  marks_belong value marks = subst Belong (sym marks.becomes.nodes) (belong_marked old.nodes marks.node.place belong)
+
+  -- A key that is marked is there no more.
+  pub marks_sets : (value : ℕ) → Marks old new c value → (buckets : Directory) → Sets (table_of old buckets) (table_of new buckets) key None
+  marks_sets value marks buckets =
+      let replaces : Replaces (pairs old.nodes) (pairs new.nodes) ((key, value) ∷ []) [] =
+      subst (λ k. Replaces (pairs old.nodes) (pairs new.nodes) ((k, value) ∷ []) []) (same_key marks.node marks.key marks.there marks.regular) marks.content in
+      record {
+        content_is = map_of-unlinked (pairs old.nodes) (pairs new.nodes) key old_rises (rises-pairs new.nodes after.rising (marks_belong value marks).keyed) value replaces;
+        buckets = refl;
+        linked = linked_same old new buckets (λ b. ap (λ (nodes : List NodeAt). has_dummy nodes b) marks.becomes.nodes ∙ has_dummy-marked old.nodes marks.node.place b);
+        last = marks.becomes.last;
+      }
+
+  pub swaps_belong : (was now : ℕ) → Swaps old new c was now → Belong new.nodes
+  swaps_belong was now swaps = subst Belong (sym swaps.becomes.nodes) (belong_written old.nodes swaps.node.place now belong)
+
+  -- A key that is written has the value.
+  pub swaps_sets : (was now : ℕ) → Swaps old new c was now → (buckets : Directory) → Sets (table_of old buckets) (table_of new buckets) key (Some now)
+  swaps_sets was now swaps buckets =
+      let replaces : Replaces (pairs old.nodes) (pairs new.nodes) ((key, was) ∷ []) ((key, now) ∷ []) =
+      subst (λ k. Replaces (pairs old.nodes) (pairs new.nodes) ((k, was) ∷ []) ((k, now) ∷ [])) (same_key swaps.node swaps.key swaps.there swaps.regular) swaps.content in
+      record {
+        content_is = map_of-written (pairs old.nodes) (pairs new.nodes) key old_rises (rises-pairs new.nodes after.rising (swaps_belong was now swaps).keyed) was now replaces;
+        buckets = refl;
+        linked = linked_same old new buckets (λ b. ap (λ (nodes : List NodeAt). has_dummy nodes b) swaps.becomes.nodes ∙ has_dummy-written old.nodes swaps.node.place now b);
+        last = swaps.becomes.last;
+      }
+
+  module _ (x : NodeAt) (kind : x.kind ≡ Regular key) (unmarked : x.marked ≡ false) (place : x.split ≡ split key) where
+    pub links_belong : Links old new c x → Belong new.nodes
+    links_belong links = subst Belong (sym links.takes.nodes) (belong_linked old.nodes (pred_of c) x key belong kind small place)
+
+    -- A key that is linked is there, with the node's value.
+    pub links_sets : Links old new c x → (buckets : Directory) → Sets (table_of old buckets) (table_of new buckets) key (Some x.value)
+    links_sets links buckets =
+        let replaces : Replaces (pairs old.nodes) (pairs new.nodes) [] ((key, x.value) ∷ []) =
+        subst (λ now. Replaces (pairs old.nodes) (pairs new.nodes) [] now) (pair_regular x key kind unmarked) links.content in
+        record {
+          content_is = map_of-linked (pairs old.nodes) (pairs new.nodes) key old_rises (rises-pairs new.nodes after.rising (links_belong links).keyed) x.value replaces;
+          buckets = refl;
+          linked = linked_same old new buckets (λ b. ap (λ (nodes : List NodeAt). has_dummy nodes b) links.takes.nodes ∙ has_dummy-regular old.nodes (pred_of c) x key b (fits_linked old c fitting) kind);
+          last = links.takes.last;
+        }

@@ -1,0 +1,107 @@
+-- What is done to the table by the steps at a key.
+use Rattle.std.proofs.Common.{◌≡◌, ◌≢◌, ℕ, ◌<◌, ◌^◌, ◌==◌, inl, inr, List, [], ◌∷◌, Option, Some, None, Bool, true, false, cond, map, refl, sym, ◌∙◌, ap, subst}
+use Rattle.std.specs.List.{range_with_len}
+use Rattle.std.proofs.lemmas.Bool.{cases_eq, eq-eqb, ne_eqb}
+use Rattle.node_list.specs.Nodes.{NodeAt, Listing, SpareAt, out_at}
+use Rattle.node_list.specs.Sound.{IsSound}
+use Rattle.list_steps.specs.declared.cursor.Cursor.{Cursor}
+use Rattle.list_steps.specs.Content.{pairs}
+use Rattle.list_steps.specs.Found.{IsFound, fits, split_of, IsPlaced}
+use Rattle.list_steps.specs.Seek.{sought, KeepsRest}
+use Rattle.split_key.specs.Split.{split}
+use Rattle.bucket_table.specs.Directory.{Directory, limit_of}
+use Rattle.bucket_table.specs.Dummies.{has_dummy}
+use Rattle.bucket_table.proofs.DummyLemmas.{has_dummy-sought}
+use Rattle.txn_trace.specs.declared.op.Op.TheVariants.{Put, Take, Get}
+use Rattle.txn_trace.specs.Map.{Map, get, remove}
+use Rattle.txn_trace.proofs.Maps.{get-remove, same_map}
+use Rattle.map_ops.specs.declared.job.MapJob.TheVariants.{Unput, Restore, Relink}
+use Rattle.map_ops.specs.TableAt.{content, map_of, table_of, regular, linked_of, KeepsSpares}
+use Rattle.map_ops.specs.declared.job.MapJob.{MapJob}
+use Rattle.map_ops.specs.Jobs.{unput, relink, key_of_job, value_before, spare_of_job}
+use Rattle.map_ops.specs.Changes.{Does, GivesBack, Places, Spends, TakesBack}
+use Rattle.map_ops.specs.Steps.{Sets}
+use Rattle.map_ops.proofs.BelongLemmas.{linked_same}
+
+-- To take out a key that is not there changes nothing.
+pub remove-absent : (m : Map) (k : ℕ) → get m k ≡ None → remove m k ≡ m
+remove-absent m k none = same_map (remove m k) m (λ q. get-remove m k q ∙ elim (cases_eq q k) [
+  | inl same ↦ ap (λ b. cond b None (get m q)) (eq-eqb q k same) ∙ sym (ap (get m) same ∙ none)
+  | inr other ↦ ap (λ b. cond b None (get m q)) (ne_eqb q k other)
+])
+
+module _ (old mid new : Listing) (buckets : Directory) (k : ℕ) (before : Option ℕ) (before_is : before ≡ get (content (table_of old buckets)) k) (spare : SpareAt) where
+  pub does_put_new : (v : ℕ) → before ≡ None → Sets (table_of old buckets) (table_of new buckets) k (Some v) → Spends (table_of old buckets) (table_of new buckets) (Some spare)
+      → Does (table_of old buckets) (table_of new buckets) (record { op = Put k v; spare = Some spare }) before (Some (Unput k))
+  does_put_new v none sets spends = record {
+    reply_is = before_is;
+    content_is = sets.content_is;
+    job_is = ap (unput k) (sym none ∙ before_is);
+    spares = spends;
+    buckets = refl;
+    linked = sets.linked;
+    last = sets.last;
+  }
+
+  pub does_put_over : (v value : ℕ) → before ≡ Some value → Sets (table_of old buckets) (table_of mid buckets) k (Some v) → KeepsSpares (table_of old buckets) (table_of mid buckets) → GivesBack (table_of mid buckets) (table_of new buckets) (Some spare)
+      → Does (table_of old buckets) (table_of new buckets) (record { op = Put k v; spare = Some spare }) before (Some (Restore k value))
+  does_put_over v value some sets keeps gives = record {
+    reply_is = before_is;
+    content_is = ap (λ (nodes : List NodeAt). map_of (pairs nodes)) gives.nodes ∙ sets.content_is;
+    job_is = ap (unput k) (sym some ∙ before_is);
+    spares = (gives.spares.0, λ other apart. gives.spares.1 other apart ∙ keeps other);
+    buckets = refl;
+    linked = ap (λ (nodes : List NodeAt). map (has_dummy nodes) (range_with_len 0 (limit_of buckets))) gives.nodes ∙ sets.linked;
+    last = gives.last ∙ sets.last;
+  }
+
+  pub does_take : (value : ℕ) → before ≡ Some value → Sets (table_of old buckets) (table_of new buckets) k None → KeepsSpares (table_of old buckets) (table_of new buckets)
+      → Does (table_of old buckets) (table_of new buckets) (record { op = Take k; spare = Some spare }) before (Some (Relink k value spare))
+  does_take value some sets keeps = record {
+    reply_is = before_is;
+    content_is = sets.content_is;
+    job_is = ap (λ (o : Option ℕ). relink k o (Some spare)) (sym some ∙ before_is);
+    spares = keeps;
+    buckets = refl;
+    linked = sets.linked;
+    last = sets.last;
+  }
+
+  pub does_take_none : before ≡ None → GivesBack (table_of old buckets) (table_of new buckets) (Some spare)
+      → Does (table_of old buckets) (table_of new buckets) (record { op = Take k; spare = Some spare }) before None
+  does_take_none none gives = record {
+    reply_is = before_is;
+    content_is = ap (λ (nodes : List NodeAt). map_of (pairs nodes)) gives.nodes ∙ sym (remove-absent (content (table_of old buckets)) k (sym before_is ∙ none));
+    job_is = ap (λ (o : Option ℕ). relink k o (Some spare)) (sym none ∙ before_is);
+    spares = gives.spares;
+    buckets = refl;
+    linked = ap (λ (nodes : List NodeAt). map (has_dummy nodes) (range_with_len 0 (limit_of buckets))) gives.nodes;
+    last = gives.last;
+  }
+
+-- A key is sought.
+pub places : (old new : Listing) (buckets : Directory) (key from bound : ℕ) (c : Cursor) → IsSound old → new.nodes ≡ sought old.nodes from bound → KeepsRest old new → pairs new.nodes ≡ pairs old.nodes
+    → IsFound new c → IsPlaced new c → fits new c ≡ true → split_of c ≡ split key → Places (table_of old buckets) (table_of new buckets) key c
+places old new buckets key from bound c sound nodes_is kept same found placed fitting place = record {
+  keeps = record {
+    regular = same;
+    buckets = refl;
+    linked = linked_same old new buckets (λ b. ap (λ (nodes : List NodeAt). has_dummy nodes b) nodes_is ∙ has_dummy-sought old.nodes from bound b sound.plain);
+    last = kept.last;
+  };
+  spares = kept.out;
+  placed = (placed, place);
+  fits = fitting;
+  turn = found.turn;
+}
+
+-- A change is taken back where its key has what it had before.
+pub takes_back : (old new : Listing) (buckets : Directory) (job : MapJob) → Sets (table_of old buckets) (table_of new buckets) (key_of_job job) (value_before job) → Spends (table_of old buckets) (table_of new buckets) (spare_of_job job)
+    → TakesBack (table_of old buckets) (table_of new buckets) job
+takes_back old new buckets job sets spends = record {
+  content_is = sets.content_is;
+  spares = spends;
+  buckets = refl;
+  linked = sets.linked;
+  last = sets.last;
+}

@@ -1,0 +1,15 @@
+-- What keeps tables sound.
+use Rattle.std.proofs.Common.{◌≡◌, ℕ, List, sym, subst}
+use Rattle.node_list.specs.Nodes.{NodeAt, Listing}
+use Rattle.node_list.specs.Follow.{Follows}
+use Rattle.bucket_table.specs.Directory.{Directory}
+use Rattle.bucket_table.proofs.HomeLemmas.{still_home}
+use Rattle.map_ops.specs.Sound.{Belong, IsSound}
+
+-- A later list in which each node stands where it belongs.
+pub still_sound : (old new : Listing) (buckets : Directory) → IsSound old buckets → Follows old new → Belong new.nodes → IsSound new buckets
+still_sound old new buckets sound follows belong = record { home = still_home old new follows buckets sound.home; belong = belong }
+
+-- A later list of the same nodes.
+pub sound_with_nodes : (old new : Listing) (buckets : Directory) → IsSound old buckets → Follows old new → new.nodes ≡ old.nodes → IsSound new buckets
+sound_with_nodes old new buckets sound follows same = still_sound old new buckets sound follows (subst Belong (sym same) sound.belong)

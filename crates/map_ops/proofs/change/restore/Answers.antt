@@ -1,0 +1,15 @@
+use Rattle.map_ops.proofs.Laws.{no_buckets}
+use Rattle.map_ops.proofs.DoesLemmas.{takes_back}
+use Rattle.map_ops.proofs.change.restore.Goals as goal
+
+pub link_key-requires-clause-owned : goal.link_key-requires-clause-owned
+link_key-requires-clause-owned c = rw c.in-Relink.is at (c.requires.owned no_buckets)
+
+pub returns-in-Unput-clause-back : goal.returns-in-Unput-clause-back
+returns-in-Unput-clause-back c = λ buckets. rw c.in-Unput.is (takes_back c.args.list.now c.mark_key.new.list buckets _ (c.mark_key.ensures.sets buckets) (c.mark_key.ensures.spares buckets))
+
+pub returns-in-Restore-clause-back : goal.returns-in-Restore-clause-back
+returns-in-Restore-clause-back c = λ buckets. rw c.in-Restore.is (takes_back c.args.list.now c.swap_key.new.list buckets _ (c.swap_key.ensures.sets buckets) (c.swap_key.ensures.spares buckets))
+
+pub returns-in-Relink-clause-back : goal.returns-in-Relink-clause-back
+returns-in-Relink-clause-back c = λ buckets. rw c.in-Relink.is (takes_back c.args.list.now c.link_key.new.list buckets _ (c.link_key.ensures.sets buckets) (c.link_key.ensures.spares buckets))

@@ -1,0 +1,11 @@
+use Rattle.std.proofs.Common.{sym}
+use Rattle.map_ops.proofs.SoundLemmas.{still_sound}
+use Rattle.map_ops.proofs.table.Table.act.Goals as goal
+
+pub invariant_of-self : goal.invariant_of-self
+invariant_of-self c = still_sound c.self.inside.list c.change-job.new.list c.self.inside.buckets c.self.invariant c.change-job.ensures.follows c.change-job.ensures.belong
+
+pub returns-in-Ok-clause-acts : goal.returns-in-Ok-clause-acts
+returns-in-Ok-clause-acts c =
+    let does = rw c.into_plan.ensures at (c.change-job.ensures.does c.self.inside.buckets) in
+    rw (← c.self.view_is) (sym c.in-Ok.ensures.again, does)

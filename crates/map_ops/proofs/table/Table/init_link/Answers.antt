@@ -1,0 +1,29 @@
+use Rattle.std.proofs.Common.{◌∙◌, sym, map}
+use Rattle.std.specs.List.{slice_get}
+use Rattle.map_ops.specs.TableAt.{help_of, linked_of, table_of}
+use Rattle.map_ops.specs.Buckets.{helper_fits}
+use Rattle.map_ops.proofs.BucketLemmas.{link_answers, link_changes, link_even, helper_in_turn, fits_not_again}
+use Rattle.map_ops.proofs.table.Table.init_link.Goals as goal
+
+pub invariant_of-self : goal.invariant_of-self
+invariant_of-self c = record {
+  home = c.init_link.ensures.home;
+  belong = record {
+    keyed = c.init_link.ensures.keyed;
+    even = link_even c.self.inside.list c.init_link.new.list c.self.inside.buckets c.init_link.new.self c.args.helper c.init_link.result c.size-size.ensures.sound c.init_link.ensures.changes c.self.invariant.belong.even;
+  };
+}
+
+pub returns-clause-answer : goal.returns-clause-answer
+returns-clause-answer c = rw (← c.self.view_is) (λ other. c.init_link.ensures.answer other ∙ link_answers c.self.inside.list c.self.inside.buckets c.args.helper c.size-size.ensures.sound)
+
+pub returns-clause-no_memory : goal.returns-clause-no_memory
+returns-clause-no_memory c = rw (← c.self.view_is) (λ is. sym (link_answers c.self.inside.list c.self.inside.buckets c.args.helper c.size-size.ensures.sound) ∙ c.init_link.ensures.no_memory is)
+
+pub returns-clause-in_turn : goal.returns-clause-in_turn
+returns-clause-in_turn c = rw (← c.self.view_is) (λ bucket had below again.
+    fits_not_again (helper_fits (table_of c.self.inside.list c.self.inside.buckets) c.args.helper) (linked_of (table_of c.self.inside.list c.self.inside.buckets)) c.self.inside.list.last bucket c.self.inside.list.turn (slice_get (map help_of c.self.inside.buckets.helpers) c.args.helper) had (helper_in_turn c.self.inside.list c.self.inside.buckets c.args.helper bucket c.self.invariant.home had below)
+    (sym (link_answers c.self.inside.list c.self.inside.buckets c.args.helper c.size-size.ensures.sound) ∙ sym (c.init_link.ensures.answer (λ refused. cc (sym again ∙ refused))) ∙ again))
+
+pub returns-clause-changes : goal.returns-clause-changes
+returns-clause-changes c = rw (← c.self.view_is) (link_changes c.self.inside.list c.init_link.new.list c.self.inside.buckets c.init_link.new.self c.args.helper c.init_link.result c.size-size.ensures.sound c.init_link.ensures.answer c.init_link.ensures.changes c.init_link.ensures.content)

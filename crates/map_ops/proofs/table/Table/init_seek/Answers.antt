@@ -1,0 +1,18 @@
+use Rattle.std.proofs.Common.{◌∙◌}
+use Rattle.map_ops.proofs.BucketLemmas.{seek_answers, seek_changes, seek_even}
+use Rattle.map_ops.proofs.table.Table.init_seek.Goals as goal
+
+pub invariant_of-self : goal.invariant_of-self
+invariant_of-self c = record {
+  home = c.init_seek.ensures.home;
+  belong = record {
+    keyed = c.init_seek.ensures.keyed c.self.invariant.belong.keyed;
+    even = seek_even c.self.inside.list c.init_seek.new.list c.self.inside.buckets c.init_seek.new.self c.args.helper c.args.bucket c.init_seek.result c.init_seek.ensures.changes c.self.invariant.belong.even;
+  };
+}
+
+pub returns-clause-answer : goal.returns-clause-answer
+returns-clause-answer c = rw (← c.self.view_is) (c.init_seek.ensures.answer ∙ seek_answers c.self.inside.buckets c.args.helper c.args.bucket)
+
+pub returns-clause-changes : goal.returns-clause-changes
+returns-clause-changes c = rw (← c.self.view_is) (seek_changes c.self.inside.list c.init_seek.new.list c.self.inside.buckets c.init_seek.new.self c.args.helper c.args.bucket c.init_seek.result c.init_seek.ensures.answer c.init_seek.ensures.changes c.init_seek.ensures.content c.init_seek.ensures.dummies)

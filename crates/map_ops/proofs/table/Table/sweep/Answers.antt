@@ -1,0 +1,9 @@
+use Rattle.map_ops.proofs.BucketLemmas.{sweep_belong, sweep_keeps}
+use Rattle.map_ops.proofs.SoundLemmas.{still_sound}
+use Rattle.map_ops.proofs.table.Table.sweep.Goals as goal
+
+pub invariant_of-self : goal.invariant_of-self
+invariant_of-self c = still_sound c.self.inside.list c.sweep.new.list c.self.inside.buckets c.self.invariant c.sweep.ensures.follows (sweep_belong c.self.inside.list c.sweep.new.list c.sweep.result c.sweep.ensures.sweeps c.self.invariant.belong)
+
+pub returns-clause-keeps : goal.returns-clause-keeps
+returns-clause-keeps c = rw (← c.self.view_is) (sweep_keeps c.self.inside.list c.sweep.new.list c.self.inside.buckets c.sweep.result c.turn-turn.ensures.sound c.sweep.ensures.sweeps c.sweep.ensures.content)

@@ -1,0 +1,9 @@
+use Rattle.std.proofs.Common.{sym}
+use Rattle.map_ops.proofs.SoundLemmas.{still_sound}
+use Rattle.map_ops.proofs.table.Table.undo.Goals as goal
+
+pub invariant_of-self : goal.invariant_of-self
+invariant_of-self c = still_sound c.self.inside.list c.restore.new.list c.self.inside.buckets c.self.invariant c.restore.ensures.follows c.restore.ensures.belong
+
+pub returns-in-Ok-clause-undoes : goal.returns-in-Ok-clause-undoes
+returns-in-Ok-clause-undoes c = rw (← c.self.view_is) (sym c.in-Ok.ensures.again, c.restore.ensures.back c.self.inside.buckets)

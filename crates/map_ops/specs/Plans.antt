@@ -1,0 +1,12 @@
+-- Operations with a right key and their spares.
+use Rattle.std.specs.Prelude.{ℕ, Some, None}
+use Rattle.txn_trace.specs.declared.op.Op.TheVariants as ops
+use Rattle.map_ops.specs.declared.pending.Plan.{Plan}
+use Rattle.map_ops.specs.declared.pending.Plan.TheVariants.{Put, Take, Get}
+use Rattle.map_ops.specs.Jobs.{PendingAt}
+
+-- what a contract sees of a plan
+abbrev pub pending_of : Plan → PendingAt
+pending_of (Put k v spare) = record { op = ops.Put k v; spare = Some spare }
+pending_of (Take k spare) = record { op = ops.Take k; spare = Some spare }
+pending_of (Get k) = record { op = ops.Get k; spare = None }

@@ -1,0 +1,22 @@
+//! What is answered at a cursor.
+use crate::job::MapJob;
+use crate::pending::Pending;
+use txn_trace::Reply;
+
+/// What `Table::act` answers.
+#[derive(Debug, Drop)]
+pub enum Act {
+    /// The operation is done: its reply, and what takes the change back, where it is one.
+    Acted(Reply, Option<MapJob>),
+    /// The cursor no longer fits. Nothing has changed, and the operation comes back.
+    Again(Pending),
+}
+
+/// What `Table::undo` answers.
+#[derive(Debug, Drop)]
+pub enum Undo {
+    /// The change is taken back.
+    Undone,
+    /// The cursor no longer fits. Nothing has changed, and the job comes back.
+    Again(MapJob),
+}

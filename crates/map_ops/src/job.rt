@@ -1,0 +1,31 @@
+//! Jobs.
+ghost use Rattle.std.specs.Prelude.{◌≡◌, ◌<◌, ◌^◌};
+
+use node_list::Spare;
+use split_key::Key;
+
+/// What takes one change back, whatever the table has become since at other keys.
+#[derive(Debug, Drop)]
+pub enum MapJob {
+    /// Takes out what was put at the key.
+    Unput(Key),
+    /// Gives the key the value that it had.
+    Restore(Key, u64),
+    /// Puts the key back with the value that it had, with this spare.
+    Relink(Key, u64, Spare),
+}
+
+impl MapJob {
+    ghost use Rattle.map_ops.specs.Jobs.{key_of_job};
+
+    /// The key of the change.
+    pub fn key(&self) -> Key
+        ensures { result ≡ key_of_job self.now }
+    {
+        match self {
+            MapJob::Unput(key) => *key,
+            MapJob::Restore(key, _) => *key,
+            MapJob::Relink(key, _, _) => *key,
+        }
+    }
+}

@@ -1,0 +1,75 @@
+//! Operations that are prepared.
+ghost use Rattle.std.specs.Prelude.{◌≡◌, ◌<◌, ◌^◌, is_some};
+
+use node_list::Spare;
+use split_key::Key;
+use std::marker::Model;
+use txn_trace::Op;
+
+/// An operation with a key that is right, and the spare that it takes.
+#[derive(Debug, Drop)]
+pub(crate) enum Plan {
+    Put(Key, u64, Spare),
+    Take(Key, Spare),
+    Get(Key),
+}
+
+/// An operation that is prepared: it has what it needs, and memory is not wanted from here on.
+///
+/// A put and a take own a spare of the table that prepared them, until they are done or withdrawn.
+#[derive(Debug, Drop)]
+pub struct Pending {
+    plan: Plan,
+}
+
+impl Model for Pending {
+    ghost use Rattle.map_ops.specs.Jobs.{PendingAt};
+
+    ghost Value = { PendingAt };
+
+    ghost use Rattle.map_ops.specs.Plans.{pending_of};
+
+    ghost view = { λ p. pending_of p.plan };
+}
+
+impl Pending {
+    ghost use Rattle.txn_trace.specs.Map.{key_of};
+    ghost use Rattle.map_ops.specs.Jobs.{takes_node};
+    ghost use Rattle.map_ops.specs.Plans.{pending_of};
+
+    pub(crate) fn new(plan: Plan) -> Pending
+        ensures { result ≡ pending_of plan }
+    {
+        Pending { plan }
+    }
+
+    pub(crate) fn into_plan(self) -> Plan
+        ensures { pending_of result ≡ self }
+    {
+        self.plan
+    }
+
+    /// The operation.
+    pub fn op(&self) -> Op
+        ensures op { result ≡ self.now.op }
+        ensures key { key_of result < 2 ^ 63 }
+        ensures spare { is_some self.now.spare ≡ takes_node result }
+    {
+        match &self.plan {
+            Plan::Put(key, value, _) => Op::Put(key.number(), *value),
+            Plan::Take(key, _) => Op::Take(key.number()),
+            Plan::Get(key) => Op::Get(key.number()),
+        }
+    }
+
+    /// The key of the operation.
+    pub fn key(&self) -> Key
+        ensures { result ≡ key_of self.now.op }
+    {
+        match &self.plan {
+            Plan::Put(key, _, _) => *key,
+            Plan::Take(key, _) => *key,
+            Plan::Get(key) => *key,
+        }
+    }
+}

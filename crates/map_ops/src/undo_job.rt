@@ -1,0 +1,20 @@
+//! Jobs in an undo log.
+use crate::job::MapJob;
+use crate::table::Table;
+use undo_log::UndoJob;
+
+impl UndoJob for MapJob {
+    ghost use Rattle.map_ops.specs.Changes.{ShowsAfter, ShowsBefore};
+
+    type World = Table;
+
+    ghost shows_after = { ShowsAfter };
+
+    ghost shows_before = { ShowsBefore };
+
+    fn run(self, world: Table) -> Table {
+        let mut table = world;
+        table.take_back(self);
+        table
+    }
+}
