@@ -20,7 +20,8 @@ cp crates/bench/out/bench "$work/proved"
 
 for _ in $(seq "$rounds"); do
   for program in proved plain alike; do
-    "$work/$program" "$keys" 2>&1 | awk -v program=$program '{ print NR, $1, program, $4, $6, $10 }' >>"$work/times"
+    "$work/$program" "$keys" nodes 2>&1 |
+      awk -v program=$program '{ print NR, $2, program, $5, $7, $11 }' >>"$work/times"
   done
 done
 

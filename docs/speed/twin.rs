@@ -538,7 +538,7 @@ fn timed(phase: &str, operations: u64, run: impl FnOnce() -> u64) {
     let micros = nanos / 1000;
     let (millis, rest) = (micros / 1000, micros % 1000);
     eprintln!(
-        "{phase:<10} {operations:>8} in {millis:>6}.{rest:03} ms, {each:>6} ns each, sum {sum}"
+        "nodes  {phase:<8} {operations:>8} in {millis:>6}.{rest:03} ms, {each:>6} ns each, sum {sum}"
     );
 }
 

@@ -16,11 +16,12 @@ impl Stopwatch {
         })
     }
 
-    /// Writes one line on standard error: the phase, how many operations it had, its time in milliseconds, the time of
+    /// Writes one line on standard error: what was timed, its phase, how many operations that had, its time in milliseconds, the time of
     /// one in nanoseconds, and the sum of what the operations answered.
     pub fn report(
         self,
         rt: &(impl Clock + Eprint),
+        subject: &str,
         phase: &str,
         operations: u64,
         sum: u64,
@@ -30,7 +31,7 @@ impl Stopwatch {
         let micros = nanos / 1000;
         let (millis, rest) = (micros / 1000, micros % 1000);
         eprintln!(rt;
-            "{phase:<10} {operations:>8} in {millis:>6}.{rest:03} ms, {each:>6} ns each, sum {sum}"
+            "{subject:<6} {phase:<8} {operations:>8} in {millis:>6}.{rest:03} ms, {each:>6} ns each, sum {sum}"
         )
     }
 }
