@@ -11,9 +11,9 @@ pub trait AnyMap {
     fn run(&mut self, op: Op) -> Result<Reply, Refusal>;
 }
 
-// Stores a bucket by its three steps, as helper 0. Where one is refused the bucket stays as it is, and its keys are
-// sought from its parent's dummy.
-fn store_bucket(table: &mut Table, bucket: u32) {
+/// Stores a bucket by its three steps, as helper 0. Where one is refused the bucket stays as it is, and its keys are
+/// sought from its parent's dummy.
+pub fn store_bucket(table: &mut Table, bucket: u32) {
     let sought = table.init_seek(0, u64::from(bucket));
     let linked = table.init_link(0);
     if sought.is_ok() && linked.is_ok() {

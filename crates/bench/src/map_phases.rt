@@ -1,5 +1,5 @@
 //! Times the table beside other maps.
-use crate::any_map::AnyMap;
+use crate::any_map::{AnyMap, store_bucket};
 use crate::keys::key_at;
 use crate::stopwatch::Stopwatch;
 use anyhow::{Result, anyhow};
@@ -67,16 +67,19 @@ fn time_map<R: Clock + Eprint, M: AnyMap>(
     Ok(())
 }
 
-/// Times the table at two largest sizes, the sorted map and the hash map of the standard library, one after the other.
+/// Times the table at two largest sizes, the sorted map and the hash map of the standard library, one after the other. A
+/// new table has two buckets, of which it has stored bucket 0.
 pub fn time_maps<R: AllocGlobal + Clock + Eprint>(
     rt: &R,
     keys: u64,
     operations: u64,
 ) -> Result<()> {
     let mut table = Table::new(rt.alloc(), BUCKETS, 1)?;
+    store_bucket(&mut table, 1);
     time_map(rt, "table", &mut table, keys, operations)?;
     drop(table);
     let mut table = Table::new(rt.alloc(), MANY_BUCKETS, 1)?;
+    store_bucket(&mut table, 1);
     time_map(rt, "large", &mut table, keys, operations)?;
     drop(table);
     let mut sorted = BTreeMap::new(rt.alloc());
