@@ -1,0 +1,65 @@
+//! Maps that do the same operations.
+ghost use Rattle.std.specs.Prelude.{◌≡◌};
+
+use map_ops::{Double, Table};
+use std::collections::{BTreeMap, HashMap};
+use txn_trace::{Op, Refusal, Reply};
+
+/// A map from numbers to numbers.
+pub trait AnyMap {
+    /// Does an operation, and answers the value that its key had before it.
+    fn run(&mut self, op: Op) -> Result<Reply, Refusal>;
+}
+
+/// Stores a bucket by its three steps, as helper 0. Where one is refused the bucket stays as it is, and its keys are
+/// sought from its parent's dummy.
+pub fn store_bucket(table: &mut Table, bucket: u32) {
+    let sought = table.init_seek(0, u64::from(bucket));
+    let linked = table.init_link(0);
+    if sought.is_ok() && linked.is_ok() {
+        let _ = table.init_store(0);
+    }
+}
+
+// Doubles a table that has more than two keys a bucket, and stores the new buckets.
+fn grow(table: &mut Table) {
+    let size = table.size();
+    if let Double::Doubled(doubled) = table.double(u64::from(size)) {
+        for bucket in size..doubled {
+            store_bucket(table, bucket);
+        }
+    }
+}
+
+impl AnyMap for Table {
+    fn run(&mut self, op: Op) -> Result<Reply, Refusal> {
+        let (reply, job) = self.apply(op)?;
+        if let Some(job) = job {
+            self.discard(job);
+        }
+        if matches!(op, Op::Put(_, _)) {
+            grow(self);
+        }
+        Ok(reply)
+    }
+}
+
+impl AnyMap for BTreeMap<u64, u64> {
+    fn run(&mut self, op: Op) -> Result<Reply, Refusal> {
+        match op {
+            Op::Put(key, value) => self.insert(key, value).map_err(|_| Refusal::NoMemory),
+            Op::Take(key) => Ok(self.remove(&key)),
+            Op::Get(key) => Ok(self.get(&key).copied()),
+        }
+    }
+}
+
+impl AnyMap for HashMap<u64, u64> {
+    fn run(&mut self, op: Op) -> Result<Reply, Refusal> {
+        match op {
+            Op::Put(key, value) => self.insert(key, value).map_err(|_| Refusal::NoMemory),
+            Op::Take(key) => Ok(self.remove(&key)),
+            Op::Get(key) => Ok(self.get(&key).copied()),
+        }
+    }
+}

@@ -1,0 +1,90 @@
+//! Times the table beside other maps.
+use crate::any_map::{AnyMap, store_bucket};
+use crate::keys::key_at;
+use crate::stopwatch::Stopwatch;
+use anyhow::{Result, anyhow};
+use map_ops::Table;
+use std::collections::{BTreeMap, HashMap};
+use std::time::Clock;
+use txn_trace::{Op, Refusal};
+
+// The largest sizes of the two tables, in buckets.
+const BUCKETS: u32 = 65_536;
+
+const MANY_BUCKETS: u32 = 1_048_576;
+
+fn number_at(position: u64) -> u64 {
+    match key_at(position) {
+        Some(key) => key.number(),
+        None => 0,
+    }
+}
+
+// A half of the operations looks a key up, a quarter puts one and a quarter takes one, at twice as many keys as were put
+// in, so that about half of them are there.
+fn mixed_op(position: u64, keys: u64) -> Op {
+    let drawn = number_at(position.wrapping_add(1 << 40));
+    let key = number_at((drawn >> 8) % keys.max(1).saturating_mul(2));
+    match drawn % 4 {
+        0 => Op::Put(key, position),
+        1 => Op::Take(key),
+        _ => Op::Get(key),
+    }
+}
+
+fn fill<M: AnyMap>(map: &mut M, keys: u64) -> Result<u64, Refusal> {
+    let mut sum = 0u64;
+    for position in 0..keys {
+        let reply = map.run(Op::Put(number_at(position), position))?;
+        sum = sum.wrapping_add(reply.unwrap_or(1));
+    }
+    Ok(sum)
+}
+
+fn mix<M: AnyMap>(map: &mut M, keys: u64, operations: u64) -> Result<u64, Refusal> {
+    let mut sum = 0u64;
+    for position in 0..operations {
+        let reply = map.run(mixed_op(position, keys))?;
+        sum = sum.wrapping_add(reply.unwrap_or(1));
+    }
+    Ok(sum)
+}
+
+// Puts the keys into an empty map, and then does mixed operations on it.
+fn time_map<R: Clock + Eprint, M: AnyMap>(
+    rt: &R,
+    name: &str,
+    map: &mut M,
+    keys: u64,
+    operations: u64,
+) -> Result<()> {
+    let watch = Stopwatch::start(rt)?;
+    let filled = fill(map, keys).map_err(|refusal| anyhow!("{name}: {refusal:?}"))?;
+    watch.report(rt, name, "fill", keys, filled)?;
+    let watch = Stopwatch::start(rt)?;
+    let mixed = mix(map, keys, operations).map_err(|refusal| anyhow!("{name}: {refusal:?}"))?;
+    watch.report(rt, name, "mixed", operations, mixed)?;
+    Ok(())
+}
+
+/// Times the table at two largest sizes, the sorted map and the hash map of the standard library, one after the other. A
+/// new table has two buckets, of which it has stored bucket 0.
+pub fn time_maps<R: AllocGlobal + Clock + Eprint>(
+    rt: &R,
+    keys: u64,
+    operations: u64,
+) -> Result<()> {
+    let mut table = Table::new(rt.alloc(), BUCKETS, 1)?;
+    store_bucket(&mut table, 1);
+    time_map(rt, "table", &mut table, keys, operations)?;
+    drop(table);
+    let mut table = Table::new(rt.alloc(), MANY_BUCKETS, 1)?;
+    store_bucket(&mut table, 1);
+    time_map(rt, "large", &mut table, keys, operations)?;
+    drop(table);
+    let mut sorted = BTreeMap::new(rt.alloc());
+    time_map(rt, "sorted", &mut sorted, keys, operations)?;
+    drop(sorted);
+    let mut hashed = HashMap::new(rt.alloc());
+    time_map(rt, "hashed", &mut hashed, keys, operations)
+}

@@ -1,0 +1,73 @@
+//! Keys in a list of nodes, which are sought from the dummies of a fixed number of buckets.
+use crate::at_split::{put, take, value_of, write};
+use list_steps::{SweepOutcome, sweep};
+use node_list::{Kind, NodeList, NodeRef, SpareFault};
+use split_key::{Key, bucket_of, dummy, parent, regular};
+use std::alloc::Global;
+
+/// How many buckets there are.
+pub const SIZE: u32 = 65_536;
+
+/// A list of nodes, and the dummy of each bucket.
+#[derive(Drop)]
+pub struct NodeTable {
+    list: NodeList,
+    dummies: Vec<NodeRef>,
+}
+
+impl NodeTable {
+    /// The dummies of all buckets, each sought from its parent's.
+    pub fn new(alloc: Global) -> Result<NodeTable, SpareFault> {
+        let mut list = NodeList::new(alloc, 0).map_err(|_| SpareFault::NoMemory)?;
+        let head = list.head();
+        let mut dummies = Vec::new(alloc);
+        dummies.push(head).map_err(|_| SpareFault::NoMemory)?;
+        for bucket in 1..SIZE {
+            let before = parent(bucket) as usize;
+            let from = dummies.get(before).copied().unwrap_or(head);
+            if let Some(node) = put(&mut list, from, dummy(bucket), Kind::Dummy, 0)? {
+                dummies.push(node).map_err(|_| SpareFault::NoMemory)?;
+            }
+        }
+        Ok(NodeTable { list, dummies })
+    }
+
+    // The dummy from which a key is sought.
+    fn dummy_of(&self, key: Key) -> NodeRef {
+        match self.dummies.get(bucket_of(key, SIZE) as usize) {
+            Some(node) => *node,
+            None => self.list.head(),
+        }
+    }
+
+    /// Puts a key in that is not there, and says whether it did.
+    pub fn insert(&mut self, key: Key, value: u64) -> Result<bool, SpareFault> {
+        let from = self.dummy_of(key);
+        let kind = Kind::Regular(key.number());
+        let node = put(&mut self.list, from, regular(key), kind, value)?;
+        Ok(node.is_some())
+    }
+
+    /// The value of a key. Unlinks the marked nodes that it passes.
+    pub fn get(&mut self, key: Key) -> Option<u64> {
+        let from = self.dummy_of(key);
+        value_of(&mut self.list, from, regular(key))
+    }
+
+    /// Writes the value of a key that is there, and answers the one it had.
+    pub fn swap(&mut self, key: Key, value: u64) -> Option<u64> {
+        let from = self.dummy_of(key);
+        write(&mut self.list, from, regular(key), value)
+    }
+
+    /// Marks the node of a key that is there, and answers its value.
+    pub fn mark(&mut self, key: Key) -> Option<u64> {
+        let from = self.dummy_of(key);
+        take(&mut self.list, from, regular(key))
+    }
+
+    /// Unlinks the first marked node, and says whether there was one.
+    pub fn sweep(&mut self) -> bool {
+        matches!(sweep(&mut self.list), SweepOutcome::Swept)
+    }
+}

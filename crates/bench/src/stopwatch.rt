@@ -1,0 +1,37 @@
+//! The time that a phase takes.
+use std::io;
+use std::time::{Clock, Instant};
+
+/// A clock that was started at the beginning of a phase.
+#[derive(Drop)]
+pub struct Stopwatch {
+    start: Instant,
+}
+
+impl Stopwatch {
+    /// Starts now.
+    pub fn start(clock: &impl Clock) -> io::Result<Stopwatch> {
+        Ok(Stopwatch {
+            start: Instant::now(clock)?,
+        })
+    }
+
+    /// Writes one line on standard error: what was timed, its phase, how many operations that had, its time in milliseconds, the time of
+    /// one in nanoseconds, and the sum of what the operations answered.
+    pub fn report(
+        self,
+        rt: &(impl Clock + Eprint),
+        subject: &str,
+        phase: &str,
+        operations: u64,
+        sum: u64,
+    ) -> io::Result<()> {
+        let nanos = self.start.elapsed(rt)?.as_nanos();
+        let each = nanos / u128::from(operations.max(1));
+        let micros = nanos / 1000;
+        let (millis, rest) = (micros / 1000, micros % 1000);
+        eprintln!(rt;
+            "{subject:<6} {phase:<8} {operations:>8} in {millis:>6}.{rest:03} ms, {each:>6} ns each, sum {sum}"
+        )
+    }
+}
