@@ -17,7 +17,7 @@ fn calls_of_replay(rt: HostRuntime) -> Result<(), Fail> {
     for text in [
         "boostmap replay a.json",
         "boostmap replay -- a.json",
-        "/usr/bin/x replay a.json",
+        "bin/x replay a.json",
     ] {
         let words = words_of(&rt, text)?;
         let Ok(call) = call_in(rt.alloc(), &words) else {
@@ -33,7 +33,7 @@ fn calls_of_check(rt: HostRuntime) -> Result<(), Fail> {
     for text in [
         "boostmap check a.json",
         "boostmap check -- a.json",
-        "/usr/bin/x check a.json",
+        "bin/x check a.json",
     ] {
         let words = words_of(&rt, text)?;
         let Ok(call) = call_in(rt.alloc(), &words) else {
