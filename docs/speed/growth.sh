@@ -1,22 +1,14 @@
 #!/usr/bin/env bash
-# Builds the benchmark, which proves it, and runs its maps with rising numbers of keys. Prints the median nanoseconds of
+# Runs the maps of the benchmark with rising numbers of keys. Prints the median nanoseconds of
 # one operation of each map and phase, and how the table's compare with the other maps'.
 # Usage: docs/speed/growth.sh [ROUNDS]
-set -euo pipefail
-cd "$(dirname "${BASH_SOURCE[0]}")/../.."
+source "$(dirname "${BASH_SOURCE[0]}")/common.sh"
 rounds=${1:-5}
-work=$(mktemp -d)
-trap 'rm -rf "$work"' EXIT
-
-if ! (cd crates/bench && ${RT:-rt} run -- 1000) >"$work/log" 2>&1; then
-  cat "$work/log" >&2
-  exit 1
-fi
-cp crates/bench/out/bench "$work/bench"
+build_proved bench 1000
 
 for _ in $(seq "$rounds"); do
   for keys in 1000 10000 100000 1000000; do
-    "$work/bench" "$keys" maps 2>&1 | awk -v keys=$keys '{ print keys, $2, $1, $7, $11 }' >>"$work/times"
+    "$work/proved" "$keys" maps 2>&1 | awk -v keys=$keys '{ print keys, $2, $1, $7, $11 }' >>"$work/times"
   done
 done
 

@@ -11,3 +11,11 @@ pub fn key_at(position: u64) -> Option<Key> {
     let folded = spread ^ (spread >> 32);
     Key::new(folded.wrapping_mul(0xd6e8_feb8_6659_fd93) & LOW_BITS).ok()
 }
+
+/// The number of the key at a position.
+pub fn number_at(position: u64) -> u64 {
+    match key_at(position) {
+        Some(key) => key.number(),
+        None => 0,
+    }
+}

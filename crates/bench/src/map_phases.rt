@@ -1,6 +1,6 @@
 //! Times the table beside other maps.
 use crate::any_map::{AnyMap, store_bucket};
-use crate::keys::key_at;
+use crate::keys::number_at;
 use crate::stopwatch::Stopwatch;
 use anyhow::{Result, anyhow};
 use map_ops::Table;
@@ -12,13 +12,6 @@ use txn_trace::{Op, Refusal};
 const BUCKETS: u32 = 65_536;
 
 const MANY_BUCKETS: u32 = 1_048_576;
-
-fn number_at(position: u64) -> u64 {
-    match key_at(position) {
-        Some(key) => key.number(),
-        None => 0,
-    }
-}
 
 // A half of the operations looks a key up, a quarter puts one and a quarter takes one, at twice as many keys as were put
 // in, so that about half of them are there.

@@ -16,8 +16,13 @@ impl Stopwatch {
         })
     }
 
-    /// Writes one line on standard error: what was timed, its phase, how many operations that had, its time in milliseconds, the time of
-    /// one in nanoseconds, and the sum of what the operations answered.
+    /// Stops, and gives the time since the start.
+    pub fn stop(self, clock: &impl Clock) -> io::Result<Lap> {
+        let nanos = self.start.elapsed(clock)?.as_nanos();
+        Ok(Lap { nanos })
+    }
+
+    /// Stops, and writes the line of `Lap::report`.
     pub fn report(
         self,
         rt: &(impl Clock + Eprint),
@@ -26,9 +31,29 @@ impl Stopwatch {
         operations: u64,
         sum: u64,
     ) -> io::Result<()> {
-        let nanos = self.start.elapsed(rt)?.as_nanos();
-        let each = nanos / u128::from(operations.max(1));
-        let micros = nanos / 1000;
+        self.stop(rt)?.report(rt, subject, phase, operations, sum)
+    }
+}
+
+/// The time that a phase took.
+#[derive(Clone, Copy)]
+pub struct Lap {
+    nanos: u128,
+}
+
+impl Lap {
+    /// Writes one line on standard error: what was timed, its phase, how many operations that had, its time in milliseconds, the time of
+    /// one in nanoseconds, and the sum of what the operations answered.
+    pub fn report(
+        self,
+        rt: &impl Eprint,
+        subject: &str,
+        phase: &str,
+        operations: u64,
+        sum: u64,
+    ) -> io::Result<()> {
+        let each = self.nanos / u128::from(operations.max(1));
+        let micros = self.nanos / 1000;
         let (millis, rest) = (micros / 1000, micros % 1000);
         eprintln!(rt;
             "{subject:<6} {phase:<8} {operations:>8} in {millis:>6}.{rest:03} ms, {each:>6} ns each, sum {sum}"

@@ -1,22 +1,82 @@
--- The claim of the machine's answers: where they are allowed.
-use Rattle.std.proofs.Common.{◌≡◌, ℕ, ◌&&◌, ◌||◌, Bool, true, false, not, List, refl, ap, ◌∙◌}
-use Rattle.std.specs.List.{All}
-use Rattle.txn_trace.specs.declared.op.Op.{Op}
+-- Moves of the machine, by what a step did to the table and to one caller's side.
+use Rattle.std.proofs.Common.{◌≡◌, ℕ, ◌+◌, ◌^◌, ◌<◌, ◌≤◌, List, [], ◌∷◌, ◌++◌, set, Option, Some, None, is_some, refl, sym, ap, subst, ◌∙◌, arith}
+use Rattle.std.specs.Prelude.{map, slice_get, slice_set}
+use Rattle.std.proofs.lemmas.List.{map-set}
+use Rattle.std.proofs.lemmas.Option.{get_or_from_slice_get}
+use Rattle.std.proofs.Math.Seq.{map-set_same}
+use mathlib.Core.Logic.{inl, inr}
 use Rattle.txn_trace.specs.declared.entry.Entry.{Entry}
-use Rattle.txn_trace.specs.declared.entry.Entry.TheVariants.{Asked}
+use Rattle.txn_trace.specs.declared.refusal.Refusal.{Refusal}
+use Rattle.txn_trace.specs.declared.step.Step.{Step}
+use Rattle.txn_trace.specs.declared.answer.Answer.{Answer}
+use Rattle.txn_trace.specs.declared.answer.Answer.TheVariants.{Refused}
 use Rattle.txn_trace.specs.Sizes.{Sizes}
-use Rattle.txn_trace.specs.History.{caller_of}
-use Rattle.txn_trace.specs.Locks.{is_locked}
-use Rattle.boost_core.specs.declared.stage.Stage.{Stage}
-use Rattle.boost_core.specs.Refusals.{takes_node, has_stamp}
-use Rattle.boost_core.specs.Core.{state_of}
-use Rattle.boost_core.proofs.Locks.{asked_locked}
+use Rattle.map_ops.specs.TableAt.{TableAt, help_of, Follows, size_of, stored_of, linked_of, helps_of, turn_of, last_of}
+use Rattle.map_ops.specs.Directory.{Directory, limit_of}
+use Rattle.map_ops.specs.Dummies.{has_dummy}
+use Rattle.std.specs.List.{range_with_len}
+use Rattle.boost_core.specs.Sessions.{Rests}
+use Rattle.boost_core.specs.declared.session.Session.{Session}
+use Rattle.boost_core.specs.State.{State, Owner}
+use Rattle.boost_core.specs.Refusals.{refusal_of, MayLack}
+use Rattle.boost_core.specs.Machine.{Move}
+use Rattle.boost_core.specs.Core.{state_of, turn_at}
 
-or_true : (b : Bool) → (b || true) ≡ true
-or_true true = refl
-or_true false = refl
+-- A step that is refused leaves the state.
+pub refused : (state : State) (step : Step) (refusal : Refusal) → refusal_of state step ≡ Some refusal → Move state step (Refused refusal) state
+refused state step refusal is = record { allowed = inl is; state = refl; changes = omega arith; list_kept = λ kept. refl; stamp = omega arith; one_stamp = omega arith }
 
--- An operation is asked for: there is a stamp, and no other caller holds the stripe.
-pub asked_allowed : (limits : Sizes) (h : List Entry) (stage : Stage) (c : ℕ) (op : Op) → c ≡ 0 → All (λ e. caller_of e ≡ 0) h → (has_stamp (state_of limits h stage) op && is_locked limits.stripes h (Asked c op)) ≡ true
-asked_allowed limits h stage c op first all =
-    ap (λ b. b && is_locked limits.stripes h (Asked c op)) (or_true (not (takes_node op))) ∙ ap (λ d. is_locked limits.stripes h (Asked d op)) first ∙ asked_locked limits.stripes 0 op h all
+pub lacks : (state : State) (step : Step) (refusal : Refusal) → refusal_of state step ≡ None → MayLack state step refusal → Move state step (Refused refusal) state
+lacks state step refusal free lack = record { allowed = inr (free, lack); state = refl; changes = omega arith; list_kept = λ kept. refl; stamp = omega arith; one_stamp = omega arith }
+
+-- The table is as large, its buckets and its helpers are as they were, and neither the change number nor the last stamp has fallen.
+pub record Runs (t t' : TableAt) : Type 0 where
+  pub size : size_of t' ≡ size_of t
+  pub stored : stored_of t' ≡ stored_of t
+  pub linked : linked_of t' ≡ linked_of t
+  pub helps : helps_of t' ≡ helps_of t
+  pub turn : turn_of t ≤ turn_of t'
+  pub last : last_of t ≤ last_of t'
+  pub one_last : last_of t' ≤ last_of t + 1
+
+pub runs_same : (t : TableAt) → Runs t t
+runs_same t = record { size = refl; stored = refl; linked = refl; helps = refl; turn = omega arith; last = omega arith; one_last = omega arith }
+
+-- So it is where only spares have changed.
+pub rests_runs : (t t' : TableAt) → Rests t t' → Runs t t'
+rests_runs t t' rests = record {
+  size = ap (λ (d : Directory). d.size) rests.buckets;
+  stored = ap (λ (d : Directory). map is_some d.entries) rests.buckets;
+  linked = λ i. map (has_dummy (rests.nodes i)) (range_with_len 0 (limit_of (rests.buckets i)));
+  helps = ap (λ (d : Directory). map help_of d.helpers) rests.buckets;
+  turn = let same = rests.turn in omega arith;
+  last = let same = rests.last in omega arith;
+  one_last = let same = rests.last in omega arith;
+}
+
+-- The state after such a step.
+pub state_is : (limits : Sizes) (h' h'' : List Entry) (t t' : TableAt) (cursors : List (Option ℕ)) (sessions' : List Session) (placed' : Option Owner) → Runs t t' → h' ≡ h'' → map turn_at sessions' ≡ cursors
+    → state_of limits h' t' sessions' placed' ≡ record { limits = limits; history = h''; size = size_of t; stored = stored_of t; linked = linked_of t; changes = turn_of t'; stamp = last_of t'; cursors = cursors; helpers = helps_of t; placed = placed' }
+state_is limits h' h'' t t' cursors sessions' placed' runs entries same = λ i. record { limits = limits; history = entries i; size = runs.size i; stored = runs.stored i; linked = runs.linked i; changes = turn_of t'; stamp = last_of t'; cursors = same i; helpers = runs.helps i; placed = placed' }
+
+-- The turns of the callers' cursors, where one changes.
+pub turns_set : (sessions : List Session) (c : ℕ) (y : Session) (turn : Option ℕ) → turn_at y ≡ turn → map turn_at (slice_set sessions c y) ≡ slice_set (map turn_at sessions) c turn
+turns_set sessions c y turn is = map-set turn_at sessions c y ∙ ap (set (map turn_at sessions) c) is
+
+pub turns_same : (sessions : List Session) (c : ℕ) (x y : Session) → slice_get sessions c ≡ Some x → turn_at y ≡ turn_at x → map turn_at (slice_set sessions c y) ≡ map turn_at sessions
+turns_same sessions c x y at same = map-set_same turn_at sessions c y x (same ∙ ap turn_at (sym (get_or_from_slice_get sessions c x x at)))
+
+pub last_rises : (t t' : TableAt) → Follows t t' → last_of t ≤ last_of t'
+last_rises t t' follows = follows.last
+
+-- A move of a state that is seen another way.
+pub move_of : (state old new : State) (step : Step) (answer : Answer) → state ≡ old → Move state step answer new → Move old step answer new
+move_of state old new step answer is move = subst (λ s. Move s step answer new) is move
+
+-- Nothing refuses a step of a state that is seen another way.
+pub none_of : (state old : State) (step : Step) (r : Option Refusal) → state ≡ old → r ≡ refusal_of old step → r ≡ None → refusal_of state step ≡ None
+none_of state old step r is says none = ap (λ (s : State). refusal_of s step) is ∙ sym says ∙ none
+
+-- The history after one more entry, where room was made for it before.
+pub pushed : (h g h' : List Entry) (e : Entry) → h' ≡ g ++ e ∷ [] → g ≡ h → h' ≡ h ++ e ∷ []
+pushed h g h' e is same = is ∙ ap (λ es. es ++ e ∷ []) same

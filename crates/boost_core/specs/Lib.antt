@@ -1,6 +1,12 @@
 pub mod State
 pub mod Refusals
 pub mod Answers
+pub mod Shape
+pub mod Locks
+pub mod Replies
+pub mod Content
 pub mod Machine
-pub mod Pairs
+pub mod Plain
+pub mod Spares
+pub mod Sessions
 pub mod Core

@@ -1,4 +1,4 @@
--- The machine of steps: which moves there are.
+-- The fifth claim, answers: which moves of the machine of steps there are.
 pub use Rattle.boost_core.specs.State.{State, start}
 use Rattle.std.specs.Prelude.{◌≡◌, ◌+◌, ◌≤◌, ◌⊎◌, true, List, [], ◌∷◌, Some, None}
 use Rattle.txn_trace.specs.declared.step.Step.{Step}
@@ -17,11 +17,11 @@ IsAllowed state step answer = (refusal_of state step ≡ None) × IsAnswer state
 -- rises by at most one.
 pub record Move (old : State) (step : Step) (answer : Answer) (new : State) : Type 0 where
   pub allowed : IsAllowed old step answer
-  pub state : new ≡ after old step answer new.changes new.last_stamp
-  pub changes_rise : old.changes ≤ new.changes
-  pub changes_stay : keeps_list answer ≡ true → new.changes ≡ old.changes
-  pub stamps_rise : old.last_stamp ≤ new.last_stamp
-  pub stamps_by_one : new.last_stamp ≤ old.last_stamp + 1
+  pub state : new ≡ after old step answer new.changes new.stamp
+  pub changes : old.changes ≤ new.changes
+  pub list_kept : keeps_list answer ≡ true → new.changes ≡ old.changes
+  pub stamp : old.stamp ≤ new.stamp
+  pub one_stamp : new.stamp ≤ old.stamp + 1
 
 -- These answers to these steps, one after the other.
 abbrev pub Moves : State → List Step → List Answer → State → Type 0

@@ -1,35 +1,42 @@
 -- The refusals of each step, in their order.
-use Rattle.std.specs.Prelude.{ℕ, ◌^◌, ◌-◌, Bool, true, false, not, ◌&&◌, ◌||◌, nat_lt, nat_le, slice_index, IsTrue, is_some, List, [], ◌∷◌, ◌++◌, Option, Some, None, if◌then◌else◌}
+pub use Rattle.map_ops.specs.Jobs.{takes_node}
+use Rattle.std.specs.Prelude.{ℕ, ◌^◌, ◌-◌, Bool, true, false, not, ◌==◌, ◌&&◌, ◌||◌, nat_lt, nat_le, slice_index, IsTrue, is_some, length, List, [], ◌∷◌, ◌++◌, Option, Some, None, if◌then◌else◌}
 use Rattle.txn_trace.specs.declared.op.Op.{Op}
-use Rattle.txn_trace.specs.declared.op.Op.TheVariants.{Put, Take, Get}
 use Rattle.txn_trace.specs.declared.step.Step.{Step}
-use Rattle.txn_trace.specs.declared.step.Step.TheVariants.{Begin, Ask, Seek, Act, Commit, Abort}
+use Rattle.txn_trace.specs.declared.step.Step.TheVariants.{Begin, Ask, Seek, Act, Save, Back, Commit, Abort, Sweep, InitSeek, InitLink, InitStore, Double}
 use Rattle.txn_trace.specs.declared.refusal.Refusal.{Refusal}
-use Rattle.txn_trace.specs.declared.refusal.Refusal.TheVariants.{BadKey, NoSuchCaller, NotOpen, AlreadyOpen, OperationUnfinished, Leaving, Unplaced, NothingToSeek, NoMemory, StampsUsedUp}
+use Rattle.txn_trace.specs.declared.refusal.Refusal.TheVariants.{BadKey, NoSuchCaller, NotOpen, AlreadyOpen, OperationUnfinished, Leaving, Unplaced, NothingToSeek, NoSuchLevel, NoSuchBucket, ParentMissing, NoSuchHelper, HelperOutOfOrder, NoMemory, StampsUsedUp}
 use Rattle.txn_trace.specs.Map.{key_of}
 use Rattle.txn_trace.specs.Shape.{Phase, Closed, Waiting, LeavingTo, LeavingToEnd, Seat}
-use Rattle.boost_core.specs.State.{State, seat_in, turn_in}
+use Rattle.map_ops.specs.Split.{parent_of}
+use Rattle.map_ops.specs.InitRefusal.{InitRefusal}
+use Rattle.map_ops.specs.InitRefusal.TheVariants as inits
+use Rattle.boost_core.specs.State.{State, Owner, Caller, Helper, Help, Sought, Dummy, seat_in, turn_in, help_in, is_set, bucket_at}
 
--- The caller of a step.
-abbrev pub caller_of : Step → ℕ
-caller_of (Begin c) = c
-caller_of (Ask c op) = c
-caller_of (Seek c) = c
-caller_of (Act c) = c
-caller_of (Commit c) = c
-caller_of (Abort c) = c
+-- Whose a step is, if it is a caller's or a helper's.
+abbrev pub owner_of : Step → Option Owner
+owner_of (Begin c) = Some (Caller c)
+owner_of (Ask c op) = Some (Caller c)
+owner_of (Seek c) = Some (Caller c)
+owner_of (Act c) = Some (Caller c)
+owner_of (Save c) = Some (Caller c)
+owner_of (Back c n) = Some (Caller c)
+owner_of (Commit c) = Some (Caller c)
+owner_of (Abort c) = Some (Caller c)
+owner_of Sweep = None
+owner_of (InitSeek h b) = Some (Helper h)
+owner_of (InitLink h) = Some (Helper h)
+owner_of (InitStore h) = Some (Helper h)
+owner_of (Double n) = None
 
--- Whether a caller has no transaction.
 abbrev pub is_closed : Phase → Bool
 is_closed Closed = true
 is_closed _ = false
 
--- Whether an operation waits for its reply.
 abbrev pub is_waiting : Phase → Bool
 is_waiting (Waiting op) = true
 is_waiting _ = false
 
--- Whether a caller takes changes back.
 abbrev pub is_leaving : Phase → Bool
 is_leaving (LeavingTo n) = true
 is_leaving LeavingToEnd = true
@@ -49,8 +56,11 @@ tests_in seat (Begin c) = (is_leaving seat.phase, Leaving) ∷ (not (is_closed s
 tests_in seat (Ask c op) = (is_closed seat.phase, NotOpen) ∷ (is_leaving seat.phase, Leaving) ∷ (is_waiting seat.phase, OperationUnfinished) ∷ (nat_le (2 ^ 63) (key_of op), BadKey) ∷ []
 tests_in seat (Seek c) = (is_closed seat.phase, NotOpen) ∷ (not (has_target seat), NothingToSeek) ∷ []
 tests_in seat (Act c) = (is_closed seat.phase, NotOpen) ∷ (not (is_leaving seat.phase || is_waiting seat.phase), NothingToSeek) ∷ []
+tests_in seat (Save c) = (is_closed seat.phase, NotOpen) ∷ (is_leaving seat.phase, Leaving) ∷ (is_waiting seat.phase, OperationUnfinished) ∷ []
+tests_in seat (Back c n) = (is_closed seat.phase, NotOpen) ∷ (is_leaving seat.phase, Leaving) ∷ (is_waiting seat.phase, OperationUnfinished) ∷ (nat_le (length seat.kept) n, NoSuchLevel) ∷ []
 tests_in seat (Commit c) = (is_closed seat.phase, NotOpen) ∷ (is_leaving seat.phase, Leaving) ∷ (is_waiting seat.phase, OperationUnfinished) ∷ []
 tests_in seat (Abort c) = (is_closed seat.phase, NotOpen) ∷ (is_leaving seat.phase, Leaving) ∷ []
+tests_in seat step = []
 
 -- The refusal of the first test that holds.
 abbrev pub first_of : List (Bool × Refusal) → Option Refusal
@@ -61,28 +71,72 @@ first_of (test ∷ tests) = if test.0 then Some test.1 else first_of tests
 abbrev pub refusal_in : Seat → Step → Option Refusal
 refusal_in seat step = first_of (tests_in seat step)
 
+-- Whether a step of a caller lacks the cursor that it acts on, where the caller has one or not.
+abbrev pub lacks_in : Seat → Bool → Step → Bool
+lacks_in seat there (Act c) = has_target seat && not there
+lacks_in seat there step = false
+
 -- Whether a step lacks the cursor that it acts on.
 abbrev pub lacks_cursor : State → Step → Bool
-lacks_cursor state (Act c) = has_target (seat_in state.history c) && not (is_some (turn_in state.cursors c))
-lacks_cursor state _ = false
+lacks_cursor state (Act c) = lacks_in (seat_in state.history c) (is_some (turn_in state.cursors c)) (Act c)
+lacks_cursor state step = false
 
--- The refusal of a step: its caller's number is tested first, then what its seat says, then its cursor.
+-- Whether a helper has a cursor.
+abbrev pub has_cursor : Help → Bool
+has_cursor (Sought bucket turn) = true
+has_cursor help = false
+
+-- Whether a helper has a dummy.
+abbrev pub has_dummy : Help → Bool
+has_dummy (Dummy bucket) = true
+has_dummy help = false
+
+-- The tests of a step that the helper and the buckets decide, each with its refusal, in their order. A bucket that is stored
+-- already needs no parent.
+abbrev pub tests_at : State → Help → Step → List (Bool × Refusal)
+tests_at state help (InitSeek h b) = (nat_le state.size b, NoSuchBucket) ∷ (not (is_set state.stored b) && not (is_set state.stored (parent_of b)), ParentMissing) ∷ []
+tests_at state help (InitLink h) = (not (has_cursor help), HelperOutOfOrder) ∷ []
+tests_at state help (InitStore h) = (not (has_dummy help), HelperOutOfOrder) ∷ []
+tests_at state help step = []
+
+-- All tests of a step: the number of its caller or helper, then what the seat and the cursor say, or the helper and the buckets.
+abbrev pub tests_of : State → Option Owner → Step → List (Bool × Refusal)
+tests_of state None step = []
+tests_of state (Some (Caller c)) step = (nat_le state.limits.callers c, NoSuchCaller) ∷ tests_in (seat_in state.history c) step ++ (lacks_cursor state step, Unplaced) ∷ []
+tests_of state (Some (Helper h)) step = (nat_le state.limits.callers h, NoSuchHelper) ∷ tests_at state (help_in state.helpers h) step
+
+-- The refusal of a step: that of its first test that holds.
 abbrev pub refusal_of : State → Step → Option Refusal
-refusal_of state step = first_of ((nat_le state.limits.callers (caller_of step), NoSuchCaller) ∷ tests_in (seat_in state.history (caller_of step)) step ++ (lacks_cursor state step, Unplaced) ∷ [])
+refusal_of state step = first_of (tests_of state (owner_of step) step)
 
--- Whether an operation takes a node, which has a stamp.
-abbrev pub takes_node : Op → Bool
-takes_node (Put k v) = true
-takes_node (Take k) = true
-takes_node (Get k) = false
+-- Whether a stamp is left: the last one is 2^64 - 2.
+abbrev pub has_stamp : State → Bool
+has_stamp state = not (state.stamp == 2 ^ 64 - 2)
 
 -- Whether there is a stamp for the node that an operation takes, if it takes one.
-abbrev pub has_stamp : State → Op → Bool
-has_stamp state op = not (takes_node op) || nat_lt state.last_stamp (2 ^ 64 - 2)
+abbrev pub has_stamp_for : State → Op → Bool
+has_stamp_for state op = not (takes_node op) || has_stamp state
+
+-- Whether the dummy of the bucket that a helper sought is to be linked.
+abbrev pub lacks_dummy : State → ℕ → Bool
+lacks_dummy state h = not (is_set state.linked (bucket_at (help_in state.helpers h)))
 
 -- Memory may be refused to a step that reserves some, and stamps may be used up. These tests stand behind all others.
 abbrev pub MayLack : State → Step → Refusal → Type 0
 MayLack state (Begin c) NoMemory = Unit {0}
 MayLack state (Ask c op) NoMemory = Unit {0}
-MayLack state (Ask c op) StampsUsedUp = IsTrue (not (has_stamp state op))
+MayLack state (Ask c op) StampsUsedUp = IsTrue (not (has_stamp_for state op))
+MayLack state (Save c) NoMemory = Unit {0}
+MayLack state (Back c n) NoMemory = Unit {0}
+MayLack state (InitLink h) NoMemory = IsTrue (lacks_dummy state h && has_stamp state)
+MayLack state (InitLink h) StampsUsedUp = IsTrue (lacks_dummy state h && not (has_stamp state))
 MayLack state step refusal = ⊥
+
+-- The refusal of a helper's step, as the table tells it.
+abbrev pub refusal_for : InitRefusal → Refusal
+refusal_for inits.NoSuchBucket = NoSuchBucket
+refusal_for inits.ParentMissing = ParentMissing
+refusal_for inits.NoSuchHelper = NoSuchHelper
+refusal_for inits.HelperOutOfOrder = HelperOutOfOrder
+refusal_for inits.NoMemory = NoMemory
+refusal_for inits.StampsUsedUp = StampsUsedUp

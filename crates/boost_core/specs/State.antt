@@ -1,31 +1,23 @@
 -- The states of the machine.
-use Rattle.std.specs.Prelude.{ℕ, List, [], ◌∷◌, Option, None, replicate, slice_get, unwrap_or}
+pub use Rattle.map_ops.specs.TableAt.{Help, Nothing, Sought, Dummy}
+pub use Rattle.boost_core.specs.declared.owner.Owner.{Owner}
+pub use Rattle.boost_core.specs.declared.owner.Owner.TheVariants.{Caller, Helper}
+use Rattle.std.specs.Prelude.{ℕ, ◌-◌, Bool, true, false, List, [], ◌∷◌, Option, Some, None, replicate, slice_get, slice_set, unwrap_or}
 use Rattle.txn_trace.specs.declared.entry.Entry.{Entry}
 use Rattle.txn_trace.specs.Sizes.{Sizes}
 use Rattle.txn_trace.specs.Shape.{Seat, closed_seat, seat_after, own}
 
--- What a helper has: nothing, a cursor of this turn for the dummy of a bucket, or the dummy of a bucket.
-pub data Help : Type 0 where
-  Idle : Help
-  Sought : ℕ → ℕ → Help
-  Dummy : ℕ → Help
-
--- Whose a cursor is: a caller's or a helper's.
-pub data Owner : Type 0 where
-  Caller : ℕ → Owner
-  Helper : ℕ → Owner
-
--- The limits, the history, the size, the buckets that are stored and those whose dummies are linked, the list's change
--- number, the last stamp given, for each caller the turn of its cursor, what each helper has, and whose cursor the last
--- move placed.
+-- The limits, the history, the size, for each bucket whether it is stored and whether its dummy is linked, the list's
+-- change number, the last stamp given, for each caller the turn of its cursor, what each helper has, and whose cursor the
+-- last move placed.
 pub record State : Type 0 where
   pub limits : Sizes
   pub history : List Entry
   pub size : ℕ
-  pub stored : List ℕ
-  pub linked : List ℕ
+  pub stored : List Bool
+  pub linked : List Bool
   pub changes : ℕ
-  pub last_stamp : ℕ
+  pub stamp : ℕ
   pub cursors : List (Option ℕ)
   pub helpers : List Help
   pub placed : Option Owner
@@ -36,12 +28,12 @@ start limits = record {
   limits = limits;
   history = [];
   size = 2;
-  stored = 0 ∷ [];
-  linked = 0 ∷ [];
+  stored = true ∷ replicate (limits.buckets - 1) false;
+  linked = true ∷ replicate (limits.buckets - 1) false;
   changes = 0;
-  last_stamp = 0;
+  stamp = 0;
   cursors = replicate limits.callers None;
-  helpers = replicate limits.callers Idle;
+  helpers = replicate limits.callers Nothing;
   placed = None;
 }
 
@@ -52,3 +44,27 @@ seat_in history c = unwrap_or (seat_after (own c history)) closed_seat
 -- The turn of a caller's cursor, if it has one.
 abbrev pub turn_in : List (Option ℕ) → ℕ → Option ℕ
 turn_in cursors c = unwrap_or (slice_get cursors c) None
+
+-- What a helper has, if there is one of this number.
+abbrev pub help_in : List Help → ℕ → Help
+help_in helpers h = unwrap_or (slice_get helpers h) Nothing
+
+-- Whether a bucket is one of those that are set.
+abbrev pub is_set : List Bool → ℕ → Bool
+is_set buckets bucket = unwrap_or (slice_get buckets bucket) false
+
+-- The same buckets and this one.
+abbrev pub with_bucket : List Bool → ℕ → List Bool
+with_bucket buckets bucket = slice_set buckets bucket true
+
+-- The bucket for which a helper has a cursor or a dummy.
+abbrev pub bucket_at : Help → ℕ
+bucket_at Nothing = 0
+bucket_at (Sought bucket turn) = bucket
+bucket_at (Dummy bucket) = bucket
+
+-- The turn of a helper's cursor, if it has one.
+abbrev pub turn_at : Help → Option ℕ
+turn_at Nothing = None
+turn_at (Sought bucket turn) = Some turn
+turn_at (Dummy bucket) = None

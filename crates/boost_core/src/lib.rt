@@ -1,22 +1,31 @@
-//! The core of the map: transactions on a map from numbers to numbers, taken one small step at a time, by boosting
-//! (Herlihy and Koskinen, "Transactional Boosting", PPoPP 2008, sections 2 and 3).
+//! The core of a transactional map for 1 to 64 callers, one step at a time: boosted transactions (Herlihy and Koskinen,
+//! "Transactional Boosting", 2008) over a split-ordered hash table (Shalev and Shavit, "Split-Ordered Lists", 2006).
 //!
-//! A caller begins a transaction, asks for an operation, seeks its place, acts there, and commits; or it aborts, and then
-//! seeks and acts for each of its changes, the newest first, until all are taken back.
+//! An operation takes the stripe of its key, is sought and done on the table in steps between which other callers step, and
+//! notes an inverse. A commit drops the inverses, an abort or a return to a savepoint runs them newest first. Stripes are kept to
+//! the end.
 //!
-//! A contract sees a [`Core`] as a state of the machine in `specs/Machine.antt`: limits, history, size, cursors and the
-//! numbers that order them. Every step is a move of that machine: `specs/Refusals.antt` has the tests of each step in their
-//! order, and `specs/Answers.antt` what it is answered and the state after it. The history of every core is legal, and
-//! its map and its list are those that the history gives. No step but Begin and Ask takes memory, and a step that is
-//! refused changes nothing.
+//! The model is a machine of thirteen steps whose state is mostly the history. The headline, as five claims, each in its file of
+//! `specs/`: the history has the shape of transactions (`Shape`), stripes have one holder (`Locks`), each transaction has the replies
+//! of running alone after those committed before it (`Replies`), map and list are what the history gives now (`Content`), and
+//! every step makes a move of the machine (`Machine`). The plain calls are moves of one caller with none between (`Plain`).
 //!
-//! This first body has one caller, keeps the pairs in one ordered map, and copies it whole at each Ask of a change.
+//! A step costs what it does on the table and takes no memory but to begin, to ask, to save, to go back and to link a bucket:
+//! all that an operation and its undoing want is reserved when it is asked for.
 #![tactic(auto)]
 
-mod content;
+mod buckets;
 mod machine;
+mod operations;
+mod owner;
+mod plain;
+mod refusals;
+mod session;
+mod sessions;
 mod stage;
 #[cfg(test)]
 mod tests;
+mod transactions;
 
 pub use machine::Core;
+pub use owner::Owner;

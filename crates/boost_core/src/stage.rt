@@ -1,14 +1,16 @@
-use txn_trace::Op;
+use map_ops::Pending;
 
-/// Where the caller is, and, while there is something to seek, whether its place was sought.
-#[derive(Clone, Copy, Debug, PartialEq, Eq)]
-pub(crate) enum Stage {
+/// Where a caller is.
+#[derive(Debug, Drop)]
+pub enum Stage {
     /// It has no transaction.
     Closed,
     /// Its transaction is open.
     Open,
     /// An operation waits for its reply.
-    Asked(Op, bool),
-    /// It takes its changes back.
-    Leaving(bool),
+    Asked(Pending),
+    /// It takes changes back to this level.
+    LeavingTo(usize),
+    /// It takes all changes back.
+    LeavingToEnd,
 }

@@ -1,185 +1,284 @@
+//! Worked runs on the core, and what refused memory leaves.
 use crate::Core;
-use std::alloc::AllocError;
+use std::alloc::{AllocError, Global};
 use std::process::Abort;
 use std::test::Fail;
 use txn_trace::{Answer, Entry, Limits, Op, Refusal, Step};
 
-/// A core of one caller, 8 stripes and at most 8 buckets.
-fn small(rt: &HostRuntime) -> Result<Core, Fail> {
-    let limits = Limits::new(1, 8, 8).map_err(|_| AllocError)?;
-    Ok(Core::new(rt.alloc(), limits).map_err(|_| AllocError)?)
-}
-
-/// Takes each step and compares its answer. A step that finds no memory has changed nothing and is taken again.
-fn take(rt: &impl Abort, core: &mut Core, rows: &[(Step, Answer)]) {
-    for (step, wanted) in rows {
-        let entries = core.trace().len();
-        let keys = core.count();
-        let mut answer = core.step(*step);
-        if answer == Answer::Refused(Refusal::NoMemory) {
-            assert_eq!(rt; core.trace().len(), entries);
-            assert_eq!(rt; core.count(), keys);
-            answer = core.step(*step);
-        }
-        assert_eq!(rt; answer, *wanted, "at {step:?}");
+// A core of so many callers, with 8 stripes and at most 8 buckets.
+fn core_of(alloc: Global, callers: u64) -> Result<Core, Fail> {
+    let limits = Limits::new(callers, 8, 8)?;
+    match Core::new(alloc, limits) {
+        Ok(core) => Ok(core),
+        Err(_) => Ok(Core::new(alloc, limits)?),
     }
 }
 
-/// The pairs in the list's order, made a second time where there was no memory the first time.
-fn pairs_of(rt: &HostRuntime, core: &Core) -> Result<Vec<(u64, u64)>, AllocError> {
-    core.regular_list(rt.alloc())
-        .or_else(|_| core.regular_list(rt.alloc()))
+// A step by `run`, or a plain call.
+#[derive(Clone, Copy, Debug)]
+enum Call {
+    Run(Step),
+    Put(u64, u64, u64),
+    Take(u64, u64),
+    Get(u64, u64),
+    Back(u64, u64),
+    Abort(u64),
+}
+
+fn called(alloc: Global, core: &mut Core, call: Call) -> Result<Answer, Fail> {
+    match call {
+        Call::Run(step) => {
+            let answers = core.run(alloc, &[step])?;
+            Ok(answers.first().copied().ok_or("no answer")?)
+        }
+        Call::Put(caller, key, value) => Ok(core.put(caller, key, value)),
+        Call::Take(caller, key) => Ok(core.take(caller, key)),
+        Call::Get(caller, key) => Ok(core.get(caller, key)),
+        Call::Back(caller, level) => Ok(core.back(caller, level)),
+        Call::Abort(caller) => Ok(core.abort(caller)),
+    }
+}
+
+fn plays(
+    rt: &impl Abort,
+    alloc: Global,
+    core: &mut Core,
+    lines: &[(Call, Answer)],
+) -> Result<(), Fail> {
+    for (call, wanted) in lines {
+        let answer = called(alloc, core, *call)?;
+        assert_eq!(rt; answer, *wanted, "at {call:?}");
+    }
+    Ok(())
 }
 
 #[test]
-fn first_commit(rt: HostRuntime) -> Result<(), Fail> {
-    let mut core = small(&rt)?;
-    let rows = [
-        (Step::Begin(0), Answer::Began(1)),
-        (Step::Ask(0, Op::Put(1, 10)), Answer::Asked),
-        (Step::Seek(0), Answer::Placed),
-        (Step::Act(0), Answer::Done(None)),
-        (Step::Commit(0), Answer::Committed(1)),
+fn savepoints(rt: HostRuntime) -> Result<(), Fail> {
+    let alloc = rt.alloc();
+    let mut core = core_of(alloc, 2)?;
+    let lines = [
+        (Call::Run(Step::Begin(0)), Answer::Began(1)),
+        (Call::Put(0, 1, 10), Answer::Done(None)),
+        (Call::Run(Step::Save(0)), Answer::Saved(1)),
+        (Call::Put(0, 1, 11), Answer::Done(Some(10))),
+        (Call::Run(Step::Save(0)), Answer::Saved(2)),
+        (Call::Take(0, 1), Answer::Done(Some(11))),
+        (Call::Back(0, 1), Answer::Returned(1)),
+        (Call::Get(0, 1), Answer::Done(Some(10))),
+        (Call::Back(0, 1), Answer::Returned(1)),
+        (Call::Get(0, 1), Answer::Done(Some(10))),
+        (Call::Back(0, 2), Answer::Refused(Refusal::NoSuchLevel)),
+        (Call::Back(0, 0), Answer::Returned(0)),
+        (Call::Get(0, 1), Answer::Done(None)),
+        (Call::Run(Step::Commit(0)), Answer::Committed(1)),
     ];
-    take(&rt, &mut core, &rows);
-    let entries = [
+    plays(&rt, alloc, &mut core, &lines)?;
+    assert_eq!(rt; (core.size(), core.count()), (2, 0));
+    let wanted = [
         Entry::Began(0, 1),
         Entry::Asked(0, Op::Put(1, 10)),
         Entry::Did(0, None),
+        Entry::Saved(0),
+        Entry::Asked(0, Op::Put(1, 11)),
+        Entry::Did(0, Some(10)),
+        Entry::Saved(0),
+        Entry::Asked(0, Op::Take(1)),
+        Entry::Did(0, Some(11)),
+        Entry::Leave(0, Some(1)),
+        Entry::Undone(0),
+        Entry::Undone(0),
+        Entry::Returned(0, 1),
+        Entry::Asked(0, Op::Get(1)),
+        Entry::Did(0, Some(10)),
+        Entry::Leave(0, Some(1)),
+        Entry::Returned(0, 1),
+        Entry::Asked(0, Op::Get(1)),
+        Entry::Did(0, Some(10)),
+        Entry::Leave(0, Some(0)),
+        Entry::Undone(0),
+        Entry::Returned(0, 0),
+        Entry::Asked(0, Op::Get(1)),
+        Entry::Did(0, None),
         Entry::Committed(0, 1),
     ];
-    assert_eq!(rt; core.trace(), entries.as_slice());
-    assert_eq!(rt; (core.size(), core.count()), (2, 1));
-    let pairs = pairs_of(&rt, &core)?;
-    assert_eq!(rt; pairs.as_slice(), [(1, 10)].as_slice());
-    let map = core.map(rt.alloc()).or_else(|_| core.map(rt.alloc()))?;
-    assert_eq!(rt; map.len(), 1);
-    assert_eq!(rt; map.get(&1).copied(), Some(10));
+    assert_eq!(rt; core.trace(), wanted.as_slice());
     Ok(())
 }
 
+// Each kind of step, by `step`, with the bucket steps of one helper.
 #[test]
-fn run_answers_each_step(rt: HostRuntime) -> Result<(), Fail> {
-    let mut core = small(&rt)?;
-    let steps = [Step::Begin(1), Step::Commit(0), Step::Seek(0)];
-    let answers = core
-        .run(rt.alloc(), &steps)
-        .or_else(|_| core.run(rt.alloc(), &steps))?;
-    let wanted = [
-        Answer::Refused(Refusal::NoSuchCaller),
-        Answer::Refused(Refusal::NotOpen),
-        Answer::Refused(Refusal::NotOpen),
-    ];
-    assert_eq!(rt; answers.as_slice(), wanted.as_slice());
-    Ok(())
-}
-
-#[test]
-fn abort_takes_back(rt: HostRuntime) -> Result<(), Fail> {
-    let mut core = small(&rt)?;
-    let rows = [
-        (Step::Begin(0), Answer::Began(1)),
-        (Step::Ask(0, Op::Put(1, 10)), Answer::Asked),
-        (Step::Seek(0), Answer::Placed),
-        (Step::Act(0), Answer::Done(None)),
-        (Step::Abort(0), Answer::Leaving),
-        (Step::Begin(0), Answer::Refused(Refusal::Leaving)),
-        (Step::Seek(0), Answer::Placed),
-        (Step::Act(0), Answer::Undone),
-        (Step::Act(0), Answer::Aborted),
-    ];
-    take(&rt, &mut core, &rows);
-    assert_eq!(rt; (core.size(), core.count()), (2, 0));
-    Ok(())
-}
-
-#[test]
-fn half_keys(rt: HostRuntime) -> Result<(), Fail> {
-    let mut core = small(&rt)?;
-    let rows = [
-        (Step::Begin(0), Answer::Began(1)),
-        (Step::Ask(0, Op::Put(9223372036854775807, 7)), Answer::Asked),
-        (Step::Seek(0), Answer::Placed),
-        (Step::Act(0), Answer::Done(None)),
-        (Step::Ask(0, Op::Put(3, 30)), Answer::Asked),
-        (Step::Seek(0), Answer::Placed),
-        (Step::Act(0), Answer::Done(None)),
-        (
-            Step::Ask(0, Op::Put(9223372036854775808, 1)),
-            Answer::Refused(Refusal::BadKey),
-        ),
-        (Step::Commit(0), Answer::Committed(1)),
-    ];
-    take(&rt, &mut core, &rows);
-    assert_eq!(rt; (core.size(), core.count()), (2, 2));
-    let pairs = pairs_of(&rt, &core)?;
-    let wanted = [(3, 30), (9223372036854775807, 7)];
-    assert_eq!(rt; pairs.as_slice(), wanted.as_slice());
-    Ok(())
-}
-
-#[test]
-fn refusals_in_order(rt: HostRuntime) -> Result<(), Fail> {
-    let mut core = small(&rt)?;
-    let rows = [
-        (Step::Begin(0), Answer::Began(1)),
-        (Step::Begin(0), Answer::Refused(Refusal::AlreadyOpen)),
-        (Step::Begin(1), Answer::Refused(Refusal::NoSuchCaller)),
-        (Step::Act(0), Answer::Refused(Refusal::NothingToSeek)),
-        (Step::Ask(0, Op::Put(1, 10)), Answer::Asked),
-        (
-            Step::Commit(0),
-            Answer::Refused(Refusal::OperationUnfinished),
-        ),
-        (Step::Abort(0), Answer::Leaving),
-        (Step::Seek(0), Answer::Refused(Refusal::NothingToSeek)),
-        (Step::Act(0), Answer::Aborted),
-        (Step::Act(0), Answer::Refused(Refusal::NotOpen)),
-    ];
-    take(&rt, &mut core, &rows);
-    assert_eq!(rt; (core.size(), core.count()), (2, 0));
-    Ok(())
-}
-
-#[test]
-fn undone_newest_first(rt: HostRuntime) -> Result<(), Fail> {
-    let mut core = small(&rt)?;
-    let rows = [
+fn steps_in_turn(rt: HostRuntime) -> Result<(), Fail> {
+    let alloc = rt.alloc();
+    let mut core = core_of(alloc, 2)?;
+    let lines = [
         (Step::Begin(0), Answer::Began(1)),
         (Step::Ask(0, Op::Put(3, 30)), Answer::Asked),
         (Step::Seek(0), Answer::Placed),
         (Step::Act(0), Answer::Done(None)),
         (Step::Commit(0), Answer::Committed(1)),
-        (Step::Begin(0), Answer::Began(2)),
-        (Step::Ask(0, Op::Put(3, 31)), Answer::Asked),
-        (Step::Seek(0), Answer::Placed),
-        (Step::Act(0), Answer::Done(Some(30))),
-        (Step::Ask(0, Op::Take(4)), Answer::Asked),
-        (Step::Act(0), Answer::Refused(Refusal::Unplaced)),
-        (Step::Seek(0), Answer::Placed),
-        (Step::Act(0), Answer::Done(None)),
-        (Step::Ask(0, Op::Take(3)), Answer::Asked),
-        (Step::Seek(0), Answer::Placed),
-        (Step::Act(0), Answer::Done(Some(31))),
-        (Step::Ask(0, Op::Get(3)), Answer::Asked),
-        (Step::Seek(0), Answer::Placed),
-        (Step::Act(0), Answer::Done(None)),
-        (Step::Abort(0), Answer::Leaving),
-        (Step::Act(0), Answer::Refused(Refusal::Unplaced)),
-        (Step::Seek(0), Answer::Placed),
-        (Step::Act(0), Answer::Undone),
+        (Step::Begin(1), Answer::Began(2)),
+        (Step::Save(1), Answer::Saved(1)),
+        (Step::Back(1, 0), Answer::Leaving),
+        (Step::Act(1), Answer::Returned(0)),
+        (Step::Abort(1), Answer::Leaving),
+        (Step::Act(1), Answer::Aborted),
+        (Step::InitSeek(0, 1), Answer::Placed),
+        (Step::InitLink(0), Answer::Linked),
+        (Step::InitStore(0), Answer::Stored),
+        (Step::InitSeek(0, 1), Answer::Ready),
+        (Step::Double(2), Answer::Light),
+        (Step::Sweep, Answer::Clean),
     ];
-    take(&rt, &mut core, &rows);
-    let pairs = pairs_of(&rt, &core)?;
-    assert_eq!(rt; pairs.as_slice(), [(3, 31)].as_slice());
-    let rows = [
-        (Step::Seek(0), Answer::Placed),
-        (Step::Act(0), Answer::Undone),
-        (Step::Seek(0), Answer::Refused(Refusal::NothingToSeek)),
-        (Step::Act(0), Answer::Aborted),
-    ];
-    take(&rt, &mut core, &rows);
-    let pairs = pairs_of(&rt, &core)?;
+    for (step, wanted) in lines {
+        assert_eq!(rt; core.step(step), wanted, "at {step:?}");
+    }
+    let map = core.map(alloc)?;
+    assert_eq!(rt; (map.len(), map.get(&3).copied()), (1, Some(30)));
+    let pairs = core.regular_list(alloc)?;
     assert_eq!(rt; pairs.as_slice(), [(3, 30)].as_slice());
+    assert_eq!(rt; (core.size(), core.count()), (2, 1));
+    Ok(())
+}
+
+// An abort from each phase; one that has left to the end goes on, one that has left to a level is refused.
+#[test]
+fn aborts(rt: HostRuntime) -> Result<(), Fail> {
+    let alloc = rt.alloc();
+    let mut core = core_of(alloc, 3)?;
+    let lines = [
+        (Call::Abort(0), Answer::Refused(Refusal::NotOpen)),
+        (Call::Abort(3), Answer::Refused(Refusal::NoSuchCaller)),
+        (Call::Run(Step::Begin(0)), Answer::Began(1)),
+        (Call::Put(0, 1, 10), Answer::Done(None)),
+        (Call::Run(Step::Begin(1)), Answer::Began(2)),
+        (Call::Get(1, 9), Answer::Busy(0)),
+        (Call::Abort(1), Answer::Aborted),
+        (Call::Run(Step::Back(0, 0)), Answer::Leaving),
+        (Call::Abort(0), Answer::Refused(Refusal::Leaving)),
+        (Call::Run(Step::Seek(0)), Answer::Placed),
+        (Call::Run(Step::Act(0)), Answer::Undone),
+        (Call::Run(Step::Act(0)), Answer::Returned(0)),
+        (Call::Put(0, 2, 20), Answer::Done(None)),
+        (Call::Run(Step::Abort(0)), Answer::Leaving),
+        (Call::Abort(0), Answer::Aborted),
+    ];
+    plays(&rt, alloc, &mut core, &lines)?;
+    assert_eq!(rt; core.count(), 0);
+    Ok(())
+}
+
+// The pairs of the core. Asks again where memory is refused once.
+fn pairs_of(alloc: Global, core: &Core) -> Result<Vec<(u64, u64)>, AllocError> {
+    match core.regular_list(alloc) {
+        Ok(pairs) => Ok(pairs),
+        Err(AllocError) => core.regular_list(alloc),
+    }
+}
+
+// Takes a step. Where it is refused memory, all is as it was before, and the answer is false.
+fn took(
+    rt: &impl Abort,
+    alloc: Global,
+    core: &mut Core,
+    step: Step,
+    wanted: Answer,
+) -> Result<bool, Fail> {
+    let pairs = pairs_of(alloc, core)?;
+    let entries = core.trace().len();
+    let answer = core.step(step);
+    if answer == Answer::Refused(Refusal::NoMemory) {
+        let after = pairs_of(alloc, core)?;
+        assert_eq!(rt; after.as_slice(), pairs.as_slice());
+        assert_eq!(rt; core.trace().len(), entries);
+        return Ok(false);
+    }
+    assert_eq!(rt; answer, wanted, "at {step:?}");
+    Ok(true)
+}
+
+// A caller does an operation, or is refused memory.
+fn did(
+    rt: &impl Abort,
+    alloc: Global,
+    core: &mut Core,
+    caller: u64,
+    op: Op,
+    reply: Option<u64>,
+) -> Result<bool, Fail> {
+    Ok(
+        took(rt, alloc, core, Step::Ask(caller, op), Answer::Asked)?
+            && took(rt, alloc, core, Step::Seek(caller), Answer::Placed)?
+            && took(rt, alloc, core, Step::Act(caller), Answer::Done(reply))?,
+    )
+}
+
+// Five callers begin and change a key each three times; false where memory is refused.
+fn five_changed(rt: &impl Abort, alloc: Global, core: &mut Core) -> Result<bool, Fail> {
+    for caller in 0..5 {
+        if !took(
+            rt,
+            alloc,
+            core,
+            Step::Begin(caller),
+            Answer::Began(caller + 1),
+        )? || !did(rt, alloc, core, caller, Op::Put(caller + 1, 10), None)?
+        {
+            return Ok(false);
+        }
+    }
+    for caller in 0..5 {
+        if !did(rt, alloc, core, caller, Op::Put(caller + 1, 20), Some(10))?
+            || !did(rt, alloc, core, caller, Op::Take(caller + 1), Some(20))?
+        {
+            return Ok(false);
+        }
+    }
+    Ok(true)
+}
+
+// Each caller takes its newest change back, after which each key has this value.
+fn five_undone(
+    rt: &impl Abort,
+    alloc: Global,
+    core: &mut Core,
+    left: Option<u64>,
+) -> Result<(), Fail> {
+    for caller in 0..5 {
+        assert_eq!(rt; core.step(Step::Seek(caller)), Answer::Placed);
+        assert_eq!(rt; core.step(Step::Act(caller)), Answer::Undone);
+    }
+    let pairs = pairs_of(alloc, core)?;
+    match left {
+        Some(value) => {
+            let wanted = [(4, value), (2, value), (1, value), (5, value), (3, value)];
+            assert_eq!(rt; pairs.as_slice(), wanted.as_slice());
+        }
+        None => assert!(rt; pairs.is_empty()),
+    }
+    Ok(())
+}
+
+// Also run with each allocation refused in turn: then every caller aborts, for which no memory is wanted.
+#[test]
+fn five_callers_undone(rt: HostRuntime) -> Result<(), Fail> {
+    let alloc = rt.alloc();
+    let mut core = core_of(alloc, 5)?;
+    if five_changed(&rt, alloc, &mut core)? {
+        for caller in 0..5 {
+            assert_eq!(rt; core.step(Step::Abort(caller)), Answer::Leaving);
+        }
+        five_undone(&rt, alloc, &mut core, Some(20))?;
+        five_undone(&rt, alloc, &mut core, Some(10))?;
+        five_undone(&rt, alloc, &mut core, None)?;
+        for caller in 0..5 {
+            assert_eq!(rt; core.step(Step::Act(caller)), Answer::Aborted);
+        }
+    } else {
+        for caller in 0..5 {
+            let answer = core.abort(caller);
+            assert!(rt; answer == Answer::Aborted || answer == Answer::Refused(Refusal::NotOpen));
+        }
+    }
+    assert_eq!(rt; (core.size(), core.count()), (2, 0));
     Ok(())
 }

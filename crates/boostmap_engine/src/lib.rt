@@ -26,6 +26,8 @@ pub use fault::Fault;
 #[cfg(test)]
 mod check_tests;
 #[cfg(test)]
+mod rows;
+#[cfg(test)]
 mod streams;
 #[cfg(test)]
 mod tests;

@@ -234,7 +234,7 @@ impl State {
 }
 
 /// The caller of an entry.
-fn caller_in(entry: &Entry) -> u64
+pub(crate) fn caller_in(entry: &Entry) -> u64
     ensures { result ≡ caller_of entry.now }
 {
     match *entry {

@@ -1,8 +1,11 @@
 ghost use Rattle.std.specs.Prelude.{◌<◌};
-ghost use Rattle.std.specs.List.{All};
-ghost use Rattle.txn_trace.specs.History.{caller_of};
 
+mod generated;
+mod plain;
+
+use crate::state::caller_in;
 use crate::{Checker, Rule, Verdict, check};
+use generated::Draws;
 use std::alloc::{AllocError, Global};
 use std::process::Abort;
 use std::test::Fail;
@@ -17,9 +20,7 @@ fn legal(commits: u64, running: u64) -> Verdict {
 }
 
 /// A commit, a change that aborts, and a reader with this reply.
-fn replies(last: u64) -> [Entry; 14]
-    ensures { All (λ entry. caller_of entry < 64) result }
-{
+fn replies(last: u64) -> [Entry; 14] {
     [
         Entry::Began(0, 1),
         Entry::Asked(0, Op::Put(1, 10)),
@@ -38,24 +39,46 @@ fn replies(last: u64) -> [Entry; 14]
     ]
 }
 
-/// The verdict, asked for once more where that is refused.
-fn judged(alloc: Global, entries: &[Entry], stripes: u64) -> Result<Verdict, AllocError>
-    requires stripes { 0 < stripes }
-    requires callers { All (λ entry. caller_of entry < 64) entries.now }
+/// The verdict of the plain program, which `check` and a checker that is fed entry by entry must share.
+fn agreed<R: AllocGlobal + Abort>(
+    rt: &R,
+    entries: &[Entry],
+    stripes: u64,
+) -> Result<Verdict, AllocError>
+    requires { 0 < stripes }
 {
-    match check(alloc, entries, stripes) {
-        Err(_) => check(alloc, entries, stripes),
-        verdict => verdict,
+    let alloc = rt.alloc();
+    let bad = plain::first_bad(alloc, entries, stripes)?;
+    let expected = plain::verdict(entries, bad);
+    assert!(rt; entries.iter().all(|entry| caller_in(entry) < 64));
+    assert_eq!(rt; check(alloc, entries, stripes)?, expected, "{entries:?}");
+    let mut checker = Checker::new(alloc, stripes)?;
+    for (i, entry) in entries.iter().enumerate() {
+        assert!(rt; caller_in(entry) < 64);
+        checker.feed(entry)?;
+        let so_far = plain::verdict(&entries[..i + 1], bad.filter(|bad| bad.0 <= i));
+        assert_eq!(rt; checker.verdict(), so_far, "after entry {i} of {entries:?}");
     }
+    Ok(expected)
+}
+
+/// The verdict, asked for once more where memory is refused.
+fn judged<R: AllocGlobal + Abort>(
+    rt: &R,
+    entries: &[Entry],
+    stripes: u64,
+) -> Result<Verdict, AllocError>
+    requires { 0 < stripes }
+{
+    agreed(rt, entries, stripes).or_else(|_| agreed(rt, entries, stripes))
 }
 
 #[test]
 fn checker_replies(rt: HostRuntime) -> Result<(), Fail> {
-    let alloc = rt.alloc();
     let stale = replies(99);
-    assert_eq!(rt; judged(alloc, &stale, 8)?, illegal(12, Rule::Replies));
+    assert_eq!(rt; judged(&rt, &stale, 8)?, illegal(12, Rule::Replies));
     let right = replies(10);
-    assert_eq!(rt; judged(alloc, &right, 8)?, legal(2, 0));
+    assert_eq!(rt; judged(&rt, &right, 8)?, legal(2, 0));
     let not_undone = [
         Entry::Began(0, 1),
         Entry::Asked(0, Op::Put(1, 10)),
@@ -67,13 +90,12 @@ fn checker_replies(rt: HostRuntime) -> Result<(), Fail> {
         Entry::Leave(1, None),
         Entry::Aborted(1),
     ];
-    assert_eq!(rt; judged(alloc, &not_undone, 8)?, illegal(8, Rule::Shape));
+    assert_eq!(rt; judged(&rt, &not_undone, 8)?, illegal(8, Rule::Shape));
     Ok(())
 }
 
 #[test]
 fn checker_locks(rt: HostRuntime) -> Result<(), Fail> {
-    let alloc = rt.alloc();
     let asked = [
         Entry::Began(0, 1),
         Entry::Asked(0, Op::Put(1, 10)),
@@ -81,37 +103,36 @@ fn checker_locks(rt: HostRuntime) -> Result<(), Fail> {
         Entry::Began(1, 2),
         Entry::Asked(1, Op::Get(9)),
     ];
-    assert_eq!(rt; judged(alloc, &asked, 8)?, illegal(4, Rule::Locks));
+    assert_eq!(rt; judged(&rt, &asked, 8)?, illegal(4, Rule::Locks));
     let busy = [Entry::Began(0, 1), Entry::Busy(0, Op::Get(9), 1)];
-    assert_eq!(rt; judged(alloc, &busy, 8)?, illegal(1, Rule::Locks));
+    assert_eq!(rt; judged(&rt, &busy, 8)?, illegal(1, Rule::Locks));
     Ok(())
 }
 
 #[test]
 fn forged_histories(rt: HostRuntime) -> Result<(), Fail> {
-    let alloc = rt.alloc();
-    assert_eq!(rt; judged(alloc, &[], 8)?, legal(0, 0));
+    assert_eq!(rt; judged(&rt, &[], 8)?, legal(0, 0));
     let undone = [Entry::Undone(0)];
-    assert_eq!(rt; judged(alloc, &undone, 8)?, illegal(0, Rule::Shape));
+    assert_eq!(rt; judged(&rt, &undone, 8)?, illegal(0, Rule::Shape));
     let second_place = [Entry::Began(0, 1), Entry::Committed(0, 2)];
-    assert_eq!(rt; judged(alloc, &second_place, 8)?, illegal(1, Rule::Shape));
+    assert_eq!(rt; judged(&rt, &second_place, 8)?, illegal(1, Rule::Shape));
     let no_savepoint = [Entry::Began(0, 1), Entry::Leave(0, Some(1))];
-    assert_eq!(rt; judged(alloc, &no_savepoint, 8)?, illegal(1, Rule::Shape));
+    assert_eq!(rt; judged(&rt, &no_savepoint, 8)?, illegal(1, Rule::Shape));
     let invented = [
         Entry::Began(0, 1),
         Entry::Asked(0, Op::Get(5)),
         Entry::Did(0, Some(7)),
         Entry::Leave(0, None),
     ];
-    assert_eq!(rt; judged(alloc, &invented, 8)?, illegal(2, Rule::Replies));
+    assert_eq!(rt; judged(&rt, &invented, 8)?, illegal(2, Rule::Replies));
     let one_stripe = [
         Entry::Began(0, 1),
         Entry::Asked(0, Op::Get(1)),
         Entry::Began(1, 2),
         Entry::Asked(1, Op::Get(9)),
     ];
-    assert_eq!(rt; judged(alloc, &one_stripe, 8)?, illegal(3, Rule::Locks));
-    assert_eq!(rt; judged(alloc, &one_stripe, 16)?, legal(0, 2));
+    assert_eq!(rt; judged(&rt, &one_stripe, 8)?, illegal(3, Rule::Locks));
+    assert_eq!(rt; judged(&rt, &one_stripe, 16)?, legal(0, 2));
     Ok(())
 }
 
@@ -125,17 +146,7 @@ fn started(alloc: Global) -> Result<Checker, AllocError> {
 
 /// Feeds an entry, once more where it is refused.
 fn fed(checker: &mut Checker, entry: &Entry, rt: &impl Abort) {
-    let (Entry::Began(caller, _)
-    | Entry::Asked(caller, _)
-    | Entry::Did(caller, _)
-    | Entry::Saved(caller)
-    | Entry::Leave(caller, _)
-    | Entry::Undone(caller)
-    | Entry::Returned(caller, _)
-    | Entry::Committed(caller, _)
-    | Entry::Busy(caller, _, _)
-    | Entry::Aborted(caller)) = *entry;
-    assert!(rt; caller < 64);
+    assert!(rt; caller_in(entry) < 64);
     let before = checker.verdict();
     if checker.feed(entry).is_err() {
         assert_eq!(rt;
@@ -165,7 +176,6 @@ fn fed_entry_by_entry(rt: HostRuntime) -> Result<(), Fail> {
 
 #[test]
 fn savepoints(rt: HostRuntime) -> Result<(), Fail> {
-    let mut checker = started(rt.alloc())?;
     let entries = [
         Entry::Began(0, 1),
         Entry::Asked(0, Op::Put(1, 10)),
@@ -182,14 +192,12 @@ fn savepoints(rt: HostRuntime) -> Result<(), Fail> {
         Entry::Returned(0, 1),
         Entry::Asked(0, Op::Get(1)),
         Entry::Did(0, Some(10)),
+        Entry::Leave(0, Some(2)),
     ];
-    for entry in &entries {
-        fed(&mut checker, entry, &rt);
-    }
-    assert_eq!(rt; checker.verdict(), legal(0, 1));
-    fed(&mut checker, &Entry::Leave(0, Some(2)), &rt);
+    let back_at_1 = &entries[..15];
+    assert_eq!(rt; judged(&rt, back_at_1, 8)?, legal(0, 1));
     assert_eq!(rt;
-        checker.verdict(),
+        judged(&rt, &entries, 8)?,
         illegal(15, Rule::Shape),
         "savepoint 2 is gone"
     );
@@ -201,4 +209,52 @@ fn numbers_of_rules(rt: HostRuntime) {
     assert_eq!(rt; Rule::Replies.number(), 1);
     assert_eq!(rt; Rule::Locks.number(), 2);
     assert_eq!(rt; Rule::Shape.number(), 3);
+}
+
+/// How many histories had each verdict.
+#[derive(Default, Drop)]
+struct Tally {
+    legal: u64,
+    replies: u64,
+    locks: u64,
+    shape: u64,
+}
+
+impl Tally {
+    fn count(&mut self, verdict: Verdict) {
+        let place = match verdict {
+            Verdict::Legal { .. } => &mut self.legal,
+            Verdict::Illegal { rule, .. } => match rule {
+                Rule::Replies => &mut self.replies,
+                Rule::Locks => &mut self.locks,
+                Rule::Shape => &mut self.shape,
+            },
+        };
+        *place = place.saturating_add(1);
+    }
+}
+
+/// Draws a legal history from the seed, which must be found so, and gives the verdict on it with one fault.
+fn spoiled<R: AllocGlobal + Abort>(rt: &R, seed: u64) -> Result<Verdict, AllocError> {
+    let mut draws = Draws(seed);
+    let stripes = draws.below(4) + 1;
+    let length = draws.below(31);
+    let mut history = generated::legal_history(rt.alloc(), &mut draws, stripes, length)?;
+    let verdict = agreed(rt, &history, stripes)?;
+    assert!(rt; matches!(verdict, Verdict::Legal { .. }), "{history:?}");
+    generated::spoil(&mut draws, &mut history)?;
+    agreed(rt, &history, stripes)
+}
+
+#[test]
+fn agrees_with_the_plain_program(rt: HostRuntime) -> Result<(), Fail> {
+    let mut tally = Tally::default();
+    for seed in 0..2000 {
+        tally.count(spoiled(&rt, seed).or_else(|_| spoiled(&rt, seed))?);
+    }
+    assert!(rt; 500 < tally.legal, "legal: {}", tally.legal);
+    assert!(rt; 100 < tally.replies, "rule 1: {}", tally.replies);
+    assert!(rt; 100 < tally.locks, "rule 2: {}", tally.locks);
+    assert!(rt; 300 < tally.shape, "rule 3: {}", tally.shape);
+    Ok(())
 }

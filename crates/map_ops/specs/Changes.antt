@@ -1,10 +1,13 @@
 -- What each call answers and changes.
-use Rattle.std.specs.Prelude.{◌≡◌, ◌<◌, ◌≤◌, ◌-◌, ◌^◌, ◌+◌, ℕ, Bool, true, false, Option, Some, None, is_some, if◌then◌else◌}
+use Rattle.std.specs.Prelude.{◌≡◌, ◌<◌, ◌≤◌, ◌-◌, ◌^◌, ◌+◌, ◌%◌, ℕ, Bool, true, false, Option, Some, None, is_some, if◌then◌else◌}
 use Rattle.std.specs.List.{AllByRecursion}
 use Rattle.node_list.specs.Nodes.{SpareAt, out_at}
 use Rattle.list_steps.specs.declared.cursor.Cursor.{Cursor}
 use Rattle.list_steps.specs.declared.sweeps.SweepOutcome.{SweepOutcome}
+use Rattle.list_steps.specs.Seek.{sought}
 use Rattle.list_steps.specs.Steps as steps
+use Rattle.split_key.specs.Split.{split}
+use Rattle.bucket_table.specs.Directory.{IsNearest}
 use Rattle.txn_trace.specs.declared.op.Op.{Op}
 use Rattle.txn_trace.specs.declared.refusal.Refusal.{Refusal}
 use Rattle.txn_trace.specs.declared.refusal.Refusal.TheVariants as refusals
@@ -16,7 +19,7 @@ use Rattle.map_ops.specs.declared.act.Undo.{Undo}
 use Rattle.map_ops.specs.declared.act.Undo.TheVariants.{Undone, Again as UndoAgain}
 use Rattle.map_ops.specs.declared.job.MapJob.{MapJob}
 use Rattle.map_ops.specs.declared.job.MapJob.TheVariants.{Unput, Restore, Relink}
-use Rattle.map_ops.specs.TableAt.{TableAt, content, turn_of, last_of, linked_of, Owns, KeepsOthers, KeepsSpares, Keeps, IsPlaced, cursor_turn, fits}
+use Rattle.map_ops.specs.TableAt.{TableAt, content, turn_of, last_of, size_of, linked_of, Owns, KeepsOthers, KeepsSpares, Keeps, IsPlaced, cursor_turn, fits}
 use Rattle.map_ops.specs.Jobs.{PendingAt, takes_node, key_of_job, value_before, spare_of_job, job_of, IsDue}
 
 -- the spare, if there is one, is the table's
@@ -69,6 +72,13 @@ pub record Places (old new : TableAt) (key : ℕ) (cursor : Cursor) : Type 0 whe
   pub placed : IsPlaced new cursor key
   pub fits : fits new cursor ≡ true
   pub turn : cursor_turn cursor ≡ turn_of new
+
+-- a key was sought from the dummy of its bucket, or of the nearest ancestor that is initialised: the marked nodes between
+-- there and the key's place are unlinked, and no others
+pub record SeeksNear (old new : TableAt) (key : ℕ) : Type 0 where
+  pub start : ℕ
+  pub nearest : IsNearest old.buckets (key % size_of old) start
+  pub nodes : new.list.nodes ≡ sought old.list.nodes start (split key)
 
 -- the spare of an operation: with a job that owns it, it stays out; else it is out no more
 abbrev pub SpendsFor : TableAt → TableAt → Option SpareAt → Option MapJob → Type 0

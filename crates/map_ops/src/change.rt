@@ -1,5 +1,5 @@
 //! What is done to the list of a table. Each contract holds of the table with any buckets.
-ghost use Rattle.std.specs.Prelude.{◌≡◌, ℕ, ◌<◌, ◌^◌, true, Some, None, is_ok, IsSome, IfOk, IfErr, OnErr};
+ghost use Rattle.std.specs.Prelude.{◌≡◌, ℕ, ◌<◌, ◌≤◌, ◌^◌, true, Some, None, is_ok, IsSome, IfOk, IfErr, OnErr};
 ghost use Rattle.node_list.specs.Follow.{Follows};
 ghost use Rattle.node_list.specs.Nodes.{IsOut};
 ghost use Rattle.list_steps.specs.Content.{pairs};
@@ -11,7 +11,7 @@ ghost use Rattle.txn_trace.specs.Map.{get, key_of};
 ghost use Rattle.map_ops.specs.TableAt.{KeepsSpares, map_of, table_of};
 ghost use Rattle.map_ops.specs.Jobs.{IsDue, key_of_job, spare_of_job};
 ghost use Rattle.map_ops.specs.Plans.{pending_of};
-ghost use Rattle.map_ops.specs.Changes.{Does, GivesBack, IsRefused, OwnsIf, Places, Prepares, Spends, TakesBack};
+ghost use Rattle.map_ops.specs.Changes.{Does, GivesBack, IsRefused, OwnsIf, Places, Prepares, SeeksNear, Spends, TakesBack};
 ghost use Rattle.map_ops.specs.Steps.{GivesOne, IsLacking, Sets};
 ghost use Rattle.map_ops.specs.Sound.{Belong};
 
@@ -78,7 +78,9 @@ pub(crate) fn seek_key(list: &mut NodeList, buckets: &Buckets, key: Key) -> Curs
     requires home { IsHome buckets.now list.old }
     requires belong { Belong list.old.nodes }
     ensures places { Places (table_of list.old buckets.now) (table_of list.new buckets.now) key result }
+    ensures near { SeeksNear (table_of list.old buckets.now) (table_of list.new buckets.now) key }
     ensures belong { Belong list.new.nodes }
+    ensures rises { list.old.turn ≤ list.new.turn }
     ensures follows { Follows list.old list.new }
 {
     let _turn = list.turn();
@@ -95,6 +97,7 @@ pub(crate) fn find(list: &NodeList, cursor: &Cursor, key: Key) -> Result<Reply, 
     requires split { split_of cursor.now ≡ split key }
     ensures again { is_ok result ≡ fits list.now cursor.now }
     ensures value { IfOk result (λ value. value ≡ get (map_of (pairs list.now.nodes)) key) }
+    ensures turn { list.now.turn < 2 ^ 64 }
 {
     let _turn = list.turn();
     let _number = key.number();

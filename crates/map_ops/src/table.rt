@@ -48,7 +48,7 @@ impl Table {
     ghost use Rattle.bucket_table.specs.Home.{IsHome};
     ghost use Rattle.map_ops.specs.TableAt.{IsNew, IsPlaced, Follows, Keeps, KeepsSpares, Sought, content, regular, helps_of, last_of, largest_of, linked_of, size_of, stored_of, turn_of};
     ghost use Rattle.map_ops.specs.Jobs.{IsDue, key_of_job, spare_of_job};
-    ghost use Rattle.map_ops.specs.Changes.{Acts, Applies, GivesBack, IsClean, IsRefused, OwnsIf, Places, Prepares, Sweeps, TakesBack, Undoes};
+    ghost use Rattle.map_ops.specs.Changes.{Acts, Applies, GivesBack, IsClean, IsRefused, OwnsIf, Places, Prepares, SeeksNear, Sweeps, TakesBack, Undoes};
     ghost use Rattle.map_ops.specs.Buckets.{Doubles, LinkChanges, SeekChanges, StoreChanges, double_answer, helper_fits, link_answer, seek_answer, store_answer};
 
     /// An empty table of two buckets, of which bucket 0 is initialised, and of so many idle helpers. It can grow to `max`
@@ -96,6 +96,8 @@ impl Table {
     /// The cursor fits until something changes where it is. Takes no memory. One step a node from that dummy on.
     pub fn place(&mut self, pending: &Pending) -> Cursor
         ensures places { Places self.old self.new (key_of pending.now.op) result }
+        ensures near { SeeksNear self.old self.new (key_of pending.now.op) }
+        ensures rises { turn_of self.old ≤ turn_of self.new }
         ensures follows { Follows self.old self.new }
     {
         seek_key(&mut self.list, &self.buckets, pending.key())
@@ -109,6 +111,7 @@ impl Table {
         requires placed { IsPlaced self.old cursor (key_of pending.op) }
         requires owned { OwnsIf self.old pending.spare }
         ensures acts { Acts self.old self.new pending cursor result }
+        ensures rises { turn_of self.old ≤ turn_of self.new }
         ensures follows { Follows self.old self.new }
     {
         match find(&self.list, &cursor, pending.key()) {
@@ -136,6 +139,8 @@ impl Table {
     /// Takes no memory. One step a node from the nearest dummy on.
     pub fn place_job(&mut self, job: &MapJob) -> Cursor
         ensures places { Places self.old self.new (key_of_job job.now) result }
+        ensures near { SeeksNear self.old self.new (key_of_job job.now) }
+        ensures rises { turn_of self.old ≤ turn_of self.new }
         ensures follows { Follows self.old self.new }
     {
         seek_key(&mut self.list, &self.buckets, job.key())
@@ -151,6 +156,7 @@ impl Table {
         requires due { IsDue (content self.old) job }
         requires owned { OwnsIf self.old (spare_of_job job) }
         ensures undoes { Undoes self.old self.new job cursor result }
+        ensures rises { turn_of self.old ≤ turn_of self.new }
         ensures follows { Follows self.old self.new }
     {
         match find(&self.list, &cursor, job.key()) {
@@ -183,6 +189,7 @@ impl Table {
         ensures ok { IfOk result (λ done. Applies self.old self.new op done.0 done.1) }
         ensures err { IfErr result (IsRefused self.old op) }
         ensures unchanged { OnErr result (self.new ≡ self.old) }
+        ensures rises { turn_of self.old ≤ turn_of self.new }
         ensures follows { Follows self.old self.new }
     {
         let pending = self.prepare(op)?;
@@ -201,6 +208,7 @@ impl Table {
         requires due { IsDue (content self.old) job }
         requires owned { OwnsIf self.old (spare_of_job job) }
         ensures back { TakesBack self.old self.new job }
+        ensures rises { turn_of self.old ≤ turn_of self.new }
         ensures follows { Follows self.old self.new }
     {
         let cursor = self.place_job(&job);
@@ -251,7 +259,8 @@ impl Table {
         self.buckets.size()
     }
 
-    /// The change number: how many links, marks, unlinks and writes there were, and 2^64 - 1 from there on. Constant time.
+    /// The change number: how many links, marks, unlinks and writes there were, and 2^64 - 1 from there on. No call lowers it.
+    /// Constant time.
     pub fn turn(&self) -> u64
         ensures { result ≡ turn_of self.now }
     {
@@ -276,6 +285,7 @@ impl Table {
         ensures keeps { Keeps self.old self.new }
         ensures spares { KeepsSpares self.old self.new }
         ensures turn { result ≡ SweepOutcome.Clean → turn_of self.new ≡ turn_of self.old }
+        ensures rises { turn_of self.old ≤ turn_of self.new }
         ensures follows { Follows self.old self.new }
     {
         let _turn = self.list.turn();
@@ -294,6 +304,7 @@ impl Table {
     pub fn init_seek(&mut self, helper: u64, bucket: u64) -> Result<InitSeek, InitRefusal>
         ensures answer { result ≡ seek_answer (size_of self.old) (stored_of self.old) (slice_get (helps_of self.old) helper) bucket }
         ensures changes { SeekChanges self.old self.new helper bucket result }
+        ensures rises { turn_of self.old ≤ turn_of self.new }
         ensures follows { Follows self.old self.new }
     {
         let _turn = self.list.turn();
@@ -314,6 +325,7 @@ impl Table {
         ensures no_memory { result ≡ Err InitRefusal.NoMemory → link_answer (helper_fits self.old helper) (linked_of self.old) (last_of self.old) (slice_get (helps_of self.old) helper) ≡ Ok InitLink.Linked }
         ensures in_turn { (bucket : ℕ) → slice_get (helps_of self.old) helper ≡ Some (Sought bucket (turn_of self.old)) → turn_of self.old < 2 ^ 64 - 1 → result ≢ Ok InitLink.Again }
         ensures changes { LinkChanges self.old self.new helper result }
+        ensures rises { turn_of self.old ≤ turn_of self.new }
         ensures follows { Follows self.old self.new }
     {
         let _turn = self.list.turn();

@@ -39,11 +39,17 @@ fn there_and_back(table: &mut Table, op: Op) -> Result<(), Refusal> {
     Ok(())
 }
 
-// Compares the pairs of the table.
+// Compares the pairs of the table, and asks once more for what memory is refused to.
 fn shows(rt: &impl Abort, alloc: Global, table: &Table, wanted: &[(u64, u64)]) -> Result<(), Fail> {
-    let pairs = table.regular_list(alloc)?;
+    let pairs = match table.regular_list(alloc) {
+        Ok(pairs) => pairs,
+        Err(AllocError) => table.regular_list(alloc)?,
+    };
     assert_eq!(rt; pairs.as_slice(), wanted);
-    let content = table.content(alloc)?;
+    let content = match table.content(alloc) {
+        Ok(content) => content,
+        Err(AllocError) => table.content(alloc)?,
+    };
     assert_eq!(rt; content.len(), wanted.len());
     for (key, value) in wanted {
         assert_eq!(rt; content.get(key).copied(), Some(*value));
@@ -282,4 +288,113 @@ fn stale_pending(rt: HostRuntime) -> Result<(), Fail> {
     shows(&rt, rt.alloc(), &table, &[(2, 20)])?;
     unput(&rt, &mut table, own)?;
     shows(&rt, rt.alloc(), &table, &[])
+}
+
+// Keys with their values, in the order of the list.
+const PAIRS: [(u64, u64); 8] = [
+    (4, 40),
+    (2, 20),
+    (6, 60),
+    (1, 10),
+    (5, 50),
+    (3, 30),
+    (7, 70),
+    (15, 150),
+];
+
+// A table of two buckets that cannot grow, asked for once more where memory is refused.
+fn table_again(alloc: Global) -> Result<Table, AllocError> {
+    match small_table(alloc) {
+        Ok(table) => Ok(table),
+        Err(AllocError) => small_table(alloc),
+    }
+}
+
+// What is seen of a table without memory.
+fn figures(table: &Table) -> (u32, u64, u64) {
+    (table.size(), table.count(), table.turn())
+}
+
+// Puts a new key. Where memory is refused, the table is as it was, with these pairs, and the put is done when it is asked again.
+fn put_again(
+    rt: &impl Abort,
+    alloc: Global,
+    table: &mut Table,
+    pair: (u64, u64),
+    before: &[(u64, u64)],
+) -> Result<(), Fail> {
+    let seen = figures(table);
+    let (reply, _) = match put(table, pair.0, pair.1) {
+        Ok(done) => done,
+        Err(refusal) => {
+            assert_eq!(rt; refusal, Refusal::NoMemory);
+            assert_eq!(rt; figures(table), seen);
+            shows(rt, alloc, table, before)?;
+            put(table, pair.0, pair.1)?
+        }
+    };
+    assert_eq!(rt; reply, None);
+    Ok(())
+}
+
+// This test and the next two are also run with each allocation refused in turn.
+#[test]
+fn refused_memory_for_puts(rt: HostRuntime) -> Result<(), Fail> {
+    let mut table = table_again(rt.alloc())?;
+    for (done, pair) in PAIRS.iter().enumerate() {
+        put_again(&rt, rt.alloc(), &mut table, *pair, &PAIRS[..done])?;
+    }
+    shows(&rt, rt.alloc(), &table, &PAIRS)
+}
+
+// An operation that was prepared before keeps its spare.
+#[test]
+fn refused_memory_for_a_preparation(rt: HostRuntime) -> Result<(), Fail> {
+    let mut table = table_again(rt.alloc())?;
+    put_again(&rt, rt.alloc(), &mut table, PAIRS[0], &[])?;
+    put_again(&rt, rt.alloc(), &mut table, PAIRS[1], &PAIRS[..1])?;
+    let kept = table.prepare(Op::Put(6, 60))?;
+    let seen = figures(&table);
+    match table.prepare(Op::Take(2)) {
+        Ok(pending) => {
+            let (reply, _) = finish(&mut table, pending);
+            assert_eq!(rt; reply, Some(20));
+            shows(&rt, rt.alloc(), &table, &PAIRS[..1])
+        }
+        Err(refusal) => {
+            assert_eq!(rt; refusal, Refusal::NoMemory);
+            assert_eq!(rt; figures(&table), seen);
+            shows(&rt, rt.alloc(), &table, &PAIRS[..2])?;
+            let (reply, _) = finish(&mut table, kept);
+            assert_eq!(rt; reply, None);
+            shows(&rt, rt.alloc(), &table, &PAIRS[..3])
+        }
+    }
+}
+
+// An operation that was prepared before keeps its spare, and the helper its cursor.
+#[test]
+fn refused_memory_for_a_link(rt: HostRuntime) -> Result<(), Fail> {
+    let mut table = table_again(rt.alloc())?;
+    put_again(&rt, rt.alloc(), &mut table, (2, 20), &[])?;
+    put_again(&rt, rt.alloc(), &mut table, (6, 60), &[(2, 20)])?;
+    let kept = table.prepare(Op::Put(4, 40))?;
+    assert_eq!(rt; table.init_seek(0, 1), Ok(InitSeek::Placed));
+    let seen = figures(&table);
+    match table.init_link(0) {
+        Ok(answer) => {
+            assert_eq!(rt; answer, InitLink::Linked);
+            shows(&rt, rt.alloc(), &table, &PAIRS[1..3])
+        }
+        Err(refusal) => {
+            assert_eq!(rt; refusal, InitRefusal::NoMemory);
+            assert_eq!(rt; figures(&table), seen);
+            shows(&rt, rt.alloc(), &table, &PAIRS[1..3])?;
+            let (reply, _) = finish(&mut table, kept);
+            assert_eq!(rt; reply, None);
+            assert_eq!(rt; table.init_link(0), Ok(InitLink::Linked));
+            assert_eq!(rt; table.init_store(0), Ok(()));
+            shows(&rt, rt.alloc(), &table, &PAIRS[..3])
+        }
+    }
 }

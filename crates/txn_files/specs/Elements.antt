@@ -50,3 +50,10 @@ optional d = if is_some (as_null d) then Some None else option_map (λ n. Some n
 unfoldable pub optional_of : List Data → Option (Option ℕ)
 optional_of [] = None
 optional_of (d ∷ ds) = if length ds == 0 then optional d else None
+
+-- two numbers and nothing else
+unfoldable pub two_of : List Data → Option (ℕ × ℕ)
+two_of ds = do
+  m ← number_at ds
+  n ← one_of m.1
+  Some (m.0, n)

@@ -1,10 +1,10 @@
 -- The step that an array in JSON is: its name, its caller and what it asks for.
-use Rattle.std.specs.Prelude.{List, Option, Some, None, if◌then◌else◌, codes}
+use Rattle.std.specs.Prelude.{ℕ, ◌==◌, List, length, Option, Some, None, if◌then◌else◌, codes}
 use Rattle.std.specs.Str.{bytes_eq}
 use Rattle.serde_json.specs.Data.{Data}
 use Rattle.txn_trace.specs.declared.step.Step.{Step}
-use Rattle.txn_trace.specs.declared.step.Step.TheVariants.{Begin, Ask, Seek, Act, Commit, Abort}
-use Rattle.txn_files.specs.Elements.{◌>>=◌, number_at, word_at, one_of}
+use Rattle.txn_trace.specs.declared.step.Step.TheVariants.{Begin, Ask, Seek, Act, Save, Back, Commit, Abort, Sweep, InitSeek, InitLink, InitStore, Double}
+use Rattle.txn_files.specs.Elements.{◌>>=◌, number_at, word_at, one_of, two_of}
 use Rattle.txn_files.specs.Operations.{op_of}
 
 -- a caller and the operation that it asks for
@@ -14,14 +14,26 @@ ask_of ds = do
   op ← op_of c.1
   Some (Ask c.0 op)
 
--- a step by its name, with its caller
+-- a step that is its name and one number
+unfoldable pub numbered_of : List ℕ → ℕ → Option Step
+numbered_of name n =
+    if bytes_eq name (codes "begin") then Some (Begin n)
+    else if bytes_eq name (codes "seek") then Some (Seek n)
+    else if bytes_eq name (codes "act") then Some (Act n)
+    else if bytes_eq name (codes "save") then Some (Save n)
+    else if bytes_eq name (codes "commit") then Some (Commit n)
+    else if bytes_eq name (codes "abort") then Some (Abort n)
+    else if bytes_eq name (codes "init_link") then Some (InitLink n)
+    else if bytes_eq name (codes "init_store") then Some (InitStore n)
+    else if bytes_eq name (codes "double") then Some (Double n)
+    else None
+
+-- a step by its name, and what stands behind the name
 unfoldable pub step_of : List Data → Option Step
 step_of ds = do
   name ← word_at ds
-  if bytes_eq name.0 (codes "begin") then (one_of name.1 >>= λ c. Some (Begin c))
-      else if bytes_eq name.0 (codes "ask") then ask_of name.1
-      else if bytes_eq name.0 (codes "seek") then (one_of name.1 >>= λ c. Some (Seek c))
-      else if bytes_eq name.0 (codes "act") then (one_of name.1 >>= λ c. Some (Act c))
-      else if bytes_eq name.0 (codes "commit") then (one_of name.1 >>= λ c. Some (Commit c))
-      else if bytes_eq name.0 (codes "abort") then (one_of name.1 >>= λ c. Some (Abort c))
-      else None
+  if bytes_eq name.0 (codes "ask") then ask_of name.1
+      else if bytes_eq name.0 (codes "back") then (two_of name.1 >>= λ cn. Some (Back cn.0 cn.1))
+      else if bytes_eq name.0 (codes "init_seek") then (two_of name.1 >>= λ hb. Some (InitSeek hb.0 hb.1))
+      else if bytes_eq name.0 (codes "sweep") then (if length name.1 == 0 then Some Sweep else None)
+      else (one_of name.1 >>= λ n. numbered_of name.0 n)

@@ -2,7 +2,7 @@
 
 ghost use Rattle.std.specs.Prelude.{◌≡◌, map, option_map};
 ghost use Rattle.serde_json.specs.View.{view};
-ghost use Rattle.txn_files.specs.Elements.{elements_of, number_at, word_at, one_of, end_of, optional_of};
+ghost use Rattle.txn_files.specs.Elements.{elements_of, number_at, word_at, one_of, two_of, end_of, optional_of};
 
 use serde_json::Value;
 
@@ -66,4 +66,14 @@ pub fn optional_in(values: &[Value]) -> Option<Option<u64>>
     }
     let number = first.as_u64()?;
     Some(Some(number))
+}
+
+/// The two elements, which are numbers.
+#[tactic(auto, unfolding(crate::specs::Elements::two_of))]
+pub fn two_in(values: &[Value]) -> Option<(u64, u64)>
+    ensures { result ≡ two_of (map view values.now) }
+{
+    let (first, rest) = number_in(values)?;
+    let second = one_in(rest)?;
+    Some((first, second))
 }

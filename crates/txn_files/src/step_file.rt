@@ -1,10 +1,10 @@
 ghost use Rattle.std.specs.Prelude.{◌≡◌, map};
 ghost use Rattle.serde_json.specs.View.{view};
 ghost use Rattle.txn_files.specs.Faults.{Gives};
-ghost use Rattle.txn_files.specs.Steps.{ask_of, step_of};
+ghost use Rattle.txn_files.specs.Steps.{ask_of, numbered_of, step_of};
 ghost use Rattle.txn_files.specs.StepFile.{sizes_at, file_of, steps_of};
 
-use crate::elements::{number_in, one_in, word_in};
+use crate::elements::{number_in, one_in, two_in, word_in};
 use crate::file_fault::FileFault;
 use crate::json::{array_member_in, number_member_in, value_in};
 use crate::operation::op_in;
@@ -26,30 +26,55 @@ fn ask_in(values: &[Value]) -> Option<Step>
     Some(Step::Ask(caller, op))
 }
 
+#[tactic(auto, unfolding(crate::specs::Steps::numbered_of))]
+fn numbered_step(name: &str, number: u64) -> Option<Step>
+    ensures { result ≡ numbered_of name.now number }
+{
+    if name == "begin" {
+        Some(Step::Begin(number))
+    } else if name == "seek" {
+        Some(Step::Seek(number))
+    } else if name == "act" {
+        Some(Step::Act(number))
+    } else if name == "save" {
+        Some(Step::Save(number))
+    } else if name == "commit" {
+        Some(Step::Commit(number))
+    } else if name == "abort" {
+        Some(Step::Abort(number))
+    } else if name == "init_link" {
+        Some(Step::InitLink(number))
+    } else if name == "init_store" {
+        Some(Step::InitStore(number))
+    } else if name == "double" {
+        Some(Step::Double(number))
+    } else {
+        None
+    }
+}
+
 #[tactic(auto, unfolding(crate::specs::Steps::step_of))]
 fn step_in(values: &[Value]) -> Option<Step>
     ensures { result ≡ step_of (map view values.now) }
 {
     let (name, rest) = word_in(values)?;
-    if name == "begin" {
-        let caller = one_in(rest)?;
-        Some(Step::Begin(caller))
-    } else if name == "ask" {
+    if name == "ask" {
         ask_in(rest)
-    } else if name == "seek" {
-        let caller = one_in(rest)?;
-        Some(Step::Seek(caller))
-    } else if name == "act" {
-        let caller = one_in(rest)?;
-        Some(Step::Act(caller))
-    } else if name == "commit" {
-        let caller = one_in(rest)?;
-        Some(Step::Commit(caller))
-    } else if name == "abort" {
-        let caller = one_in(rest)?;
-        Some(Step::Abort(caller))
+    } else if name == "back" {
+        let (caller, level) = two_in(rest)?;
+        Some(Step::Back(caller, level))
+    } else if name == "init_seek" {
+        let (helper, bucket) = two_in(rest)?;
+        Some(Step::InitSeek(helper, bucket))
+    } else if name == "sweep" {
+        if rest.is_empty() {
+            Some(Step::Sweep)
+        } else {
+            None
+        }
     } else {
-        None
+        let number = one_in(rest)?;
+        numbered_step(name, number)
     }
 }
 

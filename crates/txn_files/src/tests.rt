@@ -44,20 +44,28 @@ fn first_commit(rt: HostRuntime) -> Result<(), Fail> {
 fn every_step(rt: HostRuntime) -> Result<(), Fail> {
     // White space, numbers at both ends, members in another order, others beside them, and one given twice.
     let text = " { \"steps\" : [[\"abort\",18446744073709551615], [\"ask\",7,\"take\",0],\n\
-        [\"ask\",0,\"get\",9223372036854775808],[\"ask\",1,\"put\",18446744073709551615,0]], \"note\" : null,\n\
-        \"buckets\":65536,\"stripes\":4096,\"callers\":1,\"version\":7,\"version\":1,\"\":[{\"steps\":-1.5e3}]}\n";
+        [\"ask\",0,\"get\",9223372036854775808],[\"ask\",1,\"put\",18446744073709551615,0],\n\
+        [\"save\",3],[\"back\",4,2],[\"sweep\"],[\"init_seek\",5,6],[\"init_link\",7],[\"init_store\",8],[\"double\",9]], \"note\" : null,\n\
+        \"buckets\":65536,\"stripes\":4096,\"callers\":64,\"version\":7,\"version\":1,\"\":[{\"steps\":-1.5e3}]}\n";
     let Ok((limits, steps)) = read_steps(rt.alloc(), text.as_bytes()) else {
         return Err("refused")?;
     };
     assert_eq!(rt;
         (limits.callers(), limits.stripes(), limits.buckets()),
-        (1, 4096, 65536)
+        (64, 4096, 65536)
     );
     let wanted = [
         Step::Abort(u64::MAX),
         Step::Ask(7, Op::Take(0)),
         Step::Ask(0, Op::Get(9_223_372_036_854_775_808)),
         Step::Ask(1, Op::Put(u64::MAX, 0)),
+        Step::Save(3),
+        Step::Back(4, 2),
+        Step::Sweep,
+        Step::InitSeek(5, 6),
+        Step::InitLink(7),
+        Step::InitStore(8),
+        Step::Double(9),
     ];
     assert_eq!(rt; steps.as_slice(), wanted.as_slice());
     Ok(())
@@ -150,7 +158,6 @@ fn wrong_members(rt: HostRuntime) -> Result<(), Fail> {
         ("{\"version\":7,\"callers\":1,@}", FileFault::Limit),
         ("{\"version\":0,\"callers\":1,@}", FileFault::Limit),
         ("{\"version\":1,\"callers\":0,@}", FileFault::Limit),
-        ("{\"version\":1,\"callers\":2,@}", FileFault::Limit),
         ("{\"version\":1,\"callers\":65,@}", FileFault::Limit),
         (
             "{\"version\":1,\"callers\":1,@,\"stripes\":0}",
@@ -201,9 +208,16 @@ fn wrong_steps(rt: HostRuntime) -> Result<(), Fail> {
         "[\"begin\",0,0]",
         "[\"Begin\",0]",
         "[\"sweep\",0]",
-        "[\"sweep\"]",
-        "[\"save\",0]",
-        "[\"double\",2]",
+        "[\"sweep\",[]]",
+        "[\"save\"]",
+        "[\"back\",0]",
+        "[\"back\",0,1,2]",
+        "[\"back\",0,null]",
+        "[\"init_seek\",0]",
+        "[\"init_link\",0,3]",
+        "[\"init_store\"]",
+        "[\"double\",2,4]",
+        "[\"double\",\"2\"]",
         "[\"ask\",0]",
         "[\"ask\",0,\"put\",1]",
         "[\"ask\",0,\"put\",\"1\",10]",

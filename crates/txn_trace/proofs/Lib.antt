@@ -29,4 +29,5 @@ pub mod Sums
 pub mod Room
 pub mod Verdicts
 pub mod Counts
+pub mod Playing
 pub mod Cases

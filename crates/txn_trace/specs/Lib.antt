@@ -14,3 +14,4 @@ pub mod Log
 pub mod Legal
 pub mod Erase
 pub mod Owed
+pub mod Plays

@@ -1,5 +1,5 @@
 -- Limits as numbers.
-use Rattle.std.specs.Prelude.{ℕ, Bool, ◌==◌, ◌&&◌, nat_le, Result, Ok, Err, if◌then◌else◌}
+use Rattle.std.specs.Prelude.{ℕ, Bool, ◌&&◌, nat_le, Result, Ok, Err, if◌then◌else◌}
 use Rattle.std.specs.Int.{is_power_of_two}
 use Rattle.txn_trace.specs.declared.refusal.Refusal.{Refusal}
 use Rattle.txn_trace.specs.declared.refusal.Refusal.TheVariants.{Limit}
@@ -13,9 +13,9 @@ pub record Sizes : Type 0 where
 abbrev is_within : ℕ → ℕ → ℕ → Bool
 is_within low high n = nat_le low n && nat_le n high
 
--- one caller, 1 to 4,096 stripes, and a power of two of buckets from 2 to 65,536
+-- 1 to 64 callers, 1 to 4,096 stripes, and a power of two of buckets from 2 to 65,536
 abbrev pub are_limits : ℕ → ℕ → ℕ → Bool
-are_limits callers stripes buckets = (callers == 1) && is_within 1 4096 stripes && is_within 2 65536 buckets && is_power_of_two buckets
+are_limits callers stripes buckets = is_within 1 64 callers && is_within 1 4096 stripes && is_within 2 65536 buckets && is_power_of_two buckets
 
 -- the numbers as limits, where they are in range
 abbrev pub limits_of : ℕ → ℕ → ℕ → Result Sizes Refusal

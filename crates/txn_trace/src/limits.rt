@@ -23,14 +23,14 @@ impl Model for Limits {
 }
 
 impl Limits {
-    /// Limits that are in range: one caller, 1 to 4,096 stripes, and as the largest size a power of
+    /// Limits that are in range: 1 to 64 callers, 1 to 4,096 stripes, and as the largest size a power of
     /// two from 2 to 65,536 buckets.
     ///
     /// `Refusal::Limit` where a number is out of range. Fixed cost.
     pub fn new(callers: u64, stripes: u64, buckets: u64) -> Result<Limits, Refusal>
         ensures { result ≡ limits_of callers stripes buckets }
     {
-        let are_in_range = callers == 1
+        let are_in_range = (1 <= callers && callers <= 64)
             && (1 <= stripes && stripes <= 4096)
             && (2 <= buckets && buckets <= 65536)
             && buckets.is_power_of_two();

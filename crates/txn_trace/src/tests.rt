@@ -74,11 +74,11 @@ fn numbers_of_refusals(rt: HostRuntime) {
 
 #[test]
 fn limits_in_range(rt: HostRuntime) {
-    for (stripes, buckets) in [(8, 8), (1, 2), (4096, 65536)] {
-        let made = Limits::new(1, stripes, buckets);
+    for (callers, stripes, buckets) in [(2, 8, 8), (1, 1, 2), (64, 4096, 65536)] {
+        let made = Limits::new(callers, stripes, buckets);
         assert!(rt; made.is_ok());
         if let Ok(limits) = made {
-            assert_eq!(rt; limits.callers(), 1);
+            assert_eq!(rt; u64::from(limits.callers()), callers);
             assert_eq!(rt; u64::from(limits.stripes()), stripes);
             assert_eq!(rt; u64::from(limits.buckets()), buckets);
         }
@@ -89,7 +89,6 @@ fn limits_in_range(rt: HostRuntime) {
 fn limits_out_of_range(rt: HostRuntime) {
     let table = [
         (0, 8, 8),
-        (2, 8, 8),
         (65, 8, 8),
         (1, 0, 8),
         (1, 4097, 8),

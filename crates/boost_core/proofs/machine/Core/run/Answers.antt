@@ -10,15 +10,17 @@ loop-step-init c = record {
   room = omega (arith, c.in_ok-answers.ensures.capacity);
 }
 
-pub push_reserved-requires : goal.push_reserved-requires
-push_reserved-requires c = omega (arith, c.loop-step-test.true, c.loop-step.invariant.count, c.loop-step.invariant.room)
+pub unwrap-requires : goal.unwrap-requires
+unwrap-requires c = c.push.ensures.succeeds (omega (arith, c.loop-step-test.true, c.loop-step.invariant.count, c.loop-step.invariant.room))
 
 pub loop-step-preserved : goal.loop-step-preserved
-loop-step-preserved c = record {
-  moves = rw c.push_reserved.ensures.items (Moves-more c.args.self.now c.loop-step.self c.step-answer.new.self c.args.steps.now c.loop-step.step-index _ c.loop-step.answers.items c.step-answer.result c.loop-step-test.true c.loop-step.invariant.moves c.step-answer.ensures);
-  count = omega (arith, c.push_reserved.ensures.len, c.loop-step.invariant.count);
-  room = omega (arith, c.push_reserved.ensures.capacity, c.loop-step.invariant.room);
-}
+loop-step-preserved c =
+    let items = rw c.unwrap.ensures at c.push.ensures.items in
+    record {
+      moves = rw items (Moves-more c.args.self.now c.loop-step.self c.step-answer.new.self c.args.steps.now c.loop-step.step-index _ c.loop-step.answers.items c.step-answer.result c.loop-step-test.true c.loop-step.invariant.moves c.step-answer.ensures);
+      count = let len = rw c.unwrap.ensures at c.push.ensures.len in omega (arith, len, c.loop-step.invariant.count);
+      room = omega (arith, c.push.ensures.capacity, c.loop-step.invariant.room);
+    }
 
 pub returns-clause-ok : goal.returns-clause-ok
 returns-clause-ok c = rw (take_all c.loop-step.step-index c.args.steps.now c.loop-step-test.false) at c.loop-step.invariant.moves

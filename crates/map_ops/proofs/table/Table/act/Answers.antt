@@ -1,5 +1,5 @@
-use Rattle.std.proofs.Common.{sym}
-use Rattle.map_ops.proofs.SoundLemmas.{still_sound}
+use Rattle.std.proofs.Common.{refl, sym}
+use Rattle.map_ops.proofs.SoundLemmas.{still_sound, turn_rises}
 use Rattle.map_ops.proofs.table.Table.act.Goals as goal
 
 pub invariant_of-self : goal.invariant_of-self
@@ -9,3 +9,6 @@ pub returns-in-Ok-clause-acts : goal.returns-in-Ok-clause-acts
 returns-in-Ok-clause-acts c =
     let does = rw c.into_plan.ensures at (c.change-job.ensures.does c.self.inside.buckets) in
     rw (← c.self.view_is) (sym c.in-Ok.ensures.again, does)
+
+pub returns-in-Ok-clause-rises : goal.returns-in-Ok-clause-rises
+returns-in-Ok-clause-rises c = rw (← c.self.view_is) (turn_rises c.self.inside.list c.change-job.new.list _ c.change-job.ensures.follows refl c.find.ensures.turn)

@@ -1,5 +1,5 @@
-use Rattle.std.proofs.Common.{sym}
-use Rattle.map_ops.proofs.SoundLemmas.{still_sound}
+use Rattle.std.proofs.Common.{refl, sym}
+use Rattle.map_ops.proofs.SoundLemmas.{still_sound, turn_rises}
 use Rattle.map_ops.proofs.table.Table.undo.Goals as goal
 
 pub invariant_of-self : goal.invariant_of-self
@@ -7,3 +7,6 @@ invariant_of-self c = still_sound c.self.inside.list c.restore.new.list c.self.i
 
 pub returns-in-Ok-clause-undoes : goal.returns-in-Ok-clause-undoes
 returns-in-Ok-clause-undoes c = rw (← c.self.view_is) (sym c.in-Ok.ensures.again, c.restore.ensures.back c.self.inside.buckets)
+
+pub returns-in-Ok-clause-rises : goal.returns-in-Ok-clause-rises
+returns-in-Ok-clause-rises c = rw (← c.self.view_is) (turn_rises c.self.inside.list c.restore.new.list _ c.restore.ensures.follows refl c.find.ensures.turn)

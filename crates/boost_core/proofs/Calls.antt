@@ -1,0 +1,244 @@
+-- Several steps of one caller with none of another between: none is refused where the first is not, and none is answered `again`.
+use Rattle.std.proofs.Common.{◌≡◌, ℕ, ◌-◌, ◌^◌, ◌<◌, ◌≤◌, ◌==◌, ◌&&◌, ◌||◌, Bool, true, false, cond, List, [], ◌∷◌, ◌++◌, Option, Some, None, is_some, refl, sym, ap, subst, ◌∙◌, arith}
+use Rattle.std.specs.Prelude.{nat_le, nat_lt, not, unwrap_or, slice_index}
+use Rattle.std.specs.List.{All}
+use Rattle.std.specs.Option.{option_and_then}
+use Rattle.std.proofs.lemmas.Bool.{false≢true, and_parts, eq-eqb, eqb-true, ltb-true, ne_eqb}
+use Rattle.std.proofs.lemmas.List.{append-nil}
+use Rattle.std.proofs.lemmas.List.Elements.{All-head, All-tail}
+use mathlib.Core.Logic.{inl, inr, ◌⊎◌}
+use Rattle.txn_trace.specs.declared.op.Op.{Op}
+use Rattle.txn_trace.specs.declared.entry.Entry.{Entry}
+use Rattle.txn_trace.specs.declared.entry.Entry.TheVariants as entry
+use Rattle.txn_trace.specs.declared.refusal.Refusal.{Refusal}
+use Rattle.txn_trace.specs.declared.refusal.Refusal.TheVariants as refusals
+use Rattle.txn_trace.specs.declared.step.Step.{Step}
+use Rattle.txn_trace.specs.declared.step.Step.TheVariants.{Ask, Seek, Act}
+use Rattle.txn_trace.specs.declared.answer.Answer.{Answer}
+use Rattle.txn_trace.specs.declared.answer.Answer.TheVariants.{Refused, Asked, Placed, Again, Done, Undone, Returned, Aborted}
+use Rattle.txn_trace.specs.Map.{Map}
+use Rattle.txn_trace.specs.Sizes.{Sizes}
+use Rattle.txn_trace.specs.History.{caller_of}
+use Rattle.txn_trace.specs.Shape.{Phase, Closed, Opened, Waiting, LeavingTo, LeavingToEnd, Seat, closed_seat, row, seat_after, own}
+use Rattle.txn_trace.proofs.Pushes.{own-push_in, seat_after-push}
+use Rattle.boost_core.specs.State.{State, Owner, Caller, seat_in, turn_in}
+use Rattle.boost_core.specs.Refusals.{refusal_of, lacks_in, MayLack, is_closed, is_waiting, is_leaving, has_job, has_target}
+use Rattle.boost_core.specs.Answers.{IsReply, is_back_at, is_at_end, end_of, turn_of, is_just_placed, may_be_stale}
+use Rattle.boost_core.specs.Machine.{Move}
+use Rattle.boost_core.specs.Plain.{Operates}
+use Rattle.boost_core.proofs.Refused.{or_else, refusal_parts, free, ask_open}
+
+-- The seat of a caller that has a transaction is that of its entries.
+pub seat_there : (h : List Entry) (c : ℕ) → is_closed (seat_in h c).phase ≡ false → seat_after (own c h) ≡ Some (seat_in h c)
+seat_there h c there = at (seat_after (own c h)) refl
+  where
+    at : (o : Option Seat) → seat_after (own c h) ≡ o → seat_after (own c h) ≡ Some (seat_in h c)
+    at None is = absurd (false≢true (sym there ∙ ap (λ (o : Option Seat). is_closed (unwrap_or o closed_seat).phase) is))
+    at (Some seat) is = is ∙ ap (λ (o : Option Seat). Some (unwrap_or o closed_seat)) (sym is)
+
+-- The seat after one more entry of the caller.
+pub seat_pushed : (h h' : List Entry) (c : ℕ) (e : Entry) (seat' : Seat) → h' ≡ h ++ e ∷ [] → caller_of e ≡ c → is_closed (seat_in h c).phase ≡ false → row (seat_in h c) (seat_in h c).phase e ≡ Some seat' → seat_in h' c ≡ seat'
+seat_pushed h h' c e seat' is mine there goes =
+    ap (λ (o : Option Seat). unwrap_or o closed_seat)
+    (ap (λ (g : List Entry). seat_after (own c g)) is ∙ ap seat_after (own-push_in c h e mine) ∙ seat_after-push (own c h) e
+    ∙ ap (option_and_then (λ (s : Seat). row s s.phase e)) (seat_there h c there) ∙ goes)
+
+-- A step that does not refuse.
+never_refused : (state : State) (step : Step) (refusal : Refusal) → refusal_of state step ≡ None → (refusal_of state step ≡ Some refusal) ⊎ ((refusal_of state step ≡ None) × MayLack state step refusal) → MayLack state step refusal
+never_refused state step refusal none (inl is) = absurd (let both : None ≡ Some refusal = sym none ∙ is in cc)
+never_refused state step refusal none (inr lack) = lack.1
+
+pub seek_free : (state : State) (c : ℕ) → nat_le state.limits.callers c ≡ false → is_closed (seat_in state.history c).phase ≡ false → has_target (seat_in state.history c) ≡ true → refusal_of state (Seek c) ≡ None
+seek_free state c within there target =
+    refusal_parts state c (Seek c) refl
+    ∙ (λ i. cond (within i) (Some refusals.NoSuchCaller) (or_else (cond (there i) (Some refusals.NotOpen) (cond (not (target i)) (Some refusals.NothingToSeek) None)) None))
+
+pub act_free : (state : State) (c : ℕ) → nat_le state.limits.callers c ≡ false → is_closed (seat_in state.history c).phase ≡ false → (is_leaving (seat_in state.history c).phase || is_waiting (seat_in state.history c).phase) ≡ true
+    → lacks_in (seat_in state.history c) (is_some (turn_in state.cursors c)) (Act c) ≡ false → refusal_of state (Act c) ≡ None
+act_free state c within there busy cursor =
+    refusal_parts state c (Act c) refl
+    ∙ (λ i. cond (within i) (Some refusals.NoSuchCaller) (or_else (cond (there i) (Some refusals.NotOpen) (cond (not (busy i)) (Some refusals.NothingToSeek) None)) (cond (cursor i) (Some refusals.Unplaced) None)))
+
+-- A seek that is not refused places a cursor.
+pub seek_places : (old new : State) (c : ℕ) (answer : Answer) → refusal_of old (Seek c) ≡ None → Move old (Seek c) answer new → answer ≡ Placed
+seek_places old new c (Refused refusal) none move = absurd (never_refused old (Seek c) refusal none move.allowed)
+seek_places old new c Placed none move = refl
+seek_places old new c _ none move = absurd move.allowed.1
+
+-- The cursor that was placed last fits.
+just_placed : (state : State) (c : ℕ) → state.placed ≡ Some (Caller c) → may_be_stale state (Caller c) ≡ false
+just_placed state c placed = at (turn_of state (Caller c))
+  where
+    at : (o : Option ℕ) → elim o as (λ _. Bool) [ None ↦ false | Some turn ↦ not (is_just_placed (Caller c) state.placed) && not (turn == state.changes && nat_lt turn (2 ^ 64 - 1)) ] ≡ false
+    at None = refl
+    at (Some turn) = ap (λ (o : Option Owner). not (is_just_placed (Caller c) o) && not (turn == state.changes && nat_lt turn (2 ^ 64 - 1))) placed ∙ ap (λ b. not b && not (turn == state.changes && nat_lt turn (2 ^ 64 - 1))) (eq-eqb c c refl)
+
+never_again : (state : State) (c : ℕ) → state.placed ≡ Some (Caller c) → (has_target (seat_in state.history c) && may_be_stale state (Caller c)) ≡ true → ⊥
+never_again state c placed is = false≢true (sym (just_placed state c placed) ∙ (and_parts (has_target (seat_in state.history c)) (may_be_stale state (Caller c)) is).1)
+
+and_none : (b : Bool) → (b && false) ≡ false
+and_none true = refl
+and_none false = refl
+
+-- An operation that waits is done, where its cursor was placed last.
+pub act_does : (old new : State) (c : ℕ) (op : Op) (answer : Answer) → nat_le old.limits.callers c ≡ false → (seat_in old.history c).phase ≡ Waiting op → is_some (turn_in old.cursors c) ≡ true → old.placed ≡ Some (Caller c)
+    → Move old (Act c) answer new → (reply : Option ℕ) × (answer ≡ Done reply)
+act_does old new c op answer within waits cursor placed move = at answer move
+  where
+    none : refusal_of old (Act c) ≡ None
+    none = act_free old c within (ap is_closed waits) (ap (λ q. is_leaving q || is_waiting q) waits) (ap (λ b. has_target (seat_in old.history c) && not b) cursor ∙ and_none (has_target (seat_in old.history c)))
+
+    no_job : has_job (seat_in old.history c) ≡ false
+    no_job = ap (λ q. has_job (record (seat_in old.history c) { phase = q })) waits
+
+    at : (answer : Answer) → Move old (Act c) answer new → (reply : Option ℕ) × (answer ≡ Done reply)
+    at (Refused refusal) move = absurd (never_refused old (Act c) refusal none move.allowed)
+    at (Done reply) move = (reply, refl)
+    at Again move = absurd (never_again old c placed move.allowed.1)
+    at Undone move = absurd (false≢true (sym no_job ∙ move.allowed.1))
+    at (Returned n) move = absurd (false≢true (sym (ap (is_back_at n) waits) ∙ (and_parts (not (has_job (seat_in old.history c))) (is_back_at n (seat_in old.history c).phase) move.allowed.1).1))
+    at Aborted move = absurd (false≢true (sym (ap is_at_end waits) ∙ (and_parts (not (has_job (seat_in old.history c))) (is_at_end (seat_in old.history c).phase) move.allowed.1).1))
+    at _ move = absurd move.allowed.1
+
+-- A caller that takes changes back and has none left is where it leaves to.
+no_reply : (q : Phase) (m : Map) (reply : Option ℕ) → is_leaving q ≡ true → IsReply q m reply → ⊥
+no_reply Closed m reply leaves is = is
+no_reply Opened m reply leaves is = is
+no_reply (Waiting op) m reply leaves is = false≢true leaves
+no_reply (LeavingTo n) m reply leaves is = is
+no_reply LeavingToEnd m reply leaves is = is
+
+back_end : (q : Phase) (n : ℕ) → is_back_at n q ≡ true → Returned n ≡ end_of q
+back_end Closed n is = absurd (false≢true is)
+back_end Opened n is = absurd (false≢true is)
+back_end (Waiting op) n is = absurd (false≢true is)
+back_end (LeavingTo m) n is = ap Returned (eqb-true n m is)
+back_end LeavingToEnd n is = absurd (false≢true is)
+
+at_end : (q : Phase) → is_at_end q ≡ true → Aborted ≡ end_of q
+at_end Closed is = absurd (false≢true is)
+at_end Opened is = absurd (false≢true is)
+at_end (Waiting op) is = absurd (false≢true is)
+at_end (LeavingTo m) is = absurd (false≢true is)
+at_end LeavingToEnd is = refl
+
+leaving_open : (q : Phase) → is_leaving q ≡ true → (is_closed q ≡ false) × (is_waiting q ≡ false)
+leaving_open Closed leaves = absurd (false≢true leaves)
+leaving_open Opened leaves = absurd (false≢true leaves)
+leaving_open (Waiting op) leaves = absurd (false≢true leaves)
+leaving_open (LeavingTo n) leaves = (refl, refl)
+leaving_open LeavingToEnd leaves = (refl, refl)
+
+pub act_ends : (old new : State) (c : ℕ) (answer : Answer) → nat_le old.limits.callers c ≡ false → is_leaving (seat_in old.history c).phase ≡ true → has_job (seat_in old.history c) ≡ false
+    → Move old (Act c) answer new → answer ≡ end_of (seat_in old.history c).phase
+act_ends old new c answer within leaves rests move = at answer move
+  where
+    no_target : has_target (seat_in old.history c) ≡ false
+    no_target = λ i. (leaving_open (seat_in old.history c).phase leaves).1 i || rests i
+
+    none : refusal_of old (Act c) ≡ None
+    none = act_free old c within (leaving_open (seat_in old.history c).phase leaves).0 (ap (λ b. b || is_waiting (seat_in old.history c).phase) leaves) (ap (λ b. b && not (is_some (turn_in old.cursors c))) no_target)
+
+    at : (answer : Answer) → Move old (Act c) answer new → answer ≡ end_of (seat_in old.history c).phase
+    at (Refused refusal) move = absurd (never_refused old (Act c) refusal none move.allowed)
+    at (Done reply) move = absurd (no_reply (seat_in old.history c).phase _ reply leaves move.allowed.1)
+    at Again move = absurd (false≢true (sym no_target ∙ (and_parts (has_target (seat_in old.history c)) _ move.allowed.1).0))
+    at Undone move = absurd (false≢true (sym rests ∙ move.allowed.1))
+    at (Returned n) move = back_end (seat_in old.history c).phase n (and_parts (not (has_job (seat_in old.history c))) (is_back_at n (seat_in old.history c).phase) move.allowed.1).1
+    at Aborted move = at_end (seat_in old.history c).phase (and_parts (not (has_job (seat_in old.history c))) (is_at_end (seat_in old.history c).phase) move.allowed.1).1
+    at _ move = absurd move.allowed.1
+
+-- The newest change is taken back, where its cursor was placed last.
+pub act_undoes : (old new : State) (c : ℕ) (answer : Answer) → nat_le old.limits.callers c ≡ false → is_leaving (seat_in old.history c).phase ≡ true → has_job (seat_in old.history c) ≡ true → is_some (turn_in old.cursors c) ≡ true → old.placed ≡ Some (Caller c)
+    → Move old (Act c) answer new → answer ≡ Undone
+act_undoes old new c answer within leaves job cursor placed move = at answer move
+  where
+    none : refusal_of old (Act c) ≡ None
+    none = act_free old c within (leaving_open (seat_in old.history c).phase leaves).0 (ap (λ b. b || is_waiting (seat_in old.history c).phase) leaves) (ap (λ b. has_target (seat_in old.history c) && not b) cursor ∙ and_none (has_target (seat_in old.history c)))
+
+    at : (answer : Answer) → Move old (Act c) answer new → answer ≡ Undone
+    at (Refused refusal) move = absurd (never_refused old (Act c) refusal none move.allowed)
+    at (Done reply) move = absurd (no_reply (seat_in old.history c).phase _ reply leaves move.allowed.1)
+    at Again move = absurd (never_again old c placed move.allowed.1)
+    at Undone move = refl
+    at (Returned n) move = absurd (false≢true (ap not (sym job) ∙ (and_parts (not (has_job (seat_in old.history c))) (is_back_at n (seat_in old.history c).phase) move.allowed.1).0))
+    at Aborted move = absurd (false≢true (ap not (sym job) ∙ (and_parts (not (has_job (seat_in old.history c))) (is_at_end (seat_in old.history c).phase) move.allowed.1).0))
+    at _ move = absurd move.allowed.1
+
+row_undone : (s : Seat) (q : Phase) (c : ℕ) → is_leaving q ≡ true → has_job (record s { phase = q }) ≡ true → (row s q (entry.Undone c) ≡ Some (record s { standing = s.standing - 1 })) × (0 < s.standing)
+row_undone s Closed c leaves job = absurd (false≢true leaves)
+row_undone s Opened c leaves job = absurd (false≢true leaves)
+row_undone s (Waiting op) c leaves job = absurd (false≢true leaves)
+row_undone s (LeavingTo n) c leaves job =
+    let more = ltb-true (slice_index s.kept n) s.standing job in
+    (ap (λ b. cond b (Some (record s { standing = s.standing - 1 })) None) job, omega arith)
+row_undone s LeavingToEnd c leaves job = (ap (λ b. cond b (Some (record s { standing = s.standing - 1 })) None) job, ltb-true 0 s.standing job)
+
+-- What is true after a change was sought and taken back.
+pub record TookBack (old between new : State) (c : ℕ) (first second : Answer) : Type 0 where
+  pub placed : first ≡ Placed
+  pub undone : second ≡ Undone
+  pub limits : new.limits ≡ old.limits
+  pub phase : (seat_in new.history c).phase ≡ (seat_in old.history c).phase
+  pub fewer : (seat_in new.history c).standing < (seat_in old.history c).standing
+
+pub took_back : (old between new : State) (c : ℕ) (first second : Answer) → nat_le old.limits.callers c ≡ false → is_leaving (seat_in old.history c).phase ≡ true → has_job (seat_in old.history c) ≡ true
+    → Move old (Seek c) first between → (first ≡ Placed → is_some (turn_in between.cursors c) ≡ true) → Move between (Act c) second new → TookBack old between new c first second
+took_back old between new c first second within leaves job seeks cursor acts =
+    let open_here = leaving_open (seat_in old.history c).phase leaves in
+    let is_placed : first ≡ Placed = seek_places old between c first (seek_free old c within open_here.0 (ap (λ b. is_waiting (seat_in old.history c).phase || b) job ∙ or_true (is_waiting (seat_in old.history c).phase))) seeks in
+    go is_placed (subst (λ a. Move old (Seek c) a between) is_placed seeks)
+  where
+    or_true : (b : Bool) → (b || true) ≡ true
+    or_true true = refl
+    or_true false = refl
+
+    go : first ≡ Placed → Move old (Seek c) Placed between → TookBack old between new c first second
+    go is_placed sought =
+        let same_history : between.history ≡ old.history = ap (λ (s : State). s.history) sought.state ∙ append-nil old.history in
+        let same_limits : between.limits ≡ old.limits = ap (λ (s : State). s.limits) sought.state in
+        let seat : seat_in between.history c ≡ seat_in old.history c = ap (λ (h : List Entry). seat_in h c) same_history in
+        let leaves_still : is_leaving (seat_in between.history c).phase ≡ true = ap (λ (s : Seat). is_leaving s.phase) seat ∙ leaves in
+        let job_still : has_job (seat_in between.history c) ≡ true = ap has_job seat ∙ job in
+        let is_undone : second ≡ Undone = act_undoes between new c second (ap (λ (l : Sizes). nat_le l.callers c) same_limits ∙ within) leaves_still job_still (cursor is_placed) (ap (λ (s : State). s.placed) sought.state) acts in
+        let move : Move between (Act c) Undone new = subst (λ a. Move between (Act c) a new) is_undone acts in
+        let rows = row_undone (seat_in between.history c) (seat_in between.history c).phase c leaves_still job_still in
+        let after : seat_in new.history c ≡ record (seat_in between.history c) { standing = (seat_in between.history c).standing - 1 } = seat_pushed between.history new.history c (entry.Undone c) _ (ap (λ (s : State). s.history) move.state) refl (leaving_open (seat_in between.history c).phase leaves_still).0 rows.0 in
+        let standing : (seat_in new.history c).standing ≡ (seat_in between.history c).standing - 1 = ap (λ (s : Seat). s.standing) after in
+        let was : (seat_in between.history c).standing ≡ (seat_in old.history c).standing = ap (λ (s : Seat). s.standing) seat in
+        let some : 0 < (seat_in between.history c).standing = rows.1 in
+        record {
+          placed = is_placed;
+          undone = is_undone;
+          limits = ap (λ (s : State). s.limits) move.state ∙ same_limits;
+          phase = ap (λ (s : Seat). s.phase) after ∙ ap (λ (s : Seat). s.phase) seat;
+          fewer = omega arith;
+        }
+
+done_so : (old asked sought new : State) (c : ℕ) (op : Op) (answer : Answer) (reply : Option ℕ) → answer ≡ Done reply → Move old (Ask c op) Asked asked → Move asked (Seek c) Placed sought → Move sought (Act c) answer new → Operates old c op answer new
+done_so old asked sought new c op answer reply is asks seeks acts = subst (λ a. Operates old c op a new) (sym is) (asked, asks, (sought, seeks, (new, subst (λ a. Move sought (Act c) a new) is acts, refl)))
+
+-- An operation that was asked for is done.
+pub operated : (old asked sought new : State) (c : ℕ) (op : Op) (first second : Answer) → Move old (Ask c op) Asked asked → Move asked (Seek c) first sought → (first ≡ Placed → is_some (turn_in sought.cursors c) ≡ true) → Move sought (Act c) second new
+    → Operates old c op second new
+operated old asked sought new c op first second asks seeks cursor acts =
+    let is_free = free old c (Ask c op) refl asks.allowed.0 in
+    let opened : (seat_in old.history c).phase ≡ Opened = ask_open (seat_in old.history c) c op is_free.seat in
+    let seat : seat_in asked.history c ≡ record (seat_in old.history c) { phase = Waiting op } = seat_pushed old.history asked.history c (entry.Asked c op) _ (ap (λ (s : State). s.history) asks.state) refl (ap is_closed opened) (ap (λ q. row (seat_in old.history c) q (entry.Asked c op)) opened) in
+    let waits : (seat_in asked.history c).phase ≡ Waiting op = ap (λ (s : Seat). s.phase) seat in
+    let within : nat_le asked.limits.callers c ≡ false = ap (λ (s : State). nat_le s.limits.callers c) asks.state ∙ is_free.within in
+    let is_placed : first ≡ Placed = seek_places asked sought c first (seek_free asked c within (ap is_closed waits) (ap (λ q. is_waiting q || has_job (seat_in asked.history c)) waits)) seeks in
+    let seeks_so : Move asked (Seek c) Placed sought = subst (λ a. Move asked (Seek c) a sought) is_placed seeks in
+    let same : seat_in sought.history c ≡ seat_in asked.history c = ap (λ (h : List Entry). seat_in h c) (ap (λ (s : State). s.history) seeks_so.state ∙ append-nil asked.history) in
+    let done = act_does sought new c op second (ap (λ (s : State). nat_le s.limits.callers c) seeks_so.state ∙ within) (ap (λ (s : Seat). s.phase) same ∙ waits) (cursor is_placed) (ap (λ (s : State). s.placed) seeks_so.state) acts in
+    done_so old asked sought new c op second done.0 done.1 asks seeks_so acts
+
+-- A caller without a transaction, by its number alone.
+own_none : (callers c : ℕ) (h : List Entry) → All (λ e. caller_of e < callers) h → callers ≤ c → own c h ≡ []
+own_none callers c [] all past = refl
+own_none callers c (e ∷ h) all past =
+    let below : caller_of e < callers = All-head (λ e. caller_of e < callers) e h all in
+    ap (λ b. cond b (e ∷ own c h) (own c h)) (ne_eqb (caller_of e) c (λ same. omega arith)) ∙ own_none callers c h (All-tail (λ e. caller_of e < callers) e h all) past
+
+pub seat_past : (callers c : ℕ) (h : List Entry) → All (λ e. caller_of e < callers) h → callers ≤ c → seat_in h c ≡ closed_seat
+seat_past callers c h all past = ap (λ es. unwrap_or (seat_after es) closed_seat) (own_none callers c h all past)

@@ -1,0 +1,106 @@
+-- What callers have to take back stays due while others work on other keys.
+use Rattle.std.proofs.Common.{◌≡◌, ℕ, ◌+◌, ◌==◌, true, false, cond, List, [], ◌∷◌, ◌++◌, length, Option, Some, None, is_some, refl, sym, ap, subst, ◌∙◌}
+use Rattle.std.specs.Prelude.{IsSome, map, reverse, option_to_list}
+use Rattle.std.specs.List.{AllByRecursion}
+use Rattle.std.proofs.lemmas.Bool.{cases_eq, eq-eqb, ne_eqb}
+use Rattle.std.proofs.lemmas.List.{reverse-append, append-nil, length_push}
+use mathlib.Core.Logic.{inl, inr}
+use Rattle.map_ops.specs.Nodes.{SpareAt}
+use Rattle.txn_trace.specs.declared.op.Op.{Op}
+use Rattle.txn_trace.specs.declared.op.Op.TheVariants.{Put, Take, Get}
+use Rattle.txn_trace.specs.Map.{Map, get, key_of, reply_of, after}
+use Rattle.txn_trace.specs.Now.{set_at}
+use Rattle.txn_trace.specs.Shape.{changes}
+use Rattle.txn_trace.proofs.Maps.{same_map, get-insert, get-remove}
+use Rattle.txn_trace.proofs.Table.{get-set_at}
+use Rattle.txn_trace.proofs.Acting.{after_unchanged, get-after_other}
+use Rattle.txn_trace.proofs.Fits.{changes-reply}
+use Rattle.map_ops.specs.declared.job.MapJob.{MapJob}
+use Rattle.map_ops.specs.declared.job.MapJob.TheVariants.{Unput, Restore, Relink}
+use Rattle.map_ops.specs.Jobs.{takes_node, key_of_job, value_before, IsDue, unput, relink, job_of}
+use Rattle.boost_core.specs.Sessions.{change_of, changes_of, AreDue}
+
+-- Each job is of a key that passes.
+abbrev pub AllOf : (ℕ → Type 0) → List MapJob → Type 0
+AllOf P jobs = AllByRecursion (λ (job : MapJob). P (key_of_job job)) jobs
+
+pub all_of_changes : (P : ℕ → Type 0) (jobs : List MapJob) → AllByRecursion (λ (change : ℕ × Option ℕ). P change.0) (map change_of jobs) → AllOf P jobs
+all_of_changes P [] all = tt
+all_of_changes P (job ∷ jobs) all = (all.0, all_of_changes P jobs all.1)
+
+is_due_same : (m m' : Map) (job : MapJob) → get m' (key_of_job job) ≡ get m (key_of_job job) → IsDue m job → IsDue m' job
+is_due_same m m' (Unput k) same due = subst (λ o. IsSome o) (sym same) due
+is_due_same m m' (Restore k old) same due = subst (λ o. IsSome o) (sym same) due
+is_due_same m m' (Relink k old spare) same due = same ∙ due
+
+set_at_same : (m m' : Map) (j : ℕ) (o : Option ℕ) (k : ℕ) → get m' k ≡ get m k → get (set_at m' j o) k ≡ get (set_at m j o) k
+set_at_same m m' j o k same = get-set_at m' j o k ∙ ap (cond (k == j) o) same ∙ sym (get-set_at m j o k)
+
+-- Jobs stay due where the keys that they name stay.
+pub due_same : (P : ℕ → Type 0) (m m' : Map) (jobs : List MapJob) → ((k : ℕ) → P k → get m' k ≡ get m k) → AllOf P jobs → AreDue m jobs → AreDue m' jobs
+due_same P m m' [] same all due = tt
+due_same P m m' (job ∷ jobs) same all due = (
+  is_due_same m m' job (same (key_of_job job) all.0) due.0,
+  due_same P (set_at m (key_of_job job) (value_before job)) (set_at m' (key_of_job job) (value_before job)) jobs (λ k passes. set_at_same m m' (key_of_job job) (value_before job) k (same k passes)) all.1 due.1,
+)
+
+-- A key with the value that it had before an operation: the map before it.
+pub set_at-after : (m : Map) (op : Op) → set_at (after m op) (key_of op) (reply_of m op) ≡ m
+set_at-after m op = same_map (set_at (after m op) (key_of op) (reply_of m op)) m (λ q. get-set_at (after m op) (key_of op) (reply_of m op) q ∙ elim (cases_eq q (key_of op)) [
+  | inl same ↦ ap (λ b. cond b (reply_of m op) (get (after m op) q)) (eq-eqb q (key_of op) same) ∙ ap (get m) (sym same)
+  | inr other ↦ ap (λ b. cond b (reply_of m op) (get (after m op) q)) (ne_eqb q (key_of op) other) ∙ get-after_other m op q other
+])
+
+-- What an operation's job says of the operation: its key, the value before it, and that it is due.
+pub record Noted (m : Map) (op : Op) (spare : Option SpareAt) (job : MapJob) : Type 0 where
+  pub change : change_of job ≡ (key_of op, reply_of m op)
+  pub is_change : changes op (reply_of m op) ≡ true
+  pub due : IsDue (after m op) job
+
+-- An operation notes a job, or is no change.
+abbrev pub NotedIf : Map → Op → Option SpareAt → Option MapJob → Type 0
+NotedIf m op spare None = changes op (reply_of m op) ≡ false
+NotedIf m op spare (Some job) = Noted m op spare job
+
+get-inserted : (m : Map) (k v : ℕ) → get (after m (Put k v)) k ≡ Some v
+get-inserted m k v = get-insert m k v k ∙ ap (λ b. cond b (Some v) (get m k)) (eq-eqb k k refl)
+
+get-removed : (m : Map) (k : ℕ) → get (after m (Take k)) k ≡ None
+get-removed m k = get-remove m k k ∙ ap (λ b. cond b None (get m k)) (eq-eqb k k refl)
+
+put_noted : (m : Map) (k v : ℕ) (spare : Option SpareAt) (o : Option ℕ) → get m k ≡ o → NotedIf m (Put k v) spare (unput k o)
+put_noted m k v spare None is = record { change = ap (λ (o : Option ℕ). (k, o)) (sym is); is_change = refl; due = subst (λ o. IsSome o) (sym (get-inserted m k v)) refl }
+put_noted m k v spare (Some old) is = record { change = ap (λ (o : Option ℕ). (k, o)) (sym is); is_change = refl; due = subst (λ o. IsSome o) (sym (get-inserted m k v)) refl }
+
+take_noted : (m : Map) (k : ℕ) (spare : Option SpareAt) (o : Option ℕ) → get m k ≡ o → is_some spare ≡ true → NotedIf m (Take k) spare (relink k o spare)
+take_noted m k None o is there = absurd (cc (there))
+take_noted m k (Some spare) None is there = ap is_some is
+take_noted m k (Some spare) (Some old) is there = record { change = ap (λ (o : Option ℕ). (k, o)) (sym is); is_change = ap is_some is; due = get-removed m k }
+
+pub noted : (m : Map) (op : Op) (spare : Option SpareAt) → is_some spare ≡ takes_node op → NotedIf m op spare (job_of m op spare)
+noted m (Put k v) spare there = put_noted m k v spare (get m k) refl
+noted m (Take k) spare there = take_noted m k spare (get m k) refl there
+noted m (Get k) spare there = refl
+
+-- The changes of a caller with one job more, or the same.
+pub changes_noted : (m : Map) (op : Op) (spare : Option SpareAt) (jobs : List MapJob) (job : Option MapJob) → NotedIf m op spare job
+    → cond (changes op (reply_of m op)) ((key_of op, reply_of m op) ∷ changes_of jobs) (changes_of jobs) ≡ changes_of (jobs ++ option_to_list job)
+changes_noted m op spare jobs None is = ap (λ b. cond b ((key_of op, reply_of m op) ∷ changes_of jobs) (changes_of jobs)) is ∙ ap changes_of (sym (append-nil jobs))
+changes_noted m op spare jobs (Some job) is =
+    ap (λ b. cond b ((key_of op, reply_of m op) ∷ changes_of jobs) (changes_of jobs)) is.is_change ∙ ap (λ (change : ℕ × Option ℕ). change ∷ changes_of jobs) (sym is.change)
+    ∙ ap (map change_of) (sym (reverse-append jobs (job ∷ [])))
+
+pub standing_noted : (m : Map) (op : Op) (spare : Option SpareAt) (jobs : List MapJob) (job : Option MapJob) → NotedIf m op spare job
+    → cond (changes op (reply_of m op)) (length jobs + 1) (length jobs) ≡ length (jobs ++ option_to_list job)
+standing_noted m op spare jobs None is = ap (λ b. cond b (length jobs + 1) (length jobs)) is ∙ ap length (sym (append-nil jobs))
+standing_noted m op spare jobs (Some job) is = ap (λ b. cond b (length jobs + 1) (length jobs)) is.is_change ∙ sym (length_push jobs job)
+
+no_change : (m : Map) (op : Op) → changes op (reply_of m op) ≡ false → after m op ≡ m
+no_change m op same = after_unchanged m op (sym (changes-reply m op) ∙ same)
+
+-- After the operation all is due that was, and its job before it.
+pub due_noted : (m : Map) (op : Op) (spare : Option SpareAt) (jobs : List MapJob) (job : Option MapJob) → NotedIf m op spare job → AreDue m (reverse jobs) → AreDue (after m op) (reverse (jobs ++ option_to_list job))
+due_noted m op spare jobs None is due = subst (λ (js : List MapJob). AreDue (after m op) (reverse js)) (sym (append-nil jobs)) (subst (λ n. AreDue n (reverse jobs)) (sym (no_change m op is)) due)
+due_noted m op spare jobs (Some job) is due =
+    subst (λ (js : List MapJob). AreDue (after m op) js) (sym (reverse-append jobs (job ∷ [])))
+    (is.due, subst (λ n. AreDue n (reverse jobs)) (sym (set_at-after m op) ∙ ap (λ (change : ℕ × Option ℕ). set_at (after m op) change.0 change.1) (sym is.change)) due)

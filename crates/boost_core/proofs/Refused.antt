@@ -1,0 +1,241 @@
+-- What a caller's side and its refusal say of each other.
+use Rattle.std.proofs.Common.{◌≡◌, ℕ, ◌^◌, ◌<◌, ◌≤◌, Bool, true, false, cond, List, [], ◌∷◌, ◌++◌, length, get_or, Option, Some, None, is_some, refl, sym, ap, ◌∙◌, arith}
+use Rattle.std.specs.Prelude.{nat_le, not, map, slice_get, unwrap_or}
+use Rattle.std.specs.Option.{option_map}
+use Rattle.std.proofs.lemmas.Bool.{false≢true, cases_Bool, cases_lt, leb-true, le-leb}
+use Rattle.std.proofs.lemmas.Option.{slice_get-map, slice_get-get_or}
+use mathlib.Core.Logic.{inl, inr}
+use Rattle.map_ops.specs.Cursor.{Cursor}
+use Rattle.txn_trace.specs.declared.op.Op.{Op}
+use Rattle.txn_trace.specs.declared.entry.Entry.{Entry}
+use Rattle.txn_trace.specs.declared.refusal.Refusal.{Refusal}
+use Rattle.txn_trace.specs.declared.refusal.Refusal.TheVariants.{NoSuchCaller, Unplaced}
+use Rattle.txn_trace.specs.declared.step.Step.{Step}
+use Rattle.txn_trace.specs.declared.step.Step.TheVariants.{Begin, Ask, Seek, Act, Save, Back, Commit, Abort}
+use Rattle.txn_trace.specs.Sizes.{Sizes}
+use Rattle.txn_trace.specs.Map.{key_of}
+use Rattle.txn_trace.specs.Shape.{Phase, Closed, Opened, Waiting, LeavingTo, LeavingToEnd, Seat, closed_seat, own}
+use Rattle.map_ops.specs.Jobs.{PendingAt}
+use Rattle.map_ops.specs.TableAt.{TableAt, cursor_turn}
+use Rattle.boost_core.specs.declared.stage.Stage.{Stage}
+use Rattle.boost_core.specs.declared.stage.Stage.TheVariants as stages
+use Rattle.boost_core.specs.declared.session.Session.{Session}
+use Rattle.boost_core.specs.State.{State, Owner, Caller, seat_in, turn_in}
+use Rattle.boost_core.specs.Refusals.{owner_of, is_closed, is_waiting, is_leaving, has_target, tests_in, tests_of, first_of, refusal_in, refusal_of, lacks_in, lacks_cursor}
+use Rattle.boost_core.specs.Sessions.{phase_of, level_of, seat_of, IsLevel, IsSoughtAt}
+use Rattle.boost_core.specs.Core.{Tells, state_of, turn_at}
+use Rattle.boost_core.proofs.Levels.{IsLevelIn, seat_leveled}
+
+-- The one option, or else the other.
+abbrev pub or_else : Option Refusal → Option Refusal → Option Refusal
+or_else None other = other
+or_else (Some refusal) other = Some refusal
+
+first_if : (b : Bool) (refusal : Refusal) (one other : Option Refusal) → cond b (Some refusal) (or_else one other) ≡ or_else (cond b (Some refusal) one) other
+first_if true refusal one other = refl
+first_if false refusal one other = refl
+
+pub first_of-append : (xs ys : List (Bool × Refusal)) → first_of (xs ++ ys) ≡ or_else (first_of xs) (first_of ys)
+first_of-append [] ys = refl
+first_of-append (x ∷ xs) ys = ap (cond x.0 (Some x.1)) (first_of-append xs ys) ∙ first_if x.0 x.1 (first_of xs) (first_of ys)
+
+pub first_none : (b : Bool) (refusal : Refusal) (rest : Option Refusal) → cond b (Some refusal) rest ≡ None → (b ≡ false) × (rest ≡ None)
+first_none true refusal rest none = absurd (cc (none))
+first_none false refusal rest none = (refl, none)
+
+or_else_none : (one other : Option Refusal) → or_else one other ≡ None → (one ≡ None) × (other ≡ None)
+or_else_none None other none = (refl, none)
+or_else_none (Some refusal) other none = absurd (cc (none))
+
+caller_same : (c d : ℕ) → Some (Caller c) ≡ Some (Caller d) → c ≡ d
+caller_same c d same = cc (same)
+
+lacks_is : (state : State) (c : ℕ) (step : Step) → owner_of step ≡ Some (Caller c) → lacks_cursor state step ≡ lacks_in (seat_in state.history c) (is_some (turn_in state.cursors c)) step
+lacks_is state c (Act d) owner = ap (λ (k : ℕ). lacks_in (seat_in state.history k) (is_some (turn_in state.cursors k)) (Act d)) (caller_same d c owner)
+lacks_is state c _ owner = refl
+
+-- The refusal of a caller's step.
+pub refusal_parts : (state : State) (c : ℕ) (step : Step) → owner_of step ≡ Some (Caller c)
+    → refusal_of state step ≡ cond (nat_le state.limits.callers c) (Some NoSuchCaller) (or_else (refusal_in (seat_in state.history c) step) (cond (lacks_in (seat_in state.history c) (is_some (turn_in state.cursors c)) step) (Some Unplaced) None))
+refusal_parts state c step owner =
+    ap (λ o. first_of (tests_of state o step)) owner
+    ∙ ap (cond (nat_le state.limits.callers c) (Some NoSuchCaller))
+    (first_of-append (tests_in (seat_in state.history c) step) ((lacks_cursor state step, Unplaced) ∷ [])
+    ∙ ap (λ b. or_else (refusal_in (seat_in state.history c) step) (cond b (Some Unplaced) None)) (lacks_is state c step owner))
+
+-- A step that nothing refuses.
+pub record Free (state : State) (c : ℕ) (step : Step) : Type 0 where
+  pub within : nat_le state.limits.callers c ≡ false
+  pub seat : refusal_in (seat_in state.history c) step ≡ None
+  pub cursor : lacks_in (seat_in state.history c) (is_some (turn_in state.cursors c)) step ≡ false
+
+pub free : (state : State) (c : ℕ) (step : Step) → owner_of step ≡ Some (Caller c) → refusal_of state step ≡ None → Free state c step
+free state c step owner none =
+    let first = first_none (nat_le state.limits.callers c) NoSuchCaller _ (sym (refusal_parts state c step owner) ∙ none) in
+    let rest = or_else_none (refusal_in (seat_in state.history c) step) _ first.1 in
+    record { within = first.0; seat = rest.0; cursor = (first_none _ Unplaced None rest.1).0 }
+
+-- The phase where tests say so.
+not_false : (b : Bool) → not b ≡ false → b ≡ true
+not_false true is = refl
+not_false false is = absurd (false≢true (sym is))
+
+closed_is : (q : Phase) → is_closed q ≡ true → q ≡ Closed
+closed_is Closed is = refl
+closed_is Opened is = absurd (false≢true is)
+closed_is (Waiting op) is = absurd (false≢true is)
+closed_is (LeavingTo n) is = absurd (false≢true is)
+closed_is LeavingToEnd is = absurd (false≢true is)
+
+opened_is : (q : Phase) → is_closed q ≡ false → is_leaving q ≡ false → is_waiting q ≡ false → q ≡ Opened
+opened_is Closed closed leaving waiting = absurd (false≢true (sym closed))
+opened_is Opened closed leaving waiting = refl
+opened_is (Waiting op) closed leaving waiting = absurd (false≢true (sym waiting))
+opened_is (LeavingTo n) closed leaving waiting = absurd (false≢true (sym leaving))
+opened_is LeavingToEnd closed leaving waiting = absurd (false≢true (sym leaving))
+
+pub begin_closed : (s : Seat) (c : ℕ) → refusal_in s (Begin c) ≡ None → s.phase ≡ Closed
+begin_closed s c none =
+    let first = first_none (is_leaving s.phase) _ _ none in
+    let second = first_none (not (is_closed s.phase)) _ _ first.1 in
+    closed_is s.phase (not_false (is_closed s.phase) second.0)
+
+three_tests : (s : Seat) (a b c : Refusal) (rest : Option Refusal) → cond (is_closed s.phase) (Some a) (cond (is_leaving s.phase) (Some b) (cond (is_waiting s.phase) (Some c) rest)) ≡ None → (s.phase ≡ Opened) × (rest ≡ None)
+three_tests s a b c rest none =
+    let first = first_none (is_closed s.phase) a _ none in
+    let second = first_none (is_leaving s.phase) b _ first.1 in
+    let third = first_none (is_waiting s.phase) c rest second.1 in
+    (opened_is s.phase first.0 second.0 third.0, third.1)
+
+pub ask_open : (s : Seat) (c : ℕ) (op : Op) → refusal_in s (Ask c op) ≡ None → s.phase ≡ Opened
+ask_open s c op none = (three_tests s _ _ _ _ none).0
+
+pub ask_key : (s : Seat) (c : ℕ) (op : Op) → refusal_in s (Ask c op) ≡ None → nat_le (2 ^ 63) (key_of op) ≡ false
+ask_key s c op none = (first_none _ _ None (three_tests s _ _ _ _ none).1).0
+
+pub save_open : (s : Seat) (c : ℕ) → refusal_in s (Save c) ≡ None → s.phase ≡ Opened
+save_open s c none = (three_tests s _ _ _ _ none).0
+
+pub commit_open : (s : Seat) (c : ℕ) → refusal_in s (Commit c) ≡ None → s.phase ≡ Opened
+commit_open s c none = (three_tests s _ _ _ _ none).0
+
+pub back_open : (s : Seat) (c n : ℕ) → refusal_in s (Back c n) ≡ None → (s.phase ≡ Opened) × (nat_le (length s.kept) n ≡ false)
+back_open s c n none =
+    let open_so = three_tests s _ _ _ _ none in
+    (open_so.0, (first_none _ _ None open_so.1).0)
+
+-- A caller's stage, where its phase says so.
+pub open_stage : (stage : Stage) → phase_of stage ≡ Opened → stage ≡ stages.Open
+open_stage stages.Closed is = absurd (cc (is))
+open_stage stages.Open is = refl
+open_stage (stages.Asked pending) is = absurd (cc (is))
+open_stage (stages.LeavingTo level) is = absurd (cc (is))
+open_stage stages.LeavingToEnd is = absurd (cc (is))
+
+pub closed_stage : (stage : Stage) → phase_of stage ≡ Closed → stage ≡ stages.Closed
+closed_stage stages.Closed is = refl
+closed_stage stages.Open is = absurd (cc (is))
+closed_stage (stages.Asked pending) is = absurd (cc (is))
+closed_stage (stages.LeavingTo level) is = absurd (cc (is))
+closed_stage stages.LeavingToEnd is = absurd (cc (is))
+
+-- A caller that acts on no key has no cursor.
+pub no_cursor : (t : TableAt) (cursor : Option Cursor) → IsSoughtAt t cursor None → cursor ≡ None
+no_cursor t None sought = refl
+no_cursor t (Some cursor) sought = absurd sought
+
+slice_get-mapped : {A B : Type 0} (f : A → B) (xs : List A) (i : ℕ) (x : A) → slice_get xs i ≡ Some x → slice_get (map f xs) i ≡ Some (f x)
+slice_get-mapped f xs i x at = slice_get-map f xs i ∙ ap (option_map f) at
+
+level_at : (stage : Stage) (standing : ℕ) (kept : List ℕ) → IsLevelIn (phase_of stage) standing (0 ∷ kept) → level_of stage ≤ length kept
+level_at stages.Closed standing kept is = omega arith
+level_at stages.Open standing kept is = omega arith
+level_at (stages.Asked pending) standing kept is = omega arith
+level_at (stages.LeavingTo level) standing kept is = let below : level < length (0 ∷ kept) = is.0 in omega arith
+level_at stages.LeavingToEnd standing kept is = omega arith
+
+module _ (limits : Sizes) (h : List Entry) (b m : ℕ) (t : TableAt) (sessions : List Session) (locks : List (Option ℕ)) (placed : Option Owner) (tells : Tells limits h b m t sessions locks placed) (c : ℕ) (x : Session) (at : slice_get sessions c ≡ Some x) where
+  -- A caller's seat and its cursor's turn are the machine's.
+  pub seat_here : seat_in h c ≡ seat_of x
+  seat_here = ap (λ o. unwrap_or o closed_seat) (tells.seated c x at).seat
+
+  pub turn_here : turn_in (map turn_at sessions) c ≡ turn_at x
+  turn_here = ap (λ o. unwrap_or o None) (slice_get-mapped turn_at sessions c x at)
+
+  pub level_here : IsLevel x
+  level_here = level_at x.stage (length x.log.jobs) x.log.kept (seat_leveled (own c h) (seat_of x) (tells.seated c x at).seat).within
+
+  pub turn_is_some : is_some (turn_in (map turn_at sessions) c) ≡ is_some x.cursor
+  turn_is_some = ap is_some turn_here ∙ both x.cursor
+    where
+      both : (o : Option Cursor) → is_some (option_map cursor_turn o) ≡ is_some o
+      both None = refl
+      both (Some cursor) = refl
+
+  -- The refusal of a step is that of the caller's side.
+  pub refusal_here : (step : Step) → owner_of step ≡ Some (Caller c) → nat_le limits.callers c ≡ false
+      → refusal_of (state_of limits h t sessions placed) step ≡ or_else (refusal_in (seat_of x) step) (cond (lacks_in (seat_of x) (is_some x.cursor) step) (Some Unplaced) None)
+  refusal_here step owner within =
+      refusal_parts (state_of limits h t sessions placed) c step owner
+      ∙ ap (λ b. cond b (Some NoSuchCaller) (or_else (refusal_in (seat_in h c) step) (cond (lacks_in (seat_in h c) (is_some (turn_in (map turn_at sessions) c)) step) (Some Unplaced) None))) within
+      ∙ (λ i. or_else (refusal_in (seat_here i) step) (cond (lacks_in (seat_here i) (turn_is_some i) step) (Some Unplaced) None))
+
+-- Where the seat refuses, that is the refusal; where it does not, want of a cursor is.
+pub or_else_some : (one other : Option Refusal) → is_some one ≡ true → or_else one other ≡ one
+or_else_some None other some = absurd (false≢true some)
+or_else_some (Some refusal) other some = refl
+
+pub not_some : (one : Option Refusal) → is_some one ≡ false → one ≡ None
+not_some None none = refl
+not_some (Some refusal) none = absurd (false≢true (sym none))
+
+-- An element at its place.
+pub index_at : {A : Type 0} (xs : List A) (i : ℕ) (x : A) → i < length xs → x ≡ get_or xs i x → slice_get xs i ≡ Some x
+index_at xs i x within is = slice_get-get_or xs i x within ∙ ap Some (sym is)
+
+pub le_false : (a b : ℕ) → b < a → nat_le a b ≡ false
+le_false a b less = elim (cases_Bool (nat_le a b)) [
+  | inl most ↦ let fits : a ≤ b = leb-true a b most in absurd (omega arith)
+  | inr is ↦ is
+]
+
+pub le_false_lt : (a b : ℕ) → nat_le a b ≡ false → b < a
+le_false_lt a b is = elim (cases_lt b a) [
+  | inl less ↦ less
+  | inr most ↦ absurd (false≢true (sym is ∙ le-leb a b most))
+]
+
+pub lacking : (one : Option Refusal) (b value : Bool) → one ≡ None → b ≡ value → or_else one (cond b (Some Unplaced) None) ≡ cond value (Some Unplaced) None
+lacking one b value none is = ap (λ o. or_else o (cond b (Some Unplaced) None)) none ∙ ap (λ v. cond v (Some Unplaced) None) is
+
+-- A caller of a step that nothing refuses has its side.
+pub at_free : (limits : Sizes) (h : List Entry) (b m : ℕ) (t : TableAt) (sessions : List Session) (locks : List (Option ℕ)) (placed : Option Owner) → Tells limits h b m t sessions locks placed
+    → (c : ℕ) (step : Step) → owner_of step ≡ Some (Caller c) → refusal_of (state_of limits h t sessions placed) step ≡ None → (x : Session) → x ≡ get_or sessions c x → slice_get sessions c ≡ Some x
+at_free limits h b m t sessions locks placed tells c step owner none x is =
+    let below : c < limits.callers = le_false_lt limits.callers c (free (state_of limits h t sessions placed) c step owner none).within in
+    let count : length sessions ≡ limits.callers = tells.count in
+    index_at sessions c x (omega arith) is
+
+pub abort_runs : (s : Seat) (c : ℕ) → refusal_in s (Abort c) ≡ None → (is_closed s.phase ≡ false) × (is_leaving s.phase ≡ false)
+abort_runs s c none =
+    let first = first_none (is_closed s.phase) _ _ none in
+    (first.0, (first_none (is_leaving s.phase) _ None first.1).0)
+
+pub seek_target : (s : Seat) (c : ℕ) → refusal_in s (Seek c) ≡ None → has_target s ≡ true
+seek_target s c none =
+    let first = first_none (is_closed s.phase) _ _ none in
+    not_false (has_target s) (first_none (not (has_target s)) _ None first.1).0
+
+pub not_is_false : (b : Bool) → not b ≡ false → b ≡ true
+not_is_false b is = not_false b is
+
+pub asked_stage : (stage : Stage) → is_waiting (phase_of stage) ≡ true → (pending : PendingAt) × (stage ≡ stages.Asked pending)
+asked_stage stages.Closed is = absurd (false≢true is)
+asked_stage stages.Open is = absurd (false≢true is)
+asked_stage (stages.Asked pending) is = (pending, refl)
+asked_stage (stages.LeavingTo level) is = absurd (false≢true is)
+asked_stage stages.LeavingToEnd is = absurd (false≢true is)
+
+-- A caller of a step that nothing refuses, told of the machine's state.
+pub free_of : (state old : State) (step : Step) → state ≡ old → refusal_of old step ≡ None → refusal_of state step ≡ None
+free_of state old step is none = ap (λ (s : State). refusal_of s step) is ∙ none

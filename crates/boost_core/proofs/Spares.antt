@@ -1,0 +1,125 @@
+-- Spares that are given out, and given up.
+use Rattle.std.proofs.Common.{◌≡◌, ◌≢◌, ℕ, ◌+◌, ◌≤◌, ◌==◌, ◌&&◌, Bool, true, false, cond, Option, Some, None, refl, sym, ap, ◌∙◌, arith}
+use Rattle.std.specs.Prelude.{nat_eq}
+use Rattle.std.specs.Option.{option_eq}
+use Rattle.std.proofs.lemmas.Bool.{cases_eq, eq-eqb, ne_eqb, and_from}
+use mathlib.Core.Logic.{inl, inr}
+use Rattle.map_ops.specs.Nodes.{SpareAt, out_at}
+use Rattle.txn_trace.proofs.Now.{same_option, same_is}
+use Rattle.map_ops.specs.TableAt.{TableAt, KeepsSpares}
+use Rattle.map_ops.specs.Changes.{Spends, GivesSpare, OwnsIf}
+use Rattle.boost_core.specs.Spares.{times_of, times_out, IsCovered}
+
+-- A table gives a spare out once at most.
+pub times_out_most : (t : TableAt) (place stamp : ℕ) → times_out t place stamp ≤ 1
+times_out_most t place stamp = elim (option_eq nat_eq (out_at t.list place) (Some stamp)) as (λ b. cond b 1 0 ≤ 1) [ true ↦ omega arith | false ↦ omega arith ]
+
+at_least_once : (b : Bool) → 1 ≤ cond b 1 0 → b ≡ true
+at_least_once true is = refl
+at_least_once false is = absurd (omega arith)
+
+-- A spare that is kept is the table's.
+pub kept_owned : (kept : ℕ → ℕ → ℕ) (t : TableAt) (place stamp : ℕ) → IsCovered kept t → 1 ≤ kept place stamp → out_at t.list place ≡ Some stamp
+kept_owned kept t place stamp covered once =
+    let most : kept place stamp ≤ times_out t place stamp = covered place stamp in
+    same_option (out_at t.list place) (Some stamp) (at_least_once (option_eq nat_eq (out_at t.list place) (Some stamp)) (omega arith))
+
+times_same : (t t' : TableAt) (place stamp : ℕ) → out_at t'.list place ≡ out_at t.list place → times_out t' place stamp ≡ times_out t place stamp
+times_same t t' place stamp same = ap (λ o. cond (option_eq nat_eq o (Some stamp)) 1 0) same
+
+times_none : (t : TableAt) (place stamp : ℕ) → out_at t.list place ≡ None → times_out t place stamp ≡ 0
+times_none t place stamp none = ap (λ o. cond (option_eq nat_eq o (Some stamp)) 1 0) none
+
+times_other : (t : TableAt) (place stamp other : ℕ) → out_at t.list place ≡ Some other → other ≢ stamp → times_out t place stamp ≡ 0
+times_other t place stamp other is differs = ap (λ o. cond (option_eq nat_eq o (Some stamp)) 1 0) is ∙ ap (λ b. cond b 1 0) (ne_eqb other stamp differs)
+
+times_one : (t : TableAt) (place stamp : ℕ) → out_at t.list place ≡ Some stamp → times_out t place stamp ≡ 1
+times_one t place stamp is = ap (λ b. cond b 1 0) (same_is (out_at t.list place) (Some stamp) is)
+
+pub times_here : (spare : SpareAt) → times_of (Some spare) spare.place spare.stamp ≡ 1
+times_here spare = ap (λ b. cond b 1 0) (and_from (spare.place == spare.place) (spare.stamp == spare.stamp) (eq-eqb spare.place spare.place refl) (eq-eqb spare.stamp spare.stamp refl))
+
+times_most : (spare : SpareAt) (place stamp : ℕ) → times_of (Some spare) place stamp ≤ 1
+times_most spare place stamp = elim (spare.place == place && spare.stamp == stamp) as (λ b. cond b 1 0 ≤ 1) [ true ↦ omega arith | false ↦ omega arith ]
+
+and_right_false : (a b : Bool) → b ≡ false → (a && b) ≡ false
+and_right_false true b is = is
+and_right_false false b is = refl
+
+times_away : (spare : SpareAt) (place stamp : ℕ) → spare.place ≢ place → times_of (Some spare) place stamp ≡ 0
+times_away spare place stamp away = ap (λ b. cond (b && spare.stamp == stamp) 1 0) (ne_eqb spare.place place away)
+
+times_unlike : (spare : SpareAt) (place stamp : ℕ) → spare.stamp ≢ stamp → times_of (Some spare) place stamp ≡ 0
+times_unlike spare place stamp unlike = ap (λ b. cond b 1 0) (and_right_false (spare.place == place) (spare.stamp == stamp) (ne_eqb spare.stamp stamp unlike))
+
+times_is : (spare : SpareAt) (place stamp : ℕ) → place ≡ spare.place → stamp ≡ spare.stamp → times_of (Some spare) place stamp ≡ 1
+times_is spare place stamp at is = ap (λ (p : ℕ). times_of (Some spare) p stamp) at ∙ ap (λ (s : ℕ). times_of (Some spare) spare.place s) is ∙ times_here spare
+
+-- Once a spare is given up, the others are kept as before.
+pub spent : (t t' : TableAt) (spare : Option SpareAt) (others : ℕ → ℕ → ℕ) → Spends t t' spare → IsCovered (λ place stamp. others place stamp + times_of spare place stamp) t → IsCovered others t'
+spent t t' None others is covered place stamp =
+    let same : times_out t' place stamp ≡ times_out t place stamp = times_same t t' place stamp (is place) in
+    let most : others place stamp + 0 ≤ times_out t place stamp = covered place stamp in
+    omega arith
+spent t t' (Some spare) others is covered place stamp = elim (cases_eq place spare.place) [
+  | inr other ↦
+      let same : times_out t' place stamp ≡ times_out t place stamp = times_same t t' place stamp (is.1 place other) in
+      let most : others place stamp + times_of (Some spare) place stamp ≤ times_out t place stamp = covered place stamp in
+      omega arith
+  | inl here ↦
+      let most : others place stamp + times_of (Some spare) place stamp ≤ times_out t place stamp = covered place stamp in
+      let one : times_of (Some spare) spare.place spare.stamp ≡ 1 = times_here spare in
+      let owned : out_at t.list spare.place ≡ Some spare.stamp = kept_owned (λ p s. others p s + times_of (Some spare) p s) t spare.place spare.stamp covered (omega arith) in
+      elim (cases_eq stamp spare.stamp) [
+        | inl same ↦
+            let once : times_of (Some spare) place stamp ≡ 1 = times_is spare place stamp here same in
+            let limit = times_out_most t place stamp in
+            omega arith
+        | inr differs ↦
+            let none : times_out t place stamp ≡ 0 = times_other t place stamp spare.stamp (ap (out_at t.list) here ∙ owned) (λ e. differs (sym e)) in
+            omega arith
+      ]
+]
+
+-- A new spare is kept beside the others.
+pub given : (t t' : TableAt) (spare : SpareAt) (others : ℕ → ℕ → ℕ) → GivesSpare t t' spare → IsCovered others t → IsCovered (λ place stamp. others place stamp + times_of (Some spare) place stamp) t'
+given t t' spare others gives covered place stamp = elim (cases_eq place spare.place) [
+  | inr other ↦
+      let same : times_out t' place stamp ≡ times_out t place stamp = times_same t t' place stamp (gives.others place other) in
+      let most : others place stamp ≤ times_out t place stamp = covered place stamp in
+      let away : times_of (Some spare) place stamp ≡ 0 = times_away spare place stamp (λ e. other (sym e)) in
+      omega arith
+  | inl here ↦
+      let none : times_out t place stamp ≡ 0 = times_none t place stamp (ap (out_at t.list) here ∙ gives.fresh) in
+      let most : others place stamp ≤ times_out t place stamp = covered place stamp in
+      elim (cases_eq stamp spare.stamp) [
+        | inl same ↦
+            let one : times_out t' place stamp ≡ 1 = times_one t' place stamp (ap (out_at t'.list) here ∙ gives.owned ∙ ap Some (sym same)) in
+            let once = times_most spare place stamp in
+            omega arith
+        | inr differs ↦
+            let unlike : times_of (Some spare) place stamp ≡ 0 = times_unlike spare place stamp (λ e. differs (sym e)) in
+            omega arith
+      ]
+]
+
+-- Where the same spares are out, the same are kept.
+pub still_covered : (t t' : TableAt) (kept : ℕ → ℕ → ℕ) → KeepsSpares t t' → IsCovered kept t → IsCovered kept t'
+still_covered t t' kept same covered place stamp =
+    let is : times_out t' place stamp ≡ times_out t place stamp = times_same t t' place stamp (same place) in
+    let most : kept place stamp ≤ times_out t place stamp = covered place stamp in
+    omega arith
+
+pub less_covered : (t : TableAt) (kept less : ℕ → ℕ → ℕ) → ((place stamp : ℕ) → less place stamp ≤ kept place stamp) → IsCovered kept t → IsCovered less t
+less_covered t kept less fewer covered place stamp =
+    let few = fewer place stamp in
+    let most : kept place stamp ≤ times_out t place stamp = covered place stamp in
+    omega arith
+
+-- The spare of which one is kept is the table's.
+pub owns_if : (t : TableAt) (spare : Option SpareAt) (kept : ℕ → ℕ → ℕ) → ((place stamp : ℕ) → times_of spare place stamp ≤ kept place stamp) → IsCovered kept t → OwnsIf t spare
+owns_if t None kept few covered = tt
+owns_if t (Some spare) kept few covered =
+    let one : times_of (Some spare) spare.place spare.stamp ≡ 1 = times_here spare in
+    let least : times_of (Some spare) spare.place spare.stamp ≤ kept spare.place spare.stamp = few spare.place spare.stamp in
+    kept_owned kept t spare.place spare.stamp covered (omega arith)

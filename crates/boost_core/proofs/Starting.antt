@@ -1,0 +1,101 @@
+-- A core in which nothing has happened.
+use Rattle.std.proofs.Common.{◌≡◌, ℕ, ◌+◌, ◌<◌, ◌∷◌, true, List, [], length, map, replicate, Option, Some, None, suc, refl, sym, ap, subst, ◌∙◌, arith}
+use Rattle.std.specs.Prelude.{slice_get, sum_by, reverse}
+use Rattle.std.specs.List.{All}
+use Rattle.std.specs.Option.{option_map}
+use Rattle.std.specs.Int.{is_power_of_two}
+use Rattle.std.proofs.lemmas.Bool.{and_parts, cases_lt}
+use Rattle.std.proofs.lemmas.List.{length-replicate, get_or-replicate, get_or_past}
+use Rattle.std.proofs.lemmas.List.Elements.{All-nil}
+use Rattle.std.proofs.lemmas.List.Sums.{sum_by-cons}
+use Rattle.std.proofs.lemmas.Option.{slice_get_within, get_or_from_slice_get}
+use mathlib.Core.Logic.{inl, inr}
+use Rattle.map_ops.specs.Split.{IsPowerOfTwo}
+use Rattle.map_ops.specs.Cursor.{Cursor}
+use Rattle.key_locks.specs.Locks.{holder_of as held_by}
+use Rattle.txn_trace.specs.Sizes.{Sizes, are_limits}
+use Rattle.txn_trace.specs.Now.{now}
+use Rattle.txn_trace.specs.Owed.{owed_in}
+use Rattle.txn_trace.specs.History.{caller_of}
+use Rattle.txn_trace.proofs.Judging.{legal_none}
+use Rattle.map_ops.specs.declared.job.MapJob.{MapJob}
+use Rattle.map_ops.specs.TableAt.{TableAt, IsNew, Nothing, cursor_turn}
+use Rattle.boost_core.specs.declared.stage.Stage.{Stage}
+use Rattle.boost_core.specs.declared.session.Session.{Session}
+use Rattle.boost_core.specs.State.{start}
+use Rattle.boost_core.specs.Spares.{times_of, times_in}
+use Rattle.boost_core.specs.Sessions.{IsIdle, IsReady, IsSoughtAt, AreDue, phase_of, owed_of, target_of, times_kept, spare_at, changes_of}
+use Rattle.boost_core.specs.Core.{Tells, state_of, turn_at}
+use Rattle.boost_core.proofs.Powers.{power_from_test}
+
+-- What limits say of the number of buckets.
+pub buckets_power : (callers stripes buckets : ℕ) → are_limits callers stripes buckets ≡ true → IsPowerOfTwo buckets
+buckets_power callers stripes buckets are =
+    let parts = and_parts _ (is_power_of_two buckets) are in
+    power_from_test buckets parts.1
+
+-- A list whose elements all have one image.
+image_is : {A B : Type 0} (f : A → B) (b : B) (xs : List A) → ((x : A) (k : ℕ) → slice_get xs k ≡ Some x → f x ≡ b) → map f xs ≡ replicate (length xs) b
+image_is f b [] all = refl
+image_is f b (x ∷ xs) all = λ i. all x 0 refl i ∷ image_is f b xs (λ y k at. all y (suc k) at) i
+
+sum_none : {A : Type 0} (f : A → ℕ) (xs : List A) → ((x : A) (k : ℕ) → slice_get xs k ≡ Some x → f x ≡ 0) → sum_by f xs ≡ 0
+sum_none f [] all = refl
+sum_none f (x ∷ xs) all = sum_by-cons f x xs ∙ (λ i. all x 0 refl i + sum_none f xs (λ y k at. all y (suc k) at) i)
+
+none_held : (stripes s : ℕ) → held_by (replicate stripes None) s ≡ None
+none_held stripes s = elim (cases_lt s stripes) [
+  | inl within ↦ get_or-replicate stripes s None None within
+  | inr past ↦ get_or_past (replicate stripes None) s None (let long = length-replicate {A = Option ℕ} stripes None in omega arith)
+]
+
+module _ (limits : Sizes) (t : TableAt) (new : IsNew t limits.buckets limits.callers) (sessions : List Session) (count : length sessions ≡ limits.callers) (idle : All IsIdle sessions) where
+  is_idle : (s : Session) (c : ℕ) → slice_get sessions c ≡ Some s → IsIdle s
+  is_idle s c at = subst IsIdle (get_or_from_slice_get sessions c s s at) (idle c s (slice_get_within sessions c s at))
+
+  no_times : (s : Session) → IsIdle s → (place stamp : ℕ) → times_kept s place stamp ≡ 0
+  no_times s is place stamp = λ i. times_of (spare_at (is.stage i)) place stamp + times_in (is.jobs i) place stamp
+
+  pub start_tells : (locks : List (Option ℕ)) → locks ≡ replicate limits.stripes None → Tells limits [] 0 0 t sessions locks None
+  start_tells locks none = record {
+    legal = legal_none limits.stripes;
+    callers = All-nil (λ entry. caller_of entry < limits.callers);
+    begins = refl;
+    commits = refl;
+    content = new.content_is;
+    count = count;
+    seated = λ c s at.
+        let is = is_idle s c at in
+        record {
+          seat = λ i. Some (record { phase = phase_of (sym is.stage i); standing = length (sym is.jobs i); kept = 0 ∷ sym is.kept i });
+          log = ap changes_of (sym is.jobs);
+          due = subst (λ (js : List MapJob). AreDue (now []) (reverse js)) (sym is.jobs) tt;
+          ready = subst (λ (st : Stage). IsReady st s.log.room) (sym is.stage) tt;
+        };
+    sought = λ c s at. subst (λ (cursor : Option Cursor). IsSoughtAt t cursor (target_of s)) (sym (is_idle s c at).cursor) tt;
+    spares = λ place stamp.
+        let none_kept : sum_by (λ s. times_kept s place stamp) sessions ≡ 0 = sum_none (λ s. times_kept s place stamp) sessions (λ s c at. no_times s (is_idle s c at) place stamp) in
+        omega arith;
+    fresh = tt;
+    stripes = ap length none ∙ length-replicate limits.stripes None;
+    holders = λ s below. ap (λ ls. held_by ls s) none ∙ none_held limits.stripes s;
+    largest = new.largest_is;
+    helpers = ap length new.helps_is ∙ length-replicate limits.callers Nothing;
+  }
+
+  pub none_owed : sum_by owed_of sessions ≡ 0
+  none_owed = sum_none owed_of sessions (λ s c at. let is = is_idle s c at in ap (λ (st : Stage). owed_in (length s.log.jobs) (phase_of st)) is.stage)
+
+  pub start_is : state_of limits [] t sessions None ≡ start limits
+  start_is = λ i. record {
+    limits = limits;
+    history = [];
+    size = new.size_is i;
+    stored = new.stored_is i;
+    linked = new.linked_is i;
+    changes = new.turn_is i;
+    stamp = new.last_is i;
+    cursors = (image_is turn_at None sessions (λ s c at. ap (option_map cursor_turn) (is_idle s c at).cursor) ∙ ap (λ n. replicate n None) count) i;
+    helpers = new.helps_is i;
+    placed = None;
+  }

@@ -1,0 +1,11 @@
+use Rattle.std.proofs.Common.{◌≤◌, sym, ap, ◌∙◌, arith}
+use Rattle.txn_trace.specs.Shape.{Seat}
+use Rattle.boost_core.specs.State.{State, seat_in}
+use Rattle.boost_core.specs.Answers.{is_at_end}
+use Rattle.boost_core.proofs.Calls.{seat_past}
+use Rattle.boost_core.proofs.machine.Core.leaves_to_end.Goals as goal
+
+pub returns-in-None-clause-value : goal.returns-in-None-clause-value
+returns-in-None-clause-value c =
+    let past : c.self.inside.limits.callers ≤ c.args.caller = omega (arith, c.in-None.ensures.lookup.3, c.deref.ensures.len, c.self.invariant.tells.count) in
+    sym (ap (λ (s : State). is_at_end (seat_in s.history c.args.caller).phase) (sym c.self.view_is) ∙ ap (λ (s : Seat). is_at_end s.phase) (seat_past c.self.inside.limits.callers c.args.caller c.self.inside.history.items c.self.invariant.tells.callers past))

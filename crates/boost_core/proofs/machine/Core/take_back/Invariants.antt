@@ -1,0 +1,19 @@
+use Rattle.std.proofs.Common.{◌≡◌, ℕ, List}
+use Rattle.txn_trace.specs.declared.step.Step.{Step}
+use Rattle.txn_trace.specs.declared.answer.Answer.{Answer}
+use Rattle.boost_core.specs.State.{State, seat_in}
+use Rattle.boost_core.specs.Machine.{Moves}
+use Rattle.boost_core.specs.Plain.{undoing, undone}
+use Rattle.boost_core.proofs.machine.Core.take_back.Given as goal
+
+-- Some changes are taken back so far, and whatever comes next follows these.
+abbrev pub invariant-loop-self : goal.invariant-loop-self
+invariant-loop-self l = record {
+  changes : ℕ;
+  moves : (steps : List Step) (answers : List Answer) (new : State) → Moves l.self steps answers new → Moves l.fn.self (undoing changes l.caller steps) (undone changes answers) new;
+  limits : l.self.limits ≡ l.fn.self.limits;
+  phase : (seat_in l.self.history l.caller).phase ≡ (seat_in l.fn.self.history l.caller).phase;
+}
+
+abbrev pub decreases-loop-self : goal.decreases-loop-self
+decreases-loop-self l = (seat_in l.self.history l.caller).standing

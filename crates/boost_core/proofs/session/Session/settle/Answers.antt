@@ -1,0 +1,30 @@
+use Rattle.std.proofs.Common.{refl, ◌≤◌, ◌+◌, length, arith, ◌∙◌}
+use Rattle.boost_core.specs.Spares.{times_in, times_out}
+use Rattle.boost_core.proofs.Settling.{rests_more, newest_owned, popped_covered, popped_own, none_left, front_none}
+use Rattle.boost_core.proofs.session.Session.settle.Goals as goal
+
+pub discard-requires : goal.discard-requires
+discard-requires c = newest_owned c.loop-job.table c.loop-job.self.log.jobs c.pop_above.new.self.jobs c.in-Some.job c.in-Some.ensures.jobs c.loop-job.invariant.own
+
+pub loop-job-preserved : goal.loop-job-preserved
+loop-job-preserved c = record {
+  rests = rests_more _ c.loop-job.table c.discard.new.self _ c.loop-job.invariant.rests c.discard.ensures.back c.discard.ensures.follows;
+  own = popped_own c.loop-job.table c.discard.new.self c.loop-job.self.log.jobs c.pop_above.new.self.jobs c.in-Some.job c.in-Some.ensures.jobs c.discard.ensures.back c.loop-job.invariant.own;
+  spares = λ others covered. popped_covered c.loop-job.table c.discard.new.self c.loop-job.self.log.jobs c.pop_above.new.self.jobs c.in-Some.job c.in-Some.ensures.jobs c.discard.ensures.back others (c.loop-job.invariant.spares others covered);
+  kept = c.in-Some.ensures.kept ∙ c.loop-job.invariant.kept;
+  cursor = c.loop-job.invariant.cursor;
+}
+
+pub returns : goal.returns
+returns c =
+    let none : length c.loop-job.self.log.jobs ≤ 0 = none_left c.pop_above.result (length c.loop-job.self.log.jobs) c.in_default.is c.pop_above.ensures.some.1 in
+    record {
+      rests = c.loop-job.invariant.rests;
+      spares = λ others covered place stamp.
+          let most : others place stamp + times_in c.loop-job.self.log.jobs place stamp ≤ times_out c.loop-job.table place stamp = c.loop-job.invariant.spares others covered place stamp in
+          omega arith;
+      stage = refl;
+      cursor = c.loop-job.invariant.cursor;
+      jobs = c.cut.ensures.jobs ∙ front_none c.loop-job.self.log.jobs c.pop_above.new.self.jobs _ c.pop_above.ensures.jobs none;
+      kept = c.cut.ensures.kept;
+    }

@@ -1,0 +1,14 @@
+-- The fourth claim, content: the map is what the history gives now, and the list is that map in order.
+use Rattle.std.specs.Prelude.{◌≡◌, ℕ, List}
+use Rattle.std.specs.Ordering.{nat_cmp}
+use Rattle.std.specs.BTreeMap.{BTreeMap, get as value_at}
+use Rattle.txn_trace.specs.Map.{get}
+use Rattle.txn_trace.specs.Now.{now}
+use Rattle.txn_trace.specs.Ordered.{ordered}
+use Rattle.boost_core.specs.State.{State}
+
+abbrev pub IsContent : State → BTreeMap ℕ ℕ → Type 0
+IsContent state map = (key : ℕ) → value_at nat_cmp map key ≡ get (now state.history) key
+
+abbrev pub IsRegular : State → List (ℕ × ℕ) → Type 0
+IsRegular state pairs = pairs ≡ ordered (now state.history)

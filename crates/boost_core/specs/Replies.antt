@@ -1,0 +1,6 @@
+-- The third claim, replies: each transaction has the replies of running alone, after those committed before it.
+use Rattle.txn_trace.specs.Replies.{RepliesHold}
+use Rattle.boost_core.specs.State.{State}
+
+abbrev pub KeepsReplies : State → Type 0
+KeepsReplies state = RepliesHold state.history

@@ -1,0 +1,116 @@
+//! The plain calls: several steps of one caller, with none of another between.
+ghost use Rattle.std.specs.Prelude.{◌≡◌, true, false, nat_le};
+
+use crate::machine::Core;
+use txn_trace::{Answer, Op};
+
+impl Core {
+    ghost use Rattle.boost_core.specs.Answers.{end_of, is_at_end};
+    ghost use Rattle.boost_core.specs.Plain.{Aborts, Ends, Operates, Returns};
+    ghost use Rattle.boost_core.specs.Refusals.{has_job, is_leaving};
+    ghost use Rattle.boost_core.specs.State.{seat_in};
+
+    /// Puts a value at a key: asks, seeks and acts. `Again` is never met. One step a node from the nearest bucket on.
+    ///
+    /// The answer is `Done` with the reply, or the first that is not `Asked`: `Busy`, where another caller holds the key's stripe and
+    /// this one now leaves to the end, or a refusal, which leaves the state: in this order `NoSuchCaller`, `NotOpen`, `Leaving`,
+    /// `OperationUnfinished`, `BadKey`, `NoMemory`, `StampsUsedUp`.
+    pub fn put(&mut self, caller: u64, key: u64, value: u64) -> Answer
+        ensures { Operates self.old caller (Op.Put key value) result self.new }
+    {
+        self.operate(caller, Op::Put(key, value))
+    }
+
+    /// Takes a key out, by the same steps as `put` and with the same refusals.
+    pub fn take(&mut self, caller: u64, key: u64) -> Answer
+        ensures { Operates self.old caller (Op.Take key) result self.new }
+    {
+        self.operate(caller, Op::Take(key))
+    }
+
+    /// Gets the value at a key, by the same steps as `put` and with the same refusals, but `StampsUsedUp`.
+    pub fn get(&mut self, caller: u64, key: u64) -> Answer
+        ensures { Operates self.old caller (Op.Get key) result self.new }
+    {
+        self.operate(caller, Op::Get(key))
+    }
+
+    /// Goes back to a level, a savepoint's number or 0 for the beginning: takes back every later change, newest first, and keeps
+    /// the savepoint of that level. Stripes stay held. A seek and an act for each change.
+    ///
+    /// The answer is `Returned` with the level, or a refusal, which leaves the state: in this order `NoSuchCaller`, `NotOpen`,
+    /// `Leaving`, `OperationUnfinished`, `NoSuchLevel`, `NoMemory`.
+    pub fn back(&mut self, caller: u64, level: u64) -> Answer
+        ensures { Returns self.old caller level result self.new }
+    {
+        match self.leave_to(caller, level) {
+            Answer::Leaving => self.take_back(caller),
+            answer => answer,
+        }
+    }
+
+    /// Aborts: withdraws an operation that waits, takes back every change, newest first, gives all stripes back and closes. Goes on
+    /// where the caller leaves to the end already, as after `Busy`. Takes no memory. A seek and an act for each change.
+    ///
+    /// The answer is `Aborted`, or a refusal, which leaves the state: in this order `NoSuchCaller`, `NotOpen`, and `Leaving` where the
+    /// caller leaves to a level.
+    pub fn abort(&mut self, caller: u64) -> Answer
+        ensures { Aborts self.old caller result self.new }
+    {
+        if self.leaves_to_end(caller) {
+            return self.take_back(caller);
+        }
+        match self.leave(caller) {
+            Answer::Leaving => self.take_back(caller),
+            answer => answer,
+        }
+    }
+
+    /// Asks for an operation, seeks and acts.
+    fn operate(&mut self, caller: u64, op: Op) -> Answer
+        ensures { Operates self.old caller op result self.new }
+    {
+        match self.ask(caller, op) {
+            Answer::Asked => {
+                self.seek(caller);
+                self.act(caller)
+            }
+            answer => answer,
+        }
+    }
+
+    /// Takes back what there is to take back, newest first, and ends that.
+    fn take_back(&mut self, caller: u64) -> Answer
+        requires leaves { is_leaving (seat_in self.old.history caller).phase ≡ true }
+        requires within { nat_le self.old.limits.callers caller ≡ false }
+        ensures ends { Ends self.old caller result self.new }
+        ensures answer { result ≡ end_of (seat_in self.old.history caller).phase }
+    {
+        while self.has_job(caller) {
+            self.seek(caller);
+            self.act(caller);
+        }
+        self.act(caller)
+    }
+
+    /// Whether a caller has a change to take back.
+    fn has_job(&self, caller: u64) -> bool
+        ensures { result ≡ has_job (seat_in self.now.history caller) }
+    {
+        match self.sessions.get(caller as usize) {
+            Some(session) => session.has_job(),
+            None => false,
+        }
+    }
+
+    /// Whether a caller leaves to the end.
+    fn leaves_to_end(&self, caller: u64) -> bool
+        ensures value { result ≡ is_at_end (seat_in self.now.history caller).phase }
+        ensures within { result ≡ true → nat_le self.now.limits.callers caller ≡ false }
+    {
+        match self.sessions.get(caller as usize) {
+            Some(session) => session.leaves_to_end(),
+            None => false,
+        }
+    }
+}

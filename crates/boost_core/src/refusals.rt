@@ -1,0 +1,41 @@
+//! Refusals.
+ghost use Rattle.std.specs.Prelude.{◌≡◌};
+ghost use Rattle.txn_trace.specs.Map.{key_of};
+ghost use Rattle.boost_core.specs.Refusals.{first_of, refusal_for};
+
+use map_ops::InitRefusal;
+use txn_trace::{Op, Refusal};
+
+/// The refusal of the first test that holds.
+pub(crate) fn first_of(tests: &[(bool, Refusal)]) -> Option<Refusal>
+    ensures { result ≡ first_of tests.now }
+{
+    for (holds, refusal) in tests {
+        if *holds {
+            return Some(*refusal);
+        }
+    }
+    None
+}
+
+/// The number of the key of an operation.
+pub(crate) fn key_in(op: Op) -> u64
+    ensures { result ≡ key_of op }
+{
+    let (Op::Put(key, _) | Op::Take(key) | Op::Get(key)) = op;
+    key
+}
+
+/// The refusal of a helper's step, as the table tells it.
+pub(crate) fn refusal_for(refusal: InitRefusal) -> Refusal
+    ensures { result ≡ refusal_for refusal }
+{
+    match refusal {
+        InitRefusal::NoSuchBucket => Refusal::NoSuchBucket,
+        InitRefusal::ParentMissing => Refusal::ParentMissing,
+        InitRefusal::NoSuchHelper => Refusal::NoSuchHelper,
+        InitRefusal::HelperOutOfOrder => Refusal::HelperOutOfOrder,
+        InitRefusal::NoMemory => Refusal::NoMemory,
+        InitRefusal::StampsUsedUp => Refusal::StampsUsedUp,
+    }
+}

@@ -1,0 +1,48 @@
+//! Runs the files of the folder `examples`, each by the engine of its command, and prints for each the
+//! words of the call and then what the engine wrote.
+//!
+//! The gate compares all of it with the file `stdout`, which was written by hand, so that what the
+//! documents say of their examples stays true. Nothing is promised of this program.
+#![tactic(auto)]
+
+use boostmap_engine::{Fault, check, replay};
+use std::process::ExitCode;
+use std::rt::Runtime;
+use std::{fs, io};
+
+/// The commands, with the file that each runs.
+const CALLS: [(Command, &str); 3] = [
+    (Command::Replay, "first_commit.json"),
+    (Command::Replay, "many_callers.json"),
+    (Command::Check, "checked.json"),
+];
+
+/// A command of the program `boostmap`.
+#[derive(Clone, Copy, Debug)]
+enum Command {
+    Replay,
+    Check,
+}
+
+/// Runs a file by a command.
+fn run<R: Runtime + AllocGlobal>(rt: &R, command: Command, file: &str) -> Result<(), Fault> {
+    let Ok(mut input) = fs::open(rt, file) else {
+        return Err(Fault::Read);
+    };
+    let mut output = io::writer(rt);
+    match command {
+        Command::Replay => replay(rt.alloc(), &mut input, &mut output),
+        Command::Check => check(rt.alloc(), &mut input, &mut output).map(|_| ()),
+    }
+}
+
+fn main(rt: HostRuntime) -> ExitCode {
+    for (command, file) in CALLS {
+        let _ = println!(rt; "{command:?} {file}");
+        if let Err(fault) = run(&rt, command, file) {
+            let _ = println!(rt; "{fault}");
+            return ExitCode::FAILURE;
+        }
+    }
+    ExitCode::SUCCESS
+}

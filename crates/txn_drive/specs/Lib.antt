@@ -1,0 +1,4 @@
+pub mod Drives
+pub mod Entries
+pub mod Made
+pub mod Ways

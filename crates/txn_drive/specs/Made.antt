@@ -1,0 +1,90 @@
+-- The entries that a drive has added to the history.
+use Rattle.std.specs.Prelude.{◌≡◌, ℕ, List, [], ◌∷◌, ◌++◌, Some, None, replicate}
+use Rattle.txn_trace.specs.declared.answer.Answer.{Answer}
+use Rattle.txn_trace.specs.declared.answer.Answer.TheVariants as answers
+use Rattle.txn_trace.specs.declared.entry.Entry.{Entry}
+use Rattle.txn_trace.specs.declared.entry.Entry.TheVariants as entries
+use Rattle.txn_trace.specs.declared.refusal.Refusal.{Refusal}
+use Rattle.txn_trace.specs.declared.refusal.Refusal.TheVariants.{OutOfStep}
+use Rattle.txn_trace.specs.declared.step.Step.TheVariants.{Act}
+use Rattle.txn_drive.specs.declared.call.Call.{Call}
+use Rattle.txn_drive.specs.declared.call.Call.TheVariants as calls
+use Rattle.txn_drive.specs.declared.drive.Drive.{Drive}
+use Rattle.txn_drive.specs.declared.«end».End.{End}
+use Rattle.txn_drive.specs.declared.«end».End.TheVariants as ends
+use Rattle.txn_drive.specs.declared.phase.Phase.{Phase}
+use Rattle.txn_drive.specs.declared.phase.Phase.TheVariants.{Seeking, Acting, First, Last, Lost}
+use Rattle.txn_drive.specs.declared.phase.Work.{Work}
+use Rattle.txn_drive.specs.declared.phase.Work.TheVariants.{Operation, Busy, Leaving}
+use Rattle.txn_drive.specs.declared.turn.Turn.{Turn}
+use Rattle.txn_drive.specs.declared.turn.Turn.TheVariants.{Ended}
+use Rattle.txn_drive.specs.Entries.{entries_of}
+
+-- How many changes are taken back.
+abbrev pub undone_in : Work → ℕ
+undone_in Operation = 0
+undone_in (Busy holder undone) = undone
+undone_in (Leaving undone) = undone
+
+-- One entry for each change that is taken back.
+abbrev pub undone_by : ℕ → ℕ → List Entry
+undone_by c undone = replicate undone (entries.Undone c)
+
+-- The entry of a call's first step, where its work goes on after it.
+abbrev pub opened_by : ℕ → Call → Work → List Entry
+opened_by c (calls.Op op) Operation = entries.Asked c op ∷ []
+opened_by c (calls.Op op) (Busy holder undone) = entries.Busy c op holder ∷ []
+opened_by c (calls.Back level) (Leaving undone) = entries.Leave c (Some level) ∷ []
+opened_by c calls.Abort (Leaving undone) = entries.Leave c None ∷ []
+opened_by c call work = []
+
+-- The entry of a call's first step, where this answer has ended it.
+abbrev pub entered_by : ℕ → Call → Answer → List Entry
+entered_by c calls.Begin (answers.Began t) = entries.Began c t ∷ []
+entered_by c calls.Save (answers.Saved n) = entries.Saved c ∷ []
+entered_by c calls.Commit (answers.Committed p) = entries.Committed c p ∷ []
+entered_by c call answer = []
+
+-- The entries of a call whose work goes on.
+abbrev pub made_by : ℕ → Call → Work → List Entry
+made_by c call work = opened_by c call work ++ undone_by c (undone_in work)
+
+-- The entries of a call that is in a phase.
+abbrev pub made_in : ℕ → Call → Phase → List Entry
+made_in c call (Seeking work again) = made_by c call work
+made_in c call (Acting work again) = made_by c call work
+made_in c call (First answer) = entered_by c call answer
+made_in c call (Last work answer) = made_by c call work ++ entries_of (Act c) answer
+made_in c call (Lost work) = made_by c call work
+made_in c call phase = []
+
+-- The entries that a drive has added to the history.
+abbrev pub made : Drive → List Entry
+made drive = made_in drive.caller drive.call drive.phase
+
+-- The entries of a call that was refused: none. Of one that was answered what no rule foresees nothing is said here.
+abbrev pub IsRefused : Refusal → List Entry → Type 0
+IsRefused OutOfStep h = Unit {0}
+IsRefused refusal h = h ≡ []
+
+-- First an entry, then one for each change that was taken back, then an entry.
+abbrev pub IsUndone : ℕ → Entry → List Entry → Entry → Type 0
+IsUndone c opening h closing = (undone : ℕ) × (h ≡ opening ∷ undone_by c undone ++ closing ∷ [])
+
+-- What a caller's call has added to the history by its end; a call has no other end.
+abbrev pub IsMade : ℕ → Call → End → List Entry → Type 0
+IsMade c call (ends.Refused refusal) h = IsRefused refusal h
+IsMade c calls.Begin (ends.Answered (answers.Began t)) h = h ≡ entries.Began c t ∷ []
+IsMade c (calls.Op op) (ends.Answered (answers.Done reply)) h = h ≡ entries.Asked c op ∷ entries.Did c reply ∷ []
+IsMade c (calls.Op op) (ends.Busy holder) h = IsUndone c (entries.Busy c op holder) h (entries.Aborted c)
+IsMade c calls.Save (ends.Answered (answers.Saved n)) h = h ≡ entries.Saved c ∷ []
+IsMade c (calls.Back level) (ends.Answered (answers.Returned reached)) h = (reached ≡ level) × IsUndone c (entries.Leave c (Some level)) h (entries.Returned c level)
+IsMade c calls.Commit (ends.Answered (answers.Committed p)) h = h ≡ entries.Committed c p ∷ []
+IsMade c calls.Abort (ends.Answered answers.Aborted) h = IsUndone c (entries.Leave c None) h (entries.Aborted c)
+IsMade c (calls.Help key) ends.Helped h = h ≡ []
+IsMade c call outcome h = ⊥
+
+-- Where a turn says that its drive has ended, the drive has made what belongs to the end.
+abbrev pub HasMade : Drive → Turn → Type 0
+HasMade drive (Ended outcome) = IsMade drive.caller drive.call outcome (made drive)
+HasMade drive turn = Unit {0}

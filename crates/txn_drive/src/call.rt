@@ -1,0 +1,55 @@
+ghost use Rattle.std.specs.Prelude.{◌≡◌};
+ghost use Rattle.txn_drive.specs.Drives.{first_phase, first_step};
+
+use crate::phase::Phase;
+use split_key::{BadKey, Key};
+use txn_trace::{Op, Refusal, Step};
+
+/// What a caller wants done.
+#[derive(Clone, Copy, Debug, PartialEq, Eq)]
+pub enum Call {
+    /// Begin a transaction.
+    Begin,
+    /// Do an operation.
+    Op(Op),
+    /// Set a savepoint.
+    Save,
+    /// Go back to a level: 0, or the number of a savepoint.
+    Back(u64),
+    /// Commit the transaction.
+    Commit,
+    /// Abort the transaction.
+    Abort,
+    /// Help the table to grow, and initialise the bucket of this key.
+    Help(u64),
+}
+
+impl Call {
+    /// The phase in which a drive of this call begins. Fixed cost.
+    pub(crate) fn first_phase(self) -> Phase
+        ensures { result ≡ first_phase self }
+    {
+        match self {
+            Call::Help(key) => match Key::new(key) {
+                Ok(_) => Phase::Doubling(0),
+                Err(BadKey) => Phase::Refused(Refusal::BadKey),
+            },
+            _ => Phase::Fresh,
+        }
+    }
+
+    /// The step with which the call begins. Fixed cost.
+    pub(crate) fn first_step(self, caller: u64) -> Step
+        ensures { result ≡ first_step caller self }
+    {
+        match self {
+            Call::Begin => Step::Begin(caller),
+            Call::Op(op) => Step::Ask(caller, op),
+            Call::Save => Step::Save(caller),
+            Call::Back(level) => Step::Back(caller, level),
+            Call::Commit => Step::Commit(caller),
+            Call::Abort => Step::Abort(caller),
+            Call::Help(_) => Step::Double(0),
+        }
+    }
+}

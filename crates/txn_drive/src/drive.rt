@@ -1,0 +1,170 @@
+ghost use Rattle.std.specs.Prelude.{◌≡◌, [], ◌++◌, Some, IfSome};
+ghost use Rattle.txn_trace.specs.declared.step.Step.{Step};
+ghost use Rattle.txn_drive.specs.Drives.{new_drive, sized_of, turn_of, told_of, step_of, IsTurnOf, end_of, end_first, end_last, end_helped};
+ghost use Rattle.txn_drive.specs.Entries.{entries_of};
+ghost use Rattle.txn_drive.specs.Made.{made, IsMade, HasMade};
+
+use crate::call::Call;
+use crate::end::End;
+use crate::phase::{Phase, Work};
+use crate::turn::{Turn, paired};
+use txn_trace::{Answer, Refusal, Step};
+
+/// A caller's call on its way: which step comes next, and what was told so far.
+///
+/// Begin with `new`; take turns by `turn`, and after each step taken say by `told` how it was answered, until a turn
+/// says `Ended`.
+#[derive(Clone, Copy, Debug, PartialEq, Eq)]
+pub struct Drive {
+    /// The caller's number, which is also its helper's.
+    pub caller: u64,
+    /// What the caller wants done.
+    pub call: Call,
+    /// How far the call is.
+    pub phase: Phase,
+}
+
+impl Drive {
+    /// The drive of a caller's call, before its first step. Fixed cost.
+    ///
+    /// A call `Help` of a key of 2^63 or more has ended with `Refusal::BadKey`, before any step.
+    pub fn new(caller: u64, call: Call) -> Drive
+        ensures drive { result ≡ new_drive caller call }
+        ensures made { made result ≡ [] }
+    {
+        Drive {
+            caller,
+            call,
+            phase: call.first_phase(),
+        }
+    }
+
+    /// The next turn, at the size that the table has at this moment. Fixed cost.
+    ///
+    /// A drive whose turn says `Ended` says it at each later turn too.
+    pub fn turn(&mut self, size: u32) -> Turn
+        ensures drive { self.new ≡ sized_of size self.old }
+        ensures turn { result ≡ turn_of self.new }
+        ensures step { IsTurnOf self.new result }
+        ensures made { made self.new ≡ made self.old }
+        ensures ended { HasMade self.new result }
+    {
+        if let Phase::Doubling(_) = self.phase {
+            self.phase = Phase::Doubling(size);
+        }
+        self.shown()
+    }
+
+    /// How the call has ended, if it has. Fixed cost.
+    pub fn ended(self) -> Option<End>
+        ensures drive { result ≡ end_of self }
+        ensures made { IfSome result (λ outcome. IsMade self.caller self.call outcome (made self)) }
+    {
+        match self.shown() {
+            Turn::Ended(end) => Some(end),
+            _ => None,
+        }
+    }
+
+    /// The turn of the phase.
+    fn shown(self) -> Turn
+        ensures { result ≡ turn_of self }
+    {
+        let caller = self.caller;
+        match self.phase {
+            Phase::Fresh => Turn::One(self.call.first_step(caller)),
+            Phase::Seeking(_, again) => paired(again, Step::Seek(caller), Step::Act(caller)),
+            Phase::Acting(..) => Turn::One(Step::Act(caller)),
+            Phase::Doubling(size) => Turn::One(Step::Double(u64::from(size))),
+            Phase::Initialising(way, again) => {
+                let seek = Step::InitSeek(caller, u64::from(way.bucket));
+                paired(again, seek, Step::InitLink(caller))
+            }
+            Phase::Linking(..) => Turn::One(Step::InitLink(caller)),
+            Phase::Storing(_) => Turn::One(Step::InitStore(caller)),
+            Phase::First(answer) => Turn::Ended(end_first(self.call, answer)),
+            Phase::Last(work, answer) => Turn::Ended(end_last(self.call, work, answer)),
+            Phase::Lost(_) => Turn::Ended(End::Refused(Refusal::OutOfStep)),
+            Phase::Helped => Turn::Ended(end_helped(self.call)),
+            Phase::Refused(refusal) => Turn::Ended(End::Refused(refusal)),
+        }
+    }
+
+    /// Says how the step that the turn named was answered; of a turn of two steps, each step taken. The cost is fixed,
+    /// but for the search of a helper's next bucket, which takes up to 32 rounds.
+    ///
+    /// An answer that no rule foresees ends the call with `Refusal::OutOfStep`.
+    pub fn told(&mut self, answer: Answer)
+        ensures drive { self.new ≡ told_of self.old answer }
+        ensures made { (step : Step) → step_of self.old ≡ Some step → made self.new ≡ made self.old ++ entries_of step answer }
+    {
+        self.phase = self.phase.told(self.call, answer);
+    }
+}
+
+/// How a call ended whose first step was its last.
+fn end_first(call: Call, answer: Answer) -> End
+    ensures { result ≡ end_first call answer }
+{
+    match answer {
+        Answer::Refused(refusal) => End::Refused(refusal),
+        Answer::Began(_) => match call {
+            Call::Begin => End::Answered(answer),
+            _ => End::Refused(Refusal::OutOfStep),
+        },
+        Answer::Saved(_) => match call {
+            Call::Save => End::Answered(answer),
+            _ => End::Refused(Refusal::OutOfStep),
+        },
+        Answer::Committed(_) => match call {
+            Call::Commit => End::Answered(answer),
+            _ => End::Refused(Refusal::OutOfStep),
+        },
+        _ => End::Refused(Refusal::OutOfStep),
+    }
+}
+
+/// How a call ended that an act has ended.
+fn end_last(call: Call, work: Work, answer: Answer) -> End
+    ensures { result ≡ end_last call work answer }
+{
+    let odd = End::Refused(Refusal::OutOfStep);
+    match call {
+        Call::Op(_) => match work {
+            Work::Operation => match answer {
+                Answer::Done(_) => End::Answered(answer),
+                _ => odd,
+            },
+            Work::Busy(holder, _) => match answer {
+                Answer::Aborted => End::Busy(holder),
+                _ => odd,
+            },
+            Work::Leaving(_) => odd,
+        },
+        Call::Back(level) => match work {
+            Work::Leaving(_) => match answer {
+                Answer::Returned(reached) if reached == level => End::Answered(answer),
+                _ => odd,
+            },
+            _ => odd,
+        },
+        Call::Abort => match work {
+            Work::Leaving(_) => match answer {
+                Answer::Aborted => End::Answered(answer),
+                _ => odd,
+            },
+            _ => odd,
+        },
+        _ => odd,
+    }
+}
+
+/// How a call ended whose buckets are all initialised.
+fn end_helped(call: Call) -> End
+    ensures { result ≡ end_helped call }
+{
+    match call {
+        Call::Help(_) => End::Helped,
+        _ => End::Refused(Refusal::OutOfStep),
+    }
+}

@@ -1,0 +1,213 @@
+ghost use Rattle.std.specs.Prelude.{◌≡◌};
+ghost use Rattle.txn_drive.specs.Drives.{one_more, towards, heading, told_first, told_seek, told_act, told_double, told_init_seek, told_link, told_store, refused_help, undone_more, told_in};
+
+use crate::call::Call;
+use crate::turn::PATIENCE;
+use crate::way::{Way, next_towards};
+use txn_trace::{Answer, Refusal};
+
+/// What a caller seeks a place for.
+#[derive(Clone, Copy, Debug, PartialEq, Eq)]
+pub enum Work {
+    /// The operation that was asked for.
+    Operation,
+    /// Changes to take back after a busy stripe: the stripe's holder, how many changes are taken back.
+    Busy(u64, u64),
+    /// Changes to take back on the way to a level or to the transaction's end: how many are taken back.
+    Leaving(u64),
+}
+
+/// How far a call is. A number beside a work or a way counts the `again` in a row, up to 8.
+#[derive(Clone, Copy, Debug, PartialEq, Eq)]
+pub enum Phase {
+    /// No step was answered.
+    Fresh,
+    /// The place of a work is to be sought.
+    Seeking(Work, u8),
+    /// The place of a work was sought.
+    Acting(Work, u8),
+    /// The table is to be doubled: the size that the last turn saw, 0 before the first.
+    Doubling(u32),
+    /// The place of a bucket's dummy is to be sought.
+    Initialising(Way, u8),
+    /// The place of a bucket's dummy was sought.
+    Linking(Way, u8),
+    /// A bucket's dummy is linked.
+    Storing(Way),
+    /// The answer of the first step has ended it.
+    First(Answer),
+    /// This answer of an act has ended it.
+    Last(Work, Answer),
+    /// An answer to a seek that no rule foresees has ended it.
+    Lost(Work),
+    /// All buckets on the way are initialised.
+    Helped,
+    /// A helper's step, or the call itself, was refused.
+    Refused(Refusal),
+}
+
+impl Phase {
+    /// The phase after an answer to the step of this one. Fixed cost, but for the search of the next bucket.
+    pub(crate) fn told(self, call: Call, answer: Answer) -> Phase
+        ensures { result ≡ told_in call self answer }
+    {
+        match self {
+            Phase::Fresh => told_first(call, answer),
+            Phase::Seeking(work, again) => told_seek(work, again, answer),
+            Phase::Acting(work, again) => told_act(work, again, answer),
+            Phase::Doubling(seen) => told_double(call, seen, answer),
+            Phase::Initialising(way, again) => told_init_seek(way, again, answer),
+            Phase::Linking(way, again) => told_link(way, again, answer),
+            Phase::Storing(way) => told_store(way, answer),
+            _ => Phase::Refused(Refusal::OutOfStep),
+        }
+    }
+}
+
+/// One `again` more in a row.
+fn one_more(again: u8) -> u8
+    ensures { result ≡ one_more again }
+{
+    if again < PATIENCE { again + 1 } else { again }
+}
+
+/// After the first step: an operation is sought, or changes are taken back, or the call has ended.
+fn told_first(call: Call, answer: Answer) -> Phase
+    ensures { result ≡ told_first call answer }
+{
+    match call {
+        Call::Op(_) => match answer {
+            Answer::Asked => Phase::Seeking(Work::Operation, 0),
+            Answer::Busy(holder) => Phase::Seeking(Work::Busy(holder, 0), 0),
+            _ => Phase::First(answer),
+        },
+        Call::Back(_) | Call::Abort => match answer {
+            Answer::Leaving => Phase::Seeking(Work::Leaving(0), 0),
+            _ => Phase::First(answer),
+        },
+        _ => Phase::First(answer),
+    }
+}
+
+/// After a seek: the place is there, or there is no change left to take back, which the act then says too.
+fn told_seek(work: Work, again: u8, answer: Answer) -> Phase
+    ensures { result ≡ told_seek work again answer }
+{
+    match answer {
+        Answer::Placed => Phase::Acting(work, again),
+        Answer::Refused(Refusal::NothingToSeek) => match work {
+            Work::Operation => Phase::Lost(work),
+            _ => Phase::Acting(work, again),
+        },
+        _ => Phase::Lost(work),
+    }
+}
+
+/// After an act: the place did not fit, or one change more is taken back, or the call has ended.
+fn told_act(work: Work, again: u8, answer: Answer) -> Phase
+    ensures { result ≡ told_act work again answer }
+{
+    match answer {
+        Answer::Again => Phase::Seeking(work, one_more(again)),
+        Answer::Undone => undone_more(work),
+        _ => Phase::Last(work, answer),
+    }
+}
+
+/// After one change more was taken back: the place of the next one is to be sought.
+fn undone_more(work: Work) -> Phase
+    ensures { result ≡ undone_more work }
+{
+    match work {
+        Work::Busy(holder, undone) if undone < u64::MAX => {
+            Phase::Seeking(Work::Busy(holder, undone + 1), 0)
+        }
+        Work::Leaving(undone) if undone < u64::MAX => {
+            Phase::Seeking(Work::Leaving(undone + 1), 0)
+        }
+        _ => Phase::Last(work, Answer::Undone),
+    }
+}
+
+/// After the table's turn to grow: the way to the key's bucket at the size that the table then has.
+fn told_double(call: Call, seen: u32, answer: Answer) -> Phase
+    ensures { result ≡ told_double call seen answer }
+{
+    match call {
+        Call::Help(key) => match answer {
+            Answer::Moved(size) | Answer::Doubled(size) => heading(key, size),
+            Answer::AtLimit | Answer::Light => heading(key, u64::from(seen)),
+            Answer::Refused(refusal) => refused_help(refusal),
+            _ => Phase::Refused(Refusal::OutOfStep),
+        },
+        _ => Phase::Refused(Refusal::OutOfStep),
+    }
+}
+
+/// The way to a key's bucket at a size. A table's size is above 0 and below 2^32.
+fn heading(key: u64, size: u64) -> Phase
+    ensures { result ≡ heading key size }
+{
+    if 0 < size && size < 1 << 32 {
+        towards(0, (key % size) as u32)
+    } else {
+        Phase::Refused(Refusal::OutOfStep)
+    }
+}
+
+/// What follows once the bucket `last`, on the way to `target`, is initialised.
+fn towards(last: u32, target: u32) -> Phase
+    ensures { result ≡ towards last target }
+{
+    if last == target {
+        Phase::Helped
+    } else {
+        let bucket = next_towards(last, target);
+        Phase::Initialising(Way { bucket, target }, 0)
+    }
+}
+
+/// After a seek of a bucket's dummy.
+fn told_init_seek(way: Way, again: u8, answer: Answer) -> Phase
+    ensures { result ≡ told_init_seek way again answer }
+{
+    match answer {
+        Answer::Ready => towards(way.bucket, way.target),
+        Answer::Placed => Phase::Linking(way, again),
+        Answer::Refused(refusal) => refused_help(refusal),
+        _ => Phase::Refused(Refusal::OutOfStep),
+    }
+}
+
+/// After a bucket's dummy was to be linked.
+fn told_link(way: Way, again: u8, answer: Answer) -> Phase
+    ensures { result ≡ told_link way again answer }
+{
+    match answer {
+        Answer::Again => Phase::Initialising(way, one_more(again)),
+        Answer::Present | Answer::Linked => Phase::Storing(way),
+        Answer::Refused(refusal) => refused_help(refusal),
+        _ => Phase::Refused(Refusal::OutOfStep),
+    }
+}
+
+/// After a bucket's dummy was to be stored.
+fn told_store(way: Way, answer: Answer) -> Phase
+    ensures { result ≡ told_store way answer }
+{
+    match answer {
+        Answer::Stored => towards(way.bucket, way.target),
+        Answer::Refused(refusal) => refused_help(refusal),
+        _ => Phase::Refused(Refusal::OutOfStep),
+    }
+}
+
+/// A helper may want memory or a stamp; no other refusal is foreseen.
+fn refused_help(refusal: Refusal) -> Phase
+    ensures { result ≡ refused_help refusal }
+{
+    match refusal {
+        Refusal::NoMemory | Refusal::StampsUsedUp => Phase::Refused(refusal),
+        _ => Phase::Refused(Refusal::OutOfStep),
+    }
+}

@@ -1,0 +1,44 @@
+# What the scripts of this folder share; they source it. They work at the top of the repository, in a folder that goes at
+# the end.
+set -euo pipefail
+cd "$(dirname "${BASH_SOURCE[0]}")/../.."
+work=$(mktemp -d)
+trap 'rm -rf "$work"' EXIT
+
+# Runs a command, and shows what it wrote only where it fails.
+quietly() {
+  if ! "$@" >"$work/log" 2>&1; then
+    cat "$work/log" >&2
+    exit 1
+  fi
+}
+
+run_crate() (
+  cd "crates/$1"
+  ${RT:-rt} run -- "${@:2}"
+)
+
+# Builds a program of crates/, which proves it, and runs it once with the words after its name. It is then `proved` in $work.
+build_proved() {
+  quietly run_crate "$@"
+  cp "crates/$1/out/$1" "$work/proved"
+}
+
+# Builds a program in plain Rust, as rustc lays memory out, and as the proved program has it.
+build_twin() {
+  rustc -O -o "$work/plain" "docs/speed/$1.rs"
+  rustc -O --cfg alike -o "$work/alike" "docs/speed/$1.rs"
+}
+
+# Writes step files: a line of the input is a file's name and the words of core_steps for it. Their names are $names then.
+write_step_files() {
+  local name words
+  rustc -O -o "$work/core_steps" docs/speed/core_steps.rs
+  names=()
+  while read -r name words; do
+    # The words are several.
+    # shellcheck disable=SC2086
+    "$work/core_steps" $words >"$work/$name.json" 2>/dev/null
+    names+=("$name")
+  done
+}

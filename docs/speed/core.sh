@@ -1,0 +1,36 @@
+#!/usr/bin/env bash
+# Runs the core of the benchmark and its twin in plain Rust in turn, on the same step files, and prints the median time of
+# the steps in milliseconds, the proved program's in nanoseconds a step, and its ratio to the twin, and to the twin with
+# entries that lie in memory as the proved program's do: of the first run of the steps, for which memory has to be taken from
+# the system, and then of a second one. ../SPEED.md says what the files of core_files.txt are.
+# Usage: docs/speed/core.sh [ROUNDS]
+source "$(dirname "${BASH_SOURCE[0]}")/common.sh"
+rounds=${1:-9}
+build_proved bench 1000
+build_twin core_twin
+
+write_step_files <docs/speed/core_files.txt
+
+run_core() {
+  if [ "$1" = proved ]; then
+    "$work/proved" 0 core "$2" 2>&1
+  else
+    "$work/$1" "$2" 2>&1
+  fi
+}
+
+for _ in $(seq "$rounds"); do
+  for place in "${!names[@]}"; do
+    for program in proved plain alike; do
+      run_core $program "$work/${names[$place]}.json" |
+        awk -v row="$place ${names[$place]} $program" -v work="$work" '
+          { print row, $5, $7, $11 >> (work "/" $2 ".times") }'
+    done
+  done
+done
+
+for phase in first steps; do
+  echo "$phase: medians of $rounds runs"
+  sort -k1,1n -k3,3 -k4,4n "$work/$phase.times" |
+    awk -v middle=$(((rounds + 1) / 2)) -v of=file -f docs/speed/medians.awk
+done

@@ -1,0 +1,338 @@
+//! Writes a step file to standard output: callers that begin, ask, seek and act, save and go back, commit and abort with
+//! their undoing, doublings, helpers that initialise the new buckets parent first, and sweeps. The steps follow from the
+//! answers of the core in machine.rs, so that each caller does what it may: after `again` it seeks anew, after `busy` it
+//! takes its changes back.
+//!
+//! Usage: core_steps [NAME=NUMBER]..
+//!
+//! - steps: how many there are, at most 1,000,000; fewer where the file would have more than 16,777,216 bytes
+//! - callers, stripes, buckets: the limits
+//! - keys: how many keys there are; with wide=1 they have up to 19 digits
+//! - turn: after a step another caller may take the next one, by chance once in so many steps; 0: only after a transaction
+//! - seed: where chance begins
+#![allow(dead_code, unexpected_cfgs)]
+
+mod list;
+mod machine;
+mod split;
+mod step;
+
+use machine::Core;
+use split::key_at;
+use std::collections::VecDeque;
+use std::env;
+use std::error::Error;
+use std::fmt::Write as _;
+use step::{Answer, Limits, Op, Step, around_steps};
+
+const MAX_BYTES: usize = 16_777_216;
+
+// ---- chance ----
+
+/// Numbers by chance (xorshift64*).
+struct Chance(u64);
+
+impl Chance {
+    fn next(&mut self) -> u64 {
+        self.0 ^= self.0 >> 12;
+        self.0 ^= self.0 << 25;
+        self.0 ^= self.0 >> 27;
+        self.0.wrapping_mul(0x2545_f491_4f6c_dd1d) >> 16
+    }
+
+    fn below(&mut self, bound: u64) -> u64 {
+        self.next() % bound
+    }
+
+    fn once_in(&mut self, bound: u64) -> bool {
+        self.below(bound) == 0
+    }
+}
+
+// ---- what is asked for ----
+
+struct Wishes {
+    steps: usize,
+    limits: Limits,
+    keys: u64,
+    wide: bool,
+    turn: u64,
+    seed: u64,
+}
+
+impl Wishes {
+    fn of_words(words: impl Iterator<Item = String>) -> Result<Wishes, Box<dyn Error>> {
+        let mut wishes = Wishes {
+            steps: 1_000_000,
+            limits: Limits {
+                callers: 8,
+                stripes: 4096,
+                buckets: 65_536,
+            },
+            keys: 100_000,
+            wide: false,
+            turn: 8,
+            seed: 1,
+        };
+        for word in words {
+            let (name, number) = word.split_once('=').ok_or("NAME=NUMBER")?;
+            let number: u64 = number.parse()?;
+            match name {
+                "steps" => wishes.steps = number as usize,
+                "callers" => wishes.limits.callers = number as u32,
+                "stripes" => wishes.limits.stripes = number as u32,
+                "buckets" => wishes.limits.buckets = number as u32,
+                "keys" => wishes.keys = number,
+                "wide" => wishes.wide = number != 0,
+                "turn" => wishes.turn = number,
+                "seed" => wishes.seed = number,
+                _ => return Err(format!("{name} is no such name").into()),
+            }
+        }
+        Ok(wishes)
+    }
+}
+
+// ---- callers ----
+
+/// A caller, as far as it knows what it may do next.
+struct Caller {
+    next: Next,
+    // The operation that it asked for last.
+    op: Op,
+    // How many changes stand, and how many stood at each savepoint.
+    changes: u64,
+    kept: Vec<u64>,
+    // How many operations the transaction has yet.
+    left: u64,
+}
+
+#[derive(Clone, Copy)]
+enum Next {
+    Begin,
+    Choose,
+    Seek,
+    Act,
+    // It takes changes back until so many stand.
+    Undo(u64),
+    UndoAt(u64),
+}
+
+impl Caller {
+    fn new() -> Caller {
+        Caller {
+            next: Next::Begin,
+            op: Op::Get(0),
+            changes: 0,
+            kept: Vec::new(),
+            left: 0,
+        }
+    }
+
+    /// Where a step leads, by its answer.
+    fn see(&mut self, step: Step, answer: Answer, chance: &mut Chance) {
+        self.next = match (answer, self.next) {
+            (Answer::Began(_), _) => {
+                self.changes = 0;
+                self.kept.clear();
+                self.left = 1 + chance.below(8);
+                Next::Choose
+            }
+            (Answer::Asked, _) => Next::Seek,
+            (Answer::Placed, Next::Undo(aim)) => Next::UndoAt(aim),
+            (Answer::Placed, _) => Next::Act,
+            (Answer::Again, Next::UndoAt(aim)) => Next::Undo(aim),
+            (Answer::Again, _) => Next::Seek,
+            (Answer::Done(reply), _) => {
+                let is_change = match self.op {
+                    Op::Put(..) => true,
+                    Op::Take(_) => reply.is_some(),
+                    Op::Get(_) => false,
+                };
+                self.changes += u64::from(is_change);
+                Next::Choose
+            }
+            (Answer::Saved(_), _) => {
+                self.kept.push(self.changes);
+                Next::Choose
+            }
+            (Answer::Leaving | Answer::Busy(_), _) => Next::Undo(match step {
+                Step::Back(_, level) if level > 0 => self.kept[level as usize - 1],
+                _ => 0,
+            }),
+            (Answer::Undone, Next::UndoAt(aim)) => {
+                self.changes -= 1;
+                Next::Undo(aim)
+            }
+            (Answer::Returned(level), _) => {
+                self.kept.truncate(level as usize);
+                Next::Choose
+            }
+            _ => Next::Begin,
+        };
+    }
+}
+
+// ---- the file ----
+
+struct Writer {
+    wishes: Wishes,
+    chance: Chance,
+    core: Core,
+    callers: Vec<Caller>,
+    // Whose turn it is.
+    at: usize,
+    // The buckets that are not initialised, parents first, and what a helper does next for the first of them.
+    buckets: VecDeque<u32>,
+    help: fn(u64, u64) -> Step,
+    text: String,
+    steps: usize,
+}
+
+impl Writer {
+    fn new(wishes: Wishes) -> Writer {
+        let (text, _) = around_steps(&wishes.limits);
+        Writer {
+            chance: Chance(key_at(wishes.seed) | 1),
+            core: Core::new(wishes.limits),
+            callers: (0..wishes.limits.callers).map(|_| Caller::new()).collect(),
+            at: 0,
+            buckets: VecDeque::from([1]),
+            help: Step::InitSeek,
+            text,
+            steps: 0,
+            wishes,
+        }
+    }
+
+    /// Takes a step on the core and writes it, if there is room for it.
+    fn take(&mut self, step: Step) -> Option<Answer> {
+        let length = self.text.len();
+        let comma = if self.steps == 0 { "" } else { "," };
+        write!(self.text, "{comma}{step}").ok()?;
+        if self.text.len() + 2 > MAX_BYTES || self.steps == self.wishes.steps {
+            self.text.truncate(length);
+            return None;
+        }
+        self.steps += 1;
+        Some(self.core.step(step))
+    }
+
+    fn op(&mut self) -> Op {
+        let position = self.chance.below(self.wishes.keys);
+        let key = if self.wishes.wide {
+            key_at(position)
+        } else {
+            position
+        };
+        match self.chance.below(8) {
+            0..4 => Op::Put(key, self.chance.below(100)),
+            4..6 => Op::Take(key),
+            _ => Op::Get(key),
+        }
+    }
+
+    /// What the caller does whose turn it is, if its transaction is open and at rest.
+    fn choice(&mut self, number: u64) -> Step {
+        let chosen = self.chance.below(32);
+        let caller = &mut self.callers[self.at];
+        let levels = caller.kept.len() as u64;
+        if caller.left == 0 {
+            return if chosen < 4 {
+                Step::Abort(number)
+            } else {
+                Step::Commit(number)
+            };
+        }
+        caller.left -= 1;
+        match chosen {
+            0 | 1 => Step::Save(number),
+            2..6 if levels > 0 => Step::Back(number, self.chance.below(levels + 1)),
+            _ => {
+                let op = self.op();
+                self.callers[self.at].op = op;
+                Step::Ask(number, op)
+            }
+        }
+    }
+
+    /// A step of the caller whose turn it is.
+    fn call(&mut self) -> Option<()> {
+        let number = self.at as u64;
+        let caller = &self.callers[self.at];
+        let step = match caller.next {
+            Next::Begin => Step::Begin(number),
+            Next::Choose => self.choice(number),
+            Next::Undo(aim) if caller.changes > aim => Step::Seek(number),
+            Next::Seek => Step::Seek(number),
+            Next::Act | Next::Undo(_) | Next::UndoAt(_) => Step::Act(number),
+        };
+        let answer = self.take(step)?;
+        self.callers[self.at].see(step, answer, &mut self.chance);
+        let is_over = matches!(answer, Answer::Committed(_) | Answer::Aborted);
+        let turn = self.wishes.turn;
+        if is_over || (turn > 0 && self.chance.once_in(turn)) {
+            let by = if turn == 0 {
+                1
+            } else {
+                self.chance.below(self.callers.len() as u64) as usize
+            };
+            self.at = (self.at + by) % self.callers.len();
+        }
+        Some(())
+    }
+
+    /// A step of the helper that initialises the first bucket that is not initialised.
+    fn initialise(&mut self, bucket: u32) -> Option<()> {
+        let helper = u64::from(bucket % self.wishes.limits.callers);
+        let step = (self.help)(helper, u64::from(bucket));
+        self.help = match self.take(step)? {
+            Answer::Placed => |helper, _| Step::InitLink(helper),
+            Answer::Linked | Answer::Present => |helper, _| Step::InitStore(helper),
+            Answer::Again => Step::InitSeek,
+            _ => {
+                self.buckets.pop_front();
+                Step::InitSeek
+            }
+        };
+        Some(())
+    }
+
+    fn double(&mut self) -> Option<()> {
+        let size = self.core.size();
+        if let Answer::Doubled(doubled) = self.take(Step::Double(u64::from(size)))? {
+            self.buckets.extend(size..doubled as u32);
+        }
+        Some(())
+    }
+
+    /// A step, or none where the file is full.
+    fn step(&mut self) -> Option<()> {
+        if self.chance.once_in(1024) {
+            return self.take(Step::Sweep).map(|_| ());
+        }
+        let size = self.core.size();
+        let is_heavy = self.core.count() > 2 * u64::from(size) && size < self.wishes.limits.buckets;
+        match self.buckets.front() {
+            Some(bucket) if self.chance.once_in(4) => self.initialise(*bucket),
+            None if is_heavy => self.double(),
+            _ if self.chance.once_in(4096) => self.double(),
+            _ => self.call(),
+        }
+    }
+}
+
+fn main() -> Result<(), Box<dyn Error>> {
+    let mut writer = Writer::new(Wishes::of_words(env::args().skip(1))?);
+    while writer.step().is_some() {}
+    let (_, end) = around_steps(&writer.wishes.limits);
+    print!("{}{end}", writer.text);
+    eprintln!(
+        "{} steps, {} bytes; size {} count {}",
+        writer.steps,
+        writer.text.len() + end.len(),
+        writer.core.size(),
+        writer.core.count()
+    );
+    Ok(())
+}

@@ -1,0 +1,371 @@
+//! The list of nodes over a slab with a free list, and the steps at cursors.
+//!
+//! With --cfg alike the fields and tags of a slab's entry lie in memory as the proved program has them, in 80 bytes;
+//! without it rustc packs them into 64.
+
+// ---- the slab ----
+
+#[cfg_attr(alike, repr(C))]
+enum Entry<T> {
+    Vacant(usize),
+    Occupied(T),
+}
+
+struct Slab<T> {
+    entries: Vec<Entry<T>>,
+    len: usize,
+    next: usize,
+}
+
+impl<T> Slab<T> {
+    fn new() -> Self {
+        Slab {
+            entries: Vec::new(),
+            len: 0,
+            next: 0,
+        }
+    }
+
+    fn insert(&mut self, value: T) -> usize {
+        let place = self.next;
+        self.len += 1;
+        if place == self.entries.len() {
+            self.entries.push(Entry::Occupied(value));
+            self.next = place + 1;
+        } else {
+            self.next = match self.entries.get(place) {
+                Some(&Entry::Vacant(next)) => next,
+                _ => unreachable!(),
+            };
+            self.entries[place] = Entry::Occupied(value);
+        }
+        place
+    }
+
+    fn get(&self, place: usize) -> Option<&T> {
+        match self.entries.get(place) {
+            Some(Entry::Occupied(value)) => Some(value),
+            _ => None,
+        }
+    }
+
+    fn get_mut(&mut self, place: usize) -> Option<&mut T> {
+        match self.entries.get_mut(place) {
+            Some(Entry::Occupied(value)) => Some(value),
+            _ => None,
+        }
+    }
+
+    fn try_remove(&mut self, place: usize) -> Option<T> {
+        let entry = self.entries.get_mut(place)?;
+        let was = std::mem::replace(entry, Entry::Vacant(self.next));
+        match was {
+            Entry::Occupied(value) => {
+                self.len -= 1;
+                self.next = place;
+                Some(value)
+            }
+            Entry::Vacant(_) => {
+                *entry = was;
+                None
+            }
+        }
+    }
+}
+
+// ---- the list of nodes ----
+
+#[cfg_attr(alike, repr(C))]
+#[derive(Clone, Copy)]
+pub enum Kind {
+    Dummy,
+    #[allow(dead_code)]
+    Regular(u64),
+}
+
+#[cfg_attr(alike, repr(C))]
+#[derive(Clone, Copy)]
+pub struct Node {
+    pub split: u64,
+    pub kind: Kind,
+    pub value: u64,
+    pub stamp: u64,
+    pub marked: bool,
+    pub next: Option<usize>,
+}
+
+#[cfg_attr(alike, repr(C))]
+enum Slot {
+    Linked(Node),
+    #[allow(dead_code)]
+    Out(u64),
+}
+
+pub struct Spare {
+    pub place: usize,
+    pub node: Node,
+}
+
+pub struct NodeList {
+    slab: Slab<Slot>,
+    pub head: usize,
+    turn: u64,
+    last: u64,
+    pub count: u64,
+    marked: u64,
+}
+
+impl Kind {
+    fn weight(self) -> u64 {
+        match self {
+            Kind::Dummy => 0,
+            Kind::Regular(_) => 1,
+        }
+    }
+}
+
+impl Spare {
+    pub fn fill(&mut self, split: u64, kind: Kind, value: u64) {
+        self.node.split = split;
+        self.node.kind = kind;
+        self.node.value = value;
+    }
+}
+
+impl Node {
+    fn dummy(split: u64, stamp: u64) -> Self {
+        Node {
+            split,
+            kind: Kind::Dummy,
+            value: 0,
+            stamp,
+            marked: false,
+            next: None,
+        }
+    }
+}
+
+impl NodeList {
+    pub fn new(first_stamp: u64) -> Self {
+        let mut slab = Slab::new();
+        let head = slab.insert(Slot::Linked(Node::dummy(0, first_stamp)));
+        NodeList {
+            slab,
+            head,
+            turn: 0,
+            last: first_stamp,
+            count: 0,
+            marked: 0,
+        }
+    }
+
+    pub fn spare(&mut self) -> Option<Spare> {
+        if self.last >= u64::MAX - 1 {
+            return None;
+        }
+        let stamp = self.last + 1;
+        let place = self.slab.insert(Slot::Out(stamp));
+        self.last = stamp;
+        Some(Spare {
+            place,
+            node: Node::dummy(0, stamp),
+        })
+    }
+
+    pub fn give_back(&mut self, spare: Spare) {
+        let _ = self.slab.try_remove(spare.place);
+    }
+
+    pub fn node(&self, place: usize) -> &Node {
+        match self.slab.get(place) {
+            Some(Slot::Linked(node)) => node,
+            _ => unreachable!(),
+        }
+    }
+
+    fn node_mut(&mut self, place: usize) -> &mut Node {
+        match self.slab.get_mut(place) {
+            Some(Slot::Linked(node)) => node,
+            _ => unreachable!(),
+        }
+    }
+
+    pub fn linked_node(&self, place: usize) -> Option<&Node> {
+        match self.slab.get(place) {
+            Some(Slot::Linked(node)) => Some(node),
+            _ => None,
+        }
+    }
+
+    fn link_after(&mut self, pred: usize, spare: Spare) {
+        let Spare { place, mut node } = spare;
+        let weight = node.kind.weight();
+        node.next = self.node_mut(pred).next.replace(place);
+        if let Some(slot) = self.slab.get_mut(place) {
+            *slot = Slot::Linked(node);
+        }
+        self.count += weight;
+        self.turn = self.turn.saturating_add(1);
+    }
+
+    fn unlink_after(&mut self, pred: usize) {
+        if let Some(place) = self.node(pred).next {
+            self.node_mut(pred).next = self.node(place).next;
+            let _ = self.slab.try_remove(place);
+            self.marked -= 1;
+            self.turn = self.turn.saturating_add(1);
+        }
+    }
+
+    fn set_mark(&mut self, place: usize) {
+        self.node_mut(place).marked = true;
+        self.count -= 1;
+        self.marked += 1;
+        self.turn = self.turn.saturating_add(1);
+    }
+
+    fn write(&mut self, place: usize, value: u64) {
+        self.node_mut(place).value = value;
+        self.turn = self.turn.saturating_add(1);
+    }
+}
+
+// ---- steps at cursors ----
+
+#[derive(Clone, Copy)]
+pub struct Noted {
+    place: usize,
+    stamp: u64,
+}
+
+#[derive(Clone, Copy)]
+pub struct Cursor {
+    pred: Noted,
+    cur: Option<Noted>,
+    split: u64,
+    #[allow(dead_code)]
+    turn: u64,
+}
+
+pub struct Again;
+
+impl Noted {
+    fn of(list: &NodeList, place: usize) -> Noted {
+        Noted {
+            place,
+            stamp: list.node(place).stamp,
+        }
+    }
+
+    fn behind(list: &NodeList, place: usize) -> Option<Noted> {
+        let next = list.node(place).next?;
+        Some(Noted::of(list, next))
+    }
+}
+
+fn is_unmarked_with(node: &Node, stamp: u64) -> bool {
+    node.stamp == stamp && !node.marked
+}
+
+impl Cursor {
+    fn behind(list: &NodeList, place: usize, split: u64) -> Cursor {
+        Cursor {
+            pred: Noted::of(list, place),
+            cur: Noted::behind(list, place),
+            split,
+            turn: list.turn,
+        }
+    }
+
+    fn is_next_fitting(&self, list: &NodeList) -> bool {
+        match (list.node(self.pred.place).next, self.cur) {
+            (None, None) => true,
+            (Some(next), Some(cur)) => {
+                next == cur.place && is_unmarked_with(list.node(next), cur.stamp)
+            }
+            _ => false,
+        }
+    }
+
+    fn is_fitting(&self, list: &NodeList) -> bool {
+        match list.linked_node(self.pred.place) {
+            Some(pred) => is_unmarked_with(pred, self.pred.stamp) && self.is_next_fitting(list),
+            None => false,
+        }
+    }
+}
+
+pub fn seek(list: &mut NodeList, from: usize, split: u64) -> Cursor {
+    let mut place = from;
+    while let Some(next) = list.node(place).next {
+        let node = list.node(next);
+        if node.marked {
+            list.unlink_after(place);
+        } else if node.split < split {
+            place = next;
+        } else {
+            return Cursor::behind(list, place, split);
+        }
+    }
+    Cursor::behind(list, place, split)
+}
+
+fn node_there(list: &NodeList, cursor: &Cursor) -> Option<usize> {
+    let next = list.node(cursor.pred.place).next?;
+    (list.node(next).split == cursor.split).then_some(next)
+}
+
+pub fn look(list: &NodeList, cursor: &Cursor) -> Result<Option<usize>, Again> {
+    if cursor.is_fitting(list) {
+        Ok(node_there(list, cursor))
+    } else {
+        Err(Again)
+    }
+}
+
+pub fn link(list: &mut NodeList, cursor: Cursor, spare: Spare) -> Result<usize, (Again, Spare)> {
+    if cursor.is_fitting(list) {
+        let place = spare.place;
+        list.link_after(cursor.pred.place, spare);
+        Ok(place)
+    } else {
+        Err((Again, spare))
+    }
+}
+
+pub fn mark(list: &mut NodeList, cursor: Cursor) -> Result<u64, Again> {
+    match look(list, &cursor)? {
+        Some(place) => {
+            let value = list.node(place).value;
+            list.set_mark(place);
+            Ok(value)
+        }
+        None => unreachable!(),
+    }
+}
+
+pub fn swap(list: &mut NodeList, cursor: Cursor, value: u64) -> Result<u64, Again> {
+    match look(list, &cursor)? {
+        Some(place) => {
+            let was = list.node(place).value;
+            list.write(place, value);
+            Ok(was)
+        }
+        None => unreachable!(),
+    }
+}
+
+pub fn sweep(list: &mut NodeList) -> bool {
+    if list.marked == 0 {
+        return false;
+    }
+    let mut place = list.head;
+    while let Some(next) = list.node(place).next {
+        if list.node(next).marked {
+            break;
+        }
+        place = next;
+    }
+    list.unlink_after(place);
+    true
+}
