@@ -1,9 +1,9 @@
 -- A worker keeps to its scripts with each answer that it is told, and where it goes on.
-use Rattle.std.proofs.Common.{◌≡◌, ℕ, ◌+◌, ◌%◌, ◌^◌, ◌<◌, ◌≤◌, nat_lt, Bool, true, false, not, if◌then◌else◌, ◌⊎◌, inl, inr, List, [], ◌∷◌, ◌++◌, length, drop, get_or, Option, Some, None, refl, sym, ap, subst, ◌∙◌, append_assoc, drop-cons, arith}
+use Rattle.std.proofs.Common.{◌≡◌, ℕ, ◌+◌, ◌%◌, ◌<◌, ◌≤◌, nat_lt, Bool, true, false, not, if◌then◌else◌, inl, inr, List, [], ◌∷◌, ◌++◌, length, drop, get_or, Option, Some, None, refl, sym, ap, subst, ◌∙◌, append_assoc, drop-cons, arith}
 use Prim.Native.Nat.{zero, suc}
 use Rattle.std.specs.List.{fold, slice_get, AllByRecursion}
 use Rattle.std.specs.Option.{option_and_then}
-use Rattle.std.proofs.lemmas.Bool.{ltb-true, ltb-false}
+use Rattle.std.proofs.lemmas.Bool.{ltb-true}
 use Rattle.std.proofs.lemmas.List.{append-nil, drop_all}
 use Rattle.std.proofs.lemmas.List.Elements.{filter-append}
 use Rattle.std.proofs.lemmas.List.Sums.{fold-append}
@@ -30,9 +30,8 @@ use Rattle.txn_drive.specs.declared.phase.Phase.{Phase}
 use Rattle.txn_drive.specs.declared.phase.Phase.TheVariants.{Fresh, First, Doubling}
 use Rattle.txn_drive.specs.Drives.{step_in, step_of, told_in, told_of, turn_in, ended_by, end_of, sized_in, sized_of, new_drive}
 use Rattle.txn_drive.specs.Entries.{entries_of}
-use Rattle.txn_drive.specs.Made.{undone_by, made_in, made, IsMade, IsUndone}
+use Rattle.txn_drive.specs.Made.{undone_by, made_in, made, IsMade}
 use Rattle.txn_drive.proofs.MadeLemmas.{made-told_of}
-use Rattle.script_worker.specs.declared.attempt.Attempt.{Attempt}
 use Rattle.script_worker.specs.declared.attempt.Stage.{Stage}
 use Rattle.script_worker.specs.declared.attempt.Stage.TheVariants.{Beginning, Acting, Leaving}
 use Rattle.script_worker.specs.declared.attempt.Progress.{Progress}
@@ -40,7 +39,7 @@ use Rattle.script_worker.specs.declared.attempt.Progress.TheVariants.{Next, Over
 use Rattle.script_worker.specs.declared.attempt.Outcome.TheVariants as outcomes
 use Rattle.script_worker.specs.declared.task.Task.{Task}
 use Rattle.script_worker.specs.declared.worker.Worker.{Worker}
-use Rattle.script_worker.specs.Attempts.{attempt_at, call_for, call_of, call_at, done_with, done_at, busy_at, refused_with, refused_in, refused_at, progress_at, progress_of}
+use Rattle.script_worker.specs.Attempts.{attempt_at, call_for, call_of, call_at, done_with, busy_at, refused_with, refused_at, progress_at, progress_of}
 use Rattle.script_worker.specs.Workers.{started, followed, progressed, settled_in, settled_at, settled, with_drive_in, told_drive, told_by, sized_by, step_by}
 use Rattle.script_worker.specs.Keeps.{IsFront, IsAsFar, IsBegun, IsCommitting, IsActing, IsAt, KeepsTask, KeepsAt, Keeps}
 use Rattle.script_worker.proofs.Driving.{IsPlainCall, IsInner, plain_step, plain_entries, part-inner, played_inner, goes_on, made_at_end, made-sized, made-new}

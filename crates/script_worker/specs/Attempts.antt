@@ -11,7 +11,6 @@ use Rattle.txn_drive.specs.declared.«end».End.TheVariants as ends
 use Rattle.script_worker.specs.declared.attempt.Stage.{Stage}
 use Rattle.script_worker.specs.declared.attempt.Stage.TheVariants.{Beginning, Acting, Leaving}
 use Rattle.script_worker.specs.declared.attempt.Attempt.{Attempt}
-use Rattle.script_worker.specs.declared.attempt.Outcome.{Outcome}
 use Rattle.script_worker.specs.declared.attempt.Outcome.TheVariants as outcomes
 use Rattle.script_worker.specs.declared.attempt.Progress.{Progress}
 use Rattle.script_worker.specs.declared.attempt.Progress.TheVariants.{Next, Over}
