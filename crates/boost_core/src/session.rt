@@ -114,6 +114,7 @@ impl Session {
     }
 
     /// The refusal of a step of this caller, by its side alone.
+    #[inline(always)]
     pub(crate) fn refusal(&self, step: Step) -> Option<Refusal>
         requires { IsLevel self.now }
         ensures { result ≡ refusal_in (seat_of self.now) step }
