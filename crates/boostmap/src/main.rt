@@ -1,5 +1,6 @@
 //! `boostmap replay FILE` runs the steps of a file on a transactional map and prints what came of it;
-//! `boostmap check FILE` says whether the recorded history of a file is legal.
+//! `boostmap mix --seed N FILE` runs the scripts of a file, its workers' turns mixed as the seed says, and
+//! prints the history; `boostmap check FILE` says whether the recorded history of a file is legal.
 //!
 //! The program reads its words and opens the file; the engines of `boostmap_engine` do the rest. It ends
 //! with status 0 where all is well, 1 for an illegal history, 2 for other words, 3 for a refused input,
@@ -11,7 +12,7 @@
 mod tests;
 mod words;
 
-use boostmap_engine::{Fault, check, replay};
+use boostmap_engine::{Fault, check, mix, replay};
 use std::alloc::AllocError;
 use std::process::ExitCode;
 use std::rt::Runtime;
@@ -40,7 +41,7 @@ fn run<R: Runtime + AllocGlobal>(rt: &R) -> Result<ExitCode, Fault> {
     let words: Result<Vec<String>, AllocError> = args.collect(alloc);
     let words = words?;
     let call = call_in(alloc, &words)?;
-    let (Call::Replay { file } | Call::Check { file }) = call;
+    let (Call::Replay { file } | Call::Mix { file, .. } | Call::Check { file }) = call;
     let mut input = match fs::open(rt, file) {
         Ok(input) => input,
         Err(error) => return Err(memory_or(&error, Fault::Read)),
@@ -49,6 +50,10 @@ fn run<R: Runtime + AllocGlobal>(rt: &R) -> Result<ExitCode, Fault> {
     let is_well = match call {
         Call::Replay { .. } => {
             replay(alloc, &mut input, &mut output)?;
+            true
+        }
+        Call::Mix { seed, .. } => {
+            mix(alloc, seed, &mut input, &mut output)?;
             true
         }
         Call::Check { .. } => check(alloc, &mut input, &mut output)?,

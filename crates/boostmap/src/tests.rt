@@ -45,6 +45,26 @@ fn calls_of_check(rt: HostRuntime) -> Result<(), Fail> {
 }
 
 #[test]
+fn calls_of_mix(rt: HostRuntime) -> Result<(), Fail> {
+    for (text, seed) in [
+        ("boostmap mix --seed 7 a.json", 7),
+        ("boostmap mix a.json --seed 7", 7),
+        ("boostmap mix --seed=7 a.json", 7),
+        ("boostmap mix --seed 007 a.json", 7),
+        ("boostmap mix --seed 0 -- a.json", 0),
+        ("bin/x mix --seed 18446744073709551615 a.json", u64::MAX),
+    ] {
+        let words = words_of(&rt, text)?;
+        let Ok(call) = call_in(rt.alloc(), &words) else {
+            return Err("refused")?;
+        };
+        let file = "a.json";
+        assert_eq!(rt; call, Call::Mix { seed, file }, "{text}");
+    }
+    Ok(())
+}
+
+#[test]
 fn other_words(rt: HostRuntime) -> Result<(), Fail> {
     for text in [
         "boostmap",
@@ -57,7 +77,17 @@ fn other_words(rt: HostRuntime) -> Result<(), Fail> {
         "boostmap Replay a.json",
         "boostmap repla a.json",
         "boostmap run a.json",
-        "boostmap mix --seed 7 a.json",
+        "boostmap mix a.json",
+        "boostmap mix --seed 7",
+        "boostmap mix --seed a.json",
+        "boostmap mix --seed 7 a.json b.json",
+        "boostmap mix --seed +7 a.json",
+        "boostmap mix --seed -7 a.json",
+        "boostmap mix --seed 7x a.json",
+        "boostmap mix --seed 0x7 a.json",
+        "boostmap mix --seed= a.json",
+        "boostmap mix --seed 18446744073709551616 a.json",
+        "boostmap mix --seed 7 --seed 7 a.json",
         "boostmap check",
         "boostmap check a.json b.json",
         "boostmap check --seed 7 a.json",

@@ -11,6 +11,8 @@ use std::alloc::{AllocError, Global};
 pub enum Call<'a> {
     /// To run the steps of this file.
     Replay { file: &'a str },
+    /// To run the scripts of this file, the workers' turns mixed as the seed says.
+    Mix { seed: u64, file: &'a str },
     /// To judge the history of this file.
     Check { file: &'a str },
 }
@@ -25,11 +27,26 @@ fn command_on_file<'a>(alloc: Global, name: &'a str) -> Result<Command<'a>, Allo
 
 fn command<'a>(alloc: Global) -> Result<Command<'a>, AllocError> {
     let replay = command_on_file(alloc, "replay")?;
+    let seed = Arg::new(alloc, "seed")
+        .long("seed")
+        .required(true)
+        .action(ArgAction::Set);
+    let mix = command_on_file(alloc, "mix")?.arg(seed)?;
     let check = command_on_file(alloc, "check")?;
     Command::new(alloc, "boostmap")
         .subcommand_required(true)
         .subcommand(replay)?
+        .subcommand(mix)?
         .subcommand(check)
+}
+
+/// The seed that a word spells: one or more decimal digits, of a number below 2^64.
+fn seed_in(word: &str) -> Option<u64> {
+    if word.bytes().all(|byte| byte.is_ascii_digit()) {
+        word.parse::<u64>().ok()
+    } else {
+        None
+    }
 }
 
 /// What the words ask for, of which the first is the program's name.
@@ -58,6 +75,10 @@ pub fn call_in<'a>(alloc: Global, words: &'a [String]) -> Result<Call<'a>, Fault
     };
     match name {
         "replay" => Ok(Call::Replay { file }),
+        "mix" => match found.get_str("seed").and_then(|word| seed_in(word)) {
+            Some(seed) => Ok(Call::Mix { seed, file }),
+            None => Err(Fault::Usage),
+        },
         "check" => Ok(Call::Check { file }),
         _ => Err(Fault::Usage),
     }

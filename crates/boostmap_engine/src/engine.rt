@@ -2,10 +2,12 @@ ghost use Rattle.std.specs.Prelude.{OnOk, IfOk, IfErr};
 ghost use Rattle.boostmap_engine.specs.Written.{Writes, Leaves};
 ghost use Rattle.boostmap_engine.specs.Report.{IsReportOf, IsNoStepFile};
 ghost use Rattle.boostmap_engine.specs.Judgement.{IsJudgement, IsJudgementOf, IsNoHistoryFile};
+ghost use Rattle.boostmap_engine.specs.Mixture.{IsMixtureOf, IsNoScriptFile};
 
 use crate::fault::Fault;
 use crate::input::read_input;
 use crate::judgement::{is_legal, judge, line_of};
+use crate::mixture::mixture;
 use crate::output::write_text;
 use crate::report::report;
 use std::alloc::Global;
@@ -54,4 +56,33 @@ pub fn check<R: Read, W: Write>(alloc: Global, input: &mut R, output: &mut W) ->
     let line = line_of(alloc, verdict)?;
     write_text(output, line.as_bytes())?;
     Ok(is_legal(verdict))
+}
+
+/// Reads a script file to its end, runs its scripts on a new core with the workers' turns mixed as the seed says, and
+/// writes the history as one line of compact JSON, which ends with a line feed, and nothing else.
+///
+/// Before each turn the next word of the generator `Pcg32` of this seed, modulo the number of workers that still have a
+/// step to take, names the place of the worker, of those in rising order, that takes its next turn, also where there is
+/// only one. So the same seed gives the same bytes.
+///
+/// - `Input` where the file is refused: nothing is written.
+/// - `Read` where a read fails: nothing is written.
+/// - `NoMemory` where memory is refused outside a step: nothing is written. A step that is refused memory ends its script
+///   as refused.
+/// - `Write` where a write fails or takes nothing: a proper beginning of the line is written.
+///
+/// At most 16,777,217 bytes are read, and no call of the reader or the writer is made again after it failed. Costs what
+/// the steps cost and a look at each worker for each turn, and time and memory in proportion to the file and the history.
+pub fn mix<R: Read, W: Write>(
+    alloc: Global,
+    seed: u64,
+    input: &mut R,
+    output: &mut W,
+) -> Result<(), Fault>
+    ensures mixes { OnOk result (Writes IsMixtureOf (R.remaining input.old) (W.contents output.old) (W.contents output.new)) }
+    ensures fault { IfErr result (Leaves IsMixtureOf IsNoScriptFile (R.remaining input.old) (W.contents output.old) (W.contents output.new)) }
+{
+    let bytes = read_input(alloc, input)?;
+    let history = mixture(alloc, seed, &bytes)?;
+    write_text(output, history.as_bytes())
 }

@@ -10,7 +10,7 @@ use txn_files::FileFault;
 #[derive(Debug, Drop, Error)]
 pub enum Fault {
     /// The words of the call are none that the program has.
-    #[error("usage: boostmap replay FILE | boostmap check FILE\n\nreplay FILE  runs the steps of a file and prints their answers, the size, the count and the pairs\ncheck FILE   says whether a recorded history is legal, or which entry breaks which rule\n\nexample: boostmap check examples/checked.json")]
+    #[error("usage: boostmap replay FILE | boostmap mix --seed N FILE | boostmap check FILE\n\nreplay FILE  runs the steps of a file and prints their answers, the size, the count and the pairs\nmix --seed N FILE  runs the scripts of a file, their turns mixed as the seed says, and prints the history\ncheck FILE   says whether a recorded history is legal, or which entry breaks which rule\n\nexample: boostmap check examples/checked.json")]
     Usage,
     /// The input was refused, for a fault of the file.
     #[error("refused {0}")]

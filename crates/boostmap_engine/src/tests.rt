@@ -22,6 +22,10 @@ impl Read for Endless {
 const FIRST_COMMIT: &str =
     "{\"version\":1,\"callers\":1,\"stripes\":8,\"buckets\":8,\"steps\":[[\"begin\",0],[\"ask\",0,\"put\",1,10],[\"seek\",0],[\"act\",0],[\"commit\",0]]}";
 
+/// The same transaction in a file of two callers.
+const FIRST_COMMIT_OF_TWO: &str =
+    "{\"version\":1,\"callers\":2,\"stripes\":8,\"buckets\":8,\"steps\":[[\"begin\",0],[\"ask\",0,\"put\",1,10],[\"seek\",0],[\"act\",0],[\"commit\",0]]}";
+
 const FIRST_REPORT: &str = "began 1\nasked\nplaced\ndone none\ncommitted 1\nsize 2 count 1\n1 10\n";
 
 /// What `replay` prints of a file with these steps.
@@ -51,11 +55,14 @@ fn empty_file(rt: HostRuntime) -> Result<(), Fail> {
 
 #[test]
 fn first_commit(rt: HostRuntime) -> Result<(), Fail> {
-    let mut input = FIRST_COMMIT.as_bytes();
-    let mut output: Vec<u8> = Vec::new(rt.alloc());
-    let result = replay(rt.alloc(), &mut input, &mut output);
-    assert!(rt; result.is_ok());
-    assert_eq!(rt; output.as_slice(), FIRST_REPORT.as_bytes());
+    for text in [FIRST_COMMIT, FIRST_COMMIT_OF_TWO] {
+        assert_eq!(rt; text.len(), 126);
+        let mut input = text.as_bytes();
+        let mut output: Vec<u8> = Vec::new(rt.alloc());
+        let result = replay(rt.alloc(), &mut input, &mut output);
+        assert!(rt; result.is_ok());
+        assert_eq!(rt; output.as_slice(), FIRST_REPORT.as_bytes());
+    }
     Ok(())
 }
 
@@ -70,11 +77,11 @@ fn refusal(rt: &(impl Abort + AllocGlobal), text: &[u8]) -> Result<(String, u8),
     Ok((fault.to_string(rt.alloc())?, fault.status()))
 }
 
-#[test]
-fn bad_input(rt: HostRuntime) -> Result<(), Fail> {
-    let (cut, _) = FIRST_COMMIT.as_bytes().split_at_checked(70).ok_or("short")?;
+/// The refusals of this file, which has one transaction, where a piece of it is cut off or another one stands there.
+fn bad_inputs_of(rt: &(impl Abort + AllocGlobal), text: &str, callers: &str) -> Result<(), Fail> {
+    let (cut, _) = text.as_bytes().split_at_checked(70).ok_or("short")?;
     assert!(rt; cut.ends_with(b"[\"begin\",0],"));
-    let (line, status) = refusal(&rt, cut)?;
+    let (line, status) = refusal(rt, cut)?;
     assert_eq!(rt; (line.as_str(), status), ("refused 20", 3));
     for (old, new, wanted) in [
         (
@@ -82,15 +89,21 @@ fn bad_input(rt: HostRuntime) -> Result<(), Fail> {
             "[\"ask\",0,\"put\",\"1\",10],[\"commit\",0]",
             "refused 21 step 4",
         ),
-        ("\"callers\":1", "\"callers\":65", "refused 22"),
-        ("\"callers\":1", "\"callers\":0", "refused 22"),
-        ("\"callers\":1", "\"callers\":\"1\"", "refused 21"),
+        (callers, "\"callers\":65", "refused 22"),
+        (callers, "\"callers\":0", "refused 22"),
+        (callers, "\"callers\":\"1\"", "refused 21"),
     ] {
-        let text = FIRST_COMMIT.replace(rt.alloc(), old, new)?;
-        let (line, status) = refusal(&rt, text.as_bytes())?;
+        let text = text.replace(rt.alloc(), old, new)?;
+        let (line, status) = refusal(rt, text.as_bytes())?;
         assert_eq!(rt; (line.as_str(), status), (wanted, 3));
     }
     Ok(())
+}
+
+#[test]
+fn bad_input(rt: HostRuntime) -> Result<(), Fail> {
+    bad_inputs_of(&rt, FIRST_COMMIT, "\"callers\":1")?;
+    bad_inputs_of(&rt, FIRST_COMMIT_OF_TWO, "\"callers\":2")
 }
 
 #[test]
@@ -193,9 +206,9 @@ fn lines_of_faults(rt: HostRuntime) -> Result<(), Fail> {
         assert_eq!(rt; fault.status(), status);
     }
     assert!(rt;
-        Fault::Usage
-            .to_string(rt.alloc())?
-            .starts_with("usage: boostmap replay FILE | boostmap check FILE\n")
+        Fault::Usage.to_string(rt.alloc())?.starts_with(
+            "usage: boostmap replay FILE | boostmap mix --seed N FILE | boostmap check FILE\n"
+        )
     );
     assert_eq!(rt; Fault::Usage.status(), 2);
     Ok(())

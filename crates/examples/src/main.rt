@@ -5,22 +5,25 @@
 //! documents say of their examples stays true. Nothing is promised of this program.
 #![tactic(auto)]
 
-use boostmap_engine::{Fault, check, replay};
+use boostmap_engine::{Fault, check, mix, replay};
 use std::process::ExitCode;
 use std::rt::Runtime;
 use std::{fs, io};
 
 /// The commands, with the file that each runs.
-const CALLS: [(Command, &str); 3] = [
+const CALLS: [(Command, &str); 5] = [
     (Command::Replay, "first_commit.json"),
     (Command::Replay, "many_callers.json"),
+    (Command::Mix(7), "first_scripts.json"),
+    (Command::Mix(7), "scripts.json"),
     (Command::Check, "checked.json"),
 ];
 
-/// A command of the program `boostmap`.
+/// A command of the program `boostmap`, with the seed where it has one.
 #[derive(Clone, Copy, Debug)]
 enum Command {
     Replay,
+    Mix(u64),
     Check,
 }
 
@@ -32,6 +35,7 @@ fn run<R: Runtime + AllocGlobal>(rt: &R, command: Command, file: &str) -> Result
     let mut output = io::writer(rt);
     match command {
         Command::Replay => replay(rt.alloc(), &mut input, &mut output),
+        Command::Mix(seed) => mix(rt.alloc(), seed, &mut input, &mut output),
         Command::Check => check(rt.alloc(), &mut input, &mut output).map(|_| ()),
     }
 }

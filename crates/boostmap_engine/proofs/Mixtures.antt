@@ -1,0 +1,27 @@
+-- The text of a core's history is a text of the scripts that its workers played.
+use Rattle.std.proofs.Common.{◌≡◌, ℕ, ◌<◌, List, [], ◌∷◌, ◌++◌, Ok, ap, subst, ◌∙◌}
+use Rattle.std.specs.List.{All}
+use Rattle.txn_trace.specs.declared.entry.Entry.{Entry}
+use Rattle.txn_trace.specs.Sizes.{Sizes}
+use Rattle.txn_trace.specs.History.{caller_of}
+use Rattle.txn_trace.specs.Legal.{IsLegal}
+use Rattle.txn_files.specs.HistoryText.{text_of_history}
+use Rattle.txn_files.specs.ScriptFile.{scripts_of}
+use Rattle.txn_files.specs.Work.{Work}
+use Rattle.boost_core.specs.Machine.{State}
+use Rattle.script_mix.specs.Crews.{IsMixed}
+use Rattle.boostmap_engine.specs.Mixture.{IsMixtureOf}
+
+pub mixture_is : (bytes : List ℕ) (work : Work) (state : State) (trace : List Entry) (stripes : ℕ) (text whole : List ℕ) → scripts_of bytes ≡ Ok work → IsMixed work state → trace ≡ state.history
+    → IsLegal state.limits.stripes state.history → All (λ e. caller_of e < state.limits.callers) state.history → stripes ≡ work.sizes.stripes → text ≡ text_of_history stripes trace → whole ≡ text ++ 10 ∷ [] → IsMixtureOf bytes whole
+mixture_is bytes work state trace stripes text whole file mixed trace_is legal callers stripes_is text_is whole_is = (
+  work,
+  file,
+  record {
+    history = state.history;
+    legal = subst (λ (sizes : Sizes). IsLegal sizes.stripes state.history) mixed.limits legal;
+    callers = subst (λ (sizes : Sizes). All (λ e. caller_of e < sizes.callers) state.history) mixed.limits callers;
+    plays = mixed.plays;
+    whole = whole_is ∙ ap (λ t. t ++ 10 ∷ []) (text_is ∙ ap (λ n. text_of_history n trace) stripes_is ∙ ap (text_of_history work.sizes.stripes) trace_is);
+  },
+)

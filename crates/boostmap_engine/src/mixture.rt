@@ -1,0 +1,20 @@
+ghost use Rattle.std.specs.Prelude.{IfOk, IfErr, string_bytes};
+ghost use Rattle.boostmap_engine.specs.Mixture.{IsMixtureOf, IsNoScriptFile};
+ghost use Rattle.boostmap_engine.specs.Written.{HasNone};
+
+use crate::fault::Fault;
+use script_mix::mixed;
+use std::alloc::Global;
+use txn_files::{history_text, read_scripts};
+
+/// The text of a history of the scripts that the bytes are, the workers' turns mixed as the seed says.
+pub fn mixture(alloc: Global, seed: u64, bytes: &[u8]) -> Result<String, Fault>
+    ensures ok { IfOk result (λ text. IsMixtureOf bytes.now (string_bytes text)) }
+    ensures err { IfErr result (HasNone IsNoScriptFile bytes.now) }
+{
+    let work = read_scripts(alloc, bytes)?;
+    let core = mixed(alloc, seed, &work)?;
+    let mut text = history_text(alloc, work.limits().stripes(), core.trace())?;
+    text.push_str("\n")?;
+    Ok(text)
+}

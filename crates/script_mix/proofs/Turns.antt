@@ -1,0 +1,159 @@
+-- A worker's step is a move of the core that adds its own entries.
+use Rattle.std.proofs.Common.{◌≡◌, ◌≢◌, ℕ, ◌<◌, ◌≤◌, ◌==◌, true, false, cond, List, [], ◌∷◌, ◌++◌, length, get_or, set, Option, Some, None, refl, sym, ap, subst, ◌∙◌, arith, length-append, length-set, get_or-set_same, get_or-set_other}
+use Rattle.std.specs.Prelude.{nat_lt}
+use Rattle.std.specs.Option.{option_and_then}
+use Rattle.std.specs.List.{AllByRecursion}
+use Rattle.std.proofs.lemmas.Bool.{eq-eqb, eqb-true, ne_eqb, false≢true, ltb-true, ltb-false}
+use Rattle.std.proofs.lemmas.List.{append-nil}
+use Rattle.std.proofs.Math.ListN.{get_or-append}
+use Rattle.std.proofs.Math.Seq.{get_or-append_seam}
+use Rattle.std.proofs.lemmas.List.Elements.{filter-append}
+use Rattle.txn_trace.specs.declared.action.Action.{Action}
+use Rattle.txn_trace.specs.declared.answer.Answer.{Answer}
+use Rattle.txn_trace.specs.declared.answer.Answer.TheVariants as answers
+use Rattle.txn_trace.specs.declared.entry.Entry.{Entry}
+use Rattle.txn_trace.specs.declared.refusal.Refusal.{Refusal}
+use Rattle.txn_trace.specs.declared.step.Step.{Step}
+use Rattle.txn_trace.specs.declared.step.Step.TheVariants.{Begin, Ask, Act, Save, Back, Commit, Abort}
+use Rattle.txn_trace.specs.History.{caller_of}
+use Rattle.txn_trace.specs.Shape.{own}
+use Rattle.txn_trace.specs.Legal.{IsLegal}
+use Rattle.txn_trace.specs.Plays.{PlayScripts, HavePlayed, parts_of}
+use Rattle.txn_trace.proofs.Playing.{scripts_played}
+use Rattle.txn_drive.specs.Drives.{step_of}
+use Rattle.txn_trace.specs.Entries.{entries_of}
+use Rattle.boost_core.specs.Machine.{State, Move}
+use Rattle.boost_core.specs.Answers as core
+use Rattle.script_worker.specs.declared.task.Task.{Task}
+use Rattle.script_worker.specs.declared.worker.Worker.{Worker}
+use Rattle.script_worker.specs.Workers.{step_by}
+use Rattle.script_worker.specs.Keeps.{KeepsAt, Keeps}
+use Rattle.script_worker.proofs.Driving.{entries_callers}
+use Rattle.script_worker.proofs.Keeping.{keeps_played}
+use Rattle.script_mix.specs.Crews.{IsMember, IsCrew, Goes}
+
+no_entries : (step : Step) (refusal : Refusal) → entries_of step (answers.Refused refusal) ≡ []
+no_entries (Begin c) refusal = refl
+no_entries step refusal = refl
+
+after-history : (state : State) (step : Step) (answer : Answer) (changes stamp : ℕ) → (core.after state step answer changes stamp).history ≡ state.history ++ entries_of step answer
+after-history state step (answers.Refused refusal) changes stamp = sym (ap (λ es. state.history ++ es) (no_entries step refusal) ∙ append-nil state.history)
+after-history state step answer changes stamp = refl
+
+after-limits : (state : State) (step : Step) (answer : Answer) (changes stamp : ℕ) → (core.after state step answer changes stamp).limits ≡ state.limits
+after-limits state step (answers.Refused refusal) changes stamp = refl
+after-limits state step answer changes stamp = refl
+
+move-history : (old new : State) (step : Step) (answer : Answer) → Move old step answer new → new.history ≡ old.history ++ entries_of step answer
+move-history old new step answer move = ap (λ s. s.history) move.state ∙ after-history old step answer new.changes new.stamp
+
+move-limits : (old new : State) (step : Step) (answer : Answer) → Move old step answer new → new.limits ≡ old.limits
+move-limits old new step answer move = ap (λ s. s.limits) move.state ∙ after-limits old step answer new.changes new.stamp
+
+-- Entries of one caller are its own, and no other's.
+abbrev AreOf : ℕ → List Entry → Type 0
+AreOf w es = AllByRecursion (λ e. caller_of e ≡ w) es
+
+own_all : (w : ℕ) (es : List Entry) → AreOf w es → own w es ≡ es
+own_all w [] all = refl
+own_all w (e ∷ es) all = ap (λ b. cond b (e ∷ own w es) (own w es)) (eq-eqb (caller_of e) w all.0) ∙ ap (λ xs. e ∷ xs) (own_all w es all.1)
+
+own_none : (w c : ℕ) (es : List Entry) → c ≢ w → AreOf w es → own c es ≡ []
+own_none w c [] other all = refl
+own_none w c (e ∷ es) other all =
+    ap (λ b. cond b (e ∷ own c es) (own c es)) (ne_eqb (caller_of e) c (λ is. other (sym is ∙ all.0))) ∙ own_none w c es other all.1
+
+own-mine : (w : ℕ) (h es : List Entry) → AreOf w es → own w (h ++ es) ≡ own w h ++ es
+own-mine w h es all = filter-append (λ e. caller_of e == w) h es ∙ ap (λ xs. own w h ++ xs) (own_all w es all)
+
+own-others : (w c : ℕ) (h es : List Entry) → c ≢ w → AreOf w es → own c (h ++ es) ≡ own c h
+own-others w c h es other all = filter-append (λ e. caller_of e == c) h es ∙ ap (λ xs. own c h ++ xs) (own_none w c es other all) ∙ append-nil (own c h)
+
+-- The step of a worker that keeps to its scripts is its caller's.
+step_mine : (workers : ℕ) (scripts : List (List Action)) (w : ℕ) (task : Option Task) (parts : List (List Entry)) (step : Step) (answer : Answer)
+    → KeepsAt workers scripts w task parts → option_and_then (λ (task : Task). step_of task.drive) task ≡ Some step → AreOf w (entries_of step answer)
+step_mine workers scripts w None parts step answer keeps is = absurd (cc is)
+step_mine workers scripts w (Some task) parts step answer keeps is = subst (λ c. AreOf c (entries_of step answer)) keeps.caller (entries_callers task.drive step answer is)
+
+-- A worker's step.
+pub step_goes : (scripts : List (List Action)) (old new : State) (before after : Worker) (step : Step) (answer : Answer) → Move old step answer new → step_by before ≡ Some step
+    → after.number ≡ before.number → after.workers ≡ before.workers → Keeps scripts before (own before.number old.history)
+    → (Keeps scripts before (own before.number old.history) → Keeps scripts after (own before.number old.history ++ entries_of step answer)) → Goes scripts old new before after
+step_goes scripts old new before after step answer move is number workers keeps told =
+    let es = entries_of step answer in
+    let mine : AreOf before.number es = step_mine before.workers scripts before.number before.task _ step answer keeps.at is in
+    let history = move-history old new step answer move in
+    record {
+      limits = move-limits old new step answer move;
+      number = number;
+      workers = workers;
+      others = λ c other. ap (own c) history ∙ own-others before.number c old.history es other mine;
+      keeps = subst (Keeps scripts after) (sym (ap (own before.number) history ∙ own-mine before.number old.history es mine) ∙ ap (λ w. own w new.history) (sym number)) (told keeps);
+    }
+
+pub goes_then : (scripts : List (List Action)) (a b c : State) (x y z : Worker) → Goes scripts a b x y → Goes scripts b c y z → Goes scripts a c x z
+goes_then scripts a b c x y z first next = record {
+  limits = next.limits ∙ first.limits;
+  number = next.number ∙ first.number;
+  workers = next.workers ∙ first.workers;
+  others = λ d other. next.others d (λ is. other (is ∙ first.number)) ∙ first.others d other;
+  keeps = next.keeps;
+}
+
+-- One member goes on, and the others stay as they are.
+pub crew_goes : (scripts : List (List Action)) (count w : ℕ) (old new : State) (crew : List Worker) (before after : Worker) → w < length crew → before ≡ get_or crew w before
+    → IsCrew scripts count old.history crew → Goes scripts old new before after → IsCrew scripts count new.history (set crew w after)
+crew_goes scripts count w old new crew before after within at is goes = record {
+  size = length-set crew w after ∙ is.size;
+  each = each;
+}
+  where
+    before_is : IsMember scripts count old.history w before
+    before_is = subst (IsMember scripts count old.history w) (sym at) (is.each w before within)
+
+    stays : (d : ℕ) (worker : Worker) → d ≢ w → IsMember scripts count old.history d worker → IsMember scripts count new.history d worker
+    stays d worker away member = record {
+      number = member.number;
+      workers = member.workers;
+      keeps = subst (Keeps scripts worker) (sym (goes.others d (λ is. away (is ∙ before_is.number)))) member.keeps;
+    }
+
+    each : (d : ℕ) (other : Worker) → d < length (set crew w after) → IsMember scripts count new.history d (get_or (set crew w after) d other)
+    each d other less = elim (d == w) as (λ b. (d == w) ≡ b → IsMember scripts count new.history d (get_or (set crew w after) d other)) [
+      | true ↦ λ same.
+          let mine : d ≡ w = eqb-true d w same in
+          subst (λ x. IsMember scripts count new.history x (get_or (set crew w after) x other)) (sym mine)
+          (subst (IsMember scripts count new.history w) (sym (get_or-set_same crew w after other within)) (record {
+            number = goes.number ∙ before_is.number;
+            workers = goes.workers ∙ before_is.workers;
+            keeps = subst (λ x. Keeps scripts after (own x new.history)) (goes.number ∙ before_is.number) goes.keeps;
+          }))
+      | false ↦ λ apart.
+          let away : d ≢ w = λ mine. false≢true (sym apart ∙ eq-eqb d w mine) in
+          let still : d < length crew = subst (λ n. d < n) (length-set crew w after) less in
+          subst (IsMember scripts count new.history d) (sym (get_or-set_other crew w d after other away))
+          (stays d (get_or crew d other) away (is.each d other still))
+    ] refl
+
+-- One member more.
+pub crew_more : (scripts : List (List Action)) (count : ℕ) (crew : List Worker) (worker : Worker) → IsMember scripts count [] (length crew) worker
+    → ((w : ℕ) (other : Worker) → w < length crew → IsMember scripts count [] w (get_or crew w other))
+    → (w : ℕ) (other : Worker) → w < length (crew ++ worker ∷ []) → IsMember scripts count [] w (get_or (crew ++ worker ∷ []) w other)
+crew_more scripts count crew worker member each w other less = elim (nat_lt w (length crew)) as (λ b. nat_lt w (length crew) ≡ b → IsMember scripts count [] w (get_or (crew ++ worker ∷ []) w other)) [
+  | true ↦ λ is.
+      let within : w < length crew = ltb-true w (length crew) is in
+      subst (IsMember scripts count [] w) (sym (get_or-append crew (worker ∷ []) other w within)) (each w other within)
+  | false ↦ λ is.
+      let past : length crew ≤ w = ltb-false w (length crew) is in
+      let last : w ≡ length crew = omega (arith, length-append crew (worker ∷ [])) in
+      subst (λ x. IsMember scripts count [] x (get_or (crew ++ worker ∷ []) x other)) (sym last) (subst (IsMember scripts count [] (length crew)) (sym (get_or-append_seam crew worker [] other)) member)
+] refl
+
+-- So a crew's history is one in which each worker's committed transactions play scripts of its own.
+pub crew_plays : (scripts : List (List Action)) (count stripes : ℕ) (h : List Entry) (crew : List Worker) → IsLegal stripes h → IsCrew scripts count h crew → PlayScripts count scripts h
+crew_plays scripts count stripes h crew legal is = scripts_played count scripts h legal.shape (λ c below.
+    let nobody : Worker = record { number = 0; workers = 0; task = None } in
+    let worker : Worker = get_or crew c nobody in
+    let member : IsMember scripts count h c worker = is.each c nobody (subst (λ n. c < n) (sym is.size) below) in
+    subst (λ n. HavePlayed n scripts c (length scripts) (parts_of (own c h))) member.workers
+    (subst (λ w. HavePlayed worker.workers scripts w (length scripts) (parts_of (own c h))) member.number (keeps_played scripts worker (own c h) member.keeps)))

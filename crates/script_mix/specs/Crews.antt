@@ -1,0 +1,35 @@
+-- Workers that take turns on one core.
+use Rattle.std.specs.Prelude.{◌≡◌, ◌≢◌, ℕ, ◌<◌, List, length, slice_index_or}
+use Rattle.txn_trace.specs.declared.action.Action.{Action}
+use Rattle.txn_trace.specs.declared.entry.Entry.{Entry}
+use Rattle.txn_trace.specs.Shape.{own}
+use Rattle.txn_trace.specs.Plays.{PlayScripts}
+use Rattle.txn_files.specs.Work.{Work}
+use Rattle.boost_core.specs.Machine.{State}
+use Rattle.script_worker.specs.declared.worker.Worker.{Worker}
+use Rattle.script_worker.specs.Keeps.{Keeps}
+
+-- One of so many workers, whose own entries in the history are what its scripts ask for so far.
+pub record IsMember (scripts : List (List Action)) (count : ℕ) (h : List Entry) (w : ℕ) (worker : Worker) : Type 0 where
+  pub number : worker.number ≡ w
+  pub workers : worker.workers ≡ count
+  pub keeps : Keeps scripts worker (own w h)
+
+-- The workers, by rising numbers.
+pub record IsCrew (scripts : List (List Action)) (count : ℕ) (h : List Entry) (crew : List Worker) : Type 0 where
+  pub size : length crew ≡ count
+  pub each : (w : ℕ) (other : Worker) → w < length crew → IsMember scripts count h w (slice_index_or crew w other)
+
+-- A worker went on: it keeps to its scripts, and adds no entry of another caller.
+pub record Goes (scripts : List (List Action)) (old new : State) (before after : Worker) : Type 0 where
+  pub limits : new.limits ≡ old.limits
+  pub number : after.number ≡ before.number
+  pub workers : after.workers ≡ before.workers
+  pub others : (c : ℕ) → c ≢ before.number → own c new.history ≡ own c old.history
+  pub keeps : Keeps scripts after (own after.number new.history)
+
+-- A core of the limits asked for, in whose history each worker's committed transactions play scripts of its own, their
+-- numbers rising.
+pub record IsMixed (work : Work) (state : State) : Type 0 where
+  pub limits : state.limits ≡ work.sizes
+  pub plays : PlayScripts work.sizes.callers work.scripts state.history

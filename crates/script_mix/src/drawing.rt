@@ -1,0 +1,14 @@
+ghost use Rattle.std.specs.Prelude.{◌≡◌, ◌<◌, ◌%◌};
+ghost use Rattle.rand_pcg.specs.Pcg.{pcg32};
+
+use rand_core::utils::NextWord;
+use rand_pcg::Pcg32;
+
+/// Draws a place below `live`: the generator's next word modulo `live`. Fixed cost.
+pub fn draw(generator: &mut Pcg32, live: u64) -> u64
+    requires { 0 < live }
+    ensures place { result ≡ (pcg32 generator.old).0 % live }
+    ensures generator { generator.new ≡ (pcg32 generator.old).1 }
+{
+    u64::from(generator.next_word()) % live
+}

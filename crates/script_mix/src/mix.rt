@@ -1,0 +1,40 @@
+ghost use Rattle.std.specs.Prelude.{IfOk};
+ghost use Rattle.script_mix.specs.Crews.{IsMixed};
+
+use crate::crew::{drawn, workers_of};
+use crate::turn::take_turn;
+use boost_core::Core;
+use rand_core::SeedableRng;
+use rand_pcg::Pcg32;
+use std::alloc::{AllocError, Global};
+use txn_files::Scripts;
+
+/// Runs the scripts on a new core, the workers' turns mixed as the seed says, until no worker has a step left. The core
+/// then has the history. Before each turn a place among the live workers is drawn, also where there is one.
+///
+/// `AllocError` where memory is refused outside a step. A step that is refused memory is answered 14, by which its
+/// script ends. A run costs what its steps cost, and a look at each worker for each turn.
+pub fn mixed(alloc: Global, seed: u64, work: &Scripts) -> Result<Core, AllocError>
+    ensures { IfOk result (λ core. IsMixed work.now core) }
+{
+    let limits = work.limits();
+    let Ok(mut core) = Core::new(alloc, limits) else {
+        return Err(AllocError);
+    };
+    let mut workers = workers_of(alloc, limits.callers() as usize, work.scripts())?;
+    let mut generator = Pcg32::seed_from_u64(seed);
+    for _turn in 0..u64::MAX {
+        let Some(number) = drawn(&mut generator, &workers) else {
+            break;
+        };
+        take_turn(
+            &mut core,
+            &mut workers[number],
+            work.scripts(),
+            work.tries(),
+        );
+    }
+    // A history that a core hands out is legal.
+    let _history = core.trace();
+    Ok(core)
+}

@@ -1,0 +1,96 @@
+use crate::crew::{at_place, workers_of};
+use crate::{draw, mixed};
+use rand_core::SeedableRng;
+use rand_core::utils::NextWord;
+use rand_pcg::Pcg32;
+use std::process::Abort;
+use std::test::Fail;
+use txn_files::{Script, read_scripts};
+use txn_trace::{Answer, Entry, Refusal};
+
+#[test]
+fn draw_is_the_next_word(rt: HostRuntime) {
+    for live in [1, 2, 3, 64] {
+        let mut words = Pcg32::seed_from_u64(7);
+        let mut places = Pcg32::seed_from_u64(7);
+        for _ in 0..100 {
+            let word = words.next_word();
+            assert_eq!(rt; draw(&mut places, live), u64::from(word) % live);
+        }
+    }
+}
+
+/// So many empty scripts.
+fn empty_scripts(rt: &(impl Abort + AllocGlobal), count: usize) -> Result<Vec<Script>, Fail> {
+    let mut scripts = Vec::new(rt.alloc());
+    for _ in 0..count {
+        scripts.push(Script::new(Vec::new(rt.alloc())))?;
+    }
+    Ok(scripts)
+}
+
+/// Of four workers with three scripts the second gives up: the first and the third are left.
+#[test]
+fn places_among_live_workers(rt: HostRuntime) -> Result<(), Fail> {
+    let scripts = empty_scripts(&rt, 3)?;
+    let mut workers = workers_of(rt.alloc(), 4, &scripts)?;
+    for (place, number) in [(0, Some(0)), (1, Some(1)), (2, Some(2)), (3, None)] {
+        assert_eq!(rt; at_place(&workers, place), number, "{place}");
+    }
+    workers[1].told(&scripts, 0, Answer::Refused(Refusal::NoMemory));
+    for (place, number) in [(0, Some(0)), (1, Some(2)), (2, None)] {
+        assert_eq!(rt; at_place(&workers, place), number, "{place}");
+    }
+    Ok(())
+}
+
+#[test]
+fn mixed_commits_an_empty_script(rt: HostRuntime) -> Result<(), Fail> {
+    let text =
+        "{\"version\":1,\"workers\":2,\"stripes\":1,\"buckets\":2,\"tries\":0,\"scripts\":[[],[[\"abort\"]],[]]}";
+    let Ok(work) = read_scripts(rt.alloc(), text.as_bytes()) else {
+        return Err("refused")?;
+    };
+    for seed in 0..20 {
+        let core = mixed(rt.alloc(), seed, &work)?;
+        let trace = core.trace();
+        assert_eq!(rt; trace.len(), 7, "{seed}");
+        let commits = trace
+            .iter()
+            .filter(|entry| matches!(entry, Entry::Committed(0, _)))
+            .count();
+        assert_eq!(rt; commits, 2, "{seed}");
+    }
+    Ok(())
+}
+
+/// An empty script takes two turns, begin and commit, and each is an entry: so the history says who took each turn.
+#[test]
+fn the_worker_drawn_goes(rt: HostRuntime) -> Result<(), Fail> {
+    let text =
+        "{\"version\":1,\"workers\":3,\"stripes\":1,\"buckets\":2,\"tries\":0,\"scripts\":[[],[],[],[],[]]}";
+    let Ok(work) = read_scripts(rt.alloc(), text.as_bytes()) else {
+        return Err("refused")?;
+    };
+    for seed in 0..50 {
+        let core = mixed(rt.alloc(), seed, &work)?;
+        let mut words = Pcg32::seed_from_u64(seed);
+        // Each live worker with the turns that it still has to take.
+        let mut live = Vec::from_array(rt.alloc(), [(0, 4), (1, 4), (2, 2)])?;
+        for entry in core.trace() {
+            let (Entry::Began(caller, _) | Entry::Committed(caller, _)) = *entry else {
+                return Err("another entry")?;
+            };
+            let word = u64::from(words.next_word());
+            assert!(rt; !live.is_empty(), "{seed}");
+            let place = (word % live.len() as u64) as usize;
+            let (worker, turns) = live.remove(place);
+            assert_eq!(rt; caller, worker, "{seed}");
+            if turns > 1 {
+                live.insert(place, (worker, turns - 1))?;
+            }
+        }
+        assert!(rt; live.is_empty(), "{seed}");
+    }
+    Ok(())
+}

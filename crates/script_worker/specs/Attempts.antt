@@ -1,0 +1,84 @@
+-- An attempt at a script: the call of each stage, and what follows once the call has ended.
+use Rattle.std.specs.Prelude.{ℕ, ◌+◌, nat_lt, if◌then◌else◌, List, Option, Some, None, slice_get}
+use Rattle.txn_trace.specs.declared.action.Action.{Action}
+use Rattle.txn_trace.specs.declared.action.Action.TheVariants as actions
+use Rattle.txn_trace.specs.declared.refusal.Refusal.{Refusal}
+use Rattle.txn_trace.specs.declared.refusal.Refusal.TheVariants.{OutOfStep}
+use Rattle.txn_drive.specs.declared.call.Call.{Call}
+use Rattle.txn_drive.specs.declared.call.Call.TheVariants as calls
+use Rattle.txn_drive.specs.declared.«end».End.{End}
+use Rattle.txn_drive.specs.declared.«end».End.TheVariants as ends
+use Rattle.script_worker.specs.declared.attempt.Stage.{Stage}
+use Rattle.script_worker.specs.declared.attempt.Stage.TheVariants.{Beginning, Acting, Leaving}
+use Rattle.script_worker.specs.declared.attempt.Attempt.{Attempt}
+use Rattle.script_worker.specs.declared.attempt.Outcome.{Outcome}
+use Rattle.script_worker.specs.declared.attempt.Outcome.TheVariants as outcomes
+use Rattle.script_worker.specs.declared.attempt.Progress.{Progress}
+use Rattle.script_worker.specs.declared.attempt.Progress.TheVariants.{Next, Over}
+
+-- An attempt so far, before which so many were made.
+abbrev pub attempt_at : ℕ → Stage → Attempt
+attempt_at again stage = record { again = again; stage = stage }
+
+abbrev pub first_attempt : Attempt
+first_attempt = attempt_at 0 Beginning
+
+-- The call of an action.
+abbrev pub call_for : Action → Call
+call_for (actions.Op op) = calls.Op op
+call_for actions.Save = calls.Save
+call_for (actions.Back n) = calls.Back n
+call_for (actions.Help k) = calls.Help k
+call_for actions.Abort = calls.Abort
+
+-- After the last action comes the commit.
+abbrev pub call_of : Option Action → Call
+call_of (Some action) = call_for action
+call_of None = calls.Commit
+
+-- The call of a stage.
+abbrev pub call_at : List Action → Stage → Call
+call_at script Beginning = calls.Begin
+call_at script (Acting i) = call_of (slice_get script i)
+call_at script (Leaving refusal) = calls.Abort
+
+-- After an action is done comes the next; after an abort, and after the commit, the script is over.
+abbrev pub done_with : ℕ → ℕ → Option Action → Progress
+done_with again i None = Over outcomes.Committed
+done_with again i (Some actions.Abort) = Over outcomes.Aborted
+done_with again i (Some action) = Next (attempt_at again (Acting (i + 1)))
+
+-- What follows a call that is done.
+abbrev pub done_at : List Action → ℕ → Stage → Progress
+done_at script again Beginning = Next (attempt_at again (Acting 0))
+done_at script again (Acting i) = done_with again i (slice_get script i)
+done_at script again (Leaving refusal) = Over (outcomes.Refused refusal)
+
+-- After a busy stripe the script is attempted again, where fewer than `tries` attempts were made again.
+abbrev pub busy_at : ℕ → ℕ → Progress
+busy_at tries again = if nat_lt again tries then Next (attempt_at (again + 1) Beginning) else Over outcomes.Busy
+
+-- After a refused action the transaction is aborted; a refused abort or commit ends the script.
+abbrev pub refused_with : ℕ → Option Action → Refusal → Progress
+refused_with again None refusal = Over (outcomes.Refused refusal)
+refused_with again (Some actions.Abort) refusal = Over (outcomes.Refused refusal)
+refused_with again (Some action) refusal = Next (attempt_at again (Leaving refusal))
+
+abbrev pub refused_in : List Action → ℕ → Stage → Refusal → Progress
+refused_in script again (Acting i) refusal = refused_with again (slice_get script i) refusal
+refused_in script again stage refusal = Over (outcomes.Refused refusal)
+
+-- What follows a refused call. An answer that no rule foresees ends the script at once.
+abbrev pub refused_at : List Action → ℕ → Stage → Refusal → Progress
+refused_at script again stage OutOfStep = Over (outcomes.Refused OutOfStep)
+refused_at script again stage refusal = refused_in script again stage refusal
+
+-- What follows once the call of a stage has ended so.
+abbrev pub progress_at : List Action → ℕ → ℕ → Stage → End → Progress
+progress_at script tries again stage (ends.Answered answer) = done_at script again stage
+progress_at script tries again stage ends.Helped = done_at script again stage
+progress_at script tries again stage (ends.Busy holder) = busy_at tries again
+progress_at script tries again stage (ends.Refused refusal) = refused_at script again stage refusal
+
+abbrev pub progress_of : List Action → ℕ → Attempt → End → Progress
+progress_of script tries attempt outcome = progress_at script tries attempt.again attempt.stage outcome

@@ -1,0 +1,84 @@
+-- A worker: the script that it is at, its next step, and where it is once that was answered.
+use Rattle.std.specs.Prelude.{◌≡◌, ℕ, ◌+◌, nat_lt, if◌then◌else◌, List, length, Option, Some, None, slice_get}
+use Rattle.std.specs.Option.{option_map, option_and_then}
+use Rattle.txn_trace.specs.declared.action.Action.{Action}
+use Rattle.txn_trace.specs.declared.answer.Answer.{Answer}
+use Rattle.txn_trace.specs.declared.answer.Answer.TheVariants as answers
+use Rattle.txn_trace.specs.declared.step.Step.{Step}
+use Rattle.txn_drive.specs.declared.call.Call.TheVariants as calls
+use Rattle.txn_drive.specs.declared.drive.Drive.{Drive}
+use Rattle.txn_drive.specs.declared.«end».End.{End}
+use Rattle.txn_drive.specs.declared.turn.Turn.{Turn}
+use Rattle.txn_drive.specs.declared.turn.Turn.TheVariants.{One, Two, Ended}
+use Rattle.txn_drive.specs.Drives.{new_drive, sized_of, turn_of, told_of, step_of, end_of}
+use Rattle.script_worker.specs.declared.attempt.Progress.{Progress}
+use Rattle.script_worker.specs.declared.attempt.Progress.TheVariants.{Next, Over}
+use Rattle.script_worker.specs.declared.task.Task.{Task}
+use Rattle.script_worker.specs.declared.worker.Worker.{Worker}
+use Rattle.script_worker.specs.Attempts.{first_attempt, call_at, progress_of}
+
+-- The first attempt at the script of a number, where there is one.
+abbrev pub started : List (List Action) → ℕ → ℕ → Option Task
+started scripts w n = if nat_lt n (length scripts) then Some (record { script = n; attempt = first_attempt; drive = new_drive w calls.Begin }) else None
+
+-- The worker before its first step.
+abbrev pub new_worker : List (List Action) → ℕ → ℕ → Worker
+new_worker scripts w workers = record { number = w; workers = workers; task = started scripts w w }
+
+-- What the worker is at after a call of an attempt at a script: the next call, or the next script of its own.
+abbrev pub followed : List (List Action) → Worker → Task → List Action → Progress → Option Task
+followed scripts worker task script (Next attempt) = Some (record { script = task.script; attempt = attempt; drive = new_drive worker.number (call_at script attempt.stage) })
+followed scripts worker task script (Over outcome) = started scripts worker.number (task.script + worker.workers)
+
+-- The same of the script of a number, after the call has ended so.
+abbrev pub progressed : List (List Action) → ℕ → Worker → Task → End → Option Task
+progressed scripts tries worker task outcome =
+    option_and_then (λ script. followed scripts worker task script (progress_of script tries task.attempt outcome)) (slice_get scripts task.script)
+
+-- Where the call has ended, the next one follows.
+abbrev pub settled_in : List (List Action) → ℕ → Worker → Task → Option End → Worker
+settled_in scripts tries worker task None = worker
+settled_in scripts tries worker task (Some outcome) = record worker { task = progressed scripts tries worker task outcome }
+
+abbrev pub settled_at : List (List Action) → ℕ → Worker → Option Task → Worker
+settled_at scripts tries worker None = worker
+settled_at scripts tries worker (Some task) = settled_in scripts tries worker task (end_of task.drive)
+
+abbrev pub settled : List (List Action) → ℕ → Worker → Worker
+settled scripts tries worker = settled_at scripts tries worker worker.task
+
+-- The task with what became of its drive.
+abbrev pub with_drive_in : (Drive → Drive) → Option Task → Option Task
+with_drive_in f None = None
+with_drive_in f (Some task) = Some (record task { drive = f task.drive })
+
+-- The worker with what became of its drive.
+abbrev pub with_drive : (Drive → Drive) → Worker → Worker
+with_drive f worker = record worker { task = with_drive_in f worker.task }
+
+-- The worker whose drive was told an answer.
+abbrev pub told_drive : Worker → Answer → Worker
+told_drive worker answer = with_drive (λ drive. told_of drive answer) worker
+
+-- The worker that was told an answer. A call may end before its first step, and then the next one follows.
+abbrev pub told_by : List (List Action) → ℕ → Worker → Answer → Worker
+told_by scripts tries worker answer = settled scripts tries (settled scripts tries (told_drive worker answer))
+
+-- The worker once the table's size at this moment is known.
+abbrev pub sized_by : ℕ → Worker → Worker
+sized_by size worker = with_drive (sized_of size) worker
+
+-- The worker's turn, where it has a script left.
+abbrev pub turn_by : Worker → Option Turn
+turn_by worker = option_map (λ task. turn_of task.drive) worker.task
+
+-- The worker's next step.
+abbrev pub step_by : Worker → Option Step
+step_by worker = option_and_then (λ task. step_of task.drive) worker.task
+
+-- A turn takes the worker's next step; of two steps the second is the one after `placed`.
+abbrev pub IsTurnBy : Worker → Option Turn → Type 0
+IsTurnBy worker None = Unit {0}
+IsTurnBy worker (Some (One step)) = step_by worker ≡ Some step
+IsTurnBy worker (Some (Two step next)) = (step_by worker ≡ Some step) × (step_by (told_drive worker answers.Placed) ≡ Some next)
+IsTurnBy worker (Some (Ended outcome)) = Unit {0}

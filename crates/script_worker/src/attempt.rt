@@ -1,0 +1,157 @@
+ghost use Rattle.std.specs.Prelude.{◌≡◌};
+ghost use Rattle.script_worker.specs.Attempts.{first_attempt, call_for, call_at, done_with, done_at, busy_at, refused_with, refused_at, progress_of};
+
+use txn_drive::{Call, End};
+use txn_trace::{Action, Refusal};
+
+/// How far an attempt at a script is.
+#[derive(Clone, Copy, Debug, PartialEq, Eq)]
+pub enum Stage {
+    /// The transaction is to begin.
+    Beginning,
+    /// The action of this index, from 0, is to be done; where the script has no such action, the transaction is to commit.
+    Acting(usize),
+    /// The transaction is to abort, since a call was refused so.
+    Leaving(Refusal),
+}
+
+/// An attempt at a script: the transaction from its begin to its end.
+#[derive(Clone, Copy, Debug, PartialEq, Eq)]
+pub struct Attempt {
+    /// How many attempts at the script were made before it.
+    pub again: u64,
+    /// How far it is.
+    pub stage: Stage,
+}
+
+/// How a script ended.
+#[derive(Clone, Copy, Debug, PartialEq, Eq)]
+pub enum Outcome {
+    /// Its transaction is committed.
+    Committed,
+    /// It has aborted its transaction itself.
+    Aborted,
+    /// Each attempt found a stripe in another's hands, and is aborted.
+    Busy,
+    /// A call was refused so. Its transaction is aborted, or did not begin, but where it is `OutOfStep`.
+    Refused(Refusal),
+}
+
+/// What follows the end of a call.
+#[derive(Clone, Copy, Debug, PartialEq, Eq)]
+pub enum Progress {
+    /// The next call of this attempt.
+    Next(Attempt),
+    /// Nothing: the script is over.
+    Over(Outcome),
+}
+
+/// The call of an action. Fixed cost.
+fn call_for(action: Action) -> Call
+    ensures { result ≡ call_for action }
+{
+    match action {
+        Action::Op(op) => Call::Op(op),
+        Action::Save => Call::Save,
+        Action::Back(level) => Call::Back(level),
+        Action::Help(key) => Call::Help(key),
+        Action::Abort => Call::Abort,
+    }
+}
+
+impl Attempt {
+    /// The first attempt at a script, before its first call. Fixed cost.
+    pub fn first() -> Attempt
+        ensures { result ≡ first_attempt }
+    {
+        Attempt {
+            again: 0,
+            stage: Stage::Beginning,
+        }
+    }
+
+    /// The call that comes next in the attempt at this script. Fixed cost.
+    pub fn call(self, script: &[Action]) -> Call
+        ensures { result ≡ call_at script.now self.stage }
+    {
+        match self.stage {
+            Stage::Beginning => Call::Begin,
+            Stage::Acting(place) => match script.get(place) {
+                Some(action) => call_for(*action),
+                None => Call::Commit,
+            },
+            Stage::Leaving(_) => Call::Abort,
+        }
+    }
+
+    /// What follows once the call that `call` names has ended so. Fixed cost.
+    ///
+    /// A script that found a stripe held is attempted again where fewer than `tries` attempts were made again. After a
+    /// refusal of an operation, a savepoint, a return or help the transaction is aborted; every other refusal, and
+    /// `OutOfStep` of any call, ends the script at once.
+    pub fn progress(self, script: &[Action], tries: u64, end: End) -> Progress
+        ensures { result ≡ progress_of script.now tries self end }
+    {
+        match end {
+            End::Answered(_) | End::Helped => self.done(script),
+            End::Busy(_) => self.busy(tries),
+            End::Refused(refusal) => self.refused(script, refusal),
+        }
+    }
+
+    /// What follows where the call is done.
+    fn done(self, script: &[Action]) -> Progress
+        ensures { result ≡ done_at script.now self.again self.stage }
+    {
+        match self.stage {
+            Stage::Beginning => self.goes_to(Stage::Acting(0)),
+            Stage::Acting(place) => match script.get(place) {
+                Some(Action::Abort) => Progress::Over(Outcome::Aborted),
+                Some(_) => self.goes_to(Stage::Acting(place + 1)),
+                None => Progress::Over(Outcome::Committed),
+            },
+            Stage::Leaving(refusal) => Progress::Over(Outcome::Refused(refusal)),
+        }
+    }
+
+    /// What follows where a stripe was held by another, and the transaction is aborted.
+    fn busy(self, tries: u64) -> Progress
+        ensures { result ≡ busy_at tries self.again }
+    {
+        if self.again < tries {
+            Progress::Next(Attempt {
+                again: self.again + 1,
+                stage: Stage::Beginning,
+            })
+        } else {
+            Progress::Over(Outcome::Busy)
+        }
+    }
+
+    /// What follows where the call was refused.
+    fn refused(self, script: &[Action], refusal: Refusal) -> Progress
+        ensures { result ≡ refused_at script.now self.again self.stage refusal }
+    {
+        let over = Progress::Over(Outcome::Refused(refusal));
+        if let Refusal::OutOfStep = refusal {
+            return over;
+        }
+        match self.stage {
+            Stage::Acting(place) => match script.get(place) {
+                Some(Action::Abort) | None => over,
+                Some(_) => self.goes_to(Stage::Leaving(refusal)),
+            },
+            _ => over,
+        }
+    }
+
+    /// The same attempt at another stage.
+    fn goes_to(self, stage: Stage) -> Progress
+        ensures { result ≡ Progress.Next (record { again = self.again; stage = stage }) }
+    {
+        Progress::Next(Attempt {
+            again: self.again,
+            stage,
+        })
+    }
+}

@@ -1,0 +1,168 @@
+use crate::{Stage, Worker};
+use std::process::Abort;
+use std::test::Fail;
+use txn_drive::Turn;
+use txn_files::Script;
+use txn_trace::{Action, Answer, Op, Refusal, Step};
+
+/// One script of these actions.
+fn script_of(rt: &(impl Abort + AllocGlobal), actions: &[Action]) -> Result<Script, Fail> {
+    let mut script = Vec::new(rt.alloc());
+    for action in actions {
+        script.push(*action)?;
+    }
+    Ok(Script::new(script))
+}
+
+/// Scripts of these actions, one each.
+fn scripts_of(rt: &(impl Abort + AllocGlobal), scripts: &[&[Action]]) -> Result<Vec<Script>, Fail> {
+    let mut all = Vec::new(rt.alloc());
+    for script in scripts {
+        all.push(script_of(rt, script)?)?;
+    }
+    Ok(all)
+}
+
+/// The worker takes this step and is told this answer, with one further try allowed.
+fn takes(rt: &impl Abort, worker: &mut Worker, scripts: &[Script], step: Step, answer: Answer) {
+    assert_eq!(rt; worker.turn(2), Some(Turn::One(step)));
+    worker.told(scripts, 1, answer);
+}
+
+/// The worker of number 1 of 2 runs scripts 1 and 3.
+#[test]
+fn every_second_script(rt: HostRuntime) -> Result<(), Fail> {
+    let scripts = scripts_of(&rt, &[&[], &[], &[], &[Action::Save], &[]])?;
+    let mut worker = Worker::new(1, 2, &scripts);
+    takes(&rt, &mut worker, &scripts, Step::Begin(1), Answer::Began(1));
+    takes(
+        &rt,
+        &mut worker,
+        &scripts,
+        Step::Commit(1),
+        Answer::Committed(1),
+    );
+    assert!(rt; worker.is_live());
+    takes(&rt, &mut worker, &scripts, Step::Begin(1), Answer::Began(2));
+    takes(&rt, &mut worker, &scripts, Step::Save(1), Answer::Saved(1));
+    takes(
+        &rt,
+        &mut worker,
+        &scripts,
+        Step::Commit(1),
+        Answer::Committed(2),
+    );
+    assert!(rt; !worker.is_live());
+    assert_eq!(rt; worker.turn(2), None);
+    Ok(())
+}
+
+#[test]
+fn worker_without_scripts(rt: HostRuntime) -> Result<(), Fail> {
+    let scripts = scripts_of(&rt, &[&[]])?;
+    assert!(rt; Worker::new(0, 2, &scripts).is_live());
+    assert!(rt; !Worker::new(1, 2, &scripts).is_live());
+    Ok(())
+}
+
+/// A stripe is held: the script is attempted once more, and then the next one begins.
+#[test]
+fn busy_is_tried_again(rt: HostRuntime) -> Result<(), Fail> {
+    let op = Op::Get(1);
+    let scripts = scripts_of(&rt, &[&[Action::Op(op)], &[]])?;
+    let mut worker = Worker::new(0, 1, &scripts);
+    for script in [0, 0] {
+        assert_eq!(rt; worker.task.map(|task| task.script), Some(script));
+        takes(&rt, &mut worker, &scripts, Step::Begin(0), Answer::Began(1));
+        takes(
+            &rt,
+            &mut worker,
+            &scripts,
+            Step::Ask(0, op),
+            Answer::Busy(1),
+        );
+        takes(
+            &rt,
+            &mut worker,
+            &scripts,
+            Step::Seek(0),
+            Answer::Refused(Refusal::NothingToSeek),
+        );
+        takes(&rt, &mut worker, &scripts, Step::Act(0), Answer::Aborted);
+    }
+    assert_eq!(rt; worker.task.map(|task| task.script), Some(1));
+    Ok(())
+}
+
+/// A refused call aborts the transaction, and a refused begin ends the script; help with a bad key takes no step.
+#[test]
+fn refusals_end_a_script(rt: HostRuntime) -> Result<(), Fail> {
+    let scripts = scripts_of(
+        &rt,
+        &[
+            &[Action::Help(1 << 63), Action::Save],
+            &[Action::Back(1)],
+            &[],
+        ],
+    )?;
+    let mut worker = Worker::new(0, 1, &scripts);
+    takes(&rt, &mut worker, &scripts, Step::Begin(0), Answer::Began(1));
+    assert_eq!(rt;
+        worker.task.map(|task| task.attempt.stage),
+        Some(Stage::Leaving(Refusal::BadKey))
+    );
+    takes(&rt, &mut worker, &scripts, Step::Abort(0), Answer::Leaving);
+    takes(
+        &rt,
+        &mut worker,
+        &scripts,
+        Step::Seek(0),
+        Answer::Refused(Refusal::NothingToSeek),
+    );
+    takes(&rt, &mut worker, &scripts, Step::Act(0), Answer::Aborted);
+    takes(&rt, &mut worker, &scripts, Step::Begin(0), Answer::Began(2));
+    takes(
+        &rt,
+        &mut worker,
+        &scripts,
+        Step::Back(0, 1),
+        Answer::Refused(Refusal::NoSuchLevel),
+    );
+    takes(&rt, &mut worker, &scripts, Step::Abort(0), Answer::Leaving);
+    takes(
+        &rt,
+        &mut worker,
+        &scripts,
+        Step::Seek(0),
+        Answer::Refused(Refusal::NothingToSeek),
+    );
+    takes(&rt, &mut worker, &scripts, Step::Act(0), Answer::Aborted);
+    takes(
+        &rt,
+        &mut worker,
+        &scripts,
+        Step::Begin(0),
+        Answer::Refused(Refusal::NoMemory),
+    );
+    assert!(rt; !worker.is_live());
+    Ok(())
+}
+
+/// An abort ends the script: later actions are not taken.
+#[test]
+fn abort_ends_a_script(rt: HostRuntime) -> Result<(), Fail> {
+    let scripts = scripts_of(&rt, &[&[Action::Abort, Action::Save]])?;
+    let mut worker = Worker::new(0, 1, &scripts);
+    takes(&rt, &mut worker, &scripts, Step::Begin(0), Answer::Began(1));
+    takes(&rt, &mut worker, &scripts, Step::Abort(0), Answer::Leaving);
+    takes(
+        &rt,
+        &mut worker,
+        &scripts,
+        Step::Seek(0),
+        Answer::Refused(Refusal::NothingToSeek),
+    );
+    takes(&rt, &mut worker, &scripts, Step::Act(0), Answer::Aborted);
+    assert!(rt; !worker.is_live());
+    Ok(())
+}
