@@ -1,17 +1,16 @@
 #!/usr/bin/env bash
-# Builds the program, which proves it, and mixes the scripts of growing script files with it. Prints for each file its calls,
-# workers and bytes, the entries of the history, the median milliseconds from start to end, the nanoseconds a call and the
-# most memory in use in MB; then whether `check` takes the history.
+# Builds the program, which proves it, and mixes the scripts of growing script files with it (scripts.sh writes them). Prints of
+# each its kind, calls, workers and bytes, the entries of the history, the median milliseconds from start to end, the
+# nanoseconds a call and an entry, the most memory in use in MB, and what `check` says of the history.
 # Usage: docs/speed/mix.sh [ROUNDS]
 source "$(dirname "${BASH_SOURCE[0]}")/common.sh"
 rounds=${1:-5}
+file=$work/scripts.json
 build_proved boostmap mix --seed 7 "$PWD/examples/scripts.json"
 
-printf '%8s %8s %9s %8s %8s %8s %6s  %s\n' calls workers bytes entries ms 'ns each' MB verdict
-for size in '1000 4' '10000 4' '100000 4' '1000000 4' '100000 1' '100000 16' '100000 64'; do
-  read -r calls workers <<<"$size"
-  file=$work/scripts.json
-  docs/speed/scripts.sh "$calls" "$workers" >"$file"
+printf '%-6s %8s %7s %9s %8s %8s %6s %6s %6s  %s\n' kind calls workers bytes entries ms 'a call' entry MB verdict
+while read -r kind calls workers; do
+  docs/speed/scripts.sh "$kind" "$calls" "$workers" >"$file"
   rm -f "$work/memory" "$work/micros"
   for _ in $(seq "$rounds"); do
     start=$EPOCHREALTIME
@@ -19,8 +18,22 @@ for size in '1000 4' '10000 4' '100000 4' '1000000 4' '100000 1' '100000 16' '10
     echo $((${EPOCHREALTIME/./} - ${start/./})) >>"$work/micros"
   done
   verdict=$("$work/proved" check "$work/history.json" 2>&1) || true
-  sort -n "$work/micros" | awk -v middle=$(((rounds + 1) / 2)) -v calls="$calls" -v workers="$workers" \
-    -v bytes="$(wc -c <"$file")" -v entries="$(grep -o '\["' "$work/history.json" | wc -l)" \
-    -v memory="$(sort -n "$work/memory" | tail -1)" -v verdict="$verdict" '
-    NR == middle { printf "%8d %8d %9d %8d %8.1f %8d %6.0f  %s\n", calls, workers, bytes, entries, $1 / 1e3, 1e3 * $1 / calls, memory / 1024, verdict }'
-done
+  entries=$(grep -o '\["' "$work/history.json" | wc -l)
+  sort -n "$work/micros" | awk -v middle=$(((rounds + 1) / 2)) -v kind="$kind" -v calls="$calls" -v workers="$workers" \
+    -v bytes="$(wc -c <"$file")" -v entries="$entries" -v memory="$(sort -n "$work/memory" | tail -1)" -v verdict="$verdict" '
+    NR == middle {
+      printf "%-6s %8d %7d %9d %8d %8.1f %6d %6d %6.0f  %s\n", kind, calls, workers, bytes, entries, $1 / 1e3, 1e3 * $1 / calls,
+        1e3 * $1 / entries, memory / 1024, verdict
+    }'
+done <<'SIZES'
+apart 1000 4
+apart 10000 4
+apart 100000 4
+apart 1000000 4
+apart 100000 1
+apart 100000 16
+apart 100000 64
+shared 100000 4
+shared 100000 16
+shared 100000 64
+SIZES

@@ -77,33 +77,69 @@ fn refusal(rt: &(impl Abort + AllocGlobal), text: &[u8]) -> Result<(String, u8),
     Ok((fault.to_string(rt.alloc())?, fault.status()))
 }
 
-/// The refusals of this file, which has one transaction, where a piece of it is cut off or another one stands there.
-fn bad_inputs_of(rt: &(impl Abort + AllocGlobal), text: &str, callers: &str) -> Result<(), Fail> {
-    let (cut, _) = text.as_bytes().split_at_checked(70).ok_or("short")?;
-    assert!(rt; cut.ends_with(b"[\"begin\",0],"));
-    let (line, status) = refusal(rt, cut)?;
-    assert_eq!(rt; (line.as_str(), status), ("refused 20", 3));
-    for (old, new, wanted) in [
-        (
-            "[\"commit\",0]",
-            "[\"ask\",0,\"put\",\"1\",10],[\"commit\",0]",
-            "refused 21 step 4",
-        ),
-        (callers, "\"callers\":65", "refused 22"),
-        (callers, "\"callers\":0", "refused 22"),
-        (callers, "\"callers\":\"1\"", "refused 21"),
-    ] {
-        let text = text.replace(rt.alloc(), old, new)?;
-        let (line, status) = refusal(rt, text.as_bytes())?;
-        assert_eq!(rt; (line.as_str(), status), (wanted, 3));
+#[test]
+fn cut_input(rt: HostRuntime) -> Result<(), Fail> {
+    for text in [FIRST_COMMIT, FIRST_COMMIT_OF_TWO] {
+        let (cut, _) = text.as_bytes().split_at_checked(70).ok_or("short")?;
+        assert!(rt; cut.ends_with(b"[\"begin\",0],"));
+        let (line, status) = refusal(&rt, cut)?;
+        assert_eq!(rt; (line.as_str(), status), ("refused 20", 3));
     }
     Ok(())
 }
 
 #[test]
 fn bad_input(rt: HostRuntime) -> Result<(), Fail> {
-    bad_inputs_of(&rt, FIRST_COMMIT, "\"callers\":1")?;
-    bad_inputs_of(&rt, FIRST_COMMIT_OF_TWO, "\"callers\":2")
+    for (text, old, new, wanted) in [
+        (
+            FIRST_COMMIT,
+            "[\"commit\",0]",
+            "[\"ask\",0,\"put\",\"1\",10],[\"commit\",0]",
+            "refused 21 step 4",
+        ),
+        (
+            FIRST_COMMIT,
+            "\"callers\":1",
+            "\"callers\":65",
+            "refused 22",
+        ),
+        (FIRST_COMMIT, "\"callers\":1", "\"callers\":0", "refused 22"),
+        (
+            FIRST_COMMIT,
+            "\"callers\":1",
+            "\"callers\":\"1\"",
+            "refused 21",
+        ),
+        (
+            FIRST_COMMIT_OF_TWO,
+            "[\"commit\",0]",
+            "[\"ask\",0,\"put\",\"1\",10],[\"commit\",0]",
+            "refused 21 step 4",
+        ),
+        (
+            FIRST_COMMIT_OF_TWO,
+            "\"callers\":2",
+            "\"callers\":65",
+            "refused 22",
+        ),
+        (
+            FIRST_COMMIT_OF_TWO,
+            "\"callers\":2",
+            "\"callers\":0",
+            "refused 22",
+        ),
+        (
+            FIRST_COMMIT_OF_TWO,
+            "\"callers\":2",
+            "\"callers\":\"1\"",
+            "refused 21",
+        ),
+    ] {
+        let text = text.replace(rt.alloc(), old, new)?;
+        let (line, status) = refusal(&rt, text.as_bytes())?;
+        assert_eq!(rt; (line.as_str(), status), (wanted, 3));
+    }
+    Ok(())
 }
 
 #[test]
