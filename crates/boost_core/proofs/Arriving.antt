@@ -31,7 +31,7 @@ use Rattle.boost_core.specs.Machine.{Move}
 use Rattle.boost_core.specs.Sessions.{spare_at, phase_of, level_of, seat_of, owed_of, target_at, newest, key_of_newest, IsSoughtAt, changes_of}
 use Rattle.boost_core.specs.Core.{Tells, state_of, turn_at}
 use Rattle.boost_core.proofs.Counts.{no_more}
-use Rattle.boost_core.proofs.Levels.{IsLevelIn, seat_leveled}
+use Rattle.txn_trace.proofs.Levels.{IsLevelIn, seat_leveled}
 use Rattle.boost_core.proofs.Settling.{no_jobs}
 use Rattle.boost_core.proofs.Refused.{free, first_none, not_is_false, seat_here, no_cursor}
 use Rattle.boost_core.proofs.Ending.{released_holders}

@@ -22,7 +22,7 @@ use Rattle.boost_core.specs.Machine.{Move}
 use Rattle.boost_core.specs.Sessions.{spare_at, phase_of, seat_of, owed_of, target_at, IsSoughtAt, changes_of}
 use Rattle.boost_core.specs.Core.{Tells, state_of, turn_at}
 use Rattle.boost_core.proofs.Counts.{no_more}
-use Rattle.boost_core.proofs.Levels.{IsLevelIn, seat_leveled}
+use Rattle.txn_trace.proofs.Levels.{IsLevelIn, seat_leveled}
 use Rattle.boost_core.proofs.Settling.{no_jobs}
 use Rattle.boost_core.proofs.Refused.{free, seat_here, begin_closed, closed_stage}
 use Rattle.boost_core.proofs.Moves.{runs_same, state_is, turns_same}

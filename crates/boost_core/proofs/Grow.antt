@@ -32,7 +32,7 @@ use Rattle.boost_core.specs.State.{Owner}
 use Rattle.boost_core.specs.Spares.{times_of, times_in, times_out, IsCovered}
 use Rattle.boost_core.specs.Sessions.{spare_at, phase_of, seat_of, owed_of, target_of, IsSought, IsSoughtAt, IsReady, times_kept, changes_of, AreDue}
 use Rattle.boost_core.specs.Core.{Tells, IsSeated, IsFresh, all_times}
-use Rattle.boost_core.proofs.Levels.{IsLevelIn, seat_leveled}
+use Rattle.txn_trace.proofs.Levels.{IsLevelIn, seat_leveled}
 use Rattle.boost_core.proofs.Due.{all_of_changes, due_same}
 
 -- The session at another place stays, and at this one is the new one.

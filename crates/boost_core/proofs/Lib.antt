@@ -1,5 +1,4 @@
 pub mod Spares
-pub mod Levels
 pub mod Due
 pub mod Grow
 pub mod Settling

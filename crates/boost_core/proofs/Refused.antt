@@ -24,7 +24,7 @@ use Rattle.boost_core.specs.State.{State, Owner, Caller, seat_in, turn_in}
 use Rattle.boost_core.specs.Refusals.{owner_of, is_closed, is_waiting, is_leaving, has_target, tests_in, tests_of, first_of, refusal_in, refusal_of, lacks_in, lacks_cursor}
 use Rattle.boost_core.specs.Sessions.{phase_of, level_of, seat_of, IsLevel, IsSoughtAt}
 use Rattle.boost_core.specs.Core.{Tells, state_of, turn_at}
-use Rattle.boost_core.proofs.Levels.{IsLevelIn, seat_leveled}
+use Rattle.txn_trace.proofs.Levels.{IsLevelIn, seat_leveled}
 
 -- The one option, or else the other.
 abbrev pub or_else : Option Refusal → Option Refusal → Option Refusal

@@ -1,14 +1,14 @@
 -- What a step that is not refused may be answered, and the state after it.
-use Rattle.std.specs.Prelude.{◌≡◌, ℕ, ◌+◌, ◌*◌, ◌-◌, ◌^◌, ◌==◌, Bool, true, false, not, nat_lt, ◌&&◌, IsTrue, List, [], ◌∷◌, ◌++◌, Option, Some, None, length, slice_set}
+use Rattle.std.specs.Prelude.{◌≡◌, ℕ, ◌+◌, ◌*◌, ◌-◌, ◌^◌, ◌==◌, Bool, true, false, not, nat_lt, ◌&&◌, IsTrue, List, ◌++◌, Option, Some, None, length, slice_set}
 use Rattle.txn_trace.specs.declared.step.Step.{Step}
 use Rattle.txn_trace.specs.declared.step.Step.TheVariants.{Begin, Ask, Seek, Act, Save, Back, Commit, Abort, Sweep, InitSeek, InitLink, InitStore, Double}
 use Rattle.txn_trace.specs.declared.answer.Answer.{Answer}
 use Rattle.txn_trace.specs.declared.answer.Answer.TheVariants as answers
-use Rattle.txn_trace.specs.declared.entry.Entry.{Entry}
 use Rattle.txn_trace.specs.declared.entry.Entry.TheVariants as entries
 use Rattle.txn_trace.specs.Map.{Map, count_of, reply_of}
 use Rattle.txn_trace.specs.History.{is_began, is_commit}
 use Rattle.txn_trace.specs.Now.{now}
+use Rattle.txn_trace.specs.Entries.{entries_of}
 use Rattle.txn_trace.specs.Shape.{Phase, Waiting, LeavingTo, LeavingToEnd, how_many}
 use Rattle.txn_trace.specs.Locks.{is_locked}
 use Rattle.boost_core.specs.State.{State, Owner, Caller, Helper, Help, Nothing, Sought, Dummy, seat_in, turn_in, help_in, turn_at, bucket_at, is_set, with_bucket}
@@ -93,21 +93,6 @@ IsAnswer state (Double seen) answers.AtLimit = IsTrue (state.size == seen && sta
 IsAnswer state (Double seen) answers.Light = IsTrue (may_grow state seen && not (is_crowded state))
 IsAnswer state (Double seen) (answers.Doubled size) = (size ≡ 2 * state.size) × IsTrue (may_grow state seen && is_crowded state)
 IsAnswer state step answer = ⊥
-
--- The entries that a step and its answer add to the history.
-abbrev pub entries_of : Step → Answer → List Entry
-entries_of (Begin c) (answers.Began t) = entries.Began c t ∷ []
-entries_of (Ask c op) answers.Asked = entries.Asked c op ∷ []
-entries_of (Ask c op) (answers.Busy x) = entries.Busy c op x ∷ []
-entries_of (Act c) (answers.Done reply) = entries.Did c reply ∷ []
-entries_of (Act c) answers.Undone = entries.Undone c ∷ []
-entries_of (Act c) (answers.Returned n) = entries.Returned c n ∷ []
-entries_of (Act c) answers.Aborted = entries.Aborted c ∷ []
-entries_of (Save c) (answers.Saved n) = entries.Saved c ∷ []
-entries_of (Back c n) answers.Leaving = entries.Leave c (Some n) ∷ []
-entries_of (Commit c) (answers.Committed p) = entries.Committed c p ∷ []
-entries_of (Abort c) answers.Leaving = entries.Leave c None ∷ []
-entries_of step answer = []
 
 -- The callers' cursors after a step and its answer, with the change number that the list then has.
 abbrev pub cursors_after : List (Option ℕ) → Step → Answer → ℕ → List (Option ℕ)

@@ -50,15 +50,19 @@ has_job seat = elim seat.phase [ LeavingTo n ↦ nat_lt (slice_index seat.kept n
 abbrev pub has_target : Seat → Bool
 has_target seat = is_waiting seat.phase || has_job seat
 
+-- The tests of a step that only an open caller with nothing unfinished may take.
+abbrev pub unready_tests : Phase → List (Bool × Refusal)
+unready_tests phase = (is_closed phase, NotOpen) ∷ (is_leaving phase, Leaving) ∷ (is_waiting phase, OperationUnfinished) ∷ []
+
 -- The tests of a step that the caller's seat decides, each with its refusal, in their order.
 abbrev pub tests_in : Seat → Step → List (Bool × Refusal)
 tests_in seat (Begin c) = (is_leaving seat.phase, Leaving) ∷ (not (is_closed seat.phase), AlreadyOpen) ∷ []
-tests_in seat (Ask c op) = (is_closed seat.phase, NotOpen) ∷ (is_leaving seat.phase, Leaving) ∷ (is_waiting seat.phase, OperationUnfinished) ∷ (nat_le (2 ^ 63) (key_of op), BadKey) ∷ []
+tests_in seat (Ask c op) = unready_tests seat.phase ++ (nat_le (2 ^ 63) (key_of op), BadKey) ∷ []
 tests_in seat (Seek c) = (is_closed seat.phase, NotOpen) ∷ (not (has_target seat), NothingToSeek) ∷ []
 tests_in seat (Act c) = (is_closed seat.phase, NotOpen) ∷ (not (is_leaving seat.phase || is_waiting seat.phase), NothingToSeek) ∷ []
-tests_in seat (Save c) = (is_closed seat.phase, NotOpen) ∷ (is_leaving seat.phase, Leaving) ∷ (is_waiting seat.phase, OperationUnfinished) ∷ []
-tests_in seat (Back c n) = (is_closed seat.phase, NotOpen) ∷ (is_leaving seat.phase, Leaving) ∷ (is_waiting seat.phase, OperationUnfinished) ∷ (nat_le (length seat.kept) n, NoSuchLevel) ∷ []
-tests_in seat (Commit c) = (is_closed seat.phase, NotOpen) ∷ (is_leaving seat.phase, Leaving) ∷ (is_waiting seat.phase, OperationUnfinished) ∷ []
+tests_in seat (Save c) = unready_tests seat.phase
+tests_in seat (Back c n) = unready_tests seat.phase ++ (nat_le (length seat.kept) n, NoSuchLevel) ∷ []
+tests_in seat (Commit c) = unready_tests seat.phase
 tests_in seat (Abort c) = (is_closed seat.phase, NotOpen) ∷ (is_leaving seat.phase, Leaving) ∷ []
 tests_in seat step = []
 

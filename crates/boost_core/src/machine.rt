@@ -188,6 +188,7 @@ impl Core {
     }
 
     /// The refusal of a caller's step, if there is one that is no want of memory or of stamps.
+    #[inline(always)]
     pub(crate) fn refusal(&self, caller: u64, step: Step) -> Option<Refusal>
         requires { owner_of step ≡ Some (Owner.Caller caller) }
         ensures { result ≡ refusal_of self.now step }

@@ -1,22 +1,10 @@
 //! Refusals.
 ghost use Rattle.std.specs.Prelude.{◌≡◌};
 ghost use Rattle.txn_trace.specs.Map.{key_of};
-ghost use Rattle.boost_core.specs.Refusals.{first_of, refusal_for};
+ghost use Rattle.boost_core.specs.Refusals.{refusal_for};
 
 use map_ops::InitRefusal;
 use txn_trace::{Op, Refusal};
-
-/// The refusal of the first test that holds.
-pub(crate) fn first_of(tests: &[(bool, Refusal)]) -> Option<Refusal>
-    ensures { result ≡ first_of tests.now }
-{
-    for (holds, refusal) in tests {
-        if *holds {
-            return Some(*refusal);
-        }
-    }
-    None
-}
 
 /// The number of the key of an operation.
 pub(crate) fn key_in(op: Op) -> u64

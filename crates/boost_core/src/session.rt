@@ -3,7 +3,7 @@ ghost use Rattle.std.specs.Prelude.{◌≡◌, ◌+◌, ◌-◌, ◌≤◌, ◌<
 ghost use Rattle.map_ops.specs.Noted.{Noted};
 ghost use Rattle.txn_trace.specs.Owed.{owed_for};
 
-use crate::refusals::{first_of, key_in};
+use crate::refusals::key_in;
 use crate::stage::Stage;
 use map_ops::{Act, Cursor, MapJob, Table, Undo};
 use std::alloc::Global;
@@ -24,7 +24,7 @@ pub struct Session {
 
 impl Session {
     ghost use Rattle.boost_core.specs.Sessions.{IsIdle, IsLevel, phase_of, level_of, seat_of, owed_of, SeeksIn, ActsIn, UndoesIn, WithdrawsIn, SettlesIn, CanAct, CanUndo, CanSettle, CanWithdraw};
-    ghost use Rattle.boost_core.specs.Refusals.{has_job, has_target, is_closed, is_waiting, is_leaving, lacks_in, refusal_in};
+    ghost use Rattle.boost_core.specs.Refusals.{has_job, has_target, is_closed, is_waiting, is_leaving, lacks_in, refusal_in, first_of, unready_tests};
     ghost use Rattle.boost_core.specs.Answers.{is_at_end};
     ghost use Rattle.map_ops.specs.TableAt.{Follows, turn_of};
 
@@ -101,35 +101,53 @@ impl Session {
         }
     }
 
+    /// The refusal of a step that is for an open caller alone with nothing unfinished.
+    fn unready(&self) -> Option<Refusal>
+        ensures { result ≡ first_of (unready_tests (phase_of self.now.stage)) }
+    {
+        match self.stage {
+            Stage::Closed => Some(Refusal::NotOpen),
+            Stage::Open => None,
+            Stage::Asked(_) => Some(Refusal::OperationUnfinished),
+            Stage::LeavingTo(_) | Stage::LeavingToEnd => Some(Refusal::Leaving),
+        }
+    }
+
     /// The refusal of a step of this caller, by its side alone.
+    #[inline(always)]
     pub(crate) fn refusal(&self, step: Step) -> Option<Refusal>
         requires { IsLevel self.now }
         ensures { result ≡ refusal_in (seat_of self.now) step }
     {
-        let closed = (self.is_closed(), Refusal::NotOpen);
-        let leaving = (self.is_leaving(), Refusal::Leaving);
-        let waiting = (self.is_waiting(), Refusal::OperationUnfinished);
         match step {
-            Step::Begin(_) => first_of(&[leaving, (!self.is_closed(), Refusal::AlreadyOpen)]),
+            Step::Begin(_) => match self.stage {
+                Stage::Closed => None,
+                Stage::Open | Stage::Asked(_) => Some(Refusal::AlreadyOpen),
+                Stage::LeavingTo(_) | Stage::LeavingToEnd => Some(Refusal::Leaving),
+            },
             Step::Ask(_, op) => {
-                first_of(&[
-                    closed,
-                    leaving,
-                    waiting,
-                    (KEYS_END <= key_in(op), Refusal::BadKey),
-                ])
+                let is_bad = KEYS_END <= key_in(op);
+                self.unready().or(is_bad.then_some(Refusal::BadKey))
             }
-            Step::Seek(_) => first_of(&[closed, (!self.has_target(), Refusal::NothingToSeek)]),
-            Step::Act(_) => {
-                let is_busy = self.is_leaving() || self.is_waiting();
-                first_of(&[closed, (!is_busy, Refusal::NothingToSeek)])
-            }
-            Step::Save(_) | Step::Commit(_) => first_of(&[closed, leaving, waiting]),
+            Step::Seek(_) => match self.stage {
+                Stage::Closed => Some(Refusal::NotOpen),
+                _ => (!self.has_target()).then_some(Refusal::NothingToSeek),
+            },
+            Step::Act(_) => match self.stage {
+                Stage::Closed => Some(Refusal::NotOpen),
+                Stage::Open => Some(Refusal::NothingToSeek),
+                Stage::Asked(_) | Stage::LeavingTo(_) | Stage::LeavingToEnd => None,
+            },
+            Step::Save(_) | Step::Commit(_) => self.unready(),
             Step::Back(_, level) => {
                 let is_above = (self.log.level() as u64) < level;
-                first_of(&[closed, leaving, waiting, (is_above, Refusal::NoSuchLevel)])
+                self.unready().or(is_above.then_some(Refusal::NoSuchLevel))
             }
-            Step::Abort(_) => first_of(&[closed, leaving]),
+            Step::Abort(_) => match self.stage {
+                Stage::Closed => Some(Refusal::NotOpen),
+                Stage::Open | Stage::Asked(_) => None,
+                Stage::LeavingTo(_) | Stage::LeavingToEnd => Some(Refusal::Leaving),
+            },
             Step::Sweep
             | Step::InitSeek(..)
             | Step::InitLink(_)

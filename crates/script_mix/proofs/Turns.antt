@@ -21,7 +21,7 @@ use Rattle.txn_trace.specs.Legal.{IsLegal}
 use Rattle.txn_trace.specs.Plays.{PlayScripts, HavePlayed, parts_of}
 use Rattle.txn_trace.proofs.Playing.{scripts_played}
 use Rattle.txn_drive.specs.Drives.{step_of}
-use Rattle.txn_drive.specs.Entries.{entries_of}
+use Rattle.txn_trace.specs.Entries.{entries_of}
 use Rattle.boost_core.specs.Machine.{State, Move}
 use Rattle.boost_core.specs.Answers as core
 use Rattle.script_worker.specs.declared.task.Task.{Task}
@@ -32,28 +32,13 @@ use Rattle.script_worker.proofs.Driving.{entries_callers}
 use Rattle.script_worker.proofs.Keeping.{keeps_played}
 use Rattle.script_mix.specs.Crews.{IsMember, IsCrew, Goes}
 
--- The core adds to its history what the drive's step and its answer add.
-same_entries : (step : Step) (answer : Answer) → core.entries_of step answer ≡ entries_of step answer
-same_entries (Begin c) (answers.Began t) = refl
-same_entries (Ask c op) answers.Asked = refl
-same_entries (Ask c op) (answers.Busy x) = refl
-same_entries (Act c) (answers.Done reply) = refl
-same_entries (Act c) answers.Undone = refl
-same_entries (Act c) (answers.Returned n) = refl
-same_entries (Act c) answers.Aborted = refl
-same_entries (Save c) (answers.Saved n) = refl
-same_entries (Back c n) answers.Leaving = refl
-same_entries (Commit c) (answers.Committed p) = refl
-same_entries (Abort c) answers.Leaving = refl
-same_entries step answer = refl
-
 no_entries : (step : Step) (refusal : Refusal) → entries_of step (answers.Refused refusal) ≡ []
 no_entries (Begin c) refusal = refl
 no_entries step refusal = refl
 
 after-history : (state : State) (step : Step) (answer : Answer) (changes stamp : ℕ) → (core.after state step answer changes stamp).history ≡ state.history ++ entries_of step answer
 after-history state step (answers.Refused refusal) changes stamp = sym (ap (λ es. state.history ++ es) (no_entries step refusal) ∙ append-nil state.history)
-after-history state step answer changes stamp = ap (λ es. state.history ++ es) (same_entries step answer)
+after-history state step answer changes stamp = refl
 
 after-limits : (state : State) (step : Step) (answer : Answer) (changes stamp : ℕ) → (core.after state step answer changes stamp).limits ≡ state.limits
 after-limits state step (answers.Refused refusal) changes stamp = refl

@@ -21,7 +21,7 @@ use Rattle.txn_drive.specs.declared.phase.Phase.TheVariants.{Fresh, Seeking, Act
 use Rattle.txn_drive.specs.declared.turn.Turn.{Turn}
 use Rattle.txn_drive.specs.declared.turn.Turn.TheVariants.{One, Two, Ended}
 use Rattle.txn_drive.specs.Drives.{first_step, step_in, step_of, paired, turn_in, turn_of, sized_in, ended_by, end_of, new_drive}
-use Rattle.txn_drive.specs.Entries.{entries_of}
+use Rattle.txn_trace.specs.Entries.{entries_of}
 use Rattle.txn_drive.specs.Made.{made_in, made, IsMade, HasMade}
 use Rattle.txn_drive.proofs.MadeLemmas.{ended-turn_of}
 

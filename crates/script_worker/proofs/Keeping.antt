@@ -29,7 +29,7 @@ use Rattle.txn_drive.specs.declared.«end».End.TheVariants as ends
 use Rattle.txn_drive.specs.declared.phase.Phase.{Phase}
 use Rattle.txn_drive.specs.declared.phase.Phase.TheVariants.{Fresh, First, Doubling}
 use Rattle.txn_drive.specs.Drives.{step_in, step_of, told_in, told_of, turn_in, ended_by, end_of, sized_in, sized_of, new_drive}
-use Rattle.txn_drive.specs.Entries.{entries_of}
+use Rattle.txn_trace.specs.Entries.{entries_of}
 use Rattle.txn_drive.specs.Made.{undone_by, made_in, made, IsMade}
 use Rattle.txn_drive.proofs.MadeLemmas.{made-told_of}
 use Rattle.script_worker.specs.declared.attempt.Stage.{Stage}

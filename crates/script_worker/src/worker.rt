@@ -2,7 +2,7 @@ ghost use Rattle.std.specs.Prelude.{◌≡◌, ◌<◌, ◌++◌, List, [], Some
 ghost use Rattle.txn_trace.specs.declared.action.Action.{Action};
 ghost use Rattle.txn_trace.specs.declared.entry.Entry.{Entry};
 ghost use Rattle.txn_trace.specs.declared.step.Step.{Step};
-ghost use Rattle.txn_drive.specs.Entries.{entries_of};
+ghost use Rattle.txn_trace.specs.Entries.{entries_of};
 ghost use Rattle.script_worker.specs.Workers.{new_worker, started, progressed, settled, told_by, told_drive, sized_by, turn_by, step_by, IsTurnBy};
 ghost use Rattle.script_worker.specs.Keeps.{Keeps};
 

@@ -23,7 +23,7 @@ use Rattle.txn_drive.specs.declared.turn.Turn.TheVariants.{One, Two}
 use Rattle.txn_drive.specs.declared.way.Way.{Way}
 use Rattle.txn_drive.specs.Ways.{child_towards}
 use Rattle.txn_drive.specs.Drives.{first_step, step_in, step_of, end_first, end_returned, end_last, end_helped, paired, turn_in, turn_of, told_first, told_seek, counted, undone_more, told_act, towards, heading, refused_help, told_help, told_double, told_init_seek, told_link, told_store, told_in, told_of}
-use Rattle.txn_drive.specs.Entries.{entries_of}
+use Rattle.txn_trace.specs.Entries.{entries_of}
 use Rattle.txn_drive.specs.Made.{undone_by, entered_by, made_by, made_in, made, IsRefused, IsMade, HasMade}
 
 -- a fresh call has made the entry of its first step

@@ -1,4 +1,3 @@
 pub mod Drives
-pub mod Entries
 pub mod Made
 pub mod Ways

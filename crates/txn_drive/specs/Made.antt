@@ -18,7 +18,7 @@ use Rattle.txn_drive.specs.declared.phase.Work.{Work}
 use Rattle.txn_drive.specs.declared.phase.Work.TheVariants.{Operation, Busy, Leaving}
 use Rattle.txn_drive.specs.declared.turn.Turn.{Turn}
 use Rattle.txn_drive.specs.declared.turn.Turn.TheVariants.{Ended}
-use Rattle.txn_drive.specs.Entries.{entries_of}
+use Rattle.txn_trace.specs.Entries.{entries_of}
 
 -- How many changes are taken back.
 abbrev pub undone_in : Work → ℕ

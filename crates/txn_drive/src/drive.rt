@@ -1,7 +1,7 @@
 ghost use Rattle.std.specs.Prelude.{◌≡◌, [], ◌++◌, Some, IfSome};
 ghost use Rattle.txn_trace.specs.declared.step.Step.{Step};
 ghost use Rattle.txn_drive.specs.Drives.{new_drive, sized_of, turn_of, told_of, step_of, IsTurnOf, end_of, end_first, end_last, end_helped};
-ghost use Rattle.txn_drive.specs.Entries.{entries_of};
+ghost use Rattle.txn_trace.specs.Entries.{entries_of};
 ghost use Rattle.txn_drive.specs.Made.{made, IsMade, HasMade};
 
 use crate::call::Call;

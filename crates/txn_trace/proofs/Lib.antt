@@ -31,3 +31,4 @@ pub mod Verdicts
 pub mod Counts
 pub mod Playing
 pub mod Cases
+pub mod Levels

@@ -15,3 +15,4 @@ pub mod Legal
 pub mod Erase
 pub mod Owed
 pub mod Plays
+pub mod Entries

@@ -1,6 +1,5 @@
-use Rattle.std.proofs.Common.{◌<◌, ◌^◌, Ok, refl, sym, ap, subst, ◌∙◌, arith}
+use Rattle.std.proofs.Common.{Ok, refl, sym, ap, subst, ◌∙◌}
 use Rattle.std.proofs.lemmas.List.{length-set}
-use Rattle.map_ops.specs.TableAt.{turn_of}
 use Rattle.map_ops.specs.Buckets.{LinkChanges}
 use Rattle.boost_core.proofs.Moves.{move_of}
 use Rattle.boost_core.proofs.Helping.{becomes_tells, link_refused_move, link_again_move, link_present_move, link_linked_move}

@@ -1,7 +1,6 @@
-use Rattle.std.proofs.Common.{◌<◌, ◌^◌, Ok, Some, refl, sym, ap, subst, ◌∙◌, arith}
+use Rattle.std.proofs.Common.{Ok, Some, refl, sym, ap, subst, ◌∙◌}
 use Rattle.std.proofs.lemmas.List.{length-set}
 use Rattle.txn_trace.specs.declared.step.Step.TheVariants as steps
-use Rattle.map_ops.specs.TableAt.{turn_of}
 use Rattle.map_ops.specs.Buckets.{SeekChanges}
 use Rattle.boost_core.proofs.Moves.{move_of}
 use Rattle.boost_core.proofs.Helping.{becomes_tells, seek_ready_move, seek_placed_move, seek_refusal, helper_refused, refusal_in_result}

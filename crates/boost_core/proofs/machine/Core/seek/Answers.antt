@@ -1,7 +1,6 @@
-use Rattle.std.proofs.Common.{ap, ◌<◌, ◌^◌, refl, arith}
+use Rattle.std.proofs.Common.{ap, refl}
 use Rattle.std.specs.Prelude.{vec_len, vec_capacity}
 use Rattle.txn_trace.specs.declared.step.Step.TheVariants as steps
-use Rattle.map_ops.specs.TableAt.{turn_of}
 use Rattle.boost_core.proofs.Refused.{at_free, level_here}
 use Rattle.boost_core.proofs.Moves.{move_of, none_of}
 use Rattle.boost_core.proofs.Operating.{seek_has_target, seek_tells, seek_cursor, seek_room, seek_move}

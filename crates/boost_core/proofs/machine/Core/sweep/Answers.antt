@@ -1,5 +1,3 @@
-use Rattle.std.proofs.Common.{◌<◌, ◌^◌, arith}
-use Rattle.map_ops.specs.TableAt.{turn_of}
 use Rattle.boost_core.proofs.Moves.{move_of}
 use Rattle.boost_core.proofs.Helping.{sweep_tells, swept_move, clean_move}
 use Rattle.boost_core.proofs.machine.Core.sweep.Goals as goal

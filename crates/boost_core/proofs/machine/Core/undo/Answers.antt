@@ -1,7 +1,6 @@
-use Rattle.std.proofs.Common.{◌≡◌, ◌<◌, ◌^◌, true, refl, ap, subst, ◌∙◌, arith}
+use Rattle.std.proofs.Common.{◌≡◌, true, refl, ap, subst, ◌∙◌, arith}
 use Rattle.std.specs.Prelude.{vec_len, vec_capacity}
 use Rattle.txn_trace.specs.declared.step.Step.TheVariants as steps
-use Rattle.map_ops.specs.TableAt.{turn_of}
 use Rattle.boost_core.specs.State.{State, seat_in}
 use Rattle.boost_core.specs.Refusals.{is_waiting, has_job}
 use Rattle.boost_core.specs.Sessions.{UndoesIn}

@@ -1,5 +1,5 @@
 use Rattle.std.proofs.Common.{◌≡◌, sym, ap, subst, ◌∙◌, ◌++◌}
-use Rattle.txn_drive.specs.Entries.{entries_of}
+use Rattle.txn_trace.specs.Entries.{entries_of}
 use Rattle.script_worker.specs.Workers.{settled, told_by, step_by}
 use Rattle.script_worker.specs.Keeps.{Keeps}
 use Rattle.script_worker.proofs.Keeping.{told_keeps, told_on, told_same}
