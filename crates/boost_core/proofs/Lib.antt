@@ -1,5 +1,6 @@
 pub mod Spares
 pub mod Due
+pub mod Owing
 pub mod Grow
 pub mod Settling
 pub mod Refused

@@ -4,6 +4,7 @@ use Rattle.std.specs.Prelude.{◌≡◌, ◌+◌, ◌≤◌, ◌⊎◌, true, Li
 use Rattle.txn_trace.specs.declared.step.Step.{Step}
 use Rattle.txn_trace.specs.declared.answer.Answer.{Answer}
 use Rattle.txn_trace.specs.declared.answer.Answer.TheVariants as answers
+use Rattle.txn_trace.specs.Sizes.{Sizes}
 use Rattle.boost_core.specs.Refusals.{refusal_of, MayLack}
 use Rattle.boost_core.specs.Answers.{IsAnswer, keeps_list, after}
 
@@ -28,3 +29,7 @@ abbrev pub Moves : State → List Step → List Answer → State → Type 0
 Moves old [] [] new = new ≡ old
 Moves old (step ∷ steps) (answer ∷ answers) new = (between : State) × Move old step answer between × Moves between steps answers new
 Moves old steps answers new = ⊥
+
+-- A run: these answers to these steps, from the state in which nothing has happened.
+abbrev pub Run : Sizes → List Step → List Answer → State → Type 0
+Run limits steps answers last = Moves (start limits) steps answers last

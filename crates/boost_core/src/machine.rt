@@ -5,6 +5,7 @@ ghost use Rattle.txn_trace.specs.Map.{count_of};
 ghost use Rattle.txn_trace.specs.History.{caller_of};
 ghost use Rattle.txn_trace.specs.Now.{now};
 ghost use Rattle.txn_trace.specs.Legal.{IsLegal};
+ghost use Rattle.txn_trace.specs.Owed.{owed};
 ghost use Rattle.boost_core.specs.Machine.{State, start};
 
 use crate::owner::Owner;
@@ -185,6 +186,14 @@ impl Core {
         ensures { result ≡ count_of (now self.now.history) }
     {
         self.table.count()
+    }
+
+    /// How many entries the history keeps room for: so many that each open transaction can be ended and all its changes taken
+    /// back, without taking memory. It is kept, so this takes constant time.
+    pub fn owed(&self) -> usize
+        ensures { result ≡ owed self.now.limits.callers self.now.history }
+    {
+        self.owed
     }
 
     /// The refusal of a caller's step, if there is one that is no want of memory or of stamps.

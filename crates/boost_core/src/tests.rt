@@ -264,9 +264,11 @@ fn five_callers_undone(rt: HostRuntime) -> Result<(), Fail> {
     let alloc = rt.alloc();
     let mut core = core_of(alloc, 5)?;
     if five_changed(&rt, alloc, &mut core)? {
+        assert_eq!(rt; core.owed(), 25);
         for caller in 0..5 {
             assert_eq!(rt; core.step(Step::Abort(caller)), Answer::Leaving);
         }
+        assert_eq!(rt; core.owed(), 20);
         five_undone(&rt, alloc, &mut core, Some(20))?;
         five_undone(&rt, alloc, &mut core, Some(10))?;
         five_undone(&rt, alloc, &mut core, None)?;
@@ -280,5 +282,35 @@ fn five_callers_undone(rt: HostRuntime) -> Result<(), Fail> {
         }
     }
     assert_eq!(rt; (core.size(), core.count()), (2, 0));
+    Ok(())
+}
+
+/// Two for an open transaction and one for each change that stands; two more for a put that waits and one for a get; one
+/// more on the way to a level.
+#[test]
+fn owed_entries(rt: HostRuntime) -> Result<(), Fail> {
+    let mut core = core_of(rt.alloc(), 2)?;
+    let lines = [
+        (Step::Begin(0), 2),
+        (Step::Ask(0, Op::Put(1, 10)), 4),
+        (Step::Seek(0), 4),
+        (Step::Act(0), 3),
+        (Step::Ask(0, Op::Get(1)), 4),
+        (Step::Seek(0), 4),
+        (Step::Act(0), 3),
+        (Step::Begin(1), 5),
+        (Step::Save(0), 5),
+        (Step::Back(0, 0), 6),
+        (Step::Seek(0), 6),
+        (Step::Act(0), 5),
+        (Step::Act(0), 4),
+        (Step::Commit(0), 2),
+        (Step::Abort(1), 1),
+        (Step::Act(1), 0),
+    ];
+    for (step, owed) in lines {
+        core.step(step);
+        assert_eq!(rt; core.owed(), owed, "after {step:?}");
+    }
     Ok(())
 }

@@ -10,7 +10,7 @@ use Rattle.txn_trace.specs.Ordered.{ordered}
 use Rattle.txn_trace.specs.Now.{now}
 use Rattle.txn_files.specs.declared.file_fault.FileFault.{FileFault}
 use Rattle.txn_files.specs.StepFile.{file_of}
-use Rattle.boost_core.specs.Machine.{State, start, Moves}
+use Rattle.boost_core.specs.Machine.{State, Run}
 
 -- a text and a line feed
 abbrev pub line : List ℕ → List ℕ
@@ -29,16 +29,16 @@ abbrev pub pairs_text : List (ℕ × ℕ) → List ℕ
 pairs_text pairs = flat_map (λ pair. line (decimal pair.0 ++ (codes " " ++ decimal pair.1))) pairs
 
 -- the answers of a run, then the size and the count of its last state, then the pairs of its map in list order
-abbrev pub report_text : List Answer → State → List ℕ
-report_text answers last =
+abbrev pub report : List Answer → State → List ℕ
+report answers last =
     answers_text answers ++ (size_text last.size (count_of (now last.history)) ++ pairs_text (ordered (now last.history)))
 
 -- a run of these steps, and its report
 pub record IsReport (sizes : Sizes) (steps : List Step) (text : List ℕ) : Type 0 where
   pub answers : List Answer
   pub last : State
-  pub moves : Moves (start sizes) steps answers last
-  pub whole : text ≡ report_text answers last
+  pub run : Run sizes steps answers last
+  pub whole : text ≡ report answers last
 
 -- the report of a run of the steps that the bytes are
 abbrev pub IsReportOf : List ℕ → List ℕ → Type 0

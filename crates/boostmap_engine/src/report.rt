@@ -1,5 +1,5 @@
 ghost use Rattle.std.specs.Prelude.{◌≡◌, ◌++◌, OnOk, IfOk, IfErr, string_bytes};
-ghost use Rattle.boostmap_engine.specs.Report.{answers_text, size_text, pairs_text, report_text, IsReportOf, IsNoStepFile};
+ghost use Rattle.boostmap_engine.specs.Report.{answers_text, size_text, pairs_text, report, IsReportOf, IsNoStepFile};
 ghost use Rattle.boostmap_engine.specs.Written.{HasNone};
 
 use crate::fault::Fault;
@@ -34,7 +34,7 @@ fn put_pairs(text: &mut String, pairs: &[(u64, u64)]) -> Result<(), AllocError>
 
 /// The answers, one a line, and what a core has after them.
 fn text_of_run(alloc: Global, answers: &[Answer], core: &Core) -> Result<String, AllocError>
-    ensures { IfOk result (λ text. string_bytes text ≡ report_text answers.now core.now) }
+    ensures { IfOk result (λ text. string_bytes text ≡ report answers.now core.now) }
 {
     let pairs = core.regular_list(alloc)?;
     let mut text = String::new(alloc);
