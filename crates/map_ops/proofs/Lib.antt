@@ -10,3 +10,4 @@ pub mod BucketLemmas
 pub mod WalkLemmas
 pub mod MadeLemmas
 pub mod RemoveLemmas
+pub mod EitherOrder

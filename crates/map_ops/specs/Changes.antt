@@ -1,5 +1,5 @@
 -- What each call answers and changes.
-use Rattle.std.specs.Prelude.{◌≡◌, ◌<◌, ◌≤◌, ◌-◌, ◌^◌, ◌+◌, ◌%◌, ℕ, Bool, true, false, Option, Some, None, is_some, if◌then◌else◌}
+use Rattle.std.specs.Prelude.{◌≡◌, ◌≢◌, ◌<◌, ◌≤◌, ◌-◌, ◌^◌, ◌+◌, ◌%◌, ℕ, Bool, true, false, Option, Some, None, is_some, if◌then◌else◌}
 use Rattle.std.specs.List.{AllByRecursion}
 use Rattle.node_list.specs.Nodes.{SpareAt, out_at}
 use Rattle.list_steps.specs.declared.cursor.Cursor.{Cursor}
@@ -157,3 +157,9 @@ ShowsAfter job t = IsDue (content t) job × OwnsIf t (spare_of_job job)
 -- the table shows what the job names as before its change
 abbrev pub ShowsBefore : MapJob → TableAt → Type 0
 ShowsBefore job t = get (content t) (key_of_job job) ≡ value_before job
+
+-- the two spares, where there are two, are at different places
+abbrev pub AreApart : Option SpareAt → Option SpareAt → Type 0
+AreApart None other = Unit {0}
+AreApart (Some spare) None = Unit {0}
+AreApart (Some spare) (Some other) = spare.place ≢ other.place

@@ -8,13 +8,18 @@
 //! - `take_back` gives the job's key what it had before and leaves every other key as it is now: the compensating actions of
 //!   boosting (Herlihy and Koskinen, "Transactional Boosting", 2008), each with its own inverse on whatever the table is then.
 //! - `law::there_and_back` says of these two that content and list of pairs are then as they were.
+//! - `law::either_order` says that jobs of different keys may be taken back in either order, with the same left.
 //! - `prepare`, `place` and `act`, or `place_job` and `undo`, do the same in steps. What was changed in between where the cursor
 //!   is makes them answer `Again`, and nothing is lost.
 //! - All other calls leave content and list of pairs.
 //!
 //! A prepared put or take owns the node that it may need, and a take passes it on to its job. So only `new`, `prepare`, `apply`,
-//! `init_link`, `content` and `regular_list` take memory, and none is wanted to take a change back. Placing a cursor walks from
-//! the nearest dummy on; each other call takes constant time, but for a sweep and the two that list the keys.
+//! `init_link`, `content` and `regular_list` take memory, and none is wanted to take a change back.
+//!
+//! `place` and `place_job` walk from the nearest initialised dummy to the key's place, and so do `apply` and `take_back`, of
+//! which they are a part; `init_seek` walks from the dummy of the bucket's parent, and `sweep` to the first marked node.
+//! `content` and `regular_list` walk the whole list, and `new` takes time in proportion to `max` and `callers`. Each other call
+//! takes constant time, amortised where it may take memory for a node (`prepare`, `init_link`).
 #![tactic(auto)]
 
 mod act;

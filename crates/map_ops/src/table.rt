@@ -54,7 +54,7 @@ impl Table {
     /// An empty table of two buckets, of which bucket 0 is initialised, and of so many idle helpers. It can grow to `max`
     /// buckets, a power of two.
     ///
-    /// Allocates an entry a bucket and one a helper.
+    /// Allocates an entry a bucket and one a helper, and takes time in proportion to `max` and `callers`.
     ///
     /// # Errors
     ///
@@ -73,7 +73,7 @@ impl Table {
     /// Prepares an operation: looks at its key, and takes the spare that a put or a take needs, so that no memory is wanted
     /// from here on. Content and list stay.
     ///
-    /// Amortised constant time.
+    /// May allocate a node. Amortised constant time.
     ///
     /// # Errors
     ///
@@ -93,7 +93,8 @@ impl Table {
     /// Seeks the key of an operation, from the dummy of its bucket or of the nearest ancestor that is initialised (Shalev and
     /// Shavit 2006, section 3.2), and unlinks the marked nodes that it passes. Content and list of pairs stay.
     ///
-    /// The cursor fits until something changes where it is. Takes no memory. One step a node from that dummy on.
+    /// The cursor fits until something changes where it is. Takes no memory. One step a node from that dummy to the key's place,
+    /// and one an ancestor up to there.
     pub fn place(&mut self, pending: &Pending) -> Cursor
         ensures places { Places self.old self.new (key_of pending.now.op) result }
         ensures near { SeeksNear self.old self.new (key_of pending.now.op) }
@@ -134,9 +135,9 @@ impl Table {
         give_up(&mut self.list, pending.into_plan());
     }
 
-    /// Seeks the key of a job, as `place` seeks that of an operation.
+    /// Seeks the key of a job, as `place` seeks that of an operation, with the same cost.
     ///
-    /// Takes no memory. One step a node from the nearest dummy on.
+    /// Takes no memory.
     pub fn place_job(&mut self, job: &MapJob) -> Cursor
         ensures places { Places self.old self.new (key_of_job job.now) result }
         ensures near { SeeksNear self.old self.new (key_of_job job.now) }
@@ -182,6 +183,9 @@ impl Table {
     /// Does an operation at once: its reply and what it leaves are those of a plain map, and a job is given exactly where it is
     /// a change.
     ///
+    /// May allocate a node, as `prepare` does. Takes the time of `place`: one step a node from the nearest initialised dummy to
+    /// the key's place.
+    ///
     /// # Errors
     ///
     /// Those of `prepare`, which leave the table as it was.
@@ -200,10 +204,10 @@ impl Table {
         }
     }
 
-    /// Takes a change back at once. So an operation and its job leave content and list of pairs as they were, and jobs of
-    /// different keys may run in either order.
+    /// Takes a change back at once. So an operation and its job leave content and list of pairs as they were
+    /// (`law::there_and_back`), and jobs of different keys may run in either order (`law::either_order`).
     ///
-    /// Takes no memory. One step a node from the nearest dummy on.
+    /// Takes no memory. Takes the time of `place_job`: one step a node from the nearest initialised dummy to the key's place.
     pub fn take_back(&mut self, job: MapJob)
         requires due { IsDue (content self.old) job }
         requires owned { OwnsIf self.old (spare_of_job job) }
@@ -295,7 +299,7 @@ impl Table {
     /// Seeks the place of a bucket's dummy for a helper, from the dummy of the bucket's parent. Content and list of pairs stay.
     ///
     /// `Ready` where the bucket is initialised already: then the helper is idle. Else `Placed`, and the helper has a cursor that
-    /// fits, in place of whatever it had. Takes no memory.
+    /// fits, in place of whatever it had. Takes no memory. One step a node from the parent's dummy to the place.
     ///
     /// # Errors
     ///
@@ -314,7 +318,7 @@ impl Table {
     /// Links the dummy of a helper's bucket at the helper's cursor. Content and list of pairs stay.
     ///
     /// `Again` where the cursor no longer fits: it is dropped. `Present` where that dummy is linked already, else `Linked`: the
-    /// helper has the dummy. May allocate.
+    /// helper has the dummy. May allocate a node. Amortised constant time.
     ///
     /// # Errors
     ///

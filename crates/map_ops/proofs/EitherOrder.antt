@@ -1,0 +1,94 @@
+-- Jobs of different keys, taken back in either order.
+use Rattle.std.proofs.Common.{◌≡◌, ◌≢◌, ℕ, inl, inr, Bool, true, false, cond, Option, Some, None, refl, sym, ap, ◌∙◌}
+use Rattle.std.specs.Prelude.{◌==◌, is_some}
+use Rattle.std.proofs.lemmas.Bool.{cases_eq, eq-eqb, ne_eqb}
+use Rattle.node_list.specs.Nodes.{SpareAt, out_at}
+use Rattle.txn_trace.specs.Map.{Map, get}
+use Rattle.txn_trace.specs.Now.{set_at}
+use Rattle.txn_trace.proofs.Maps.{same_map}
+use Rattle.txn_trace.proofs.Table.{get-set_at}
+use Rattle.map_ops.specs.declared.job.MapJob.{MapJob}
+use Rattle.map_ops.specs.declared.job.MapJob.TheVariants.{Unput, Restore, Relink}
+use Rattle.map_ops.specs.TableAt.{TableAt, content, KeepsSpares}
+use Rattle.map_ops.specs.Jobs.{IsDue, key_of_job, spare_of_job, value_before}
+use Rattle.map_ops.specs.Changes.{AreApart, OwnsIf, ShowsAfter, Spends, TakesBack}
+use Rattle.map_ops.proofs.Laws.{still_owned, other_owned}
+
+-- A key that is not set keeps what it had.
+get-set_at-other : (m : Map) (j k : ℕ) (value : Option ℕ) → j ≢ k → get (set_at m j value) k ≡ get m k
+get-set_at-other m j k value apart = get-set_at m j value k ∙ ap (λ b. cond b value (get m k)) (ne_eqb k j (λ same. apart (sym same)))
+
+-- Two different keys may be set in either order.
+set_at-swap : (m : Map) (j k : ℕ) (x y : Option ℕ) → j ≢ k → set_at (set_at m j x) k y ≡ set_at (set_at m k y) j x
+set_at-swap m j k x y apart = same_map (set_at (set_at m j x) k y) (set_at (set_at m k y) j x) (λ q. one q ∙ swapped q ∙ sym (other q))
+  where
+    one : (q : ℕ) → get (set_at (set_at m j x) k y) q ≡ cond (q == k) y (cond (q == j) x (get m q))
+    one q = get-set_at (set_at m j x) k y q ∙ ap (cond (q == k) y) (get-set_at m j x q)
+
+    other : (q : ℕ) → get (set_at (set_at m k y) j x) q ≡ cond (q == j) x (cond (q == k) y (get m q))
+    other q = get-set_at (set_at m k y) j x q ∙ ap (cond (q == j) x) (get-set_at m k y q)
+
+    swapped : (q : ℕ) → cond (q == k) y (cond (q == j) x (get m q)) ≡ cond (q == j) x (cond (q == k) y (get m q))
+    swapped q = elim (cases_eq q k) [
+      | inl same ↦
+          let is : (q == k) ≡ true = eq-eqb q k same in
+          let not : (q == j) ≡ false = ne_eqb q j (λ there. apart (sym there ∙ same)) in
+          ap (λ b. cond b y (cond (q == j) x (get m q))) is ∙ sym (ap (λ b. cond b x (cond (q == k) y (get m q))) not ∙ ap (λ b. cond b y (get m q)) is)
+      | inr differs ↦
+          let not : (q == k) ≡ false = ne_eqb q k differs in
+          ap (λ b. cond b y (cond (q == j) x (get m q))) not ∙ sym (ap (λ b. cond (q == j) x (cond b y (get m q))) not)
+    ]
+
+-- Both orders leave the same content.
+pub either-content : (old one two other both : TableAt) (first second : MapJob) → key_of_job first ≢ key_of_job second → TakesBack old one first → TakesBack one two second → TakesBack old other second → TakesBack other both first → content two ≡ content both
+either-content old one two other both first second apart a b c d =
+    b.content_is
+    ∙ ap (λ (m : Map). set_at m (key_of_job second) (value_before second)) a.content_is
+    ∙ set_at-swap (content old) (key_of_job first) (key_of_job second) (value_before first) (value_before second) apart
+    ∙ sym (d.content_is ∙ ap (λ (m : Map). set_at m (key_of_job first) (value_before first)) c.content_is)
+
+-- Whether a spare, if there is one, is at a place.
+abbrev is_at : Option SpareAt → ℕ → Bool
+is_at None place = false
+is_at (Some spare) place = place == spare.place
+
+-- What is out at a place where a spare was spent.
+spent-at : (old new : TableAt) (spare : Option SpareAt) (place : ℕ) → Spends old new spare → out_at new.list place ≡ cond (is_at spare place) None (out_at old.list place)
+spent-at old new None place spends = spends place
+spent-at old new (Some spare) place spends = elim (cases_eq place spare.place) [
+  | inl same ↦ ap (out_at new.list) same ∙ spends.0 ∙ sym (ap (λ b. cond b None (out_at old.list place)) (eq-eqb place spare.place same))
+  | inr other ↦ spends.1 place other ∙ sym (ap (λ b. cond b None (out_at old.list place)) (ne_eqb place spare.place other))
+]
+
+either_none : (b c : Bool) (out : Option ℕ) → cond b None (cond c None out) ≡ cond c None (cond b None out)
+either_none true true out = refl
+either_none true false out = refl
+either_none false true out = refl
+either_none false false out = refl
+
+-- Both orders leave the same spares.
+pub either-spares : (old one two other both : TableAt) (first second : MapJob) → TakesBack old one first → TakesBack one two second → TakesBack old other second → TakesBack other both first → KeepsSpares both two
+either-spares old one two other both first second a b c d place =
+    let j = is_at (spare_of_job first) place in
+    let k = is_at (spare_of_job second) place in
+    spent-at one two (spare_of_job second) place b.spares
+    ∙ ap (cond k None) (spent-at old one (spare_of_job first) place a.spares)
+    ∙ either_none k j (out_at old.list place)
+    ∙ sym (spent-at other both (spare_of_job first) place d.spares ∙ ap (cond j None) (spent-at old other (spare_of_job second) place c.spares))
+
+-- A spare elsewhere stays the table's where one is spent.
+spent_owned : (old new : TableAt) (spent : Option SpareAt) (spare : SpareAt) → AreApart spent (Some spare) → Spends old new spent → OwnsIf old (Some spare) → OwnsIf new (Some spare)
+spent_owned old new None spare apart spends owned = still_owned old new spare spends owned
+spent_owned old new (Some gone) spare apart spends owned = other_owned old new spare gone.place spends.1 (λ same. apart (sym same)) owned
+
+-- A job of another key is due after a change is taken back.
+pub either_due : (old new : TableAt) (first second : MapJob) → key_of_job first ≢ key_of_job second → AreApart (spare_of_job first) (spare_of_job second) → ShowsAfter second old → TakesBack old new first → ShowsAfter second new
+either_due old new first second apart spares shows back = go second apart spares shows
+  where
+    kept : (k : ℕ) → key_of_job first ≢ k → get (content new) k ≡ get (content old) k
+    kept k differs = ap (λ (m : Map). get m k) back.content_is ∙ get-set_at-other (content old) (key_of_job first) k (value_before first) differs
+
+    go : (job : MapJob) → key_of_job first ≢ key_of_job job → AreApart (spare_of_job first) (spare_of_job job) → ShowsAfter job old → ShowsAfter job new
+    go (Unput k) differs away was = (ap is_some (kept k differs) ∙ was.0, tt)
+    go (Restore k before) differs away was = (ap is_some (kept k differs) ∙ was.0, tt)
+    go (Relink k before spare) differs away was = (kept k differs ∙ was.0, spent_owned old new (spare_of_job first) spare away back.spares was.1)
