@@ -1,5 +1,7 @@
 //! The core of a transactional map for 1 to 64 callers, one step at a time: boosted transactions (Herlihy and Koskinen,
-//! "Transactional Boosting", 2008) over a split-ordered hash table (Shalev and Shavit, "Split-Ordered Lists", 2006).
+//! "Transactional Boosting: A Methodology for Highly-Concurrent Transactional Objects", PPoPP 2008, rules 2 and 3: abstract
+//! locks and inverses) over a split-ordered hash table (Shalev and Shavit, "Split-Ordered Lists: Lock-Free Extensible Hash
+//! Tables", Journal of the ACM 53(3), 2006, section 2).
 //!
 //! An operation takes the stripe of its key, is sought and done on the table in steps between which other callers step, and
 //! notes an inverse. A commit drops the inverses, an abort or a return to a savepoint runs them newest first. Stripes are kept to

@@ -19,7 +19,7 @@ use std::marker::Model;
 use txn_trace::{Answer, Entry, Limits, Refusal, Step};
 
 /// A transactional map for 1 to 64 callers, its history, and where each caller is: boosted transactions (Herlihy and Koskinen,
-/// "Transactional Boosting", 2008) over a split-ordered hash table.
+/// PPoPP 2008, rules 2 and 3) over a split-ordered hash table (Shalev and Shavit, Journal of the ACM 53(3), 2006, section 2).
 ///
 /// Contracts see the state of the machine, by the words of `specs/State.antt`. Of every value of the type: the history is legal,
 /// the content of the table is what the history gives now, the list is that map in order, each stripe has the holder that the

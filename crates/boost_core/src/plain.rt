@@ -14,7 +14,7 @@ impl Core {
     ///
     /// The answer is `Done` with the reply, or the first that is not `Asked`: `Busy`, where another caller holds the key's stripe and
     /// this one now leaves to the end, or a refusal, which leaves the state: in this order `NoSuchCaller`, `NotOpen`, `Leaving`,
-    /// `OperationUnfinished`, `BadKey`, `NoMemory`, `StampsUsedUp`.
+    /// `OperationUnfinished`, `BadKey`, `NoMemory` for the history and the log, `StampsUsedUp`, `NoMemory` for the node.
     pub fn put(&mut self, caller: u64, key: u64, value: u64) -> Answer
         ensures { Operates self.old caller (Op.Put key value) result self.new }
     {
@@ -28,7 +28,7 @@ impl Core {
         self.operate(caller, Op::Take(key))
     }
 
-    /// Gets the value at a key, by the same steps as `put` and with the same refusals, but `StampsUsedUp`.
+    /// Gets the value at a key, by the same steps as `put` and with the same refusals, but the last two.
     pub fn get(&mut self, caller: u64, key: u64) -> Answer
         ensures { Operates self.old caller (Op.Get key) result self.new }
     {

@@ -4,8 +4,8 @@
 //!
 //! The program reads its words and opens the file; the engines of `boostmap_engine` do the rest. It ends
 //! with status 0 where all is well, 1 for an illegal history, 2 for other words, 3 for a refused input,
-//! and 4 where memory, a thread, a read or a write failed; from 2 on one line on standard error says
-//! what it was.
+//! and 4 where memory, a thread, a read or a write failed. With status 2 the usage, of seven lines, is
+//! on standard error; from 3 on one line there says what it was.
 #![tactic(auto)]
 
 #[cfg(test)]

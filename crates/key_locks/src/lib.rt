@@ -1,5 +1,6 @@
 //! Key locks: the abstract locks of boosted transactions, one for each group of keys, as in Herlihy and Koskinen,
-//! "Transactional Boosting: A Methodology for Highly-Concurrent Transactional Objects" (PPoPP 2008).
+//! "Transactional Boosting: A Methodology for Highly-Concurrent Transactional Objects" (PPoPP 2008), rule 2,
+//! commutativity isolation.
 //!
 //! Keys are put into a fixed number of stripes, and a transaction takes the stripe of each key that it works on, and
 //! keeps it to its end. Two operations on one key may not commute, so its stripe has one holder at most: a caller,

@@ -1,8 +1,10 @@
 //! Steps on a list of nodes, at places that were sought before.
 //!
-//! This is the list of Shalev and Shavit (2006, section 3) with Harris's marked nodes (2001), cut
-//! into steps that each have the list to themselves: a place is sought, and something is done there
-//! later. What other callers did in between, the step itself sees.
+//! This is the list of Shalev and Shavit, "Split-Ordered Lists: Lock-Free Extensible Hash Tables"
+//! (Journal of the ACM 53(3), 2006), with the marked nodes of Harris, "A Pragmatic Implementation of
+//! Non-Blocking Linked-Lists" (DISC 2001), cut into steps that each have the list to themselves: a
+//! place is sought, and something is done there later. What other callers did in between, the step
+//! itself sees.
 //!
 //! ```text
 //! dummy 0 -> key 4 -> key 2 -> end      a cursor of key 2's split key: pred is key 4, cur is key 2

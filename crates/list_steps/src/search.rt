@@ -14,7 +14,7 @@ use node_list::{NodeList, NodeRef};
 ///
 /// The cursor fits the list as the seek leaves it. The content stays as it was, and so do the
 /// spares that are out. Takes no memory. Each node from the start to the place is visited once
-/// (Harris 2001, the search that unlinks).
+/// (the search of Harris, DISC 2001, which unlinks marked nodes).
 pub fn seek(list: &mut NodeList, from: NodeRef, split: u64) -> Cursor
     requires { IsStart list.old.nodes from split }
     ensures nodes { list.new.nodes ≡ sought list.old.nodes from split }

@@ -83,7 +83,7 @@ pub fn link(list: &mut NodeList, cursor: Cursor, spare: Spare) -> Result<NodeRef
 /// that node has to be there, as `look` tells.
 ///
 /// Its pair leaves the content. The node stays linked until a seek passes it or a sweep comes to it
-/// (Harris 2001). `Again` exactly where the cursor does not fit; then nothing changes. Takes no
+/// (Harris, DISC 2001). `Again` exactly where the cursor does not fit; then nothing changes. Takes no
 /// memory. A fixed number of look-ups.
 pub fn mark(list: &mut NodeList, cursor: Cursor) -> Result<u64, Again>
     requires placed { IsPlaced list.old cursor }

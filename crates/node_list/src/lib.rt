@@ -1,4 +1,5 @@
-//! The linked nodes of a split-ordered list (Shalev and Shavit 2006, section 3), in one slab.
+//! The linked nodes of a split-ordered list (Shalev and Shavit, "Split-Ordered Lists: Lock-Free
+//! Extensible Hash Tables", Journal of the ACM 53(3), 2006), in one slab.
 //!
 //! A contract sees a `NodeList` as the list of its linked nodes in their order, the stamp of each
 //! spare that is out, the change number and the last stamp. The split keys rise strictly, no two

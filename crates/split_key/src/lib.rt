@@ -1,6 +1,6 @@
 //! Split keys: the order in which a split-ordered list keeps the keys and the buckets of a hash table. It is the
 //! recursive split-ordering of Shalev and Shavit, "Split-Ordered Lists: Lock-Free Extensible Hash Tables" (Journal of
-//! the ACM 53, 2006).
+//! the ACM 53(3), 2006), section 2: bits in reverse, dummy nodes, and parents of buckets.
 //!
 //! A split key is a number's 64 bits in reverse order: a key's with its top bit set first, so that it is odd, and a
 //! bucket's as it is, so that it is even. Sorted by split keys, the keys of one bucket stand together, whatever power

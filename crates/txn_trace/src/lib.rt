@@ -6,7 +6,8 @@
 //! (`serial`) and which map there is with the changes of the open ones (`now`), and which histories are legal: those
 //! in which each transaction has the replies of running alone, each stripe of keys belongs to one open transaction,
 //! and each entry has the right shape. This is the meaning of "serialisable" after Herlihy and Koskinen,
-//! "Transactional Boosting: A Methodology for Highly-Concurrent Transactional Objects" (PPoPP 2008).
+//! "Transactional Boosting: A Methodology for Highly-Concurrent Transactional Objects" (PPoPP 2008), whose rules 2
+//! (abstract locks) and 3 (inverses) are the locks and the taking back of a history here.
 //!
 //! Proved: the laws of histories in `proofs/`, entry by entry, for crates above to cite; and, as the contract of
 //! `laws::erased`, that nothing is left of aborted transactions. The code itself makes limits and texts, at fixed cost

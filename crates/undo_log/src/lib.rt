@@ -1,5 +1,6 @@
-//! The undo log of a transaction by boosting (Herlihy and Koskinen, "Transactional Boosting", 2008, rule 3, compensating actions):
-//! one inverse for each change, run newest first where the transaction goes back.
+//! The undo log of a transaction by boosting (Herlihy and Koskinen, "Transactional Boosting: A Methodology for Highly-Concurrent
+//! Transactional Objects", PPoPP 2008, rule 3, compensating actions): one inverse for each change, run newest first where the
+//! transaction goes back.
 //!
 //! - `UndoJob`: an inverse. It names what the world shows after its change and before it; run on the one it gives the other.
 //! - `UndoLog`: contracts see its jobs, oldest first, and how many of them each savepoint keeps. Savepoints are numbered 1, 2, ..;
