@@ -1,18 +1,22 @@
-ghost use Rattle.std.specs.Prelude.{◌≡◌, map};
+ghost use Rattle.std.specs.Prelude.{◌≡◌, suc, map};
 ghost use Rattle.std.specs.List.{list_all};
 ghost use Rattle.serde_json.specs.View.{view};
 ghost use Rattle.txn_files.specs.Faults.{Gives};
 ghost use Rattle.txn_files.specs.Entries.{busy_of, entry_named, entry_of};
-ghost use Rattle.txn_files.specs.HistoryFile.{is_in_range, is_history, entries_of, history_of};
+ghost use Rattle.txn_files.specs.Tokens.{data_in};
+ghost use Rattle.txn_files.specs.HistoryFile.{max_entries, is_in_range, is_history, entries_of, history_of};
 
 use crate::elements::{end_in, number_in, one_in, optional_in, word_in};
 use crate::file_fault::FileFault;
-use crate::json::{array_member_in, number_member_in, value_in};
+use crate::members::{number_member_in, pieces_member_in, text_in};
 use crate::operation::{leading_op_in, op_in};
 use crate::part::Part;
-use crate::piece::{Piece, pieces_in};
+use crate::piece::Piece;
+use crate::plain::plain_elements;
+use crate::stop::Stop;
+use json::Reader;
 use serde_json::Value;
-use std::alloc::{AllocError, Global};
+use std::alloc::Global;
 use txn_trace::Entry;
 
 /// The largest number that a caller may have.
@@ -82,12 +86,23 @@ impl Piece for Entry {
 
     ghost part = { parts.Entry };
 
+    ghost most = { suc max_entries };
+
     fn part() -> Part {
         Part::Entry
     }
 
-    fn read(_alloc: Global, values: &[Value]) -> Result<Option<Entry>, AllocError> {
-        Ok(entry_in(values))
+    fn most() -> usize {
+        MAX_ENTRIES + 1
+    }
+
+    #[tactic(auto, using(crate::proofs::PlainPieces::no_entry))]
+    fn read(alloc: Global, reader: &mut Reader<'_>, depth: usize) -> Result<Option<Entry>, Stop> {
+        let elements = plain_elements(alloc, reader, depth)?;
+        match elements {
+            Some(values) => Ok(entry_in(&values)),
+            None => Ok(None),
+        }
     }
 }
 
@@ -124,13 +139,12 @@ fn is_history(stripes: u64, entries: &[Entry]) -> bool
 }
 
 #[tactic(auto, unfolding(crate::specs::HistoryFile::entries_of))]
-fn entries_in(alloc: Global, value: &Value) -> Result<(u32, Vec<Entry>), FileFault>
-    ensures { Gives (λ file. (file.0, file.1.items)) result (entries_of (view value.now)) }
+fn entries_in(alloc: Global, text: &str) -> Result<(u32, Vec<Entry>), FileFault>
+    ensures { Gives (λ file. (file.0, file.1.items)) result (entries_of (data_in text.now)) }
 {
-    let version = number_member_in(value, "version")?;
-    let stripes = number_member_in(value, "stripes")?;
-    let pieces = array_member_in(value, "entries")?;
-    let entries: Vec<Entry> = pieces_in(alloc, pieces)?;
+    let version = number_member_in(alloc, text, "version")?;
+    let stripes = number_member_in(alloc, text, "stripes")?;
+    let entries: Vec<Entry> = pieces_member_in(alloc, text, "entries")?;
     if version == 1 && is_history(stripes, &entries) {
         Ok((stripes as u32, entries))
     } else {
@@ -156,6 +170,6 @@ fn entries_in(alloc: Global, value: &Value) -> Result<(u32, Vec<Entry>), FileFau
 pub fn read_history(alloc: Global, bytes: &[u8]) -> Result<(u32, Vec<Entry>), FileFault>
     ensures { Gives (λ file. (file.0, file.1.items)) result (history_of bytes.now) }
 {
-    let value = value_in(alloc, bytes)?;
-    entries_in(alloc, &value)
+    let text = text_in(alloc, bytes)?;
+    entries_in(alloc, text)
 }

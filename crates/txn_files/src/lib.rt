@@ -15,14 +15,18 @@
 mod elements;
 mod file_fault;
 mod history_file;
-mod json;
+mod members;
+mod numeral;
 mod operation;
 mod part;
+mod passing;
 mod piece;
+mod plain;
 mod script;
 mod script_file;
 mod scripts;
 mod step_file;
+mod stop;
 mod text;
 
 pub use file_fault::FileFault;

@@ -1,21 +1,25 @@
-ghost use Rattle.std.specs.Prelude.{◌≡◌, map};
+ghost use Rattle.std.specs.Prelude.{◌≡◌, suc, map};
 ghost use Rattle.std.specs.List.{list_all};
 ghost use Rattle.serde_json.specs.View.{view};
 ghost use Rattle.txn_files.specs.Faults.{Gives};
 ghost use Rattle.txn_files.specs.Actions.{action_of, script_of};
-ghost use Rattle.txn_files.specs.ScriptFile.{is_short, are_scripts, work_of, scripts_of};
+ghost use Rattle.txn_files.specs.Tokens.{data_in};
+ghost use Rattle.txn_files.specs.ScriptFile.{max_scripts, is_short, are_scripts, work_of, scripts_of};
 
 use crate::elements::{end_in, one_in, word_in};
 use crate::file_fault::FileFault;
-use crate::json::{array_member_in, number_member_in, value_in};
+use crate::members::{number_member_in, pieces_member_in, text_in};
 use crate::operation::op_in;
 use crate::part::Part;
-use crate::piece::{Piece, pieces_in};
+use crate::piece::{Piece, Pieces, pieces_in};
+use crate::plain::plain_elements;
 use crate::script::Script;
 use crate::scripts::Scripts;
 use crate::step_file::limits_in;
+use crate::stop::Stop;
+use json::Reader;
 use serde_json::Value;
-use std::alloc::{AllocError, Global};
+use std::alloc::Global;
 use txn_trace::Action;
 
 /// How often a script may be tried again.
@@ -47,7 +51,7 @@ fn action_in(values: &[Value]) -> Option<Action>
     }
 }
 
-/// An action is a piece of a script.
+/// An action is a piece of a script. All are kept.
 impl Piece for Action {
     ghost use Rattle.txn_files.specs.declared.part.Part.TheVariants as parts;
 
@@ -55,12 +59,23 @@ impl Piece for Action {
 
     ghost part = { parts.Script };
 
+    ghost most = { 18446744073709551615 };
+
     fn part() -> Part {
         Part::Script
     }
 
-    fn read(_alloc: Global, values: &[Value]) -> Result<Option<Action>, AllocError> {
-        Ok(action_in(values))
+    fn most() -> usize {
+        usize::MAX
+    }
+
+    #[tactic(auto, using(crate::proofs::PlainPieces::no_action))]
+    fn read(alloc: Global, reader: &mut Reader<'_>, depth: usize) -> Result<Option<Action>, Stop> {
+        let elements = plain_elements(alloc, reader, depth)?;
+        match elements {
+            Some(values) => Ok(action_in(&values)),
+            None => Ok(None),
+        }
     }
 }
 
@@ -71,17 +86,23 @@ impl Piece for Script {
 
     ghost part = { parts.Script };
 
+    ghost most = { suc max_scripts };
+
     fn part() -> Part {
         Part::Script
     }
 
+    fn most() -> usize {
+        MAX_SCRIPTS + 1
+    }
+
     #[tactic(auto, unfolding(crate::specs::Actions::script_of))]
-    fn read(alloc: Global, values: &[Value]) -> Result<Option<Script>, AllocError> {
-        let actions: Result<Vec<Action>, FileFault> = pieces_in(alloc, values);
-        match actions {
-            Ok(actions) => Ok(Some(Script::new(actions))),
-            Err(FileFault::NoMemory) => Err(AllocError),
-            Err(_) => Ok(None),
+    fn read(alloc: Global, reader: &mut Reader<'_>, depth: usize) -> Result<Option<Script>, Stop> {
+        let actions: Pieces<Action> = pieces_in(alloc, reader, depth)?;
+        if actions.are_all {
+            Ok(Some(Script::new(actions.pieces)))
+        } else {
+            Ok(None)
         }
     }
 }
@@ -103,16 +124,15 @@ fn are_scripts(tries: u64, scripts: &[Script]) -> bool
 }
 
 #[tactic(auto, unfolding(crate::specs::ScriptFile::work_of))]
-fn work_in(alloc: Global, value: &Value) -> Result<Scripts, FileFault>
-    ensures { Gives (λ work. work) result (work_of (view value.now)) }
+fn work_in(alloc: Global, text: &str) -> Result<Scripts, FileFault>
+    ensures { Gives (λ work. work) result (work_of (data_in text.now)) }
 {
-    let version = number_member_in(value, "version")?;
-    let workers = number_member_in(value, "workers")?;
-    let stripes = number_member_in(value, "stripes")?;
-    let buckets = number_member_in(value, "buckets")?;
-    let tries = number_member_in(value, "tries")?;
-    let pieces = array_member_in(value, "scripts")?;
-    let scripts: Vec<Script> = pieces_in(alloc, pieces)?;
+    let version = number_member_in(alloc, text, "version")?;
+    let workers = number_member_in(alloc, text, "workers")?;
+    let stripes = number_member_in(alloc, text, "stripes")?;
+    let buckets = number_member_in(alloc, text, "buckets")?;
+    let tries = number_member_in(alloc, text, "tries")?;
+    let scripts: Vec<Script> = pieces_member_in(alloc, text, "scripts")?;
     let limits = limits_in(workers, stripes, buckets)?;
     if version == 1 && are_scripts(tries, &scripts) {
         Ok(Scripts::new(limits, tries, scripts))
@@ -140,6 +160,6 @@ fn work_in(alloc: Global, value: &Value) -> Result<Scripts, FileFault>
 pub fn read_scripts(alloc: Global, bytes: &[u8]) -> Result<Scripts, FileFault>
     ensures { Gives (λ work. work) result (scripts_of bytes.now) }
 {
-    let value = value_in(alloc, bytes)?;
-    work_in(alloc, &value)
+    let text = text_in(alloc, bytes)?;
+    work_in(alloc, text)
 }

@@ -1,17 +1,21 @@
-ghost use Rattle.std.specs.Prelude.{◌≡◌, map};
+ghost use Rattle.std.specs.Prelude.{◌≡◌, suc, map};
 ghost use Rattle.serde_json.specs.View.{view};
 ghost use Rattle.txn_files.specs.Faults.{Gives};
 ghost use Rattle.txn_files.specs.Steps.{ask_of, numbered_of, step_of};
-ghost use Rattle.txn_files.specs.StepFile.{sizes_at, file_of, steps_of};
+ghost use Rattle.txn_files.specs.Tokens.{data_in};
+ghost use Rattle.txn_files.specs.StepFile.{max_steps, sizes_at, file_of, steps_of};
 
 use crate::elements::{number_in, one_in, two_in, word_in};
 use crate::file_fault::FileFault;
-use crate::json::{array_member_in, number_member_in, value_in};
+use crate::members::{number_member_in, pieces_member_in, text_in};
 use crate::operation::op_in;
 use crate::part::Part;
-use crate::piece::{Piece, pieces_in};
+use crate::piece::Piece;
+use crate::plain::plain_elements;
+use crate::stop::Stop;
+use json::Reader;
 use serde_json::Value;
-use std::alloc::{AllocError, Global};
+use std::alloc::Global;
 use txn_trace::{Limits, Step};
 
 /// How many steps a file may have.
@@ -85,12 +89,23 @@ impl Piece for Step {
 
     ghost part = { parts.Step };
 
+    ghost most = { suc max_steps };
+
     fn part() -> Part {
         Part::Step
     }
 
-    fn read(_alloc: Global, values: &[Value]) -> Result<Option<Step>, AllocError> {
-        Ok(step_in(values))
+    fn most() -> usize {
+        MAX_STEPS + 1
+    }
+
+    #[tactic(auto, using(crate::proofs::PlainPieces::no_step))]
+    fn read(alloc: Global, reader: &mut Reader<'_>, depth: usize) -> Result<Option<Step>, Stop> {
+        let elements = plain_elements(alloc, reader, depth)?;
+        match elements {
+            Some(values) => Ok(step_in(&values)),
+            None => Ok(None),
+        }
     }
 }
 
@@ -105,15 +120,14 @@ pub fn limits_in(callers: u64, stripes: u64, buckets: u64) -> Result<Limits, Fil
 }
 
 #[tactic(auto, unfolding(crate::specs::StepFile::steps_of))]
-fn steps_in(alloc: Global, value: &Value) -> Result<(Limits, Vec<Step>), FileFault>
-    ensures { Gives (λ file. (file.0, file.1.items)) result (steps_of (view value.now)) }
+fn steps_in(alloc: Global, text: &str) -> Result<(Limits, Vec<Step>), FileFault>
+    ensures { Gives (λ file. (file.0, file.1.items)) result (steps_of (data_in text.now)) }
 {
-    let version = number_member_in(value, "version")?;
-    let callers = number_member_in(value, "callers")?;
-    let stripes = number_member_in(value, "stripes")?;
-    let buckets = number_member_in(value, "buckets")?;
-    let pieces = array_member_in(value, "steps")?;
-    let steps: Vec<Step> = pieces_in(alloc, pieces)?;
+    let version = number_member_in(alloc, text, "version")?;
+    let callers = number_member_in(alloc, text, "callers")?;
+    let stripes = number_member_in(alloc, text, "stripes")?;
+    let buckets = number_member_in(alloc, text, "buckets")?;
+    let steps: Vec<Step> = pieces_member_in(alloc, text, "steps")?;
     let limits = limits_in(callers, stripes, buckets)?;
     if version == 1 && steps.len() <= MAX_STEPS {
         Ok((limits, steps))
@@ -138,6 +152,6 @@ fn steps_in(alloc: Global, value: &Value) -> Result<(Limits, Vec<Step>), FileFau
 pub fn read_steps(alloc: Global, bytes: &[u8]) -> Result<(Limits, Vec<Step>), FileFault>
     ensures { Gives (λ file. (file.0, file.1.items)) result (file_of bytes.now) }
 {
-    let value = value_in(alloc, bytes)?;
-    steps_in(alloc, &value)
+    let text = text_in(alloc, bytes)?;
+    steps_in(alloc, text)
 }
