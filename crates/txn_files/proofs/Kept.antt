@@ -1,19 +1,44 @@
 -- The first pieces of a file, of which one more is kept than a file may have.
-use Rattle.std.proofs.Common.{◌≡◌, ℕ, suc, ◌<◌, List, length, take, Bool, true, false, cond, true≢false, Result, Ok, Err, inl, inr, refl, sym, ap, ◌∙◌, arith}
+use Rattle.std.proofs.Common.{◌≡◌, ℕ, suc, ◌<◌, List, length, take, Bool, true, false, cond, Option, Some, None, option_and_then, Result, Ok, Err, inl, inr, refl, sym, ap, arith}
 use Rattle.std.proofs.lemmas.Bool.{cases_lt}
 use Rattle.std.proofs.lemmas.List.{length-take, take_all}
+use Rattle.serde_json.specs.Data.{Data}
+use Rattle.txn_files.specs.declared.part.Part.{Part}
+use Rattle.txn_files.specs.declared.piece.Pieces.{Pieces}
 use Rattle.txn_files.specs.declared.file_fault.FileFault.{FileFault}
-use Rattle.txn_files.specs.declared.file_fault.FileFault.TheVariants.{Limit}
-use Rattle.txn_files.specs.Faults.{◌>>=◌}
-use Rattle.txn_files.specs.Tokens.{first_of}
+use Rattle.txn_files.specs.declared.file_fault.FileFault.TheVariants.{Member, Piece, Limit}
+use Rattle.txn_files.specs.Elements.{number_of, elements_of}
+use Rattle.txn_files.specs.Faults.{◌>>=◌, or_fault}
+use Rattle.txn_files.specs.Members.{GivesMember, IsNumberOf, ArePiecesOf, pieces_found}
+use Rattle.txn_files.specs.Pieces.{pieces_from}
+use Rattle.txn_files.specs.Tokens.{outcome, first_of}
 
-pub both_read : {A B : Type 0} (r : Result A FileFault) (f : A → Result B FileFault) (b : B) → (r >>= f) ≡ Ok b → (a : A) × (r ≡ Ok a) × (f a ≡ Ok b)
-both_read (Ok a) f b e = (a, refl, e)
-both_read (Err x) f b e = absurd (grind (arith, e))
+pub number_read : (found : Option ℕ) (o : Option Data) → GivesMember IsNumberOf found o → option_and_then number_of o ≡ found
+number_read found None h = sym h
+number_read found (Some d) h = sym h
 
-pub all_read : {P : Type 0} (most : ℕ) (wanted : Result (List P) FileFault) (ps : List P) → first_of most wanted ≡ Ok ps → (all : List P) × (wanted ≡ Ok all) × (ps ≡ take most all)
-all_read most (Ok all) ps e = (all, refl, grind (arith, e))
-all_read most (Err x) ps e = absurd (grind (arith, e))
+-- what was found is the first of what is wanted
+found_is : {P : Type 0} (part : Part) (most : ℕ) (b : Bool) (items all : List P) (count : ℕ) (wanted : Result (List P) FileFault)
+    → wanted ≡ outcome part b all → count ≡ length all → items ≡ take most all → cond b (Ok items) (Err (Piece part count)) ≡ first_of most wanted
+found_is part most true items all count wanted e counted kept = rw (e, kept) refl
+found_is part most false items all count wanted e counted kept = rw (e, counted) refl
+
+pub pieces_read : {P : Type 0} (of : List Data → Option P) (part : Part) (most : ℕ) (found : Option (Pieces P)) (o : Option Data) → GivesMember (ArePiecesOf of part most) found o
+    → pieces_found part found ≡ first_of most (or_fault Member (option_and_then elements_of o) >>= pieces_from of part 0)
+pieces_read of part most found None h = rw h refl
+pieces_read of part most None (Some d) h = rw h refl
+pieces_read of part most (Some p) (Some d) h = rw h.1 (found_is part most p.are_all p.pieces.items h.2.0 p.count (pieces_from of part 0 h.0) h.2.1 h.2.2 h.2.3)
+
+-- ---- to go on with the first pieces, where that is to go on with all
+
+go_on : {P W : Type 0} (most : ℕ) (r : Result (List P) FileFault) (next : List P → Result W FileFault) → ((all : List P) → next (take most all) ≡ next all) → (r >>= next) ≡ (first_of most r >>= next)
+go_on most (Ok all) next same = sym (same all)
+go_on most (Err e) next same = refl
+
+pub kept_chain : {A P W : Type 0} (most : ℕ) (a : Result A FileFault) (f : A → Result (List P) FileFault) (next : List P → Result W FileFault) → ((all : List P) → next (take most all) ≡ next all)
+    → (a >>= λ x. (f x >>= next)) ≡ (first_of most (a >>= f) >>= next)
+kept_chain most (Ok x) f next same = go_on most (f x) next same
+kept_chain most (Err e) f next same = refl
 
 -- ---- a test that refuses what is longer than it may be answers the same for all pieces and for the first
 
@@ -21,25 +46,13 @@ module _ {P : Type 0} (m : ℕ) (test : List P → Bool) (refuses : (ps : List P
   still_long : (all : List P) → m < length all → m < length (take (suc m) all)
   still_long all more = rw length-take (omega (arith, more))
 
-  same_test : (all : List P) → test (take (suc m) all) ≡ test all
-  same_test all = elim (cases_lt m (length all)) [
-    | inl more ↦ refuses (take (suc m) all) (still_long all more) ∙ sym (refuses all more)
-    | inr short ↦ ap test (take_all (suc m) all (omega (arith, short)))
+  pub kept_same : {W : Type 0} (make : List P → W) (all : List P) → cond (test (take (suc m) all)) (Ok (make (take (suc m) all))) (Err Limit) ≡ cond (test all) (Ok (make all)) (Err Limit)
+  kept_same make all = elim (cases_lt m (length all)) [
+    | inl more ↦ rw (refuses (take (suc m) all) (still_long all more), refuses all more) refl
+    | inr short ↦ ap (λ (ps : List P). cond (test ps) (Ok (make ps)) (Err Limit)) (take_all (suc m) all (omega (arith, short)))
   ]
 
-  same_pieces : (all : List P) → test all ≡ true → take (suc m) all ≡ all
-  same_pieces all passes = elim (cases_lt m (length all)) [
-    | inl more ↦ absurd (true≢false (sym passes ∙ refuses all more))
-    | inr short ↦ take_all (suc m) all (omega (arith, short))
-  ]
-
-  -- what is answered where the pieces that are kept pass, and where they do not
-  pub kept_pass : {W : Type 0} (all ps : List P) (make : List P → W) → ps ≡ take (suc m) all → test ps ≡ true → cond (test all) (Ok (make all)) (Err Limit) ≡ Ok (make ps)
-  kept_pass all ps make kept passes =
-      let good : test all ≡ true = sym (same_test all) ∙ ap test (sym kept) ∙ passes in
-      ap (λ b. cond b (Ok (make all)) (Err Limit)) good ∙ ap (λ (qs : List P). Ok (make qs)) (sym (kept ∙ same_pieces all good))
-
-  pub kept_fail : {W : Type 0} (all ps : List P) (make : List P → W) → ps ≡ take (suc m) all → test ps ≡ false → cond (test all) (Ok (make all)) (Err Limit) ≡ Err Limit
-  kept_fail all ps make kept fails =
-      let bad : test all ≡ false = sym (same_test all) ∙ ap test (sym kept) ∙ fails in
-      ap (λ b. cond b (Ok (make all)) (Err Limit)) bad
+-- the same, behind a further answer
+pub kept_same_behind : {P S W : Type 0} (most : ℕ) (s : Result S FileFault) (next : S → List P → Result W FileFault) (all : List P) → ((x : S) → next x (take most all) ≡ next x all) → (s >>= λ x. next x (take most all)) ≡ (s >>= λ x. next x all)
+kept_same_behind most (Ok x) next all same = same x
+kept_same_behind most (Err e) next all same = refl

@@ -8,5 +8,6 @@ pub mod Loop
 pub mod Numerals
 pub mod PlainPieces
 pub mod Read
+pub mod Taken
 pub mod Turns
 pub mod Values

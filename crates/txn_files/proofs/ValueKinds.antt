@@ -3,10 +3,11 @@ use Rattle.std.proofs.Common.{◌≡◌, ℕ, zero, suc, ◌-◌, List, ◌∷�
 use Rattle.json.specs.Token.{Token}
 use Rattle.json.specs.Json.{parse_map}
 use Rattle.json.proofs.Grammar.{value_is}
-use Rattle.serde_json.specs.Data.{Num, unsigned, negative, float, Data, null, boolean, number, string, array, object, Items, Members}
-use Rattle.serde_json.specs.Find.{get, as_u64}
+use Rattle.serde_json.specs.Data.{Num, unsigned, negative, float, Data, null, boolean, number, string, array, object, Items, Members, no_members}
+use Rattle.serde_json.specs.Find.{as_u64}
 use Rattle.serde_json.specs.Read.{of_json, converted, number_of}
 use Rattle.txn_files.specs.Elements.{elements_of}
+use Rattle.txn_files.specs.Members.{members_within}
 use Rattle.txn_files.specs.Tokens.{value_at, items_at, members_at, is_whole, is_plain}
 use Rattle.txn_files.proofs.Values.{value_at-null, value_at-boolean, value_at-string, value_at-array, value_at-object, value_at-end_object, value_at-end_array, value_at-key, value_at-bad, too_deep_array, too_deep_object}
 
@@ -120,17 +121,17 @@ no_array (Token.boolean b) d h other = ap elements_of h
 no_array Token.null d h other = ap elements_of h
 no_array Token.bad d h other = absurd h
 
-no_object : (name : List ℕ) (t : Token) (d : Data) → Begins t d → opens_object t ≡ false → get name d ≡ None
-no_object name Token.begin_object d h other = true_is_false other
-no_object name Token.end_object d h other = absurd h
-no_object name Token.begin_array d h other = ap (get name) h.1
-no_object name Token.end_array d h other = absurd h
-no_object name (Token.key s) d h other = absurd h
-no_object name (Token.string s) d h other = ap (get name) h
-no_object name (Token.number s) d h other = ap (get name) h.1
-no_object name (Token.boolean b) d h other = ap (get name) h
-no_object name Token.null d h other = ap (get name) h
-no_object name Token.bad d h other = absurd h
+no_object : (t : Token) (d : Data) → Begins t d → opens_object t ≡ false → members_within d ≡ no_members
+no_object Token.begin_object d h other = true_is_false other
+no_object Token.end_object d h other = absurd h
+no_object Token.begin_array d h other = ap members_within h.1
+no_object Token.end_array d h other = absurd h
+no_object (Token.key s) d h other = absurd h
+no_object (Token.string s) d h other = ap members_within h
+no_object (Token.number s) d h other = ap members_within h.1
+no_object (Token.boolean b) d h other = ap members_within h
+no_object Token.null d h other = ap members_within h
+no_object Token.bad d h other = absurd h
 
 pub is_not_plain : (n : ℕ) (t : Token) (ts r : List Token) (d : Data) → value_at n (t ∷ ts) ≡ Some (d, r) → can_be_plain t ≡ false → is_plain d ≡ false
 is_not_plain n t ts r d e other = no_plain t d (begins n t ts r d e) other
@@ -138,8 +139,8 @@ is_not_plain n t ts r d e other = no_plain t d (begins n t ts r d e) other
 pub is_not_array : (n : ℕ) (t : Token) (ts r : List Token) (d : Data) → value_at n (t ∷ ts) ≡ Some (d, r) → opens_array t ≡ false → elements_of d ≡ None
 is_not_array n t ts r d e other = no_array t d (begins n t ts r d e) other
 
-pub is_not_object : (name : List ℕ) (n : ℕ) (t : Token) (ts r : List Token) (d : Data) → value_at n (t ∷ ts) ≡ Some (d, r) → opens_object t ≡ false → get name d ≡ None
-is_not_object name n t ts r d e other = no_object name t d (begins n t ts r d e) other
+pub is_not_object : (n : ℕ) (t : Token) (ts r : List Token) (d : Data) → value_at n (t ∷ ts) ≡ Some (d, r) → opens_object t ≡ false → members_within d ≡ no_members
+is_not_object n t ts r d e other = no_object t d (begins n t ts r d e) other
 
 pub is_unsigned : (x : Num) (n : ℕ) → as_u64 x ≡ Some n → x ≡ unsigned n
 is_unsigned (unsigned m) n e = grind (arith, e)

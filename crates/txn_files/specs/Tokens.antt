@@ -3,7 +3,7 @@ use Rattle.std.specs.Prelude.{◌≡◌, ℕ, zero, suc, List, [], ◌∷◌, le
 use Rattle.json.specs.Token.{Token}
 use Rattle.json.specs.Json.{value, items, members}
 use Rattle.serde_json.specs.Data.{Num, unsigned, negative, float, Data, null, boolean, number, string, array, object, Items, no_items, item, Members, no_members}
-use Rattle.serde_json.specs.Read.{of_json, of_items, of_members, converted, read}
+use Rattle.serde_json.specs.Read.{of_json, of_items, of_members, converted}
 use Rattle.std.specs.declared.alloc.Global.{Global}
 use Rattle.serde_json.specs.View.{view}
 use Rattle.serde_json.specs.declared.value.Value.{Value}
@@ -72,16 +72,3 @@ Finds {P} part most pieces count are_all wanted = (all : List P) × (wanted ≡ 
 -- the first pieces, where all are pieces
 abbrev pub first_of : {P : Type 0} → ℕ → Result (List P) FileFault → Result (List P) FileFault
 first_of most wanted = wanted >>= λ pieces. Ok (take most pieces)
-
--- what a text is, or null
-abbrev pub or_null : Option Data → Data
-or_null None = null
-or_null (Some d) = d
-
-abbrev pub data_in : List ℕ → Data
-data_in text = or_null (read text)
-
--- what is read of a member, where it is there
-abbrev pub GivesMember : {M : Type 0} → (Option M → Data → Type 0) → Option M → Option Data → Type 0
-GivesMember gives found None = found ≡ None
-GivesMember gives found (Some d) = gives found d

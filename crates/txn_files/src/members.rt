@@ -1,19 +1,16 @@
-//! The text that a file is, and the members of its object.
+//! What is wanted of a file: the last members of some names of the object that it is.
 //!
-//! A member is sought by reading the text to its end, since the last member of a name counts. Nothing
-//! is kept of the members that are passed over.
+//! The text is read once, token by token. Nothing is kept of the members that are passed over.
 
-ghost use Rattle.std.specs.Prelude.{◌≡◌, ◌∷◌, ◌≤◌, List, Option, Some, None, Err, IfOk, OnOk, MatchOption, length, IsSome};
-ghost use Rattle.std.specs.Bool.{MatchBool};
+ghost use Rattle.std.specs.Prelude.{◌≡◌, ◌∷◌, ◌≤◌, Option, Some, None, Ok, Err, IfOk, OnOk, MatchResult, length};
 ghost use Rattle.json.specs.Reads.{token_of};
-ghost use Rattle.serde_json.specs.Data.{Data, Members};
-ghost use Rattle.serde_json.specs.Find.{get, get_member};
+ghost use Rattle.serde_json.specs.Data.{Data, Members, no_members, put};
 ghost use Rattle.serde_json.specs.Read.{max_depth, read};
-ghost use Rattle.txn_files.specs.Elements.{elements_of, number_of};
-ghost use Rattle.txn_files.specs.Faults.{Gives};
-ghost use Rattle.txn_files.specs.Json.{json_of, number_member};
-ghost use Rattle.txn_files.specs.Pieces.{pieces_from, pieces_member};
-ghost use Rattle.txn_files.specs.Tokens.{value_at, members_at, data_in, Finds, first_of, GivesMember};
+ghost use Rattle.txn_files.specs.Faults.{Fails, Gives, or_fault};
+ghost use Rattle.txn_files.specs.Json.{json_of};
+ghost use Rattle.txn_files.specs.Members.{members_within, IsNumberOf, ArePiecesOf, pieces_found};
+ghost use Rattle.txn_files.specs.Tokens.{value_at, members_at};
+ghost use Rattle.txn_files.specs.declared.file_fault.FileFault.TheVariants.{Member as NoMember, NotJson as NoJson};
 ghost use Rattle.txn_files.specs.declared.stop.Stop.TheVariants.{NotJson};
 
 use crate::file_fault::FileFault;
@@ -22,7 +19,7 @@ use crate::piece::{Piece, Pieces, pieces_in};
 use crate::plain::plain_value;
 use crate::stop::Stop;
 use json::{Reader, Scratch, Token};
-use std::alloc::{AllocError, Global};
+use std::alloc::Global;
 
 /// The length that a file may have, in bytes.
 const MAX_BYTES: usize = 16_777_216;
@@ -31,7 +28,7 @@ const MAX_BYTES: usize = 16_777_216;
 const MAX_DEPTH: usize = 127;
 
 /// What a member can be.
-trait Member: Sized + Drop {
+pub trait Member: Sized + Drop {
     /// What is read of a value.
     ghost gives: { Option Self → Data → Type 0 };
 
@@ -49,7 +46,7 @@ trait Member: Sized + Drop {
 }
 
 impl Member for u64 {
-    ghost gives = { λ found d. found ≡ number_of d };
+    ghost gives = { IsNumberOf };
 
     fn read(
         alloc: Global,
@@ -67,7 +64,7 @@ impl Member for u64 {
 
 /// The pieces of an array.
 impl<P: Piece> Member for Pieces<P> {
-    ghost gives = { λ found d. MatchOption found (elements_of d ≡ None) (λ p. (ds : List Data) × (elements_of d ≡ Some ds) × Finds P.part P.most p.pieces.items p.count p.are_all (pieces_from P.of P.part 0 ds)) };
+    ghost gives = { ArePiecesOf P.of P.part P.most };
 
     fn read(
         alloc: Global,
@@ -98,40 +95,69 @@ impl<P: Piece> Member for Pieces<P> {
     }
 }
 
-/// The last member of this name of an object, whose brace was taken.
-fn last_member<M: Member>(
-    alloc: Global,
-    reader: &mut Reader<'_>,
-    name: &str,
-    depth: usize,
-) -> Result<Option<M>, Stop>
-    ensures ok { IfOk result (λ found. (ms : Members) × (members_at depth reader.old ≡ Some (ms, reader.new)) × GivesMember M.gives found (get_member name.now ms)) }
-    ensures err { result ≡ Err NotJson → members_at depth reader.old ≡ None }
-{
-    let mut found = None;
-    'members: while let Some(key) = reader.next_key()? {
-        let token = reader.next().ok_or(Stop::NotJson)?;
-        if key == name {
-            found = M::read(alloc, token, reader, depth)?;
-        } else {
-            pass_value(token, reader, depth)?;
-        }
-    }
-    Ok(found)
+/// What is wanted of an object: the last members of some names.
+pub trait Wanted: Sized + Drop {
+    /// Whether this is what is wanted of these members.
+    ghost found: { Self → Members → Type 0 };
+
+    /// Takes a further member of this key: the value that begins with this token, which was taken.
+    fn take(
+        &mut self,
+        alloc: Global,
+        key: &str,
+        token: Token<'_>,
+        reader: &mut Reader<'_>,
+        depth: usize,
+    ) -> Result<(), Stop>
+        ensures ok { OnOk result ((d : Data) × (value_at depth (token_of token.entry ∷ reader.old) ≡ Some (d, reader.new)) × ((ms : Members) → found self.old ms → found self.new (put key.now d ms))) }
+        ensures err { result ≡ Err NotJson → value_at depth (token_of token.entry ∷ reader.old) ≡ None }
+        ensures shorter { OnOk result (length reader.new ≤ length reader.old) };
 }
 
-/// The last member of this name of a value, where it is an object.
-fn value_member<M: Member>(
+/// Puts what is read of the value that begins with this token, which was taken, into the place of a
+/// member.
+pub fn put_member<M: Member>(
+    place: &mut Option<M>,
+    alloc: Global,
+    token: Token<'_>,
+    reader: &mut Reader<'_>,
+    depth: usize,
+) -> Result<(), Stop>
+    ensures ok { OnOk result ((d : Data) × (value_at depth (token_of token.entry ∷ reader.old) ≡ Some (d, reader.new)) × M.gives place.new d) }
+    ensures err { result ≡ Err NotJson → value_at depth (token_of token.entry ∷ reader.old) ≡ None }
+    ensures shorter { OnOk result (length reader.new ≤ length reader.old) }
+{
+    *place = M::read(alloc, token, reader, depth)?;
+    Ok(())
+}
+
+/// Takes all members of an object, whose brace was taken.
+fn take_members<W: Wanted>(
+    wanted: &mut W,
     alloc: Global,
     reader: &mut Reader<'_>,
-    name: &str,
-) -> Result<Option<M>, Stop>
-    ensures ok { IfOk result (λ found. (d : Data) × (value_at max_depth reader.old ≡ Some (d, reader.new)) × GivesMember M.gives found (get name.now d)) }
+    depth: usize,
+) -> Result<(), Stop>
+    requires { W.found wanted.old no_members }
+    ensures ok { OnOk result ((ms : Members) × (members_at depth reader.old ≡ Some (ms, reader.new)) × W.found wanted.new ms) }
+    ensures err { result ≡ Err NotJson → members_at depth reader.old ≡ None }
+{
+    'members: while let Some(key) = reader.next_key()? {
+        let token = reader.next().ok_or(Stop::NotJson)?;
+        wanted.take(alloc, key, token, reader, depth)?;
+    }
+    Ok(())
+}
+
+/// Takes all members of a value, where it is an object.
+fn take_value<W: Wanted>(wanted: &mut W, alloc: Global, reader: &mut Reader<'_>) -> Result<(), Stop>
+    requires { W.found wanted.old no_members }
+    ensures ok { OnOk result ((d : Data) × (value_at max_depth reader.old ≡ Some (d, reader.new)) × W.found wanted.new (members_within d)) }
     ensures err { result ≡ Err NotJson → value_at max_depth reader.old ≡ None }
 {
     let token = reader.next().ok_or(Stop::NotJson)?;
     match token {
-        Token::BeginObject => last_member(alloc, reader, name, MAX_DEPTH - 1),
+        Token::BeginObject => take_members(wanted, alloc, reader, MAX_DEPTH - 1),
         Token::BeginArray
         | Token::EndObject
         | Token::EndArray
@@ -142,49 +168,41 @@ fn value_member<M: Member>(
         | Token::Null
         | Token::Bad => {
             pass_value(token, reader, MAX_DEPTH)?;
-            Ok(None)
+            Ok(())
         }
     }
 }
 
-/// The last member of this name of the object that a text is.
-fn member_in<M: Member>(alloc: Global, text: &str, name: &str) -> Result<Option<M>, AllocError>
-    ensures { IfOk result (λ found. GivesMember M.gives found (get name.now (data_in text.now))) }
+/// What is wanted of the object that a text is.
+fn members_in_text<W: Wanted>(alloc: Global, text: &str, wanted: W) -> Result<W, FileFault>
+    requires { W.found wanted no_members }
+    ensures { MatchResult result
+        (λ found. (d : Data) × (read text.now ≡ Some d) × W.found found (members_within d))
+        (λ fault. Fails fault (or_fault NoJson (read text.now))) }
 {
+    let mut found = wanted;
     let mut scratch = Scratch::new(alloc);
     let mut reader = Reader::new(text, &mut scratch)?;
-    match value_member(alloc, &mut reader, name) {
-        Ok(found) => {
+    match take_value(&mut found, alloc, &mut reader) {
+        Ok(()) => {
             if reader.next().is_none() {
                 Ok(found)
             } else {
-                Ok(None)
+                Err(FileFault::NotJson)
             }
         }
-        Err(Stop::NotJson) => Ok(None),
-        Err(Stop::NoMemory) => Err(AllocError),
+        Err(Stop::NotJson) => Err(FileFault::NotJson),
+        Err(Stop::NoMemory) => Err(FileFault::NoMemory),
     }
 }
 
-/// Whether a text is JSON.
-fn is_json(alloc: Global, text: &str) -> Result<bool, AllocError>
-    ensures { IfOk result (λ is. MatchBool is (IsSome (read text.now)) (read text.now ≡ None)) }
-{
-    let mut scratch = Scratch::new(alloc);
-    let mut reader = Reader::new(text, &mut scratch)?;
-    let Some(token) = reader.next() else {
-        return Ok(false);
-    };
-    if pass_value(token, &mut reader, MAX_DEPTH).is_err() {
-        return Ok(false);
-    }
-    Ok(reader.next().is_none())
-}
-
-/// The text that the bytes are, where it is JSON.
+/// What is wanted of the object that a file is: nothing, where it is another value.
 #[tactic(auto, unfolding(crate::specs::Json::json_of))]
-pub fn text_in(alloc: Global, bytes: &[u8]) -> Result<&str, FileFault>
-    ensures { Gives (λ text. data_in text.now) result (json_of bytes.now) }
+pub fn members_in<W: Wanted>(alloc: Global, bytes: &[u8], wanted: W) -> Result<W, FileFault>
+    requires { W.found wanted no_members }
+    ensures { MatchResult result
+        (λ found. (d : Data) × (json_of bytes.now ≡ Ok d) × W.found found (members_within d))
+        (λ fault. Fails fault (json_of bytes.now)) }
 {
     if bytes.len() > MAX_BYTES {
         return Err(FileFault::Limit);
@@ -192,34 +210,24 @@ pub fn text_in(alloc: Global, bytes: &[u8]) -> Result<&str, FileFault>
     let Ok(text) = std::str::from_utf8(bytes) else {
         return Err(FileFault::NotJson);
     };
-    if is_json(alloc, text)? {
-        Ok(text)
-    } else {
-        Err(FileFault::NotJson)
-    }
+    members_in_text(alloc, text, wanted)
 }
 
-/// The member of this name, which is a whole number below 2^64.
-pub fn number_member_in(alloc: Global, text: &str, name: &str) -> Result<u64, FileFault>
-    ensures { Gives (λ number. number) result (number_member name.now (data_in text.now)) }
+/// The number in a member, or the fault where there is none.
+pub fn number_found(found: Option<u64>) -> Result<u64, FileFault>
+    ensures { Gives (λ number. number) result (or_fault NoMember found) }
 {
-    let found = member_in(alloc, text, name)?;
     match found {
         Some(number) => Ok(number),
         None => Err(FileFault::Member),
     }
 }
 
-/// The pieces in the member of this name, which is an array: the first, as many as are kept. The fault
-/// is that of the first element that is none.
-pub fn pieces_member_in<P: Piece>(
-    alloc: Global,
-    text: &str,
-    name: &str,
-) -> Result<Vec<P>, FileFault>
-    ensures { Gives (λ pieces. pieces.items) result (first_of P.most (pieces_member P.of P.part name.now (data_in text.now))) }
+/// The pieces in a member, or the fault where there is none, or the fault of the first element that is
+/// none.
+pub fn pieces_kept<P: Piece>(found: Option<Pieces<P>>) -> Result<Vec<P>, FileFault>
+    ensures { Gives (λ pieces. pieces.items) result (pieces_found P.part found) }
 {
-    let found: Option<Pieces<P>> = member_in(alloc, text, name)?;
     let Some(
         Pieces {
             pieces,

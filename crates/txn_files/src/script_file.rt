@@ -1,23 +1,25 @@
-ghost use Rattle.std.specs.Prelude.{◌≡◌, suc, map};
+ghost use Rattle.std.specs.Prelude.{◌≡◌, suc, map, None, codes};
 ghost use Rattle.std.specs.List.{list_all};
 ghost use Rattle.serde_json.specs.View.{view};
 ghost use Rattle.txn_files.specs.Faults.{Gives};
 ghost use Rattle.txn_files.specs.Actions.{action_of, script_of};
-ghost use Rattle.txn_files.specs.Tokens.{data_in};
-ghost use Rattle.txn_files.specs.ScriptFile.{max_scripts, is_short, are_scripts, work_of, scripts_of};
+ghost use Rattle.txn_files.specs.Members.{GivesLast, IsNumberOf, ArePiecesOf, pieces_found, work_from};
+ghost use Rattle.txn_files.specs.declared.part.Part.TheVariants.{Script as script_part};
+ghost use Rattle.txn_files.specs.ScriptFile.{max_scripts, is_short, are_scripts, scripts_of};
 
 use crate::elements::{end_in, one_in, word_in};
 use crate::file_fault::FileFault;
-use crate::members::{number_member_in, pieces_member_in, text_in};
+use crate::members::{Wanted, members_in, number_found, pieces_kept, put_member};
 use crate::operation::op_in;
 use crate::part::Part;
+use crate::passing::pass_value;
 use crate::piece::{Piece, Pieces, pieces_in};
 use crate::plain::plain_elements;
 use crate::script::Script;
 use crate::scripts::Scripts;
 use crate::step_file::limits_in;
 use crate::stop::Stop;
-use json::Reader;
+use json::{Reader, Token};
 use serde_json::Value;
 use std::alloc::Global;
 use txn_trace::Action;
@@ -123,16 +125,74 @@ fn are_scripts(tries: u64, scripts: &[Script]) -> bool
     tries <= MAX_TRIES && scripts.len() <= MAX_SCRIPTS && are_short(scripts)
 }
 
-#[tactic(auto, unfolding(crate::specs::ScriptFile::work_of))]
-fn work_in(alloc: Global, text: &str) -> Result<Scripts, FileFault>
-    ensures { Gives (λ work. work) result (work_of (data_in text.now)) }
+/// The members of a script file.
+#[derive(Drop)]
+struct ScriptMembers {
+    version: Option<u64>,
+    workers: Option<u64>,
+    stripes: Option<u64>,
+    buckets: Option<u64>,
+    tries: Option<u64>,
+    scripts: Option<Pieces<Script>>,
+}
+
+impl ScriptMembers {
+    fn new() -> ScriptMembers
+        ensures { (result.version ≡ None) × (result.workers ≡ None) × (result.stripes ≡ None) × (result.buckets ≡ None) × (result.tries ≡ None) × (result.scripts ≡ None) }
+    {
+        ScriptMembers {
+            version: None,
+            workers: None,
+            stripes: None,
+            buckets: None,
+            tries: None,
+            scripts: None,
+        }
+    }
+}
+
+impl Wanted for ScriptMembers {
+    ghost use Rattle.txn_files.specs.declared.part.Part.TheVariants as parts;
+
+    ghost found = { λ m ms. GivesLast IsNumberOf m.version (codes "version") ms × GivesLast IsNumberOf m.workers (codes "workers") ms × GivesLast IsNumberOf m.stripes (codes "stripes") ms × GivesLast IsNumberOf m.buckets (codes "buckets") ms × GivesLast IsNumberOf m.tries (codes "tries") ms × GivesLast (ArePiecesOf script_of parts.Script (suc max_scripts)) m.scripts (codes "scripts") ms };
+
+    fn take(
+        &mut self,
+        alloc: Global,
+        key: &str,
+        token: Token<'_>,
+        reader: &mut Reader<'_>,
+        depth: usize,
+    ) -> Result<(), Stop> {
+        if key == "version" {
+            put_member(&mut self.version, alloc, token, reader, depth)
+        } else if key == "workers" {
+            put_member(&mut self.workers, alloc, token, reader, depth)
+        } else if key == "stripes" {
+            put_member(&mut self.stripes, alloc, token, reader, depth)
+        } else if key == "buckets" {
+            put_member(&mut self.buckets, alloc, token, reader, depth)
+        } else if key == "tries" {
+            put_member(&mut self.tries, alloc, token, reader, depth)
+        } else if key == "scripts" {
+            put_member(&mut self.scripts, alloc, token, reader, depth)
+        } else {
+            pass_value(token, reader, depth)?;
+            Ok(())
+        }
+    }
+}
+
+#[tactic(auto, unfolding(crate::specs::Members::work_from))]
+fn work_in(members: ScriptMembers) -> Result<Scripts, FileFault>
+    ensures { Gives (λ work. work) result (work_from members.version members.workers members.stripes members.buckets members.tries (pieces_found script_part members.scripts)) }
 {
-    let version = number_member_in(alloc, text, "version")?;
-    let workers = number_member_in(alloc, text, "workers")?;
-    let stripes = number_member_in(alloc, text, "stripes")?;
-    let buckets = number_member_in(alloc, text, "buckets")?;
-    let tries = number_member_in(alloc, text, "tries")?;
-    let scripts: Vec<Script> = pieces_member_in(alloc, text, "scripts")?;
+    let version = number_found(members.version)?;
+    let workers = number_found(members.workers)?;
+    let stripes = number_found(members.stripes)?;
+    let buckets = number_found(members.buckets)?;
+    let tries = number_found(members.tries)?;
+    let scripts = pieces_kept(members.scripts)?;
     let limits = limits_in(workers, stripes, buckets)?;
     if version == 1 && are_scripts(tries, &scripts) {
         Ok(Scripts::new(limits, tries, scripts))
@@ -160,6 +220,6 @@ fn work_in(alloc: Global, text: &str) -> Result<Scripts, FileFault>
 pub fn read_scripts(alloc: Global, bytes: &[u8]) -> Result<Scripts, FileFault>
     ensures { Gives (λ work. work) result (scripts_of bytes.now) }
 {
-    let text = text_in(alloc, bytes)?;
-    work_in(alloc, text)
+    let members = members_in(alloc, bytes, ScriptMembers::new())?;
+    work_in(members)
 }
