@@ -100,9 +100,11 @@ impl Piece for Script {
 
     #[tactic(auto, unfolding(crate::specs::Actions::script_of))]
     fn read(alloc: Global, reader: &mut Reader<'_>, depth: usize) -> Result<Option<Script>, Stop> {
-        let actions: Pieces<Action> = pieces_in(alloc, reader, depth)?;
-        if actions.are_all {
-            Ok(Some(Script::new(actions.pieces)))
+        let found: Pieces<Action> = pieces_in(alloc, reader, depth)?;
+        if found.are_all {
+            let mut actions = found.pieces;
+            actions.shrink_to_fit();
+            Ok(Some(Script::new(actions)))
         } else {
             Ok(None)
         }
