@@ -228,19 +228,14 @@ pub fn number_found(found: Option<u64>) -> Result<u64, FileFault>
 pub fn pieces_kept<P: Piece>(found: Option<Pieces<P>>) -> Result<Vec<P>, FileFault>
     ensures { Gives (λ pieces. pieces.items) result (pieces_found P.part found) }
 {
-    let Some(
-        Pieces {
-            pieces,
-            count,
-            are_all,
-        },
-    ) = found
-    else {
-        return Err(FileFault::Member);
-    };
-    if are_all {
-        Ok(pieces)
-    } else {
-        Err(FileFault::Piece(P::part(), count))
+    match found {
+        Some(found) => {
+            if found.are_all {
+                Ok(found.pieces)
+            } else {
+                Err(FileFault::Piece(P::part(), found.count))
+            }
+        }
+        None => Err(FileFault::Member),
     }
 }

@@ -29,8 +29,8 @@ pub trait Piece: Sized + Drop {
     fn part() -> Part
         ensures { result ≡ part };
 
-    /// How many pieces of an array are kept: where a file may have fewer than there are, one more than
-    /// it may have. Fixed cost.
+    /// How many pieces of an array are kept: one more than a file may have, which shows that there are
+    /// too many. Fixed cost.
     fn most() -> usize
         ensures { result ≡ most };
 
