@@ -1,5 +1,6 @@
 -- What reading JSON says of the bytes.
-use Rattle.std.proofs.Common.{◌≡◌, ℕ, ◌≤◌, Bool, true, false, cond, List, length, Option, Some, None, Ok, Err, refl, ap}
+use Rattle.std.proofs.Common.{◌≡◌, ℕ, ◌≤◌, Bool, true, false, cond, List, length, Option, None, Result, Ok, Err, refl, sym, ap}
+use Rattle.std.specs.Prelude.{MatchResult}
 use Rattle.std.specs.Str.{IsUtf8, is_utf8}
 use Rattle.std.proofs.lemmas.Str.{is_utf8-from_IsUtf8, IsUtf8-from_is_utf8}
 use Rattle.std.proofs.lemmas.Bool.{le-leb}
@@ -9,9 +10,9 @@ use Rattle.txn_files.specs.declared.file_fault.FileFault.TheVariants.{NotJson}
 use Rattle.txn_files.specs.Faults.{or_fault}
 use Rattle.txn_files.specs.Json.{json_of, max_bytes}
 
-pub json_of-read : (bytes : List ℕ) (d : Data) → length bytes ≤ max_bytes → IsUtf8 bytes → read bytes ≡ Some d → json_of bytes ≡ Ok d
+pub json_of-is : (bytes text : List ℕ) → length bytes ≤ max_bytes → IsUtf8 bytes → text ≡ bytes → json_of bytes ≡ or_fault NotJson (read text)
 unfolding json_of
-json_of-read bytes d short text e = rw (le-leb (length bytes) max_bytes short, is_utf8-from_IsUtf8 bytes text) (ap (or_fault NotJson) e)
+json_of-is bytes text short is_text same = rw (le-leb (length bytes) max_bytes short, is_utf8-from_IsUtf8 bytes is_text) (ap (λ s. or_fault NotJson (read s)) (sym same))
 
 -- by what is read, where the bytes are text
 chosen : (is_text : Bool) (found : Option Data) → (is_text ≡ true → found ≡ None) → cond is_text (or_fault NotJson found) (Err NotJson) ≡ Err NotJson
@@ -21,3 +22,7 @@ chosen false found none = refl
 pub json_of-unread : (bytes : List ℕ) → length bytes ≤ max_bytes → (IsUtf8 bytes → read bytes ≡ None) → json_of bytes ≡ Err NotJson
 unfolding json_of
 json_of-unread bytes short none = rw (le-leb (length bytes) max_bytes short) (chosen (is_utf8 bytes) (read bytes) (λ e. none (IsUtf8-from_is_utf8 bytes e)))
+
+pub match_weaker : {A E : Type 0} {P P' : A → Type 0} {Q Q' : E → Type 0} (r : Result A E) → ((a : A) → P a → P' a) → ((e : E) → Q e → Q' e) → MatchResult r P Q → MatchResult r P' Q'
+match_weaker (Ok a) f g h = f a h
+match_weaker (Err e) f g h = g e h

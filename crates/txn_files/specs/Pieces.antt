@@ -6,6 +6,7 @@ use Rattle.txn_files.specs.declared.file_fault.FileFault.{FileFault}
 use Rattle.txn_files.specs.declared.file_fault.FileFault.TheVariants.{Piece}
 use Rattle.txn_files.specs.Faults.{◌>>=◌, or_fault}
 use Rattle.txn_files.specs.Elements.{elements_of}
+use Rattle.txn_files.specs.Json.{array_member}
 
 -- the piece at an index, by the elements that pieces of its kind have
 abbrev pub piece_at : {P : Type 0} → (List Data → Option P) → Part → ℕ → Data → Result P FileFault
@@ -18,3 +19,7 @@ pieces_from of part i (d ∷ ds) = do
   first ← piece_at of part i d
   others ← pieces_from of part (suc i) ds
   Ok (first ∷ others)
+
+-- the pieces in the member of this name
+abbrev pub pieces_member : {P : Type 0} → (List Data → Option P) → Part → List ℕ → Data → Result (List P) FileFault
+pieces_member of part name d = array_member name d >>= pieces_from of part 0

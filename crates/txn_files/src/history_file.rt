@@ -1,18 +1,24 @@
-ghost use Rattle.std.specs.Prelude.{◌≡◌, map};
+ghost use Rattle.std.specs.Prelude.{◌≡◌, suc, map, None, codes};
 ghost use Rattle.std.specs.List.{list_all};
 ghost use Rattle.serde_json.specs.View.{view};
 ghost use Rattle.txn_files.specs.Faults.{Gives};
 ghost use Rattle.txn_files.specs.Entries.{busy_of, entry_named, entry_of};
-ghost use Rattle.txn_files.specs.HistoryFile.{is_in_range, is_history, entries_of, history_of};
+ghost use Rattle.txn_files.specs.Members.{GivesLast, IsNumberOf, ArePiecesOf, pieces_found, entries_from};
+ghost use Rattle.txn_files.specs.declared.part.Part.TheVariants.{Entry as entry_part};
+ghost use Rattle.txn_files.specs.HistoryFile.{max_entries, is_in_range, is_history, history_of};
 
 use crate::elements::{end_in, number_in, one_in, optional_in, word_in};
 use crate::file_fault::FileFault;
-use crate::json::{array_member_in, number_member_in, value_in};
+use crate::members::{Wanted, members_in, number_found, pieces_kept, put_member};
 use crate::operation::{leading_op_in, op_in};
 use crate::part::Part;
-use crate::piece::{Piece, pieces_in};
+use crate::passing::pass_value;
+use crate::piece::{Piece, Pieces};
+use crate::plain::plain_elements;
+use crate::stop::Stop;
+use json::{Reader, Token};
 use serde_json::Value;
-use std::alloc::{AllocError, Global};
+use std::alloc::Global;
 use txn_trace::Entry;
 
 /// The largest number that a caller may have.
@@ -82,12 +88,23 @@ impl Piece for Entry {
 
     ghost part = { parts.Entry };
 
+    ghost most = { suc max_entries };
+
     fn part() -> Part {
         Part::Entry
     }
 
-    fn read(_alloc: Global, values: &[Value]) -> Result<Option<Entry>, AllocError> {
-        Ok(entry_in(values))
+    fn most() -> usize {
+        MAX_ENTRIES + 1
+    }
+
+    #[tactic(auto, using(crate::proofs::PlainPieces::no_entry))]
+    fn read(alloc: Global, reader: &mut Reader<'_>, depth: usize) -> Result<Option<Entry>, Stop> {
+        let elements = plain_elements(alloc, reader, depth)?;
+        match elements {
+            Some(values) => Ok(entry_in(&values)),
+            None => Ok(None),
+        }
     }
 }
 
@@ -123,14 +140,59 @@ fn is_history(stripes: u64, entries: &[Entry]) -> bool
     1 <= stripes && stripes <= MAX_STRIPES && entries.len() <= MAX_ENTRIES && are_in_range(entries)
 }
 
-#[tactic(auto, unfolding(crate::specs::HistoryFile::entries_of))]
-fn entries_in(alloc: Global, value: &Value) -> Result<(u32, Vec<Entry>), FileFault>
-    ensures { Gives (λ file. (file.0, file.1.items)) result (entries_of (view value.now)) }
+/// The members of a history file.
+#[derive(Drop)]
+struct HistoryMembers {
+    version: Option<u64>,
+    stripes: Option<u64>,
+    entries: Option<Pieces<Entry>>,
+}
+
+impl HistoryMembers {
+    fn new() -> HistoryMembers
+        ensures { (result.version ≡ None) × (result.stripes ≡ None) × (result.entries ≡ None) }
+    {
+        HistoryMembers {
+            version: None,
+            stripes: None,
+            entries: None,
+        }
+    }
+}
+
+impl Wanted for HistoryMembers {
+    ghost use Rattle.txn_files.specs.declared.part.Part.TheVariants as parts;
+
+    ghost found = { λ m ms. GivesLast IsNumberOf m.version (codes "version") ms × GivesLast IsNumberOf m.stripes (codes "stripes") ms × GivesLast (ArePiecesOf entry_of parts.Entry (suc max_entries)) m.entries (codes "entries") ms };
+
+    fn take(
+        &mut self,
+        alloc: Global,
+        key: &str,
+        token: Token<'_>,
+        reader: &mut Reader<'_>,
+        depth: usize,
+    ) -> Result<(), Stop> {
+        if key == "version" {
+            put_member(&mut self.version, alloc, token, reader, depth)
+        } else if key == "stripes" {
+            put_member(&mut self.stripes, alloc, token, reader, depth)
+        } else if key == "entries" {
+            put_member(&mut self.entries, alloc, token, reader, depth)
+        } else {
+            pass_value(token, reader, depth)?;
+            Ok(())
+        }
+    }
+}
+
+#[tactic(auto, unfolding(crate::specs::Members::entries_from))]
+fn entries_in(members: HistoryMembers) -> Result<(u32, Vec<Entry>), FileFault>
+    ensures { Gives (λ file. (file.0, file.1.items)) result (entries_from members.version members.stripes (pieces_found entry_part members.entries)) }
 {
-    let version = number_member_in(value, "version")?;
-    let stripes = number_member_in(value, "stripes")?;
-    let pieces = array_member_in(value, "entries")?;
-    let entries: Vec<Entry> = pieces_in(alloc, pieces)?;
+    let version = number_found(members.version)?;
+    let stripes = number_found(members.stripes)?;
+    let entries = pieces_kept(members.entries)?;
     if version == 1 && is_history(stripes, &entries) {
         Ok((stripes as u32, entries))
     } else {
@@ -156,6 +218,6 @@ fn entries_in(alloc: Global, value: &Value) -> Result<(u32, Vec<Entry>), FileFau
 pub fn read_history(alloc: Global, bytes: &[u8]) -> Result<(u32, Vec<Entry>), FileFault>
     ensures { Gives (λ file. (file.0, file.1.items)) result (history_of bytes.now) }
 {
-    let value = value_in(alloc, bytes)?;
-    entries_in(alloc, &value)
+    let members = members_in(alloc, bytes, HistoryMembers::new())?;
+    entries_in(members)
 }

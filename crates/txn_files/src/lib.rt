@@ -9,20 +9,27 @@
 //! A kind of file is an array of pieces in an object. Each kind of piece is a `Piece`, and the loop
 //! over the pieces is written and proved once, for all kinds.
 //!
+//! A file is read once, token by token. Members that are passed over are tested to be JSON, and nothing
+//! of them is kept; of its pieces no more are kept than show that there are too many.
+//!
 //! Time and memory are proportional to the length of the file or text.
 #![tactic(auto)]
 
 mod elements;
 mod file_fault;
 mod history_file;
-mod json;
+mod members;
+mod numeral;
 mod operation;
 mod part;
+mod passing;
 mod piece;
+mod plain;
 mod script;
 mod script_file;
 mod scripts;
 mod step_file;
+mod stop;
 mod text;
 
 pub use file_fault::FileFault;

@@ -1,15 +1,18 @@
-ghost use Rattle.std.specs.Prelude.{◌≡◌, List, Option, IfOk, map};
+ghost use Rattle.std.specs.Prelude.{◌≡◌, ℕ, ◌+◌, ◌^◌, ◌∷◌, ◌<◌, ◌≤◌, List, length, Option, Some, None, Err, MatchResult, IfOk, OnOk, option_and_then};
+ghost use Rattle.json.specs.Token.{Token as SpecToken};
+ghost use Rattle.json.specs.Reads.{token_of};
 ghost use Rattle.serde_json.specs.Data.{Data};
-ghost use Rattle.serde_json.specs.View.{view};
-ghost use Rattle.txn_files.specs.Faults.{Gives};
-ghost use Rattle.txn_files.specs.Pieces.{piece_at, pieces_from};
+ghost use Rattle.txn_files.specs.Elements.{elements_of};
+ghost use Rattle.txn_files.specs.Pieces.{pieces_from};
+ghost use Rattle.txn_files.specs.Tokens.{value_at, items_at, items_from, Finds};
 ghost use Rattle.txn_files.specs.declared.part.Part.{Part};
+ghost use Rattle.txn_files.specs.declared.stop.Stop.TheVariants.{NotJson, NoMemory};
 
-use crate::elements::elements_in;
-use crate::file_fault::FileFault;
 use crate::part::Part;
-use serde_json::Value;
-use std::alloc::{AllocError, Global};
+use crate::passing::pass_value;
+use crate::stop::Stop;
+use json::{Reader, Token};
+use std::alloc::Global;
 
 /// A kind of piece, of which a file has an array. Each piece is an array itself.
 pub trait Piece: Sized + Drop {
@@ -19,37 +22,110 @@ pub trait Piece: Sized + Drop {
     /// What a fault calls a piece of this kind.
     ghost part: { Part };
 
+    /// How many pieces of an array are kept.
+    ghost most: { ℕ };
+
     /// What a fault calls a piece of this kind. Fixed cost.
     fn part() -> Part
         ensures { result ≡ part };
 
-    /// The piece that has these elements, or none where no piece of this kind has them. Costs time and
-    /// memory in proportion to the elements; an error says that memory was refused.
-    fn read(alloc: Global, values: &[Value]) -> Result<Option<Self>, AllocError>
-        ensures { IfOk result (λ piece. piece ≡ of (map view values.now)) };
+    /// How many pieces of an array are kept: one more than a file may have, which shows that there are
+    /// too many. Fixed cost.
+    fn most() -> usize
+        ensures { result ≡ most };
+
+    /// The piece whose elements come next, after the bracket that opens it, or none where no piece of
+    /// this kind has them.
+    fn read(alloc: Global, reader: &mut Reader<'_>, depth: usize) -> Result<Option<Self>, Stop>
+        ensures ok { IfOk result (λ piece. (ds : List Data) × (items_at depth reader.old ≡ Some (items_from ds, reader.new)) × (piece ≡ of ds)) }
+        ensures err { result ≡ Err NotJson → items_at depth reader.old ≡ None }
+        ensures shorter { OnOk result (length reader.new < length reader.old) };
 }
 
-/// The piece at this index.
-fn piece_in<P: Piece>(alloc: Global, index: usize, value: &Value) -> Result<P, FileFault>
-    ensures { Gives (λ piece. piece) result (piece_at P.of P.part index (view value.now)) }
+/// The pieces that an array begins with.
+#[derive(Drop)]
+pub struct Pieces<P> {
+    /// The first of them, as many as are kept.
+    pub pieces: Vec<P>,
+    /// How many there are before the first element that is none.
+    pub count: usize,
+    /// Whether all elements are pieces.
+    pub are_all: bool,
+}
+
+/// The piece that begins with this token, which was taken, or none where it is no piece.
+fn piece_in<P: Piece>(
+    alloc: Global,
+    token: Token<'_>,
+    reader: &mut Reader<'_>,
+    depth: usize,
+) -> Result<Option<P>, Stop>
+    ensures ok { IfOk result (λ piece. (d : Data) × (value_at depth (token_of token.entry ∷ reader.old) ≡ Some (d, reader.new)) × (piece ≡ option_and_then P.of (elements_of d))) }
+    ensures err { result ≡ Err NotJson → value_at depth (token_of token.entry ∷ reader.old) ≡ None }
+    ensures shorter { OnOk result (length reader.new ≤ length reader.old) }
 {
-    let Some(values) = elements_in(value) else {
-        return Err(FileFault::Piece(P::part(), index));
-    };
-    match P::read(alloc, values)? {
-        Some(piece) => Ok(piece),
-        None => Err(FileFault::Piece(P::part(), index)),
+    match token {
+        Token::BeginArray => {
+            if depth == 0 {
+                return Err(Stop::NotJson);
+            }
+            P::read(alloc, reader, depth - 1)
+        }
+        Token::BeginObject
+        | Token::EndObject
+        | Token::EndArray
+        | Token::Key(_)
+        | Token::String(_)
+        | Token::Number(_)
+        | Token::Bool(_)
+        | Token::Null
+        | Token::Bad => {
+            pass_value(token, reader, depth)?;
+            Ok(None)
+        }
     }
 }
 
-/// The pieces in these values, or the fault of the first value that is none.
-pub fn pieces_in<P: Piece>(alloc: Global, values: &[Value]) -> Result<Vec<P>, FileFault>
-    ensures { Gives (λ pieces. pieces.items) result (pieces_from P.of P.part 0 (map view values.now)) }
+/// One more. Memory gives out long before the numbers do.
+fn next_count(count: usize) -> Result<usize, Stop>
+    ensures { MatchResult result (λ next. (next ≡ count + 1) × (next < 2 ^ 64)) (λ stop. stop ≡ NoMemory) }
 {
+    count.checked_add(1).ok_or(Stop::NoMemory)
+}
+
+/// The pieces of an array, whose bracket was taken.
+pub fn pieces_in<P: Piece>(
+    alloc: Global,
+    reader: &mut Reader<'_>,
+    depth: usize,
+) -> Result<Pieces<P>, Stop>
+    ensures ok { IfOk result (λ found. (ds : List Data) × (items_at depth reader.old ≡ Some (items_from ds, reader.new)) × Finds P.part P.most found.pieces.items found.count found.are_all (pieces_from P.of P.part 0 ds)) }
+    ensures range { IfOk result (λ found. found.count < 2 ^ 64) }
+    ensures err { result ≡ Err NotJson → items_at depth reader.old ≡ None }
+    ensures shorter { OnOk result (length reader.new < length reader.old) }
+{
+    let most = P::most();
     let mut pieces = Vec::new(alloc);
-    for (index, value) in values.iter().enumerate() {
-        let piece = piece_in(alloc, index, value)?;
-        pieces.push(piece)?;
+    let mut count = 0;
+    let mut are_all = true;
+    'pieces: while !reader.take_end_array() {
+        let token = reader.next().ok_or(Stop::NotJson)?;
+        let read: Option<P> = piece_in(alloc, token, reader, depth)?;
+        match read {
+            Some(piece) => {
+                if are_all {
+                    if count < most {
+                        pieces.push(piece)?;
+                    }
+                    count = next_count(count)?;
+                }
+            }
+            None => are_all = false,
+        }
     }
-    Ok(pieces)
+    Ok(Pieces {
+        pieces,
+        count,
+        are_all,
+    })
 }

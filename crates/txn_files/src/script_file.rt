@@ -1,21 +1,27 @@
-ghost use Rattle.std.specs.Prelude.{◌≡◌, map};
+ghost use Rattle.std.specs.Prelude.{◌≡◌, suc, map, None, codes};
 ghost use Rattle.std.specs.List.{list_all};
 ghost use Rattle.serde_json.specs.View.{view};
 ghost use Rattle.txn_files.specs.Faults.{Gives};
 ghost use Rattle.txn_files.specs.Actions.{action_of, script_of};
-ghost use Rattle.txn_files.specs.ScriptFile.{is_short, are_scripts, work_of, scripts_of};
+ghost use Rattle.txn_files.specs.Members.{GivesLast, IsNumberOf, ArePiecesOf, pieces_found, work_from};
+ghost use Rattle.txn_files.specs.declared.part.Part.TheVariants.{Script as script_part};
+ghost use Rattle.txn_files.specs.ScriptFile.{max_scripts, is_short, are_scripts, scripts_of};
 
 use crate::elements::{end_in, one_in, word_in};
 use crate::file_fault::FileFault;
-use crate::json::{array_member_in, number_member_in, value_in};
+use crate::members::{Wanted, members_in, number_found, pieces_kept, put_member};
 use crate::operation::op_in;
 use crate::part::Part;
-use crate::piece::{Piece, pieces_in};
+use crate::passing::pass_value;
+use crate::piece::{Piece, Pieces, pieces_in};
+use crate::plain::plain_elements;
 use crate::script::Script;
 use crate::scripts::Scripts;
 use crate::step_file::limits_in;
+use crate::stop::Stop;
+use json::{Reader, Token};
 use serde_json::Value;
-use std::alloc::{AllocError, Global};
+use std::alloc::Global;
 use txn_trace::Action;
 
 /// How often a script may be tried again.
@@ -47,7 +53,7 @@ fn action_in(values: &[Value]) -> Option<Action>
     }
 }
 
-/// An action is a piece of a script.
+/// An action is a piece of a script. All are kept.
 impl Piece for Action {
     ghost use Rattle.txn_files.specs.declared.part.Part.TheVariants as parts;
 
@@ -55,12 +61,23 @@ impl Piece for Action {
 
     ghost part = { parts.Script };
 
+    ghost most = { 18446744073709551615 };
+
     fn part() -> Part {
         Part::Script
     }
 
-    fn read(_alloc: Global, values: &[Value]) -> Result<Option<Action>, AllocError> {
-        Ok(action_in(values))
+    fn most() -> usize {
+        usize::MAX
+    }
+
+    #[tactic(auto, using(crate::proofs::PlainPieces::no_action))]
+    fn read(alloc: Global, reader: &mut Reader<'_>, depth: usize) -> Result<Option<Action>, Stop> {
+        let elements = plain_elements(alloc, reader, depth)?;
+        match elements {
+            Some(values) => Ok(action_in(&values)),
+            None => Ok(None),
+        }
     }
 }
 
@@ -71,17 +88,25 @@ impl Piece for Script {
 
     ghost part = { parts.Script };
 
+    ghost most = { suc max_scripts };
+
     fn part() -> Part {
         Part::Script
     }
 
+    fn most() -> usize {
+        MAX_SCRIPTS + 1
+    }
+
     #[tactic(auto, unfolding(crate::specs::Actions::script_of))]
-    fn read(alloc: Global, values: &[Value]) -> Result<Option<Script>, AllocError> {
-        let actions: Result<Vec<Action>, FileFault> = pieces_in(alloc, values);
-        match actions {
-            Ok(actions) => Ok(Some(Script::new(actions))),
-            Err(FileFault::NoMemory) => Err(AllocError),
-            Err(_) => Ok(None),
+    fn read(alloc: Global, reader: &mut Reader<'_>, depth: usize) -> Result<Option<Script>, Stop> {
+        let found: Pieces<Action> = pieces_in(alloc, reader, depth)?;
+        if found.are_all {
+            let mut actions = found.pieces;
+            actions.shrink_to_fit();
+            Ok(Some(Script::new(actions)))
+        } else {
+            Ok(None)
         }
     }
 }
@@ -102,17 +127,74 @@ fn are_scripts(tries: u64, scripts: &[Script]) -> bool
     tries <= MAX_TRIES && scripts.len() <= MAX_SCRIPTS && are_short(scripts)
 }
 
-#[tactic(auto, unfolding(crate::specs::ScriptFile::work_of))]
-fn work_in(alloc: Global, value: &Value) -> Result<Scripts, FileFault>
-    ensures { Gives (λ work. work) result (work_of (view value.now)) }
+/// The members of a script file.
+#[derive(Drop)]
+struct ScriptMembers {
+    version: Option<u64>,
+    workers: Option<u64>,
+    stripes: Option<u64>,
+    buckets: Option<u64>,
+    tries: Option<u64>,
+    scripts: Option<Pieces<Script>>,
+}
+
+impl ScriptMembers {
+    fn new() -> ScriptMembers
+        ensures { (result.version ≡ None) × (result.workers ≡ None) × (result.stripes ≡ None) × (result.buckets ≡ None) × (result.tries ≡ None) × (result.scripts ≡ None) }
+    {
+        ScriptMembers {
+            version: None,
+            workers: None,
+            stripes: None,
+            buckets: None,
+            tries: None,
+            scripts: None,
+        }
+    }
+}
+
+impl Wanted for ScriptMembers {
+    ghost use Rattle.txn_files.specs.declared.part.Part.TheVariants as parts;
+
+    ghost found = { λ m ms. GivesLast IsNumberOf m.version (codes "version") ms × GivesLast IsNumberOf m.workers (codes "workers") ms × GivesLast IsNumberOf m.stripes (codes "stripes") ms × GivesLast IsNumberOf m.buckets (codes "buckets") ms × GivesLast IsNumberOf m.tries (codes "tries") ms × GivesLast (ArePiecesOf script_of parts.Script (suc max_scripts)) m.scripts (codes "scripts") ms };
+
+    fn take(
+        &mut self,
+        alloc: Global,
+        key: &str,
+        token: Token<'_>,
+        reader: &mut Reader<'_>,
+        depth: usize,
+    ) -> Result<(), Stop> {
+        if key == "version" {
+            put_member(&mut self.version, alloc, token, reader, depth)
+        } else if key == "workers" {
+            put_member(&mut self.workers, alloc, token, reader, depth)
+        } else if key == "stripes" {
+            put_member(&mut self.stripes, alloc, token, reader, depth)
+        } else if key == "buckets" {
+            put_member(&mut self.buckets, alloc, token, reader, depth)
+        } else if key == "tries" {
+            put_member(&mut self.tries, alloc, token, reader, depth)
+        } else if key == "scripts" {
+            put_member(&mut self.scripts, alloc, token, reader, depth)
+        } else {
+            pass_value(token, reader, depth)?;
+            Ok(())
+        }
+    }
+}
+
+#[tactic(auto, unfolding(crate::specs::Members::work_from))]
+fn work_in(members: ScriptMembers) -> Result<Scripts, FileFault>
+    ensures { Gives (λ work. work) result (work_from members.version members.workers members.stripes members.buckets members.tries (pieces_found script_part members.scripts)) }
 {
-    let version = number_member_in(value, "version")?;
-    let workers = number_member_in(value, "workers")?;
-    let stripes = number_member_in(value, "stripes")?;
-    let buckets = number_member_in(value, "buckets")?;
-    let tries = number_member_in(value, "tries")?;
-    let pieces = array_member_in(value, "scripts")?;
-    let scripts: Vec<Script> = pieces_in(alloc, pieces)?;
+    let version = number_found(members.version)?;
+    let workers = number_found(members.workers)?;
+    let stripes = number_found(members.stripes)?;
+    let buckets = number_found(members.buckets)?;
+    let tries = number_found(members.tries)?;
+    let scripts = pieces_kept(members.scripts)?;
     let limits = limits_in(workers, stripes, buckets)?;
     if version == 1 && are_scripts(tries, &scripts) {
         Ok(Scripts::new(limits, tries, scripts))
@@ -140,6 +222,6 @@ fn work_in(alloc: Global, value: &Value) -> Result<Scripts, FileFault>
 pub fn read_scripts(alloc: Global, bytes: &[u8]) -> Result<Scripts, FileFault>
     ensures { Gives (λ work. work) result (scripts_of bytes.now) }
 {
-    let value = value_in(alloc, bytes)?;
-    work_in(alloc, &value)
+    let members = members_in(alloc, bytes, ScriptMembers::new())?;
+    work_in(members)
 }

@@ -230,3 +230,24 @@ fn longest_scripts(rt: HostRuntime) -> Result<(), Fail> {
     }
     Ok(())
 }
+
+#[test]
+fn wrong_script_behind_the_limit(rt: HostRuntime) -> Result<(), Fail> {
+    let scripts = array_of(&rt, 10_001, "[]")?;
+    let Some(front) = scripts.strip_suffix("]") else {
+        return Err("no array")?;
+    };
+    let scripts = format!(in rt.alloc(); "{front},[0],[]]")?;
+    let text = file_with(&rt, "7", &scripts)?;
+    let wanted = Some(FileFault::Piece(Part::Script, 10_001));
+    assert_eq!(rt; fault_of(&rt, text.as_bytes()), wanted);
+    let actions = array_of(&rt, 10_001, "[\"save\"]")?;
+    let Some(front) = actions.strip_suffix("]") else {
+        return Err("no array")?;
+    };
+    let scripts = format!(in rt.alloc(); "[[],{front},[\"back\"]],[]]")?;
+    let text = file_with(&rt, "7", &scripts)?;
+    let wanted = Some(FileFault::Piece(Part::Script, 1));
+    assert_eq!(rt; fault_of(&rt, text.as_bytes()), wanted);
+    Ok(())
+}

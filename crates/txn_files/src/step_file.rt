@@ -1,17 +1,23 @@
-ghost use Rattle.std.specs.Prelude.{◌≡◌, map};
+ghost use Rattle.std.specs.Prelude.{◌≡◌, suc, map, None, codes};
 ghost use Rattle.serde_json.specs.View.{view};
 ghost use Rattle.txn_files.specs.Faults.{Gives};
 ghost use Rattle.txn_files.specs.Steps.{ask_of, numbered_of, step_of};
-ghost use Rattle.txn_files.specs.StepFile.{sizes_at, file_of, steps_of};
+ghost use Rattle.txn_files.specs.Members.{GivesLast, IsNumberOf, ArePiecesOf, pieces_found, steps_from};
+ghost use Rattle.txn_files.specs.declared.part.Part.TheVariants.{Step as step_part};
+ghost use Rattle.txn_files.specs.StepFile.{max_steps, sizes_at, file_of};
 
 use crate::elements::{number_in, one_in, two_in, word_in};
 use crate::file_fault::FileFault;
-use crate::json::{array_member_in, number_member_in, value_in};
+use crate::members::{Wanted, members_in, number_found, pieces_kept, put_member};
 use crate::operation::op_in;
 use crate::part::Part;
-use crate::piece::{Piece, pieces_in};
+use crate::passing::pass_value;
+use crate::piece::{Piece, Pieces};
+use crate::plain::plain_elements;
+use crate::stop::Stop;
+use json::{Reader, Token};
 use serde_json::Value;
-use std::alloc::{AllocError, Global};
+use std::alloc::Global;
 use txn_trace::{Limits, Step};
 
 /// How many steps a file may have.
@@ -85,12 +91,23 @@ impl Piece for Step {
 
     ghost part = { parts.Step };
 
+    ghost most = { suc max_steps };
+
     fn part() -> Part {
         Part::Step
     }
 
-    fn read(_alloc: Global, values: &[Value]) -> Result<Option<Step>, AllocError> {
-        Ok(step_in(values))
+    fn most() -> usize {
+        MAX_STEPS + 1
+    }
+
+    #[tactic(auto, using(crate::proofs::PlainPieces::no_step))]
+    fn read(alloc: Global, reader: &mut Reader<'_>, depth: usize) -> Result<Option<Step>, Stop> {
+        let elements = plain_elements(alloc, reader, depth)?;
+        match elements {
+            Some(values) => Ok(step_in(&values)),
+            None => Ok(None),
+        }
     }
 }
 
@@ -104,16 +121,69 @@ pub fn limits_in(callers: u64, stripes: u64, buckets: u64) -> Result<Limits, Fil
     }
 }
 
-#[tactic(auto, unfolding(crate::specs::StepFile::steps_of))]
-fn steps_in(alloc: Global, value: &Value) -> Result<(Limits, Vec<Step>), FileFault>
-    ensures { Gives (λ file. (file.0, file.1.items)) result (steps_of (view value.now)) }
+/// The members of a step file.
+#[derive(Drop)]
+struct StepMembers {
+    version: Option<u64>,
+    callers: Option<u64>,
+    stripes: Option<u64>,
+    buckets: Option<u64>,
+    steps: Option<Pieces<Step>>,
+}
+
+impl StepMembers {
+    fn new() -> StepMembers
+        ensures { (result.version ≡ None) × (result.callers ≡ None) × (result.stripes ≡ None) × (result.buckets ≡ None) × (result.steps ≡ None) }
+    {
+        StepMembers {
+            version: None,
+            callers: None,
+            stripes: None,
+            buckets: None,
+            steps: None,
+        }
+    }
+}
+
+impl Wanted for StepMembers {
+    ghost use Rattle.txn_files.specs.declared.part.Part.TheVariants as parts;
+
+    ghost found = { λ m ms. GivesLast IsNumberOf m.version (codes "version") ms × GivesLast IsNumberOf m.callers (codes "callers") ms × GivesLast IsNumberOf m.stripes (codes "stripes") ms × GivesLast IsNumberOf m.buckets (codes "buckets") ms × GivesLast (ArePiecesOf step_of parts.Step (suc max_steps)) m.steps (codes "steps") ms };
+
+    fn take(
+        &mut self,
+        alloc: Global,
+        key: &str,
+        token: Token<'_>,
+        reader: &mut Reader<'_>,
+        depth: usize,
+    ) -> Result<(), Stop> {
+        if key == "version" {
+            put_member(&mut self.version, alloc, token, reader, depth)
+        } else if key == "callers" {
+            put_member(&mut self.callers, alloc, token, reader, depth)
+        } else if key == "stripes" {
+            put_member(&mut self.stripes, alloc, token, reader, depth)
+        } else if key == "buckets" {
+            put_member(&mut self.buckets, alloc, token, reader, depth)
+        } else if key == "steps" {
+            put_member(&mut self.steps, alloc, token, reader, depth)
+        } else {
+            pass_value(token, reader, depth)?;
+            Ok(())
+        }
+    }
+}
+
+#[tactic(auto, unfolding(crate::specs::Members::steps_from))]
+fn steps_in(members: StepMembers) -> Result<(Limits, Vec<Step>), FileFault>
+    ensures { Gives (λ file. (file.0, file.1.items)) result (steps_from members.version members.callers members.stripes members.buckets (pieces_found step_part members.steps)) }
 {
-    let version = number_member_in(value, "version")?;
-    let callers = number_member_in(value, "callers")?;
-    let stripes = number_member_in(value, "stripes")?;
-    let buckets = number_member_in(value, "buckets")?;
-    let pieces = array_member_in(value, "steps")?;
-    let steps: Vec<Step> = pieces_in(alloc, pieces)?;
+    let version = number_found(members.version)?;
+    let callers = number_found(members.callers)?;
+    let stripes = number_found(members.stripes)?;
+    let buckets = number_found(members.buckets)?;
+    let steps = pieces_kept(members.steps)?;
     let limits = limits_in(callers, stripes, buckets)?;
     if version == 1 && steps.len() <= MAX_STEPS {
         Ok((limits, steps))
@@ -138,6 +208,6 @@ fn steps_in(alloc: Global, value: &Value) -> Result<(Limits, Vec<Step>), FileFau
 pub fn read_steps(alloc: Global, bytes: &[u8]) -> Result<(Limits, Vec<Step>), FileFault>
     ensures { Gives (λ file. (file.0, file.1.items)) result (file_of bytes.now) }
 {
-    let value = value_in(alloc, bytes)?;
-    steps_in(alloc, &value)
+    let members = members_in(alloc, bytes, StepMembers::new())?;
+    steps_in(members)
 }

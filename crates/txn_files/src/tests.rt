@@ -245,6 +245,24 @@ fn wrong_steps(rt: HostRuntime) -> Result<(), Fail> {
     Ok(())
 }
 
+// Memory may be refused anywhere in it: then that is the answer, and no other fault.
+#[test]
+fn memory_refused(rt: HostRuntime) {
+    let text =
+        "{\"x\":[{\"\\n\":[1,\"\\t\"]},\"\\n\"],\"version\":1,\"callers\":1,\"stripes\":8,\"buckets\":8,\"steps\":\
+        [[\"begin\",0],[\"\\u0061sk\",0,\"put\",1,10],[\"seek\",0],[\"act\",0],[\"sweep\"],[\"commit\",0]]}";
+    let fault = fault_of(&rt, text.as_bytes());
+    assert!(rt; fault.is_none() || fault == Some(FileFault::NoMemory));
+    let text = "{\"version\":1,\"workers\":1,\"stripes\":8,\"buckets\":8,\"tries\":1,\"scripts\":\
+        [[[\"save\"],[\"put\",1,10],[\"back\",0],[\"abort\"],[\"get\",1]],[],[],[],[[\"get\",1]]]}";
+    let fault = read_scripts(rt.alloc(), text.as_bytes()).err();
+    assert!(rt; fault.is_none() || fault == Some(FileFault::NoMemory));
+    let text =
+        "{\"version\":1,\"stripes\":8,\"entries\":[[\"began\",0,1],[\"saved\",0],[\"undone\",0],[\"aborted\",0],[\"began\",0,2]]}";
+    let fault = read_history(rt.alloc(), text.as_bytes()).err();
+    assert!(rt; fault.is_none() || fault == Some(FileFault::NoMemory));
+}
+
 #[test]
 fn words_of_faults(rt: HostRuntime) -> Result<(), Fail> {
     for (fault, wanted) in [
@@ -258,5 +276,151 @@ fn words_of_faults(rt: HostRuntime) -> Result<(), Fail> {
     ] {
         assert_eq!(rt; fault.to_string(rt.alloc())?.as_str(), wanted);
     }
+    Ok(())
+}
+
+/// A file with one step and these further members before or behind it.
+fn file_beside(
+    rt: &(impl Abort + AllocGlobal),
+    before: &str,
+    behind: &str,
+) -> Result<String, Fail> {
+    let text = format!(in rt.alloc();
+        "{{{before}\"version\":1,\"callers\":1,\"stripes\":8,\"buckets\":8,\"steps\":[[\"sweep\"]]{behind}}}"
+    )?;
+    Ok(text)
+}
+
+#[test]
+fn passed_over_members(rt: HostRuntime) -> Result<(), Fail> {
+    let mut objects = String::new(rt.alloc());
+    for _ in 0..500 {
+        objects.push_str("{\"\":{\"steps\":[[0,{}]]}},")?;
+    }
+    let objects = format!(in rt.alloc(); "[{objects}[]]")?;
+    let values = [
+        objects.as_str(),
+        "null",
+        "true",
+        "-0.0",
+        "1e308",
+        "18446744073709551616",
+        "\"\\u00e9\\n\"",
+        "{\"version\":2,\"steps\":null}",
+        "[[\"begin\",0]]",
+    ];
+    for value in values {
+        let before = format!(in rt.alloc(); "\"x\":{value},")?;
+        let behind = format!(in rt.alloc(); ",\"x\":{value}")?;
+        for text in [
+            file_beside(&rt, &before, "")?,
+            file_beside(&rt, "", &behind)?,
+        ] {
+            let Ok((_, steps)) = read_steps(rt.alloc(), text.as_bytes()) else {
+                return Err("refused")?;
+            };
+            let wanted = [Step::Sweep];
+            assert_eq!(rt; steps.as_slice(), wanted.as_slice(), "{text}");
+        }
+    }
+    for value in [
+        "1e999",
+        "[1,-1e999]",
+        "{\"y\":[1e999]}",
+        "01",
+        "[1,]",
+        "\"\\ud800\"",
+    ] {
+        let behind = format!(in rt.alloc(); ",\"x\":{value}")?;
+        let text = file_beside(&rt, "", &behind)?;
+        assert_eq!(rt;
+            fault_of(&rt, text.as_bytes()),
+            Some(FileFault::NotJson),
+            "{text}"
+        );
+    }
+    Ok(())
+}
+
+#[test]
+fn deep_members(rt: HostRuntime) -> Result<(), Fail> {
+    let wrong_step = Some(FileFault::Piece(Part::Step, 0));
+    let no_json = Some(FileFault::NotJson);
+    for (open, close) in [("[", "]"), ("{\"\":", "}")] {
+        // The object of the file is a level too, and so is the array of its steps.
+        for (depth, beside, within) in [
+            (125, None, wrong_step),
+            (126, None, no_json),
+            (127, no_json, no_json),
+        ] {
+            let mut value = String::new(rt.alloc());
+            for _ in 0..depth {
+                value.push_str(open)?;
+            }
+            value.push('0')?;
+            for _ in 0..depth {
+                value.push_str(close)?;
+            }
+            let behind = format!(in rt.alloc(); ",\"x\":{value}")?;
+            let text = file_beside(&rt, "", &behind)?;
+            assert_eq!(rt; fault_of(&rt, text.as_bytes()), beside, "{text}");
+            let steps = format!(in rt.alloc(); "[{value}]")?;
+            let text = file_with(&rt, "1", &steps)?;
+            assert_eq!(rt; fault_of(&rt, text.as_bytes()), within, "{text}");
+        }
+    }
+    Ok(())
+}
+
+#[test]
+fn last_member_counts(rt: HostRuntime) -> Result<(), Fail> {
+    for (first, wanted) in [
+        ("\"steps\":0,", None),
+        ("\"steps\":[[\"begin\"]],", None),
+        (
+            "\"version\":7,\"callers\":null,\"stripes\":{},\"buckets\":1.5,",
+            None,
+        ),
+    ] {
+        let text = file_beside(&rt, first, "")?;
+        assert_eq!(rt; fault_of(&rt, text.as_bytes()), wanted, "{text}");
+    }
+    for (last, wanted) in [
+        (",\"steps\":0", FileFault::Member),
+        (
+            ",\"steps\":[[\"sweep\"],[\"begin\"]]",
+            FileFault::Piece(Part::Step, 1),
+        ),
+        (",\"version\":7", FileFault::Limit),
+        (",\"version\":null", FileFault::Member),
+        (",\"callers\":null", FileFault::Member),
+        (",\"stripes\":\"8\"", FileFault::Member),
+        (",\"buckets\":[8]", FileFault::Member),
+        (",\"\\u0073teps\":0", FileFault::Member),
+    ] {
+        let text = file_beside(&rt, "", last)?;
+        assert_eq!(rt; fault_of(&rt, text.as_bytes()), Some(wanted), "{text}");
+    }
+    Ok(())
+}
+
+#[test]
+fn elements_of_wrong_steps(rt: HostRuntime) -> Result<(), Fail> {
+    // More elements than any step has, and elements that no step has.
+    for step in [
+        "[\"ask\",0,\"put\",1,10,1,1,1,1]",
+        "[\"ask\",0,\"put\",1,[10]]",
+        "[\"ask\",0,\"put\",1,{\"\":10}]",
+        "[\"ask\",true,\"put\",1,10]",
+        "[[\"sweep\"]]",
+    ] {
+        let steps = format!(in rt.alloc(); "[[\"sweep\"],{step},[0]]")?;
+        let text = file_with(&rt, "1", &steps)?;
+        let wanted = Some(FileFault::Piece(Part::Step, 1));
+        assert_eq!(rt; fault_of(&rt, text.as_bytes()), wanted, "{text}");
+    }
+    // What is no JSON comes before a wrong step, also behind it.
+    let text = file_with(&rt, "1", "[[0],[\"act\",1e999]]")?;
+    assert_eq!(rt; fault_of(&rt, text.as_bytes()), Some(FileFault::NotJson));
     Ok(())
 }

@@ -1,10 +1,19 @@
-use Rattle.std.proofs.Common.{◌≡◌, map, drop}
-use Rattle.serde_json.specs.View.{view}
-use Rattle.txn_files.specs.Pieces.{pieces_from}
-use Rattle.txn_files.proofs.Loop.{with_front}
+use Rattle.std.proofs.Common.{◌≡◌, ℕ, ◌^◌, ◌<◌, ◌≤◌, List, length}
+use Rattle.json.specs.Json.{items, value, parse_map}
+use Rattle.serde_json.specs.Data.{Data}
+use Rattle.serde_json.specs.Read.{of_items, converted}
+use Rattle.txn_files.specs.Tokens.{items_at}
+use Rattle.txn_files.proofs.ElementLists.{before}
+use Rattle.txn_files.proofs.Loop.{IsRead}
 use Rattle.txn_files.proofs.piece.pieces_in.Given as goal
 
-abbrev pub invariant-loop-index : goal.invariant-loop-index
-invariant-loop-index g l =
-    with_front l.pieces.items (pieces_from g.P.Piece.of g.P.Piece.part l.index (map view (drop l.index l.values)))
-    ≡ pieces_from g.P.Piece.of g.P.Piece.part 0 (map view l.values)
+abbrev pub invariant-pieces : goal.invariant-pieces
+invariant-pieces g l =
+    (n : ℕ) × (ds : List Data) × (length l.reader ≤ n)
+    × (items_at l.depth l.initial.reader ≡ parse_map (before ds) (converted of_items (items (value l.depth) n l.reader)))
+    × (length l.reader ≤ length l.initial.reader)
+    × (l.count < 2 ^ 64)
+    × IsRead g.P.Piece.of g.P.Piece.part g.P.Piece.most l.are_all l.pieces.items l.count ds
+
+abbrev pub decreases-pieces : goal.decreases-pieces
+decreases-pieces g l = length l.reader

@@ -1,0 +1,76 @@
+-- Elements that are read one after the other, of which the plain ones are kept.
+use Rattle.std.proofs.Common.{◌≡◌, ℕ, zero, suc, ◌≤◌, List, [], ◌∷◌, ◌++◌, length, map, Bool, true, false, ◌&&◌, Option, Some, None, refl, ap, arith}
+use Rattle.std.proofs.lemmas.List.{map-append, length-append, length-map}
+use Rattle.json.specs.Token.{Token}
+use Rattle.json.specs.Json.{parse_map}
+use Rattle.serde_json.specs.Data.{Data, Items, no_items, item}
+use Rattle.serde_json.specs.View.{view}
+use Rattle.serde_json.specs.declared.value.Value.{Value}
+use Rattle.txn_files.specs.Tokens.{is_plain, are_plain, items_from}
+
+-- a list of elements before items
+abbrev pub before : List Data → Items → Items
+before [] rest = rest
+before (d ∷ ds) rest = item d (before ds rest)
+
+pub before-none : (ds : List Data) → before ds no_items ≡ items_from ds
+before-none [] = refl
+before-none (d ∷ ds) = ap (item d) (before-none ds)
+
+before-last : (ds : List Data) (d : Data) (rest : Items) → before ds (item d rest) ≡ before (ds ++ d ∷ []) rest
+before-last [] d rest = refl
+before-last (e ∷ ds) d rest = ap (item e) (before-last ds d rest)
+
+pub one_more : (ds : List Data) (d : Data) (r : Option (Items × List Token)) → parse_map (before ds) (parse_map (item d) r) ≡ parse_map (before (ds ++ d ∷ [])) r
+one_more ds d None = refl
+one_more ds d (Some p) = ap (λ rest. Some (rest, p.1)) (before-last ds d p.0)
+
+pub nothing_before : (r : Option (Items × List Token)) → r ≡ parse_map (before []) r
+nothing_before None = refl
+nothing_before (Some p) = refl
+
+-- ---- which are kept
+
+and_false : (b : Bool) {x : Bool} → x ≡ false → b && x ≡ false
+and_false true e = e
+and_false false e = refl
+
+or_later : (b x y : Bool) → (x ≡ false → y ≡ false) → b && x ≡ false → b && y ≡ false
+or_later true x y f e = f e
+or_later false x y f e = refl
+
+pub stays_wrong : (n : ℕ) (ds : List Data) (d : Data) → are_plain n ds ≡ false → are_plain n (ds ++ d ∷ []) ≡ false
+unfolding are_plain
+stays_wrong n [] d e = absurd (grind (arith, e))
+stays_wrong zero (x ∷ ds) d e = refl
+stays_wrong (suc n) (x ∷ ds) d e = or_later (is_plain x) (are_plain n ds) (are_plain n (ds ++ d ∷ [])) (stays_wrong n ds d) e
+
+pub wrong_last : (n : ℕ) (ds : List Data) (d : Data) → is_plain d ≡ false → are_plain n (ds ++ d ∷ []) ≡ false
+unfolding are_plain
+wrong_last zero [] d e = refl
+wrong_last (suc n) [] d e = rw e refl
+wrong_last zero (x ∷ ds) d e = refl
+wrong_last (suc n) (x ∷ ds) d e = and_false (is_plain x) (wrong_last n ds d e)
+
+pub one_too_many : (n : ℕ) (ds : List Data) (d : Data) → n ≤ length ds → are_plain n (ds ++ d ∷ []) ≡ false
+unfolding are_plain
+one_too_many zero [] d le = refl
+one_too_many (suc n) [] d le = absurd (omega (arith, le))
+one_too_many zero (x ∷ ds) d le = refl
+one_too_many (suc n) (x ∷ ds) d le = and_false (is_plain x) (one_too_many n ds d (omega (arith, le)))
+
+-- what is kept so far
+abbrev pub AreKept : Bool → List Value → List Data → Type 0
+AreKept true vs ds = (map view vs ≡ ds) × (length vs ≤ 6)
+AreKept false vs ds = are_plain 6 ds ≡ false
+
+pub keep_one : (b : Bool) (vs : List Value) (ds : List Data) (v : Value) (d : Data) → view v ≡ d → suc (length vs) ≤ 6 → AreKept b vs ds → AreKept b (vs ++ v ∷ []) (ds ++ d ∷ [])
+keep_one true vs ds v d e lt h = (rw (map-append, e, h.0) refl, rw length-append (omega (arith, lt)))
+keep_one false vs ds v d e lt h = stays_wrong 6 ds d h
+
+pub keep_no_more : (b : Bool) (vs : List Value) (ds : List Data) (d : Data) → 6 ≤ length vs → AreKept b vs ds → AreKept false vs (ds ++ d ∷ [])
+keep_no_more true vs ds d le h = one_too_many 6 ds d (rw (← h.0, length-map) le)
+keep_no_more false vs ds d le h = stays_wrong 6 ds d h
+
+pub keep_none : (vs : List Value) (ds : List Data) (d : Data) → is_plain d ≡ false → AreKept false vs (ds ++ d ∷ [])
+keep_none vs ds d e = wrong_last 6 ds d e
