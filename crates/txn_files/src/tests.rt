@@ -71,6 +71,67 @@ fn every_step(rt: HostRuntime) -> Result<(), Fail> {
     Ok(())
 }
 
+/// Each kind of bad input, and its fault.
+#[test]
+fn bad_input(rt: HostRuntime) -> Result<(), Fail> {
+    let too_long = vec![in rt.alloc(); b' '; 16_777_217]?;
+    let step = FileFault::Piece(Part::Step, 0);
+    let cases: [(&str, &[u8], FileFault); 12] = [
+        ("the empty file", "".as_bytes(), FileFault::NotJson),
+        ("no UTF-8", &[34, 255, 34], FileFault::NotJson),
+        ("16,777,217 bytes", &too_long, FileFault::Limit),
+        (
+            "a missing member",
+            "{\"version\":1,\"callers\":2,\"buckets\":8,\"steps\":[]}".as_bytes(),
+            FileFault::Member,
+        ),
+        (
+            "a member of the wrong kind",
+            "{\"version\":1,\"callers\":2,\"stripes\":8,\"buckets\":8,\"steps\":{}}".as_bytes(),
+            FileFault::Member,
+        ),
+        (
+            "a negative number",
+            "{\"version\":1,\"callers\":2,\"stripes\":8,\"buckets\":8,\"steps\":[[\"begin\",-1]]}".as_bytes(),
+            step,
+        ),
+        (
+            "a fraction",
+            "{\"version\":1,\"callers\":2,\"stripes\":8,\"buckets\":8,\"steps\":[[\"begin\",0.5]]}".as_bytes(),
+            step,
+        ),
+        (
+            "an exponent",
+            "{\"version\":1,\"callers\":2,\"stripes\":8,\"buckets\":8,\"steps\":[[\"begin\",1e1]]}".as_bytes(),
+            step,
+        ),
+        (
+            "2^64",
+            "{\"version\":1,\"callers\":2,\"stripes\":8,\"buckets\":8,\"steps\":[[\"begin\",18446744073709551616]]}".as_bytes(),
+            step,
+        ),
+        (
+            "a text for a number",
+            "{\"version\":1,\"callers\":2,\"stripes\":8,\"buckets\":8,\"steps\":[[\"begin\",\"0\"]]}".as_bytes(),
+            step,
+        ),
+        (
+            "an element too many",
+            "{\"version\":1,\"callers\":2,\"stripes\":8,\"buckets\":8,\"steps\":[[\"begin\",0,0]]}".as_bytes(),
+            step,
+        ),
+        (
+            "an unknown step",
+            "{\"version\":1,\"callers\":2,\"stripes\":8,\"buckets\":8,\"steps\":[[\"start\",0]]}".as_bytes(),
+            step,
+        ),
+    ];
+    for (kind, bytes, wanted) in cases {
+        assert_eq!(rt; fault_of(&rt, bytes), Some(wanted), "{kind}");
+    }
+    Ok(())
+}
+
 #[test]
 fn cut_files(rt: HostRuntime) -> Result<(), Fail> {
     let bytes = FIRST_COMMIT.as_bytes();
