@@ -1,7 +1,6 @@
 -- The history of a script file whose workers' turns are mixed.
 use Rattle.std.specs.Prelude.{◌≡◌, ℕ, ◌<◌, List, Ok, Err}
 use Rattle.std.specs.List.{All}
-use Rattle.txn_trace.specs.declared.entry.Entry.{Entry}
 use Rattle.txn_trace.specs.History.{caller_of}
 use Rattle.txn_trace.specs.Legal.{IsLegal}
 use Rattle.txn_trace.specs.Plays.{PlayScripts}
@@ -9,20 +8,23 @@ use Rattle.txn_files.specs.declared.file_fault.FileFault.{FileFault}
 use Rattle.txn_files.specs.HistoryText.{text_of_history}
 use Rattle.txn_files.specs.ScriptFile.{scripts_of}
 use Rattle.txn_files.specs.Work.{Work}
+use Rattle.boost_core.specs.State.{State}
+use Rattle.script_mix.specs.Crews.{IsMixed}
 use Rattle.boostmap_engine.specs.Report.{line}
 
--- a legal history of these workers, in which each worker's committed transactions play scripts of its own, their numbers
--- rising; and its text
-pub record IsMixture (work : Work) (text : List ℕ) : Type 0 where
-  pub history : List Entry
-  pub legal : IsLegal work.sizes.stripes history
-  pub callers : All (λ e. caller_of e < work.sizes.callers) history
-  pub plays : PlayScripts work.sizes.callers work.scripts history
-  pub whole : text ≡ line (text_of_history work.sizes.stripes history)
+-- a core on which the workers took turns as this seed draws them; its history, which is legal, of these workers, and in which
+-- each worker's committed transactions play scripts of its own, their numbers rising; and the history's text
+pub record IsMixture (work : Work) (seed : ℕ) (text : List ℕ) : Type 0 where
+  pub core : State
+  pub mixed : IsMixed work seed core
+  pub legal : IsLegal work.sizes.stripes core.history
+  pub callers : All (λ e. caller_of e < work.sizes.callers) core.history
+  pub plays : PlayScripts work.sizes.callers work.scripts core.history
+  pub whole : text ≡ line (text_of_history work.sizes.stripes core.history)
 
 -- the same of the scripts that the bytes are
-abbrev pub IsMixtureOf : List ℕ → List ℕ → Type 0
-IsMixtureOf bytes text = (work : Work) × (scripts_of bytes ≡ Ok work) × IsMixture work text
+abbrev pub IsMixtureOf : ℕ → List ℕ → List ℕ → Type 0
+IsMixtureOf seed bytes text = (work : Work) × (scripts_of bytes ≡ Ok work) × IsMixture work seed text
 
 -- the bytes are no script file, for this fault
 abbrev pub IsNoScriptFile : List ℕ → FileFault → Type 0

@@ -79,8 +79,8 @@ pub fn mix<R: Read, W: Write>(
     input: &mut R,
     output: &mut W,
 ) -> Result<(), Fault>
-    ensures mixes { OnOk result (Writes IsMixtureOf (R.remaining input.old) (W.contents output.old) (W.contents output.new)) }
-    ensures fault { IfErr result (Leaves IsMixtureOf IsNoScriptFile (R.remaining input.old) (W.contents output.old) (W.contents output.new)) }
+    ensures mixes { OnOk result (Writes (IsMixtureOf seed) (R.remaining input.old) (W.contents output.old) (W.contents output.new)) }
+    ensures fault { IfErr result (Leaves (IsMixtureOf seed) IsNoScriptFile (R.remaining input.old) (W.contents output.old) (W.contents output.new)) }
 {
     let bytes = read_input(alloc, input)?;
     let history = mixture(alloc, seed, &bytes)?;

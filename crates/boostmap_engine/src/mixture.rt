@@ -9,7 +9,7 @@ use txn_files::{history_text, read_scripts};
 
 /// The text of a history of the scripts that the bytes are, the workers' turns mixed as the seed says.
 pub fn mixture(alloc: Global, seed: u64, bytes: &[u8]) -> Result<String, Fault>
-    ensures ok { IfOk result (λ text. IsMixtureOf bytes.now (string_bytes text)) }
+    ensures ok { IfOk result (λ text. IsMixtureOf seed bytes.now (string_bytes text)) }
     ensures err { IfErr result (HasNone IsNoScriptFile bytes.now) }
 {
     let work = read_scripts(alloc, bytes)?;

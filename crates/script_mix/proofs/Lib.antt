@@ -1,1 +1,3 @@
+pub mod Lives
+pub mod Mixings
 pub mod Turns

@@ -1,5 +1,5 @@
 -- Workers that take turns on one core.
-use Rattle.std.specs.Prelude.{◌≡◌, ◌≢◌, ℕ, ◌<◌, List, length, slice_index_or}
+use Rattle.std.specs.Prelude.{◌≡◌, ◌≢◌, ℕ, ◌^◌, ◌-◌, ◌<◌, ◌⊎◌, List, length, slice_index_or}
 use Rattle.txn_trace.specs.declared.action.Action.{Action}
 use Rattle.txn_trace.specs.declared.entry.Entry.{Entry}
 use Rattle.txn_trace.specs.Shape.{own}
@@ -8,6 +8,7 @@ use Rattle.txn_files.specs.Work.{Work}
 use Rattle.boost_core.specs.Machine.{State}
 use Rattle.script_worker.specs.declared.worker.Worker.{Worker}
 use Rattle.script_worker.specs.Keeps.{Keeps}
+use Rattle.script_mix.specs.Turns.{live, Mixing, beginning, TakeDrawn}
 
 -- One of so many workers, whose own entries in the history are what its scripts ask for so far.
 pub record IsMember (scripts : List (List Action)) (count : ℕ) (h : List Entry) (w : ℕ) (worker : Worker) : Type 0 where
@@ -28,8 +29,13 @@ pub record Goes (scripts : List (List Action)) (old new : State) (before after :
   pub others : (c : ℕ) → c ≢ before.number → own c new.history ≡ own c old.history
   pub keeps : Keeps scripts after (own after.number new.history)
 
--- A core of the limits asked for, in whose history each worker's committed transactions play scripts of its own, their
--- numbers rising.
-pub record IsMixed (work : Work) (state : State) : Type 0 where
+-- A core of the limits asked for, on which the workers took turns as they were drawn, until none had a step left or too many
+-- turns were taken; and in whose history each worker's committed transactions play scripts of its own, their numbers rising.
+pub record IsMixed (work : Work) (seed : ℕ) (state : State) : Type 0 where
   pub limits : state.limits ≡ work.sizes
   pub plays : PlayScripts work.sizes.callers work.scripts state.history
+  pub drawn : List ℕ
+  pub last : Mixing
+  pub core : last.core ≡ state
+  pub turns : TakeDrawn work.scripts work.tries (beginning work seed) drawn last
+  pub ended : (live last.crew ≡ 0) ⊎ (length drawn ≡ 2 ^ 64 - 1)

@@ -1,4 +1,6 @@
-ghost use Rattle.std.specs.Prelude.{◌<◌, IfOk, IfSome, [], length};
+ghost use Rattle.std.specs.Prelude.{◌≡◌, ◌<◌, ◌≤◌, ◌%◌, IfOk, IfSome, None, []};
+ghost use Rattle.rand_pcg.specs.Pcg.{pcg32};
+ghost use Rattle.script_mix.specs.Turns.{IsAtPlace, first_crew, live};
 ghost use Rattle.script_mix.specs.Crews.{IsCrew};
 
 use crate::drawing::draw;
@@ -13,7 +15,8 @@ pub(crate) fn workers_of(
     count: usize,
     scripts: &[Script],
 ) -> Result<Vec<Worker>, AllocError>
-    ensures { IfOk result (λ crew. IsCrew scripts.now count [] crew.items) }
+    ensures crew { IfOk result (λ crew. IsCrew scripts.now count [] crew.items) }
+    ensures first { IfOk result (λ crew. crew.items ≡ first_crew scripts.now count count) }
 {
     let mut workers = Vec::with_capacity(alloc, count)?;
     for number in 0..count {
@@ -22,24 +25,40 @@ pub(crate) fn workers_of(
     Ok(workers)
 }
 
+/// How many of the workers have a step to take.
+fn live_count(workers: &[Worker]) -> usize
+    ensures { result ≡ live workers.now }
+{
+    let mut count = 0;
+    for worker in workers {
+        if worker.is_live() {
+            count += 1;
+        }
+    }
+    count
+}
+
 /// Draws one of the workers that have a step to take, and gives its number; none where no worker has one.
 ///
 /// Draws a number below how many such workers there are, also where there is one, and takes the worker at that place of
 /// them, in rising order.
 pub(crate) fn drawn(generator: &mut Pcg32, workers: &[Worker]) -> Option<usize>
-    ensures { IfSome result (λ number. number < length workers.now) }
+    ensures drawn { IfSome result (λ number. IsAtPlace workers.now ((pcg32 generator.old).0 % live workers.now) number) }
+    ensures generator { IfSome result (λ number. generator.new ≡ (pcg32 generator.old).1) }
+    ensures none { result ≡ None → live workers.now ≡ 0 }
 {
-    let live = workers.iter().filter(|worker| worker.is_live()).count();
-    if live == 0 {
+    let count = live_count(workers);
+    if count == 0 {
         return None;
     }
-    let place = draw(generator, live as u64);
+    let place = draw(generator, count as u64);
     at_place(workers, place)
 }
 
 /// The number of the worker at this place of those that have a step to take.
 pub(crate) fn at_place(workers: &[Worker], place: u64) -> Option<usize>
-    ensures { IfSome result (λ number. number < length workers.now) }
+    ensures some { IfSome result (λ number. IsAtPlace workers.now place number) }
+    ensures none { result ≡ None → live workers.now ≤ place }
 {
     let mut left = place;
     for (number, worker) in workers.iter().enumerate() {

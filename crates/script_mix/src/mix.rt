@@ -15,7 +15,7 @@ use txn_files::Scripts;
 /// `AllocError` where memory is refused outside a step. A step that is refused memory is answered 14, by which its
 /// script ends. A run costs what its steps cost, and a look at each worker for each turn.
 pub fn mixed(alloc: Global, seed: u64, work: &Scripts) -> Result<Core, AllocError>
-    ensures { IfOk result (λ core. IsMixed work.now core) }
+    ensures { IfOk result (λ core. IsMixed work.now seed core) }
 {
     let limits = work.limits();
     let Ok(mut core) = Core::new(alloc, limits) else {

@@ -5,6 +5,7 @@ ghost use Rattle.txn_trace.specs.Shape.{own};
 ghost use Rattle.script_worker.specs.Workers.{step_by, told_drive};
 ghost use Rattle.script_worker.specs.Keeps.{Keeps};
 ghost use Rattle.script_mix.specs.Crews.{Goes};
+ghost use Rattle.script_mix.specs.Turns.{Takes, TakesTurn};
 
 use boost_core::Core;
 use script_worker::Worker;
@@ -15,7 +16,8 @@ use txn_trace::{Answer, Step};
 /// A worker takes its next turn, of one step or of two.
 pub(crate) fn take_turn(core: &mut Core, worker: &mut Worker, scripts: &[Script], tries: u64)
     requires { Keeps scripts.now worker.old (own worker.old.number core.old.history) }
-    ensures { Goes scripts.now core.old core.new worker.old worker.new }
+    ensures goes { Goes scripts.now core.old core.new worker.old worker.new }
+    ensures takes { TakesTurn scripts.now tries core.old worker.old core.new worker.new }
 {
     match worker.turn(core.size()) {
         Some(Turn::One(step)) => {
@@ -42,6 +44,7 @@ fn take_step(
     requires step { step_by worker.old ≡ Some step }
     requires keeps { Keeps scripts.now worker.old (own worker.old.number core.old.history) }
     ensures goes { Goes scripts.now core.old core.new worker.old worker.new }
+    ensures takes { Takes scripts.now tries core.old worker.old step result core.new worker.new }
     ensures second { (next : Step) → result ≡ answers.Placed → step_by (told_drive worker.old answers.Placed) ≡ Some next → step_by worker.new ≡ Some next }
 {
     let answer = core.step(step);

@@ -1,10 +1,12 @@
 use Rattle.std.proofs.Common.{◌≡◌, ℕ, ◌<◌, [], length, get_or}
 use Rattle.script_worker.specs.declared.worker.Worker.{Worker}
 use Rattle.script_mix.specs.Crews.{IsMember}
+use Rattle.script_mix.specs.Turns.{first_crew}
 use Rattle.script_mix.proofs.crew.workers_of.Given as goal
 
 abbrev pub invariant-loop-number : goal.invariant-loop-number
 invariant-loop-number l = record {
   size : length l.workers.items ≡ l.number;
+  first : l.workers.items ≡ first_crew l.scripts l.count l.number;
   each : (w : ℕ) (other : Worker) → w < length l.workers.items → IsMember l.scripts l.count [] w (get_or l.workers.items w other);
 }

@@ -1,19 +1,72 @@
-use Rattle.std.proofs.Common.{◌∙◌, ◌<◌, length, subst}
+use Rattle.std.proofs.Common.{◌≡◌, ◌∙◌, inl, inr, ◌%◌, List, [], ◌∷◌, refl, sym, ap, subst, arith}
+use Rattle.txn_trace.specs.Sizes.{Sizes}
+use Rattle.rand_pcg.specs.Pcg.{pcg32}
+use Rattle.boost_core.specs.Machine.{State, start}
+use Rattle.script_worker.specs.declared.worker.Worker.{Worker}
 use Rattle.script_mix.specs.Crews.{Goes}
+use Rattle.script_mix.specs.Turns.{live, IsAtPlace}
 use Rattle.script_mix.proofs.Turns.{crew_goes, crew_plays}
+use Rattle.script_mix.proofs.Mixings.{begins, crew_begins, crew_first, turn_of_work}
 use Rattle.script_mix.proofs.mix.mixed.Goals as goal
+use Rattle.script_mix.proofs.mix.mixed.Goals.{else-loop-turn-test, then-loop-turn-test+in_default-drawn}
+
+pub loop-turn-init : goal.loop-turn-init
+loop-turn-init c =
+    let core_is : c.in-Ok.core ≡ start c.args.work.now.sizes = c.in-Ok.ensures.ok ∙ ap start c.limits-limits.ensures in
+    let callers : c.callers.result ≡ c.args.work.now.sizes.callers = c.callers.ensures.value ∙ ap (λ (s : Sizes). s.callers) c.limits-limits.ensures in
+    record {
+      limits = ap (λ (s : State). s.limits) core_is;
+      crew = crew_begins c.scripts.result.now c.args.work.now.scripts c.callers.result c.args.work.now.sizes.callers c.in-Ok.core.history c.in_ok-workers.workers.items c.scripts.ensures callers (sym (ap (λ (s : State). s.history) core_is)) c.in_ok-workers.ensures.crew;
+      turns = (
+        [],
+        refl,
+        begins c.args.work.now c.args.seed c.in-Ok.core c.in_ok-workers.workers.items c.seed_from_u64-generator.result core_is
+            (crew_first c.scripts.result.now c.args.work.now.scripts c.callers.result c.args.work.now.sizes.callers c.in_ok-workers.workers.items c.scripts.ensures callers c.in_ok-workers.ensures.first)
+            c.seed_from_u64-generator.ensures,
+      );
+    }
 
 pub loop-turn-preserved : goal.loop-turn-preserved
 loop-turn-preserved c =
-    let within : c.in-Some.number < length c.loop-turn.workers.items = subst (λ ws. c.in-Some.number < length ws) c.deref.ensures.value c.in-Some.ensures in
-    let goes = subst (λ scripts. Goes scripts c.loop-turn.core c.take_turn.new.core c.index_mut.result.now c.take_turn.new.worker) c.scripts-in-loop-turn.ensures c.take_turn.ensures in
+    let drawn : IsAtPlace c.loop-turn.workers.items ((pcg32 c.loop-turn.generator).0 % live c.loop-turn.workers.items) c.in-Some.number =
+    subst (λ (ws : List Worker). IsAtPlace ws ((pcg32 c.loop-turn.generator).0 % live ws) c.in-Some.number) c.deref.ensures.value c.in-Some.ensures.drawn in
+    let goes = subst (λ scripts. Goes scripts c.loop-turn.core c.take_turn.new.core c.index_mut.result.now c.take_turn.new.worker) c.scripts-in-loop-turn.ensures c.take_turn.ensures.goes in
+    let (numbers, count, turns) = c.loop-turn.invariant.turns in
     record {
-      limits = c.take_turn.ensures.limits ∙ c.loop-turn.invariant.limits;
-      crew = crew_goes c.args.work.now.scripts c.args.work.now.sizes.callers c.in-Some.number c.loop-turn.core c.take_turn.new.core c.loop-turn.workers.items c.index_mut.result.now c.take_turn.new.worker within c.index_mut.ensures.value c.loop-turn.invariant.crew goes;
+      limits = goes.limits ∙ c.loop-turn.invariant.limits;
+      crew = crew_goes c.args.work.now.scripts c.args.work.now.sizes.callers c.in-Some.number c.loop-turn.core c.take_turn.new.core c.loop-turn.workers.items c.index_mut.result.now c.take_turn.new.worker drawn.within c.index_mut.ensures.value c.loop-turn.invariant.crew goes;
+      turns = (
+        c.in-Some.number ∷ numbers,
+        omega (arith, count),
+        (
+          record { core = c.loop-turn.core; crew = c.loop-turn.workers.items; generator = c.loop-turn.generator },
+          turns,
+          record {
+            drawn = drawn;
+            generator = c.in-Some.ensures.generator;
+            before = c.index_mut.result.now;
+            after = c.take_turn.new.worker;
+            worker = c.index_mut.ensures.value;
+            turn = turn_of_work c.scripts-in-loop-turn.result.now c.args.work.now.scripts c.tries.result c.args.work.now.tries c.loop-turn.core c.take_turn.new.core c.index_mut.result.now c.take_turn.new.worker
+                c.scripts-in-loop-turn.ensures c.tries.ensures c.take_turn.ensures.takes;
+            crew = refl;
+          },
+        ),
+      );
     }
 
 pub returns : goal.returns
-returns c = record {
-  limits = c.loop-turn.invariant.limits;
-  plays = crew_plays c.args.work.now.scripts c.args.work.now.sizes.callers c.loop-turn.core.limits.stripes c.loop-turn.core.history c.loop-turn.workers.items c.trace-history.ensures.legal c.loop-turn.invariant.crew;
-}
+returns c =
+    let (numbers, count, turns) = c.loop-turn.invariant.turns in
+    record {
+      limits = c.loop-turn.invariant.limits;
+      plays = crew_plays c.args.work.now.scripts c.args.work.now.sizes.callers c.loop-turn.core.limits.stripes c.loop-turn.core.history c.loop-turn.workers.items c.trace-history.ensures.legal c.loop-turn.invariant.crew;
+      drawn = numbers;
+      last = record { core = c.loop-turn.core; crew = c.loop-turn.workers.items; generator = c.loop-turn.generator };
+      core = refl;
+      turns = turns;
+      ended = elim c.loop-turn-test.branch [
+        | else-loop-turn-test w ↦ inr (omega (arith, count, w.loop-turn-test.false, c.loop-turn.auto._turn-end))
+        | then-loop-turn-test+in_default-drawn w ↦ inl (subst (λ (ws : List Worker). live ws ≡ 0) w.deref.ensures.value (w.drawn.ensures.none w.in_default-drawn.is))
+      ];
+    }

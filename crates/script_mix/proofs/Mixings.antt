@@ -1,0 +1,34 @@
+-- How workers begin to take turns.
+use Rattle.std.proofs.Common.{◌≡◌, ℕ, [], List, ap, subst, ◌∙◌}
+use Rattle.txn_trace.specs.declared.action.Action.{Action}
+use Rattle.txn_trace.specs.declared.entry.Entry.{Entry}
+use Rattle.txn_files.specs.Work.{Work}
+use Rattle.rand_core.specs.Pcg32Seed.{pcg32_seed}
+use Rattle.rand_pcg.specs.Lcg.{Lcg}
+use Rattle.rand_pcg.specs.Pcg.{pcg32_of_seed}
+use Rattle.boost_core.specs.Machine.{State, start}
+use Rattle.script_worker.specs.declared.worker.Worker.{Worker}
+use Rattle.script_mix.specs.Crews.{IsCrew}
+use Rattle.script_mix.specs.Turns.{Mixing, first_crew, beginning, TakesTurn}
+
+abbrev mixing : State → List Worker → Lcg → Mixing
+mixing core crew generator = record { core = core; crew = crew; generator = generator }
+
+-- A core, workers and a generator that are new are the beginning.
+pub begins : (work : Work) (seed : ℕ) (core : State) (crew : List Worker) (generator : Lcg) → core ≡ start work.sizes → crew ≡ first_crew work.scripts work.sizes.callers work.sizes.callers
+    → generator ≡ pcg32_of_seed (pcg32_seed 16 seed) → mixing core crew generator ≡ beginning work seed
+begins work seed core crew generator core_is crew_is generator_is =
+    ap (λ s. mixing s crew generator) core_is ∙ ap (λ ws. mixing (start work.sizes) ws generator) crew_is
+    ∙ ap (λ g. mixing (start work.sizes) (first_crew work.scripts work.sizes.callers work.sizes.callers) g) generator_is
+
+pub crew_begins : (scripts theirs : List (List Action)) (count callers : ℕ) (h : List Entry) (crew : List Worker) → scripts ≡ theirs → count ≡ callers → [] ≡ h → IsCrew scripts count [] crew → IsCrew theirs callers h crew
+crew_begins scripts theirs count callers h crew scripts_is count_is none is =
+    subst (λ s. IsCrew s callers h crew) scripts_is (subst (λ n. IsCrew scripts n h crew) count_is (subst (λ es. IsCrew scripts count es crew) none is))
+
+pub crew_first : (scripts theirs : List (List Action)) (count callers : ℕ) (crew : List Worker) → scripts ≡ theirs → count ≡ callers → crew ≡ first_crew scripts count count → crew ≡ first_crew theirs callers callers
+crew_first scripts theirs count callers crew scripts_is count_is is = is ∙ ap (λ s. first_crew s count count) scripts_is ∙ ap (λ n. first_crew theirs n n) count_is
+
+pub turn_of_work : (scripts theirs : List (List Action)) (tries allowed : ℕ) (old new : State) (before after : Worker) → scripts ≡ theirs → tries ≡ allowed
+    → TakesTurn scripts tries old before new after → TakesTurn theirs allowed old before new after
+turn_of_work scripts theirs tries allowed old new before after scripts_is tries_is takes =
+    subst (λ s. TakesTurn s allowed old before new after) scripts_is (subst (λ n. TakesTurn scripts n old before new after) tries_is takes)
