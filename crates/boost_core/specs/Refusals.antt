@@ -8,7 +8,7 @@ use Rattle.txn_trace.specs.declared.refusal.Refusal.{Refusal}
 use Rattle.txn_trace.specs.declared.refusal.Refusal.TheVariants.{BadKey, NoSuchCaller, NotOpen, AlreadyOpen, OperationUnfinished, Leaving, Unplaced, NothingToSeek, NoSuchLevel, NoSuchBucket, ParentMissing, NoSuchHelper, HelperOutOfOrder, NoMemory, StampsUsedUp}
 use Rattle.txn_trace.specs.Map.{key_of}
 use Rattle.txn_trace.specs.Shape.{Phase, Closed, Waiting, LeavingTo, LeavingToEnd, Seat}
-use Rattle.map_ops.specs.Split.{parent_of}
+use Rattle.map_ops.specs.Buckets.{parent_of}
 use Rattle.map_ops.specs.InitRefusal.{InitRefusal}
 use Rattle.map_ops.specs.InitRefusal.TheVariants as inits
 use Rattle.boost_core.specs.State.{State, Owner, Caller, Helper, Help, Sought, Dummy, seat_in, turn_in, help_in, is_set, bucket_at}

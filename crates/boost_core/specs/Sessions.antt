@@ -1,7 +1,5 @@
 -- What a caller's side says, and what its steps do to it and to the table.
 use Rattle.std.specs.Prelude.{◌≡◌, ℕ, ◌+◌, ◌<◌, ◌≤◌, ◌∷◌, is_some, ◌++◌, Bool, true, false, List, [], Option, Some, None, length, map, reverse, option_to_list}
-use Rattle.map_ops.specs.Nodes.{SpareAt}
-use Rattle.map_ops.specs.Cursor.{Cursor}
 use Rattle.txn_trace.specs.Map.{Map, key_of}
 use Rattle.txn_trace.specs.Now.{set_at}
 use Rattle.txn_trace.specs.Owed.{owed_in}
@@ -9,7 +7,7 @@ use Rattle.txn_trace.specs.Shape.{Phase, Closed, Opened, Waiting, LeavingTo, Lea
 use Rattle.undo_log.specs.UndoLog.{Log, newest_above}
 use Rattle.map_ops.specs.declared.job.MapJob.{MapJob}
 use Rattle.map_ops.specs.Jobs.{PendingAt, takes_node, key_of_job, value_before, spare_of_job, IsDue}
-use Rattle.map_ops.specs.TableAt.{TableAt, content, IsPlaced, fits}
+use Rattle.map_ops.specs.TableAt.{TableAt, Cursor, SpareAt, KeepsBuckets, KeepsNodes, content, IsPlaced, fits, last_of, turn_of}
 use Rattle.map_ops.specs.Changes.{OwnsIf, Places, Does, TakesBack}
 use Rattle.boost_core.specs.declared.stage.Stage.{Stage}
 use Rattle.boost_core.specs.declared.stage.Stage.TheVariants as stages
@@ -176,10 +174,10 @@ UndoesIn s t false s' t' = Drops s t s' t'
 
 -- The table is as it was but for its spares, and cursors stay placed.
 pub record Rests (t t' : TableAt) : Type 0 where
-  pub nodes : t'.list.nodes ≡ t.list.nodes
-  pub buckets : t'.buckets ≡ t.buckets
-  pub turn : t'.list.turn ≡ t.list.turn
-  pub last : t'.list.last ≡ t.list.last
+  pub nodes : KeepsNodes t t'
+  pub buckets : KeepsBuckets t t'
+  pub turn : turn_of t' ≡ turn_of t
+  pub last : last_of t' ≡ last_of t
   pub placed : (cursor : Cursor) (key : ℕ) → IsPlaced t cursor key → IsPlaced t' cursor key
 
 -- The spare of what waits, if it has one, is the table's.

@@ -1,10 +1,9 @@
 -- Which spares are kept for whom.
 use Rattle.std.specs.Prelude.{ℕ, ◌≤◌, ◌==◌, ◌&&◌, nat_eq, List, Option, Some, None, sum_by, if◌then◌else◌}
 use Rattle.std.specs.Option.{option_eq}
-use Rattle.map_ops.specs.Nodes.{SpareAt, out_at}
 use Rattle.map_ops.specs.declared.job.MapJob.{MapJob}
 use Rattle.map_ops.specs.Jobs.{spare_of_job}
-use Rattle.map_ops.specs.TableAt.{TableAt}
+use Rattle.map_ops.specs.TableAt.{TableAt, SpareAt, spare_out}
 
 -- How often a spare, if there is one, is the one of this place and stamp.
 abbrev pub times_of : Option SpareAt → ℕ → ℕ → ℕ
@@ -17,7 +16,7 @@ times_in jobs place stamp = sum_by (λ job. times_of (spare_of_job job) place st
 
 -- How often a table has given it out: once or not.
 abbrev pub times_out : TableAt → ℕ → ℕ → ℕ
-times_out t place stamp = if option_eq nat_eq (out_at t.list place) (Some stamp) then 1 else 0
+times_out t place stamp = if option_eq nat_eq (spare_out t place) (Some stamp) then 1 else 0
 
 -- Each spare is kept at most as often as it is out: so each is the table's, and none is kept twice.
 abbrev pub IsCovered : (ℕ → ℕ → ℕ) → TableAt → Type 0

@@ -40,8 +40,8 @@ use Rattle.list_steps.specs.declared.sweeps.SweepOutcome.{SweepOutcome}
 use Rattle.list_steps.specs.declared.sweeps.SweepOutcome.TheVariants.{Swept, Clean}
 use Rattle.list_steps.specs.Steps as steps
 use Rattle.map_ops.specs.Sound.{AllEven, Belong, IsEvenDummy}
-use Rattle.map_ops.specs.TableAt.{Help, Nothing, Sought, Dummy, help_of, linked_of, map_of, table_of, IsNew, Keeps}
-use Rattle.map_ops.specs.Buckets.{Doubles, Helps, Holds, Links, LinkChanges, SeekChanges, Seeks, Stores, StoreChanges, cursor_fits, helper_fits, seek_answer, link_answer, store_answer}
+use Rattle.map_ops.specs.TableAt.{Help, Nothing, Sought, Dummy, help_of, linked_of, map_of, table_of, IsNew, Keeps, cursor_fits}
+use Rattle.map_ops.specs.Buckets.{Doubles, Helps, Holds, Links, LinkChanges, SeekChanges, Seeks, Stores, StoreChanges, helper_fits, seek_answer, link_answer, store_answer}
 use Rattle.map_ops.proofs.BelongLemmas.{belong_swept, has_dummy-swept, linked_same}
 
 stored_at : (entries : List (Option ℕ)) (bucket : ℕ) → slice_index_or (map is_some entries) bucket false ≡ is_some (slice_index_or entries bucket None)

@@ -1,7 +1,7 @@
 -- What each call on the buckets of a table answers and changes.
 use Rattle.std.specs.Prelude.{◌≡◌, ℕ, ◌*◌, ◌+◌, ◌-◌, ◌^◌, Bool, true, false, not, ◌==◌, nat_le, Option, Some, None, Result, Ok, Err, List, slice_set, slice_index_or, if◌then◌else◌}
 use Rattle.std.specs.List.{slice_get}
-use Rattle.split_key.specs.Split.{parent_of}
+pub use Rattle.split_key.specs.Split.{parent_of}
 use Rattle.bucket_table.specs.declared.answer.InitSeek.{InitSeek}
 use Rattle.bucket_table.specs.declared.answer.InitSeek.TheVariants.{Ready, Placed}
 use Rattle.bucket_table.specs.declared.answer.InitLink.{InitLink}
@@ -10,21 +10,8 @@ use Rattle.bucket_table.specs.declared.answer.InitRefusal.{InitRefusal}
 use Rattle.bucket_table.specs.declared.answer.InitRefusal.TheVariants.{NoSuchBucket, ParentMissing, NoSuchHelper, HelperOutOfOrder, StampsUsedUp}
 use Rattle.bucket_table.specs.declared.answer.Double.{Double}
 use Rattle.bucket_table.specs.declared.answer.Double.TheVariants.{Moved, AtLimit, Light, Doubled}
-use Rattle.bucket_table.specs.declared.helper.Helper.{Helper}
-use Rattle.bucket_table.specs.declared.helper.Helper.TheVariants.{Idle, Seeking, Holding}
-use Rattle.bucket_table.specs.Directory.{helper_of}
-use Rattle.map_ops.specs.TableAt.{TableAt, Help, Nothing, Sought, Dummy, regular, turn_of, last_of, size_of, stored_of, linked_of, helps_of, KeepsSpares, fits}
-
--- whether the cursor that a helper has fits
-abbrev pub cursor_fits : TableAt → Option Helper → Bool
-cursor_fits t (Some (Seeking bucket cursor)) = fits t cursor
-cursor_fits t (Some Idle) = false
-cursor_fits t (Some (Holding bucket dummy)) = false
-cursor_fits t None = false
-
--- whether the cursor of the helper of this number fits
-abbrev pub helper_fits : TableAt → ℕ → Bool
-helper_fits t helper = cursor_fits t (helper_of t.buckets helper)
+use Rattle.map_ops.specs.TableAt.{TableAt, Help, Nothing, Sought, Dummy, regular, turn_of, last_of, size_of, stored_of, linked_of, helps_of, KeepsSpares}
+pub use Rattle.map_ops.specs.TableAt.{helper_fits}
 
 -- the bucket is stored
 abbrev pub is_stored : List Bool → ℕ → Bool

@@ -1,13 +1,5 @@
 -- What each call answers and changes.
-use Rattle.std.specs.Prelude.{◌≡◌, ◌≢◌, ◌<◌, ◌≤◌, ◌-◌, ◌^◌, ◌+◌, ◌%◌, ℕ, Bool, true, false, Option, Some, None, is_some, if◌then◌else◌}
-use Rattle.std.specs.List.{AllByRecursion}
-use Rattle.node_list.specs.Nodes.{SpareAt, out_at}
-use Rattle.list_steps.specs.declared.cursor.Cursor.{Cursor}
-use Rattle.list_steps.specs.declared.sweeps.SweepOutcome.{SweepOutcome}
-use Rattle.list_steps.specs.Seek.{sought}
-use Rattle.list_steps.specs.Steps as steps
-use Rattle.split_key.specs.Split.{split}
-use Rattle.bucket_table.specs.Directory.{IsNearest}
+use Rattle.std.specs.Prelude.{◌≡◌, ◌≢◌, ◌<◌, ◌≤◌, ◌-◌, ◌^◌, ◌+◌, ℕ, Bool, true, false, Option, Some, None, is_some, if◌then◌else◌}
 use Rattle.txn_trace.specs.declared.op.Op.{Op}
 use Rattle.txn_trace.specs.declared.refusal.Refusal.{Refusal}
 use Rattle.txn_trace.specs.declared.refusal.Refusal.TheVariants as refusals
@@ -19,7 +11,7 @@ use Rattle.map_ops.specs.declared.act.Undo.{Undo}
 use Rattle.map_ops.specs.declared.act.Undo.TheVariants.{Undone, Again as UndoAgain}
 use Rattle.map_ops.specs.declared.job.MapJob.{MapJob}
 use Rattle.map_ops.specs.declared.job.MapJob.TheVariants.{Unput, Restore, Relink}
-use Rattle.map_ops.specs.TableAt.{TableAt, content, turn_of, last_of, size_of, linked_of, Owns, KeepsOthers, KeepsSpares, Keeps, IsPlaced, cursor_turn, fits}
+use Rattle.map_ops.specs.TableAt.{TableAt, Cursor, SpareAt, SweepOutcome, content, turn_of, last_of, linked_of, nodes_of, nodes_sought, spare_out, Owns, KeepsOthers, KeepsSpares, KeepsNodes, KeepsBuckets, Keeps, IsPlaced, IsStart, SweepsNodes, cursor_turn, fits}
 use Rattle.map_ops.specs.Jobs.{PendingAt, takes_node, key_of_job, value_before, spare_of_job, job_of, IsDue}
 
 -- the spare, if there is one, is the table's
@@ -30,14 +22,14 @@ OwnsIf t (Some spare) = Owns t spare
 -- the spare, if there is one, is out no more; all others are as they were
 abbrev pub Spends : TableAt → TableAt → Option SpareAt → Type 0
 Spends old new None = KeepsSpares old new
-Spends old new (Some spare) = (out_at new.list spare.place ≡ None) × KeepsOthers old new spare.place
+Spends old new (Some spare) = (spare_out new spare.place ≡ None) × KeepsOthers old new spare.place
 
 -- a new spare is out, with the next stamp, at a place where none was
 pub record GivesSpare (old new : TableAt) (spare : SpareAt) : Type 0 where
   pub room : last_of old < 2 ^ 64 - 2
   pub stamp : spare.stamp ≡ last_of old + 1
   pub last : last_of new ≡ last_of old + 1
-  pub fresh : out_at old.list spare.place ≡ None
+  pub fresh : spare_out old spare.place ≡ None
   pub owned : Owns new spare
   pub others : KeepsOthers old new spare.place
 
@@ -53,8 +45,8 @@ pub record Prepares (old new : TableAt) (op : Op) (pending : PendingAt) : Type 0
   pub op_is : pending.op ≡ op
   pub key_fits : key_of op < 2 ^ 63
   pub given : GivesFor old new (takes_node op) pending.spare
-  pub nodes : new.list.nodes ≡ old.list.nodes
-  pub buckets : new.buckets ≡ old.buckets
+  pub nodes : KeepsNodes old new
+  pub buckets : KeepsBuckets old new
   pub turn : turn_of new ≡ turn_of old
 
 -- why an operation is not prepared: a bad key exactly where the key is 2^63 or more; then, where it takes a node, stamps
@@ -77,8 +69,8 @@ pub record Places (old new : TableAt) (key : ℕ) (cursor : Cursor) : Type 0 whe
 -- there and the key's place are unlinked, and no others
 pub record SeeksNear (old new : TableAt) (key : ℕ) : Type 0 where
   pub start : ℕ
-  pub nearest : IsNearest old.buckets (key % size_of old) start
-  pub nodes : new.list.nodes ≡ sought old.list.nodes start (split key)
+  pub nearest : IsStart old key start
+  pub nodes : nodes_of new ≡ nodes_sought old start key
 
 -- the spare of an operation: with a job that owns it, it stays out; else it is out no more
 abbrev pub SpendsFor : TableAt → TableAt → Option SpareAt → Option MapJob → Type 0
@@ -93,7 +85,7 @@ pub record Does (old new : TableAt) (pending : PendingAt) (reply : Option ℕ) (
   pub content_is : content new ≡ after (content old) pending.op
   pub job_is : job ≡ job_of (content old) pending.op pending.spare
   pub spares : SpendsFor old new pending.spare job
-  pub buckets : new.buckets ≡ old.buckets
+  pub buckets : KeepsBuckets old new
   pub linked : linked_of new ≡ linked_of old
   pub last : last_of new ≡ last_of old
 
@@ -106,7 +98,7 @@ Acts old new pending cursor (ActAgain back) = (fits old cursor ≡ false) × (ba
 pub record TakesBack (old new : TableAt) (job : MapJob) : Type 0 where
   pub content_is : content new ≡ set_at (content old) (key_of_job job) (value_before job)
   pub spares : Spends old new (spare_of_job job)
-  pub buckets : new.buckets ≡ old.buckets
+  pub buckets : KeepsBuckets old new
   pub linked : linked_of new ≡ linked_of old
   pub last : last_of new ≡ last_of old
 
@@ -117,8 +109,8 @@ Undoes old new job cursor (UndoAgain back) = (fits old cursor ≡ false) × (bac
 
 -- a spare, if there is one, is given back, and nothing else has changed
 pub record GivesBack (old new : TableAt) (spare : Option SpareAt) : Type 0 where
-  pub nodes : new.list.nodes ≡ old.list.nodes
-  pub buckets : new.buckets ≡ old.buckets
+  pub nodes : KeepsNodes old new
+  pub buckets : KeepsBuckets old new
   pub turn : turn_of new ≡ turn_of old
   pub last : last_of new ≡ last_of old
   pub spares : Spends old new spare
@@ -138,17 +130,13 @@ pub record Applies (old new : TableAt) (op : Op) (reply : Option ℕ) (job : Opt
   pub job_is : job ≡ job_of (content old) op spare
   pub spare_is : is_some spare ≡ takes_node op
   pub spares : JobSpare old new job
-  pub buckets : new.buckets ≡ old.buckets
+  pub buckets : KeepsBuckets old new
   pub linked : linked_of new ≡ linked_of old
   pub last : last_of new ≡ last_of old + (if takes_node op then 1 else 0)
 
 -- a sweep: the first marked node is unlinked and nothing else has changed, or no node is marked and nothing has changed
 abbrev pub Sweeps : TableAt → TableAt → SweepOutcome → Type 0
-Sweeps old new outcome = steps.Sweeps old.list new.list outcome × (new.buckets ≡ old.buckets)
-
--- no linked node is marked
-abbrev pub IsClean : TableAt → Type 0
-IsClean t = AllByRecursion (λ n. n.marked ≡ false) t.list.nodes
+Sweeps old new outcome = SweepsNodes old new outcome × KeepsBuckets old new
 
 -- the table shows what the job names as after its change, and the job's spare is the table's
 abbrev pub ShowsAfter : MapJob → TableAt → Type 0

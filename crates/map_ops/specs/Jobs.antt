@@ -1,11 +1,11 @@
 -- Operations that are prepared, and the jobs that take changes back.
 use Rattle.std.specs.Prelude.{◌≡◌, ℕ, Bool, true, false, IsSome, Option, Some, None}
-use Rattle.node_list.specs.Nodes.{SpareAt}
 use Rattle.txn_trace.specs.declared.op.Op.{Op}
 use Rattle.txn_trace.specs.declared.op.Op.TheVariants.{Put, Take, Get}
 use Rattle.txn_trace.specs.Map.{Map, get}
 use Rattle.map_ops.specs.declared.job.MapJob.{MapJob}
 use Rattle.map_ops.specs.declared.job.MapJob.TheVariants.{Unput, Restore, Relink}
+use Rattle.map_ops.specs.TableAt.{SpareAt}
 
 -- an operation, and the spare that it owns
 pub record PendingAt : Type 0 where

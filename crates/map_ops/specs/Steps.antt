@@ -1,17 +1,16 @@
 -- What the parts of the table's calls do.
 use Rattle.std.specs.Prelude.{◌≡◌, ℕ, ◌<◌, ◌-◌, ◌^◌, Option}
-use Rattle.node_list.specs.Nodes.{SpareAt}
 use Rattle.txn_trace.specs.declared.refusal.Refusal.{Refusal}
 use Rattle.txn_trace.specs.declared.refusal.Refusal.TheVariants.{StampsUsedUp, NoMemory}
 use Rattle.txn_trace.specs.Now.{set_at}
-use Rattle.map_ops.specs.TableAt.{TableAt, content, turn_of, last_of, linked_of}
+use Rattle.map_ops.specs.TableAt.{TableAt, SpareAt, KeepsBuckets, KeepsNodes, content, turn_of, last_of, linked_of}
 use Rattle.map_ops.specs.Changes.{GivesSpare}
 
 -- a spare is given, and nothing else but the last stamp has changed
 pub record GivesOne (old new : TableAt) (spare : SpareAt) : Type 0 where
   pub given : GivesSpare old new spare
-  pub nodes : new.list.nodes ≡ old.list.nodes
-  pub buckets : new.buckets ≡ old.buckets
+  pub nodes : KeepsNodes old new
+  pub buckets : KeepsBuckets old new
   pub turn : turn_of new ≡ turn_of old
 
 -- why no spare is given
@@ -23,6 +22,6 @@ IsLacking t refusal = ⊥
 -- a key has this value now, or none, and every other key what it had
 pub record Sets (old new : TableAt) (key : ℕ) (value : Option ℕ) : Type 0 where
   pub content_is : content new ≡ set_at (content old) key value
-  pub buckets : new.buckets ≡ old.buckets
+  pub buckets : KeepsBuckets old new
   pub linked : linked_of new ≡ linked_of old
   pub last : last_of new ≡ last_of old

@@ -1,19 +1,26 @@
 -- What a contract sees of a table.
-use Rattle.std.specs.Prelude.{◌≡◌, ◌≢◌, ℕ, ◌-◌, Bool, true, false, None, List, [], ◌∷◌, map, is_some, replicate}
-use Rattle.std.specs.List.{fold, range_with_len}
-use Rattle.node_list.specs.Nodes.{Listing, SpareAt, out_at, IsOut}
+use Rattle.std.specs.Prelude.{◌≡◌, ◌≢◌, ℕ, ◌-◌, ◌%◌, Bool, true, false, Option, Some, None, List, [], ◌∷◌, map, is_some, replicate}
+use Rattle.std.specs.List.{AllByRecursion, fold, range_with_len}
+pub use Rattle.node_list.specs.Nodes.{NodeAt, SpareAt}
+use Rattle.node_list.specs.Nodes.{Listing, out_at, IsOut}
+use Rattle.node_list.specs.Order.{IsRising}
 use Rattle.node_list.specs.Follow as nodes
-use Rattle.list_steps.specs.declared.cursor.Cursor.{Cursor}
+pub use Rattle.list_steps.specs.declared.cursor.Cursor.{Cursor}
+pub use Rattle.list_steps.specs.declared.sweeps.SweepOutcome.{SweepOutcome}
+use Rattle.list_steps.specs.Seek.{sought}
+use Rattle.list_steps.specs.Steps as steps
 use Rattle.list_steps.specs.Content.{pairs}
 use Rattle.list_steps.specs.Found as cursors
 use Rattle.split_key.specs.Split.{split}
-use Rattle.bucket_table.specs.Directory.{Directory, limit_of}
+use Rattle.bucket_table.specs.Directory.{Directory, IsNearest, helper_of, limit_of}
+use Rattle.bucket_table.specs.Directory as directories
 use Rattle.bucket_table.specs.Dummies.{has_dummy}
+use Rattle.bucket_table.specs.Home.{IsHome}
 use Rattle.bucket_table.specs.declared.helper.Helper.{Helper}
 use Rattle.bucket_table.specs.declared.helper.Helper.TheVariants.{Idle, Seeking, Holding}
 use Rattle.txn_trace.specs.Map.{Map, empty, insert}
 
--- the list of nodes and the buckets
+-- the list of nodes and the buckets, of which contracts speak by the words below alone
 pub record TableAt : Type 0 where
   pub list : Listing
   pub buckets : Directory
@@ -21,6 +28,18 @@ pub record TableAt : Type 0 where
 -- the table of a list and of buckets
 abbrev pub table_of : Listing → Directory → TableAt
 table_of list buckets = record { list = list; buckets = buckets }
+
+-- the linked nodes in order, the marked ones too
+abbrev pub nodes_of : TableAt → List NodeAt
+nodes_of t = t.list.nodes
+
+-- the linked nodes are as they were
+abbrev pub KeepsNodes : TableAt → TableAt → Type 0
+KeepsNodes old new = new.list.nodes ≡ old.list.nodes
+
+-- the size, the initialised buckets and what the helpers have are as they were
+abbrev pub KeepsBuckets : TableAt → TableAt → Type 0
+KeepsBuckets old new = new.buckets ≡ old.buckets
 
 -- the map of these pairs
 abbrev pub map_of : List (ℕ × ℕ) → Map
@@ -73,17 +92,32 @@ help_of (Holding bucket dummy) = Dummy bucket
 abbrev pub helps_of : TableAt → List Help
 helps_of t = map help_of t.buckets.helpers
 
+-- whether a helper that has this has a cursor, and it fits
+abbrev pub cursor_fits : TableAt → Option Helper → Bool
+cursor_fits t (Some (Seeking bucket cursor)) = cursors.fits t.list cursor
+cursor_fits t (Some Idle) = false
+cursor_fits t (Some (Holding bucket dummy)) = false
+cursor_fits t None = false
+
+-- whether the cursor of the helper of this number fits
+abbrev pub helper_fits : TableAt → ℕ → Bool
+helper_fits t helper = cursor_fits t (helper_of t.buckets helper)
+
+-- the stamp of the spare that is out at a place, if one is
+abbrev pub spare_out : TableAt → ℕ → Option ℕ
+spare_out t place = out_at t.list place
+
 -- the spare is the table's
 abbrev pub Owns : TableAt → SpareAt → Type 0
 Owns t spare = IsOut t.list spare
 
 -- the spares that were out are out, and no others, but for those at this place
 abbrev pub KeepsOthers : TableAt → TableAt → ℕ → Type 0
-KeepsOthers old new place = (other : ℕ) → other ≢ place → out_at new.list other ≡ out_at old.list other
+KeepsOthers old new place = (other : ℕ) → other ≢ place → spare_out new other ≡ spare_out old other
 
 -- the same spares are out
 abbrev pub KeepsSpares : TableAt → TableAt → Type 0
-KeepsSpares old new = (place : ℕ) → out_at new.list place ≡ out_at old.list place
+KeepsSpares old new = (place : ℕ) → spare_out new place ≡ spare_out old place
 
 -- the cursor was placed on this table for this key, at any time
 abbrev pub IsPlaced : TableAt → Cursor → ℕ → Type 0
@@ -96,6 +130,34 @@ cursor_turn cursor = cursors.turn_of cursor
 -- whether the cursor fits: nothing has changed where it was placed
 abbrev pub fits : TableAt → Cursor → Bool
 fits t cursor = cursors.fits t.list cursor
+
+-- the place is that of the dummy of the key's bucket, or of its nearest ancestor that is initialised
+abbrev pub IsStart : TableAt → ℕ → ℕ → Type 0
+IsStart t key place = IsNearest t.buckets (key % size_of t) place
+
+-- the linked nodes after a seek of a key from a place: without the marked ones between there and the key's place
+abbrev pub nodes_sought : TableAt → ℕ → ℕ → List NodeAt
+nodes_sought t place key = sought t.list.nodes place (split key)
+
+-- no linked node is marked
+abbrev pub IsClean : TableAt → Type 0
+IsClean t = AllByRecursion (λ n. n.marked ≡ false) (nodes_of t)
+
+-- the first marked node is unlinked and the spares are as they were, or none is marked and nothing has changed
+abbrev pub SweepsNodes : TableAt → TableAt → SweepOutcome → Type 0
+SweepsNodes old new outcome = steps.Sweeps old.list new.list outcome
+
+-- the split keys of the linked nodes rise strictly
+abbrev pub IsSplitOrdered : TableAt → Type 0
+IsSplitOrdered t = IsRising (nodes_of t)
+
+-- each initialised bucket, and each helper that has one, names the linked dummy of its bucket
+abbrev pub NamesDummies : TableAt → Type 0
+NamesDummies t = IsHome t.buckets t.list
+
+-- the sizes are powers of two, and each initialised bucket has an initialised parent
+abbrev pub HasParents : TableAt → Type 0
+HasParents t = directories.IsSound t.buckets
 
 -- a table at two times: nothing older was disturbed
 abbrev pub Follows : TableAt → TableAt → Type 0
@@ -112,11 +174,11 @@ pub record IsNew (t : TableAt) (largest helpers : ℕ) : Type 0 where
   pub helps_is : helps_of t ≡ replicate helpers Nothing
   pub turn_is : turn_of t ≡ 0
   pub last_is : last_of t ≡ 0
-  pub none_out : (place : ℕ) → out_at t.list place ≡ None
+  pub none_out : (place : ℕ) → spare_out t place ≡ None
 
 -- the pairs, the buckets, the linked dummies and the last stamp are as they were
 pub record Keeps (old new : TableAt) : Type 0 where
   pub regular : regular new ≡ regular old
-  pub buckets : new.buckets ≡ old.buckets
+  pub buckets : KeepsBuckets old new
   pub linked : linked_of new ≡ linked_of old
   pub last : last_of new ≡ last_of old

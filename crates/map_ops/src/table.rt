@@ -1,7 +1,6 @@
 //! The table.
 ghost use Rattle.std.specs.Prelude.{◌≡◌, ◌≢◌, ℕ, ◌<◌, ◌≤◌, ◌-◌, ◌^◌, ◌↔◌, Ok, Err, Some, length, IfOk, IfErr, OnErr};
 ghost use Rattle.std.specs.List.{slice_get};
-ghost use Rattle.node_list.specs.Order.{IsRising};
 ghost use Rattle.split_key.specs.Split.{IsPowerOfTwo};
 ghost use Rattle.std.specs.BTreeMap.{get as value_at};
 ghost use Rattle.std.specs.Ordering.{nat_cmp};
@@ -44,12 +43,10 @@ impl Model for Table {
 }
 
 impl Table {
-    ghost use Rattle.bucket_table.specs.Directory.{IsSound as IsSoundDirectory};
-    ghost use Rattle.bucket_table.specs.Home.{IsHome};
-    ghost use Rattle.map_ops.specs.TableAt.{IsNew, IsPlaced, Follows, Keeps, KeepsSpares, Sought, content, regular, helps_of, last_of, largest_of, linked_of, size_of, stored_of, turn_of};
+    ghost use Rattle.map_ops.specs.TableAt.{HasParents, IsClean, IsNew, IsPlaced, IsSplitOrdered, Follows, Keeps, KeepsSpares, NamesDummies, Sought, content, helper_fits, regular, helps_of, last_of, largest_of, linked_of, size_of, stored_of, turn_of};
     ghost use Rattle.map_ops.specs.Jobs.{IsDue, key_of_job, spare_of_job};
-    ghost use Rattle.map_ops.specs.Changes.{Acts, Applies, GivesBack, IsClean, IsRefused, OwnsIf, Places, Prepares, SeeksNear, Sweeps, TakesBack, Undoes};
-    ghost use Rattle.map_ops.specs.Buckets.{Doubles, LinkChanges, SeekChanges, StoreChanges, double_answer, helper_fits, link_answer, seek_answer, store_answer};
+    ghost use Rattle.map_ops.specs.Changes.{Acts, Applies, GivesBack, IsRefused, OwnsIf, Places, Prepares, SeeksNear, Sweeps, TakesBack, Undoes};
+    ghost use Rattle.map_ops.specs.Buckets.{Doubles, LinkChanges, SeekChanges, StoreChanges, double_answer, link_answer, seek_answer, store_answer};
 
     /// An empty table of two buckets, of which bucket 0 is initialised, and of so many idle helpers. It can grow to `max`
     /// buckets, a power of two.
@@ -255,9 +252,9 @@ impl Table {
     pub fn size(&self) -> u32
         ensures size { result ≡ size_of self.now }
         ensures ordered { regular self.now ≡ ordered (content self.now) }
-        ensures rising { IsRising self.now.list.nodes }
-        ensures stored { IsHome self.now.buckets self.now.list }
-        ensures parents { IsSoundDirectory self.now.buckets }
+        ensures rising { IsSplitOrdered self.now }
+        ensures stored { NamesDummies self.now }
+        ensures parents { HasParents self.now }
     {
         let _turn = self.list.turn();
         self.buckets.size()
