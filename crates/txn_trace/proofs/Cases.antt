@@ -75,6 +75,9 @@ savepoints_undone_once = refl
 savepoints_undone_twice : (now (take 12 savepoints)).rows ≡ (1, 10) ∷ []
 savepoints_undone_twice = refl
 
+savepoints_now : (now savepoints).rows ≡ []
+savepoints_now = refl
+
 savepoints_serial : (serial savepoints).rows ≡ []
 savepoints_serial = refl
 
@@ -261,13 +264,14 @@ forged_stripes_more_stripes_verdict : verdict 16 forged_stripes ≡ Legal 0 2
 forged_stripes_more_stripes_verdict = refl
 
 -- Split keys, and maps in the order of them.
-split_10 : split 10 ≡ 0x5000000000000001
+split_keys : map split (0 ∷ 4 ∷ 2 ∷ 10 ∷ 6 ∷ 1 ∷ 5 ∷ 3 ∷ 7 ∷ (2 ^ 63 - 1) ∷ []) ≡ 0x0000000000000001 ∷ 0x2000000000000001 ∷ 0x4000000000000001 ∷ 0x5000000000000001 ∷ 0x6000000000000001
+    ∷ 0x8000000000000001 ∷ 0xa000000000000001 ∷ 0xc000000000000001 ∷ 0xe000000000000001 ∷ 0xffffffffffffffff ∷ []
 unfolding split reversed reversed_low
-split_10 = refl
+split_keys = refl
 
-split_last : split (2 ^ 63 - 1) ≡ 0xffffffffffffffff
-unfolding split reversed reversed_low
-split_last = refl
+split_dummies : map reversed (0 ∷ 2 ∷ 1 ∷ 3 ∷ []) ≡ 0x0000000000000000 ∷ 0x4000000000000000 ∷ 0x8000000000000000 ∷ 0xc000000000000000 ∷ []
+unfolding reversed reversed_low
+split_dummies = refl
 
 abbrev with_keys : List ℕ → Map
 with_keys [] = empty
