@@ -10,7 +10,8 @@
 //! The model is a machine of thirteen steps whose state is mostly the history. The headline, as five claims, each in its file of
 //! `specs/`: the history has the shape of transactions (`Shape`), stripes have one holder (`Locks`), each transaction has the replies
 //! of running alone after those committed before it (`Replies`), map and regular list are what the history gives now (`Content`), and
-//! every step makes a move of the machine (`Machine`). The plain calls are moves of one caller with none between (`Plain`).
+//! every step makes a move of the machine (`Machine`). The plain calls are moves of one caller with none between (`Plain`). A caller
+//! whose steps others come between is driven by a `Drive`.
 //!
 //! A step costs what it does on the table and takes no memory but to begin, to ask, to save, to go back and to link a bucket:
 //! all that an operation and its undoing want is reserved when it is asked for.
@@ -31,3 +32,4 @@ mod transactions;
 
 pub use machine::Core;
 pub use owner::Owner;
+pub use txn_drive::{Call, Drive, End, Turn};
