@@ -4,7 +4,6 @@ use Rattle.std.specs.Prelude.{slice_get, slice_set, slice_index, sum_by, map, na
 use Rattle.std.specs.Option.{option_eq}
 use Rattle.std.proofs.lemmas.Bool.{false≢true, and_from, eq-eqb, lt-ltb, cases_lt}
 use mathlib.Core.Logic.{inl, inr}
-use Rattle.map_ops.specs.Cursor.{Cursor}
 use Rattle.undo_log.specs.UndoLog.{Log, kept_at}
 use Rattle.key_locks.specs.Locks.{Releases}
 use Rattle.txn_trace.specs.declared.entry.Entry.{Entry}
@@ -20,7 +19,7 @@ use Rattle.txn_trace.specs.Log.{log_of}
 use Rattle.txn_trace.proofs.Next.{Next}
 use Rattle.txn_trace.proofs.Entries as laws
 use Rattle.map_ops.specs.declared.job.MapJob.{MapJob}
-use Rattle.map_ops.specs.TableAt.{TableAt}
+use Rattle.map_ops.specs.TableAt.{TableAt, Cursor}
 use Rattle.boost_core.specs.declared.stage.Stage.{Stage}
 use Rattle.boost_core.specs.declared.stage.Stage.TheVariants as stages
 use Rattle.boost_core.specs.declared.session.Session.{Session}

@@ -4,12 +4,6 @@ use Rattle.std.specs.Prelude.{slice_get, slice_set, sum_by, map, reverse, nat_eq
 use Rattle.std.specs.Option.{option_eq}
 use Rattle.std.proofs.lemmas.Bool.{false≢true, cases_eq, eq-eqb, ne_eqb, and_from, le-leb}
 use mathlib.Core.Logic.{inl, inr, ◌⊎◌}
-use Rattle.map_ops.specs.Cursor.{Cursor}
-use Rattle.map_ops.specs.Content.{pairs}
-use Rattle.map_ops.specs.Nodes.{NodeAt, SpareAt}
-use Rattle.map_ops.specs.Directory.{Directory, limit_of}
-use Rattle.map_ops.specs.Dummies.{has_dummy}
-use Rattle.std.specs.List.{range_with_len}
 use Rattle.txn_trace.specs.declared.answer.Answer.TheVariants as answers
 use Rattle.undo_log.specs.UndoLog.{Log}
 use Rattle.key_locks.specs.Locks.{Grants, Refuses, holder_of as held_by}
@@ -33,9 +27,8 @@ use Rattle.txn_trace.proofs.Holders.{is_locked-asked, is_locked-busy}
 use Rattle.txn_trace.proofs.Entries as laws
 use Rattle.map_ops.specs.declared.job.MapJob.{MapJob}
 use Rattle.map_ops.specs.Jobs.{PendingAt, takes_node}
-use Rattle.map_ops.specs.TableAt.{TableAt, Follows, size_of, stored_of, linked_of, last_of, turn_of, map_of, helps_of, help_of}
+use Rattle.map_ops.specs.TableAt.{TableAt, Cursor, SpareAt, Follows, size_of, stored_of, linked_of, helps_of, last_of, turn_of, map_of}
 use Rattle.map_ops.specs.Changes.{Prepares, GivesFor, GivesBack, IsRefused, OwnsIf}
-use Rattle.map_ops.proofs.Laws.{still_placed}
 use Rattle.boost_core.specs.declared.stage.Stage.{Stage}
 use Rattle.boost_core.specs.declared.stage.Stage.TheVariants as stages
 use Rattle.boost_core.specs.declared.session.Session.{Session}
@@ -101,11 +94,11 @@ module _ (limits : Sizes) (h : List Entry) (b m : ℕ) (t : TableAt) (sessions :
   module _ (log : Log MapJob) (jobs : log.jobs ≡ x.log.jobs) (kept : log.kept ≡ x.log.kept) (room_there : 0 < log.room) (t' : TableAt) (pending : PendingAt) (prepares : Prepares t t' op pending) (follows : Follows t t') (within : stripe_of limits.stripes (key_of op) < limits.stripes) where
     prepared_runs : Runs t t'
     prepared_runs = record {
-      size = ap (λ (d : Directory). d.size) prepares.buckets;
-      stored = ap (λ (d : Directory). map is_some d.entries) prepares.buckets;
-      linked = λ i. map (has_dummy (prepares.nodes i)) (range_with_len 0 (limit_of (prepares.buckets i)));
-      helps = ap (λ (d : Directory). map help_of d.helpers) prepares.buckets;
-      turn = let same = prepares.turn in omega arith;
+      size = prepares.nodes.buckets.size;
+      stored = prepares.nodes.buckets.stored;
+      linked = prepares.nodes.linked;
+      helps = prepares.nodes.buckets.helps;
+      turn = let same = prepares.nodes.turn in omega arith;
       last = last_rises t t' follows;
       one_last = one_stamp_more t t' (takes_node op) pending.spare prepares.given;
     }
@@ -143,16 +136,16 @@ module _ (limits : Sizes) (h : List Entry) (b m : ℕ) (t : TableAt) (sessions :
         mine = refl;
         due = subst (λ (js : List MapJob). AreDue (now h) (reverse js)) (sym jobs) (tells.seated c x at).due;
         ready = (room_there, given_spare t t' (takes_node op) pending.spare prepares.given ∙ ap takes_node (sym prepares.op_is));
-        content = ap (λ (ns : List NodeAt). map_of (pairs ns)) prepares.nodes ∙ tells.content;
+        content = ap map_of prepares.nodes.regular ∙ tells.content;
         apart = λ d other k held. refl;
-        placed = λ cursor key is. still_placed t t' cursor key is follows;
+        placed = λ cursor key is. follows.placed cursor key is;
         sought = subst (λ (cursor : Option Cursor). IsSoughtAt t' cursor (Some (key_of pending.op))) (sym (open_cursor limits h b m t sessions locks placed tells c x at ask_stage)) tt;
         spares = λ others covered place stamp.
             let after : others place stamp + times_in x.log.jobs place stamp + times_of pending.spare place stamp ≤ times_out t' place stamp = spares_before others covered place stamp in
             let same : times_in log.jobs place stamp ≡ times_in x.log.jobs place stamp = ap (λ (js : List MapJob). times_in js place stamp) jobs in
             regroup (others place stamp) (times_in x.log.jobs place stamp) (times_of pending.spare place stamp) (times_in log.jobs place stamp) (times_out t' place stamp) same after;
-        largest = ap (λ (d : Directory). limit_of d) prepares.buckets;
-        helpers = ap (λ (d : Directory). length (map help_of d.helpers)) prepares.buckets;
+        largest = prepares.nodes.buckets.largest;
+        helpers = ap length prepares.nodes.buckets.helps;
       }
         where
           regroup : (a j s k n : ℕ) → k ≡ j → a + j + s ≤ n → a + (s + k) ≤ n
@@ -178,7 +171,7 @@ module _ (limits : Sizes) (h : List Entry) (b m : ℕ) (t : TableAt) (sessions :
         allowed = (none, and_from (has_stamp_for (state_of limits h t sessions placed) op) (is_locked limits.stripes h (entry.Asked c op)) (stamped t t' (takes_node op) pending.spare prepares.given) locked);
         state = state_is limits h' (h ++ entry.Asked c op ∷ []) t t' (map turn_at sessions) (slice_set sessions c asking) None prepared_runs is (turns_same sessions c x asking at refl);
         changes = prepared_runs.turn;
-        list_kept = λ kept. prepares.turn;
+        list_kept = λ kept. prepares.nodes.turn;
         stamp = prepared_runs.last;
         one_stamp = prepared_runs.one_last;
       }
@@ -205,16 +198,16 @@ module _ (limits : Sizes) (h : List Entry) (b m : ℕ) (t : TableAt) (sessions :
         mine = refl;
         due = subst (λ (js : List MapJob). AreDue (now h) (reverse js)) (sym jobs) (tells.seated c x at).due;
         ready = tt;
-        content = ap (λ (ns : List NodeAt). map_of (pairs ns)) (back.nodes ∙ prepares.nodes) ∙ tells.content;
+        content = ap map_of (back.nodes.regular ∙ prepares.nodes.regular) ∙ tells.content;
         apart = λ d away k held. refl;
-        placed = λ cursor key is. still_placed t' t'' cursor key (still_placed t t' cursor key is follows) then;
+        placed = λ cursor key is. then.placed cursor key (follows.placed cursor key is);
         sought = subst (λ (cursor : Option Cursor). IsSoughtAt t'' cursor (target_at stages.LeavingToEnd log)) (sym (open_cursor limits h b m t sessions locks placed tells c x at ask_stage)) tt;
         spares = λ others covered place stamp.
             let most : others place stamp + times_in x.log.jobs place stamp ≤ times_out t'' place stamp = spent t' t'' pending.spare (λ p s. others p s + times_in x.log.jobs p s) back.spares (spares_before others covered) place stamp in
             let same : times_in log.jobs place stamp ≡ times_in x.log.jobs place stamp = ap (λ (js : List MapJob). times_in js place stamp) jobs in
             regroup (others place stamp) (times_in x.log.jobs place stamp) (times_in log.jobs place stamp) (times_out t'' place stamp) same most;
-        largest = ap (λ (d : Directory). limit_of d) (back.buckets ∙ prepares.buckets);
-        helpers = ap (λ (d : Directory). length (map help_of d.helpers)) (back.buckets ∙ prepares.buckets);
+        largest = back.nodes.buckets.largest ∙ prepares.nodes.buckets.largest;
+        helpers = ap length (back.nodes.buckets.helps ∙ prepares.nodes.buckets.helps);
       }
         where
           regroup : (a j k n : ℕ) → k ≡ j → a + j ≤ n → a + (0 + k) ≤ n
@@ -222,11 +215,11 @@ module _ (limits : Sizes) (h : List Entry) (b m : ℕ) (t : TableAt) (sessions :
 
       busy_runs : Runs t t''
       busy_runs = record {
-        size = ap (λ (d : Directory). d.size) (back.buckets ∙ prepares.buckets);
-        stored = ap (λ (d : Directory). map is_some d.entries) (back.buckets ∙ prepares.buckets);
-        linked = λ i. map (has_dummy ((back.nodes ∙ prepares.nodes) i)) (range_with_len 0 (limit_of ((back.buckets ∙ prepares.buckets) i)));
-        helps = ap (λ (d : Directory). map help_of d.helpers) (back.buckets ∙ prepares.buckets);
-        turn = let same = back.turn in let was = prepared_runs.turn in omega arith;
+        size = back.nodes.buckets.size ∙ prepares.nodes.buckets.size;
+        stored = back.nodes.buckets.stored ∙ prepares.nodes.buckets.stored;
+        linked = back.nodes.linked ∙ prepares.nodes.linked;
+        helps = back.nodes.buckets.helps ∙ prepares.nodes.buckets.helps;
+        turn = let same = back.nodes.turn in let was = prepared_runs.turn in omega arith;
         last = let same = back.last in let was = prepared_runs.last in omega arith;
         one_last = let same = back.last in let was = prepared_runs.one_last in omega arith;
       }
@@ -245,7 +238,7 @@ module _ (limits : Sizes) (h : List Entry) (b m : ℕ) (t : TableAt) (sessions :
         allowed = (none, and_from (has_stamp_for (state_of limits h t sessions placed) op) (is_locked limits.stripes h (entry.Busy c op other)) (stamped t t' (takes_node op) pending.spare prepares.given) held_else);
         state = state_is limits h' (h ++ entry.Busy c op other ∷ []) t t'' (map turn_at sessions) (slice_set sessions c leaving) None busy_runs is (turns_same sessions c x leaving at refl);
         changes = busy_runs.turn;
-        list_kept = λ kept. back.turn ∙ prepares.turn;
+        list_kept = λ kept. back.nodes.turn ∙ prepares.nodes.turn;
         stamp = busy_runs.last;
         one_stamp = busy_runs.one_last;
       }

@@ -5,7 +5,7 @@ use Rattle.std.specs.List.{AllByRecursion}
 use Rattle.std.proofs.lemmas.Bool.{cases_eq, eq-eqb, ne_eqb}
 use Rattle.std.proofs.lemmas.List.{reverse-append, append-nil, length_push}
 use mathlib.Core.Logic.{inl, inr}
-use Rattle.map_ops.specs.Nodes.{SpareAt}
+use Rattle.map_ops.specs.TableAt.{SpareAt}
 use Rattle.txn_trace.specs.declared.op.Op.{Op}
 use Rattle.txn_trace.specs.declared.op.Op.TheVariants.{Put, Take, Get}
 use Rattle.txn_trace.specs.Map.{Map, get, key_of, reply_of, after}

@@ -4,10 +4,6 @@ use Rattle.std.specs.Prelude.{slice_get, slice_set, sum_by, map, reverse, nat_eq
 use Rattle.std.specs.Option.{option_eq, option_map}
 use Rattle.undo_log.specs.UndoLog.{Log}
 use Rattle.std.proofs.lemmas.Bool.{false≢true}
-use Rattle.map_ops.specs.Cursor.{Cursor}
-use Rattle.map_ops.specs.Content.{pairs}
-use Rattle.map_ops.specs.Nodes.{NodeAt}
-use Rattle.map_ops.specs.Directory.{Directory, limit_of}
 use Rattle.txn_trace.specs.declared.entry.Entry.{Entry}
 use Rattle.txn_trace.specs.declared.entry.Entry.TheVariants as entry
 use Rattle.txn_trace.specs.declared.step.Step.TheVariants as steps
@@ -22,7 +18,7 @@ use Rattle.txn_trace.proofs.Next.{Next}
 use Rattle.txn_trace.proofs.Entries as laws
 use Rattle.key_locks.specs.Locks.{Releases, without_caller, holder_of as held_by}
 use Rattle.map_ops.specs.declared.job.MapJob.{MapJob}
-use Rattle.map_ops.specs.TableAt.{TableAt, content, cursor_turn, map_of, largest_of, helps_of, help_of}
+use Rattle.map_ops.specs.TableAt.{TableAt, Cursor, content, cursor_turn, map_of, largest_of, helps_of}
 use Rattle.map_ops.specs.Changes.{OwnsIf}
 use Rattle.boost_core.specs.declared.stage.Stage.{Stage}
 use Rattle.boost_core.specs.declared.stage.Stage.TheVariants as stages
@@ -40,15 +36,15 @@ use Rattle.boost_core.proofs.Moves.{rests_runs, state_is, turns_same, turns_set}
 use Rattle.boost_core.proofs.Grow.{Grown, grown, room_grown, next_as, one_of_sum}
 use Rattle.boost_core.proofs.Parting.{open_cursor}
 
--- The content is that of the nodes.
+-- The content, and how many buckets and helpers there are, rest with the nodes.
 pub rests_content : (t t' : TableAt) → Rests t t' → content t' ≡ content t
-rests_content t t' rests = ap (λ (ns : List NodeAt). map_of (pairs ns)) rests.nodes
+rests_content t t' rests = ap map_of rests.nodes.regular
 
 pub rests_largest : (t t' : TableAt) → Rests t t' → largest_of t' ≡ largest_of t
-rests_largest t t' rests = ap (λ (d : Directory). limit_of d) rests.buckets
+rests_largest t t' rests = rests.nodes.buckets.largest
 
 pub rests_helpers : (t t' : TableAt) → Rests t t' → length (helps_of t') ≡ length (helps_of t)
-rests_helpers t t' rests = ap (λ (d : Directory). length (map help_of d.helpers)) rests.buckets
+rests_helpers t t' rests = ap length rests.nodes.buckets.helps
 
 -- The stripes of a caller are free, as the history says after its end.
 pub released : (c : ℕ) (o : Option ℕ) → without_caller c o ≡ cond (option_eq nat_eq o (Some c)) None o
@@ -139,7 +135,7 @@ module _ (limits : Sizes) (h : List Entry) (b m : ℕ) (t : TableAt) (sessions :
       allowed = (none, ap (λ n. n + 1) tells.commits);
       state = state_is limits h' (h ++ entry.Committed c (m + 1) ∷ []) t t' (map turn_at sessions) (slice_set sessions c y) None (rests_runs t t' settles.rests) is (turns_same sessions c x y at (ap (λ (cursor : Option Cursor). option_map cursor_turn cursor) settles.cursor));
       changes = (rests_runs t t' settles.rests).turn;
-      list_kept = λ kept. settles.rests.turn;
+      list_kept = λ kept. settles.rests.nodes.turn;
       stamp = (rests_runs t t' settles.rests).last;
       one_stamp = (rests_runs t t' settles.rests).one_last;
     }
@@ -187,7 +183,7 @@ module _ (limits : Sizes) (h : List Entry) (b m : ℕ) (t : TableAt) (sessions :
       allowed = (none, tt);
       state = state_is limits h' (h ++ entry.Leave c None ∷ []) t t' (slice_set (map turn_at sessions) c None) (slice_set sessions c y) None (rests_runs t t' leaves.rests) is (turns_set sessions c y None (ap (λ (cursor : Option Cursor). option_map cursor_turn cursor) leaves.cursor));
       changes = (rests_runs t t' leaves.rests).turn;
-      list_kept = λ kept. leaves.rests.turn;
+      list_kept = λ kept. leaves.rests.nodes.turn;
       stamp = (rests_runs t t' leaves.rests).last;
       one_stamp = (rests_runs t t' leaves.rests).one_last;
     }

@@ -9,7 +9,6 @@ use Rattle.std.proofs.lemmas.List.Sums.{sum_by-set, get_or-le-sum_by}
 use Rattle.std.proofs.lemmas.List.Elements.{All-push}
 use Rattle.std.proofs.lemmas.Option.{slice_get_within, get_or_from_slice_get, slice_get-get_or}
 use mathlib.Core.Logic.{◌⊎◌, inl, inr}
-use Rattle.map_ops.specs.Cursor.{Cursor}
 use Rattle.txn_trace.specs.declared.entry.Entry.{Entry}
 use Rattle.txn_trace.specs.Sizes.{Sizes}
 use Rattle.txn_trace.specs.Map.{Map, get}
@@ -26,7 +25,7 @@ use Rattle.txn_trace.proofs.Room.{owed_by-row}
 use Rattle.txn_trace.proofs.Held.{log_held}
 use Rattle.key_locks.specs.Locks.{holder_of as held_by}
 use Rattle.map_ops.specs.declared.job.MapJob.{MapJob}
-use Rattle.map_ops.specs.TableAt.{TableAt, content, IsPlaced, largest_of, helps_of}
+use Rattle.map_ops.specs.TableAt.{TableAt, Cursor, content, IsPlaced, largest_of, helps_of}
 use Rattle.boost_core.specs.declared.session.Session.{Session}
 use Rattle.boost_core.specs.State.{Owner}
 use Rattle.boost_core.specs.Spares.{times_of, times_in, times_out, IsCovered}

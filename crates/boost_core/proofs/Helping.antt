@@ -2,10 +2,9 @@
 use Rattle.std.proofs.Common.{◌≡◌, ◌≢◌, ℕ, ◌-◌, ◌^◌, ◌<◌, ◌≤◌, ◌==◌, ◌&&◌, Bool, true, false, cond, List, [], ◌++◌, length, Option, Some, None, Result, Ok, Err, is_some, refl, sym, ap, subst, ◌∙◌, arith}
 use Rattle.std.specs.Prelude.{slice_get, slice_set, unwrap_or, map, nat_le, nat_lt, not}
 use Rattle.std.proofs.lemmas.Bool.{false≢true, cases_Bool, cases_eq, cases_lt, le-leb, ne_eqb, and_from, and_parts, eqb-true, ltb-true}
-use Rattle.std.proofs.lemmas.List.{append-nil, length-map}
+use Rattle.std.proofs.lemmas.List.{append-nil}
 use Rattle.std.proofs.lemmas.Option.{slice_get_within, slice_get-get_or, unwrap_or-slice_get}
 use mathlib.Core.Logic.{inl, inr}
-use Rattle.map_ops.specs.Split.{parent_of}
 use Rattle.map_ops.specs.Double.{Double}
 use Rattle.map_ops.specs.InitSeek.{InitSeek}
 use Rattle.map_ops.specs.InitSeek.TheVariants as seeks
@@ -15,15 +14,13 @@ use Rattle.map_ops.specs.InitRefusal.{InitRefusal}
 use Rattle.map_ops.specs.InitRefusal.TheVariants as inits
 use Rattle.txn_trace.specs.declared.refusal.Refusal.{Refusal}
 use Rattle.txn_trace.specs.declared.refusal.Refusal.TheVariants as refusals
-use Rattle.map_ops.specs.Buckets.{Becomes, Helps, Seeks, Holds, Links, Stores, Doubles, size_after, is_stored, seek_answer, link_answer, store_answer, helper_fits}
-use Rattle.map_ops.specs.Directory.{Directory, limit_of}
+use Rattle.map_ops.specs.Buckets.{Becomes, Helps, Seeks, Holds, Links, Stores, Doubles, size_after, is_stored, seek_answer, link_answer, store_answer, helper_fits, parent_of}
 use Rattle.txn_trace.specs.declared.entry.Entry.{Entry}
 use Rattle.txn_trace.specs.declared.step.Step.{Step}
 use Rattle.txn_trace.specs.declared.step.Step.TheVariants as steps
 use Rattle.txn_trace.specs.declared.answer.Answer.TheVariants as answers
 use Rattle.txn_trace.specs.Sizes.{Sizes}
-use Rattle.map_ops.specs.TableAt.{TableAt, Help, Nothing, Sought, Dummy, help_of, Follows, Keeps, KeepsSpares, content, map_of, regular, size_of, stored_of, linked_of, helps_of, turn_of, last_of, largest_of}
-use Rattle.map_ops.proofs.Laws.{still_placed}
+use Rattle.map_ops.specs.TableAt.{TableAt, Help, Nothing, Sought, Dummy, Follows, Keeps, KeepsSpares, content, map_of, regular, size_of, stored_of, linked_of, helps_of, turn_of, last_of, largest_of}
 use Rattle.boost_core.specs.declared.session.Session.{Session}
 use Rattle.boost_core.specs.State.{State, Owner, Caller, Helper, is_set, help_in, bucket_at, turn_at as state_turn_at}
 use Rattle.boost_core.specs.Refusals.{refusal_of, refusal_for, has_dummy, has_cursor, has_stamp, lacks_dummy}
@@ -44,15 +41,15 @@ pub tells_table : (limits : Sizes) (h : List Entry) (b m : ℕ) (t : TableAt) (s
     → (t' : TableAt) (placed' : Option Owner) → regular t' ≡ regular t → Follows t t' → KeepsSpares t t' → largest_of t' ≡ largest_of t → length (helps_of t') ≡ length (helps_of t) → IsFresh t' sessions placed'
     → Tells limits h b m t' sessions locks placed'
 tells_table limits h b m t sessions locks placed tells t' placed' same follows spares largest helpers fresh =
-    table_stayed limits h b m t sessions locks placed tells t' placed' (same_content t t' same) (λ cursor key is. still_placed t t' cursor key is follows)
+    table_stayed limits h b m t sessions locks placed tells t' placed' (same_content t t' same) follows.placed
     (still_covered t t' (all_times sessions) spares tells.spares) largest helpers fresh
 
 pub keeps_runs : (t t' : TableAt) → Keeps t t' → turn_of t ≤ turn_of t' → Runs t t'
 keeps_runs t t' keeps turn = record {
-  size = ap (λ (d : Directory). d.size) keeps.buckets;
-  stored = ap (λ (d : Directory). map is_some d.entries) keeps.buckets;
+  size = keeps.buckets.size;
+  stored = keeps.buckets.stored;
   linked = keeps.linked;
-  helps = ap (λ (d : Directory). map help_of d.helpers) keeps.buckets;
+  helps = keeps.buckets.helps;
   turn = turn;
   last = let same = keeps.last in omega arith;
   one_last = let same = keeps.last in omega arith;
@@ -62,7 +59,7 @@ keeps_runs t t' keeps turn = record {
 pub sweep_tells : (limits : Sizes) (h : List Entry) (b m : ℕ) (t : TableAt) (sessions : List Session) (locks : List (Option ℕ)) (placed : Option Owner) → Tells limits h b m t sessions locks placed
     → (t' : TableAt) → Keeps t t' → KeepsSpares t t' → Follows t t' → Tells limits h b m t' sessions locks None
 sweep_tells limits h b m t sessions locks placed tells t' keeps spares follows =
-    tells_table limits h b m t sessions locks placed tells t' None keeps.regular follows spares (ap (λ (d : Directory). limit_of d) keeps.buckets) (ap (λ (d : Directory). length (map help_of d.helpers)) keeps.buckets) tt
+    tells_table limits h b m t sessions locks placed tells t' None keeps.regular follows spares keeps.buckets.largest (ap length keeps.buckets.helps) tt
 
 append_none : (h : List Entry) → h ≡ h ++ []
 append_none h = sym (append-nil h)
@@ -93,16 +90,13 @@ clean_move limits h t t' sessions placed keeps turn =
       one_stamp = runs.one_last;
     }
 
-length-stored : (t : TableAt) → length (stored_of t) ≡ largest_of t
-length-stored t = length-map t.buckets.entries is_some
-
 -- What a core tells, where the buckets and the helpers change and nothing else.
 pub becomes_tells : (limits : Sizes) (h : List Entry) (b m : ℕ) (t : TableAt) (sessions : List Session) (locks : List (Option ℕ)) (placed : Option Owner) → Tells limits h b m t sessions locks placed
-    → (t' : TableAt) (placed' : Option Owner) (size : ℕ) (stored linked : List Bool) (helps : List Help) → Becomes t t' size stored linked helps → length stored ≡ length (stored_of t) → length helps ≡ length (helps_of t) → Follows t t' → IsFresh t' sessions placed'
+    → (t' : TableAt) (placed' : Option Owner) (size : ℕ) (stored linked : List Bool) (helps : List Help) → Becomes t t' size stored linked helps → length helps ≡ length (helps_of t) → Follows t t' → IsFresh t' sessions placed'
     → Tells limits h b m t' sessions locks placed'
-becomes_tells limits h b m t sessions locks placed tells t' placed' size stored linked helps becomes long many follows fresh =
+becomes_tells limits h b m t sessions locks placed tells t' placed' size stored linked helps becomes many follows fresh =
     tells_table limits h b m t sessions locks placed tells t' placed' becomes.regular follows becomes.spares
-    (sym (length-stored t') ∙ ap length becomes.stored_is ∙ long ∙ length-stored t) (ap length becomes.helps_is ∙ many) fresh
+    becomes.largest (ap length becomes.helps_is ∙ many) fresh
 
 -- The state then.
 pub becomes_state : (limits : Sizes) (h : List Entry) (t t' : TableAt) (sessions : List Session) (placed' : Option Owner) (size : ℕ) (stored linked : List Bool) (helps : List Help) → Becomes t t' size stored linked helps
@@ -113,7 +107,7 @@ becomes_state limits h t t' sessions placed' size stored linked helps becomes = 
 pub double_tells : (limits : Sizes) (h : List Entry) (b m : ℕ) (t : TableAt) (sessions : List Session) (locks : List (Option ℕ)) (placed : Option Owner) → Tells limits h b m t sessions locks placed
     → (t' : TableAt) (answer : Double) → Doubles t t' answer → Follows t t' → Tells limits h b m t' sessions locks None
 double_tells limits h b m t sessions locks placed tells t' answer doubles follows =
-    becomes_tells limits h b m t sessions locks placed tells t' None (size_after (size_of t) answer) (stored_of t) (linked_of t) (helps_of t) doubles.becomes refl refl follows tt
+    becomes_tells limits h b m t sessions locks placed tells t' None (size_after (size_of t) answer) (stored_of t) (linked_of t) (helps_of t) doubles.becomes refl follows tt
 
 -- The refusal of a helper's step, if it has one.
 abbrev pub refusal_in_result : {A : Type 0} → Result A InitRefusal → Option Refusal

@@ -15,6 +15,5 @@ pub mod Undone
 pub mod Arriving
 pub mod Runs
 pub mod Asking
-pub mod Powers
 pub mod Starting
 pub mod Calls

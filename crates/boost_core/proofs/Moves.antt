@@ -1,5 +1,5 @@
 -- Moves of the machine, by what a step did to the table and to one caller's side.
-use Rattle.std.proofs.Common.{◌≡◌, ℕ, ◌+◌, ◌≤◌, List, [], ◌∷◌, ◌++◌, set, Option, Some, None, is_some, refl, sym, ap, subst, ◌∙◌, arith}
+use Rattle.std.proofs.Common.{◌≡◌, ℕ, ◌+◌, ◌≤◌, List, [], ◌∷◌, ◌++◌, set, Option, Some, None, refl, sym, ap, subst, ◌∙◌, arith}
 use Rattle.std.specs.Prelude.{map, slice_get, slice_set}
 use Rattle.std.proofs.lemmas.List.{map-set}
 use Rattle.std.proofs.lemmas.Option.{get_or_from_slice_get}
@@ -11,10 +11,7 @@ use Rattle.txn_trace.specs.declared.step.Step.{Step}
 use Rattle.txn_trace.specs.declared.answer.Answer.{Answer}
 use Rattle.txn_trace.specs.declared.answer.Answer.TheVariants.{Refused}
 use Rattle.txn_trace.specs.Sizes.{Sizes}
-use Rattle.map_ops.specs.TableAt.{TableAt, help_of, Follows, size_of, stored_of, linked_of, helps_of, turn_of, last_of}
-use Rattle.map_ops.specs.Directory.{Directory, limit_of}
-use Rattle.map_ops.specs.Dummies.{has_dummy}
-use Rattle.std.specs.List.{range_with_len}
+use Rattle.map_ops.specs.TableAt.{TableAt, Follows, size_of, stored_of, linked_of, helps_of, turn_of, last_of}
 use Rattle.boost_core.specs.Sessions.{Rests}
 use Rattle.boost_core.specs.declared.session.Session.{Session}
 use Rattle.boost_core.specs.State.{State, Owner}
@@ -45,11 +42,11 @@ runs_same t = record { size = refl; stored = refl; linked = refl; helps = refl; 
 -- So it is where only spares have changed.
 pub rests_runs : (t t' : TableAt) → Rests t t' → Runs t t'
 rests_runs t t' rests = record {
-  size = ap (λ (d : Directory). d.size) rests.buckets;
-  stored = ap (λ (d : Directory). map is_some d.entries) rests.buckets;
-  linked = λ i. map (has_dummy (rests.nodes i)) (range_with_len 0 (limit_of (rests.buckets i)));
-  helps = ap (λ (d : Directory). map help_of d.helpers) rests.buckets;
-  turn = let same = rests.turn in omega arith;
+  size = rests.nodes.buckets.size;
+  stored = rests.nodes.buckets.stored;
+  linked = rests.nodes.linked;
+  helps = rests.nodes.buckets.helps;
+  turn = let same = rests.nodes.turn in omega arith;
   last = let same = rests.last in omega arith;
   one_last = let same = rests.last in omega arith;
 }

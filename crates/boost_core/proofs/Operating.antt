@@ -7,9 +7,6 @@ use Rattle.std.proofs.lemmas.List.{length-set, get_or-set_same, append-nil}
 use Rattle.std.proofs.lemmas.List.Sums.{sum_by_push}
 use Rattle.std.proofs.lemmas.Option.{slice_get_within, slice_get-map}
 use mathlib.Core.Logic.{inl, inr}
-use Rattle.map_ops.specs.Cursor.{Cursor}
-use Rattle.map_ops.specs.Nodes.{SpareAt}
-use Rattle.map_ops.specs.Directory.{Directory, limit_of}
 use Rattle.txn_trace.specs.declared.op.Op.{Op}
 use Rattle.txn_trace.specs.declared.op.Op.TheVariants.{Put, Take, Get}
 use Rattle.txn_trace.specs.declared.entry.Entry.{Entry}
@@ -30,9 +27,8 @@ use Rattle.txn_trace.proofs.Held.{waiting_held, held_apart}
 use Rattle.map_ops.specs.declared.job.MapJob.{MapJob}
 use Rattle.map_ops.specs.declared.job.MapJob.TheVariants.{Unput, Restore, Relink}
 use Rattle.map_ops.specs.Jobs.{spare_of_job, unput, relink, job_of}
-use Rattle.map_ops.specs.TableAt.{TableAt, KeepsSpares, Follows, content, cursor_turn, fits, turn_of, largest_of, helps_of, help_of, IsPlaced}
+use Rattle.map_ops.specs.TableAt.{TableAt, Cursor, SpareAt, KeepsSpares, Follows, content, cursor_turn, fits, turn_of, largest_of, helps_of, IsPlaced}
 use Rattle.map_ops.specs.Changes.{Spends, SpendsFor, OwnsIf}
-use Rattle.map_ops.proofs.Laws.{still_placed, fits_in_turn}
 use Rattle.boost_core.specs.declared.stage.Stage.{Stage}
 use Rattle.boost_core.specs.declared.session.Session.{Session}
 use Rattle.boost_core.specs.State.{Owner, Caller, Helper, seat_in, turn_in}
@@ -142,22 +138,22 @@ module _ (limits : Sizes) (h : List Entry) (b m : ℕ) (t : TableAt) (sessions :
       content = does.does.content_is ∙ ap (λ n. after n does.pending.op) tells.content;
       apart = λ d other k held. get-after_other (now h) does.pending.op k
           (held_apart limits.stripes h d c k (key_of does.pending.op) held (waiting_held limits.stripes h tells.legal c does.pending.op (seat_of x) (tells.seated c x at).seat (ap phase_of does.waits)) other);
-      placed = λ cursor key is. still_placed t t' cursor key is follows;
+      placed = follows.placed;
       sought = subst (λ (cursor : Option Cursor). IsSoughtAt t' cursor (target_at y.stage y.log)) (sym does.cursor) tt;
       spares = λ others covered. subst (λ (st : Stage). IsCovered (λ p s. others p s + (times_of (spare_at st) p s + times_in y.log.jobs p s)) t') (sym does.stage)
           (subst (λ (js : List MapJob). IsCovered (λ p s. others p s + (0 + times_in js p s)) t') (sym does.jobs)
           (done_covered t t' does.pending.spare does.job x.log.jobs (content t) does.pending.op does.does.job_is does.does.spares others
           (subst (λ (st : Stage). IsCovered (λ p s. others p s + (times_of (spare_at st) p s + times_in x.log.jobs p s)) t) does.waits covered)));
-      largest = ap (λ (d : Directory). limit_of d) does.does.buckets;
-      helpers = ap (λ (d : Directory). length (map help_of d.helpers)) does.does.buckets;
+      largest = does.does.buckets.largest;
+      helpers = ap length does.does.buckets.helps;
     }
 
     does_runs : turn_of t ≤ turn_of t' → Runs t t'
     does_runs turn = record {
-      size = ap (λ (d : Directory). d.size) does.does.buckets;
-      stored = ap (λ (d : Directory). map is_some d.entries) does.does.buckets;
+      size = does.does.buckets.size;
+      stored = does.does.buckets.stored;
       linked = does.does.linked;
-      helps = ap (λ (d : Directory). map help_of d.helpers) does.does.buckets;
+      helps = does.does.buckets.helps;
       turn = turn;
       last = let same = does.does.last in omega arith;
       one_last = let same = does.does.last in omega arith;
@@ -185,10 +181,10 @@ module _ (limits : Sizes) (h : List Entry) (b m : ℕ) (t : TableAt) (sessions :
     pub seek_tells : Tells limits h b m t' (slice_set sessions c y) locks (Some (Caller c))
     seek_tells = stayed limits h b m t sessions locks placed tells c x y at t' (Some (Caller c)) (ap seat_of seeks.becomes) (ap (λ (s : Session). s.log.jobs) seeks.becomes)
         (subst (λ (s : Session). IsReady s.stage s.log.room) (sym seeks.becomes) (tells.seated c x at).ready)
-        (same_content t t' seeks.places.keeps.regular) (λ cursor key is. still_placed t t' cursor key is follows)
+        (same_content t t' seeks.places.keeps.regular) follows.placed
         (subst (IsSought t') (sym seeks.becomes) (subst (IsPlacedFor t' seeks.cursor) (sym seeks.target) seeks.places.placed))
         (λ others covered. subst (λ (s : Session). IsCovered (λ p q. others p q + times_kept s p q) t') (sym seeks.becomes) (still_covered t t' (λ p q. others p q + times_kept x p q) seeks.places.spares covered))
-        (ap (λ (d : Directory). limit_of d) seeks.places.keeps.buckets) (ap (λ (d : Directory). length (map help_of d.helpers)) seeks.places.keeps.buckets)
+        seeks.places.keeps.buckets.largest (ap length seeks.places.keeps.buckets.helps)
         (λ s cursor at_c had. elim (set_cases sessions c c y s (slice_get_within sessions c x at) at_c) [
           | inl mine ↦
               let both : Some seeks.cursor ≡ Some cursor = sym (ap (λ (q : Session). q.cursor) (mine.1 ∙ seeks.becomes)) ∙ had in
@@ -289,7 +285,7 @@ module _ (limits : Sizes) (h : List Entry) (b m : ℕ) (t : TableAt) (sessions :
           let same : cursor_turn drops.cursor ≡ turn_of t = eqb-true (cursor_turn drops.cursor) (turn_of t) parts.0 in
           let below : cursor_turn drops.cursor < 2 ^ 64 - 1 = ltb-true (cursor_turn drops.cursor) (2 ^ 64 - 1) parts.1 in
           let placed_for = has_key (target_of x) (subst (λ (o : Option Cursor). IsSoughtAt t o (target_of x)) drops.had (tells.sought c x at)) in
-          absurd (false≢true (sym drops.stale ∙ fits_in_turn t drops.cursor placed_for.0 placed_for.1 (sym same) (subst (λ n. n < 2 ^ 64 - 1) same below)))
+          absurd (false≢true (sym drops.stale ∙ placed_for.1.in_turn (sym same) (subst (λ n. n < 2 ^ 64 - 1) same below)))
     ]
 
     stale : may_be_stale (state_of limits h t sessions placed) (Caller c) ≡ true

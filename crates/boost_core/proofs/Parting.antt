@@ -2,7 +2,6 @@
 use Rattle.std.proofs.Common.{◌≡◌, ℕ, ◌+◌, ◌≤◌, false, List, [], ◌∷◌, ◌++◌, length, Option, Some, None, refl, sym, ap, subst, ◌∙◌, arith}
 use Rattle.std.specs.Prelude.{slice_get, slice_set, sum_by, map, nat_le}
 use Prim.Native.Nat.{suc}
-use Rattle.map_ops.specs.Cursor.{Cursor}
 use Rattle.txn_trace.specs.declared.entry.Entry.{Entry}
 use Rattle.txn_trace.specs.declared.entry.Entry.TheVariants as entry
 use Rattle.txn_trace.specs.declared.step.Step.TheVariants as steps
@@ -17,7 +16,7 @@ use Rattle.txn_trace.proofs.Next.{Next}
 use Rattle.txn_trace.proofs.Entries as laws
 use Rattle.undo_log.specs.UndoLog.{Log}
 use Rattle.map_ops.specs.declared.job.MapJob.{MapJob}
-use Rattle.map_ops.specs.TableAt.{TableAt}
+use Rattle.map_ops.specs.TableAt.{TableAt, Cursor}
 use Rattle.boost_core.specs.declared.stage.Stage.{Stage}
 use Rattle.boost_core.specs.declared.stage.Stage.TheVariants as stages
 use Rattle.boost_core.specs.declared.session.Session.{Session}

@@ -3,12 +3,10 @@ use Rattle.std.proofs.Common.{◌≡◌, ℕ, ◌+◌, ◌<◌, ◌≤◌, true,
 use Rattle.std.proofs.lemmas.List.Sums.{sum_by_push}
 use Rattle.std.proofs.lemmas.Bool.{cases_lt, false≢true}
 use mathlib.Core.Logic.{inl, inr}
-use Rattle.map_ops.specs.Nodes.{SpareAt}
 use Rattle.map_ops.specs.declared.job.MapJob.{MapJob}
 use Rattle.map_ops.specs.Jobs.{spare_of_job}
-use Rattle.map_ops.specs.TableAt.{TableAt, Follows}
+use Rattle.map_ops.specs.TableAt.{TableAt, SpareAt, Follows}
 use Rattle.map_ops.specs.Changes.{OwnsIf, GivesBack}
-use Rattle.map_ops.proofs.Laws.{still_placed}
 use Rattle.boost_core.specs.Spares.{times_of, times_in, times_out, IsCovered}
 use Rattle.map_ops.specs.Jobs.{PendingAt}
 use Rattle.boost_core.specs.declared.stage.Stage.{Stage}
@@ -17,15 +15,35 @@ use Rattle.boost_core.specs.Sessions.{Rests, spare_at}
 use Rattle.boost_core.proofs.Spares.{owns_if, spent}
 
 pub rests_same : (t : TableAt) → Rests t t
-rests_same t = record { nodes = refl; buckets = refl; turn = refl; last = refl; placed = λ cursor key is. is }
+rests_same t = record {
+  nodes = record {
+    all = refl;
+    regular = refl;
+    buckets = record { all = refl; size = refl; largest = refl; stored = refl; helps = refl };
+    linked = refl;
+    turn = refl;
+  };
+  last = refl;
+  placed = λ cursor key is. is;
+}
 
 pub rests_more : (t0 t t' : TableAt) (spare : Option SpareAt) → Rests t0 t → GivesBack t t' spare → Follows t t' → Rests t0 t'
 rests_more t0 t t' spare rests back follows = record {
-  nodes = back.nodes ∙ rests.nodes;
-  buckets = back.buckets ∙ rests.buckets;
-  turn = back.turn ∙ rests.turn;
+  nodes = record {
+    all = back.nodes.all ∙ rests.nodes.all;
+    regular = back.nodes.regular ∙ rests.nodes.regular;
+    buckets = record {
+      all = back.nodes.buckets.all ∙ rests.nodes.buckets.all;
+      size = back.nodes.buckets.size ∙ rests.nodes.buckets.size;
+      largest = back.nodes.buckets.largest ∙ rests.nodes.buckets.largest;
+      stored = back.nodes.buckets.stored ∙ rests.nodes.buckets.stored;
+      helps = back.nodes.buckets.helps ∙ rests.nodes.buckets.helps;
+    };
+    linked = back.nodes.linked ∙ rests.nodes.linked;
+    turn = back.nodes.turn ∙ rests.nodes.turn;
+  };
   last = back.last ∙ rests.last;
-  placed = λ cursor key is. still_placed t t' cursor key (rests.placed cursor key is) follows;
+  placed = λ cursor key is. follows.placed cursor key (rests.placed cursor key is);
 }
 
 times_pushed : (jobs jobs' : List MapJob) (job : MapJob) (place stamp : ℕ) → jobs ≡ jobs' ++ job ∷ [] → times_in jobs place stamp ≡ times_in jobs' place stamp + times_of (spare_of_job job) place stamp

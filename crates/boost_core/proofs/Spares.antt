@@ -4,37 +4,36 @@ use Rattle.std.specs.Prelude.{nat_eq}
 use Rattle.std.specs.Option.{option_eq}
 use Rattle.std.proofs.lemmas.Bool.{cases_eq, eq-eqb, ne_eqb, and_from}
 use mathlib.Core.Logic.{inl, inr}
-use Rattle.map_ops.specs.Nodes.{SpareAt, out_at}
 use Rattle.txn_trace.proofs.Now.{same_option, same_is}
-use Rattle.map_ops.specs.TableAt.{TableAt, KeepsSpares}
+use Rattle.map_ops.specs.TableAt.{TableAt, SpareAt, KeepsSpares, spare_out}
 use Rattle.map_ops.specs.Changes.{Spends, GivesSpare, OwnsIf}
 use Rattle.boost_core.specs.Spares.{times_of, times_out, IsCovered}
 
 -- A table gives a spare out once at most.
 pub times_out_most : (t : TableAt) (place stamp : ℕ) → times_out t place stamp ≤ 1
-times_out_most t place stamp = elim (option_eq nat_eq (out_at t.list place) (Some stamp)) as (λ b. cond b 1 0 ≤ 1) [ true ↦ omega arith | false ↦ omega arith ]
+times_out_most t place stamp = elim (option_eq nat_eq (spare_out t place) (Some stamp)) as (λ b. cond b 1 0 ≤ 1) [ true ↦ omega arith | false ↦ omega arith ]
 
 at_least_once : (b : Bool) → 1 ≤ cond b 1 0 → b ≡ true
 at_least_once true is = refl
 at_least_once false is = absurd (omega arith)
 
 -- A spare that is kept is the table's.
-pub kept_owned : (kept : ℕ → ℕ → ℕ) (t : TableAt) (place stamp : ℕ) → IsCovered kept t → 1 ≤ kept place stamp → out_at t.list place ≡ Some stamp
+pub kept_owned : (kept : ℕ → ℕ → ℕ) (t : TableAt) (place stamp : ℕ) → IsCovered kept t → 1 ≤ kept place stamp → spare_out t place ≡ Some stamp
 kept_owned kept t place stamp covered once =
     let most : kept place stamp ≤ times_out t place stamp = covered place stamp in
-    same_option (out_at t.list place) (Some stamp) (at_least_once (option_eq nat_eq (out_at t.list place) (Some stamp)) (omega arith))
+    same_option (spare_out t place) (Some stamp) (at_least_once (option_eq nat_eq (spare_out t place) (Some stamp)) (omega arith))
 
-times_same : (t t' : TableAt) (place stamp : ℕ) → out_at t'.list place ≡ out_at t.list place → times_out t' place stamp ≡ times_out t place stamp
+times_same : (t t' : TableAt) (place stamp : ℕ) → spare_out t' place ≡ spare_out t place → times_out t' place stamp ≡ times_out t place stamp
 times_same t t' place stamp same = ap (λ o. cond (option_eq nat_eq o (Some stamp)) 1 0) same
 
-times_none : (t : TableAt) (place stamp : ℕ) → out_at t.list place ≡ None → times_out t place stamp ≡ 0
+times_none : (t : TableAt) (place stamp : ℕ) → spare_out t place ≡ None → times_out t place stamp ≡ 0
 times_none t place stamp none = ap (λ o. cond (option_eq nat_eq o (Some stamp)) 1 0) none
 
-times_other : (t : TableAt) (place stamp other : ℕ) → out_at t.list place ≡ Some other → other ≢ stamp → times_out t place stamp ≡ 0
+times_other : (t : TableAt) (place stamp other : ℕ) → spare_out t place ≡ Some other → other ≢ stamp → times_out t place stamp ≡ 0
 times_other t place stamp other is differs = ap (λ o. cond (option_eq nat_eq o (Some stamp)) 1 0) is ∙ ap (λ b. cond b 1 0) (ne_eqb other stamp differs)
 
-times_one : (t : TableAt) (place stamp : ℕ) → out_at t.list place ≡ Some stamp → times_out t place stamp ≡ 1
-times_one t place stamp is = ap (λ b. cond b 1 0) (same_is (out_at t.list place) (Some stamp) is)
+times_one : (t : TableAt) (place stamp : ℕ) → spare_out t place ≡ Some stamp → times_out t place stamp ≡ 1
+times_one t place stamp is = ap (λ b. cond b 1 0) (same_is (spare_out t place) (Some stamp) is)
 
 pub times_here : (spare : SpareAt) → times_of (Some spare) spare.place spare.stamp ≡ 1
 times_here spare = ap (λ b. cond b 1 0) (and_from (spare.place == spare.place) (spare.stamp == spare.stamp) (eq-eqb spare.place spare.place refl) (eq-eqb spare.stamp spare.stamp refl))
@@ -69,14 +68,14 @@ spent t t' (Some spare) others is covered place stamp = elim (cases_eq place spa
   | inl here ↦
       let most : others place stamp + times_of (Some spare) place stamp ≤ times_out t place stamp = covered place stamp in
       let one : times_of (Some spare) spare.place spare.stamp ≡ 1 = times_here spare in
-      let owned : out_at t.list spare.place ≡ Some spare.stamp = kept_owned (λ p s. others p s + times_of (Some spare) p s) t spare.place spare.stamp covered (omega arith) in
+      let owned : spare_out t spare.place ≡ Some spare.stamp = kept_owned (λ p s. others p s + times_of (Some spare) p s) t spare.place spare.stamp covered (omega arith) in
       elim (cases_eq stamp spare.stamp) [
         | inl same ↦
             let once : times_of (Some spare) place stamp ≡ 1 = times_is spare place stamp here same in
             let limit = times_out_most t place stamp in
             omega arith
         | inr differs ↦
-            let none : times_out t place stamp ≡ 0 = times_other t place stamp spare.stamp (ap (out_at t.list) here ∙ owned) (λ e. differs (sym e)) in
+            let none : times_out t place stamp ≡ 0 = times_other t place stamp spare.stamp (ap (spare_out t) here ∙ owned) (λ e. differs (sym e)) in
             omega arith
       ]
 ]
@@ -90,11 +89,11 @@ given t t' spare others gives covered place stamp = elim (cases_eq place spare.p
       let away : times_of (Some spare) place stamp ≡ 0 = times_away spare place stamp (λ e. other (sym e)) in
       omega arith
   | inl here ↦
-      let none : times_out t place stamp ≡ 0 = times_none t place stamp (ap (out_at t.list) here ∙ gives.fresh) in
+      let none : times_out t place stamp ≡ 0 = times_none t place stamp (ap (spare_out t) here ∙ gives.fresh) in
       let most : others place stamp ≤ times_out t place stamp = covered place stamp in
       elim (cases_eq stamp spare.stamp) [
         | inl same ↦
-            let one : times_out t' place stamp ≡ 1 = times_one t' place stamp (ap (out_at t'.list) here ∙ gives.owned ∙ ap Some (sym same)) in
+            let one : times_out t' place stamp ≡ 1 = times_one t' place stamp (ap (spare_out t') here ∙ gives.owned ∙ ap Some (sym same)) in
             let once = times_most spare place stamp in
             omega arith
         | inr differs ↦

@@ -10,8 +10,6 @@ use Rattle.std.proofs.lemmas.List.Elements.{All-nil}
 use Rattle.std.proofs.lemmas.List.Sums.{sum_by-cons}
 use Rattle.std.proofs.lemmas.Option.{slice_get_within, get_or_from_slice_get}
 use mathlib.Core.Logic.{inl, inr}
-use Rattle.map_ops.specs.Split.{IsPowerOfTwo}
-use Rattle.map_ops.specs.Cursor.{Cursor}
 use Rattle.key_locks.specs.Locks.{holder_of as held_by}
 use Rattle.txn_trace.specs.Sizes.{Sizes, are_limits}
 use Rattle.txn_trace.specs.Now.{now}
@@ -19,20 +17,17 @@ use Rattle.txn_trace.specs.Owed.{owed_in}
 use Rattle.txn_trace.specs.History.{caller_of}
 use Rattle.txn_trace.proofs.Judging.{legal_none}
 use Rattle.map_ops.specs.declared.job.MapJob.{MapJob}
-use Rattle.map_ops.specs.TableAt.{TableAt, IsNew, Nothing, cursor_turn}
+use Rattle.map_ops.specs.TableAt.{TableAt, Cursor, IsNew, Nothing, cursor_turn}
 use Rattle.boost_core.specs.declared.stage.Stage.{Stage}
 use Rattle.boost_core.specs.declared.session.Session.{Session}
 use Rattle.boost_core.specs.State.{start}
 use Rattle.boost_core.specs.Spares.{times_of, times_in}
 use Rattle.boost_core.specs.Sessions.{IsIdle, IsReady, IsSoughtAt, AreDue, phase_of, owed_of, target_of, times_kept, spare_at, changes_of}
 use Rattle.boost_core.specs.Core.{Tells, state_of, turn_at}
-use Rattle.boost_core.proofs.Powers.{power_from_test}
 
 -- What limits say of the number of buckets.
-pub buckets_power : (callers stripes buckets : ℕ) → are_limits callers stripes buckets ≡ true → IsPowerOfTwo buckets
-buckets_power callers stripes buckets are =
-    let parts = and_parts _ (is_power_of_two buckets) are in
-    power_from_test buckets parts.1
+pub buckets_power : (callers stripes buckets : ℕ) → are_limits callers stripes buckets ≡ true → is_power_of_two buckets ≡ true
+buckets_power callers stripes buckets are = (and_parts _ (is_power_of_two buckets) are).1
 
 -- A list whose elements all have one image.
 image_is : {A B : Type 0} (f : A → B) (b : B) (xs : List A) → ((x : A) (k : ℕ) → slice_get xs k ≡ Some x → f x ≡ b) → map f xs ≡ replicate (length xs) b

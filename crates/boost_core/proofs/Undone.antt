@@ -1,5 +1,5 @@
 -- Changes that are taken back.
-use Rattle.std.proofs.Common.{◌≡◌, ℕ, ◌+◌, ◌-◌, ◌<◌, ◌≤◌, ◌||◌, Bool, true, false, cond, List, [], ◌∷◌, ◌++◌, length, Option, Some, None, is_some, refl, sym, ap, subst, ◌∙◌, arith}
+use Rattle.std.proofs.Common.{◌≡◌, ℕ, ◌+◌, ◌-◌, ◌<◌, ◌≤◌, ◌||◌, Bool, true, false, cond, List, [], ◌∷◌, ◌++◌, length, Option, Some, None, refl, sym, ap, subst, ◌∙◌, arith}
 use Rattle.std.specs.Prelude.{slice_get, slice_set, sum_by, map, reverse, nat_lt}
 use Rattle.std.specs.Option.{option_map}
 use Rattle.std.specs.List.{AllByRecursion}
@@ -7,8 +7,6 @@ use Rattle.std.proofs.lemmas.Bool.{false≢true, ltb-true, ne_eqb}
 use Rattle.std.proofs.lemmas.List.{reverse-append, length_push, get_or_push}
 use Rattle.std.proofs.lemmas.List.Sums.{sum_by_push}
 use Rattle.std.proofs.lemmas.Option.{slice_get-get_or}
-use Rattle.map_ops.specs.Cursor.{Cursor}
-use Rattle.map_ops.specs.Directory.{Directory, limit_of}
 use Rattle.undo_log.specs.UndoLog.{Log, kept_at, newest_above}
 use Rattle.txn_trace.specs.declared.entry.Entry.{Entry}
 use Rattle.txn_trace.specs.declared.entry.Entry.TheVariants as entry
@@ -28,8 +26,7 @@ use Rattle.txn_trace.proofs.Seated.{the_some}
 use Rattle.txn_trace.proofs.Held.{log_held, held_apart}
 use Rattle.map_ops.specs.declared.job.MapJob.{MapJob}
 use Rattle.map_ops.specs.Jobs.{spare_of_job, key_of_job, value_before}
-use Rattle.map_ops.specs.TableAt.{TableAt, Follows, content, cursor_turn, turn_of, help_of}
-use Rattle.map_ops.proofs.Laws.{still_placed}
+use Rattle.map_ops.specs.TableAt.{TableAt, Cursor, Follows, content, cursor_turn, turn_of}
 use Rattle.boost_core.specs.declared.stage.Stage.{Stage}
 use Rattle.boost_core.specs.declared.stage.Stage.TheVariants as stages
 use Rattle.boost_core.specs.declared.session.Session.{Session}
@@ -177,7 +174,7 @@ module _ (limits : Sizes) (h : List Entry) (b m : ℕ) (t : TableAt) (sessions :
       apart = λ d other k held.
           let away = held_apart limits.stripes h d c k (key_of_job back.job) held key_held other in
           get-set_at (now h) (key_of_job back.job) (value_before back.job) k ∙ ap (λ b. cond b (value_before back.job) (get (now h) k)) (ne_eqb k (key_of_job back.job) away);
-      placed = λ cursor key is. still_placed t t' cursor key is follows;
+      placed = follows.placed;
       sought = subst (λ (cursor : Option Cursor). IsSoughtAt t' cursor (target_at y.stage y.log)) (sym back.cursor) tt;
       spares = λ others covered place stamp.
           let after : others place stamp + times_of (spare_at x.stage) place stamp + times_in y.log.jobs place stamp ≤ times_out t' place stamp =
@@ -187,8 +184,8 @@ module _ (limits : Sizes) (h : List Entry) (b m : ℕ) (t : TableAt) (sessions :
           regroup (others p s) (times_of (spare_at x.stage) p s) (times_in x.log.jobs p s) (times_in y.log.jobs p s) (times_of (spare_of_job back.job) p s) (times_out t p s) times most) place stamp in
           let same : times_of (spare_at y.stage) place stamp ≡ times_of (spare_at x.stage) place stamp = ap (λ (st : Stage). times_of (spare_at st) place stamp) back.stage in
           regroup' (others place stamp) (times_of (spare_at y.stage) place stamp) (times_of (spare_at x.stage) place stamp) (times_in y.log.jobs place stamp) (times_out t' place stamp) same after;
-      largest = ap (λ (d : Directory). limit_of d) back.back.buckets;
-      helpers = ap (λ (d : Directory). length (map help_of d.helpers)) back.back.buckets;
+      largest = back.back.buckets.largest;
+      helpers = ap length back.back.buckets.helps;
     }
       where
         regroup : (a b j k s n : ℕ) → j ≡ k + s → a + (b + j) ≤ n → a + b + k + s ≤ n
@@ -199,10 +196,10 @@ module _ (limits : Sizes) (h : List Entry) (b m : ℕ) (t : TableAt) (sessions :
 
     undone_runs : turn_of t ≤ turn_of t' → Runs t t'
     undone_runs turn = record {
-      size = ap (λ (d : Directory). d.size) back.back.buckets;
-      stored = ap (λ (d : Directory). map is_some d.entries) back.back.buckets;
+      size = back.back.buckets.size;
+      stored = back.back.buckets.stored;
       linked = back.back.linked;
-      helps = ap (λ (d : Directory). map help_of d.helpers) back.back.buckets;
+      helps = back.back.buckets.helps;
       turn = turn;
       last = let same = back.back.last in omega arith;
       one_last = let same = back.back.last in omega arith;

@@ -7,7 +7,7 @@ use Rattle.txn_trace.specs.Shape.{Phase, Closed, Opened, Waiting, LeavingTo, Lea
 use Rattle.undo_log.specs.UndoLog.{Log, newest_above}
 use Rattle.map_ops.specs.declared.job.MapJob.{MapJob}
 use Rattle.map_ops.specs.Jobs.{PendingAt, takes_node, key_of_job, value_before, spare_of_job, IsDue}
-use Rattle.map_ops.specs.TableAt.{TableAt, Cursor, SpareAt, KeepsBuckets, KeepsNodes, content, IsPlaced, fits, last_of, turn_of}
+use Rattle.map_ops.specs.TableAt.{TableAt, Cursor, SpareAt, KeepsNodes, content, IsPlaced, fits, last_of}
 use Rattle.map_ops.specs.Changes.{OwnsIf, Places, Does, TakesBack}
 use Rattle.boost_core.specs.declared.stage.Stage.{Stage}
 use Rattle.boost_core.specs.declared.stage.Stage.TheVariants as stages
@@ -175,8 +175,6 @@ UndoesIn s t false s' t' = Drops s t s' t'
 -- The table is as it was but for its spares, and cursors stay placed.
 pub record Rests (t t' : TableAt) : Type 0 where
   pub nodes : KeepsNodes t t'
-  pub buckets : KeepsBuckets t t'
-  pub turn : turn_of t' ≡ turn_of t
   pub last : last_of t' ≡ last_of t
   pub placed : (cursor : Cursor) (key : ℕ) → IsPlaced t cursor key → IsPlaced t' cursor key
 

@@ -1,6 +1,5 @@
 //! A caller's side of the core.
 ghost use Rattle.std.specs.Prelude.{◌≡◌, ◌+◌, ◌-◌, ◌≤◌, ◌<◌, ◌^◌, ◌++◌, true, option_to_list, is_some, length};
-ghost use Rattle.map_ops.specs.Noted.{Noted};
 ghost use Rattle.txn_trace.specs.Owed.{owed_for};
 
 use crate::refusals::key_in;

@@ -43,6 +43,7 @@ use Rattle.map_ops.specs.Sound.{AllEven, Belong, IsEvenDummy}
 use Rattle.map_ops.specs.TableAt.{Help, Nothing, Sought, Dummy, help_of, linked_of, map_of, table_of, IsNew, Keeps, cursor_fits}
 use Rattle.map_ops.specs.Buckets.{Doubles, Helps, Holds, Links, LinkChanges, SeekChanges, Seeks, Stores, StoreChanges, helper_fits, seek_answer, link_answer, store_answer}
 use Rattle.map_ops.proofs.BelongLemmas.{belong_swept, has_dummy-swept, linked_same}
+use Rattle.map_ops.proofs.KeepLemmas.{same_buckets}
 
 stored_at : (entries : List (Option ℕ)) (bucket : ℕ) → slice_index_or (map is_some entries) bucket false ≡ is_some (slice_index_or entries bucket None)
 stored_at entries bucket = lists.get_or-map is_some entries bucket None
@@ -103,6 +104,7 @@ helps_with old new d helper now same out last dummies = record {
   becomes = record {
     regular = same;
     spares = out;
+    largest = refl;
     size_is = refl;
     stored_is = refl;
     linked_is = linked_same old new d dummies;
@@ -152,6 +154,7 @@ store_changes list old new helper (Ok done) stores =
       becomes = record {
         regular = refl;
         spares = λ place. refl;
+        largest = length-set old.entries stores.bucket (Some stores.place);
         size_is = refl;
         stored_is = map-set is_some old.entries stores.bucket (Some stores.place);
         linked_is = ap (λ (n : ℕ). map (has_dummy list.nodes) (range_with_len 0 n)) (length-set old.entries stores.bucket (Some stores.place));
@@ -167,10 +170,10 @@ pub double_changes : (list : Listing) (old new : Directory) (answer : Double) �
 double_changes list old new answer is = subst (λ (d : Directory). Doubles (table_of list old) (table_of list d) answer) (sym is) (go answer)
   where
     go : (answer : Double) → Doubles (table_of list old) (table_of list (buckets_changes.after_double old answer)) answer
-    go (Moved size) = record { becomes = record { regular = refl; spares = λ place. refl; size_is = refl; stored_is = refl; linked_is = refl; helps_is = refl }; last = refl; kept = refl }
-    go AtLimit = record { becomes = record { regular = refl; spares = λ place. refl; size_is = refl; stored_is = refl; linked_is = refl; helps_is = refl }; last = refl; kept = refl }
-    go Light = record { becomes = record { regular = refl; spares = λ place. refl; size_is = refl; stored_is = refl; linked_is = refl; helps_is = refl }; last = refl; kept = refl }
-    go (Doubled size) = record { becomes = record { regular = refl; spares = λ place. refl; size_is = refl; stored_is = refl; linked_is = refl; helps_is = refl }; last = refl; kept = refl }
+    go (Moved size) = record { becomes = record { regular = refl; spares = λ place. refl; largest = refl; size_is = refl; stored_is = refl; linked_is = refl; helps_is = refl }; last = refl; kept = refl }
+    go AtLimit = record { becomes = record { regular = refl; spares = λ place. refl; largest = refl; size_is = refl; stored_is = refl; linked_is = refl; helps_is = refl }; last = refl; kept = refl }
+    go Light = record { becomes = record { regular = refl; spares = λ place. refl; largest = refl; size_is = refl; stored_is = refl; linked_is = refl; helps_is = refl }; last = refl; kept = refl }
+    go (Doubled size) = record { becomes = record { regular = refl; spares = λ place. refl; largest = refl; size_is = refl; stored_is = refl; linked_is = refl; helps_is = refl }; last = refl; kept = refl }
 
 -- The linked dummies with one more.
 linked_more : (before after : List NodeAt) (limit bucket : ℕ) → bucket < limit → limit ≤ 2 ^ 32 → ((other : ℕ) → other < 2 ^ 32 → has_dummy after other ≡ ((bucket == other) || has_dummy before other))
@@ -235,6 +238,7 @@ link_changes before after old new helper (Ok Linked) sound answer links same =
       becomes = record {
         regular = same;
         spares = links.links.out;
+        largest = refl;
         size_is = refl;
         stored_is = refl;
         linked_is = linked_more before.nodes after.nodes (limit_of old) links.bucket within (omega (arith, sound.fits)) links.links.dummies;
@@ -287,11 +291,11 @@ link_even before after old new helper (Err refusal) sound changes even = subst (
 pub sweep_keeps : (old new : Listing) (d : Directory) (outcome : SweepOutcome) → IsSound old → steps.Sweeps old new outcome → pairs new.nodes ≡ pairs old.nodes → Keeps (table_of old d) (table_of new d)
 sweep_keeps old new d Swept sound becomes same = record {
   regular = same;
-  buckets = refl;
+  buckets = same_buckets old new d;
   linked = linked_same old new d (λ b. ap (λ (nodes : List NodeAt). has_dummy nodes b) becomes.nodes ∙ has_dummy-swept old.nodes b sound.plain);
   last = becomes.last;
 }
-sweep_keeps old new d Clean sound is same = subst (λ (l : Listing). Keeps (table_of old d) (table_of l d)) (sym is) (record { regular = refl; buckets = refl; linked = refl; last = refl })
+sweep_keeps old new d Clean sound is same = subst (λ (l : Listing). Keeps (table_of old d) (table_of l d)) (sym is) (record { regular = refl; buckets = same_buckets old old d; linked = refl; last = refl })
 
 pub sweep_belong : (old new : Listing) (outcome : SweepOutcome) → steps.Sweeps old new outcome → Belong old.nodes → Belong new.nodes
 sweep_belong old new Swept becomes belong = subst Belong (sym becomes.nodes) (belong_swept old.nodes belong)

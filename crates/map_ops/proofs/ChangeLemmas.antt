@@ -1,5 +1,5 @@
 -- What a step at a key does to the table.
-use Rattle.std.proofs.Common.{◌≡◌, ℕ, ◌<◌, ◌^◌, List, [], ◌∷◌, Some, None, true, false, refl, sym, ◌∙◌, ap, subst}
+use Rattle.std.proofs.Common.{◌≡◌, ℕ, ◌<◌, ◌^◌, List, [], ◌∷◌, Some, None, true, false, sym, ◌∙◌, ap, subst}
 use Rattle.node_list.specs.declared.node.Kind.TheVariants.{Regular}
 use Rattle.node_list.specs.Nodes.{NodeAt, Listing}
 use Rattle.node_list.specs.Sound.{IsSound}
@@ -18,6 +18,7 @@ use Rattle.map_ops.specs.Steps.{Sets}
 use Rattle.map_ops.specs.Sound.{Belong}
 use Rattle.map_ops.proofs.ContentLemmas.{rises-pairs, map_of-linked, map_of-written, map_of-unlinked}
 use Rattle.map_ops.proofs.ThereLemmas.{kind_there}
+use Rattle.map_ops.proofs.KeepLemmas.{same_buckets}
 use Rattle.map_ops.proofs.BelongLemmas.{belong_linked, belong_marked, belong_written, has_dummy-marked, has_dummy-written, has_dummy-regular, linked_same}
 
 module _ (old new : Listing) (c : Cursor) (key : ℕ) (sound : IsSound old) (after : IsSound new) (belong : Belong old.nodes) (placed : IsPlaced old c) (fitting : fits old c ≡ true) (same : split_of c ≡ split key) (small : key < 2 ^ 63) where
@@ -39,7 +40,7 @@ module _ (old new : Listing) (c : Cursor) (key : ℕ) (sound : IsSound old) (aft
       subst (λ k. Replaces (pairs old.nodes) (pairs new.nodes) ((k, value) ∷ []) []) (same_key marks.node marks.key marks.there marks.regular) marks.content in
       record {
         content_is = map_of-unlinked (pairs old.nodes) (pairs new.nodes) key old_rises (rises-pairs new.nodes after.rising (marks_belong value marks).keyed) value replaces;
-        buckets = refl;
+        buckets = same_buckets old new buckets;
         linked = linked_same old new buckets (λ b. ap (λ (nodes : List NodeAt). has_dummy nodes b) marks.becomes.nodes ∙ has_dummy-marked old.nodes marks.node.place b);
         last = marks.becomes.last;
       }
@@ -54,7 +55,7 @@ module _ (old new : Listing) (c : Cursor) (key : ℕ) (sound : IsSound old) (aft
       subst (λ k. Replaces (pairs old.nodes) (pairs new.nodes) ((k, was) ∷ []) ((k, now) ∷ [])) (same_key swaps.node swaps.key swaps.there swaps.regular) swaps.content in
       record {
         content_is = map_of-written (pairs old.nodes) (pairs new.nodes) key old_rises (rises-pairs new.nodes after.rising (swaps_belong was now swaps).keyed) was now replaces;
-        buckets = refl;
+        buckets = same_buckets old new buckets;
         linked = linked_same old new buckets (λ b. ap (λ (nodes : List NodeAt). has_dummy nodes b) swaps.becomes.nodes ∙ has_dummy-written old.nodes swaps.node.place now b);
         last = swaps.becomes.last;
       }
@@ -70,7 +71,7 @@ module _ (old new : Listing) (c : Cursor) (key : ℕ) (sound : IsSound old) (aft
         subst (λ now. Replaces (pairs old.nodes) (pairs new.nodes) [] now) (pair_regular x key kind unmarked) links.content in
         record {
           content_is = map_of-linked (pairs old.nodes) (pairs new.nodes) key old_rises (rises-pairs new.nodes after.rising (links_belong links).keyed) x.value replaces;
-          buckets = refl;
+          buckets = same_buckets old new buckets;
           linked = linked_same old new buckets (λ b. ap (λ (nodes : List NodeAt). has_dummy nodes b) links.takes.nodes ∙ has_dummy-regular old.nodes (pred_of c) x key b (fits_linked old c fitting) kind);
           last = links.takes.last;
         }

@@ -1,6 +1,5 @@
 -- What is done to the table by the steps at a key.
-use Rattle.std.proofs.Common.{◌≡◌, ℕ, List, Option, Some, None, true, map, refl, sym, ◌∙◌, ap}
-use Rattle.std.specs.List.{range_with_len}
+use Rattle.std.proofs.Common.{◌≡◌, ℕ, List, Option, Some, None, true, sym, ◌∙◌, ap}
 use Rattle.node_list.specs.Nodes.{NodeAt, Listing, SpareAt}
 use Rattle.node_list.specs.Sound.{IsSound}
 use Rattle.list_steps.specs.declared.cursor.Cursor.{Cursor}
@@ -8,7 +7,7 @@ use Rattle.list_steps.specs.Content.{pairs}
 use Rattle.list_steps.specs.Found.{IsFound, fits, split_of, IsPlaced}
 use Rattle.list_steps.specs.Seek.{sought, KeepsRest}
 use Rattle.split_key.specs.Split.{split}
-use Rattle.bucket_table.specs.Directory.{Directory, limit_of}
+use Rattle.bucket_table.specs.Directory.{Directory}
 use Rattle.bucket_table.specs.Dummies.{has_dummy}
 use Rattle.bucket_table.proofs.DummyLemmas.{has_dummy-sought}
 use Rattle.txn_trace.specs.declared.op.Op.TheVariants.{Put, Take}
@@ -20,6 +19,7 @@ use Rattle.map_ops.specs.Jobs.{unput, relink, key_of_job, value_before, spare_of
 use Rattle.map_ops.specs.Changes.{Does, GivesBack, Places, Spends, TakesBack}
 use Rattle.map_ops.specs.Steps.{Sets}
 use Rattle.map_ops.proofs.BelongLemmas.{linked_same}
+use Rattle.map_ops.proofs.KeepLemmas.{placed_on, same_buckets}
 use Rattle.map_ops.proofs.RemoveLemmas.{remove-absent}
 
 module _ (old mid new : Listing) (buckets : Directory) (k : ℕ) (before : Option ℕ) (before_is : before ≡ get (content (table_of old buckets)) k) (spare : SpareAt) where
@@ -30,7 +30,7 @@ module _ (old mid new : Listing) (buckets : Directory) (k : ℕ) (before : Optio
     content_is = sets.content_is;
     job_is = ap (unput k) (sym none ∙ before_is);
     spares = spends;
-    buckets = refl;
+    buckets = same_buckets old new buckets;
     linked = sets.linked;
     last = sets.last;
   }
@@ -39,11 +39,11 @@ module _ (old mid new : Listing) (buckets : Directory) (k : ℕ) (before : Optio
       → Does (table_of old buckets) (table_of new buckets) (record { op = Put k v; spare = Some spare }) before (Some (Restore k value))
   does_put_over v value some sets keeps gives = record {
     reply_is = before_is;
-    content_is = ap (λ (nodes : List NodeAt). map_of (pairs nodes)) gives.nodes ∙ sets.content_is;
+    content_is = ap map_of gives.nodes.regular ∙ sets.content_is;
     job_is = ap (unput k) (sym some ∙ before_is);
     spares = (gives.spares.0, λ other apart. gives.spares.1 other apart ∙ keeps other);
-    buckets = refl;
-    linked = ap (λ (nodes : List NodeAt). map (has_dummy nodes) (range_with_len 0 (limit_of buckets))) gives.nodes ∙ sets.linked;
+    buckets = same_buckets old new buckets;
+    linked = gives.nodes.linked ∙ sets.linked;
     last = gives.last ∙ sets.last;
   }
 
@@ -54,7 +54,7 @@ module _ (old mid new : Listing) (buckets : Directory) (k : ℕ) (before : Optio
     content_is = sets.content_is;
     job_is = ap (λ (o : Option ℕ). relink k o (Some spare)) (sym some ∙ before_is);
     spares = keeps;
-    buckets = refl;
+    buckets = same_buckets old new buckets;
     linked = sets.linked;
     last = sets.last;
   }
@@ -63,11 +63,11 @@ module _ (old mid new : Listing) (buckets : Directory) (k : ℕ) (before : Optio
       → Does (table_of old buckets) (table_of new buckets) (record { op = Take k; spare = Some spare }) before None
   does_take_none none gives = record {
     reply_is = before_is;
-    content_is = ap (λ (nodes : List NodeAt). map_of (pairs nodes)) gives.nodes ∙ sym (remove-absent (content (table_of old buckets)) k (sym before_is ∙ none));
+    content_is = ap map_of gives.nodes.regular ∙ sym (remove-absent (content (table_of old buckets)) k (sym before_is ∙ none));
     job_is = ap (λ (o : Option ℕ). relink k o (Some spare)) (sym none ∙ before_is);
     spares = gives.spares;
-    buckets = refl;
-    linked = ap (λ (nodes : List NodeAt). map (has_dummy nodes) (range_with_len 0 (limit_of buckets))) gives.nodes;
+    buckets = same_buckets old new buckets;
+    linked = gives.nodes.linked;
     last = gives.last;
   }
 
@@ -77,12 +77,12 @@ pub places : (old new : Listing) (buckets : Directory) (key from bound : ℕ) (c
 places old new buckets key from bound c sound nodes_is kept same found placed fitting place = record {
   keeps = record {
     regular = same;
-    buckets = refl;
+    buckets = same_buckets old new buckets;
     linked = linked_same old new buckets (λ b. ap (λ (nodes : List NodeAt). has_dummy nodes b) nodes_is ∙ has_dummy-sought old.nodes from bound b sound.plain);
     last = kept.last;
   };
   spares = kept.out;
-  placed = (placed, place);
+  placed = placed_on new buckets c key placed place;
   fits = fitting;
   turn = found.turn;
 }
@@ -93,7 +93,7 @@ pub takes_back : (old new : Listing) (buckets : Directory) (job : MapJob) → Se
 takes_back old new buckets job sets spends = record {
   content_is = sets.content_is;
   spares = spends;
-  buckets = refl;
+  buckets = same_buckets old new buckets;
   linked = sets.linked;
   last = sets.last;
 }

@@ -10,7 +10,7 @@ use Rattle.txn_trace.proofs.Table.{get-set_at}
 use Rattle.map_ops.specs.declared.job.MapJob.{MapJob}
 use Rattle.map_ops.specs.declared.job.MapJob.TheVariants.{Unput, Restore, Relink}
 use Rattle.map_ops.specs.TableAt.{TableAt, content, KeepsSpares}
-use Rattle.map_ops.specs.Jobs.{IsDue, key_of_job, spare_of_job, value_before}
+use Rattle.map_ops.specs.Jobs.{key_of_job, spare_of_job, value_before}
 use Rattle.map_ops.specs.Changes.{AreApart, OwnsIf, ShowsAfter, Spends, TakesBack}
 use Rattle.map_ops.proofs.Laws.{still_owned, other_owned}
 

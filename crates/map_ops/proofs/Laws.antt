@@ -1,11 +1,9 @@
 -- What layers above rest on.
-use Rattle.std.proofs.Common.{◌≡◌, ◌≢◌, ℕ, ◌<◌, ◌-◌, ◌^◌, inl, inr, Bool, true, false, cond, Option, Some, None, [], refl, sym, ap, subst, ◌∙◌}
+use Rattle.std.proofs.Common.{◌≡◌, ◌≢◌, ℕ, inl, inr, Bool, true, false, cond, Option, Some, None, [], refl, sym, ap, subst, ◌∙◌}
 use Rattle.std.specs.Prelude.{is_some, IfSome}
 use Rattle.std.proofs.lemmas.Bool.{cases_eq, eq-eqb, false≢true, ne_eqb}
 use Rattle.node_list.specs.Nodes.{SpareAt, out_at}
 use Rattle.node_list.proofs.OrderLemmas.{some-injective, some-none}
-use Rattle.list_steps.specs.declared.cursor.Cursor.{Cursor}
-use Rattle.list_steps.proofs.CursorLemmas as cursors
 use Rattle.bucket_table.specs.Directory.{Directory}
 use Rattle.txn_trace.specs.declared.op.Op.{Op}
 use Rattle.txn_trace.specs.declared.op.Op.TheVariants.{Put, Take, Get}
@@ -15,18 +13,10 @@ use Rattle.txn_trace.proofs.Maps.{get-insert, get-remove, same_map}
 use Rattle.txn_trace.proofs.Table.{get-set_at}
 use Rattle.map_ops.specs.declared.job.MapJob.{MapJob}
 use Rattle.map_ops.specs.declared.job.MapJob.TheVariants.{Unput, Restore, Relink}
-use Rattle.map_ops.specs.TableAt.{TableAt, content, IsPlaced, Follows, Owns, KeepsOthers, KeepsSpares, turn_of, cursor_turn, fits}
+use Rattle.map_ops.specs.TableAt.{TableAt, content, Owns, KeepsOthers, KeepsSpares}
 use Rattle.map_ops.specs.Jobs.{PendingAt, IsDue, job_of, key_of_job, relink, spare_of_job, takes_node, unput, value_before}
 use Rattle.map_ops.specs.Changes.{Applies, GivesFor, GivesSpare, JobSpare, OwnsIf, Prepares, ShowsAfter, ShowsBefore, TakesBack}
 use Rattle.map_ops.proofs.RemoveLemmas.{remove-absent}
-
--- A cursor stays placed while the table changes.
-pub still_placed : (old new : TableAt) (cursor : Cursor) (key : ℕ) → IsPlaced old cursor key → Follows old new → IsPlaced new cursor key
-still_placed old new cursor key placed follows = (cursors.still_placed old.list new.list cursor placed.0 follows, placed.1)
-
--- A cursor fits while the change number stays, below the last one.
-pub fits_in_turn : (t : TableAt) (cursor : Cursor) (key : ℕ) → IsPlaced t cursor key → turn_of t ≡ cursor_turn cursor → turn_of t < 2 ^ 64 - 1 → fits t cursor ≡ true
-fits_in_turn t cursor key placed same below = placed.0.held same below
 
 -- A spare stays the table's where the spares stay.
 pub still_owned : (old new : TableAt) (spare : SpareAt) → KeepsSpares old new → Owns old spare → Owns new spare

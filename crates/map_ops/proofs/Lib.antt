@@ -1,4 +1,6 @@
 pub mod Laws
+pub mod KeepLemmas
+pub mod Powers
 pub mod ContentLemmas
 pub mod ThereLemmas
 pub mod BelongLemmas

@@ -24,8 +24,6 @@ prepares_put old new op k key v spare is key_is small gives = record {
   key_fits = small;
   given = subst (λ b. GivesFor old new b (Some spare)) (sym (ap takes_node is)) gives.given;
   nodes = gives.nodes;
-  buckets = gives.buckets;
-  turn = gives.turn;
 }
 
 pub prepares_take : (old new : TableAt) (op : Op) (k key : ℕ) (spare : SpareAt) → op ≡ Take k → key ≡ key_of op → key_of op < 2 ^ 63 → GivesOne old new spare → Prepares old new op (record { op = Take key; spare = Some spare })
@@ -34,6 +32,4 @@ prepares_take old new op k key spare is key_is small gives = record {
   key_fits = small;
   given = subst (λ b. GivesFor old new b (Some spare)) (sym (ap takes_node is)) gives.given;
   nodes = gives.nodes;
-  buckets = gives.buckets;
-  turn = gives.turn;
 }

@@ -10,7 +10,7 @@ use Rattle.bucket_table.specs.declared.answer.InitRefusal.{InitRefusal}
 use Rattle.bucket_table.specs.declared.answer.InitRefusal.TheVariants.{NoSuchBucket, ParentMissing, NoSuchHelper, HelperOutOfOrder, StampsUsedUp}
 use Rattle.bucket_table.specs.declared.answer.Double.{Double}
 use Rattle.bucket_table.specs.declared.answer.Double.TheVariants.{Moved, AtLimit, Light, Doubled}
-use Rattle.map_ops.specs.TableAt.{TableAt, Help, Nothing, Sought, Dummy, regular, turn_of, last_of, size_of, stored_of, linked_of, helps_of, KeepsSpares}
+use Rattle.map_ops.specs.TableAt.{TableAt, Help, Nothing, Sought, Dummy, regular, turn_of, last_of, largest_of, size_of, stored_of, linked_of, helps_of, KeepsSpares}
 pub use Rattle.map_ops.specs.TableAt.{helper_fits}
 
 -- the bucket is stored
@@ -64,6 +64,7 @@ size_after size (Doubled now) = now
 pub record Becomes (old new : TableAt) (size : ℕ) (stored linked : List Bool) (helps : List Help) : Type 0 where
   pub regular : regular new ≡ regular old
   pub spares : KeepsSpares old new
+  pub largest : largest_of new ≡ largest_of old
   pub size_is : size_of new ≡ size
   pub stored_is : stored_of new ≡ stored
   pub linked_is : linked_of new ≡ linked

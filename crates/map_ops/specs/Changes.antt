@@ -11,7 +11,7 @@ use Rattle.map_ops.specs.declared.act.Undo.{Undo}
 use Rattle.map_ops.specs.declared.act.Undo.TheVariants.{Undone, Again as UndoAgain}
 use Rattle.map_ops.specs.declared.job.MapJob.{MapJob}
 use Rattle.map_ops.specs.declared.job.MapJob.TheVariants.{Unput, Restore, Relink}
-use Rattle.map_ops.specs.TableAt.{TableAt, Cursor, SpareAt, SweepOutcome, content, turn_of, last_of, linked_of, nodes_of, nodes_sought, spare_out, Owns, KeepsOthers, KeepsSpares, KeepsNodes, KeepsBuckets, Keeps, IsPlaced, IsStart, SweepsNodes, cursor_turn, fits}
+use Rattle.map_ops.specs.TableAt.{TableAt, Cursor, SpareAt, SweepOutcome, content, turn_of, last_of, linked_of, nodes_of, nodes_sought, spare_out, Owns, KeepsOthers, KeepsSpares, KeepsBuckets, KeepsNodes, Keeps, IsPlaced, IsStart, SweepsNodes, cursor_turn, fits}
 use Rattle.map_ops.specs.Jobs.{PendingAt, takes_node, key_of_job, value_before, spare_of_job, job_of, IsDue}
 
 -- the spare, if there is one, is the table's
@@ -46,8 +46,6 @@ pub record Prepares (old new : TableAt) (op : Op) (pending : PendingAt) : Type 0
   pub key_fits : key_of op < 2 ^ 63
   pub given : GivesFor old new (takes_node op) pending.spare
   pub nodes : KeepsNodes old new
-  pub buckets : KeepsBuckets old new
-  pub turn : turn_of new ≡ turn_of old
 
 -- why an operation is not prepared: a bad key exactly where the key is 2^63 or more; then, where it takes a node, stamps
 -- used up exactly where the last one is given; else memory was refused
@@ -110,8 +108,6 @@ Undoes old new job cursor (UndoAgain back) = (fits old cursor ≡ false) × (bac
 -- a spare, if there is one, is given back, and nothing else has changed
 pub record GivesBack (old new : TableAt) (spare : Option SpareAt) : Type 0 where
   pub nodes : KeepsNodes old new
-  pub buckets : KeepsBuckets old new
-  pub turn : turn_of new ≡ turn_of old
   pub last : last_of new ≡ last_of old
   pub spares : Spends old new spare
 

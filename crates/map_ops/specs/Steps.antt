@@ -3,15 +3,13 @@ use Rattle.std.specs.Prelude.{◌≡◌, ℕ, ◌<◌, ◌-◌, ◌^◌, Option}
 use Rattle.txn_trace.specs.declared.refusal.Refusal.{Refusal}
 use Rattle.txn_trace.specs.declared.refusal.Refusal.TheVariants.{StampsUsedUp, NoMemory}
 use Rattle.txn_trace.specs.Now.{set_at}
-use Rattle.map_ops.specs.TableAt.{TableAt, SpareAt, KeepsBuckets, KeepsNodes, content, turn_of, last_of, linked_of}
+use Rattle.map_ops.specs.TableAt.{TableAt, SpareAt, KeepsBuckets, KeepsNodes, content, last_of, linked_of}
 use Rattle.map_ops.specs.Changes.{GivesSpare}
 
 -- a spare is given, and nothing else but the last stamp has changed
 pub record GivesOne (old new : TableAt) (spare : SpareAt) : Type 0 where
   pub given : GivesSpare old new spare
   pub nodes : KeepsNodes old new
-  pub buckets : KeepsBuckets old new
-  pub turn : turn_of new ≡ turn_of old
 
 -- why no spare is given
 abbrev pub IsLacking : TableAt → Refusal → Type 0

@@ -1,8 +1,8 @@
 -- What a contract sees of a table.
-use Rattle.std.specs.Prelude.{◌≡◌, ◌≢◌, ℕ, ◌-◌, ◌%◌, Bool, true, false, Option, Some, None, List, [], ◌∷◌, map, is_some, replicate}
+use Rattle.std.specs.Prelude.{◌≡◌, ◌≢◌, ℕ, ◌<◌, ◌≤◌, ◌-◌, ◌%◌, ◌^◌, Bool, true, false, Option, Some, None, List, [], ◌∷◌, map, is_some, replicate}
 use Rattle.std.specs.List.{AllByRecursion, fold, range_with_len}
 pub use Rattle.node_list.specs.Nodes.{NodeAt, SpareAt}
-use Rattle.node_list.specs.Nodes.{Listing, out_at, IsOut}
+use Rattle.node_list.specs.Nodes.{Listing, out_at}
 use Rattle.node_list.specs.Order.{IsRising}
 use Rattle.node_list.specs.Follow as nodes
 pub use Rattle.list_steps.specs.declared.cursor.Cursor.{Cursor}
@@ -32,14 +32,6 @@ table_of list buckets = record { list = list; buckets = buckets }
 -- the linked nodes in order, the marked ones too
 abbrev pub nodes_of : TableAt → List NodeAt
 nodes_of t = t.list.nodes
-
--- the linked nodes are as they were
-abbrev pub KeepsNodes : TableAt → TableAt → Type 0
-KeepsNodes old new = new.list.nodes ≡ old.list.nodes
-
--- the size, the initialised buckets and what the helpers have are as they were
-abbrev pub KeepsBuckets : TableAt → TableAt → Type 0
-KeepsBuckets old new = new.buckets ≡ old.buckets
 
 -- the map of these pairs
 abbrev pub map_of : List (ℕ × ℕ) → Map
@@ -92,6 +84,22 @@ help_of (Holding bucket dummy) = Dummy bucket
 abbrev pub helps_of : TableAt → List Help
 helps_of t = map help_of t.buckets.helpers
 
+-- the buckets are as they were, and so is each thing that is read of them
+pub record KeepsBuckets (old new : TableAt) : Type 0 where
+  pub all : new.buckets ≡ old.buckets
+  pub size : size_of new ≡ size_of old
+  pub largest : largest_of new ≡ largest_of old
+  pub stored : stored_of new ≡ stored_of old
+  pub helps : helps_of new ≡ helps_of old
+
+-- the nodes, the buckets and the change number are as they were: spares may come and go, and stamps be given
+pub record KeepsNodes (old new : TableAt) : Type 0 where
+  pub all : nodes_of new ≡ nodes_of old
+  pub regular : regular new ≡ regular old
+  pub buckets : KeepsBuckets old new
+  pub linked : linked_of new ≡ linked_of old
+  pub turn : turn_of new ≡ turn_of old
+
 -- whether a helper that has this has a cursor, and it fits
 abbrev pub cursor_fits : TableAt → Option Helper → Bool
 cursor_fits t (Some (Seeking bucket cursor)) = cursors.fits t.list cursor
@@ -109,7 +117,7 @@ spare_out t place = out_at t.list place
 
 -- the spare is the table's
 abbrev pub Owns : TableAt → SpareAt → Type 0
-Owns t spare = IsOut t.list spare
+Owns t spare = spare_out t spare.place ≡ Some spare.stamp
 
 -- the spares that were out are out, and no others, but for those at this place
 abbrev pub KeepsOthers : TableAt → TableAt → ℕ → Type 0
@@ -119,10 +127,6 @@ KeepsOthers old new place = (other : ℕ) → other ≢ place → spare_out new 
 abbrev pub KeepsSpares : TableAt → TableAt → Type 0
 KeepsSpares old new = (place : ℕ) → spare_out new place ≡ spare_out old place
 
--- the cursor was placed on this table for this key, at any time
-abbrev pub IsPlaced : TableAt → Cursor → ℕ → Type 0
-IsPlaced t cursor key = cursors.IsPlaced t.list cursor × (cursors.split_of cursor ≡ split key)
-
 -- the change number when the cursor was placed
 abbrev pub cursor_turn : Cursor → ℕ
 cursor_turn cursor = cursors.turn_of cursor
@@ -130,6 +134,12 @@ cursor_turn cursor = cursors.turn_of cursor
 -- whether the cursor fits: nothing has changed where it was placed
 abbrev pub fits : TableAt → Cursor → Bool
 fits t cursor = cursors.fits t.list cursor
+
+-- the cursor was placed on this table for this key, at any time: it fits while the change number stays, below the last one
+pub record IsPlaced (t : TableAt) (cursor : Cursor) (key : ℕ) : Type 0 where
+  pub list : cursors.IsPlaced t.list cursor
+  pub split_is : cursors.split_of cursor ≡ split key
+  pub in_turn : turn_of t ≡ cursor_turn cursor → turn_of t < 2 ^ 64 - 1 → fits t cursor ≡ true
 
 -- the place is that of the dummy of the key's bucket, or of its nearest ancestor that is initialised
 abbrev pub IsStart : TableAt → ℕ → ℕ → Type 0
@@ -159,9 +169,11 @@ NamesDummies t = IsHome t.buckets t.list
 abbrev pub HasParents : TableAt → Type 0
 HasParents t = directories.IsSound t.buckets
 
--- a table at two times: nothing older was disturbed
-abbrev pub Follows : TableAt → TableAt → Type 0
-Follows old new = nodes.Follows old.list new.list
+-- a table at two times: nothing older was disturbed, so that cursors stay placed
+pub record Follows (old new : TableAt) : Type 0 where
+  pub list : nodes.Follows old.list new.list
+  pub last : last_of old ≤ last_of new
+  pub placed : (cursor : Cursor) (key : ℕ) → IsPlaced old cursor key → IsPlaced new cursor key
 
 -- an empty table of two buckets, of which bucket 0 is stored, and of idle helpers; no spare is out
 pub record IsNew (t : TableAt) (largest helpers : ℕ) : Type 0 where

@@ -1,7 +1,7 @@
 //! The table.
-ghost use Rattle.std.specs.Prelude.{◌≡◌, ◌≢◌, ℕ, ◌<◌, ◌≤◌, ◌-◌, ◌^◌, ◌↔◌, Ok, Err, Some, length, IfOk, IfErr, OnErr};
+ghost use Rattle.std.specs.Prelude.{◌≡◌, ◌≢◌, ℕ, ◌<◌, ◌≤◌, ◌-◌, ◌^◌, ◌↔◌, true, Ok, Err, Some, length, IfOk, IfErr, OnErr};
 ghost use Rattle.std.specs.List.{slice_get};
-ghost use Rattle.split_key.specs.Split.{IsPowerOfTwo};
+ghost use Rattle.std.specs.Int.{is_power_of_two};
 ghost use Rattle.std.specs.BTreeMap.{get as value_at};
 ghost use Rattle.std.specs.Ordering.{nat_cmp};
 ghost use Rattle.txn_trace.specs.Map.{count_of, get, key_of};
@@ -57,7 +57,7 @@ impl Table {
     ///
     /// `AllocError` where memory is refused.
     pub fn new(alloc: Global, max: u32, callers: u32) -> Result<Table, AllocError>
-        requires power { IsPowerOfTwo max }
+        requires power { is_power_of_two max ≡ true }
         requires least { 2 ≤ max }
         ensures { IfOk result (λ table. IsNew table max callers) }
     {

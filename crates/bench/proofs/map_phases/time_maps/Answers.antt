@@ -1,8 +1,11 @@
 use Rattle.std.proofs.Common.{refl}
+use lib.Count.{ones}
 use Rattle.bench.proofs.map_phases.time_maps.Goals as goal
 
 pub new-requires-clause-power : goal.new-requires-clause-power
-new-requires-clause-power c after = record { exponent = 16; is = refl }
+unfolding ones
+new-requires-clause-power c after = refl
 
 pub new-requires-2-clause-power : goal.new-requires-2-clause-power
-new-requires-2-clause-power c after = record { exponent = 20; is = refl }
+unfolding ones
+new-requires-2-clause-power c after = refl

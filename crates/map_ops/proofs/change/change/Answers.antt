@@ -24,7 +24,7 @@ returns-in-Some-clause-does c = λ buckets.
     rw c.in-Put.is (does_put_over c.args.list.now c.swap_key.new.list c.give_back.new.list buckets c.in-Put.key c.args.before before c.in-Put.spare c.in-Put.value c.in-Some.old c.in-Some.is (c.swap_key.ensures.sets buckets) (c.swap_key.ensures.spares buckets) (c.give_back.ensures.back buckets))
 
 pub returns-in-Some-clause-belong : goal.returns-in-Some-clause-belong
-returns-in-Some-clause-belong c = subst Belong (sym (c.give_back.ensures.back no_buckets).nodes) c.swap_key.ensures.belong
+returns-in-Some-clause-belong c = subst Belong (sym (c.give_back.ensures.back no_buckets).nodes.all) c.swap_key.ensures.belong
 
 pub returns-in-None-before-clause-does : goal.returns-in-None-before-clause-does
 returns-in-None-before-clause-does c = λ buckets.
@@ -32,7 +32,7 @@ returns-in-None-before-clause-does c = λ buckets.
     rw c.in-Take.is (does_take_none c.args.list.now c.args.list.now c.give_back-in-None-before.new.list buckets c.in-Take.key c.args.before before c.in-Take.spare c.in-None-before.is (c.give_back-in-None-before.ensures.back buckets))
 
 pub returns-in-None-before-clause-belong : goal.returns-in-None-before-clause-belong
-returns-in-None-before-clause-belong c = subst Belong (sym (c.give_back-in-None-before.ensures.back no_buckets).nodes) c.requires.belong
+returns-in-None-before-clause-belong c = subst Belong (sym (c.give_back-in-None-before.ensures.back no_buckets).nodes.all) c.requires.belong
 
 pub returns-in-Some-before-clause-does : goal.returns-in-Some-before-clause-does
 returns-in-Some-before-clause-does c = λ buckets.

@@ -1,5 +1,7 @@
 use Rattle.std.proofs.Common.{refl}
+use lib.Count.{ones}
 use Rattle.map_ops.proofs.tests.small_table.Goals as goal
 
 pub new-requires-clause-power : goal.new-requires-clause-power
-new-requires-clause-power c = record { exponent = 1; is = refl }
+unfolding ones
+new-requires-clause-power c = refl

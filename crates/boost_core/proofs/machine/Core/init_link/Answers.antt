@@ -1,4 +1,4 @@
-use Rattle.std.proofs.Common.{Ok, refl, sym, ap, subst, ◌∙◌}
+use Rattle.std.proofs.Common.{Ok, sym, ap, subst, ◌∙◌}
 use Rattle.std.proofs.lemmas.List.{length-set}
 use Rattle.map_ops.specs.Buckets.{LinkChanges}
 use Rattle.boost_core.proofs.Moves.{move_of}
@@ -9,7 +9,7 @@ pub invariant_of-self : goal.invariant_of-self
 invariant_of-self c =
     let changes = subst (LinkChanges c.self.inside.table c.init_link.new.self c.args.helper) (c.in-Ok-Again.is ∙ ap Ok c.in-Ok-Again.field-0-is) c.init_link.ensures.changes in
     record {
-      tells = becomes_tells _ _ _ _ _ _ _ _ c.self.invariant.tells c.init_link.new.self _ _ _ _ _ changes.0.becomes refl (length-set _ _ _) c.init_link.ensures.follows tt;
+      tells = becomes_tells _ _ _ _ _ _ _ _ c.self.invariant.tells c.init_link.new.self _ _ _ _ _ changes.0.becomes (length-set _ _ _) c.init_link.ensures.follows tt;
       owes = c.self.invariant.owes;
       room = c.self.invariant.room;
     }
@@ -18,7 +18,7 @@ pub invariant_of-self-in-Ok-Present : goal.invariant_of-self-in-Ok-Present
 invariant_of-self-in-Ok-Present c =
     let holds = subst (LinkChanges c.self.inside.table c.init_link.new.self c.args.helper) (c.in-Ok-Present.is ∙ ap Ok c.in-Ok-Present.field-0-is) c.init_link.ensures.changes in
     record {
-      tells = becomes_tells _ _ _ _ _ _ _ _ c.self.invariant.tells c.init_link.new.self _ _ _ _ _ holds.helps.becomes refl (length-set _ _ _) c.init_link.ensures.follows tt;
+      tells = becomes_tells _ _ _ _ _ _ _ _ c.self.invariant.tells c.init_link.new.self _ _ _ _ _ holds.helps.becomes (length-set _ _ _) c.init_link.ensures.follows tt;
       owes = c.self.invariant.owes;
       room = c.self.invariant.room;
     }
@@ -27,7 +27,7 @@ pub invariant_of-self-in-Ok-Linked : goal.invariant_of-self-in-Ok-Linked
 invariant_of-self-in-Ok-Linked c =
     let linked = subst (LinkChanges c.self.inside.table c.init_link.new.self c.args.helper) (c.in-Ok-Linked.is ∙ ap Ok c.in-Ok-Linked.field-0-is) c.init_link.ensures.changes in
     record {
-      tells = becomes_tells _ _ _ _ _ _ _ _ c.self.invariant.tells c.init_link.new.self _ _ _ _ _ linked.becomes refl (length-set _ _ _) c.init_link.ensures.follows tt;
+      tells = becomes_tells _ _ _ _ _ _ _ _ c.self.invariant.tells c.init_link.new.self _ _ _ _ _ linked.becomes (length-set _ _ _) c.init_link.ensures.follows tt;
       owes = c.self.invariant.owes;
       room = c.self.invariant.room;
     }

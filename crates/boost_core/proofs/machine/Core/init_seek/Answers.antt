@@ -1,4 +1,4 @@
-use Rattle.std.proofs.Common.{Ok, Some, refl, sym, ap, subst, ◌∙◌}
+use Rattle.std.proofs.Common.{Ok, Some, sym, ap, subst, ◌∙◌}
 use Rattle.std.proofs.lemmas.List.{length-set}
 use Rattle.txn_trace.specs.declared.step.Step.TheVariants as steps
 use Rattle.map_ops.specs.Buckets.{SeekChanges}
@@ -10,7 +10,7 @@ pub invariant_of-self : goal.invariant_of-self
 invariant_of-self c =
     let changes = subst (SeekChanges c.self.inside.table c.init_seek.new.self c.args.helper c.args.bucket) (c.in-Ok-Ready.is ∙ ap Ok c.in-Ok-Ready.field-0-is) c.init_seek.ensures.changes in
     record {
-      tells = becomes_tells _ _ _ _ _ _ _ _ c.self.invariant.tells c.init_seek.new.self _ _ _ _ _ changes.0.becomes refl (length-set _ _ _) c.init_seek.ensures.follows tt;
+      tells = becomes_tells _ _ _ _ _ _ _ _ c.self.invariant.tells c.init_seek.new.self _ _ _ _ _ changes.0.becomes (length-set _ _ _) c.init_seek.ensures.follows tt;
       owes = c.self.invariant.owes;
       room = c.self.invariant.room;
     }
@@ -19,7 +19,7 @@ pub invariant_of-self-in-Ok-Placed : goal.invariant_of-self-in-Ok-Placed
 invariant_of-self-in-Ok-Placed c =
     let places = subst (SeekChanges c.self.inside.table c.init_seek.new.self c.args.helper c.args.bucket) (c.in-Ok-Placed.is ∙ ap Ok c.in-Ok-Placed.field-0-is) c.init_seek.ensures.changes in
     record {
-      tells = becomes_tells _ _ _ _ _ _ _ _ c.self.invariant.tells c.init_seek.new.self _ _ _ _ _ places.helps.becomes refl (length-set _ _ _) c.init_seek.ensures.follows places.fits;
+      tells = becomes_tells _ _ _ _ _ _ _ _ c.self.invariant.tells c.init_seek.new.self _ _ _ _ _ places.helps.becomes (length-set _ _ _) c.init_seek.ensures.follows places.fits;
       owes = c.self.invariant.owes;
       room = c.self.invariant.room;
     }

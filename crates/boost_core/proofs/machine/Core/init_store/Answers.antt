@@ -10,7 +10,7 @@ pub invariant_of-self : goal.invariant_of-self
 invariant_of-self c =
     let stores = subst (StoreChanges c.self.inside.table c.init_store.new.self c.args.helper) c.in-Ok.is c.init_store.ensures.changes in
     record {
-      tells = becomes_tells _ _ _ _ _ _ _ _ c.self.invariant.tells c.init_store.new.self _ _ _ _ _ stores.becomes (length-set _ _ _) (length-set _ _ _) c.init_store.ensures.follows tt;
+      tells = becomes_tells _ _ _ _ _ _ _ _ c.self.invariant.tells c.init_store.new.self _ _ _ _ _ stores.becomes (length-set _ _ _) c.init_store.ensures.follows tt;
       owes = c.self.invariant.owes;
       room = c.self.invariant.room;
     }

@@ -1,4 +1,4 @@
-use Rattle.std.proofs.Common.{◌≡◌, sym, ap, ◌∙◌}
+use Rattle.std.proofs.Common.{sym, ap, ◌∙◌}
 use Rattle.txn_trace.specs.Owed.{owed}
 use Rattle.boost_core.specs.State.{State}
 use Rattle.boost_core.proofs.Owing.{owed_is}

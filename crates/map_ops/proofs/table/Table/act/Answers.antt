@@ -1,5 +1,6 @@
 use Rattle.std.proofs.Common.{refl, sym}
 use Rattle.map_ops.proofs.SoundLemmas.{still_sound, turn_rises}
+use Rattle.map_ops.proofs.KeepLemmas.{follows}
 use Rattle.map_ops.proofs.table.Table.act.Goals as goal
 
 pub invariant_of-self : goal.invariant_of-self
@@ -12,3 +13,6 @@ returns-in-Ok-clause-acts c =
 
 pub returns-in-Ok-clause-rises : goal.returns-in-Ok-clause-rises
 returns-in-Ok-clause-rises c = rw (← c.self.view_is) (turn_rises c.self.inside.list c.change-job.new.list _ c.change-job.ensures.follows refl c.find.ensures.turn)
+
+pub returns-in-Ok-clause-follows : goal.returns-in-Ok-clause-follows
+returns-in-Ok-clause-follows c = rw (← c.self.view_is) (follows c.self.inside.list c.change-job.new.list c.self.inside.buckets _ c.change-job.ensures.follows)

@@ -1,4 +1,4 @@
-use Rattle.node_list.proofs.FollowLemmas.{follows_twice}
+use Rattle.map_ops.proofs.KeepLemmas.{follows_twice}
 use Rattle.map_ops.proofs.table.Table.apply.Goals as goal
 
 pub returns-clause-follows : goal.returns-clause-follows

@@ -1,6 +1,7 @@
 use Rattle.std.proofs.Common.{◌∙◌}
 use Rattle.map_ops.proofs.BucketLemmas.{seek_answers, seek_changes, seek_even}
 use Rattle.map_ops.proofs.SoundLemmas.{turn_rises}
+use Rattle.map_ops.proofs.KeepLemmas.{follows}
 use Rattle.map_ops.proofs.table.Table.init_seek.Goals as goal
 
 pub invariant_of-self : goal.invariant_of-self
@@ -20,3 +21,6 @@ returns-clause-changes c = rw (← c.self.view_is) (seek_changes c.self.inside.l
 
 pub returns-clause-rises : goal.returns-clause-rises
 returns-clause-rises c = rw (← c.self.view_is) (turn_rises c.self.inside.list c.init_seek.new.list c.turn-turn.result c.init_seek.ensures.follows c.turn-turn.ensures.turn c.turn-turn.type_inv)
+
+pub returns-clause-follows : goal.returns-clause-follows
+returns-clause-follows c = rw (← c.self.view_is) (follows c.self.inside.list c.init_seek.new.list c.self.inside.buckets _ c.init_seek.ensures.follows)

@@ -1,4 +1,5 @@
 use Rattle.map_ops.proofs.SoundLemmas.{still_sound}
+use Rattle.map_ops.proofs.KeepLemmas.{follows}
 use Rattle.map_ops.proofs.table.Table.place.Goals as goal
 
 pub invariant_of-self : goal.invariant_of-self
@@ -11,3 +12,6 @@ pub returns-clause-near : goal.returns-clause-near
 returns-clause-near c =
     let near = rw c.key.ensures at c.seek_key.ensures.near in
     rw (← c.self.view_is) near
+
+pub returns-clause-follows : goal.returns-clause-follows
+returns-clause-follows c = rw (← c.self.view_is) (follows c.self.inside.list c.seek_key.new.list c.self.inside.buckets _ c.seek_key.ensures.follows)

@@ -7,7 +7,7 @@ use Rattle.std.proofs.lemmas.Bool.{eqb-true, cases_eq}
 use Rattle.std.proofs.lemmas.Nat.{zero_from_ones, ones_le_self}
 use native.Mathlib.Nat.{pow-suc}
 use mathlib.Core.Logic.{inl, inr}
-use Rattle.map_ops.specs.Split.{IsPowerOfTwo}
+use Rattle.split_key.specs.Split.{IsPowerOfTwo}
 
 doubled : (n half exponent : ℕ) → n ≡ half * 2 → half ≡ 2 ^ exponent → IsPowerOfTwo n
 doubled n half exponent twice is = record { exponent = suc exponent; is = twice ∙ ap (λ (k : ℕ). k * 2) is ∙ sym (pow-suc 2 exponent) }
