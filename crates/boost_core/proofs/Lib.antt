@@ -1,6 +1,7 @@
 pub mod Spares
 pub mod Due
 pub mod Owing
+pub mod Powers
 pub mod Grow
 pub mod Settling
 pub mod Refused

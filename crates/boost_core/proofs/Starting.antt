@@ -24,10 +24,11 @@ use Rattle.boost_core.specs.State.{start}
 use Rattle.boost_core.specs.Spares.{times_of, times_in}
 use Rattle.boost_core.specs.Sessions.{IsIdle, IsReady, IsSoughtAt, AreDue, phase_of, owed_of, target_of, times_kept, spare_at, changes_of}
 use Rattle.boost_core.specs.Core.{Tells, state_of, turn_at}
+use Rattle.boost_core.proofs.Powers.{IsPower, power_from_test}
 
 -- What limits say of the number of buckets.
-pub buckets_power : (callers stripes buckets : ℕ) → are_limits callers stripes buckets ≡ true → is_power_of_two buckets ≡ true
-buckets_power callers stripes buckets are = (and_parts _ (is_power_of_two buckets) are).1
+pub buckets_power : (callers stripes buckets : ℕ) → are_limits callers stripes buckets ≡ true → IsPower buckets
+buckets_power callers stripes buckets are = power_from_test buckets (and_parts _ (is_power_of_two buckets) are).1
 
 -- A list whose elements all have one image.
 image_is : {A B : Type 0} (f : A → B) (b : B) (xs : List A) → ((x : A) (k : ℕ) → slice_get xs k ≡ Some x → f x ≡ b) → map f xs ≡ replicate (length xs) b

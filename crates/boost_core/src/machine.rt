@@ -150,8 +150,8 @@ impl Core {
         &self.history
     }
 
-    /// The map as it is now: what the committed transactions left, with the standing changes of the open ones. Walks the list
-    /// once.
+    /// The map as it is now: what the committed transactions left, with the standing changes of the open ones. Takes a
+    /// step a node and, with n keys, n log n for the map; memory for the pairs twice while it runs.
     ///
     /// # Errors
     ///
@@ -162,8 +162,8 @@ impl Core {
         self.table.content(alloc)
     }
 
-    /// Key and value of each pair of the map as it is now, in the order of the list, which is that of reversed bits. Walks the
-    /// list once.
+    /// Key and value of each pair of the map as it is now, in the order of the list, which is that of reversed bits. Takes a
+    /// step a node.
     ///
     /// # Errors
     ///

@@ -2,16 +2,16 @@
 use Rattle.std.proofs.Common.{◌≡◌, ◌≢◌, ℕ, inl, inr, Bool, true, false, cond, Option, Some, None, refl, sym, ap, ◌∙◌}
 use Rattle.std.specs.Prelude.{◌==◌, is_some}
 use Rattle.std.proofs.lemmas.Bool.{cases_eq, eq-eqb, ne_eqb}
-use Rattle.node_list.specs.Nodes.{SpareAt, out_at}
 use Rattle.txn_trace.specs.Map.{Map, get}
 use Rattle.txn_trace.specs.Now.{set_at}
 use Rattle.txn_trace.proofs.Maps.{same_map}
 use Rattle.txn_trace.proofs.Table.{get-set_at}
 use Rattle.map_ops.specs.declared.job.MapJob.{MapJob}
 use Rattle.map_ops.specs.declared.job.MapJob.TheVariants.{Unput, Restore, Relink}
-use Rattle.map_ops.specs.TableAt.{TableAt, content, KeepsSpares}
+use Rattle.map_ops.specs.TableAt.{TableAt, SpareAt, content, KeepsSpares, spare_out}
 use Rattle.map_ops.specs.Jobs.{key_of_job, spare_of_job, value_before}
 use Rattle.map_ops.specs.Changes.{AreApart, OwnsIf, ShowsAfter, Spends, TakesBack}
+use Rattle.map_ops.specs.Laws.{TakesBackTwo}
 use Rattle.map_ops.proofs.Laws.{still_owned, other_owned}
 
 -- A key that is not set keeps what it had.
@@ -40,12 +40,12 @@ set_at-swap m j k x y apart = same_map (set_at (set_at m j x) k y) (set_at (set_
     ]
 
 -- Both orders leave the same content.
-pub either-content : (old one two other both : TableAt) (first second : MapJob) → key_of_job first ≢ key_of_job second → TakesBack old one first → TakesBack one two second → TakesBack old other second → TakesBack other both first → content two ≡ content both
-either-content old one two other both first second apart a b c d =
-    b.content_is
-    ∙ ap (λ (m : Map). set_at m (key_of_job second) (value_before second)) a.content_is
+pub either-content : (old one other : TableAt) (first second : MapJob) → key_of_job first ≢ key_of_job second → TakesBackTwo old one first second → TakesBackTwo old other second first → content one ≡ content other
+either-content old one other first second apart a b =
+    a.two.content_is
+    ∙ ap (λ (m : Map). set_at m (key_of_job second) (value_before second)) a.one.content_is
     ∙ set_at-swap (content old) (key_of_job first) (key_of_job second) (value_before first) (value_before second) apart
-    ∙ sym (d.content_is ∙ ap (λ (m : Map). set_at m (key_of_job first) (value_before first)) c.content_is)
+    ∙ sym (b.two.content_is ∙ ap (λ (m : Map). set_at m (key_of_job first) (value_before first)) b.one.content_is)
 
 -- Whether a spare, if there is one, is at a place.
 abbrev is_at : Option SpareAt → ℕ → Bool
@@ -53,11 +53,11 @@ is_at None place = false
 is_at (Some spare) place = place == spare.place
 
 -- What is out at a place where a spare was spent.
-spent-at : (old new : TableAt) (spare : Option SpareAt) (place : ℕ) → Spends old new spare → out_at new.list place ≡ cond (is_at spare place) None (out_at old.list place)
+spent-at : (old new : TableAt) (spare : Option SpareAt) (place : ℕ) → Spends old new spare → spare_out new place ≡ cond (is_at spare place) None (spare_out old place)
 spent-at old new None place spends = spends place
 spent-at old new (Some spare) place spends = elim (cases_eq place spare.place) [
-  | inl same ↦ ap (out_at new.list) same ∙ spends.0 ∙ sym (ap (λ b. cond b None (out_at old.list place)) (eq-eqb place spare.place same))
-  | inr other ↦ spends.1 place other ∙ sym (ap (λ b. cond b None (out_at old.list place)) (ne_eqb place spare.place other))
+  | inl same ↦ ap (spare_out new) same ∙ spends.0 ∙ sym (ap (λ b. cond b None (spare_out old place)) (eq-eqb place spare.place same))
+  | inr other ↦ spends.1 place other ∙ sym (ap (λ b. cond b None (spare_out old place)) (ne_eqb place spare.place other))
 ]
 
 either_none : (b c : Bool) (out : Option ℕ) → cond b None (cond c None out) ≡ cond c None (cond b None out)
@@ -67,14 +67,14 @@ either_none false true out = refl
 either_none false false out = refl
 
 -- Both orders leave the same spares.
-pub either-spares : (old one two other both : TableAt) (first second : MapJob) → TakesBack old one first → TakesBack one two second → TakesBack old other second → TakesBack other both first → KeepsSpares both two
-either-spares old one two other both first second a b c d place =
+pub either-spares : (old one other : TableAt) (first second : MapJob) → TakesBackTwo old one first second → TakesBackTwo old other second first → KeepsSpares other one
+either-spares old one other first second a b place =
     let j = is_at (spare_of_job first) place in
     let k = is_at (spare_of_job second) place in
-    spent-at one two (spare_of_job second) place b.spares
-    ∙ ap (cond k None) (spent-at old one (spare_of_job first) place a.spares)
-    ∙ either_none k j (out_at old.list place)
-    ∙ sym (spent-at other both (spare_of_job first) place d.spares ∙ ap (cond j None) (spent-at old other (spare_of_job second) place c.spares))
+    spent-at a.between one (spare_of_job second) place a.two.spares
+    ∙ ap (cond k None) (spent-at old a.between (spare_of_job first) place a.one.spares)
+    ∙ either_none k j (spare_out old place)
+    ∙ sym (spent-at b.between other (spare_of_job first) place b.two.spares ∙ ap (cond j None) (spent-at old b.between (spare_of_job second) place b.one.spares))
 
 -- A spare elsewhere stays the table's where one is spent.
 spent_owned : (old new : TableAt) (spent : Option SpareAt) (spare : SpareAt) → AreApart spent (Some spare) → Spends old new spent → OwnsIf old (Some spare) → OwnsIf new (Some spare)

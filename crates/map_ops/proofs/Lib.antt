@@ -1,6 +1,5 @@
 pub mod Laws
 pub mod KeepLemmas
-pub mod Powers
 pub mod ContentLemmas
 pub mod ThereLemmas
 pub mod BelongLemmas

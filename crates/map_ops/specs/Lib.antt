@@ -5,6 +5,7 @@ pub mod Changes
 pub mod Buckets
 pub mod Sound
 pub mod Steps
+pub mod Laws
 -- The types of the layers below that the table hands on.
 pub use Rattle.bucket_table.specs.declared.answer.InitSeek
 pub use Rattle.bucket_table.specs.declared.answer.InitLink

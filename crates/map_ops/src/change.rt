@@ -1,4 +1,7 @@
 //! What is done to the list of a table. Each contract holds of the table with any buckets.
+//!
+//! A line `let _turn = list.turn();` has the prover know what is true of every list, which the contract of `turn` says; so does
+//! `let _number = key.number();` of keys.
 ghost use Rattle.std.specs.Prelude.{◌≡◌, ℕ, ◌<◌, ◌≤◌, ◌^◌, true, Some, None, is_ok, IsSome, IfOk, IfErr, OnErr};
 ghost use Rattle.node_list.specs.Follow.{Follows};
 ghost use Rattle.node_list.specs.Nodes.{IsOut};

@@ -1,7 +1,8 @@
 //! The table.
-ghost use Rattle.std.specs.Prelude.{◌≡◌, ◌≢◌, ℕ, ◌<◌, ◌≤◌, ◌-◌, ◌^◌, ◌↔◌, true, Ok, Err, Some, length, IfOk, IfErr, OnErr};
+//!
+//! A line `let _turn = self.list.turn();` has the prover know what is true of every list, which the contract of `turn` says.
+ghost use Rattle.std.specs.Prelude.{◌≡◌, ◌≢◌, ℕ, ◌<◌, ◌≤◌, ◌-◌, ◌^◌, ◌↔◌, Ok, Err, Some, length, IfOk, IfErr, OnErr};
 ghost use Rattle.std.specs.List.{slice_get};
-ghost use Rattle.std.specs.Int.{is_power_of_two};
 ghost use Rattle.std.specs.BTreeMap.{get as value_at};
 ghost use Rattle.std.specs.Ordering.{nat_cmp};
 ghost use Rattle.txn_trace.specs.Map.{count_of, get, key_of};
@@ -57,7 +58,7 @@ impl Table {
     ///
     /// `AllocError` where memory is refused.
     pub fn new(alloc: Global, max: u32, callers: u32) -> Result<Table, AllocError>
-        requires power { is_power_of_two max ≡ true }
+        requires power { (exponent : ℕ) × (max ≡ 2 ^ exponent) }
         requires least { 2 ≤ max }
         ensures { IfOk result (λ table. IsNew table max callers) }
     {
@@ -219,7 +220,8 @@ impl Table {
         }
     }
 
-    /// The keys with their values, as a map. Walks the list once.
+    /// The keys with their values, as a map. Takes a step a node and, with n keys, n log n for the map; memory for the pairs
+    /// twice while it runs, in a vector and in the map.
     ///
     /// # Errors
     ///
@@ -232,7 +234,7 @@ impl Table {
         map_of(alloc, &pairs)
     }
 
-    /// The keys with their values, in the order of the list, which is that of split keys. Walks the list once.
+    /// The keys with their values, in the order of the list, which is that of split keys. Takes a step a node.
     ///
     /// # Errors
     ///

@@ -7,11 +7,11 @@ pub returns-clause-due : goal.returns-clause-due
 returns-clause-due c old new first second apart spares shows back = either_due old new first second apart spares shows back
 
 pub returns-clause-content : goal.returns-clause-content
-returns-clause-content c old one two other both first second apart a b d e = either-content old one two other both first second apart a b d e
+returns-clause-content c old one other first second apart a b = either-content old one other first second apart a b
 
 pub returns-clause-regular : goal.returns-clause-regular
-returns-clause-regular c old one two other both first second apart a b d e is was =
-    is ∙ ap ordered (either-content old one two other both first second apart a b d e) ∙ sym was
+returns-clause-regular c old one other first second apart a b was is =
+    was ∙ ap ordered (either-content old one other first second apart a b) ∙ sym is
 
 pub returns-clause-spares : goal.returns-clause-spares
-returns-clause-spares c old one two other both first second a b d e = either-spares old one two other both first second a b d e
+returns-clause-spares c old one other first second a b = either-spares old one other first second a b

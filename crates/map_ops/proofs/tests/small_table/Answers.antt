@@ -1,7 +1,5 @@
 use Rattle.std.proofs.Common.{refl}
-use lib.Count.{ones}
 use Rattle.map_ops.proofs.tests.small_table.Goals as goal
 
 pub new-requires-clause-power : goal.new-requires-clause-power
-unfolding ones
-new-requires-clause-power c = refl
+new-requires-clause-power c = (1, refl)

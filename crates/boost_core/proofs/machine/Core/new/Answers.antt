@@ -1,11 +1,11 @@
 use Rattle.std.proofs.Common.{sym, subst, ap, ◌∙◌, arith}
-use Rattle.std.specs.Int.{is_power_of_two}
+use Rattle.boost_core.proofs.Powers.{IsPower}
 use Rattle.map_ops.specs.TableAt.{IsNew}
 use Rattle.boost_core.proofs.Starting.{buckets_power, start_tells, none_owed, start_is}
 use Rattle.boost_core.proofs.machine.Core.new.Goals as goal
 
 pub new-requires-clause-power : goal.new-requires-clause-power
-new-requires-clause-power c = ap is_power_of_two c.buckets.ensures.value ∙ buckets_power c.args.limits.callers c.args.limits.stripes c.args.limits.buckets c.buckets.ensures.limits
+new-requires-clause-power c = subst IsPower (sym c.buckets.ensures.value) (buckets_power c.args.limits.callers c.args.limits.stripes c.args.limits.buckets c.buckets.ensures.limits)
 
 pub invariant_of-result : goal.invariant_of-result
 invariant_of-result c =

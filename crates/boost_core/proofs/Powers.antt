@@ -7,24 +7,27 @@ use Rattle.std.proofs.lemmas.Bool.{eqb-true, cases_eq}
 use Rattle.std.proofs.lemmas.Nat.{zero_from_ones, ones_le_self}
 use native.Mathlib.Nat.{pow-suc}
 use mathlib.Core.Logic.{inl, inr}
-use Rattle.split_key.specs.Split.{IsPowerOfTwo}
 
-doubled : (n half exponent : ℕ) → n ≡ half * 2 → half ≡ 2 ^ exponent → IsPowerOfTwo n
-doubled n half exponent twice is = record { exponent = suc exponent; is = twice ∙ ap (λ (k : ℕ). k * 2) is ∙ sym (pow-suc 2 exponent) }
+-- 2 to some number.
+abbrev pub IsPower : ℕ → Type 0
+IsPower n = (exponent : ℕ) × (n ≡ 2 ^ exponent)
+
+doubled : (n half exponent : ℕ) → n ≡ half * 2 → half ≡ 2 ^ exponent → IsPower n
+doubled n half exponent twice is = (suc exponent, twice ∙ ap (λ (k : ℕ). k * 2) is ∙ sym (pow-suc 2 exponent))
 
 -- A number of which one digit is set is a power of two.
-power_below : (d n : ℕ) → n ≤ d → count_ones n ≡ 1 → IsPowerOfTwo n
+power_below : (d n : ℕ) → n ≤ d → count_ones n ≡ 1 → IsPower n
 power_below zero n most one = absurd (omega (arith, ones_le_self n))
 power_below (suc d) n most one =
     let step = ones_step n in
     elim (cases_eq (n % 2) 1) [
       | inl odd ↦
           let none : n / 2 ≡ 0 = zero_from_ones (n / 2) (omega arith) in
-          record { exponent = 0; is = omega arith }
+          (0, omega arith)
       | inr other ↦
           let half = power_below d (n / 2) (omega arith) (omega arith) in
-          doubled n (n / 2) half.exponent (omega arith) half.is
+          doubled n (n / 2) half.0 (omega arith) half.1
     ]
 
-pub power_from_test : (n : ℕ) → is_power_of_two n ≡ true → IsPowerOfTwo n
+pub power_from_test : (n : ℕ) → is_power_of_two n ≡ true → IsPower n
 power_from_test n is = power_below n n (omega arith) (eqb-true (count_ones n) 1 is)

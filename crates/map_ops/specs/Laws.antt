@@ -1,0 +1,26 @@
+-- What the laws of the table speak of.
+use Rattle.std.specs.Prelude.{◌≡◌, ℕ, Option, Some}
+use Rattle.txn_trace.specs.declared.op.Op.{Op}
+use Rattle.txn_trace.specs.Ordered.{ordered}
+use Rattle.map_ops.specs.declared.job.MapJob.{MapJob}
+use Rattle.map_ops.specs.TableAt.{TableAt, content, regular}
+use Rattle.map_ops.specs.Changes.{Applies, TakesBack}
+
+-- The list has the pairs of the content in their order.
+abbrev pub IsInOrder : TableAt → Type 0
+IsInOrder t = regular t ≡ ordered (content t)
+
+-- An operation was done at once, and its change was taken back at once.
+pub record GoesAndReturns (old new : TableAt) : Type 0 where
+  pub between : TableAt
+  pub op : Op
+  pub reply : Option ℕ
+  pub job : MapJob
+  pub applies : Applies old between op reply (Some job)
+  pub back : TakesBack between new job
+
+-- Two jobs were taken back one after the other.
+pub record TakesBackTwo (old new : TableAt) (first second : MapJob) : Type 0 where
+  pub between : TableAt
+  pub one : TakesBack old between first
+  pub two : TakesBack between new second
