@@ -18,8 +18,9 @@
 //!
 //! `place` and `place_job` walk from the nearest initialised dummy to the key's place, and so do `apply` and `take_back`, of
 //! which they are a part; `init_seek` walks from the dummy of the bucket's parent, and `sweep` to the first marked node.
-//! `content` and `regular_list` walk the whole list (`content` also sorts its pairs), and `new` takes time in proportion to `max` and `callers`. Each other call
-//! takes constant time, amortised where it may take memory for a node (`prepare`, `init_link`).
+//! `content` and `regular_list` walk the whole list (`content` also sorts its pairs), and `new` takes time in proportion to
+//! `max` and `callers`. Each other call takes constant time, amortised where it may take memory for a node (`prepare`,
+//! `init_link`).
 #![tactic(auto)]
 
 mod act;
