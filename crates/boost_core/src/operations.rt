@@ -4,7 +4,6 @@ ghost use Rattle.txn_trace.specs.Map.{key_of};
 
 use crate::machine::Core;
 use crate::owner::Owner;
-use crate::refusals::key_in;
 use crate::session::owed_for;
 use crate::stage::Stage;
 use key_locks::LockAnswer;
@@ -34,7 +33,7 @@ impl Core {
             Err(refusal) => return Answer::Refused(refusal),
         };
         self.placed = None;
-        let stripe = key_in(op) % u64::from(self.limits.stripes());
+        let stripe = op.key() % u64::from(self.limits.stripes());
         match self.locks.lock(caller as usize, stripe as usize) {
             LockAnswer::Granted => {
                 session.stage = Stage::Asked(pending);

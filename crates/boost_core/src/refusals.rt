@@ -1,17 +1,16 @@
 //! Refusals.
-ghost use Rattle.std.specs.Prelude.{◌≡◌};
+ghost use Rattle.std.specs.Prelude.{◌≡◌, ◌^◌, nat_le};
 ghost use Rattle.txn_trace.specs.Map.{key_of};
 ghost use Rattle.boost_core.specs.Refusals.{refusal_for};
 
-use map_ops::InitRefusal;
+use map_ops::{InitRefusal, Key};
 use txn_trace::{Op, Refusal};
 
-/// The number of the key of an operation.
-pub(crate) fn key_in(op: Op) -> u64
-    ensures { result ≡ key_of op }
+/// Whether the key of an operation is none of the table's.
+pub(crate) fn has_bad_key(op: Op) -> bool
+    ensures { result ≡ nat_le (2 ^ 63) (key_of op) }
 {
-    let (Op::Put(key, _) | Op::Take(key) | Op::Get(key)) = op;
-    key
+    Key::new(op.key()).is_err()
 }
 
 /// The refusal of a helper's step, as the table tells it.

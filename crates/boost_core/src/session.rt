@@ -2,16 +2,13 @@
 ghost use Rattle.std.specs.Prelude.{◌≡◌, ◌+◌, ◌-◌, ◌≤◌, ◌<◌, ◌^◌, ◌++◌, true, option_to_list, is_some, length};
 ghost use Rattle.txn_trace.specs.Owed.{owed_for};
 
-use crate::refusals::key_in;
+use crate::refusals::has_bad_key;
 use crate::stage::Stage;
 use map_ops::{Act, Cursor, MapJob, Table, Undo};
 use std::alloc::Global;
 use std::mem;
 use txn_trace::{Op, Refusal, Reply, Step};
 use undo_log::UndoLog;
-
-/// The least number that is no key.
-const KEYS_END: u64 = 1 << 63;
 
 /// A caller: its stage, the cursor of its operation or of its newest change, and its log.
 #[derive(Drop)]
@@ -125,8 +122,8 @@ impl Session {
                 Stage::LeavingTo(_) | Stage::LeavingToEnd => Some(Refusal::Leaving),
             },
             Step::Ask(_, op) => {
-                let is_bad = KEYS_END <= key_in(op);
-                self.unready().or(is_bad.then_some(Refusal::BadKey))
+                self.unready()
+                    .or(has_bad_key(op).then_some(Refusal::BadKey))
             }
             Step::Seek(_) => match self.stage {
                 Stage::Closed => Some(Refusal::NotOpen),

@@ -41,17 +41,6 @@ fn give_spare(list: &mut NodeList) -> Result<Spare, Refusal>
     }
 }
 
-// The key of an operation.
-fn key_number(op: Op) -> u64
-    ensures { result ≡ key_of op }
-{
-    match op {
-        Op::Put(key, _) => key,
-        Op::Take(key) => key,
-        Op::Get(key) => key,
-    }
-}
-
 /// An operation with a right key and the spare that it takes.
 pub(crate) fn plan(list: &mut NodeList, op: Op) -> Result<Plan, Refusal>
     ensures ok { IfOk result (λ plan. (buckets : Directory) → Prepares (table_of list.old buckets) (table_of list.new buckets) op (pending_of plan)) }
@@ -60,7 +49,7 @@ pub(crate) fn plan(list: &mut NodeList, op: Op) -> Result<Plan, Refusal>
     ensures follows { Follows list.old list.new }
 {
     let _turn = list.turn();
-    let Ok(key) = Key::new(key_number(op)) else {
+    let Ok(key) = Key::new(op.key()) else {
         return Err(Refusal::BadKey);
     };
     match op {

@@ -21,7 +21,7 @@ pub invariant_of-self-in-Granted : goal.invariant_of-self-in-Granted
 invariant_of-self-in-Granted c =
     let none = none_of _ _ (steps.Ask c.args.caller c.args.op) _ c.self.view_is c.refusal.ensures c.in_default.is in
     let at = at_free _ _ _ _ _ _ _ _ c.self.invariant.tells c.args.caller (steps.Ask c.args.caller c.args.op) refl none c.index_mut-session.result.now c.index_mut-session.ensures.value in
-    let stripe : c.key_in.result % c.from.result ≡ key_of c.args.op % c.self.inside.limits.stripes = λ i. c.key_in.ensures i % (c.from.ensures ∙ c.stripes.ensures.value) i in
+    let stripe : c.key.result % c.from.result ≡ key_of c.args.op % c.self.inside.limits.stripes = λ i. c.key.ensures i % (c.from.ensures ∙ c.stripes.ensures.value) i in
     let grants = subst (λ s. Grants c.args.caller s c.self.inside.locks c.lock.new.self) stripe c.in-Granted.ensures in
     let prepares = subst (λ r. IfOk r (Prepares c.self.inside.table c.prepare.new.self c.args.op)) c.in-Ok.is c.prepare.ensures.ok in
     let within : key_of c.args.op % c.self.inside.limits.stripes < c.self.inside.limits.stripes = grind (arith, c.stripes.ensures.limits) in
@@ -39,7 +39,7 @@ pub returns-in-Granted : goal.returns-in-Granted
 returns-in-Granted c =
     let none = none_of _ _ (steps.Ask c.args.caller c.args.op) _ c.self.view_is c.refusal.ensures c.in_default.is in
     let at = at_free _ _ _ _ _ _ _ _ c.self.invariant.tells c.args.caller (steps.Ask c.args.caller c.args.op) refl none c.index_mut-session.result.now c.index_mut-session.ensures.value in
-    let stripe : c.key_in.result % c.from.result ≡ key_of c.args.op % c.self.inside.limits.stripes = λ i. c.key_in.ensures i % (c.from.ensures ∙ c.stripes.ensures.value) i in
+    let stripe : c.key.result % c.from.result ≡ key_of c.args.op % c.self.inside.limits.stripes = λ i. c.key.ensures i % (c.from.ensures ∙ c.stripes.ensures.value) i in
     let grants = subst (λ s. Grants c.args.caller s c.self.inside.locks c.lock.new.self) stripe c.in-Granted.ensures in
     let prepares = subst (λ r. IfOk r (Prepares c.self.inside.table c.prepare.new.self c.args.op)) c.in-Ok.is c.prepare.ensures.ok in
     let within : key_of c.args.op % c.self.inside.limits.stripes < c.self.inside.limits.stripes = grind (arith, c.stripes.ensures.limits) in
@@ -78,7 +78,7 @@ pub invariant_of-self-in-Busy : goal.invariant_of-self-in-Busy
 invariant_of-self-in-Busy c =
     let none = none_of _ _ (steps.Ask c.args.caller c.args.op) _ c.self.view_is c.refusal.ensures c.in_default.is in
     let at = at_free _ _ _ _ _ _ _ _ c.self.invariant.tells c.args.caller (steps.Ask c.args.caller c.args.op) refl none c.index_mut-session.result.now c.index_mut-session.ensures.value in
-    let stripe : c.key_in.result % c.from.result ≡ key_of c.args.op % c.self.inside.limits.stripes = λ i. c.key_in.ensures i % (c.from.ensures ∙ c.stripes.ensures.value) i in
+    let stripe : c.key.result % c.from.result ≡ key_of c.args.op % c.self.inside.limits.stripes = λ i. c.key.ensures i % (c.from.ensures ∙ c.stripes.ensures.value) i in
     let refuses = subst (λ s. Refuses c.args.caller s c.in-Busy.holder c.self.inside.locks c.lock.new.self) stripe c.in-Busy.ensures in
     let prepares = subst (λ r. IfOk r (Prepares c.self.inside.table c.prepare.new.self c.args.op)) c.in-Ok.is c.prepare.ensures.ok in
     let within : key_of c.args.op % c.self.inside.limits.stripes < c.self.inside.limits.stripes = grind (arith, c.stripes.ensures.limits) in
@@ -96,7 +96,7 @@ pub returns-in-Busy : goal.returns-in-Busy
 returns-in-Busy c =
     let none = none_of _ _ (steps.Ask c.args.caller c.args.op) _ c.self.view_is c.refusal.ensures c.in_default.is in
     let at = at_free _ _ _ _ _ _ _ _ c.self.invariant.tells c.args.caller (steps.Ask c.args.caller c.args.op) refl none c.index_mut-session.result.now c.index_mut-session.ensures.value in
-    let stripe : c.key_in.result % c.from.result ≡ key_of c.args.op % c.self.inside.limits.stripes = λ i. c.key_in.ensures i % (c.from.ensures ∙ c.stripes.ensures.value) i in
+    let stripe : c.key.result % c.from.result ≡ key_of c.args.op % c.self.inside.limits.stripes = λ i. c.key.ensures i % (c.from.ensures ∙ c.stripes.ensures.value) i in
     let refuses = subst (λ s. Refuses c.args.caller s c.in-Busy.holder c.self.inside.locks c.lock.new.self) stripe c.in-Busy.ensures in
     let prepares = subst (λ r. IfOk r (Prepares c.self.inside.table c.prepare.new.self c.args.op)) c.in-Ok.is c.prepare.ensures.ok in
     let within : key_of c.args.op % c.self.inside.limits.stripes < c.self.inside.limits.stripes = grind (arith, c.stripes.ensures.limits) in
@@ -127,7 +127,7 @@ pub owed_after-self-inside-requires-clause-fits : goal.owed_after-self-inside-re
 owed_after-self-inside-requires-clause-fits c =
     let none = none_of _ _ (steps.Ask c.args.caller c.args.op) _ c.self.view_is c.refusal.ensures c.in_default.is in
     let at = at_free _ _ _ _ _ _ _ _ c.self.invariant.tells c.args.caller (steps.Ask c.args.caller c.args.op) refl none c.index_mut-session.result.now c.index_mut-session.ensures.value in
-    let stripe : c.key_in.result % c.from.result ≡ key_of c.args.op % c.self.inside.limits.stripes = λ i. c.key_in.ensures i % (c.from.ensures ∙ c.stripes.ensures.value) i in
+    let stripe : c.key.result % c.from.result ≡ key_of c.args.op % c.self.inside.limits.stripes = λ i. c.key.ensures i % (c.from.ensures ∙ c.stripes.ensures.value) i in
     let grants = subst (λ s. Grants c.args.caller s c.self.inside.locks c.lock.new.self) stripe c.in-Granted.ensures in
     let prepares = subst (λ r. IfOk r (Prepares c.self.inside.table c.prepare.new.self c.args.op)) c.in-Ok.is c.prepare.ensures.ok in
     let within : key_of c.args.op % c.self.inside.limits.stripes < c.self.inside.limits.stripes = grind (arith, c.stripes.ensures.limits) in
@@ -147,7 +147,7 @@ pub owed_after-self-inside-requires-in-Busy-clause-fits : goal.owed_after-self-i
 owed_after-self-inside-requires-in-Busy-clause-fits c =
     let none = none_of _ _ (steps.Ask c.args.caller c.args.op) _ c.self.view_is c.refusal.ensures c.in_default.is in
     let at = at_free _ _ _ _ _ _ _ _ c.self.invariant.tells c.args.caller (steps.Ask c.args.caller c.args.op) refl none c.index_mut-session.result.now c.index_mut-session.ensures.value in
-    let stripe : c.key_in.result % c.from.result ≡ key_of c.args.op % c.self.inside.limits.stripes = λ i. c.key_in.ensures i % (c.from.ensures ∙ c.stripes.ensures.value) i in
+    let stripe : c.key.result % c.from.result ≡ key_of c.args.op % c.self.inside.limits.stripes = λ i. c.key.ensures i % (c.from.ensures ∙ c.stripes.ensures.value) i in
     let refuses = subst (λ s. Refuses c.args.caller s c.in-Busy.holder c.self.inside.locks c.lock.new.self) stripe c.in-Busy.ensures in
     let prepares = subst (λ r. IfOk r (Prepares c.self.inside.table c.prepare.new.self c.args.op)) c.in-Ok.is c.prepare.ensures.ok in
     let within : key_of c.args.op % c.self.inside.limits.stripes < c.self.inside.limits.stripes = grind (arith, c.stripes.ensures.limits) in

@@ -1,4 +1,4 @@
-use Rattle.std.proofs.Common.{sym, subst, ap, ◌∙◌, arith}
+use Rattle.std.proofs.Common.{sym, subst, ◌∙◌, arith}
 use Rattle.boost_core.proofs.Powers.{IsPower}
 use Rattle.map_ops.specs.TableAt.{IsNew}
 use Rattle.boost_core.proofs.Starting.{buckets_power, start_tells, none_owed, start_is}
