@@ -122,8 +122,8 @@ impl Session {
                 Stage::LeavingTo(_) | Stage::LeavingToEnd => Some(Refusal::Leaving),
             },
             Step::Ask(_, op) => {
-                self.unready()
-                    .or(has_bad_key(op).then_some(Refusal::BadKey))
+                let bad_key = has_bad_key(op).then_some(Refusal::BadKey);
+                self.unready().or(bad_key)
             }
             Step::Seek(_) => match self.stage {
                 Stage::Closed => Some(Refusal::NotOpen),
