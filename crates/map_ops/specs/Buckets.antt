@@ -38,6 +38,10 @@ link_answer fitting linked last (Some (Sought bucket turn)) =
     else (if last == 2 ^ 64 - 2 then Err StampsUsedUp
     else Ok Linked))
 
+-- what a link by the helper of this number is answered by a table, where memory lasts
+abbrev pub link_answer_of : TableAt → ℕ → Result InitLink InitRefusal
+link_answer_of t helper = link_answer (helper_fits t helper) (linked_of t) (last_of t) (slice_get (helps_of t) helper)
+
 -- what a store by a helper that has this is answered
 abbrev pub store_answer : Option Help → Result Unit InitRefusal
 store_answer None = Err NoSuchHelper

@@ -47,7 +47,7 @@ impl Table {
     ghost use Rattle.map_ops.specs.TableAt.{HasParents, IsClean, IsNew, IsPlaced, IsSplitOrdered, Follows, Keeps, KeepsSpares, NamesDummies, Sought, content, helper_fits, regular, helps_of, last_of, largest_of, linked_of, size_of, stored_of, turn_of};
     ghost use Rattle.map_ops.specs.Jobs.{IsDue, key_of_job, spare_of_job};
     ghost use Rattle.map_ops.specs.Changes.{Acts, Applies, GivesBack, IsRefused, OwnsIf, Places, Prepares, SeeksNear, Sweeps, TakesBack, Undoes};
-    ghost use Rattle.map_ops.specs.Buckets.{Doubles, LinkChanges, SeekChanges, StoreChanges, double_answer, link_answer, seek_answer, store_answer};
+    ghost use Rattle.map_ops.specs.Buckets.{Doubles, LinkChanges, SeekChanges, StoreChanges, double_answer, link_answer_of, seek_answer, store_answer};
 
     /// An empty table of two buckets, of which bucket 0 is initialised, and of so many idle helpers. It can grow to `max`
     /// buckets, a power of two.
@@ -324,9 +324,10 @@ impl Table {
     /// In this order: `NoSuchHelper`, `HelperOutOfOrder` where the helper has no cursor, `StampsUsedUp`, `NoMemory`. Each leaves
     /// the table as it was.
     pub fn init_link(&mut self, helper: u64) -> Result<InitLink, InitRefusal>
-        ensures answer { result ≢ Err InitRefusal.NoMemory → result ≡ link_answer (helper_fits self.old helper) (linked_of self.old) (last_of self.old) (slice_get (helps_of self.old) helper) }
-        ensures no_memory { result ≡ Err InitRefusal.NoMemory → link_answer (helper_fits self.old helper) (linked_of self.old) (last_of self.old) (slice_get (helps_of self.old) helper) ≡ Ok InitLink.Linked }
-        ensures in_turn { (bucket : ℕ) → slice_get (helps_of self.old) helper ≡ Some (Sought bucket (turn_of self.old)) → turn_of self.old < 2 ^ 64 - 1 → result ≢ Ok InitLink.Again }
+        ensures answer { result ≢ Err InitRefusal.NoMemory → result ≡ link_answer_of self.old helper }
+        ensures no_memory { result ≡ Err InitRefusal.NoMemory → link_answer_of self.old helper ≡ Ok InitLink.Linked }
+        ensures in_turn { (bucket : ℕ) → slice_get (helps_of self.old) helper ≡ Some (Sought bucket (turn_of self.old))
+            → turn_of self.old < 2 ^ 64 - 1 → result ≢ Ok InitLink.Again }
         ensures changes { LinkChanges self.old self.new helper result }
         ensures rises { turn_of self.old ≤ turn_of self.new }
         ensures follows { Follows self.old self.new }
