@@ -11,7 +11,7 @@ use Rattle.txn_trace.specs.declared.op.Op.TheVariants.{Put, Take, Get}
 use Rattle.txn_trace.specs.Map.{Map, get, key_of, reply_of, after}
 use Rattle.txn_trace.specs.Now.{set_at}
 use Rattle.txn_trace.specs.Shape.{changes}
-use Rattle.txn_trace.proofs.Maps.{same_map, get-insert, get-remove}
+use Rattle.txn_trace.proofs.Maps.{same_map, get-insert-here, get-remove-here}
 use Rattle.txn_trace.proofs.Table.{get-set_at}
 use Rattle.txn_trace.proofs.Acting.{after_unchanged, get-after_other}
 use Rattle.txn_trace.proofs.Fits.{changes-reply}
@@ -62,20 +62,14 @@ abbrev pub NotedIf : Map → Op → Option SpareAt → Option MapJob → Type 0
 NotedIf m op spare None = changes op (reply_of m op) ≡ false
 NotedIf m op spare (Some job) = Noted m op spare job
 
-get-inserted : (m : Map) (k v : ℕ) → get (after m (Put k v)) k ≡ Some v
-get-inserted m k v = get-insert m k v k ∙ ap (λ b. cond b (Some v) (get m k)) (eq-eqb k k refl)
-
-get-removed : (m : Map) (k : ℕ) → get (after m (Take k)) k ≡ None
-get-removed m k = get-remove m k k ∙ ap (λ b. cond b None (get m k)) (eq-eqb k k refl)
-
 put_noted : (m : Map) (k v : ℕ) (spare : Option SpareAt) (o : Option ℕ) → get m k ≡ o → NotedIf m (Put k v) spare (unput k o)
-put_noted m k v spare None is = record { change = ap (λ (o : Option ℕ). (k, o)) (sym is); is_change = refl; due = subst (λ o. IsSome o) (sym (get-inserted m k v)) refl }
-put_noted m k v spare (Some old) is = record { change = ap (λ (o : Option ℕ). (k, o)) (sym is); is_change = refl; due = subst (λ o. IsSome o) (sym (get-inserted m k v)) refl }
+put_noted m k v spare None is = record { change = ap (λ (o : Option ℕ). (k, o)) (sym is); is_change = refl; due = subst (λ o. IsSome o) (sym (get-insert-here m k v)) refl }
+put_noted m k v spare (Some old) is = record { change = ap (λ (o : Option ℕ). (k, o)) (sym is); is_change = refl; due = subst (λ o. IsSome o) (sym (get-insert-here m k v)) refl }
 
 take_noted : (m : Map) (k : ℕ) (spare : Option SpareAt) (o : Option ℕ) → get m k ≡ o → is_some spare ≡ true → NotedIf m (Take k) spare (relink k o spare)
 take_noted m k None o is there = absurd (cc (there))
 take_noted m k (Some spare) None is there = ap is_some is
-take_noted m k (Some spare) (Some old) is there = record { change = ap (λ (o : Option ℕ). (k, o)) (sym is); is_change = ap is_some is; due = get-removed m k }
+take_noted m k (Some spare) (Some old) is there = record { change = ap (λ (o : Option ℕ). (k, o)) (sym is); is_change = ap is_some is; due = get-remove-here m k }
 
 pub noted : (m : Map) (op : Op) (spare : Option SpareAt) → is_some spare ≡ takes_node op → NotedIf m op spare (job_of m op spare)
 noted m (Put k v) spare there = put_noted m k v spare (get m k) refl

@@ -18,10 +18,10 @@ use Rattle.txn_trace.specs.Shape.{Phase, Closed, Opened, Waiting, LeavingTo, Lea
 use Rattle.txn_trace.specs.Log.{log_of}
 use Rattle.txn_trace.specs.Locks.{stripe_of, holder_of}
 use Rattle.txn_trace.specs.Legal.{IsLegal, runs, is_running}
-use Rattle.txn_trace.specs.Owed.{owed_by, reserved_for}
+use Rattle.txn_trace.specs.Owed.{owed_by}
 use Rattle.txn_trace.proofs.Pushes.{how_many-push, own-push_in, seat_after-push}
 use Rattle.txn_trace.proofs.Next.{Next}
-use Rattle.txn_trace.proofs.Room.{owed_by-row}
+use Rattle.txn_trace.proofs.Room.{reserved_for, owed_by-row}
 use Rattle.txn_trace.proofs.Held.{log_held}
 use Rattle.key_locks.specs.Locks.{holder_of as held_by}
 use Rattle.map_ops.specs.declared.job.MapJob.{MapJob}

@@ -1,5 +1,5 @@
 -- The content of a list of nodes, and what a step at a node does to it.
-use Rattle.std.proofs.Common.{◌≡◌, ◌≢◌, ℕ, ◌<◌, ◌==◌, inl, inr, List, [], ◌∷◌, ◌++◌, Option, Some, None, Bool, true, false, cond, not, ◌&&◌, ◌+◌, if◌then◌else◌, length, refl, sym, ◌∙◌, ap, subst, arith}
+use Rattle.std.proofs.Common.{◌≡◌, ◌≢◌, ℕ, ◌<◌, ◌==◌, inl, inr, List, [], ◌∷◌, ◌++◌, Some, None, Bool, true, false, cond, not, ◌&&◌, ◌+◌, if◌then◌else◌, length, refl, sym, ◌∙◌, ap, subst, arith}
 use Rattle.std.specs.List.{fold, AllByRecursion}
 use Rattle.std.proofs.lemmas.Bool.{cases_eq, eq-eqb, ne_eqb}
 use Rattle.std.proofs.lemmas.Bool.Decides.{eqb_tells}
@@ -14,22 +14,13 @@ use Rattle.bucket_table.specs.Dummies.{IsKeyed, IsKeyedNode}
 use Rattle.txn_trace.specs.Map.{Map, count_of, empty, get, insert, remove}
 use Rattle.txn_trace.specs.Ordered.{ordered}
 use Rattle.txn_trace.proofs.Maps.{get-insert, same_map}
-use Rattle.txn_trace.proofs.Order.{Rises, IsSortedBySplit, value_at, split_cmp_tied, sorted-rises, value_at-ordered, ordered_rising, ordered-linked, ordered-written, ordered-unlinked, length-ordered}
+use Rattle.txn_trace.proofs.Order.{Rises, IsSortedBySplit, value_at, or_else, or_else_none, split_cmp_tied, sorted-rises, value_at-ordered, ordered_rising, ordered-linked, ordered-written, ordered-unlinked, length-ordered}
 use Rattle.map_ops.specs.TableAt.{map_of}
 
 -- Where all split keys are above that of a key, the key is not there.
 none_above : (k : ℕ) (es : List (ℕ × ℕ)) → AllByRecursion (λ (other : ℕ × ℕ). split k < split other.0) es → value_at k es ≡ None
 none_above k [] all = refl
 none_above k (e ∷ es) all = ap (λ b. cond b (Some e.1) (value_at k es)) (split_cmp_tied k e.0 ∙ ne_eqb k e.0 (λ same. let equal : split k ≡ split e.0 = ap split same in omega (arith, equal, all.0))) ∙ none_above k es all.1
-
--- the first value, or else the second
-abbrev or_else : Option ℕ → Option ℕ → Option ℕ
-or_else None second = second
-or_else (Some first) second = Some first
-
-or_else_none : (first : Option ℕ) → or_else first None ≡ first
-or_else_none None = refl
-or_else_none (Some first) = refl
 
 get-inserted : (ps : List (ℕ × ℕ)) (m : Map) (q : ℕ) → Rises ps → get (fold (λ (m : Map) (pair : ℕ × ℕ). insert m pair.0 pair.1) m ps) q ≡ or_else (value_at q ps) (get m q)
 get-inserted [] m q rises = refl

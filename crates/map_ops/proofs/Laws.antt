@@ -9,7 +9,7 @@ use Rattle.txn_trace.specs.declared.op.Op.{Op}
 use Rattle.txn_trace.specs.declared.op.Op.TheVariants.{Put, Take, Get}
 use Rattle.txn_trace.specs.Map.{Map, after, get, insert, remove}
 use Rattle.txn_trace.specs.Now.{set_at}
-use Rattle.txn_trace.proofs.Maps.{get-insert, get-remove, same_map}
+use Rattle.txn_trace.proofs.Maps.{get-insert, get-remove, get-insert-here, get-remove-here, same_map}
 use Rattle.txn_trace.proofs.Table.{get-set_at}
 use Rattle.map_ops.specs.declared.job.MapJob.{MapJob}
 use Rattle.map_ops.specs.declared.job.MapJob.TheVariants.{Unput, Restore, Relink}
@@ -42,13 +42,6 @@ shows_before old new job back =
 -- Some buckets, for what holds with any.
 abbrev pub no_buckets : Directory
 no_buckets = record { size = 0; entries = []; helpers = [] }
-
--- A put has a value at its key, and a take none.
-get-insert-here : (m : Map) (k v : ℕ) → get (insert m k v) k ≡ Some v
-get-insert-here m k v = get-insert m k v k ∙ ap (λ b. cond b (Some v) (get m k)) (eq-eqb k k refl)
-
-get-remove-here : (m : Map) (k : ℕ) → get (remove m k) k ≡ None
-get-remove-here m k = get-remove m k k ∙ ap (λ b. cond b None (get m k)) (eq-eqb k k refl)
 
 -- A job is due on what its operation leaves, and gives the map before it.
 pub job_is_due : (m : Map) (op : Op) (spare : Option SpareAt) (job : MapJob) → job_of m op spare ≡ Some job → IsDue (after m op) job

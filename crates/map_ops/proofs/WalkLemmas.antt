@@ -1,5 +1,6 @@
 -- A walk along the list that gathers its pairs.
 use Rattle.std.proofs.Common.{◌≡◌, ℕ, List, [], ◌∷◌, ◌++◌, Some, None, refl, sym, ◌∙◌, ap, subst, arith, append_assoc}
+use Rattle.std.proofs.lemmas.List.{append-nil}
 use Rattle.node_list.specs.declared.node.Kind.TheVariants.{Dummy}
 use Rattle.node_list.specs.Nodes.{NodeAt, Listing, next_of, without_first}
 use Rattle.node_list.specs.Order.{IsBefore, IsRising, IsSpread}
@@ -13,10 +14,6 @@ pub record IsWalking (nodes : List NodeAt) (place : ℕ) (found : List (ℕ × �
   pub node : NodeAt
   pub at : IsAt nodes place node
   pub rest : found ++ pairs at.rest ≡ pairs nodes
-
-append_none : (xs : List (ℕ × ℕ)) → xs ++ [] ≡ xs
-append_none [] = refl
-append_none (x ∷ xs) = ap (λ ys. x ∷ ys) (append_none xs)
 
 none_before_first : (front : List NodeAt) (n : NodeAt) (rest : List NodeAt) → IsRising (front ++ n ∷ rest) → n.split ≡ 0 → front ≡ []
 unfolding IsRising IsBefore
@@ -64,4 +61,4 @@ module _ (nodes : List NodeAt) (place : ℕ) (found : List (ℕ × ℕ)) (walkin
   pub walk_end : next_of nodes place ≡ None → found ≡ pairs nodes
   walk_end is =
       let nothing : walking.at.rest ≡ [] = first_none walking.at.rest (sym (next_at nodes place walking.node walking.at) ∙ is) in
-      sym (append_none found) ∙ ap (λ es. found ++ es) (sym pairs_none ∙ ap pairs (sym nothing)) ∙ walking.rest
+      sym (append-nil found) ∙ ap (λ es. found ++ es) (sym pairs_none ∙ ap pairs (sym nothing)) ∙ walking.rest

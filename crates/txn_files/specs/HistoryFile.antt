@@ -1,10 +1,11 @@
 -- The history file that bytes are, or its first fault.
-use Rattle.std.specs.Prelude.{ℕ, List, length, Bool, ◌==◌, ◌&&◌, nat_le, Result, Ok, Err, if◌then◌else◌, codes}
+use Rattle.std.specs.Prelude.{ℕ, List, length, Bool, ◌==◌, ◌-◌, ◌&&◌, nat_le, Result, Ok, Err, if◌then◌else◌, codes}
 use Rattle.std.specs.List.{list_all}
 use Rattle.serde_json.specs.Data.{Data}
 use Rattle.txn_trace.specs.declared.entry.Entry.{Entry}
 use Rattle.txn_trace.specs.declared.entry.Entry.TheVariants.{Busy}
 use Rattle.txn_trace.specs.History.{caller_of}
+use Rattle.txn_trace.specs.Sizes.{max_callers, max_stripes}
 use Rattle.txn_files.specs.declared.part.Part.TheVariants as parts
 use Rattle.txn_files.specs.declared.file_fault.FileFault.{FileFault}
 use Rattle.txn_files.specs.declared.file_fault.FileFault.TheVariants.{Limit}
@@ -15,7 +16,7 @@ use Rattle.txn_files.specs.Entries.{entry_of}
 
 -- the largest number that a caller may have
 abbrev pub max_caller : ℕ
-max_caller = 63
+max_caller = max_callers - 1
 
 -- how many entries a file may have
 abbrev pub max_entries : ℕ
@@ -26,9 +27,9 @@ abbrev pub is_in_range : Entry → Bool
 is_in_range (Busy c op x) = nat_le c max_caller && nat_le x max_caller
 is_in_range e = nat_le (caller_of e) max_caller
 
--- whether the numbers of a history are in range: 1 to 4,096 stripes
+-- whether the numbers of a history are in range: a stripe or more, and no more than there may be
 abbrev pub is_history : ℕ → List Entry → Bool
-is_history stripes entries = nat_le 1 stripes && nat_le stripes 4096 && nat_le (length entries) max_entries && list_all is_in_range entries
+is_history stripes entries = nat_le 1 stripes && nat_le stripes max_stripes && nat_le (length entries) max_entries && list_all is_in_range entries
 
 -- the stripes and the entries that a value is: members in this order, then the entries, then the ranges
 unfoldable pub entries_of : Data → Result (ℕ × List Entry) FileFault

@@ -19,13 +19,10 @@ use crate::stop::Stop;
 use json::{Reader, Token};
 use serde_json::Value;
 use std::alloc::Global;
-use txn_trace::Entry;
+use txn_trace::{Entry, Limits};
 
 /// The largest number that a caller may have.
-const MAX_CALLER: u64 = 63;
-
-/// How many stripes a history may have.
-const MAX_STRIPES: u64 = 4096;
+const MAX_CALLER: u64 = Limits::MAX_CALLERS - 1;
 
 /// How many entries a file may have.
 const MAX_ENTRIES: usize = 1_000_000;
@@ -137,7 +134,10 @@ fn are_in_range(entries: &[Entry]) -> bool
 fn is_history(stripes: u64, entries: &[Entry]) -> bool
     ensures { result ≡ is_history stripes entries.now }
 {
-    1 <= stripes && stripes <= MAX_STRIPES && entries.len() <= MAX_ENTRIES && are_in_range(entries)
+    1 <= stripes
+        && stripes <= Limits::MAX_STRIPES
+        && entries.len() <= MAX_ENTRIES
+        && are_in_range(entries)
 }
 
 /// The members of a history file.

@@ -15,7 +15,7 @@ use Rattle.txn_trace.specs.Serial.{serial}
 use Rattle.txn_trace.specs.Now.{now}
 use Rattle.txn_trace.specs.Shape.{Seat, Waiting, seat_after, own, is_shaped}
 use Rattle.txn_trace.specs.Legal.{IsLegal}
-use Rattle.txn_trace.proofs.Maps.{same_map, get-insert, get-remove}
+use Rattle.txn_trace.proofs.Maps.{same_map, none_is, get-insert, get-remove}
 use Rattle.txn_trace.proofs.Pushes.{txn_in, alone-push}
 use Rattle.txn_trace.proofs.Callers.{ended}
 use Rattle.txn_trace.proofs.Local.{RunsAlike, alone_alike, WaitsFor}
@@ -26,10 +26,6 @@ use Rattle.txn_trace.proofs.Fits.{Fits, PhaseFits}
 use Rattle.txn_trace.proofs.Seated.{are_seated, the_some}
 use Rattle.txn_trace.proofs.Judging.{legal_push, shape_push, locks_push}
 use Rattle.txn_trace.proofs.Others.{replies-push_other, now_at-push}
-
-none_is : (o : Option ℕ) → is_some o ≡ false → o ≡ None
-none_is None h = refl
-none_is (Some v) h = absurd (false≢true (sym h))
 
 -- An operation that is no change leaves the map.
 pub after_unchanged : (m : Map) (op : Op) → is_change m op ≡ false → after m op ≡ m

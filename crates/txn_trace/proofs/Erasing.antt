@@ -1,9 +1,7 @@
 -- What is left of a history when the entries of some transactions are left out.
 use Rattle.std.proofs.Common.{◌≡◌, ℕ, Bool, true, false, cond, not, ◌||◌, ◌==◌, List, [], ◌∷◌, map, refl, ap, sym, ◌∙◌, Some, None, Option}
-use Rattle.std.specs.Option.{option_eq}
 use Rattle.std.specs.List.{filter, filter_map, fold, cons_option}
-use Rattle.std.proofs.lemmas.Bool.{false≢true, eqb-true, eq-eqb}
-use Rattle.std.specs.Prelude.{nat_eq}
+use Rattle.std.proofs.lemmas.Bool.{false≢true, eq-eqb}
 use Rattle.txn_trace.specs.declared.entry.Entry.{Entry}
 use Rattle.txn_trace.specs.declared.entry.Entry.TheVariants.{Began, Aborted}
 use Rattle.txn_trace.specs.Map.{empty}
@@ -13,6 +11,7 @@ use Rattle.txn_trace.specs.Serial.{serial}
 use Rattle.txn_trace.specs.Now.{open_maps, now}
 use Rattle.txn_trace.proofs.Maps.{overlaid}
 use Rattle.txn_trace.proofs.Lists.{filter_within, fold_filter, map_filter}
+use Rattle.txn_trace.proofs.Pushes.{of_is}
 
 -- The lines whose transaction passes the test, and the history of their entries.
 abbrev pub kept_lines : (Option ℕ → Bool) → (ℕ → Option ℕ) → List Entry → List Line
@@ -53,10 +52,6 @@ lines_from-kept keep before there same (e ∷ h) =
       | true ↦ λ is i. record { txn = agree_both keep before there e same (caller_of e) is i; entry = e } ∷ lines_from-kept keep now (txn_after there e) (agree_both keep before there e same) h i
       | false ↦ λ is. lines_from-kept keep now there (agree_left keep before there e same is) h
     ] refl
-
-of_is : (t : ℕ) (o : Option ℕ) → option_eq nat_eq o (Some t) ≡ true → o ≡ Some t
-of_is t None is = absurd (false≢true is)
-of_is t (Some u) is = ap Some (eqb-true u t is)
 
 -- A transaction's lines are all kept, or none.
 pub filter_of_kept : (keep : Option ℕ → Bool) (t : ℕ) (lines : List Line) → filter (is_of t) (filter (λ line. keep line.txn) lines) ≡ cond (keep (Some t)) (filter (is_of t) lines) []

@@ -17,10 +17,10 @@ use Rattle.txn_trace.specs.Locks.{stripe_of, asks_in, is_in_open, holders, holde
 use Rattle.txn_trace.specs.Shape.{Waiting, Seat, seat_after, own, IsShaped, is_shaped}
 use Rattle.txn_trace.specs.Log.{log_after, log_of}
 use Rattle.txn_trace.specs.Legal.{IsLegal, runs, is_running}
-use Rattle.txn_trace.proofs.Pushes.{txn_in, txn_at}
+use Rattle.txn_trace.proofs.Pushes.{txn_in, txn_at, of_is}
 use Rattle.txn_trace.proofs.Callers.{same as same_caller, not_after_end, Callers, callers_of, IsOwned, ended}
 use Rattle.txn_trace.proofs.Local.{WaitsFor}
-use Rattle.txn_trace.proofs.Stripes.{are_apart, untouched, holds, keys_in, of_is}
+use Rattle.txn_trace.proofs.Stripes.{are_apart, untouched, holds, keys_in}
 use Rattle.txn_trace.proofs.Now.{open_going, going_open, running_of, now_at-push_commit}
 use Rattle.txn_trace.proofs.Table.{get-now}
 use Rattle.txn_trace.proofs.Others.{now_at-push_else}

@@ -14,6 +14,7 @@ use Rattle.txn_trace.specs.Map.{key_of}
 use Rattle.txn_trace.specs.History.{Line, caller_of, is_open, lines_of}
 use Rattle.txn_trace.specs.Locks.{stripe_of, asks_in, is_in_open, holders, holder_of, is_locked, LocksHold}
 use Rattle.txn_trace.specs.Shape.{is_shaped, IsShaped}
+use Rattle.txn_trace.proofs.Lists.{map_one}
 use Rattle.txn_trace.proofs.Pushes.{txn_in, txn_at, lines_of-push}
 use Rattle.txn_trace.proofs.Callers.{Callers, IsOwned, is_end, ended, is_open-ended, ended_in, ended_out, not_ended_before, in_or_out, end_not_began, at_is, not_began_is, some_same}
 use Rattle.txn_trace.proofs.Now.{any-filter_back, going_open}
@@ -29,10 +30,6 @@ holds_it stripes s g line = asks_in stripes s line.entry && is_in_open g line
 filter_same : {X : Type 0} (p q : X → Bool) (xs : List X) → ((x : X) → p x ≡ q x) → filter p xs ≡ filter q xs
 filter_same p q xs same i = filter (λ x. same x i) xs
 
-map_one : (b : Bool) (line : Line) → map caller_on (cond b (line ∷ []) []) ≡ cond b (caller_on line ∷ []) []
-map_one true line = refl
-map_one false line = refl
-
 module _ (stripes s : ℕ) (g : List Entry) (e : Entry) where
   -- The holders among the earlier lines, and the caller of the entry where it asks for a key of the stripe.
   holders-split : holders stripes s (g ++ e ∷ []) ≡ map caller_on (filter (holds_it stripes s (g ++ e ∷ [])) (lines_of g)) ++ cond (holds_it stripes s (g ++ e ∷ []) (record { txn = txn_at g e; entry = e })) (caller_of e ∷ []) []
@@ -42,7 +39,7 @@ module _ (stripes s : ℕ) (g : List Entry) (e : Entry) where
       ap (λ ls. map caller_on (filter (holds_it stripes s (g ++ e ∷ [])) ls)) (lines_of-push g e)
       ∙ ap (map caller_on) (filter-append (holds_it stripes s (g ++ e ∷ [])) (lines_of g) (line ∷ []))
       ∙ map-append caller_on (filter (holds_it stripes s (g ++ e ∷ [])) (lines_of g)) _
-      ∙ ap (λ xs. front ++ xs) (map_one (holds_it stripes s (g ++ e ∷ []) line) line)
+      ∙ ap (λ xs. front ++ xs) (map_one caller_on (holds_it stripes s (g ++ e ∷ []) line) line)
 
 module _ (stripes : ℕ) (g : List Entry) (e : Entry) (callers : Callers g) (shaped : is_shaped g e ≡ true) where
   pub ended-push : is_end e ≡ false → (u : ℕ) → ended u (g ++ e ∷ []) ≡ ended u g

@@ -14,10 +14,9 @@ use Rattle.txn_trace.specs.Replies.{RepliesHoldAt}
 use Rattle.txn_trace.specs.Locks.{LocksHold, is_locked}
 use Rattle.txn_trace.specs.Shape.{is_shaped, IsShaped}
 use Rattle.txn_trace.specs.Legal.{IsLegal, replies_hold, broken, first_bad}
-use Rattle.txn_trace.proofs.Pushes.{txn_in}
+use Rattle.txn_trace.proofs.Pushes.{txn_in, of_is}
 use Rattle.txn_trace.proofs.Callers.{callers_of, IsOwned, ended}
 use Rattle.txn_trace.proofs.Steps.{are_listed}
-use Rattle.txn_trace.proofs.Stripes.{of_is}
 use Rattle.txn_trace.proofs.Now.{any-filter, going_open}
 
 -- A beginning of a history with one more entry.

@@ -203,13 +203,6 @@ module _ (stripes : ℕ) (g : List Entry) (legal : IsLegal stripes g) (e : Entry
     pub still_next : is_quiet e ≡ true → is_locked stripes g e ≡ true → ((s : ℕ) → asks_in stripes s e ≡ false) → Next stripes g e next (log_of (caller_of e) g) (serial g) (now g) (λ s. holder_of stripes s g)
     still_next quiet locked asks = quiet_next (λ s. holder_of stripes s g) quiet locked (λ s. holder_of-other stripes g e callers shaped_by_row legal.shape legal.locks s (quiet_goes e quiet).1 (asks s))
 
--- The entries of another transaction stay; those of the entry's transaction are one more.
-pub of-other : (u : ℕ) (g : List Entry) (e : Entry) → txn_at g e ≢ Some u → of u (g ++ e ∷ []) ≡ of u g
-of-other u g e away = of-push_out u g e away
-
-pub of-own : (t : ℕ) (g : List Entry) (e : Entry) → txn_at g e ≡ Some t → of t (g ++ e ∷ []) ≡ of t g ++ e ∷ []
-of-own t g e at = of-push_in t g e at
-
 -- Under an entry that commits nothing the run of another transaction stays, and that of the entry's transaction acts on it.
 pub run-other : (stripes : ℕ) (g : List Entry) → IsLegal stripes g → (e : Entry) (t u : ℕ) → is_shaped g e ≡ true → is_commit e ≡ false → txn_at g e ≡ Some t → u ≢ t
     → alone (serial (g ++ e ∷ [])) (of u (g ++ e ∷ [])) ≡ alone (serial g) (of u g)

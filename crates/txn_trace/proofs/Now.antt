@@ -15,10 +15,10 @@ use Rattle.txn_trace.specs.Replies.{RepliesHoldAt}
 use Rattle.txn_trace.specs.Locks.{stripe_of, asks_in, LocksHold}
 use Rattle.txn_trace.specs.Shape.{is_shaped, IsShaped}
 use Rattle.txn_trace.specs.Legal.{running}
-use Rattle.txn_trace.proofs.Pushes.{txn_in, txn_at, of-push_in, of-push_out}
+use Rattle.txn_trace.proofs.Pushes.{txn_in, txn_at, of_is, of-push_in, of-push_out}
 use Rattle.txn_trace.proofs.Callers.{Callers, callers_of, IsOwned, is_end, ended, is_open-ended, ended_in, not_ended_before}
 use Rattle.txn_trace.proofs.Steps.{are_listed, txns_of-push, any-append_left, serial-push_commit, map_after-commit}
-use Rattle.txn_trace.proofs.Stripes.{keys_in, of_is, Apart, are_apart, untouched, touched, runs_there}
+use Rattle.txn_trace.proofs.Stripes.{keys_in, Apart, are_apart, untouched, touched, runs_there}
 
 pub same_option : (a b : Option ℕ) → option_eq nat_eq a b ≡ true → a ≡ b
 same_option None None is = refl

@@ -89,7 +89,7 @@ none_below k (row ∷ rows) is =
     ap (λ b. cond b (Some row.1) (find nat_cmp k rows)) (unsigned_tied k row.0 ∙ ne_eqb k row.0 (λ same. not_below_itself k (subst (λ x. T (is_lt (nat_cmp k x))) (sym same) parts.0))) ∙ none_below k rows parts.1
 
 -- What is put last stands.
-abbrev or_else : Option ℕ → Option ℕ → Option ℕ
+abbrev pub or_else : Option ℕ → Option ℕ → Option ℕ
 or_else None y = y
 or_else (Some v) y = Some v
 
@@ -108,7 +108,7 @@ value_at-puts k (row ∷ rows) es is =
           ∙ sym (ap (λ b. or_else (cond b (Some row.1) (find nat_cmp k rows)) (value_at k es)) (unsigned_tied k row.0 ∙ ne_eqb k row.0 other))
     ]
 
-or_else_none : (o : Option ℕ) → or_else o None ≡ o
+pub or_else_none : (o : Option ℕ) → or_else o None ≡ o
 or_else_none None = refl
 or_else_none (Some v) = refl
 

@@ -1,18 +1,19 @@
 -- Which scripts the transactions of one caller play, told from the caller's own entries.
-use Rattle.std.proofs.Common.{◌≡◌, ℕ, ◌<◌, ◌≤◌, ◌⊎◌, ◌==◌, ◌&&◌, Bool, true, false, cond, if◌then◌else◌, not, List, [], ◌∷◌, ◌++◌, length, Some, None, Option, refl, sym, ap, subst, ◌∙◌, inl, inr, arith}
+use Rattle.std.proofs.Common.{◌≡◌, ℕ, ◌<◌, ◌≤◌, ◌⊎◌, ◌==◌, ◌&&◌, Bool, true, false, cond, List, [], ◌∷◌, ◌++◌, length, Some, None, Option, refl, sym, ap, subst, ◌∙◌, inl, inr, arith}
 use Prim.Native.Nat.{suc}
-use Rattle.std.specs.List.{fold, filter_map, cons_option, AllByRecursion}
+use Rattle.std.specs.List.{filter_map, cons_option, AllByRecursion}
 use Rattle.std.proofs.lemmas.Bool.{eqb-true, eq-eqb, false≢true}
+use Rattle.std.proofs.Math.Bool.{and-false}
 use Rattle.std.proofs.lemmas.List.{append-nil}
 use Rattle.std.proofs.lemmas.List.Sums.{fold-append}
 use Rattle.txn_trace.specs.declared.action.Action.{Action}
 use Rattle.txn_trace.specs.declared.entry.Entry.{Entry}
 use Rattle.txn_trace.specs.declared.entry.Entry.TheVariants.{Began, Committed}
-use Rattle.txn_trace.specs.History.{Line, caller_of, is_began, is_commit, lines_of, ends_in, of, txns_of, is_committed}
+use Rattle.txn_trace.specs.History.{Line, caller_of, is_began, is_commit, lines_of, ends_in, of, is_committed}
 use Rattle.txn_trace.specs.Shape.{own, is_shaped, IsShaped}
 use Rattle.txn_trace.specs.Plays.{without_undone, IsPlayed, is_commit_of, commits_of, IsScriptOf, PlayRising, PlayScripts, part_after, parts_of, PlaysPart, HavePlayed}
 use Rattle.txn_trace.proofs.Pushes.{txn_in, txn_at, of-push_in, of-push_out, own-push_in, own-push_out, ends_in-push}
-use Rattle.txn_trace.proofs.Callers.{ended, Callers, at_is, began_or_not, not_began_is, not_equal, not_after_end, ended_stays, step, same as one_caller, committed_ended}
+use Rattle.txn_trace.proofs.Callers.{Callers, at_is, began_or_not, not_began_is, not_equal, not_after_end, ended_stays, step, same as one_caller, committed_ended}
 use Rattle.txn_trace.proofs.Steps.{AreCommitted, are_committed, txns_of-push}
 use Rattle.txn_trace.proofs.Inductions.{by_entries}
 use Rattle.txn_trace.proofs.Running.{has_txn}
@@ -98,10 +99,6 @@ commit_or_not _ = inr refl
 mine_or_not : (c d : ℕ) → (c ≡ d) ⊎ ((c == d) ≡ false)
 mine_or_not c d = elim (c == d) as (λ b. (c == d) ≡ b → (c ≡ d) ⊎ ((c == d) ≡ false)) [ true ↦ λ is. inl (eqb-true c d is) | false ↦ λ is. inr is ] refl
 
-and_false : (b d : Bool) → d ≡ false → (b && d) ≡ false
-and_false true d is = is
-and_false false d is = refl
-
 and_true : (b d : Bool) → b ≡ true → d ≡ true → (b && d) ≡ true
 and_true true d is js = js
 and_true false d is js = absurd (false≢true is)
@@ -166,7 +163,7 @@ module _ (callers : ℕ) (scripts : List (List Action)) (c : ℕ) where
   told_push : (g : List Entry) (e : Entry) → IsShaped g → Callers g → is_shaped g e ≡ true → IsTold g → IsTold (g ++ e ∷ [])
   told_push g e shape owners shaped told high played = elim (mine_or_not (caller_of e) c) [
     | inr other ↦
-        stays (and_false (is_commit e) (caller_of e == c) other) (told high (subst (λ es. HavePlayed callers scripts c high (parts_of es)) (own-push_out c g e other) played))
+        stays (ap (λ d. is_commit e && d) other ∙ and-false (is_commit e)) (told high (subst (λ es. HavePlayed callers scripts c high (parts_of es)) (own-push_out c g e other) played))
     | inl mine ↦
         let longer : parts_of (own c (g ++ e ∷ [])) ≡ part_after (parts_of (own c g)) e = ap parts_of (own-push_in c g e mine) ∙ parts_of-push (own c g) e in
         elim (began_or_not e) [

@@ -3,7 +3,7 @@ use Rattle.std.proofs.Common.{◌≡◌, ℕ, ◌+◌, Bool, true, false, cond, 
 use Rattle.std.specs.Option.{option_eq, option_and_then}
 use Rattle.std.specs.List.{filter, fold}
 use Rattle.std.specs.Prelude.{nat_eq}
-use Rattle.std.proofs.lemmas.Bool.{eqb-true, eq-eqb}
+use Rattle.std.proofs.lemmas.Bool.{false≢true, eqb-true, eq-eqb}
 use Rattle.std.proofs.lemmas.List.{append-nil, map-append}
 use Rattle.std.proofs.lemmas.List.Elements.{filter-append}
 use Rattle.std.proofs.lemmas.List.Sums.{fold-append}
@@ -12,6 +12,7 @@ use Rattle.txn_trace.specs.Map.{Map}
 use Rattle.txn_trace.specs.History.{Line, caller_of, txn_after, lines_from, lines_of, is_of, of, ends_in}
 use Rattle.txn_trace.specs.Alone.{act, alone}
 use Rattle.txn_trace.specs.Shape.{row, seat_after, own, how_many}
+use Rattle.txn_trace.proofs.Lists.{map_one}
 
 abbrev pub no_txn : ℕ → Option ℕ
 no_txn c = None
@@ -34,10 +35,6 @@ lines_of-push g e = lines_from-append no_txn g (e ∷ [])
 pub txn_in-push : (g : List Entry) (e : Entry) → txn_in (g ++ e ∷ []) ≡ txn_after (txn_in g) e
 txn_in-push g e = fold-append txn_after no_txn g (e ∷ [])
 
-map_one : {X Y : Type 0} (f : X → Y) (b : Bool) (x : X) → map f (cond b (x ∷ []) []) ≡ cond b (f x ∷ []) []
-map_one f true x = refl
-map_one f false x = refl
-
 pub of-push : (t : ℕ) (g : List Entry) (e : Entry) → of t (g ++ e ∷ []) ≡ of t g ++ cond (option_eq nat_eq (txn_at g e) (Some t)) (e ∷ []) []
 of-push t g e =
     let f : Line → Entry = λ l. l.entry in
@@ -52,6 +49,10 @@ some_itself t o is = ap (λ p. option_eq nat_eq p (Some t)) is ∙ eq-eqb t t re
 some_other : (t : ℕ) (o : Option ℕ) → (o ≡ Some t → ⊥) → option_eq nat_eq o (Some t) ≡ false
 some_other t None apart = refl
 some_other t (Some u) apart = elim (nat_eq u t) as (λ b. nat_eq u t ≡ b → b ≡ false) [ true ↦ λ is. absurd (apart (ap Some (eqb-true u t is))) | false ↦ λ is. refl ] refl
+
+pub of_is : (t : ℕ) (o : Option ℕ) → option_eq nat_eq o (Some t) ≡ true → o ≡ Some t
+of_is t None is = absurd (false≢true is)
+of_is t (Some u) is = ap Some (eqb-true u t is)
 
 -- An entry of the transaction, and one of another.
 pub of-push_in : (t : ℕ) (g : List Entry) (e : Entry) → txn_at g e ≡ Some t → of t (g ++ e ∷ []) ≡ of t g ++ e ∷ []

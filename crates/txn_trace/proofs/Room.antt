@@ -9,13 +9,21 @@ use Rattle.txn_trace.specs.declared.entry.Entry.{Entry}
 use Rattle.txn_trace.specs.declared.entry.Entry.TheVariants.{Began, Asked, Did, Saved, Leave, Undone, Returned, Committed, Busy, Aborted}
 use Rattle.txn_trace.specs.History.{caller_of}
 use Rattle.txn_trace.specs.Shape.{Phase, Closed, Opened, Waiting, LeavingTo, LeavingToEnd, Seat, closed_seat, changes, row, seat_after, own, is_shaped, IsShaped}
-use Rattle.txn_trace.specs.Owed.{owed_for, owed_in, owed_by, owed, reserved_for}
+use Rattle.txn_trace.specs.Owed.{owed_for, owed_in, owed_by, owed}
 use Rattle.txn_trace.proofs.Callers.{shaped_seat}
 use Rattle.txn_trace.proofs.Pushes.{own-push_in, seat_after-push}
 use Rattle.txn_trace.proofs.Next.{seat-other}
 use Rattle.txn_trace.proofs.Running.{has_seat}
 use Rattle.txn_trace.proofs.Seated.{the_some}
 use Rattle.txn_trace.proofs.Sums.{sum_at}
+
+-- How many entries are reserved for an entry: itself and what is owed more after it; none for those that are owed already.
+abbrev pub reserved_for : Entry → ℕ
+reserved_for (Began c t) = 3
+reserved_for (Asked c op) = 1 + owed_for op
+reserved_for (Saved c) = 1
+reserved_for (Leave c (Some n)) = 2
+reserved_for _ = 0
 
 abbrev pub FitsIn : ℕ → Option Seat → Type 0
 FitsIn room None = Unit {0}

@@ -1,7 +1,5 @@
 -- Open transactions have asked for keys of different stripes, and each changes only keys of its own.
 use Rattle.std.proofs.Common.{◌≡◌, ℕ, ◌==◌, Bool, true, false, cond, not, ◌&&◌, List, [], ◌∷◌, ◌++◌, map, refl, ap, sym, subst, ◌∙◌, Some, None, Option, IsSome, append_assoc}
-use Rattle.std.specs.Option.{option_eq}
-use Rattle.std.specs.Prelude.{nat_eq}
 use Rattle.std.specs.List.{filter, list_any, list_all, AllByRecursion}
 use Rattle.std.proofs.lemmas.Bool.{false≢true, eq-eqb, eqb-true, or_left, or_right, and_parts, or_cases}
 use Rattle.std.proofs.lemmas.List.{append-nil}
@@ -13,7 +11,7 @@ use Rattle.txn_trace.specs.History.{Line, caller_of, lines_of, is_of, of}
 use Rattle.txn_trace.specs.Alone.{Run, alone, map_after, last_map}
 use Rattle.txn_trace.specs.Locks.{stripe_of, asks_in, is_in_open, is_locked, LocksHold}
 use Rattle.txn_trace.specs.Shape.{is_shaped, IsShaped}
-use Rattle.txn_trace.proofs.Pushes.{txn_in, txn_at, of-push_in, of-push_out}
+use Rattle.txn_trace.proofs.Pushes.{txn_in, txn_at, of_is, of-push_in, of-push_out}
 use Rattle.txn_trace.proofs.Callers.{Callers, callers_none, callers_push, IsOwned, ended, is_open-ended, in_or_out, not_ended_before}
 use Rattle.txn_trace.proofs.Local.{AsksFor, AllAskFor, RunsAlike, alone_alike}
 
@@ -23,10 +21,6 @@ holds stripes s es = list_any (asks_in stripes s) es
 
 abbrev pub keys_in : ℕ → List Entry → ℕ → Bool
 keys_in stripes es k = holds stripes (stripe_of stripes k) es
-
-pub of_is : (t : ℕ) (o : Option ℕ) → option_eq nat_eq o (Some t) ≡ true → o ≡ Some t
-of_is t None is = absurd (false≢true is)
-of_is t (Some u) is = ap Some (eqb-true u t is)
 
 -- Where each holder of a stripe is c, a transaction that holds it is that of c.
 holder_is : (stripes s c u : ℕ) (g : List Entry) → ended u g ≡ false → (ls : List Line) → AllByRecursion (IsOwned g) ls

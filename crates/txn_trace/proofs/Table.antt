@@ -1,5 +1,5 @@
 -- The map as it is now has at each key what is said of it there.
-use Rattle.std.proofs.Common.{◌≡◌, ℕ, ◌==◌, true, false, cond, ◌||◌, List, [], ◌∷◌, refl, ap, sym, ◌∙◌, Some, None, Option, is_some}
+use Rattle.std.proofs.Common.{◌≡◌, ℕ, ◌==◌, true, false, cond, ◌||◌, List, [], ◌∷◌, refl, ap, sym, ◌∙◌, Some, None, Option}
 use Rattle.std.specs.Ordering.{nat_cmp, eq_by_cmp}
 use Rattle.std.specs.Cmp.{unsigned_tied}
 use Rattle.std.specs.FinMap.Entries.{is_some-find}
@@ -11,7 +11,7 @@ use Rattle.txn_trace.specs.declared.entry.Entry.{Entry}
 use Rattle.txn_trace.specs.Map.{Map, empty, get, keys}
 use Rattle.txn_trace.specs.Serial.{serial}
 use Rattle.txn_trace.specs.Now.{first_differing, set_at, open_maps, now, now_at}
-use Rattle.txn_trace.proofs.Maps.{get-insert, get-remove, overlaid}
+use Rattle.txn_trace.proofs.Maps.{none_is, get-insert, get-remove, overlaid}
 use Rattle.txn_trace.proofs.Now.{same_is}
 
 pub get-set_at : (m : Map) (j : ℕ) (o : Option ℕ) (k : ℕ) → get (set_at m j o) k ≡ cond (k == j) o (get m k)
@@ -37,10 +37,6 @@ module _ (f : ℕ → Option ℕ) (k : ℕ) where
 any_same : (k : ℕ) (ks : List ℕ) → list_any (eq_by_cmp nat_cmp k) ks ≡ list_any (λ j. k == j) ks
 any_same k [] = refl
 any_same k (j ∷ ks) = ap (λ b. b || list_any (eq_by_cmp nat_cmp k) ks) (unsigned_tied k j) ∙ ap (λ b. (k == j) || b) (any_same k ks)
-
-none_is : (o : Option ℕ) → is_some o ≡ false → o ≡ None
-none_is None h = refl
-none_is (Some v) h = absurd (false≢true (sym h))
 
 absent : (m : Map) (k : ℕ) → list_any (λ j. k == j) (keys m) ≡ false → get m k ≡ None
 absent m k out = none_is (get m k) (is_some-find nat_cmp k m.rows ∙ any_same k (keys m) ∙ out)

@@ -1,5 +1,5 @@
 -- Finite maps from numbers to numbers, and what an operation answers and leaves.
-use Rattle.std.specs.Prelude.{ℕ, Bool, true, false, not, Option, is_some, IsTrue, T, List, [], map, length}
+use Rattle.std.specs.Prelude.{ℕ, Bool, true, false, not, Option, is_some, T, List, [], map, length}
 use Rattle.std.specs.FinMap.Entries.{find, put, where_key, is_sorted, is_sorted-put, is_sorted-where_key}
 use Rattle.std.specs.Ordering.{nat_cmp, eq_by_cmp}
 use Rattle.std.specs.Cmp.{nat_cmp_total}
@@ -56,7 +56,3 @@ abbrev pub is_change : Map → Op → Bool
 is_change m (Put k v) = true
 is_change m (Take k) = is_some (get m k)
 is_change m (Get k) = false
-
--- The operation is a change on the map.
-abbrev pub IsChange : Map → Op → Type 0
-IsChange m op = IsTrue (is_change m op)

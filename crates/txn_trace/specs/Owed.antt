@@ -4,7 +4,6 @@ use Rattle.std.specs.List.{sum_by, range_with_len}
 use Rattle.txn_trace.specs.declared.op.Op.{Op}
 use Rattle.txn_trace.specs.declared.op.Op.TheVariants.{Put, Take, Get}
 use Rattle.txn_trace.specs.declared.entry.Entry.{Entry}
-use Rattle.txn_trace.specs.declared.entry.Entry.TheVariants.{Began, Asked, Saved, Leave}
 use Rattle.txn_trace.specs.Shape.{Phase, Closed, Opened, Waiting, LeavingTo, LeavingToEnd, Seat, seat_after, own}
 
 -- For an operation that waits: its reply, and for one that may change, the undoing of it.
@@ -29,11 +28,3 @@ owed_by (Some s) = owed_in s.standing s.phase
 -- The sum over all callers, numbered from 0.
 abbrev pub owed : ℕ → List Entry → ℕ
 owed callers h = sum_by (λ c. owed_by (seat_after (own c h))) (range_with_len 0 callers)
-
--- How many entries are reserved for an entry: itself and what is owed more after it; none for those that are owed already.
-abbrev pub reserved_for : Entry → ℕ
-reserved_for (Began c t) = 3
-reserved_for (Asked c op) = 1 + owed_for op
-reserved_for (Saved c) = 1
-reserved_for (Leave c (Some n)) = 2
-reserved_for _ = 0

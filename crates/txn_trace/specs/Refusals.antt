@@ -1,5 +1,5 @@
--- The number of each refusal.
-use Rattle.std.specs.Prelude.{ℕ}
+-- The number of each refusal, and its text.
+use Rattle.std.specs.Prelude.{ℕ, List, decimal}
 use Rattle.txn_trace.specs.declared.refusal.Refusal.{Refusal}
 use Rattle.txn_trace.specs.declared.refusal.Refusal.TheVariants.{BadKey, NoSuchCaller, NotOpen, AlreadyOpen, OperationUnfinished, Leaving, Unplaced, NothingToSeek, NoSuchLevel, NoSuchBucket, ParentMissing, NoSuchHelper, HelperOutOfOrder, NoMemory, OutOfStep, StampsUsedUp, CallersMissing, NoThread, StaleWord, NotJson, WrongShape, Limit}
 
@@ -27,3 +27,7 @@ number_of StaleWord = 19
 number_of NotJson = 20
 number_of WrongShape = 21
 number_of Limit = 22
+
+-- The text of a refusal: its number.
+abbrev pub words_of : Refusal → List ℕ
+words_of refusal = decimal (number_of refusal)

@@ -13,9 +13,21 @@ pub record Sizes : Type 0 where
 abbrev is_within : ℕ → ℕ → ℕ → Bool
 is_within low high n = nat_le low n && nat_le n high
 
--- 1 to 64 callers, 1 to 4,096 stripes, and a power of two of buckets from 2 to 65,536
+-- How many callers there may be.
+abbrev pub max_callers : ℕ
+max_callers = 64
+
+-- How many stripes there may be.
+abbrev pub max_stripes : ℕ
+max_stripes = 4096
+
+-- How many buckets there may be.
+abbrev pub max_buckets : ℕ
+max_buckets = 65536
+
+-- A caller or more, a stripe or more, a power of two of buckets from 2 on, and no more of each than there may be.
 abbrev pub are_limits : ℕ → ℕ → ℕ → Bool
-are_limits callers stripes buckets = is_within 1 64 callers && is_within 1 4096 stripes && is_within 2 65536 buckets && is_power_of_two buckets
+are_limits callers stripes buckets = is_within 1 max_callers callers && is_within 1 max_stripes stripes && is_within 2 max_buckets buckets && is_power_of_two buckets
 
 -- the numbers as limits, where they are in range
 abbrev pub limits_of : ℕ → ℕ → ℕ → Result Sizes Refusal

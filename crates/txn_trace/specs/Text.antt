@@ -2,7 +2,7 @@
 use Rattle.std.specs.Prelude.{ℕ, List, ◌++◌, Some, None, codes, decimal}
 use Rattle.txn_trace.specs.declared.answer.Answer.{Answer}
 use Rattle.txn_trace.specs.declared.answer.Answer.TheVariants.{Began, Asked, Busy, Placed, Again, Done, Undone, Returned, Aborted, Saved, Leaving, Committed, Swept, Clean, Ready, Present, Linked, Stored, Moved, AtLimit, Light, Doubled, Refused}
-use Rattle.txn_trace.specs.Refusals.{number_of}
+use Rattle.txn_trace.specs.Refusals.{words_of}
 
 -- The text of an answer: words and decimal numbers.
 abbrev pub text_of : Answer → List ℕ
@@ -29,4 +29,4 @@ text_of (Moved n) = codes "moved " ++ decimal n
 text_of AtLimit = codes "at limit"
 text_of Light = codes "light"
 text_of (Doubled n) = codes "doubled " ++ decimal n
-text_of (Refused refusal) = codes "refused " ++ decimal (number_of refusal)
+text_of (Refused refusal) = codes "refused " ++ words_of refusal

@@ -87,10 +87,7 @@ impl fmt::Display for Answer {
             Answer::AtLimit => write!(f, "at limit"),
             Answer::Light => write!(f, "light"),
             Answer::Doubled(size) => write!(f, "doubled {size}"),
-            Answer::Refused(refusal) => {
-                let number = refusal.number();
-                write!(f, "refused {number}")
-            }
+            Answer::Refused(refusal) => write!(f, "refused {refusal}"),
         }
     }
 }

@@ -23,16 +23,25 @@ impl Model for Limits {
 }
 
 impl Limits {
-    /// Limits that are in range: 1 to 64 callers, 1 to 4,096 stripes, and as the largest size a power of
-    /// two from 2 to 65,536 buckets.
+    /// How many callers there may be.
+    pub const MAX_CALLERS: u64 = 64;
+
+    /// How many stripes there may be.
+    pub const MAX_STRIPES: u64 = 4096;
+
+    /// How many buckets there may be. It is a power of two.
+    pub const MAX_BUCKETS: u64 = 65536;
+
+    /// Limits that are in range: 1 to `MAX_CALLERS` callers, 1 to `MAX_STRIPES` stripes, and as the largest size a
+    /// power of two from 2 to `MAX_BUCKETS` buckets.
     ///
     /// `Refusal::Limit` where a number is out of range. Fixed cost.
     pub fn new(callers: u64, stripes: u64, buckets: u64) -> Result<Limits, Refusal>
         ensures { result ≡ limits_of callers stripes buckets }
     {
-        let are_in_range = (1 <= callers && callers <= 64)
-            && (1 <= stripes && stripes <= 4096)
-            && (2 <= buckets && buckets <= 65536)
+        let are_in_range = (1 <= callers && callers <= Limits::MAX_CALLERS)
+            && (1 <= stripes && stripes <= Limits::MAX_STRIPES)
+            && (2 <= buckets && buckets <= Limits::MAX_BUCKETS)
             && buckets.is_power_of_two();
         if !are_in_range {
             return Err(Refusal::Limit);

@@ -1,7 +1,10 @@
 ghost use Rattle.std.specs.Prelude.{◌≡◌};
-ghost use Rattle.txn_trace.specs.Refusals.{number_of};
+ghost use Rattle.txn_trace.specs.Refusals.{number_of, words_of};
 
-/// Why a call was refused. Each has a number, by which answers and programs name it.
+use std::error::Error;
+use std::fmt;
+
+/// Why a call was refused. Each has a number, by which answers and programs name it, and is printed as that number.
 #[derive(Clone, Copy, Debug, PartialEq, Eq)]
 pub enum Refusal {
     /// 1: the key is 2^63 or more.
@@ -49,6 +52,18 @@ pub enum Refusal {
     /// 22: a file, or one of its numbers, is out of range.
     Limit,
 }
+
+impl fmt::Display for Refusal {
+    ghost use Rattle.std.specs.Prelude.{Some};
+
+    ghost output = { λ refusal. Some (words_of refusal) };
+
+    fn fmt<W: fmt::Write>(&self, f: &mut fmt::Formatter<W>) -> fmt::Result {
+        write!(f, "{}", self.number())
+    }
+}
+
+impl Error for Refusal {}
 
 impl Refusal {
     /// The refusal's number, from 1 to 22. Fixed cost.

@@ -73,6 +73,15 @@ fn numbers_of_refusals(rt: HostRuntime) {
 }
 
 #[test]
+fn refusals_as_text(rt: HostRuntime) -> Result<(), Fail> {
+    for (refusal, text) in [(Refusal::BadKey, "1"), (Refusal::Limit, "22")] {
+        let words = format!(in rt.alloc(); "{refusal}")?;
+        assert_eq!(rt; words.as_str(), text);
+    }
+    Ok(())
+}
+
+#[test]
 fn limits_in_range(rt: HostRuntime) {
     for (callers, stripes, buckets) in [(2, 8, 8), (1, 1, 2), (64, 4096, 65536)] {
         let made = Limits::new(callers, stripes, buckets);
