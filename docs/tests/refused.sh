@@ -14,6 +14,11 @@ trap 'rm -rf "$work"' EXIT
 # The tests: crate, file of src/, name.
 tests() {
   cat <<'END'
+key_locks tests a_stripe_is_held_until_its_holder_releases
+undo_log tests nine_jobs_come_out_newest_first
+undo_log tests a_savepoint_keeps_its_jobs
+undo_log tests side_value_returns
+undo_log tests a_settled_value_stays
 node_list tests refused_allocations
 bucket_table tests refused_allocations
 map_ops tests refused_memory_for_puts

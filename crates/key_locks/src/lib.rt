@@ -17,8 +17,8 @@
 //!  older     -     -     -     -     1     -     4     -       caller 0 holds 6, then 4, then 1
 //! ```
 //!
-//! So a lock takes a fixed number of steps, and giving a caller's stripes back takes one step for each of them, however
-//! many stripes there are. All memory is taken when the stripes are made.
+//! So a lock takes constant time, and giving a caller's stripes back takes time in proportion to those, however many
+//! stripes there are. All memory is taken when the stripes are made.
 //!
 //! Proved: a stripe has one holder at most; a lock is granted exactly where no other caller holds the stripe, and
 //! otherwise names that holder; each call says of every stripe who holds it afterwards.

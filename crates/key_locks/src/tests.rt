@@ -1,9 +1,22 @@
+ghost use Rattle.std.specs.Prelude.{◌≡◌, None, replicate, IfOk};
+
 use crate::{KeyLocks, LockAnswer};
+use std::alloc::Global;
 use std::test::Fail;
+
+/// So many free stripes; asks twice where memory is refused once.
+fn stripes(alloc: Global, count: usize) -> Result<KeyLocks, Fail>
+    ensures { IfOk result (λ locks. locks ≡ replicate count None) }
+{
+    if let Ok(locks) = KeyLocks::new(alloc, count) {
+        return Ok(locks);
+    }
+    Ok(KeyLocks::new(alloc, count)?)
+}
 
 #[test]
 fn a_stripe_is_held_until_its_holder_releases(rt: HostRuntime) -> Result<(), Fail> {
-    let mut locks = KeyLocks::new(rt.alloc(), 8)?;
+    let mut locks = stripes(rt.alloc(), 8)?;
     assert_eq!(rt; locks.lock(0, 1), LockAnswer::Granted);
     assert_eq!(rt; locks.lock(1, 2), LockAnswer::Granted);
     assert_eq!(rt; locks.lock(0, 4), LockAnswer::Granted);

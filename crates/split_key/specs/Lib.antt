@@ -1,2 +1,3 @@
 pub mod Split
 pub mod Swap
+pub mod Text

@@ -1,4 +1,5 @@
 ghost use Rattle.std.specs.Prelude.{◌≡◌, ℕ, ◌<◌, ◌≤◌, ◌^◌, MatchResult};
+ghost use Rattle.split_key.specs.Text.{bad_key_text};
 
 use std::fmt;
 use std::fmt::Display;
@@ -23,11 +24,15 @@ impl Model for Key {
     ghost inverse = { λ number. record { number = number } };
 }
 
-/// The number of no key: it is 2^63 or more.
+/// The error of a number that is no key, since it is 2^63 or more. It is printed as `a key is a number below 2^63`.
 #[derive(Clone, Copy, Debug, PartialEq, Eq)]
 pub struct BadKey;
 
 impl Display for BadKey {
+    ghost use Rattle.std.specs.Prelude.{Some};
+
+    ghost output = { λ _. Some bad_key_text };
+
     fn fmt<W: fmt::Write>(&self, f: &mut fmt::Formatter<W>) -> fmt::Result {
         f.write_str("a key is a number below 2^63")
     }
@@ -36,7 +41,11 @@ impl Display for BadKey {
 impl std::error::Error for BadKey {}
 
 impl Key {
-    /// The key with this number, or `BadKey` where the number is 2^63 or more.
+    /// The key with this number. Constant time.
+    ///
+    /// # Errors
+    ///
+    /// `BadKey` where the number is 2^63 or more.
     pub fn new(number: u64) -> Result<Key, BadKey>
         ensures { MatchResult result (λ key. (key ≡ number) × (number < 2 ^ 63)) (λ _. 2 ^ 63 ≤ number) }
     {
@@ -47,7 +56,7 @@ impl Key {
         }
     }
 
-    /// The key's number, below 2^63.
+    /// The key's number, below 2^63. Constant time.
     pub fn number(self) -> u64
         ensures same { result ≡ self }
         ensures below { result < 2 ^ 63 }

@@ -4,37 +4,35 @@
 //!
 //! A split key is a number's 64 bits in reverse order: a key's with its top bit set first, so that it is odd, and a
 //! bucket's as it is, so that it is even. Sorted by split keys, the keys of one bucket stand together, whatever power
-//! of two the table's size is, and right behind a dummy node of their bucket. In reverse, the digits of a split key
-//! begin with the lowest bits of the key, which say its bucket:
+//! of two the table's size is, and right behind a dummy node of their bucket: in reverse, the digits of a split key
+//! begin with the lowest bits of the key, which say its bucket. So the list of a table of size 4 with the keys 0 to 7
+//! is as follows, where a number is shown by its lowest four bits, and a split key by its first four and its last four:
 //!
 //! ```text
-//!  in the list  low bits  split key, hexadecimal    bucket at size 2   4   8
-//!  dummy 0        000     0000000000000000                         |   |   |
-//!  key   0        000     0000000000000001                         0   0   0
-//!  dummy 4        100     2000000000000000                         |   |   |
-//!  key   4        100     2000000000000001                         0   0   4
-//!  dummy 2        010     4000000000000000                         |   |   |
-//!  key   2        010     4000000000000001                         0   2   2
-//!  dummy 6        110     6000000000000000                         |   |   |
-//!  key   6        110     6000000000000001                         0   2   6
-//!  dummy 1        001     8000000000000000                         |   |   |
-//!  key   1        001     8000000000000001                         1   1   1
-//!  dummy 5        101     a000000000000000                         |   |   |
-//!  key   5        101     a000000000000001                         1   1   5
-//!  dummy 3        011     c000000000000000                         |   |   |
-//!  key   3        011     c000000000000001                         1   3   3
-//!  dummy 7        111     e000000000000000                         |   |   |
-//!  key   7        111     e000000000000001                         1   3   7
+//!  in the list    bits    split key         bucket at size 2   4   8
+//!  dummy 0        0000    0000 .. 0000
+//!  key   0        0000    0000 .. 0001                     0   0   0
+//!  key   4        0100    0010 .. 0001                     0   0   4
+//!  dummy 2        0010    0100 .. 0000
+//!  key   2        0010    0100 .. 0001                     0   2   2
+//!  key   6        0110    0110 .. 0001                     0   2   6
+//!  dummy 1        0001    1000 .. 0000
+//!  key   1        0001    1000 .. 0001                     1   1   1
+//!  key   5        0101    1010 .. 0001                     1   1   5
+//!  dummy 3        0011    1100 .. 0000
+//!  key   3        0011    1100 .. 0001                     1   3   3
+//!  key   7        0111    1110 .. 0001                     1   3   7
 //! ```
 //!
-//! So a table that doubles moves no node: bucket 0 of size 4 splits where the dummy of bucket 4 stands, and its keys
-//! 0, 8, 16 and so on stay before it. A bucket's parent, which is the bucket without its highest 1 bit, is where its
-//! keys were before it was split off.
+//! A table that doubles moves no node. At size 8 the dummy of bucket 4, `0010 .. 0000`, comes right before key 4, where
+//! bucket 0 is split, and the keys 0, 8, 16 and so on stay before it; the dummies of 6, 5 and 7 come right before the
+//! keys 6, 5 and 7. A bucket's parent, which is the bucket without its highest 1 bit, is where its keys were before it
+//! was split off.
 //!
 //! A contract sees a key as its number, and the definitions stand in `specs/Split.antt`. Proved: each call gives what
 //! its definition says; different keys, and different buckets, have different split keys; the dummies of a bucket's
-//! ancestors stand before its own, and all of these before each of the bucket's keys. No call takes memory, and each
-//! costs a fixed number of steps.
+//! ancestors stand before its own, and all of these before each of the bucket's keys; and a `BadKey` prints its text. No
+//! call takes memory, and each takes constant time.
 #![tactic(auto)]
 
 mod bucket;

@@ -7,8 +7,8 @@ use crate::reversal::reverse;
 /// The bit that a key lacks, and that makes its split key odd.
 const TOP_BIT: u64 = 1 << 63;
 
-/// The split key of a key's node, a regular node: the key's bits in reverse order behind a 1. It is odd, and no other
-/// key has it.
+/// The split key of a key's node, a regular node: the key's 64 bits, the top one set, in reverse order. It is odd, and
+/// no other key has it. Constant time.
 pub fn regular(key: Key) -> u64
     ensures value { result ≡ split key }
     ensures odd { result % 2 ≡ 1 }
@@ -18,7 +18,7 @@ pub fn regular(key: Key) -> u64
 }
 
 /// The split key of a bucket's dummy node: the bucket's bits in reverse order. It is even, no other bucket has it, and
-/// it is above those of the bucket's ancestors.
+/// it is above those of the bucket's ancestors. Constant time.
 pub fn dummy(bucket: u32) -> u64
     ensures value { result ≡ reversed bucket }
     ensures even { result % 2 ≡ 0 }

@@ -5,7 +5,7 @@ use crate::phase::Phase;
 use split_key::{BadKey, Key};
 use txn_trace::{Op, Refusal, Step};
 
-/// What a caller wants done.
+/// A call on the map: what a caller wants done.
 #[derive(Clone, Copy, Debug, PartialEq, Eq)]
 pub enum Call {
     /// Begin a transaction.
@@ -25,7 +25,7 @@ pub enum Call {
 }
 
 impl Call {
-    /// The phase in which a drive of this call begins. Fixed cost.
+    /// The phase in which a drive of this call begins. Constant time.
     pub(crate) fn first_phase(self) -> Phase
         ensures { result ≡ first_phase self }
     {
@@ -38,7 +38,7 @@ impl Call {
         }
     }
 
-    /// The step with which the call begins. Fixed cost.
+    /// The step with which the call begins. Constant time.
     pub(crate) fn first_step(self, caller: u64) -> Step
         ensures { result ≡ first_step caller self }
     {

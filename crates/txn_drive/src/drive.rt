@@ -25,7 +25,7 @@ pub struct Drive {
 }
 
 impl Drive {
-    /// The drive of a caller's call, before its first step. Fixed cost.
+    /// The drive of a caller's call, before its first step. Constant time.
     ///
     /// A call `Help` of a key of 2^63 or more has ended with `Refusal::BadKey`, before any step.
     pub fn new(caller: u64, call: Call) -> Drive
@@ -39,9 +39,10 @@ impl Drive {
         }
     }
 
-    /// The next turn, at the size that the table has at this moment. Fixed cost.
+    /// The next turn, at the size in buckets that the table has at this moment. Constant time.
     ///
-    /// A drive whose turn says `Ended` says it at each later turn too.
+    /// Only a helper that is to double the table notes the size. A drive whose turn says `Ended` says it at each later turn
+    /// too.
     pub fn turn(&mut self, size: u32) -> Turn
         ensures drive { self.new ≡ sized_of size self.old }
         ensures turn { result ≡ turn_of self.new }
@@ -55,7 +56,7 @@ impl Drive {
         self.shown()
     }
 
-    /// How the call has ended, if it has. Fixed cost.
+    /// How the call has ended, if it has. Constant time.
     pub fn ended(self) -> Option<End>
         ensures drive { result ≡ end_of self }
         ensures made { IfSome result (λ outcome. IsMade self.caller self.call outcome (made self)) }
@@ -90,10 +91,11 @@ impl Drive {
         }
     }
 
-    /// Says how the step that the turn named was answered; of a turn of two steps, each step taken. The cost is fixed,
-    /// but for the search of a helper's next bucket, which takes up to 32 rounds.
+    /// Says how the step that the turn named was answered; of a turn of two steps, each step taken. Constant time, but for
+    /// the search of a helper's next bucket, which takes up to 32 rounds.
     ///
-    /// An answer that no rule foresees ends the call with `Refusal::OutOfStep`.
+    /// An answer that no rule foresees ends the call with `Refusal::OutOfStep`, and so does any answer that is told once the
+    /// call has ended.
     pub fn told(&mut self, answer: Answer)
         ensures drive { self.new ≡ told_of self.old answer }
         ensures made { (step : Step) → step_of self.old ≡ Some step → made self.new ≡ made self.old ++ entries_of step answer }

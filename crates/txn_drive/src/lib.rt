@@ -11,8 +11,8 @@
 //! `specs/Drives.antt`. Proved: `turn` and `told` follow these; `made`, the entries that a drive has added to the
 //! history, is a function of the drive, which grows with each answer by the entries of the step that was answered; an
 //! ended drive has made what its end says (`IsMade`); and each bucket on a helper's way comes after its parent
-//! (`laws::ways`). No call takes memory, and each costs a fixed number of instructions, but for the search of a bucket's
-//! next ancestor, which takes up to 32 rounds.
+//! (`laws::ways`). No call takes memory, and each takes constant time, but for the search of a bucket's next ancestor,
+//! which takes up to 32 rounds.
 #![tactic(auto)]
 
 mod call;

@@ -47,7 +47,7 @@ pub enum Phase {
 }
 
 impl Phase {
-    /// The phase after an answer to the step of this one. Fixed cost, but for the search of the next bucket.
+    /// The phase after an answer to the step of this one. Constant time, but for the search of the next bucket.
     pub(crate) fn told(self, call: Call, answer: Answer) -> Phase
         ensures { result ≡ told_in call self answer }
     {

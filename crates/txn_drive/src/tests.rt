@@ -1,4 +1,4 @@
-use crate::{Call, Drive, End, Turn, laws};
+use crate::{Call, Drive, End, Turn};
 use std::process::Abort;
 use txn_trace::{Answer, Op, Refusal, Step};
 
@@ -262,9 +262,4 @@ fn an_unforeseen_answer_is_out_of_step(rt: HostRuntime) {
         Answer::Refused(Refusal::ParentMissing),
     );
     ends(&rt, &mut help, odd);
-}
-
-#[test]
-fn laws_run(_rt: HostRuntime) {
-    laws::ways();
 }

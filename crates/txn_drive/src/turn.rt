@@ -19,7 +19,8 @@ pub enum Turn {
     Ended(End),
 }
 
-/// A step that seeks and the step at the place found: two turns, or one after enough `again` in a row. Fixed cost.
+/// A step that seeks and the step at the place found: two turns, or one after enough `again` in a row. Constant
+/// time.
 pub(crate) fn paired(again: u8, seeking: Step, acting: Step) -> Turn
     ensures { result ≡ paired again seeking acting }
 {

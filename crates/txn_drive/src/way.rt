@@ -13,7 +13,7 @@ pub struct Way {
     pub target: u32,
 }
 
-/// The parent of a bucket, and 0 for bucket 0. Fixed cost.
+/// The parent of a bucket, and 0 for bucket 0. Constant time.
 fn parent_or_root(bucket: u32) -> u32
     ensures { result ≡ parent_of bucket }
 {
@@ -22,7 +22,7 @@ fn parent_or_root(bucket: u32) -> u32
 
 /// The bucket that comes after `last` on the way to `target`: the target or the ancestor of it whose parent is `last`.
 ///
-/// Costs a look at each ancestor between them, of which there are fewer than 32.
+/// Time in proportion to the ancestors between them, of which there are fewer than 32.
 pub(crate) fn next_towards(last: u32, target: u32) -> u32
     ensures { result ≡ child_towards last target }
 {

@@ -8,7 +8,8 @@ use std::marker::Model;
 /// The inverses of a transaction's changes, and its savepoints.
 ///
 /// Contracts see the `jobs`, oldest first; in `kept` how many jobs there were at each savepoint, savepoint 1 first; and the `room` for
-/// jobs and the `save_room` for savepoints that is there already. A level is the number of a savepoint, or 0, the beginning.
+/// jobs and the `save_room` for savepoints that is there already. A level is the number of a savepoint, or 0, the beginning; a call
+/// that takes one wants one of those that are there.
 #[derive(Drop)]
 pub struct UndoLog<J: UndoJob> {
     jobs: Vec<J>,
@@ -30,7 +31,7 @@ impl<J: UndoJob> Model for UndoLog<J> {
 }
 
 impl<J: UndoJob> UndoLog<J> {
-    /// An empty log at level 0. Takes no memory.
+    /// An empty log at level 0. Takes no memory, constant time.
     pub fn new(alloc: Global) -> UndoLog<J>
         ensures jobs { result.jobs ≡ [] }
         ensures kept { result.kept ≡ [] }
@@ -176,7 +177,7 @@ impl<J: UndoJob> UndoLog<J> {
 
     /// Drops the savepoints above the level, once no job above it is left, and keeps the level's own.
     ///
-    /// Takes no memory, and time for each savepoint that is dropped.
+    /// Takes no memory, and time in proportion to the savepoints that are dropped.
     pub fn cut(&mut self, level: usize)
         requires level { level ≤ length self.old.kept }
         requires none_above { length self.old.jobs ≤ kept_at self.old.kept level }

@@ -33,7 +33,7 @@ impl<S: Side> Model for SideValue<S> {
 }
 
 impl<S: Side> SideValue<S> {
-    /// The value as level 0, with no change to take back. Takes no memory.
+    /// The value as level 0, with no change to take back. Takes no memory, constant time.
     pub fn new(alloc: Global, value: S) -> SideValue<S>
         ensures value { result.value ≡ value }
         ensures levels { result.levels ≡ S.words_of value ∷ [] }
@@ -44,7 +44,7 @@ impl<S: Side> SideValue<S> {
         }
     }
 
-    /// The words of the value now. Takes no memory.
+    /// The four words of the value now: one call of the side type's `words`.
     pub fn words(&self) -> [u64; 4]
         ensures { result ≡ S.words_of self.now.value }
     {
@@ -140,7 +140,8 @@ impl<S: Side> SideValue<S> {
 
     /// Takes back each change since the level, newest first, and drops the savepoints above it.
     ///
-    /// The value then has the words that it had there. Takes no memory; runs one job for each change.
+    /// The value then has the words that it had there. Takes no memory, and time in proportion to the changes and savepoints above the
+    /// level, with one job run for each change.
     pub fn back(&mut self, level: usize)
         requires { level < length self.old.levels }
         ensures words { slice_get self.old.levels level ≡ Some (S.words_of self.new.value) }
@@ -163,7 +164,7 @@ impl<S: Side> SideValue<S> {
 
     /// Keeps the value, which is level 0 from now on: drops all jobs, none of them run, and all savepoints.
     ///
-    /// Takes no memory, and time for each job and savepoint.
+    /// Takes no memory, and time in proportion to the jobs and savepoints.
     pub fn settle(&mut self)
         ensures value { self.new.value ≡ self.old.value }
         ensures levels { self.new.levels ≡ S.words_of self.old.value ∷ [] }

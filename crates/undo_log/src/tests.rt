@@ -1,4 +1,4 @@
-ghost use Rattle.std.specs.Prelude.{◌≡◌, [], ◌∷◌, ◌++◌, IsSome, OnOk};
+ghost use Rattle.std.specs.Prelude.{◌≡◌, [], ◌∷◌, ◌++◌, IsSome, IfOk, OnOk};
 
 mod register;
 mod register_job;
@@ -98,6 +98,16 @@ fn one_log_for_each_caller(rt: HostRuntime) -> Result<(), Fail> {
     Ok(())
 }
 
+/// Boxes a value, and asks twice where memory is refused once.
+fn boxed<T: Drop>(alloc: Global, value: T) -> Result<Box<T>, Fail>
+    ensures { IfOk result (λ block. block.value ≡ value) }
+{
+    match Box::new(alloc, value) {
+        Ok(block) => Ok(block),
+        Err(refused) => Ok(Box::new(alloc, refused.value)?),
+    }
+}
+
 /// Changes the value, and asks twice where memory is refused once.
 fn change<S: Side, F: FnOnce(S) -> S>(
     rt: &impl Abort,
@@ -195,7 +205,7 @@ fn a_settled_value_stays(rt: HostRuntime) -> Result<(), Fail> {
         let job = RegisterJob {
             before: [0, 0, 0, 0],
             after: [1, 0, 0, 0],
-            run: Box::new(
+            run: boxed(
                 rt.alloc(),
                 |_| Register {
                     words: [0, 0, 0, 0],
@@ -218,19 +228,19 @@ fn a_settled_value_stays(rt: HostRuntime) -> Result<(), Fail> {
 
 #[test]
 fn side_value_returns(rt: HostRuntime) -> Result<(), Fail> {
-    let to_zero = Box::new(
+    let to_zero = boxed(
         rt.alloc(),
         |_| Register {
             words: [0, 0, 0, 0],
         },
     )?;
-    let to_one = Box::new(
+    let to_one = boxed(
         rt.alloc(),
         |_| Register {
             words: [1, 0, 0, 0],
         },
     )?;
-    let to_two = Box::new(
+    let to_two = boxed(
         rt.alloc(),
         |_| Register {
             words: [2, 0, 0, 0],
