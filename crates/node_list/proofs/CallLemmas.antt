@@ -1,5 +1,5 @@
 -- What each call does to a list, by its fields.
-use Rattle.std.proofs.Common.{◌≡◌, ℕ, ◌+◌, ◌-◌, ◌^◌, ◌<◌, ◌≤◌, Option, Some, None, Bool, true, false, refl, sym, ◌∙◌, ap, arith, cond}
+use Rattle.std.proofs.Common.{◌≡◌, ℕ, ◌+◌, ◌-◌, ◌^◌, ◌<◌, ◌≤◌, List, Option, Some, None, Bool, true, false, refl, sym, ◌∙◌, ap, arith, cond}
 use Rattle.slab.specs.Slab.{Slab, get, slab_len, Updates, with_value}
 use Rattle.node_list.specs.declared.node.Node.{Node}
 use Rattle.node_list.specs.declared.node.Kind.TheVariants.{Dummy, Regular}
@@ -11,7 +11,7 @@ use Rattle.node_list.specs.Seen.{seen}
 use Rattle.node_list.specs.Follow.{IsSameNode, Follows}
 use Rattle.node_list.specs.Layout.{stored, nodes_in, listing_of, IsKept}
 use Rattle.node_list.proofs.OrderLemmas.{some-injective}
-use Rattle.node_list.proofs.NodesLemmas.{found_linked, next_linked, linked_more}
+use Rattle.node_list.proofs.NodesLemmas.{found_linked, next_linked, linked_more, now_found}
 use Rattle.node_list.proofs.ChainLemmas.{spread, nodes_in_is, nodes_fit, absent_free, linked_node, node_found, next_is}
 use Rattle.node_list.proofs.CountLemmas.{gain, count-linked, count-unlinked, count-changed, live-marked, live-regular, live-fresh, counts_fit}
 use Rattle.node_list.proofs.SlabSteps.{kept, spare_laid_out, spare_stamps, spare_out, spare_was_free, spare_others, back_laid_out, back_stamps, back_gone, back_others, link_absent, link_laid_out, link_stamps, link_gone, link_others, mid_spare, change_laid_out, change_stamps, change_out, unlink_laid_out, unlink_stamps, unlink_out}
@@ -207,7 +207,7 @@ module _ (old : Slab Slot) (head turn last count marked : ℕ) (is : IsKept old 
     pub filling_slot : get mid s.place ≡ Some (Out s.stamp)
     filling_slot = mid_spare old mid (with_value mid s.place (Linked (stored (filled s) before.next))) head last pred (nodes_in old head) (filled s) before is.laid_out is.stamps is_before is_out mid_is refl
 
-    pub filled_in : (gained : ℕ) → gained ≡ cond (is_regular s.kind) 1 0 → new ≡ with_value mid s.place (Linked (stored (filled s) next)) → IsLinked (nodes_in old head) pred → IsRising (linked_after (nodes_in old head) pred (filled s)) → IsKept new head last (count + gained) marked × Takes (listing_of old head turn last) (listing_of new head (turn_after turn) last) (linked_after (nodes_in old head) pred (filled s)) s.place × Follows (listing_of old head turn last) (listing_of new head (turn_after turn) last)
+    pub filled_in : (gained : ℕ) → gained ≡ cond (is_regular s.kind) 1 0 → new ≡ with_value mid s.place (Linked (stored (filled s) next)) → IsLinked (nodes_in old head) pred → IsRising (linked_after (nodes_in old head) pred (filled s)) → IsKept new head last (count + gained) marked × Takes (listing_of old head turn last) (listing_of new head (turn_after turn) last) (linked_after (nodes_in old head) pred (filled s)) s.place × (node_of (nodes_in new head) s.place ≡ Some (filled s)) × Follows (listing_of old head turn last) (listing_of new head (turn_after turn) last)
     filled_in gained gained_is new_was linked rising =
         let nodes = nodes_in old head in
         let x : NodeAt = filled s in
@@ -228,5 +228,6 @@ module _ (old : Slab Slot) (head turn last count marked : ℕ) (is : IsKept old 
           kept new head last (count + gained) marked (linked_after nodes pred x) laid stamps is.below
               (omega (arith, live, gained_is, live-fresh s.kind, is.counted)) (omega (arith, marks, is.marks)),
           takes,
+          ap (λ (ns : List NodeAt). node_of ns s.place) takes.nodes ∙ now_found nodes pred x absent linked,
           links_follow _ _ pred x absent is_out takes,
         )

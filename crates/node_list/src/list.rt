@@ -109,6 +109,7 @@ impl NodeList {
         requires order { IsRising (linked_after self.old.nodes pred (filled spare)) }
         ensures linked { Takes self.old self.new
             (linked_after self.old.nodes pred (filled spare)) spare.place }
+        ensures node { node_of self.new.nodes spare.place ≡ Some (filled spare) }
         ensures follows { Follows self.old self.new }
     {
         let place = spare.node();

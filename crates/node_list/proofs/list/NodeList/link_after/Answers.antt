@@ -56,6 +56,19 @@ returns-clause-linked c =
     let now = filled_in _ _ c.self.inside.turn _ _ _ c.self.invariant _ _ _ slot.0 c.args.spare _ slot.1 out (next_was slot.1) (pointed slot.1) _ weight filled linked order in
     rw (c.saturating_add-self-inside.ensures, ← c.self.view_is) now.1
 
+pub returns-clause-node : goal.returns-clause-node
+returns-clause-node c =
+    let linked = rw (← c.self.view_is) at c.requires.linked in
+    let out = rw (← c.self.view_is) at c.requires.out in
+    let slot = slot_linked _ _ _ _ _ _ c.self.invariant linked in
+    let next_was = rw c.place.ensures at c.replace_next-next.ensures.was slot.0 in
+    let pointed = rw (c.place.ensures, c.node-place.ensures) at c.replace_next-next.ensures.now slot.0 in
+    let order = rw (← c.self.view_is) at c.requires.order in
+    let weight = rw c.into_node-node.ensures at c.weight-weight.ensures in
+    let filled = rw (c.place-2.ensures, c.node-place.ensures, c.into_node-node.ensures) at c.set_slot.ensures in
+    let now = filled_in _ _ c.self.inside.turn _ _ _ c.self.invariant _ _ _ slot.0 c.args.spare _ slot.1 out (next_was slot.1) (pointed slot.1) _ weight filled linked order in
+    now.2
+
 pub returns-clause-follows : goal.returns-clause-follows
 returns-clause-follows c =
     let linked = rw (← c.self.view_is) at c.requires.linked in
@@ -67,4 +80,4 @@ returns-clause-follows c =
     let weight = rw c.into_node-node.ensures at c.weight-weight.ensures in
     let filled = rw (c.place-2.ensures, c.node-place.ensures, c.into_node-node.ensures) at c.set_slot.ensures in
     let now = filled_in _ _ c.self.inside.turn _ _ _ c.self.invariant _ _ _ slot.0 c.args.spare _ slot.1 out (next_was slot.1) (pointed slot.1) _ weight filled linked order in
-    rw (c.saturating_add-self-inside.ensures, ← c.self.view_is) now.2
+    rw (c.saturating_add-self-inside.ensures, ← c.self.view_is) now.3
