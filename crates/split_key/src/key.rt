@@ -28,6 +28,10 @@ impl Model for Key {
 pub struct BadKey;
 
 impl Display for BadKey {
+    ghost use Rattle.std.specs.Prelude.{Some, codes};
+
+    ghost output = { λ _. Some (codes "a key is a number below 2^63") };
+
     fn fmt<W: fmt::Write>(&self, f: &mut fmt::Formatter<W>) -> fmt::Result {
         f.write_str("a key is a number below 2^63")
     }
