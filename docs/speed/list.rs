@@ -103,7 +103,10 @@ enum Slot {
 
 pub struct Spare {
     pub place: usize,
-    pub node: Node,
+    stamp: u64,
+    split: u64,
+    kind: Kind,
+    value: u64,
 }
 
 pub struct NodeList {
@@ -126,9 +129,20 @@ impl Kind {
 
 impl Spare {
     pub fn fill(&mut self, split: u64, kind: Kind, value: u64) {
-        self.node.split = split;
-        self.node.kind = kind;
-        self.node.value = value;
+        self.split = split;
+        self.kind = kind;
+        self.value = value;
+    }
+
+    fn into_node(self, next: Option<usize>) -> Node {
+        Node {
+            split: self.split,
+            kind: self.kind,
+            value: self.value,
+            stamp: self.stamp,
+            marked: false,
+            next,
+        }
     }
 }
 
@@ -168,7 +182,10 @@ impl NodeList {
         self.last = stamp;
         Some(Spare {
             place,
-            node: Node::dummy(0, stamp),
+            stamp,
+            split: 0,
+            kind: Kind::Dummy,
+            value: 0,
         })
     }
 
@@ -198,9 +215,9 @@ impl NodeList {
     }
 
     fn link_after(&mut self, pred: usize, spare: Spare) {
-        let Spare { place, mut node } = spare;
+        let place = spare.place;
+        let node = spare.into_node(self.node_mut(pred).next.replace(place));
         let weight = node.kind.weight();
-        node.next = self.node_mut(pred).next.replace(place);
         if let Some(slot) = self.slab.get_mut(place) {
             *slot = Slot::Linked(node);
         }

@@ -6,14 +6,14 @@ use std::collections::{BTreeMap, HashMap};
 use txn_trace::{Op, Refusal, Reply};
 
 /// A map from numbers to numbers.
-pub trait AnyMap {
+pub(crate) trait AnyMap {
     /// Does an operation, and answers the value that its key had before it.
     fn run(&mut self, op: Op) -> Result<Reply, Refusal>;
 }
 
 /// Stores a bucket by its three steps, as helper 0. Where one is refused the bucket stays as it is, and its keys are
 /// sought from its parent's dummy.
-pub fn store_bucket(table: &mut Table, bucket: u32) {
+pub(crate) fn store_bucket(table: &mut Table, bucket: u32) {
     let sought = table.init_seek(0, u64::from(bucket));
     let linked = table.init_link(0);
     if sought.is_ok() && linked.is_ok() {

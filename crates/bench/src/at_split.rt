@@ -28,7 +28,7 @@ fn is_key_there(list: &NodeList, cursor: &Cursor) -> bool
 }
 
 /// Links a new node, sought from a dummy. `None` where its split key is there.
-pub fn put(
+pub(crate) fn put(
     list: &mut NodeList,
     from: NodeRef,
     split: u64,
@@ -51,7 +51,7 @@ pub fn put(
 }
 
 /// The value of the regular node with this split key, sought from a dummy. Unlinks the marked nodes that it passes.
-pub fn value_of(list: &mut NodeList, from: NodeRef, split: u64) -> Option<u64> {
+pub(crate) fn value_of(list: &mut NodeList, from: NodeRef, split: u64) -> Option<u64> {
     if !is_start(list, from, split) {
         return None;
     }
@@ -63,7 +63,7 @@ pub fn value_of(list: &mut NodeList, from: NodeRef, split: u64) -> Option<u64> {
 }
 
 /// Writes the value of the regular node with this split key, and answers the one it had.
-pub fn write(list: &mut NodeList, from: NodeRef, split: u64, value: u64) -> Option<u64> {
+pub(crate) fn write(list: &mut NodeList, from: NodeRef, split: u64, value: u64) -> Option<u64> {
     if !is_start(list, from, split) {
         return None;
     }
@@ -75,7 +75,7 @@ pub fn write(list: &mut NodeList, from: NodeRef, split: u64, value: u64) -> Opti
 }
 
 /// Marks the regular node with this split key, and answers its value.
-pub fn take(list: &mut NodeList, from: NodeRef, split: u64) -> Option<u64> {
+pub(crate) fn take(list: &mut NodeList, from: NodeRef, split: u64) -> Option<u64> {
     if !is_start(list, from, split) {
         return None;
     }

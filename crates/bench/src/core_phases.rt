@@ -84,14 +84,14 @@ fn time_runs<R: AllocGlobal + Clock + Eprint>(
 }
 
 /// Times transactions of one put each, at few keys.
-pub fn time_puts<R: AllocGlobal + Clock + Eprint>(rt: &R, puts: u64) -> Result<()> {
+pub(crate) fn time_puts<R: AllocGlobal + Clock + Eprint>(rt: &R, puts: u64) -> Result<()> {
     let limits = Limits::new(1, 64, 64).map_err(|refusal| anyhow!("{refusal:?}"))?;
     let steps = put_steps(rt.alloc(), puts)?;
     time_runs(rt, limits, &steps)
 }
 
 /// Times the steps of a step file, and before them how the file's bytes are read as steps.
-pub fn time_file<R: Runtime + AllocGlobal>(rt: &R, file: &str) -> Result<()> {
+pub(crate) fn time_file<R: Runtime + AllocGlobal>(rt: &R, file: &str) -> Result<()> {
     let bytes = fs::read(rt, file).context("the step file")?;
     let watch = Stopwatch::start(rt)?;
     let (limits, steps) = read_steps(rt.alloc(), &bytes).map_err(|fault| anyhow!("{fault:?}"))?;

@@ -62,7 +62,7 @@ fn time_map<R: Clock + Eprint, M: AnyMap>(
 
 /// Times the table at two largest sizes, the sorted map and the hash map of the standard library, one after the other. A
 /// new table has two buckets, of which it has stored bucket 0.
-pub fn time_maps<R: AllocGlobal + Clock + Eprint>(
+pub(crate) fn time_maps<R: AllocGlobal + Clock + Eprint>(
     rt: &R,
     keys: u64,
     operations: u64,

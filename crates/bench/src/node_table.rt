@@ -6,18 +6,18 @@ use split_key::{Key, bucket_of, dummy, parent, regular};
 use std::alloc::Global;
 
 /// How many buckets there are.
-pub const SIZE: u32 = 65_536;
+pub(crate) const SIZE: u32 = 65_536;
 
 /// A list of nodes, and the dummy of each bucket.
 #[derive(Drop)]
-pub struct NodeTable {
+pub(crate) struct NodeTable {
     list: NodeList,
     dummies: Vec<NodeRef>,
 }
 
 impl NodeTable {
     /// The dummies of all buckets, each sought from its parent's.
-    pub fn new(alloc: Global) -> Result<NodeTable, SpareFault> {
+    pub(crate) fn new(alloc: Global) -> Result<NodeTable, SpareFault> {
         let mut list = NodeList::new(alloc, 0).map_err(|_| SpareFault::NoMemory)?;
         let head = list.head();
         let mut dummies = Vec::new(alloc);
@@ -41,7 +41,7 @@ impl NodeTable {
     }
 
     /// Puts a key in that is not there, and says whether it did.
-    pub fn insert(&mut self, key: Key, value: u64) -> Result<bool, SpareFault> {
+    pub(crate) fn insert(&mut self, key: Key, value: u64) -> Result<bool, SpareFault> {
         let from = self.dummy_of(key);
         let kind = Kind::Regular(key.number());
         let node = put(&mut self.list, from, regular(key), kind, value)?;
@@ -49,25 +49,25 @@ impl NodeTable {
     }
 
     /// The value of a key. Unlinks the marked nodes that it passes.
-    pub fn get(&mut self, key: Key) -> Option<u64> {
+    pub(crate) fn get(&mut self, key: Key) -> Option<u64> {
         let from = self.dummy_of(key);
         value_of(&mut self.list, from, regular(key))
     }
 
     /// Writes the value of a key that is there, and answers the one it had.
-    pub fn swap(&mut self, key: Key, value: u64) -> Option<u64> {
+    pub(crate) fn swap(&mut self, key: Key, value: u64) -> Option<u64> {
         let from = self.dummy_of(key);
         write(&mut self.list, from, regular(key), value)
     }
 
     /// Marks the node of a key that is there, and answers its value.
-    pub fn mark(&mut self, key: Key) -> Option<u64> {
+    pub(crate) fn mark(&mut self, key: Key) -> Option<u64> {
         let from = self.dummy_of(key);
         take(&mut self.list, from, regular(key))
     }
 
     /// Unlinks the first marked node, and says whether there was one.
-    pub fn sweep(&mut self) -> bool {
+    pub(crate) fn sweep(&mut self) -> bool {
         matches!(sweep(&mut self.list), SweepOutcome::Swept)
     }
 }

@@ -4,26 +4,26 @@ use std::time::{Clock, Instant};
 
 /// A clock that was started at the beginning of a phase.
 #[derive(Drop)]
-pub struct Stopwatch {
+pub(crate) struct Stopwatch {
     start: Instant,
 }
 
 impl Stopwatch {
     /// Starts now.
-    pub fn start(clock: &impl Clock) -> io::Result<Stopwatch> {
+    pub(crate) fn start(clock: &impl Clock) -> io::Result<Stopwatch> {
         Ok(Stopwatch {
             start: Instant::now(clock)?,
         })
     }
 
     /// Stops, and gives the time since the start.
-    pub fn stop(self, clock: &impl Clock) -> io::Result<Lap> {
+    pub(crate) fn stop(self, clock: &impl Clock) -> io::Result<Lap> {
         let nanos = self.start.elapsed(clock)?.as_nanos();
         Ok(Lap { nanos })
     }
 
     /// Stops, and writes the line of `Lap::report`.
-    pub fn report(
+    pub(crate) fn report(
         self,
         rt: &(impl Clock + Eprint),
         subject: &str,
@@ -37,14 +37,14 @@ impl Stopwatch {
 
 /// The time that a phase took.
 #[derive(Clone, Copy)]
-pub struct Lap {
+pub(crate) struct Lap {
     nanos: u128,
 }
 
 impl Lap {
     /// Writes one line on standard error: what was timed, its phase, how many operations that had, its time in milliseconds, the time of
     /// one in nanoseconds, and the sum of what the operations answered.
-    pub fn report(
+    pub(crate) fn report(
         self,
         rt: &impl Eprint,
         subject: &str,

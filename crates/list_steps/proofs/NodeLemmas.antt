@@ -166,14 +166,6 @@ module _ (nodes : List NodeAt) (place next : ℕ) (spread : IsSpread nodes) (is 
       sym (next_found nodes place there.0 spread there.1) ∙ ap (λ p. node_of nodes p) there.2 ∙ found in
       there.1 ∙ same
 
--- a node that is linked is found at its place, if that is its alone
-pub linked_here : (nodes : List NodeAt) (place : ℕ) (n x : NodeAt) → node_of nodes place ≡ Some n → IsSpread (linked_after nodes place x) → node_of (linked_after nodes place x) x.place ≡ Some x
-linked_here nodes place n x is spread =
-    let at = found_at nodes place n is in
-    let now : IsAt (linked_after nodes place x) place n =
-    record { front = at.front; rest = x ∷ at.rest; is = linked_at nodes place n at x; absent = at.absent; here = at.here } in
-    node_at (linked_after nodes place x) x.place x (at_next (linked_after nodes place x) place n now x spread refl)
-
 -- a place with a next node is linked
 pub next_from : (nodes : List NodeAt) (place : ℕ) (m : NodeAt) → next_of nodes place ≡ Some m → (n : NodeAt) × (node_of nodes place ≡ Some n)
 unfolding next_of node_of

@@ -4,14 +4,14 @@ use Rattle.std.specs.Prelude.{IsSomeAnd, IsTrue}
 use Rattle.node_list.specs.declared.node.Kind.{Kind}
 use Rattle.node_list.specs.declared.node.Kind.TheVariants.{Dummy, Regular}
 use Rattle.node_list.specs.Nodes.{NodeAt, Listing, Becomes, Takes, IsRegularAt, node_of, is_regular, place_of, linked_after, marked_at, written_at}
-use Rattle.node_list.specs.Order.{IsRising, IsSpread}
+use Rattle.node_list.specs.Order.{IsRising}
 use Rattle.node_list.specs.Sound.{IsSound}
 use Rattle.list_steps.specs.declared.cursor.Cursor.{Cursor}
 use Rattle.list_steps.specs.Content.{pairs, pair_of, Replaces}
 use Rattle.list_steps.specs.Found.{fits, node_there, pred_of, split_of, IsPlaced, IsKeyThere}
 use Rattle.list_steps.specs.Steps.{IsThere, Finds, Links, Marks, Swaps}
 use Rattle.node_list.proofs.OrderLemmas.{before-split, rising_linked, some-injective, some-none}
-use Rattle.list_steps.proofs.NodeLemmas.{found_at, linked_here}
+use Rattle.list_steps.proofs.NodeLemmas.{found_at}
 use Rattle.list_steps.proofs.OrderLemmas.{none_between}
 use Rattle.list_steps.proofs.ContentLemmas.{pairs_linked, pairs_marked, pairs_written, pairs_contain}
 use Rattle.list_steps.proofs.CursorLemmas.{there, above, low, fits_pred}
@@ -53,14 +53,13 @@ module _ (l : Listing) (c : Cursor) (sound : IsSound l) (placed : IsPlaced l c) 
       (λ m is. before-split x m (omega (arith, above l c sound placed fitting none m is, split_is)))
 
   -- a node that is linked
-  pub links : (new : Listing) (x : NodeAt) → Takes l new (linked_after l.nodes (pred_of c) x) x.place → IsSpread new.nodes → Links l new c x
-  links new x takes spread =
+  pub links : (new : Listing) (x : NodeAt) → Takes l new (linked_after l.nodes (pred_of c) x) x.place → node_of new.nodes x.place ≡ Some x → Links l new c x
+  links new x takes found =
       let pred = fits_pred l c fitting in
-      let At : List NodeAt → Type 0 = λ ns. node_of ns x.place ≡ Some x in
       let Content : List NodeAt → Type 0 = λ ns. Replaces (pairs l.nodes) (pairs ns) [] (pair_of x) in
       record {
         takes = takes;
-        linked = subst At (sym takes.nodes) (linked_here l.nodes (pred_of c) pred.0 x pred.1 (subst IsSpread takes.nodes spread));
+        linked = found;
         content = subst Content (sym takes.nodes) (pairs_linked l.nodes (pred_of c) pred.0 pred.1 x);
       }
 

@@ -71,8 +71,6 @@ pub fn link(list: &mut NodeList, cursor: Cursor, spare: Spare) -> Result<NodeRef
     if cursor.is_fitting(list) {
         let node = spare.node();
         list.link_after(cursor.pred.place, spare);
-        // What holds of every list holds again: the node is at a place of its own.
-        let _turn = list.turn();
         Ok(node)
     } else {
         Err((Again, spare))

@@ -1,17 +1,17 @@
 -- What each call does to a list, by its fields.
-use Rattle.std.proofs.Common.{◌≡◌, ℕ, ◌+◌, ◌-◌, ◌^◌, ◌<◌, ◌≤◌, Option, Some, None, Bool, true, false, refl, sym, ◌∙◌, ap, ap₂, arith, cond}
+use Rattle.std.proofs.Common.{◌≡◌, ℕ, ◌+◌, ◌-◌, ◌^◌, ◌<◌, ◌≤◌, List, Option, Some, None, Bool, true, false, refl, sym, ◌∙◌, ap, arith, cond}
 use Rattle.slab.specs.Slab.{Slab, get, slab_len, Updates, with_value}
 use Rattle.node_list.specs.declared.node.Node.{Node}
 use Rattle.node_list.specs.declared.node.Kind.TheVariants.{Dummy, Regular}
 use Rattle.node_list.specs.declared.slots.Slot.{Slot}
 use Rattle.node_list.specs.declared.slots.Slot.TheVariants.{Linked, Out}
-use Rattle.node_list.specs.Nodes.{NodeAt, out_at, node_of, place_of, IsLinked, IsRegularAt, IsBeforeMarked, is_regular, is_live, is_marked, live_count, marked_count, linked_after, unlinked_after, changed_at, marked_at, written_at, turn_after, GivesOut, TakesBack, Becomes, Takes}
+use Rattle.node_list.specs.Nodes.{NodeAt, SpareAt, IsOut, filled, out_at, node_of, place_of, IsLinked, IsRegularAt, IsBeforeMarked, is_regular, is_live, is_marked, live_count, marked_count, linked_after, unlinked_after, changed_at, marked_at, written_at, turn_after, GivesOut, TakesBack, Becomes, Takes}
 use Rattle.node_list.specs.Order.{IsRising}
 use Rattle.node_list.specs.Seen.{seen}
 use Rattle.node_list.specs.Follow.{IsSameNode, Follows}
 use Rattle.node_list.specs.Layout.{stored, nodes_in, listing_of, IsKept}
 use Rattle.node_list.proofs.OrderLemmas.{some-injective}
-use Rattle.node_list.proofs.NodesLemmas.{found_linked, next_linked, linked_more}
+use Rattle.node_list.proofs.NodesLemmas.{found_linked, next_linked, linked_more, now_found}
 use Rattle.node_list.proofs.ChainLemmas.{spread, nodes_in_is, nodes_fit, absent_free, linked_node, node_found, next_is}
 use Rattle.node_list.proofs.CountLemmas.{gain, count-linked, count-unlinked, count-changed, live-marked, live-regular, live-fresh, counts_fit}
 use Rattle.node_list.proofs.SlabSteps.{kept, spare_laid_out, spare_stamps, spare_out, spare_was_free, spare_others, back_laid_out, back_stamps, back_gone, back_others, link_absent, link_laid_out, link_stamps, link_gone, link_others, mid_spare, change_laid_out, change_stamps, change_out, unlink_laid_out, unlink_stamps, unlink_out}
@@ -198,30 +198,23 @@ module _ (old : Slab Slot) (head turn last count marked : ℕ) (is : IsKept old 
       )
 
   -- the node of a spare is linked
-  module _ (mid new : Slab Slot) (pred place : ℕ) (before node : Node) (next : Option ℕ)
+  module _ (mid new : Slab Slot) (pred : ℕ) (before : Node) (s : SpareAt) (next : Option ℕ)
       (is_before : get old pred ≡ Some (Linked before))
-      (is_out : out_at (listing_of old head turn last) place ≡ Some node.stamp)
-      (unmarked : node.marked ≡ false)
+      (is_out : IsOut (listing_of old head turn last) s)
       (next_was : next ≡ before.next)
-      (mid_is : mid ≡ with_value old pred (Linked (record before { next = Some place }))) where
-    x : NodeAt
-    x = seen place (record node { marked = false })
-
-    written : Linked (record node { next = next }) ≡ Linked (stored (seen place (record node { marked = false })) before.next)
-    written = ap₂ (λ (b : Bool) (k : Option ℕ). Linked (record node { marked = b; next = k })) unmarked next_was
-
+      (mid_is : mid ≡ with_value old pred (Linked (record before { next = Some s.place }))) where
     -- the spare's place is still in use once the node before has its place
-    pub filling_slot : get mid place ≡ Some (Out node.stamp)
-    filling_slot = mid_spare old mid (with_value mid place (Linked (stored (seen place (record node { marked = false })) before.next))) head last pred (nodes_in old head) (seen place (record node { marked = false })) before is.laid_out is.stamps is_before is_out mid_is refl
+    pub filling_slot : get mid s.place ≡ Some (Out s.stamp)
+    filling_slot = mid_spare old mid (with_value mid s.place (Linked (stored (filled s) before.next))) head last pred (nodes_in old head) (filled s) before is.laid_out is.stamps is_before is_out mid_is refl
 
-    pub filled_in : (gained : ℕ) → gained ≡ cond (is_regular node.kind) 1 0 → new ≡ with_value mid place (Linked (record node { next = next })) → IsLinked (nodes_in old head) pred → IsRising (linked_after (nodes_in old head) pred (seen place (record node { marked = false }))) → IsKept new head last (count + gained) marked × Takes (listing_of old head turn last) (listing_of new head (turn_after turn) last) (linked_after (nodes_in old head) pred (seen place (record node { marked = false }))) place × Follows (listing_of old head turn last) (listing_of new head (turn_after turn) last)
+    pub filled_in : (gained : ℕ) → gained ≡ cond (is_regular s.kind) 1 0 → new ≡ with_value mid s.place (Linked (stored (filled s) next)) → IsLinked (nodes_in old head) pred → IsRising (linked_after (nodes_in old head) pred (filled s)) → IsKept new head last (count + gained) marked × Takes (listing_of old head turn last) (listing_of new head (turn_after turn) last) (linked_after (nodes_in old head) pred (filled s)) s.place × (node_of (nodes_in new head) s.place ≡ Some (filled s)) × Follows (listing_of old head turn last) (listing_of new head (turn_after turn) last)
     filled_in gained gained_is new_was linked rising =
         let nodes = nodes_in old head in
-        let x : NodeAt = seen place (record node { marked = false }) in
-        let new_is : new ≡ with_value mid place (Linked (stored (seen place (record node { marked = false })) before.next)) = new_was ∙ ap (with_value mid place) written in
+        let x : NodeAt = filled s in
+        let new_is : new ≡ with_value mid s.place (Linked (stored (filled s) before.next)) = new_was ∙ ap (λ (k : Option ℕ). with_value mid s.place (Linked (stored (filled s) k))) next_was in
         let laid = link_laid_out old mid new head last pred nodes x before is.laid_out is.stamps is_before is_out mid_is new_is refl rising in
         let stamps = link_stamps old mid new head last pred nodes x before is.laid_out is.stamps is_before is_out mid_is new_is in
-        let takes : Takes (listing_of old head turn last) (listing_of new head (turn_after turn) last) (linked_after (nodes_in old head) pred (seen place (record node { marked = false }))) place = record {
+        let takes : Takes (listing_of old head turn last) (listing_of new head (turn_after turn) last) (linked_after (nodes_in old head) pred (filled s)) s.place = record {
           nodes = nodes_in_is new head (linked_after nodes pred x) laid;
           head = refl;
           turn = refl;
@@ -231,9 +224,10 @@ module _ (old : Slab Slot) (head turn last count marked : ℕ) (is : IsKept old 
         } in
         let live = count-linked is_live nodes pred x linked in
         let marks = count-linked is_marked nodes pred x linked in
-        let absent = absent_free (get old) nodes place is.laid_out.chain (link_absent old mid new head last pred nodes x before is.laid_out is.stamps is_before is_out mid_is new_is) in (
+        let absent = absent_free (get old) nodes s.place is.laid_out.chain (link_absent old mid new head last pred nodes x before is.laid_out is.stamps is_before is_out mid_is new_is) in (
           kept new head last (count + gained) marked (linked_after nodes pred x) laid stamps is.below
-              (omega (arith, live, gained_is, live-fresh node.kind, is.counted)) (omega (arith, marks, is.marks)),
+              (omega (arith, live, gained_is, live-fresh s.kind, is.counted)) (omega (arith, marks, is.marks)),
           takes,
+          ap (λ (ns : List NodeAt). node_of ns s.place) takes.nodes ∙ now_found nodes pred x absent linked,
           links_follow _ _ pred x absent is_out takes,
         )

@@ -147,6 +147,21 @@ now_linked (n ∷ rest) pred x is = elim (eqb_tells n.place pred) [
   | inr apart ↦ rw apart.0 (inr (now_linked rest pred x (elim is [ inl first ↦ absurd (apart.1 first) | inr later ↦ later ])))
 ]
 
+-- a node that is linked is found, if its place was free
+pub now_found : (nodes : List NodeAt) (pred : ℕ) (x : NodeAt) → AbsentFrom x.place nodes → IsLinked nodes pred → node_of (linked_after nodes pred x) x.place ≡ Some x
+unfolding node_of linked_after IsLinked
+now_found [] pred x absent is = absurd is
+now_found (n ∷ rest) pred x absent is = elim (eqb_tells n.place pred) [
+  | inl here ↦ rw here.0 (deeper (x ∷ rest) (first_found (x ∷ rest) x refl))
+  | inr apart ↦ rw apart.0 (deeper (linked_after rest pred x) (now_found rest pred x absent.1 (elim is [ inl first ↦ absurd (apart.1 first) | inr later ↦ later ])))
+]
+  where
+    deeper : (after : List NodeAt) → node_of after x.place ≡ Some x → node_of (n ∷ after) x.place ≡ Some x
+    deeper after there = elim (eqb_tells n.place x.place) [
+      | inl same ↦ absurd (absent.0 same.1)
+      | inr differs ↦ rw differs.0 there
+    ]
+
 pub changed_linked : (nodes : List NodeAt) (place other : ℕ) (change : NodeAt → NodeAt) → ((n : NodeAt) → IsSameNode n (change n)) → IsLinked nodes other → IsLinked (changed_at nodes place change) other
 unfolding changed_at IsLinked
 changed_linked [] place other change same is = is

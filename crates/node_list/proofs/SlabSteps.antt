@@ -1,5 +1,6 @@
 -- What each step on the slab does to the list in it.
-use Rattle.std.proofs.Common.{◌≡◌, ◌≢◌, ℕ, ◌+◌, ◌-◌, ◌^◌, ◌<◌, inl, inr, List, [], ◌∷◌, Option, Some, None, false, map, refl, sym, ◌∙◌, ap, arith, get_or}
+use Rattle.std.proofs.Common.{◌≡◌, ◌≢◌, ℕ, ◌+◌, ◌-◌, ◌^◌, ◌<◌, inl, inr, List, [], ◌∷◌, Option, Some, None, false, Result, Ok, Err, map, refl, sym, ◌∙◌, ap, arith, get_or}
+use Rattle.std.specs.Result.{result_ok}
 use Rattle.std.proofs.Math.ListN.{get_or-map}
 use Rattle.std.proofs.lemmas.Bool.{cases_eq}
 use Rattle.slab.specs.Slab.{Slab, get, Updates, with_value}
@@ -292,3 +293,12 @@ kept_grown slab room head last count marked is =
 
 pub listing_grown : (slab : Slab Slot) (room head turn last : ℕ) → listing_of (record slab { capacity = room }) head turn last ≡ listing_of slab head turn last
 listing_grown slab room head turn last = rw (grown slab room head) refl
+
+-- the answer of which `ok` hands on a value, or none
+pub ok_some : {T E : Type 0} (r : Result T E) (x : T) → result_ok r ≡ Some x → r ≡ Ok x
+ok_some (Ok y) x is = ap Ok (some-injective is)
+ok_some (Err e) x is = absurd (some-none (sym is))
+
+pub ok_none : {T E : Type 0} (r : Result T E) → result_ok r ≡ None → (e : E) × (r ≡ Err e)
+ok_none (Ok y) is = absurd (some-none is)
+ok_none (Err e) is = (e, refl)

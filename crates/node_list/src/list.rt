@@ -80,12 +80,12 @@ impl NodeList {
         }
         let stamp = self.last + 1;
         let node = Node::dummy(0, stamp);
-        match self.slab.insert(Slot::Out(stamp)) {
-            Ok(place) => {
+        match self.slab.insert(Slot::Out(stamp)).ok() {
+            Some(place) => {
                 self.last = stamp;
-                Ok(Spare { place, node })
+                Ok(Spare::of(NodeRef::new(place), node))
             }
-            Err(_) => Err(SpareFault::NoMemory),
+            None => Err(SpareFault::NoMemory),
         }
     }
 
@@ -97,7 +97,7 @@ impl NodeList {
         ensures back { TakesBack self.old self.new spare.place }
         ensures follows { Follows self.old self.new }
     {
-        let _ = self.slab.try_remove(spare.place);
+        let _ = self.slab.try_remove(spare.node().place());
     }
 
     /// Links the node of a spare behind a linked node. The spare is out no more.
@@ -109,12 +109,14 @@ impl NodeList {
         requires order { IsRising (linked_after self.old.nodes pred (filled spare)) }
         ensures linked { Takes self.old self.new
             (linked_after self.old.nodes pred (filled spare)) spare.place }
+        ensures node { node_of self.new.nodes spare.place ≡ Some (filled spare) }
         ensures follows { Follows self.old self.new }
     {
-        let Spare { place, mut node } = spare;
+        let place = spare.node();
+        let next = replace_next(&mut self.slab, pred.place(), Some(place));
+        let node = spare.into_node(next);
         let weight = node.kind.weight();
-        node.next = replace_next(&mut self.slab, pred.place(), Some(NodeRef::new(place)));
-        set_slot(&mut self.slab, place, Slot::Linked(node));
+        set_slot(&mut self.slab, place.place(), Slot::Linked(node));
         // No more nodes are counted than places are in use, so the counts fit.
         let _places = self.slab.len();
         self.count += weight;

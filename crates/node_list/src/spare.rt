@@ -1,5 +1,7 @@
 //! Spares: nodes that are not linked yet.
 ghost use Rattle.std.specs.Prelude.{◌≡◌};
+ghost use Rattle.node_list.specs.Layout.{stored};
+ghost use Rattle.node_list.specs.Nodes.{filled};
 
 use crate::node::{Kind, Node, NodeRef};
 use std::marker::Model;
@@ -11,25 +13,25 @@ use std::marker::Model;
 /// `NodeList::link_after` and `NodeList::give_back` end. A spare that is dropped keeps its place.
 #[derive(Debug, Drop)]
 pub struct Spare {
-    pub(crate) place: usize,
-    pub(crate) node: Node,
+    place: NodeRef,
+    stamp: u64,
+    split: u64,
+    kind: Kind,
+    value: u64,
 }
 
 impl Model for Spare {
-    ghost use Rattle.std.specs.Prelude.{◌≡◌, false};
     ghost use Rattle.node_list.specs.Nodes.{SpareAt};
 
     ghost Value = { SpareAt };
 
     ghost view = { λ s. record {
       place = s.place;
-      stamp = s.node.stamp;
-      split = s.node.split;
-      kind = s.node.kind;
-      value = s.node.value;
+      stamp = s.stamp;
+      split = s.split;
+      kind = s.kind;
+      value = s.value;
     } };
-
-    ghost invariant = { λ s. s.node.marked ≡ false };
 }
 
 /// Why a list gives no spare.
@@ -42,26 +44,59 @@ pub enum SpareFault {
 }
 
 impl Spare {
+    // A spare that is filled as a node is, and has its stamp.
+    pub(crate) fn of(place: NodeRef, node: Node) -> Self
+        ensures { result ≡ record {
+          place = place;
+          stamp = node.stamp;
+          split = node.split;
+          kind = node.kind;
+          value = node.value;
+        } }
+    {
+        Spare {
+            place,
+            stamp: node.stamp,
+            split: node.split,
+            kind: node.kind,
+            value: node.value,
+        }
+    }
+
+    // The node that the spare becomes, before a next one.
+    pub(crate) fn into_node(self, next: Option<NodeRef>) -> Node
+        ensures { result ≡ stored (filled self) next }
+    {
+        Node {
+            split: self.split,
+            kind: self.kind,
+            value: self.value,
+            stamp: self.stamp,
+            marked: false,
+            next,
+        }
+    }
+
     /// Sets the split key, the kind and the value that the node will have. Takes no memory.
     pub fn fill(&mut self, split: u64, kind: Kind, value: u64)
         ensures { self.new ≡ record self.old { split = split; kind = kind; value = value } }
     {
-        self.node.split = split;
-        self.node.kind = kind;
-        self.node.value = value;
+        self.split = split;
+        self.kind = kind;
+        self.value = value;
     }
 
     /// The node that the spare will become.
     pub fn node(&self) -> NodeRef
         ensures { result ≡ self.now.place }
     {
-        NodeRef::new(self.place)
+        self.place
     }
 
     /// The stamp that the node will have.
     pub fn stamp(&self) -> u64
         ensures { result ≡ self.now.stamp }
     {
-        self.node.stamp
+        self.stamp
     }
 }

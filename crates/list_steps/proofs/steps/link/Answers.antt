@@ -15,4 +15,4 @@ link_after-requires-clause-order c =
 pub returns-then-is_fitting-clause-ok : goal.returns-then-is_fitting-clause-ok
 returns-then-is_fitting-clause-ok c =
     let fitting = sym c.is_fitting.ensures.fits ∙ c.if-is_fitting.true in
-    links _ _ c.is_fitting.ensures.sound c.requires.placed fitting _ (filled c.args.spare) c.link_after.ensures.linked c.turn-turn.ensures.sound.spread
+    links _ _ c.is_fitting.ensures.sound c.requires.placed fitting _ (filled c.args.spare) c.link_after.ensures.linked c.link_after.ensures.node

@@ -2,61 +2,82 @@ use Rattle.std.proofs.Common.{refl, arith}
 use Rattle.node_list.proofs.CallLemmas.{slot_linked, counted_fit, filling_slot, filled_in}
 use Rattle.node_list.proofs.list.NodeList.link_after.Goals as goal
 
-pub replace_next-node-requires : goal.replace_next-node-requires
-replace_next-node-requires c =
+pub replace_next-next-requires : goal.replace_next-next-requires
+replace_next-next-requires c =
     rw c.place.ensures (slot_linked _ _ _ _ _ _ c.self.invariant (rw (← c.self.view_is) at c.requires.linked))
 
 pub set_slot-requires : goal.set_slot-requires
 set_slot-requires c =
     let linked = rw (← c.self.view_is) at c.requires.linked in
-    let out = rw (← c.self.view_is, ← c.spare.view_is) at c.requires.out in
+    let out = rw (← c.self.view_is) at c.requires.out in
     let slot = slot_linked _ _ _ _ _ _ c.self.invariant linked in
-    let next_was = rw c.place.ensures at c.replace_next-node.ensures.was slot.0 in
-    let pointed = rw (c.place.ensures, c.new.ensures) at c.replace_next-node.ensures.now slot.0 in
-    let free = filling_slot _ _ c.self.inside.turn _ _ _ c.self.invariant _ c.replace_next-node.new.slab _ _ slot.0 c.spare.inside.node _ slot.1 out c.spare.invariant (next_was slot.1) (pointed slot.1) in
-    rw free refl
+    let next_was = rw c.place.ensures at c.replace_next-next.ensures.was slot.0 in
+    let pointed = rw (c.place.ensures, c.node-place.ensures) at c.replace_next-next.ensures.now slot.0 in
+    let free = filling_slot _ _ c.self.inside.turn _ _ _ c.self.invariant _ c.replace_next-next.new.slab _ slot.0 c.args.spare _ slot.1 out (next_was slot.1) (pointed slot.1) in
+    rw (c.place-2.ensures, c.node-place.ensures, free) refl
 
 pub overflow_add-self : goal.overflow_add-self
 overflow_add-self c =
     let linked = rw (← c.self.view_is) at c.requires.linked in
-    let out = rw (← c.self.view_is, ← c.spare.view_is) at c.requires.out in
+    let out = rw (← c.self.view_is) at c.requires.out in
     let slot = slot_linked _ _ _ _ _ _ c.self.invariant linked in
-    let next_was = rw c.place.ensures at c.replace_next-node.ensures.was slot.0 in
-    let pointed = rw (c.place.ensures, c.new.ensures) at c.replace_next-node.ensures.now slot.0 in
-    let order = rw (← c.self.view_is, ← c.spare.view_is) at c.requires.order in
-    let now = filled_in _ _ c.self.inside.turn _ _ _ c.self.invariant _ _ _ _ slot.0 c.spare.inside.node _ slot.1 out c.spare.invariant (next_was slot.1) (pointed slot.1) _ c.weight-weight.ensures c.set_slot.ensures linked order in
+    let next_was = rw c.place.ensures at c.replace_next-next.ensures.was slot.0 in
+    let pointed = rw (c.place.ensures, c.node-place.ensures) at c.replace_next-next.ensures.now slot.0 in
+    let order = rw (← c.self.view_is) at c.requires.order in
+    let weight = rw c.into_node-node.ensures at c.weight-weight.ensures in
+    let filled = rw (c.place-2.ensures, c.node-place.ensures, c.into_node-node.ensures) at c.set_slot.ensures in
+    let now = filled_in _ _ c.self.inside.turn _ _ _ c.self.invariant _ _ _ slot.0 c.args.spare _ slot.1 out (next_was slot.1) (pointed slot.1) _ weight filled linked order in
     let fits = counted_fit _ _ _ _ _ now.0 in
     omega (arith, fits, c.len-places.ensures, c.len-places.type_inv)
 
 pub invariant_of-self : goal.invariant_of-self
 invariant_of-self c =
     let linked = rw (← c.self.view_is) at c.requires.linked in
-    let out = rw (← c.self.view_is, ← c.spare.view_is) at c.requires.out in
+    let out = rw (← c.self.view_is) at c.requires.out in
     let slot = slot_linked _ _ _ _ _ _ c.self.invariant linked in
-    let next_was = rw c.place.ensures at c.replace_next-node.ensures.was slot.0 in
-    let pointed = rw (c.place.ensures, c.new.ensures) at c.replace_next-node.ensures.now slot.0 in
-    let order = rw (← c.self.view_is, ← c.spare.view_is) at c.requires.order in
-    let now = filled_in _ _ c.self.inside.turn _ _ _ c.self.invariant _ _ _ _ slot.0 c.spare.inside.node _ slot.1 out c.spare.invariant (next_was slot.1) (pointed slot.1) _ c.weight-weight.ensures c.set_slot.ensures linked order in
+    let next_was = rw c.place.ensures at c.replace_next-next.ensures.was slot.0 in
+    let pointed = rw (c.place.ensures, c.node-place.ensures) at c.replace_next-next.ensures.now slot.0 in
+    let order = rw (← c.self.view_is) at c.requires.order in
+    let weight = rw c.into_node-node.ensures at c.weight-weight.ensures in
+    let filled = rw (c.place-2.ensures, c.node-place.ensures, c.into_node-node.ensures) at c.set_slot.ensures in
+    let now = filled_in _ _ c.self.inside.turn _ _ _ c.self.invariant _ _ _ slot.0 c.args.spare _ slot.1 out (next_was slot.1) (pointed slot.1) _ weight filled linked order in
     now.0
 
 pub returns-clause-linked : goal.returns-clause-linked
 returns-clause-linked c =
     let linked = rw (← c.self.view_is) at c.requires.linked in
-    let out = rw (← c.self.view_is, ← c.spare.view_is) at c.requires.out in
+    let out = rw (← c.self.view_is) at c.requires.out in
     let slot = slot_linked _ _ _ _ _ _ c.self.invariant linked in
-    let next_was = rw c.place.ensures at c.replace_next-node.ensures.was slot.0 in
-    let pointed = rw (c.place.ensures, c.new.ensures) at c.replace_next-node.ensures.now slot.0 in
-    let order = rw (← c.self.view_is, ← c.spare.view_is) at c.requires.order in
-    let now = filled_in _ _ c.self.inside.turn _ _ _ c.self.invariant _ _ _ _ slot.0 c.spare.inside.node _ slot.1 out c.spare.invariant (next_was slot.1) (pointed slot.1) _ c.weight-weight.ensures c.set_slot.ensures linked order in
-    rw (c.saturating_add-self-inside.ensures, ← c.self.view_is, ← c.spare.view_is) now.1
+    let next_was = rw c.place.ensures at c.replace_next-next.ensures.was slot.0 in
+    let pointed = rw (c.place.ensures, c.node-place.ensures) at c.replace_next-next.ensures.now slot.0 in
+    let order = rw (← c.self.view_is) at c.requires.order in
+    let weight = rw c.into_node-node.ensures at c.weight-weight.ensures in
+    let filled = rw (c.place-2.ensures, c.node-place.ensures, c.into_node-node.ensures) at c.set_slot.ensures in
+    let now = filled_in _ _ c.self.inside.turn _ _ _ c.self.invariant _ _ _ slot.0 c.args.spare _ slot.1 out (next_was slot.1) (pointed slot.1) _ weight filled linked order in
+    rw (c.saturating_add-self-inside.ensures, ← c.self.view_is) now.1
+
+pub returns-clause-node : goal.returns-clause-node
+returns-clause-node c =
+    let linked = rw (← c.self.view_is) at c.requires.linked in
+    let out = rw (← c.self.view_is) at c.requires.out in
+    let slot = slot_linked _ _ _ _ _ _ c.self.invariant linked in
+    let next_was = rw c.place.ensures at c.replace_next-next.ensures.was slot.0 in
+    let pointed = rw (c.place.ensures, c.node-place.ensures) at c.replace_next-next.ensures.now slot.0 in
+    let order = rw (← c.self.view_is) at c.requires.order in
+    let weight = rw c.into_node-node.ensures at c.weight-weight.ensures in
+    let filled = rw (c.place-2.ensures, c.node-place.ensures, c.into_node-node.ensures) at c.set_slot.ensures in
+    let now = filled_in _ _ c.self.inside.turn _ _ _ c.self.invariant _ _ _ slot.0 c.args.spare _ slot.1 out (next_was slot.1) (pointed slot.1) _ weight filled linked order in
+    now.2
 
 pub returns-clause-follows : goal.returns-clause-follows
 returns-clause-follows c =
     let linked = rw (← c.self.view_is) at c.requires.linked in
-    let out = rw (← c.self.view_is, ← c.spare.view_is) at c.requires.out in
+    let out = rw (← c.self.view_is) at c.requires.out in
     let slot = slot_linked _ _ _ _ _ _ c.self.invariant linked in
-    let next_was = rw c.place.ensures at c.replace_next-node.ensures.was slot.0 in
-    let pointed = rw (c.place.ensures, c.new.ensures) at c.replace_next-node.ensures.now slot.0 in
-    let order = rw (← c.self.view_is, ← c.spare.view_is) at c.requires.order in
-    let now = filled_in _ _ c.self.inside.turn _ _ _ c.self.invariant _ _ _ _ slot.0 c.spare.inside.node _ slot.1 out c.spare.invariant (next_was slot.1) (pointed slot.1) _ c.weight-weight.ensures c.set_slot.ensures linked order in
-    rw (c.saturating_add-self-inside.ensures, ← c.self.view_is) now.2
+    let next_was = rw c.place.ensures at c.replace_next-next.ensures.was slot.0 in
+    let pointed = rw (c.place.ensures, c.node-place.ensures) at c.replace_next-next.ensures.now slot.0 in
+    let order = rw (← c.self.view_is) at c.requires.order in
+    let weight = rw c.into_node-node.ensures at c.weight-weight.ensures in
+    let filled = rw (c.place-2.ensures, c.node-place.ensures, c.into_node-node.ensures) at c.set_slot.ensures in
+    let now = filled_in _ _ c.self.inside.turn _ _ _ c.self.invariant _ _ _ slot.0 c.args.spare _ slot.1 out (next_was slot.1) (pointed slot.1) _ weight filled linked order in
+    rw (c.saturating_add-self-inside.ensures, ← c.self.view_is) now.3
