@@ -1,3 +1,6 @@
+ghost use Rattle.std.specs.Prelude.{◌≡◌};
+ghost use Rattle.txn_trace.specs.History.{caller_of};
+
 use crate::op::{Op, Reply};
 
 /// One line of a history. The first number of each is its caller.
@@ -25,4 +28,24 @@ pub enum Entry {
     Busy(u64, Op, u64),
     /// All changes are taken back, and the transaction is over.
     Aborted(u64),
+}
+
+impl Entry {
+    /// The caller whose entry this is. Constant time.
+    pub fn caller(&self) -> u64
+        ensures { result ≡ caller_of self.now }
+    {
+        match *self {
+            Entry::Began(caller, _)
+            | Entry::Asked(caller, _)
+            | Entry::Did(caller, _)
+            | Entry::Saved(caller)
+            | Entry::Leave(caller, _)
+            | Entry::Undone(caller)
+            | Entry::Returned(caller, _)
+            | Entry::Committed(caller, _)
+            | Entry::Busy(caller, _, _)
+            | Entry::Aborted(caller) => caller,
+        }
+    }
 }

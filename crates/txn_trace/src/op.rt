@@ -1,3 +1,6 @@
+ghost use Rattle.std.specs.Prelude.{◌≡◌};
+ghost use Rattle.txn_trace.specs.Map.{key_of};
+
 /// An operation on one key of a map.
 #[derive(Clone, Copy, Debug, PartialEq, Eq)]
 pub enum Op {
@@ -7,6 +10,16 @@ pub enum Op {
     Take(u64),
     /// Looks a key up.
     Get(u64),
+}
+
+impl Op {
+    /// The operation's key. Constant time.
+    pub fn key(self) -> u64
+        ensures { result ≡ key_of self }
+    {
+        let (Op::Put(key, _) | Op::Take(key) | Op::Get(key)) = self;
+        key
+    }
 }
 
 /// What an operation answers: the value that the key had before it, or none.

@@ -1,4 +1,4 @@
-use crate::{Answer, Limits, Refusal, answer_text, laws};
+use crate::{Answer, Entry, Limits, Op, Refusal, answer_text};
 use std::test::Fail;
 
 #[test]
@@ -109,6 +109,27 @@ fn limits_out_of_range(rt: HostRuntime) {
 }
 
 #[test]
-fn laws_run(_rt: HostRuntime) {
-    laws::erased();
+fn keys_of_operations(rt: HostRuntime) {
+    assert_eq!(rt; Op::Put(1, 10).key(), 1);
+    assert_eq!(rt; Op::Take(2).key(), 2);
+    assert_eq!(rt; Op::Get(3).key(), 3);
+}
+
+#[test]
+fn callers_of_entries(rt: HostRuntime) {
+    let entries = [
+        Entry::Began(7, 1),
+        Entry::Asked(7, Op::Get(3)),
+        Entry::Did(7, None),
+        Entry::Saved(7),
+        Entry::Leave(7, Some(1)),
+        Entry::Undone(7),
+        Entry::Returned(7, 1),
+        Entry::Committed(7, 1),
+        Entry::Busy(7, Op::Get(3), 2),
+        Entry::Aborted(7),
+    ];
+    for entry in entries {
+        assert_eq!(rt; entry.caller(), 7, "{entry:?}");
+    }
 }
