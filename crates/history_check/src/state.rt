@@ -13,6 +13,7 @@ use txn_trace::{Entry, Op, Reply};
 /// What a legal history says, as far as the next entry is judged by it.
 #[derive(Drop)]
 pub(crate) struct State {
+    /// How many stripes the keys are shared out to.
     pub(crate) stripes: u64,
     /// How many transactions began.
     pub(crate) began: u64,
@@ -20,6 +21,7 @@ pub(crate) struct State {
     pub(crate) committed: u64,
     /// The map as it is now.
     pub(crate) values: BTreeMap<u64, u64>,
+    /// What each caller's entries make of it, by its number.
     pub(crate) callers: Vec<Caller>,
     /// The holder of each stripe.
     pub(crate) locks: KeyLocks,
