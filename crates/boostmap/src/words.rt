@@ -9,12 +9,23 @@ use std::alloc::{AllocError, Global};
 /// What the words of a call ask for.
 #[derive(Clone, Copy, Debug, PartialEq, Eq)]
 pub enum Call<'a> {
-    /// To run the steps of this file.
-    Replay { file: &'a str },
-    /// To run the scripts of this file, the workers' turns mixed as the seed says.
-    Mix { seed: u64, file: &'a str },
-    /// To judge the history of this file.
-    Check { file: &'a str },
+    /// To run the steps of a file.
+    Replay {
+        /// The file's name.
+        file: &'a str,
+    },
+    /// To run the scripts of a file, the workers' turns mixed as a seed says.
+    Mix {
+        /// What starts the generator that draws the turns.
+        seed: u64,
+        /// The file's name.
+        file: &'a str,
+    },
+    /// To judge the history of a file.
+    Check {
+        /// The file's name.
+        file: &'a str,
+    },
 }
 
 /// A command of this name over one file.
@@ -25,6 +36,7 @@ fn command_on_file<'a>(alloc: Global, name: &'a str) -> Result<Command<'a>, Allo
     Command::new(alloc, name).arg(file)
 }
 
+/// The command line of the program.
 fn command<'a>(alloc: Global) -> Result<Command<'a>, AllocError> {
     let replay = command_on_file(alloc, "replay")?;
     let seed = Arg::new(alloc, "seed")
@@ -49,10 +61,13 @@ fn seed_in(word: &str) -> Option<u64> {
     }
 }
 
-/// What the words ask for, of which the first is the program's name.
+/// What the words ask for, of which the first is the program's name. Costs time in proportion to the
+/// words.
 ///
-/// `Usage` for words that are no call of the program, a call for help among them; `NoMemory` where
-/// memory was refused. Costs time in proportion to the words.
+/// # Errors
+///
+/// - `Usage` for words that are no call of the program, a call for help among them.
+/// - `NoMemory` where memory is refused.
 pub fn call_in<'a>(alloc: Global, words: &'a [String]) -> Result<Call<'a>, Fault>
     ensures { IfErr result (λ fault. (fault ≡ faults.Usage) ⊎ (fault ≡ faults.NoMemory)) }
 {

@@ -14,17 +14,22 @@ use std::alloc::Global;
 use std::io::{Read, Write};
 
 /// Reads a step file to its end, runs its steps one after the other on a new core, and writes the
-/// report: the answers, one a line, then `size S count C`, then a line `key value` for each pair of
-/// the map, in list order. Every line ends with a line feed, and nothing else is written.
-///
-/// - `Input` where the file is refused: nothing is written.
-/// - `Read` where a read fails: nothing is written.
-/// - `NoMemory` where memory is refused outside a step: nothing is written. A step that is refused
-///   memory is answered `refused 14` and changes nothing.
-/// - `Write` where a write fails or takes nothing: a proper beginning of the report is written.
+/// report: the answers, one a line, then `size S count C` with the numbers of buckets and of keys, then
+/// a line `key value` for each pair of the map, in list order. Every line ends with a line feed, and
+/// nothing else is written.
 ///
 /// At most 16,777,217 bytes are read, and no call of the reader or the writer is made again after it
 /// failed. Costs what the steps cost, and time and memory in proportion to the file and the report.
+///
+/// # Errors
+///
+/// At each of them but `Write` nothing is written.
+///
+/// - `Input` where the file is refused.
+/// - `Read` where a read fails.
+/// - `NoMemory` where memory is refused outside a step. A step that is refused memory is answered
+///   `refused 14` and changes nothing.
+/// - `Write` where a write fails or takes nothing: a proper beginning of the report is written.
 pub fn replay<R: Read, W: Write>(alloc: Global, input: &mut R, output: &mut W) -> Result<(), Fault>
     ensures reports { OnOk result (Writes IsReportOf (R.remaining input.old) (W.contents output.old) (W.contents output.new)) }
     ensures fault { IfErr result (Leaves IsReportOf IsNoStepFile (R.remaining input.old) (W.contents output.old) (W.contents output.new)) }
@@ -40,13 +45,17 @@ pub fn replay<R: Read, W: Write>(alloc: Global, input: &mut R, output: &mut W) -
 /// of the first entry that breaks a rule, and the rule: 1 replies, 2 locks, 3 shape. The answer is
 /// whether the history is legal.
 ///
-/// - `Input` where the file is refused: nothing is written.
-/// - `Read` where a read fails: nothing is written.
-/// - `NoMemory` where memory is refused: nothing is written.
-/// - `Write` where a write fails or takes nothing: a proper beginning of the line is written.
-///
 /// At most 16,777,217 bytes are read, and no call of the reader or the writer is made again after it
 /// failed. An entry costs the logarithm of the number of keys; memory is in proportion to the file.
+///
+/// # Errors
+///
+/// At each of them but `Write` nothing is written.
+///
+/// - `Input` where the file is refused.
+/// - `Read` where a read fails.
+/// - `NoMemory` where memory is refused.
+/// - `Write` where a write fails or takes nothing: a proper beginning of the line is written.
 pub fn check<R: Read, W: Write>(alloc: Global, input: &mut R, output: &mut W) -> Result<bool, Fault>
     ensures judges { IfOk result (λ legal. Writes (IsJudgement legal) (R.remaining input.old) (W.contents output.old) (W.contents output.new)) }
     ensures fault { IfErr result (Leaves IsJudgementOf IsNoHistoryFile (R.remaining input.old) (W.contents output.old) (W.contents output.new)) }
@@ -65,14 +74,17 @@ pub fn check<R: Read, W: Write>(alloc: Global, input: &mut R, output: &mut W) ->
 /// step to take, names the place of the worker, of those in rising order, that takes its next turn, also where there is
 /// only one. So the same seed gives the same bytes.
 ///
-/// - `Input` where the file is refused: nothing is written.
-/// - `Read` where a read fails: nothing is written.
-/// - `NoMemory` where memory is refused outside a step: nothing is written. A step that is refused memory ends its script
-///   as refused.
-/// - `Write` where a write fails or takes nothing: a proper beginning of the line is written.
-///
 /// At most 16,777,217 bytes are read, and no call of the reader or the writer is made again after it failed. Costs what
 /// the steps cost and a look at each worker for each turn, and time and memory in proportion to the file and the history.
+///
+/// # Errors
+///
+/// At each of them but `Write` nothing is written.
+///
+/// - `Input` where the file is refused.
+/// - `Read` where a read fails.
+/// - `NoMemory` where memory is refused outside a step. A step that is refused memory ends its script as refused.
+/// - `Write` where a write fails or takes nothing: a proper beginning of the line is written.
 pub fn mix<R: Read, W: Write>(
     alloc: Global,
     seed: u64,

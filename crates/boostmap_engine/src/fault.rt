@@ -6,7 +6,7 @@ use std::alloc::AllocError;
 use thiserror::Error;
 use txn_files::FileFault;
 
-/// Why the program gives up. Its text is the line for standard error.
+/// Why the program gives up. Its text is what stands on standard error then: one line, but for `Usage`.
 #[derive(Debug, Drop, Error)]
 pub enum Fault {
     /// The words of the call are none that the program has.

@@ -12,13 +12,19 @@ const MAX_READ: usize = 16_777_217;
 /// How many bytes a read is asked for at most.
 const CHUNK: usize = 65_536;
 
+/// So many zero bytes.
 fn zeros(alloc: Global, count: usize) -> Result<Vec<u8>, AllocError>
     ensures { IfOk result (λ zeros. length zeros.items ≡ count) }
 {
     vec![in alloc; 0u8; count]
 }
 
-/// Reads to the end, or as far as shows that there is too much.
+/// Reads to the end, or as far as shows that there is too much: at most 16,777,217 bytes. Costs time and memory in
+/// proportion to the bytes.
+///
+/// # Errors
+///
+/// `Read` where a read fails, after which the reader is not called again; `NoMemory` where memory is refused.
 pub fn read_input<R: Read>(alloc: Global, input: &mut R) -> Result<Vec<u8>, Fault>
     ensures ok { IfOk result (λ bytes. IsRead (R.remaining input.old) bytes.items) }
     ensures err { IfErr result IsReadFault }

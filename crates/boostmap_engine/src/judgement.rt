@@ -8,7 +8,12 @@ use history_check::{Verdict, check};
 use std::alloc::{AllocError, Global};
 use txn_files::read_history;
 
-/// The verdict on the history that the bytes are.
+/// The verdict on the history that the bytes are. An entry costs the logarithm of the number of keys; memory is in
+/// proportion to the bytes.
+///
+/// # Errors
+///
+/// `Input` where the bytes are no history file; `NoMemory` where memory is refused.
 pub fn judge(alloc: Global, bytes: &[u8]) -> Result<Verdict, Fault>
     ensures ok { IfOk result (λ verdict. IsJudged bytes.now (meaning_of verdict)) }
     ensures err { IfErr result (HasNone IsNoHistoryFile bytes.now) }
@@ -18,7 +23,11 @@ pub fn judge(alloc: Global, bytes: &[u8]) -> Result<Verdict, Fault>
     Ok(verdict)
 }
 
-/// The line of a verdict.
+/// The line of a verdict, with its line feed. Costs time and memory in proportion to the line, which is at most 61 bytes.
+///
+/// # Errors
+///
+/// `AllocError` where memory is refused.
 pub fn line_of(alloc: Global, verdict: Verdict) -> Result<String, AllocError>
     ensures { IfOk result (λ line. string_bytes line ≡ verdict_line (meaning_of verdict)) }
 {
@@ -35,7 +44,7 @@ pub fn line_of(alloc: Global, verdict: Verdict) -> Result<String, AllocError>
     Ok(line)
 }
 
-/// Whether a verdict is that the history is legal.
+/// Whether a verdict is that the history is legal. Constant time.
 pub fn is_legal(verdict: Verdict) -> bool
     ensures { result ≡ says_legal (meaning_of verdict) }
 {

@@ -8,8 +8,9 @@
 //! What they promise (`specs/Report.antt`, `specs/Judgement.antt`, `specs/Mixture.antt`): what was
 //! written is the report of a run of the steps that the bytes are, or the line of the verdict on the
 //! history that they are, or a legal history in which the workers' committed transactions play the
-//! scripts that the bytes are, and nothing else. A file that is refused, a failed read and want of memory (outside a step) leave
-//! nothing written; a failed write leaves a proper beginning of the text (`specs/Written.antt`).
+//! scripts that the bytes are, and nothing else. A file that is refused, a failed read and want of
+//! memory (outside a step) leave nothing written; a failed write leaves a proper beginning of the text
+//! (`specs/Written.antt`).
 //!
 //! No read and no write is tried again. The whole text is made before the first byte is written, so
 //! memory is needed for the file, what it holds, and the text at once.

@@ -197,3 +197,38 @@ fn mix_of_failing_writes(rt: HostRuntime) {
         }
     }
 }
+
+/// One worker with two scripts, of which the first sets a savepoint.
+const TWO_SCRIPTS: &str =
+    "{\"version\":1,\"workers\":1,\"stripes\":8,\"buckets\":8,\"tries\":0,\"scripts\":[[[\"put\",1,10],[\"save\"]],[[\"get\",1]]]}";
+
+/// The histories of these scripts: the whole one, and those where memory was refused to one step of it, which ended its
+/// script: to the begin, the ask or the save of the first script, or to the begin or the ask of the second.
+const TWO_SCRIPTS_HISTORIES: [&str; 6] = [
+    "{\"entries\":[[\"began\",0,1],[\"asked\",0,\"put\",1,10],[\"did\",0,null],[\"saved\",0],[\"committed\",0,1],[\"began\",0,2],[\"asked\",0,\"get\",1],[\"did\",0,10],[\"committed\",0,2]],\"stripes\":8,\"version\":1}\n",
+    "{\"entries\":[[\"began\",0,1],[\"asked\",0,\"get\",1],[\"did\",0,null],[\"committed\",0,1]],\"stripes\":8,\"version\":1}\n",
+    "{\"entries\":[[\"began\",0,1],[\"leave\",0,null],[\"aborted\",0],[\"began\",0,2],[\"asked\",0,\"get\",1],[\"did\",0,null],[\"committed\",0,1]],\"stripes\":8,\"version\":1}\n",
+    "{\"entries\":[[\"began\",0,1],[\"asked\",0,\"put\",1,10],[\"did\",0,null],[\"leave\",0,null],[\"undone\",0],[\"aborted\",0],[\"began\",0,2],[\"asked\",0,\"get\",1],[\"did\",0,null],[\"committed\",0,1]],\"stripes\":8,\"version\":1}\n",
+    "{\"entries\":[[\"began\",0,1],[\"asked\",0,\"put\",1,10],[\"did\",0,null],[\"saved\",0],[\"committed\",0,1]],\"stripes\":8,\"version\":1}\n",
+    "{\"entries\":[[\"began\",0,1],[\"asked\",0,\"put\",1,10],[\"did\",0,null],[\"saved\",0],[\"committed\",0,1],[\"began\",0,2],[\"leave\",0,null],[\"aborted\",0]],\"stripes\":8,\"version\":1}\n",
+];
+
+/// Is to be run with each allocation refused in turn: nothing is written, or a whole history, in which the script whose
+/// step was refused memory has changed nothing.
+#[test]
+fn mix_without_memory(rt: HostRuntime) {
+    let mut input = TWO_SCRIPTS.as_bytes();
+    let mut output = Narrow::new(usize::MAX, false);
+    match mix(rt.alloc(), 7, &mut input, &mut output) {
+        Ok(()) => {
+            let is_known = TWO_SCRIPTS_HISTORIES
+                .iter()
+                .any(|history| history.as_bytes() == output.written());
+            assert!(rt; is_known);
+        }
+        Err(fault) => {
+            assert!(rt; matches!(fault, Fault::NoMemory));
+            assert_eq!(rt; output.calls, 0);
+        }
+    }
+}

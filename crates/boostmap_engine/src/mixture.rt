@@ -7,7 +7,12 @@ use script_mix::mixed;
 use std::alloc::Global;
 use txn_files::{history_text, read_scripts};
 
-/// The text of a history of the scripts that the bytes are, the workers' turns mixed as the seed says.
+/// The text of a history of the scripts that the bytes are, the workers' turns mixed as the seed says, with its line feed.
+/// Costs what the steps cost and a look at each worker for each turn, and time and memory in proportion to bytes and text.
+///
+/// # Errors
+///
+/// `Input` where the bytes are no script file; `NoMemory` where memory is refused outside a step.
 pub fn mixture(alloc: Global, seed: u64, bytes: &[u8]) -> Result<String, Fault>
     ensures ok { IfOk result (λ text. IsMixtureOf seed bytes.now (string_bytes text)) }
     ensures err { IfErr result (HasNone IsNoScriptFile bytes.now) }

@@ -8,6 +8,7 @@ use std::alloc::{AllocError, Global};
 use txn_files::read_steps;
 use txn_trace::Answer;
 
+/// Puts the answers to the text, one a line.
 fn put_answers(text: &mut String, answers: &[Answer]) -> Result<(), AllocError>
     ensures { OnOk result (string_bytes text.new ≡ string_bytes text.old ++ answers_text answers.now) }
 {
@@ -17,12 +18,14 @@ fn put_answers(text: &mut String, answers: &[Answer]) -> Result<(), AllocError>
     Ok(())
 }
 
+/// Puts the line of the size and the count to the text.
 fn put_size(text: &mut String, size: u32, count: u64) -> Result<(), AllocError>
     ensures { OnOk result (string_bytes text.new ≡ string_bytes text.old ++ size_text size count) }
 {
     writeln!(text, "size {size} count {count}")
 }
 
+/// Puts the pairs to the text, one a line.
 fn put_pairs(text: &mut String, pairs: &[(u64, u64)]) -> Result<(), AllocError>
     ensures { OnOk result (string_bytes text.new ≡ string_bytes text.old ++ pairs_text pairs.now) }
 {
@@ -44,7 +47,12 @@ fn text_of_run(alloc: Global, answers: &[Answer], core: &Core) -> Result<String,
     Ok(text)
 }
 
-/// The report of the steps that the bytes are, run on a new core.
+/// The report of the steps that the bytes are, run on a new core. Costs what the steps cost, and time and memory in
+/// proportion to the bytes and the report.
+///
+/// # Errors
+///
+/// `Input` where the bytes are no step file; `NoMemory` where memory is refused outside a step.
 pub fn report(alloc: Global, bytes: &[u8]) -> Result<String, Fault>
     ensures ok { IfOk result (λ text. IsReportOf bytes.now (string_bytes text)) }
     ensures err { IfErr result (HasNone IsNoStepFile bytes.now) }

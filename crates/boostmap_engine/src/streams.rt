@@ -5,11 +5,13 @@ use std::io::{ErrorKind, Read, Write};
 #[derive(Drop)]
 pub struct Trickle<'a> {
     rest: &'a [u8],
+    /// How often it was called.
     pub calls: usize,
     fails_at: usize,
 }
 
 impl<'a> Trickle<'a> {
+    /// A reader of these bytes.
     pub fn new(rest: &'a [u8], fails_at: usize) -> Trickle<'a> {
         Trickle {
             rest,
@@ -43,12 +45,14 @@ impl Read for Trickle<'_> {
 pub struct Narrow {
     page: [u8; 256],
     len: usize,
+    /// How often it was called.
     pub calls: usize,
     fails_at: usize,
     takes_nothing: bool,
 }
 
 impl Narrow {
+    /// A writer that has taken nothing.
     pub fn new(fails_at: usize, takes_nothing: bool) -> Narrow {
         Narrow {
             page: [0; 256],
@@ -59,6 +63,7 @@ impl Narrow {
         }
     }
 
+    /// What it has taken, of which it keeps 256 bytes.
     pub fn written(&self) -> &[u8] {
         &self.page[..self.len.min(256)]
     }

@@ -8,7 +8,7 @@
 use boostmap_engine::{Fault, check, mix, replay};
 use std::process::ExitCode;
 use std::rt::Runtime;
-use std::{fs, io};
+use std::{fmt, fs, io};
 
 /// The commands, with the file that each runs.
 const CALLS: [(Command, &str); 5] = [
@@ -19,12 +19,25 @@ const CALLS: [(Command, &str); 5] = [
     (Command::Check, "checked.json"),
 ];
 
-/// A command of the program `boostmap`, with the seed where it has one.
+/// A command of the program `boostmap`, with the seed where it has one. It is printed as the words that a user types.
 #[derive(Clone, Copy, Debug)]
 enum Command {
+    /// Runs the steps of a file.
     Replay,
+    /// Runs the scripts of a file, their turns mixed as this seed says.
     Mix(u64),
+    /// Judges the history of a file.
     Check,
+}
+
+impl fmt::Display for Command {
+    fn fmt<W: fmt::Write>(&self, f: &mut fmt::Formatter<W>) -> fmt::Result {
+        match *self {
+            Command::Replay => write!(f, "replay"),
+            Command::Mix(seed) => write!(f, "mix --seed {seed}"),
+            Command::Check => write!(f, "check"),
+        }
+    }
 }
 
 /// Runs a file by a command.
@@ -42,7 +55,7 @@ fn run<R: Runtime + AllocGlobal>(rt: &R, command: Command, file: &str) -> Result
 
 fn main(rt: HostRuntime) -> ExitCode {
     for (command, file) in CALLS {
-        let _ = println!(rt; "{command:?} {file}");
+        let _ = println!(rt; "{command} {file}");
         if let Err(fault) = run(&rt, command, file) {
             let _ = println!(rt; "{fault}");
             return ExitCode::FAILURE;

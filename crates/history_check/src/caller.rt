@@ -4,7 +4,6 @@ ghost use Rattle.txn_trace.specs.Shape.{Opened, Waiting, changes, closed_seat, r
 ghost use Rattle.txn_trace.specs.Legal.{runs};
 ghost use Rattle.history_check.specs.Callers.{seat_of, log_in, phase_of, goal_of};
 
-use crate::values::key_in;
 use std::alloc::{AllocError, Global};
 use txn_trace::{Entry, Op, Reply};
 
@@ -151,7 +150,7 @@ impl Caller {
             Op::Get(_) => false,
         };
         if is_change {
-            self.changes.push_reserved((key_in(op), reply));
+            self.changes.push_reserved((op.key(), reply));
         }
         self.phase = Phase::Open;
     }

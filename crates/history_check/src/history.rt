@@ -15,7 +15,9 @@ use txn_trace::Entry;
 /// the history is legal. Otherwise it is `Illegal`, with the index of the first entry that breaks a rule, from 0, and the
 /// rule: shape, or of replies and locks the first that it breaks.
 ///
-/// Each entry costs the logarithm of the number of keys. No map is copied.
+/// Each entry costs the logarithm of the number of keys; a Committed or an Aborted also takes a step for each stripe that
+/// it gives back and each change that stood. Memory is in proportion to the stripes, and to the most keys, changes that can
+/// be taken back and savepoints that there are at one time.
 ///
 /// # Errors
 ///

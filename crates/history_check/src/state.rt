@@ -3,7 +3,7 @@ ghost use Rattle.txn_trace.specs.History.{caller_of, is_began, is_commit};
 ghost use Rattle.txn_trace.specs.Shape.{how_many, is_numbered};
 
 use crate::caller::{Caller, Phase};
-use crate::values::{key_in, operate, restore};
+use crate::values::{operate, restore};
 use crate::verdict::Rule;
 use key_locks::{CALLERS, KeyLocks, LockAnswer};
 use std::alloc::{AllocError, Global};
@@ -13,6 +13,7 @@ use txn_trace::{Entry, Op, Reply};
 /// What a legal history says, as far as the next entry is judged by it.
 #[derive(Drop)]
 pub(crate) struct State {
+    /// How many stripes the keys are shared out to.
     pub(crate) stripes: u64,
     /// How many transactions began.
     pub(crate) began: u64,
@@ -20,6 +21,7 @@ pub(crate) struct State {
     pub(crate) committed: u64,
     /// The map as it is now.
     pub(crate) values: BTreeMap<u64, u64>,
+    /// What each caller's entries make of it, by its number.
     pub(crate) callers: Vec<Caller>,
     /// The holder of each stripe.
     pub(crate) locks: KeyLocks,
@@ -97,7 +99,7 @@ impl State {
         requires { caller_of entry.now < 64 }
         ensures { (stripes : ℕ) (h : List Entry) → Tells stripes h self.now → result ≡ is_shaped h entry.now }
     {
-        let caller = caller_in(entry);
+        let caller = entry.caller();
         let is_numbered = has_next_number(self.began, self.committed, entry);
         self.callers[caller as usize].allows(entry) && is_numbered
     }
@@ -111,7 +113,7 @@ impl State {
             return true;
         };
         match self.callers[caller as usize].phase {
-            Phase::Asked(op) => reply == self.values.get(&key_in(op)).copied(),
+            Phase::Asked(op) => reply == self.values.get(&op.key()).copied(),
             _ => true,
         }
     }
@@ -130,7 +132,7 @@ impl State {
         requires { caller < 64 }
         ensures { JudgesLocks (Entry.Asked caller op) self.old result self.new }
     {
-        let stripe = key_in(op) % self.stripes;
+        let stripe = op.key() % self.stripes;
         match self.locks.lock(caller as usize, stripe as usize) {
             LockAnswer::Busy(_) => Some(Rule::Locks),
             LockAnswer::Granted => {
@@ -145,7 +147,7 @@ impl State {
         requires { caller < 64 }
         ensures { JudgesLocks (Entry.Busy caller op holder) self.old result self.new }
     {
-        let stripe = key_in(op) % self.stripes;
+        let stripe = op.key() % self.stripes;
         match self.locks.lock(caller as usize, stripe as usize) {
             LockAnswer::Granted => Some(Rule::Locks),
             LockAnswer::Busy(other) => {
@@ -230,24 +232,6 @@ impl State {
     {
         self.callers[caller as usize].close();
         self.locks.release_all(caller as usize);
-    }
-}
-
-/// The caller of an entry.
-pub(crate) fn caller_in(entry: &Entry) -> u64
-    ensures { result ≡ caller_of entry.now }
-{
-    match *entry {
-        Entry::Began(caller, _)
-        | Entry::Asked(caller, _)
-        | Entry::Did(caller, _)
-        | Entry::Saved(caller)
-        | Entry::Leave(caller, _)
-        | Entry::Undone(caller)
-        | Entry::Returned(caller, _)
-        | Entry::Committed(caller, _)
-        | Entry::Busy(caller, _, _)
-        | Entry::Aborted(caller) => caller,
     }
 }
 

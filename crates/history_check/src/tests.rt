@@ -3,7 +3,6 @@ ghost use Rattle.std.specs.Prelude.{◌<◌};
 mod generated;
 mod plain;
 
-use crate::state::caller_in;
 use crate::{Checker, Rule, Verdict, check};
 use generated::Draws;
 use std::alloc::{AllocError, Global};
@@ -50,11 +49,11 @@ fn agreed<R: AllocGlobal + Abort>(
     let alloc = rt.alloc();
     let bad = plain::first_bad(alloc, entries, stripes)?;
     let expected = plain::verdict(entries, bad);
-    assert!(rt; entries.iter().all(|entry| caller_in(entry) < 64));
+    assert!(rt; entries.iter().all(|entry| entry.caller() < 64));
     assert_eq!(rt; check(alloc, entries, stripes)?, expected, "{entries:?}");
     let mut checker = Checker::new(alloc, stripes)?;
     for (i, entry) in entries.iter().enumerate() {
-        assert!(rt; caller_in(entry) < 64);
+        assert!(rt; entry.caller() < 64);
         checker.feed(entry)?;
         let so_far = plain::verdict(&entries[..i + 1], bad.filter(|bad| bad.0 <= i));
         assert_eq!(rt; checker.verdict(), so_far, "after entry {i} of {entries:?}");
@@ -146,7 +145,7 @@ fn started(alloc: Global) -> Result<Checker, AllocError> {
 
 /// Feeds an entry, once more where it is refused.
 fn fed(checker: &mut Checker, entry: &Entry, rt: &impl Abort) {
-    assert!(rt; caller_in(entry) < 64);
+    assert!(rt; entry.caller() < 64);
     let before = checker.verdict();
     if checker.feed(entry).is_err() {
         assert_eq!(rt;
@@ -158,6 +157,7 @@ fn fed(checker: &mut Checker, entry: &Entry, rt: &impl Abort) {
     }
 }
 
+/// Is to be run with each allocation refused in turn: a refused entry changes nothing, and is fed once more.
 #[test]
 fn fed_entry_by_entry(rt: HostRuntime) -> Result<(), Fail> {
     let mut checker = started(rt.alloc())?;
@@ -174,33 +174,50 @@ fn fed_entry_by_entry(rt: HostRuntime) -> Result<(), Fail> {
     Ok(())
 }
 
+/// A transaction that goes back to its first savepoint, and then would go back to the second.
+const WITH_SAVEPOINTS: [Entry; 16] = [
+    Entry::Began(0, 1),
+    Entry::Asked(0, Op::Put(1, 10)),
+    Entry::Did(0, None),
+    Entry::Saved(0),
+    Entry::Asked(0, Op::Put(1, 11)),
+    Entry::Did(0, Some(10)),
+    Entry::Saved(0),
+    Entry::Asked(0, Op::Take(1)),
+    Entry::Did(0, Some(11)),
+    Entry::Leave(0, Some(1)),
+    Entry::Undone(0),
+    Entry::Undone(0),
+    Entry::Returned(0, 1),
+    Entry::Asked(0, Op::Get(1)),
+    Entry::Did(0, Some(10)),
+    Entry::Leave(0, Some(2)),
+];
+
 #[test]
 fn savepoints(rt: HostRuntime) -> Result<(), Fail> {
-    let entries = [
-        Entry::Began(0, 1),
-        Entry::Asked(0, Op::Put(1, 10)),
-        Entry::Did(0, None),
-        Entry::Saved(0),
-        Entry::Asked(0, Op::Put(1, 11)),
-        Entry::Did(0, Some(10)),
-        Entry::Saved(0),
-        Entry::Asked(0, Op::Take(1)),
-        Entry::Did(0, Some(11)),
-        Entry::Leave(0, Some(1)),
-        Entry::Undone(0),
-        Entry::Undone(0),
-        Entry::Returned(0, 1),
-        Entry::Asked(0, Op::Get(1)),
-        Entry::Did(0, Some(10)),
-        Entry::Leave(0, Some(2)),
-    ];
-    let back_at_1 = &entries[..15];
+    let back_at_1 = &WITH_SAVEPOINTS[..15];
     assert_eq!(rt; judged(&rt, back_at_1, 8)?, legal(0, 1));
     assert_eq!(rt;
-        judged(&rt, &entries, 8)?,
+        judged(&rt, &WITH_SAVEPOINTS, 8)?,
         illegal(15, Rule::Shape),
         "savepoint 2 is gone"
     );
+    Ok(())
+}
+
+/// Is to be run with each allocation refused in turn: a refused entry changes nothing, and is fed once more.
+#[test]
+fn fed_with_savepoints(rt: HostRuntime) -> Result<(), Fail> {
+    let mut checker = started(rt.alloc())?;
+    for (i, entry) in WITH_SAVEPOINTS.iter().enumerate() {
+        fed(&mut checker, entry, &rt);
+        let verdict = match i {
+            15 => illegal(15, Rule::Shape),
+            _ => legal(0, 1),
+        };
+        assert_eq!(rt; checker.verdict(), verdict, "after entry {i}");
+    }
     Ok(())
 }
 

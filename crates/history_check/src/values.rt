@@ -1,19 +1,11 @@
-ghost use Rattle.std.specs.Prelude.{◌≡◌, OnOk, OnErr};
-ghost use Rattle.txn_trace.specs.Map.{Map, after, get, key_of};
+ghost use Rattle.std.specs.Prelude.{OnOk, OnErr};
+ghost use Rattle.txn_trace.specs.Map.{Map, after};
 ghost use Rattle.txn_trace.specs.Now.{set_at};
 ghost use Rattle.history_check.specs.Values.{Has};
 
 use std::alloc::AllocError;
 use std::collections::BTreeMap;
 use txn_trace::Op;
-
-/// The key of an operation.
-pub(crate) fn key_in(op: Op) -> u64
-    ensures { result ≡ key_of op }
-{
-    let (Op::Put(key, _) | Op::Take(key) | Op::Get(key)) = op;
-    key
-}
 
 /// Does an operation. Costs the logarithm of the number of keys.
 pub(crate) fn operate(values: &mut BTreeMap<u64, u64>, op: Op) -> Result<(), AllocError>

@@ -3,8 +3,6 @@
 ghost use Rattle.std.specs.Prelude.{◌<◌};
 
 use super::plain::{self, Place};
-use crate::state::caller_in;
-use crate::values::key_in;
 use std::alloc::{AllocError, Global};
 use txn_trace::{Entry, Op};
 
@@ -106,7 +104,7 @@ fn next_entry(
 fn next_operation(history: &[Entry], caller: u64, op: Op, stripes: u64) -> Entry
     requires { 0 < stripes }
 {
-    let stripe = key_in(op) % stripes;
+    let stripe = op.key() % stripes;
     for other in CALLERS {
         if other != caller && plain::holds(history, other, stripe, stripes) {
             return Entry::Busy(caller, op, other);
@@ -146,7 +144,7 @@ fn change_operation(draws: &mut Draws, history: &mut [Entry], place: usize) {
 
 /// The entry with another number, reply, operation or caller; now and then with the same.
 fn changed(draws: &mut Draws, entry: Entry) -> Entry {
-    let caller = caller_in(&entry);
+    let caller = entry.caller();
     let other = draws.caller(4);
     let number = draws.below(6);
     match entry {

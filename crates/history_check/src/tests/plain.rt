@@ -5,8 +5,6 @@
 
 ghost use Rattle.std.specs.Prelude.{◌<◌};
 
-use crate::state::caller_in;
-use crate::values::key_in;
 use crate::{Rule, Verdict};
 use std::alloc::{AllocError, Global};
 use std::collections::BTreeMap;
@@ -31,7 +29,7 @@ pub(super) fn last_of(
     history: &[Entry],
 ) -> Result<Vec<Entry>, AllocError> {
     let mut entries = Vec::new(alloc);
-    for entry in history.iter().filter(|entry| caller_in(entry) == caller) {
+    for entry in history.iter().filter(|entry| entry.caller() == caller) {
         if is_began(entry) {
             entries.clear();
         }
@@ -127,7 +125,7 @@ fn is_undone(entry: &Entry) -> bool {
 
 /// Whether the state table has a row for one more entry, and its number is right.
 fn has_shape(alloc: Global, history: &[Entry], entry: &Entry) -> Result<bool, AllocError> {
-    let entries = last_of(alloc, caller_in(entry), history)?;
+    let entries = last_of(alloc, entry.caller(), history)?;
     let kept = kept(alloc, &entries)?;
     let standing = standing(&entries);
     let at_level = |level: u64| kept.get(level as usize).copied();
@@ -155,9 +153,9 @@ pub(super) fn holds(history: &[Entry], caller: u64, stripe: u64, stripes: u64) -
     requires { 0 < stripes }
 {
     let mut holds = false;
-    for entry in history.iter().filter(|entry| caller_in(entry) == caller) {
+    for entry in history.iter().filter(|entry| entry.caller() == caller) {
         match *entry {
-            Entry::Asked(_, op) => holds = holds || key_in(op) % stripes == stripe,
+            Entry::Asked(_, op) => holds = holds || op.key() % stripes == stripe,
             Entry::Committed(..) | Entry::Aborted(_) => holds = false,
             _ => {}
         }
@@ -171,12 +169,12 @@ fn is_locked(history: &[Entry], entry: &Entry, stripes: u64) -> bool
 {
     match *entry {
         Entry::Asked(caller, op) => {
-            let stripe = key_in(op) % stripes;
-            let mut others = history.iter().map(|entry| caller_in(entry));
+            let stripe = op.key() % stripes;
+            let mut others = history.iter().map(|entry| entry.caller());
             !others.any(|other| other != caller && holds(history, other, stripe, stripes))
         }
         Entry::Busy(caller, op, other) => {
-            other != caller && holds(history, other, key_in(op) % stripes, stripes)
+            other != caller && holds(history, other, op.key() % stripes, stripes)
         }
         _ => true,
     }
@@ -186,7 +184,7 @@ fn is_locked(history: &[Entry], entry: &Entry, stripes: u64) -> bool
 fn of(alloc: Global, caller: u64, txn: u64, history: &[Entry]) -> Result<Vec<Entry>, AllocError> {
     let mut last = None;
     let mut entries = Vec::new(alloc);
-    for entry in history.iter().filter(|entry| caller_in(entry) == caller) {
+    for entry in history.iter().filter(|entry| entry.caller() == caller) {
         if let Entry::Began(_, number) = *entry {
             last = Some(number);
         }
@@ -214,7 +212,7 @@ fn after(values: &Values, op: Op) -> Result<Values, AllocError> {
 
 /// What an operation answers.
 fn reply_of(values: &Values, op: Op) -> Reply {
-    values.get(&key_in(op)).copied()
+    values.get(&op.key()).copied()
 }
 
 /// Whether an operation is a change.

@@ -11,17 +11,17 @@ use Rattle.history_check.proofs.state.State.find_busy.Goals as goal
 pub returns-in-Granted : goal.returns-in-Granted
 returns-in-Granted c stripes h t shaped answered =
     broken_by stripes h (Busy c.args.caller c.args.op c.args.holder) true true false shaped answered
-    (busy-granted stripes h c.args.self.now t c.args.caller c.args.op c.key_in.result c.key_in.ensures c.args.holder c.lock.new.self c.in-Granted.ensures)
+    (busy-granted stripes h c.args.self.now t c.args.caller c.args.op c.key.result c.key.ensures c.args.holder c.lock.new.self c.in-Granted.ensures)
 
 pub returns-then-other-holder : goal.returns-then-other-holder
 returns-then-other-holder c stripes h t shaped answered =
     broken_by stripes h (Busy c.args.caller c.args.op c.args.holder) true true false shaped answered
-    (busy-refused stripes h c.args.self.now t c.args.caller c.args.op c.key_in.result c.key_in.ensures c.args.holder c.in-Busy.other c.lock.new.self c.in-Busy.ensures ∙ ne_eqb c.in-Busy.other c.args.holder c.if-other-holder.true)
+    (busy-refused stripes h c.args.self.now t c.args.caller c.args.op c.key.result c.key.ensures c.args.holder c.in-Busy.other c.lock.new.self c.in-Busy.ensures ∙ ne_eqb c.in-Busy.other c.args.holder c.if-other-holder.true)
 
 pub returns-else-other-holder : goal.returns-else-other-holder
 returns-else-other-holder c stripes h t shaped answered =
     let locked =
-    busy-refused stripes h c.args.self.now t c.args.caller c.args.op c.key_in.result c.key_in.ensures c.args.holder c.in-Busy.other c.lock.new.self c.in-Busy.ensures ∙ eq-eqb c.in-Busy.other c.args.holder c.if-other-holder.false in
+    busy-refused stripes h c.args.self.now t c.args.caller c.args.op c.key.result c.key.ensures c.args.holder c.in-Busy.other c.lock.new.self c.in-Busy.ensures ∙ eq-eqb c.in-Busy.other c.args.holder c.if-other-holder.false in
     let sits = sits_at stripes h c.args.self.now c.args.caller c.index_mut.result.now t c.requires c.index_mut.ensures.value in
     grown stripes h c.args.self.now _ t (Busy c.args.caller c.args.op c.args.holder) c.leave.new.self _ _ _ _ _ c.requires
     (next-busy stripes h t.legal c.args.caller (seat_of c.index_mut.result.now) sits.seat c.args.op c.args.holder (broken_by stripes h (Busy c.args.caller c.args.op c.args.holder) true true true shaped answered locked))

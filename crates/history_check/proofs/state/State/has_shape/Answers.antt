@@ -7,16 +7,16 @@ use Rattle.history_check.proofs.state.State.has_shape.Goals as goal
 
 pub returns-then-allows : goal.returns-then-allows
 returns-then-allows c stripes h t =
-    let below : c.caller_in-caller.result < 64 = omega (arith, c.caller_in-caller.ensures, c.requires) in
-    let sits = sits_at stripes h c.args.self.now c.caller_in-caller.result c.index.result.now t below c.index.ensures in
+    let below : c.caller-caller.result < 64 = omega (arith, c.caller-caller.ensures, c.requires) in
+    let sits = sits_at stripes h c.args.self.now c.caller-caller.result c.index.result.now t below c.index.ensures in
     c.has_next_number-is_numbered.ensures h t.begins t.commits
     ∙ ap (λ b. b && is_numbered h c.args.entry.now) (sym c.if-allows.true ∙ c.allows.ensures)
-    ∙ sym (is_shaped_is h c.args.entry.now (seat_of c.index.result.now) (ap (λ d. seat_after (own d h)) (sym c.caller_in-caller.ensures) ∙ sits.seat))
+    ∙ sym (is_shaped_is h c.args.entry.now (seat_of c.index.result.now) (ap (λ d. seat_after (own d h)) (sym c.caller-caller.ensures) ∙ sits.seat))
 
 pub returns-else-allows : goal.returns-else-allows
 returns-else-allows c stripes h t =
-    let below : c.caller_in-caller.result < 64 = omega (arith, c.caller_in-caller.ensures, c.requires) in
-    let sits = sits_at stripes h c.args.self.now c.caller_in-caller.result c.index.result.now t below c.index.ensures in
+    let below : c.caller-caller.result < 64 = omega (arith, c.caller-caller.ensures, c.requires) in
+    let sits = sits_at stripes h c.args.self.now c.caller-caller.result c.index.result.now t below c.index.ensures in
     c.if-allows.false
     ∙ ap (λ b. b && is_numbered h c.args.entry.now) (sym c.if-allows.false ∙ c.allows.ensures)
-    ∙ sym (is_shaped_is h c.args.entry.now (seat_of c.index.result.now) (ap (λ d. seat_after (own d h)) (sym c.caller_in-caller.ensures) ∙ sits.seat))
+    ∙ sym (is_shaped_is h c.args.entry.now (seat_of c.index.result.now) (ap (λ d. seat_after (own d h)) (sym c.caller-caller.ensures) ∙ sits.seat))

@@ -19,7 +19,7 @@ pub returns-in-Asked : goal.returns-in-Asked
 returns-in-Asked c stripes h t shaped =
     let below : c.in-Did.caller < 64 = subst (λ e. caller_of e < 64) c.in-Did.is c.requires in
     let sits = sits_at stripes h c.args.self.now c.in-Did.caller c.index.result.now t below c.index.ensures in
-    let found = c.copied.ensures ∙ c.get.ensures.value ∙ t.values c.key_in.result ∙ ap (get (now h)) c.key_in.ensures in
+    let found = c.copied.ensures ∙ c.get.ensures.value ∙ t.values c.key.result ∙ ap (get (now h)) c.key.ensures in
     c.eq.ensures ∙ ap (option_eq nat_eq c.in-Did.reply) found
     ∙ sym (did_right stripes h t.legal c.in-Did.caller (seat_of c.index.result.now) sits.seat c.in-Asked.op c.in-Did.reply (ap phase_of c.in-Asked.is) (subst (λ e. is_shaped h e ≡ true) c.in-Did.is shaped))
     ∙ ap (λ e. replies_hold (h ++ e ∷ [])) (sym c.in-Did.is)
