@@ -8,9 +8,9 @@ use Rattle.std.proofs.lemmas.List.Elements.{All-weaker}
 use Rattle.txn_trace.specs.declared.entry.Entry.{Entry}
 use Rattle.txn_trace.specs.declared.entry.Entry.TheVariants.{Began, Asked, Did, Saved, Leave, Undone, Returned, Committed, Busy, Aborted}
 use Rattle.txn_trace.specs.History.{caller_of}
-use Rattle.txn_files.specs.declared.part.Part.TheVariants as parts
-use Rattle.txn_files.specs.declared.file_fault.FileFault.{FileFault}
-use Rattle.txn_files.specs.declared.file_fault.FileFault.TheVariants.{Limit}
+use Rattle.txn_files.specs.Part.TheVariants as parts
+use Rattle.txn_files.specs.FileFault.{FileFault}
+use Rattle.txn_files.specs.FileFault.TheVariants.{Limit}
 use Rattle.txn_files.specs.Faults.{◌>>=◌}
 use Rattle.txn_files.specs.Json.{json_of, number_member, array_member}
 use Rattle.txn_files.specs.Pieces.{pieces_from}

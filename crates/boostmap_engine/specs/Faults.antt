@@ -1,7 +1,7 @@
 -- The faults of the program.
 use Rattle.std.specs.Prelude.{ℕ}
-use Rattle.txn_files.specs.declared.file_fault.FileFault.{FileFault}
-use Rattle.txn_files.specs.declared.file_fault.FileFault.TheVariants as files
+use Rattle.txn_files.specs.FileFault.{FileFault}
+use Rattle.txn_files.specs.FileFault.TheVariants as files
 use Rattle.boostmap_engine.specs.declared.fault.Fault.{Fault}
 use Rattle.boostmap_engine.specs.declared.fault.Fault.TheVariants.{Usage, Input, NoMemory, NoThread, Read, Write, OutOfStep}
 

@@ -2,7 +2,7 @@
 use Rattle.std.specs.Prelude.{◌≡◌, ℕ, Bool, true, false, IsTrue, ◌↔◌, List, ◌++◌, Ok, Err, codes, decimal}
 use Rattle.txn_trace.specs.declared.entry.Entry.{Entry}
 use Rattle.txn_trace.specs.Legal.{IsLegal, Verdict, Legal, Illegal, verdict}
-use Rattle.txn_files.specs.declared.file_fault.FileFault.{FileFault}
+use Rattle.txn_files.specs.FileFault.{FileFault}
 use Rattle.txn_files.specs.HistoryFile.{history_of}
 use Rattle.boostmap_engine.specs.Report.{line}
 

@@ -4,7 +4,7 @@ use Rattle.std.specs.List.{All}
 use Rattle.txn_trace.specs.History.{caller_of}
 use Rattle.txn_trace.specs.Legal.{IsLegal}
 use Rattle.txn_trace.specs.Plays.{PlayScripts}
-use Rattle.txn_files.specs.declared.file_fault.FileFault.{FileFault}
+use Rattle.txn_files.specs.FileFault.{FileFault}
 use Rattle.txn_files.specs.HistoryText.{text_of_history}
 use Rattle.txn_files.specs.ScriptFile.{scripts_of}
 use Rattle.txn_files.specs.Work.{Work}

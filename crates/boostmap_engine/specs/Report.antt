@@ -8,7 +8,7 @@ use Rattle.txn_trace.specs.Text.{text_of}
 use Rattle.txn_trace.specs.Map.{count_of}
 use Rattle.txn_trace.specs.Ordered.{ordered}
 use Rattle.txn_trace.specs.Now.{now}
-use Rattle.txn_files.specs.declared.file_fault.FileFault.{FileFault}
+use Rattle.txn_files.specs.FileFault.{FileFault}
 use Rattle.txn_files.specs.StepFile.{file_of}
 use Rattle.boost_core.specs.Machine.{State, Run}
 

@@ -1,7 +1,7 @@
 -- What an engine reads and writes, whatever its text is of.
 use Rattle.std.specs.Prelude.{◌≡◌, ℕ, ◌<◌, List, length, take, Option, IfSome}
 use Rattle.std.specs.Io.KnownBytes.{Appends, Keeps}
-use Rattle.txn_files.specs.declared.file_fault.FileFault.{FileFault}
+use Rattle.txn_files.specs.FileFault.{FileFault}
 use Rattle.boostmap_engine.specs.declared.fault.Fault.{Fault}
 use Rattle.boostmap_engine.specs.declared.fault.Fault.TheVariants as faults
 

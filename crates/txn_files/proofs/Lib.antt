@@ -1,13 +1,3 @@
-pub mod ElementLists
-pub mod ItemLists
 pub mod Joined
-pub mod Kept
-pub mod WholeFiles
-pub mod ValueKinds
-pub mod Loop
-pub mod Numerals
 pub mod PlainPieces
-pub mod Read
-pub mod Taken
-pub mod Turns
-pub mod Values
+pub mod WholeFiles

@@ -1,30 +1,28 @@
 -- A file by its members.
-use Rattle.std.proofs.Common.{◌≡◌, ℕ, suc, ◌<◌, List, length, Bool, true, false, ◌==◌, ◌&&◌, nat_le, cond, Option, Some, None, option_and_then, Result, Ok, Err, refl, sym, ap, ◌∙◌, arith}
+use Rattle.std.proofs.Common.{◌≡◌, ℕ, suc, ◌<◌, List, length, Bool, true, false, ◌==◌, ◌&&◌, nat_le, cond, Option, Some, None, Result, Ok, Err, refl, ap, ◌∙◌, arith}
 use Rattle.std.specs.List.{list_all}
 use Rattle.std.specs.Prelude.{codes}
 use Rattle.serde_json.specs.Data.{Data}
 use Rattle.txn_trace.specs.declared.action.Action.{Action}
 use Rattle.txn_trace.specs.declared.entry.Entry.{Entry}
 use Rattle.txn_trace.specs.declared.step.Step.{Step}
-use Rattle.txn_files.specs.declared.part.Part.{Part}
-use Rattle.txn_files.specs.declared.part.Part.TheVariants as parts
-use Rattle.txn_files.specs.declared.piece.Pieces.{Pieces}
-use Rattle.txn_files.specs.declared.file_fault.FileFault.{FileFault}
-use Rattle.txn_files.specs.declared.file_fault.FileFault.TheVariants.{Member, Limit}
+use Rattle.piece_files.specs.declared.part.Part.TheVariants as parts
+use Rattle.piece_files.specs.declared.piece.Pieces.{Pieces}
+use Rattle.piece_files.specs.declared.file_fault.FileFault.{FileFault}
+use Rattle.piece_files.specs.declared.file_fault.FileFault.TheVariants.{Member, Limit}
 use Rattle.txn_files.specs.Actions.{script_of}
-use Rattle.txn_files.specs.Elements.{number_of, elements_of}
 use Rattle.txn_files.specs.Entries.{entry_of}
-use Rattle.txn_files.specs.Faults.{◌>>=◌, or_fault}
-use Rattle.txn_files.specs.HistoryFile.{is_in_range, is_history, max_entries, entries_of}
-use Rattle.txn_files.specs.Json.{number_member, array_member}
-use Rattle.txn_files.specs.Members.{GivesLast, IsNumberOf, ArePiecesOf, members_within, pieces_found, steps_from, entries_from, work_from}
-use Rattle.txn_files.specs.Pieces.{pieces_from, pieces_member}
-use Rattle.txn_files.specs.ScriptFile.{is_short, are_scripts, max_tries, max_scripts, work_of}
-use Rattle.txn_files.specs.StepFile.{max_steps, sizes_at, steps_of}
+use Rattle.piece_files.specs.Faults.{or_fault}
+use Rattle.txn_files.specs.HistoryFile.{is_in_range, is_history, max_entries, entries_of, entries_from}
+use Rattle.piece_files.specs.Json.{number_member, array_member}
+use Rattle.piece_files.specs.Members.{GivesLast, IsNumberOf, ArePiecesOf, members_within, pieces_found}
+use Rattle.piece_files.specs.Pieces.{pieces_from, pieces_member}
+use Rattle.txn_files.specs.ScriptFile.{is_short, are_scripts, max_tries, max_scripts, work_of, work_from}
+use Rattle.txn_files.specs.StepFile.{max_steps, sizes_at, steps_of, steps_from}
 use Rattle.txn_files.specs.Steps.{step_of}
-use Rattle.txn_files.specs.Tokens.{first_of}
-use Rattle.txn_files.proofs.Kept.{number_read, pieces_read, kept_chain, kept_same, kept_same_behind}
-use Rattle.txn_files.proofs.Taken.{get-within}
+use Rattle.piece_files.specs.Tokens.{first_of}
+use Rattle.piece_files.proofs.Found.{number_is, pieces_are}
+use Rattle.piece_files.proofs.Kept.{kept_chain, kept_same, kept_same_behind}
 
 and_false : (b : Bool) {x : Bool} → x ≡ false → b && x ≡ false
 and_false true e = e
@@ -39,13 +37,6 @@ third_false false false d = refl
 second_false : (a d : Bool) → a && false && d ≡ false
 second_false true d = refl
 second_false false d = refl
-
-number_is : (name : List ℕ) (d : Data) (found : Option ℕ) → GivesLast IsNumberOf found name (members_within d) → number_member name d ≡ or_fault Member found
-number_is name d found h = ap (λ o. or_fault Member (option_and_then number_of o)) (get-within name d) ∙ ap (or_fault Member) (number_read found _ h)
-
-pieces_are : {P : Type 0} (of : List Data → Option P) (part : Part) (most : ℕ) (name : List ℕ) (d : Data) (found : Option (Pieces P)) → GivesLast (ArePiecesOf of part most) found name (members_within d)
-    → pieces_found part found ≡ first_of most (pieces_member of part name d)
-pieces_are of part most name d found h = pieces_read of part most found _ h ∙ ap (λ o. first_of most (or_fault Member (option_and_then elements_of o) >>= pieces_from of part 0)) (sym (get-within name d))
 
 -- ---- steps
 

@@ -5,10 +5,10 @@ use Rattle.std.specs.Str.{bytes_eq}
 use Rattle.serde_json.specs.Data.{Data}
 use Rattle.txn_trace.specs.declared.action.Action.{Action}
 use Rattle.txn_trace.specs.declared.action.Action.TheVariants.{Op, Save, Back, Help, Abort}
-use Rattle.txn_files.specs.Elements.{◌>>=◌, word_at, one_of, end_of}
+use Rattle.piece_files.specs.Elements.{◌>>=◌, word_at, one_of, end_of}
 use Rattle.txn_files.specs.Operations.{op_of}
-use Rattle.txn_files.specs.declared.part.Part.TheVariants as parts
-use Rattle.txn_files.specs.Pieces.{pieces_from}
+use Rattle.piece_files.specs.declared.part.Part.TheVariants as parts
+use Rattle.piece_files.specs.Pieces.{pieces_from}
 
 -- an action by its name, or an operation
 unfoldable pub action_of : List Data → Option Action

@@ -4,7 +4,7 @@ use Rattle.std.specs.Str.{bytes_eq}
 use Rattle.serde_json.specs.Data.{Data}
 use Rattle.txn_trace.specs.declared.entry.Entry.{Entry}
 use Rattle.txn_trace.specs.declared.entry.Entry.TheVariants.{Began, Asked, Did, Saved, Leave, Undone, Returned, Committed, Busy, Aborted}
-use Rattle.txn_files.specs.Elements.{◌>>=◌, number_at, word_at, one_of, end_of, optional_of}
+use Rattle.piece_files.specs.Elements.{◌>>=◌, number_at, word_at, one_of, end_of, optional_of}
 use Rattle.txn_files.specs.Operations.{op_at, op_of}
 
 -- a caller's operation that found its stripe held, and the holder

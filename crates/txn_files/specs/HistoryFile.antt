@@ -1,17 +1,17 @@
 -- The history file that bytes are, or its first fault.
-use Rattle.std.specs.Prelude.{ℕ, List, length, Bool, ◌==◌, ◌-◌, ◌&&◌, nat_le, Result, Ok, Err, if◌then◌else◌, codes}
+use Rattle.std.specs.Prelude.{ℕ, List, length, Bool, ◌==◌, ◌-◌, ◌&&◌, nat_le, Option, Result, Ok, Err, if◌then◌else◌, codes}
 use Rattle.std.specs.List.{list_all}
 use Rattle.serde_json.specs.Data.{Data}
 use Rattle.txn_trace.specs.declared.entry.Entry.{Entry}
 use Rattle.txn_trace.specs.declared.entry.Entry.TheVariants.{Busy}
 use Rattle.txn_trace.specs.History.{caller_of}
 use Rattle.txn_trace.specs.Sizes.{max_callers, max_stripes}
-use Rattle.txn_files.specs.declared.part.Part.TheVariants as parts
-use Rattle.txn_files.specs.declared.file_fault.FileFault.{FileFault}
-use Rattle.txn_files.specs.declared.file_fault.FileFault.TheVariants.{Limit}
-use Rattle.txn_files.specs.Faults.{◌>>=◌}
-use Rattle.txn_files.specs.Json.{json_of, number_member, array_member}
-use Rattle.txn_files.specs.Pieces.{pieces_from}
+use Rattle.piece_files.specs.declared.part.Part.TheVariants as parts
+use Rattle.piece_files.specs.declared.file_fault.FileFault.{FileFault}
+use Rattle.piece_files.specs.declared.file_fault.FileFault.TheVariants.{Member, Limit}
+use Rattle.piece_files.specs.Faults.{◌>>=◌, or_fault}
+use Rattle.piece_files.specs.Json.{json_of, number_member, array_member}
+use Rattle.piece_files.specs.Pieces.{pieces_from}
 use Rattle.txn_files.specs.Entries.{entry_of}
 
 -- the largest number that a caller may have
@@ -43,3 +43,11 @@ entries_of d = do
 -- the history file that the bytes are
 abbrev pub history_of : List ℕ → Result (ℕ × List Entry) FileFault
 history_of bytes = json_of bytes >>= entries_of
+
+-- a history file by its members
+unfoldable pub entries_from : Option ℕ → Option ℕ → Result (List Entry) FileFault → Result (ℕ × List Entry) FileFault
+entries_from version stripes pieces = do
+  version ← or_fault Member version
+  stripes ← or_fault Member stripes
+  entries ← pieces
+  if (version == 1) && is_history stripes entries then Ok (stripes, entries) else Err Limit

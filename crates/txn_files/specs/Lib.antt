@@ -1,9 +1,3 @@
-pub mod Faults
-pub mod Elements
-pub mod Json
-pub mod Members
-pub mod Tokens
-pub mod Pieces
 pub mod Operations
 pub mod Steps
 pub mod StepFile
@@ -13,3 +7,10 @@ pub mod HistoryText
 pub mod Work
 pub mod Actions
 pub mod ScriptFile
+-- What a file is refused with, and the words by which these definitions are made.
+pub use Rattle.piece_files.specs.declared.part.Part
+pub use Rattle.piece_files.specs.declared.file_fault.FileFault
+pub use Rattle.piece_files.specs.Faults
+pub use Rattle.piece_files.specs.Elements
+pub use Rattle.piece_files.specs.Json
+pub use Rattle.piece_files.specs.Pieces

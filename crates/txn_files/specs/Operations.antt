@@ -4,7 +4,7 @@ use Rattle.std.specs.Str.{bytes_eq}
 use Rattle.serde_json.specs.Data.{Data}
 use Rattle.txn_trace.specs.declared.op.Op.{Op}
 use Rattle.txn_trace.specs.declared.op.Op.TheVariants.{Put, Take, Get}
-use Rattle.txn_files.specs.Elements.{◌>>=◌, number_at, word_at}
+use Rattle.piece_files.specs.Elements.{◌>>=◌, number_at, word_at}
 
 -- the operation that elements begin with, "put", a key and a value, or "take" or "get" and a key, and the elements after it
 unfoldable pub op_at : List Data → Option (Op × List Data)

@@ -1,14 +1,14 @@
 -- The script file that bytes are, or its first fault.
-use Rattle.std.specs.Prelude.{ℕ, List, length, Bool, ◌==◌, ◌&&◌, nat_le, Result, Ok, Err, if◌then◌else◌, codes}
+use Rattle.std.specs.Prelude.{ℕ, List, length, Bool, ◌==◌, ◌&&◌, nat_le, Option, Result, Ok, Err, if◌then◌else◌, codes}
 use Rattle.std.specs.List.{list_all}
 use Rattle.serde_json.specs.Data.{Data}
 use Rattle.txn_trace.specs.declared.action.Action.{Action}
-use Rattle.txn_files.specs.declared.part.Part.TheVariants as parts
-use Rattle.txn_files.specs.declared.file_fault.FileFault.{FileFault}
-use Rattle.txn_files.specs.declared.file_fault.FileFault.TheVariants.{Limit}
-use Rattle.txn_files.specs.Faults.{◌>>=◌}
-use Rattle.txn_files.specs.Json.{json_of, number_member, array_member}
-use Rattle.txn_files.specs.Pieces.{pieces_from}
+use Rattle.piece_files.specs.declared.part.Part.TheVariants as parts
+use Rattle.piece_files.specs.declared.file_fault.FileFault.{FileFault}
+use Rattle.piece_files.specs.declared.file_fault.FileFault.TheVariants.{Member, Limit}
+use Rattle.piece_files.specs.Faults.{◌>>=◌, or_fault}
+use Rattle.piece_files.specs.Json.{json_of, number_member, array_member}
+use Rattle.piece_files.specs.Pieces.{pieces_from}
 use Rattle.txn_files.specs.StepFile.{sizes_at}
 use Rattle.txn_files.specs.Actions.{script_of}
 use Rattle.txn_files.specs.Work.{Work}
@@ -49,3 +49,15 @@ work_of d = do
 -- the script file that the bytes are
 abbrev pub scripts_of : List ℕ → Result Work FileFault
 scripts_of bytes = json_of bytes >>= work_of
+
+-- a script file by its members
+unfoldable pub work_from : Option ℕ → Option ℕ → Option ℕ → Option ℕ → Option ℕ → Result (List (List Action)) FileFault → Result Work FileFault
+work_from version workers stripes buckets tries pieces = do
+  version ← or_fault Member version
+  workers ← or_fault Member workers
+  stripes ← or_fault Member stripes
+  buckets ← or_fault Member buckets
+  tries ← or_fault Member tries
+  scripts ← pieces
+  sizes ← sizes_at workers stripes buckets
+  if (version == 1) && are_scripts tries scripts then Ok (record { sizes = sizes; tries = tries; scripts = scripts }) else Err Limit

@@ -1,15 +1,15 @@
 -- The step file that bytes are, or its first fault.
-use Rattle.std.specs.Prelude.{ℕ, List, length, ◌==◌, ◌&&◌, nat_le, Result, Ok, Err, if◌then◌else◌, codes}
+use Rattle.std.specs.Prelude.{ℕ, List, length, ◌==◌, ◌&&◌, nat_le, Option, Result, Ok, Err, if◌then◌else◌, codes}
 use Rattle.serde_json.specs.Data.{Data}
 use Rattle.txn_trace.specs.Sizes.{Sizes, limits_of}
 use Rattle.txn_trace.specs.declared.refusal.Refusal.{Refusal}
 use Rattle.txn_trace.specs.declared.step.Step.{Step}
-use Rattle.txn_files.specs.declared.part.Part.TheVariants as parts
-use Rattle.txn_files.specs.declared.file_fault.FileFault.{FileFault}
-use Rattle.txn_files.specs.declared.file_fault.FileFault.TheVariants.{Limit}
-use Rattle.txn_files.specs.Faults.{◌>>=◌}
-use Rattle.txn_files.specs.Json.{json_of, number_member, array_member}
-use Rattle.txn_files.specs.Pieces.{pieces_from}
+use Rattle.piece_files.specs.declared.part.Part.TheVariants as parts
+use Rattle.piece_files.specs.declared.file_fault.FileFault.{FileFault}
+use Rattle.piece_files.specs.declared.file_fault.FileFault.TheVariants.{Member, Limit}
+use Rattle.piece_files.specs.Faults.{◌>>=◌, or_fault}
+use Rattle.piece_files.specs.Json.{json_of, number_member, array_member}
+use Rattle.piece_files.specs.Pieces.{pieces_from}
 use Rattle.txn_files.specs.Steps.{step_of}
 
 -- how many steps a file may have
@@ -39,3 +39,14 @@ steps_of d = do
 -- the step file that the bytes are
 abbrev pub file_of : List ℕ → Result (Sizes × List Step) FileFault
 file_of bytes = json_of bytes >>= steps_of
+
+-- a step file by its members
+unfoldable pub steps_from : Option ℕ → Option ℕ → Option ℕ → Option ℕ → Result (List Step) FileFault → Result (Sizes × List Step) FileFault
+steps_from version callers stripes buckets pieces = do
+  version ← or_fault Member version
+  callers ← or_fault Member callers
+  stripes ← or_fault Member stripes
+  buckets ← or_fault Member buckets
+  steps ← pieces
+  sizes ← sizes_at callers stripes buckets
+  if (version == 1) && nat_le (length steps) max_steps then Ok (sizes, steps) else Err Limit

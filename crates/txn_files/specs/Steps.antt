@@ -4,7 +4,7 @@ use Rattle.std.specs.Str.{bytes_eq}
 use Rattle.serde_json.specs.Data.{Data}
 use Rattle.txn_trace.specs.declared.step.Step.{Step}
 use Rattle.txn_trace.specs.declared.step.Step.TheVariants.{Begin, Ask, Seek, Act, Save, Back, Commit, Abort, Sweep, InitSeek, InitLink, InitStore, Double}
-use Rattle.txn_files.specs.Elements.{◌>>=◌, number_at, word_at, one_of, two_of}
+use Rattle.piece_files.specs.Elements.{◌>>=◌, number_at, word_at, one_of, two_of}
 use Rattle.txn_files.specs.Operations.{op_of}
 
 -- a caller and the operation that it asks for

@@ -1,22 +1,18 @@
 ghost use Rattle.std.specs.Prelude.{◌≡◌, suc, map, None, codes};
 ghost use Rattle.std.specs.List.{list_all};
 ghost use Rattle.serde_json.specs.View.{view};
-ghost use Rattle.txn_files.specs.Faults.{Gives};
+ghost use Rattle.piece_files.specs.Faults.{Gives};
 ghost use Rattle.txn_files.specs.Entries.{busy_of, entry_named, entry_of};
-ghost use Rattle.txn_files.specs.Members.{GivesLast, IsNumberOf, ArePiecesOf, pieces_found, entries_from};
-ghost use Rattle.txn_files.specs.declared.part.Part.TheVariants.{Entry as entry_part};
-ghost use Rattle.txn_files.specs.HistoryFile.{max_entries, is_in_range, is_history, history_of};
+ghost use Rattle.piece_files.specs.Members.{GivesLast, IsNumberOf, ArePiecesOf, pieces_found};
+ghost use Rattle.piece_files.specs.declared.part.Part.TheVariants.{Entry as entry_part};
+ghost use Rattle.txn_files.specs.HistoryFile.{max_entries, is_in_range, is_history, history_of, entries_from};
 
-use crate::elements::{end_in, number_in, one_in, optional_in, word_in};
-use crate::file_fault::FileFault;
-use crate::members::{Wanted, members_in, number_found, pieces_kept, put_member};
 use crate::operation::{leading_op_in, op_in};
-use crate::part::Part;
-use crate::passing::pass_value;
-use crate::piece::{Piece, Pieces};
-use crate::plain::plain_elements;
-use crate::stop::Stop;
 use json::{Reader, Token};
+use piece_files::{
+    FileFault, Part, PieceKind, Pieces, Stop, Wanted, end_in, members_in, number_found, number_in,
+    one_in, optional_in, pass_value, pieces_kept, plain_elements, put_number, put_pieces, word_in,
+};
 use serde_json::Value;
 use std::alloc::Global;
 use txn_trace::{Entry, Limits};
@@ -26,6 +22,9 @@ const MAX_CALLER: u64 = Limits::MAX_CALLERS - 1;
 
 /// How many entries a file may have.
 const MAX_ENTRIES: usize = 1_000_000;
+
+/// How many elements the longest entry has: `["busy",0,"put",1,10,2]`.
+const MAX_ELEMENTS: usize = 6;
 
 #[tactic(auto, unfolding(crate::specs::Entries::busy_of))]
 fn busy_in(caller: u64, values: &[Value]) -> Option<Entry>
@@ -78,8 +77,13 @@ fn entry_in(values: &[Value]) -> Option<Entry>
     entry_named_in(name, caller, rest)
 }
 
-impl Piece for Entry {
-    ghost use Rattle.txn_files.specs.declared.part.Part.TheVariants as parts;
+/// Entries, as pieces of a history file.
+struct EntryKind;
+
+impl PieceKind for EntryKind {
+    ghost use Rattle.piece_files.specs.declared.part.Part.TheVariants as parts;
+
+    type Piece = Entry;
 
     ghost of = { entry_of };
 
@@ -97,7 +101,7 @@ impl Piece for Entry {
 
     #[tactic(auto, using(crate::proofs::PlainPieces::no_entry))]
     fn read(alloc: Global, reader: &mut Reader<'_>, depth: usize) -> Result<Option<Entry>, Stop> {
-        let elements = plain_elements(alloc, reader, depth)?;
+        let elements = plain_elements(alloc, reader, depth, MAX_ELEMENTS)?;
         match elements {
             Some(values) => Ok(entry_in(&values)),
             None => Ok(None),
@@ -161,7 +165,7 @@ impl HistoryMembers {
 }
 
 impl Wanted for HistoryMembers {
-    ghost use Rattle.txn_files.specs.declared.part.Part.TheVariants as parts;
+    ghost use Rattle.piece_files.specs.declared.part.Part.TheVariants as parts;
 
     ghost found = { λ m ms. GivesLast IsNumberOf m.version (codes "version") ms × GivesLast IsNumberOf m.stripes (codes "stripes") ms × GivesLast (ArePiecesOf entry_of parts.Entry (suc max_entries)) m.entries (codes "entries") ms };
 
@@ -174,11 +178,11 @@ impl Wanted for HistoryMembers {
         depth: usize,
     ) -> Result<(), Stop> {
         if key == "version" {
-            put_member(&mut self.version, alloc, token, reader, depth)
+            put_number(&mut self.version, alloc, token, reader, depth)
         } else if key == "stripes" {
-            put_member(&mut self.stripes, alloc, token, reader, depth)
+            put_number(&mut self.stripes, alloc, token, reader, depth)
         } else if key == "entries" {
-            put_member(&mut self.entries, alloc, token, reader, depth)
+            put_pieces::<EntryKind>(&mut self.entries, alloc, token, reader, depth)
         } else {
             pass_value(token, reader, depth)?;
             Ok(())
@@ -186,13 +190,13 @@ impl Wanted for HistoryMembers {
     }
 }
 
-#[tactic(auto, unfolding(crate::specs::Members::entries_from))]
+#[tactic(auto, unfolding(crate::specs::HistoryFile::entries_from))]
 fn entries_in(members: HistoryMembers) -> Result<(u32, Vec<Entry>), FileFault>
     ensures { Gives (λ file. (file.0, file.1.items)) result (entries_from members.version members.stripes (pieces_found entry_part members.entries)) }
 {
     let version = number_found(members.version)?;
     let stripes = number_found(members.stripes)?;
-    let entries = pieces_kept(members.entries)?;
+    let entries = pieces_kept::<EntryKind>(members.entries)?;
     if version == 1 && is_history(stripes, &entries) {
         Ok((stripes as u32, entries))
     } else {

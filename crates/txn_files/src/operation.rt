@@ -4,7 +4,7 @@ ghost use Rattle.std.specs.Prelude.{◌≡◌, map, option_map};
 ghost use Rattle.serde_json.specs.View.{view};
 ghost use Rattle.txn_files.specs.Operations.{op_at, op_of};
 
-use crate::elements::{number_in, word_in};
+use piece_files::{number_in, word_in};
 use serde_json::Value;
 use txn_trace::Op;
 

@@ -1,25 +1,21 @@
 ghost use Rattle.std.specs.Prelude.{◌≡◌, suc, map, None, codes};
 ghost use Rattle.std.specs.List.{list_all};
 ghost use Rattle.serde_json.specs.View.{view};
-ghost use Rattle.txn_files.specs.Faults.{Gives};
+ghost use Rattle.piece_files.specs.Faults.{Gives};
 ghost use Rattle.txn_files.specs.Actions.{action_of, script_of};
-ghost use Rattle.txn_files.specs.Members.{GivesLast, IsNumberOf, ArePiecesOf, pieces_found, work_from};
-ghost use Rattle.txn_files.specs.declared.part.Part.TheVariants.{Script as script_part};
-ghost use Rattle.txn_files.specs.ScriptFile.{max_scripts, is_short, are_scripts, scripts_of};
+ghost use Rattle.piece_files.specs.Members.{GivesLast, IsNumberOf, ArePiecesOf, pieces_found};
+ghost use Rattle.piece_files.specs.declared.part.Part.TheVariants.{Script as script_part};
+ghost use Rattle.txn_files.specs.ScriptFile.{max_scripts, is_short, are_scripts, scripts_of, work_from};
 
-use crate::elements::{end_in, one_in, word_in};
-use crate::file_fault::FileFault;
-use crate::members::{Wanted, members_in, number_found, pieces_kept, put_member};
 use crate::operation::op_in;
-use crate::part::Part;
-use crate::passing::pass_value;
-use crate::piece::{Piece, Pieces, pieces_in};
-use crate::plain::plain_elements;
 use crate::script::Script;
 use crate::scripts::Scripts;
 use crate::step_file::limits_in;
-use crate::stop::Stop;
 use json::{Reader, Token};
+use piece_files::{
+    FileFault, Part, PieceKind, Pieces, Stop, Wanted, end_in, members_in, number_found, one_in,
+    pass_value, pieces_in, pieces_kept, plain_elements, put_number, put_pieces, word_in,
+};
 use serde_json::Value;
 use std::alloc::Global;
 use txn_trace::Action;
@@ -32,6 +28,9 @@ const MAX_SCRIPTS: usize = 10_000;
 
 /// How many actions a script may have.
 const MAX_ACTIONS: usize = 10_000;
+
+/// How many elements the longest action has: `["put",1,10]`.
+const MAX_ELEMENTS: usize = 3;
 
 #[tactic(auto, unfolding(crate::specs::Actions::action_of))]
 fn action_in(values: &[Value]) -> Option<Action>
@@ -53,9 +52,13 @@ fn action_in(values: &[Value]) -> Option<Action>
     }
 }
 
-/// An action is a piece of a script. All are kept.
-impl Piece for Action {
-    ghost use Rattle.txn_files.specs.declared.part.Part.TheVariants as parts;
+/// Actions, as pieces of a script. All are kept.
+struct ActionKind;
+
+impl PieceKind for ActionKind {
+    ghost use Rattle.piece_files.specs.declared.part.Part.TheVariants as parts;
+
+    type Piece = Action;
 
     ghost of = { action_of };
 
@@ -73,7 +76,7 @@ impl Piece for Action {
 
     #[tactic(auto, using(crate::proofs::PlainPieces::no_action))]
     fn read(alloc: Global, reader: &mut Reader<'_>, depth: usize) -> Result<Option<Action>, Stop> {
-        let elements = plain_elements(alloc, reader, depth)?;
+        let elements = plain_elements(alloc, reader, depth, MAX_ELEMENTS)?;
         match elements {
             Some(values) => Ok(action_in(&values)),
             None => Ok(None),
@@ -81,8 +84,13 @@ impl Piece for Action {
     }
 }
 
-impl Piece for Script {
-    ghost use Rattle.txn_files.specs.declared.part.Part.TheVariants as parts;
+/// Scripts, as pieces of a script file.
+struct ScriptKind;
+
+impl PieceKind for ScriptKind {
+    ghost use Rattle.piece_files.specs.declared.part.Part.TheVariants as parts;
+
+    type Piece = Script;
 
     ghost of = { script_of };
 
@@ -100,7 +108,7 @@ impl Piece for Script {
 
     #[tactic(auto, unfolding(crate::specs::Actions::script_of))]
     fn read(alloc: Global, reader: &mut Reader<'_>, depth: usize) -> Result<Option<Script>, Stop> {
-        let found: Pieces<Action> = pieces_in(alloc, reader, depth)?;
+        let found = pieces_in::<ActionKind>(alloc, reader, depth)?;
         if found.are_all {
             let mut actions = found.pieces;
             actions.shrink_to_fit();
@@ -154,7 +162,7 @@ impl ScriptMembers {
 }
 
 impl Wanted for ScriptMembers {
-    ghost use Rattle.txn_files.specs.declared.part.Part.TheVariants as parts;
+    ghost use Rattle.piece_files.specs.declared.part.Part.TheVariants as parts;
 
     ghost found = { λ m ms. GivesLast IsNumberOf m.version (codes "version") ms × GivesLast IsNumberOf m.workers (codes "workers") ms × GivesLast IsNumberOf m.stripes (codes "stripes") ms × GivesLast IsNumberOf m.buckets (codes "buckets") ms × GivesLast IsNumberOf m.tries (codes "tries") ms × GivesLast (ArePiecesOf script_of parts.Script (suc max_scripts)) m.scripts (codes "scripts") ms };
 
@@ -167,17 +175,17 @@ impl Wanted for ScriptMembers {
         depth: usize,
     ) -> Result<(), Stop> {
         if key == "version" {
-            put_member(&mut self.version, alloc, token, reader, depth)
+            put_number(&mut self.version, alloc, token, reader, depth)
         } else if key == "workers" {
-            put_member(&mut self.workers, alloc, token, reader, depth)
+            put_number(&mut self.workers, alloc, token, reader, depth)
         } else if key == "stripes" {
-            put_member(&mut self.stripes, alloc, token, reader, depth)
+            put_number(&mut self.stripes, alloc, token, reader, depth)
         } else if key == "buckets" {
-            put_member(&mut self.buckets, alloc, token, reader, depth)
+            put_number(&mut self.buckets, alloc, token, reader, depth)
         } else if key == "tries" {
-            put_member(&mut self.tries, alloc, token, reader, depth)
+            put_number(&mut self.tries, alloc, token, reader, depth)
         } else if key == "scripts" {
-            put_member(&mut self.scripts, alloc, token, reader, depth)
+            put_pieces::<ScriptKind>(&mut self.scripts, alloc, token, reader, depth)
         } else {
             pass_value(token, reader, depth)?;
             Ok(())
@@ -185,7 +193,7 @@ impl Wanted for ScriptMembers {
     }
 }
 
-#[tactic(auto, unfolding(crate::specs::Members::work_from))]
+#[tactic(auto, unfolding(crate::specs::ScriptFile::work_from))]
 fn work_in(members: ScriptMembers) -> Result<Scripts, FileFault>
     ensures { Gives (λ work. work) result (work_from members.version members.workers members.stripes members.buckets members.tries (pieces_found script_part members.scripts)) }
 {
@@ -194,7 +202,7 @@ fn work_in(members: ScriptMembers) -> Result<Scripts, FileFault>
     let stripes = number_found(members.stripes)?;
     let buckets = number_found(members.buckets)?;
     let tries = number_found(members.tries)?;
-    let scripts = pieces_kept(members.scripts)?;
+    let scripts = pieces_kept::<ScriptKind>(members.scripts)?;
     let limits = limits_in(workers, stripes, buckets)?;
     if version == 1 && are_scripts(tries, &scripts) {
         Ok(Scripts::new(limits, tries, scripts))

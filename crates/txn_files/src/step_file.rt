@@ -1,27 +1,26 @@
 ghost use Rattle.std.specs.Prelude.{◌≡◌, suc, map, None, codes};
 ghost use Rattle.serde_json.specs.View.{view};
-ghost use Rattle.txn_files.specs.Faults.{Gives};
+ghost use Rattle.piece_files.specs.Faults.{Gives};
 ghost use Rattle.txn_files.specs.Steps.{ask_of, numbered_of, step_of};
-ghost use Rattle.txn_files.specs.Members.{GivesLast, IsNumberOf, ArePiecesOf, pieces_found, steps_from};
-ghost use Rattle.txn_files.specs.declared.part.Part.TheVariants.{Step as step_part};
-ghost use Rattle.txn_files.specs.StepFile.{max_steps, sizes_at, file_of};
+ghost use Rattle.piece_files.specs.Members.{GivesLast, IsNumberOf, ArePiecesOf, pieces_found};
+ghost use Rattle.piece_files.specs.declared.part.Part.TheVariants.{Step as step_part};
+ghost use Rattle.txn_files.specs.StepFile.{max_steps, sizes_at, file_of, steps_from};
 
-use crate::elements::{number_in, one_in, two_in, word_in};
-use crate::file_fault::FileFault;
-use crate::members::{Wanted, members_in, number_found, pieces_kept, put_member};
 use crate::operation::op_in;
-use crate::part::Part;
-use crate::passing::pass_value;
-use crate::piece::{Piece, Pieces};
-use crate::plain::plain_elements;
-use crate::stop::Stop;
 use json::{Reader, Token};
+use piece_files::{
+    FileFault, Part, PieceKind, Pieces, Stop, Wanted, members_in, number_found, number_in, one_in,
+    pass_value, pieces_kept, plain_elements, put_number, put_pieces, two_in, word_in,
+};
 use serde_json::Value;
 use std::alloc::Global;
 use txn_trace::{Limits, Step};
 
 /// How many steps a file may have.
 const MAX_STEPS: usize = 1_000_000;
+
+/// How many elements the longest step has: `["ask",0,"put",1,10]`.
+const MAX_ELEMENTS: usize = 5;
 
 #[tactic(auto, unfolding(crate::specs::Steps::ask_of))]
 fn ask_in(values: &[Value]) -> Option<Step>
@@ -84,8 +83,13 @@ fn step_in(values: &[Value]) -> Option<Step>
     }
 }
 
-impl Piece for Step {
-    ghost use Rattle.txn_files.specs.declared.part.Part.TheVariants as parts;
+/// Steps, as pieces of a step file.
+struct StepKind;
+
+impl PieceKind for StepKind {
+    ghost use Rattle.piece_files.specs.declared.part.Part.TheVariants as parts;
+
+    type Piece = Step;
 
     ghost of = { step_of };
 
@@ -103,7 +107,7 @@ impl Piece for Step {
 
     #[tactic(auto, using(crate::proofs::PlainPieces::no_step))]
     fn read(alloc: Global, reader: &mut Reader<'_>, depth: usize) -> Result<Option<Step>, Stop> {
-        let elements = plain_elements(alloc, reader, depth)?;
+        let elements = plain_elements(alloc, reader, depth, MAX_ELEMENTS)?;
         match elements {
             Some(values) => Ok(step_in(&values)),
             None => Ok(None),
@@ -146,7 +150,7 @@ impl StepMembers {
 }
 
 impl Wanted for StepMembers {
-    ghost use Rattle.txn_files.specs.declared.part.Part.TheVariants as parts;
+    ghost use Rattle.piece_files.specs.declared.part.Part.TheVariants as parts;
 
     ghost found = { λ m ms. GivesLast IsNumberOf m.version (codes "version") ms × GivesLast IsNumberOf m.callers (codes "callers") ms × GivesLast IsNumberOf m.stripes (codes "stripes") ms × GivesLast IsNumberOf m.buckets (codes "buckets") ms × GivesLast (ArePiecesOf step_of parts.Step (suc max_steps)) m.steps (codes "steps") ms };
 
@@ -159,15 +163,15 @@ impl Wanted for StepMembers {
         depth: usize,
     ) -> Result<(), Stop> {
         if key == "version" {
-            put_member(&mut self.version, alloc, token, reader, depth)
+            put_number(&mut self.version, alloc, token, reader, depth)
         } else if key == "callers" {
-            put_member(&mut self.callers, alloc, token, reader, depth)
+            put_number(&mut self.callers, alloc, token, reader, depth)
         } else if key == "stripes" {
-            put_member(&mut self.stripes, alloc, token, reader, depth)
+            put_number(&mut self.stripes, alloc, token, reader, depth)
         } else if key == "buckets" {
-            put_member(&mut self.buckets, alloc, token, reader, depth)
+            put_number(&mut self.buckets, alloc, token, reader, depth)
         } else if key == "steps" {
-            put_member(&mut self.steps, alloc, token, reader, depth)
+            put_pieces::<StepKind>(&mut self.steps, alloc, token, reader, depth)
         } else {
             pass_value(token, reader, depth)?;
             Ok(())
@@ -175,7 +179,7 @@ impl Wanted for StepMembers {
     }
 }
 
-#[tactic(auto, unfolding(crate::specs::Members::steps_from))]
+#[tactic(auto, unfolding(crate::specs::StepFile::steps_from))]
 fn steps_in(members: StepMembers) -> Result<(Limits, Vec<Step>), FileFault>
     ensures { Gives (λ file. (file.0, file.1.items)) result (steps_from members.version members.callers members.stripes members.buckets (pieces_found step_part members.steps)) }
 {
@@ -183,7 +187,7 @@ fn steps_in(members: StepMembers) -> Result<(Limits, Vec<Step>), FileFault>
     let callers = number_found(members.callers)?;
     let stripes = number_found(members.stripes)?;
     let buckets = number_found(members.buckets)?;
-    let steps = pieces_kept(members.steps)?;
+    let steps = pieces_kept::<StepKind>(members.steps)?;
     let limits = limits_in(callers, stripes, buckets)?;
     if version == 1 && steps.len() <= MAX_STEPS {
         Ok((limits, steps))

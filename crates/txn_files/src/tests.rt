@@ -324,22 +324,6 @@ fn memory_refused(rt: HostRuntime) {
     assert!(rt; fault.is_none() || fault == Some(FileFault::NoMemory));
 }
 
-#[test]
-fn words_of_faults(rt: HostRuntime) -> Result<(), Fail> {
-    for (fault, wanted) in [
-        (FileFault::NotJson, "20"),
-        (FileFault::Member, "21"),
-        (FileFault::Piece(Part::Step, 4), "21 step 4"),
-        (FileFault::Piece(Part::Script, 0), "21 script 0"),
-        (FileFault::Piece(Part::Entry, 10), "21 entry 10"),
-        (FileFault::Limit, "22"),
-        (FileFault::NoMemory, "14"),
-    ] {
-        assert_eq!(rt; fault.to_string(rt.alloc())?.as_str(), wanted);
-    }
-    Ok(())
-}
-
 /// A file with one step and these further members before or behind it.
 fn file_beside(
     rt: &(impl Abort + AllocGlobal),

@@ -1,5 +1,5 @@
 use Rattle.std.proofs.Common.{sym, ap, subst, ◌∙◌}
-use Rattle.txn_files.specs.Faults.{◌>>=◌, Gives}
+use Rattle.piece_files.specs.Faults.{◌>>=◌, Gives}
 use Rattle.txn_files.specs.HistoryFile.{entries_of}
 use Rattle.txn_files.proofs.WholeFiles.{entries_are}
 use Rattle.txn_files.proofs.history_file.read_history.Goals as goal

@@ -1,5 +1,5 @@
 use Rattle.std.proofs.Common.{sym, ap, subst, ◌∙◌}
-use Rattle.txn_files.specs.Faults.{◌>>=◌, Gives}
+use Rattle.piece_files.specs.Faults.{◌>>=◌, Gives}
 use Rattle.txn_files.specs.ScriptFile.{work_of}
 use Rattle.txn_files.proofs.WholeFiles.{work_is}
 use Rattle.txn_files.proofs.script_file.read_scripts.Goals as goal

@@ -1,5 +1,5 @@
 use Rattle.std.proofs.Common.{sym, ap, subst, ◌∙◌}
-use Rattle.txn_files.specs.Faults.{◌>>=◌, Gives}
+use Rattle.piece_files.specs.Faults.{◌>>=◌, Gives}
 use Rattle.txn_files.specs.StepFile.{steps_of}
 use Rattle.txn_files.proofs.WholeFiles.{steps_are}
 use Rattle.txn_files.proofs.step_file.read_steps.Goals as goal

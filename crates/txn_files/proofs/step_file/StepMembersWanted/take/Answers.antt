@@ -1,9 +1,9 @@
 use Rattle.std.proofs.Common.{◌≡◌, suc, bytes_eq, true, false, refl, arith}
 use Rattle.std.specs.Prelude.{codes}
 use Rattle.std.proofs.lemmas.Result.{on_ok_weaker}
-use Rattle.txn_files.specs.declared.part.Part.TheVariants as parts
-use Rattle.txn_files.specs.Members.{IsNumberOf, ArePiecesOf}
-use Rattle.txn_files.proofs.Taken.{apart, taken_here, taken_other}
+use Rattle.piece_files.specs.declared.part.Part.TheVariants as parts
+use Rattle.piece_files.specs.Members.{IsNumberOf, ArePiecesOf}
+use Rattle.piece_files.proofs.Taken.{apart, taken_here, taken_other}
 use Rattle.txn_files.specs.StepFile.{max_steps}
 use Rattle.txn_files.specs.Steps.{step_of}
 use Rattle.txn_files.proofs.step_file.StepMembersWanted.take.Goals as goal
@@ -13,75 +13,75 @@ returns-then-eq-clause-ok c =
     let key = c.args.key.now in
     let old = c.args.self.now in
     let same : bytes_eq key (codes "version") ≡ true = grind arith in
-    on_ok_weaker c.put_member.result (λ w. (
+    on_ok_weaker c.put_number.result (λ w. (
       w.0,
       w.1,
       λ ms h. (
-        taken_here IsNumberOf key (codes "version") c.put_member.new.place w.0 ms same w.2,
+        taken_here IsNumberOf key (codes "version") c.put_number.new.place w.0 ms same w.2,
         taken_other IsNumberOf key (codes "callers") old.callers w.0 ms (apart key (codes "version") (codes "callers") same refl) h.1,
         taken_other IsNumberOf key (codes "stripes") old.stripes w.0 ms (apart key (codes "version") (codes "stripes") same refl) h.2,
         taken_other IsNumberOf key (codes "buckets") old.buckets w.0 ms (apart key (codes "version") (codes "buckets") same refl) h.3,
         taken_other (ArePiecesOf step_of parts.Step (suc max_steps)) key (codes "steps") old.steps w.0 ms (apart key (codes "version") (codes "steps") same refl) h.4,
       ),
-    )) c.put_member.ensures.ok
+    )) c.put_number.ensures.ok
 
 pub returns-then-eq-2-clause-ok : goal.returns-then-eq-2-clause-ok
 returns-then-eq-2-clause-ok c =
     let key = c.args.key.now in
     let old = c.args.self.now in
     let same : bytes_eq key (codes "callers") ≡ true = grind arith in
-    on_ok_weaker c.put_member-then-eq-2.result (λ w. (
+    on_ok_weaker c.put_number-then-eq-2.result (λ w. (
       w.0,
       w.1,
       λ ms h. (
         taken_other IsNumberOf key (codes "version") old.version w.0 ms (apart key (codes "callers") (codes "version") same refl) h.0,
-        taken_here IsNumberOf key (codes "callers") c.put_member-then-eq-2.new.place w.0 ms same w.2,
+        taken_here IsNumberOf key (codes "callers") c.put_number-then-eq-2.new.place w.0 ms same w.2,
         taken_other IsNumberOf key (codes "stripes") old.stripes w.0 ms (apart key (codes "callers") (codes "stripes") same refl) h.2,
         taken_other IsNumberOf key (codes "buckets") old.buckets w.0 ms (apart key (codes "callers") (codes "buckets") same refl) h.3,
         taken_other (ArePiecesOf step_of parts.Step (suc max_steps)) key (codes "steps") old.steps w.0 ms (apart key (codes "callers") (codes "steps") same refl) h.4,
       ),
-    )) c.put_member-then-eq-2.ensures.ok
+    )) c.put_number-then-eq-2.ensures.ok
 
 pub returns-then-eq-3-clause-ok : goal.returns-then-eq-3-clause-ok
 returns-then-eq-3-clause-ok c =
     let key = c.args.key.now in
     let old = c.args.self.now in
     let same : bytes_eq key (codes "stripes") ≡ true = grind arith in
-    on_ok_weaker c.put_member-then-eq-3.result (λ w. (
+    on_ok_weaker c.put_number-then-eq-3.result (λ w. (
       w.0,
       w.1,
       λ ms h. (
         taken_other IsNumberOf key (codes "version") old.version w.0 ms (apart key (codes "stripes") (codes "version") same refl) h.0,
         taken_other IsNumberOf key (codes "callers") old.callers w.0 ms (apart key (codes "stripes") (codes "callers") same refl) h.1,
-        taken_here IsNumberOf key (codes "stripes") c.put_member-then-eq-3.new.place w.0 ms same w.2,
+        taken_here IsNumberOf key (codes "stripes") c.put_number-then-eq-3.new.place w.0 ms same w.2,
         taken_other IsNumberOf key (codes "buckets") old.buckets w.0 ms (apart key (codes "stripes") (codes "buckets") same refl) h.3,
         taken_other (ArePiecesOf step_of parts.Step (suc max_steps)) key (codes "steps") old.steps w.0 ms (apart key (codes "stripes") (codes "steps") same refl) h.4,
       ),
-    )) c.put_member-then-eq-3.ensures.ok
+    )) c.put_number-then-eq-3.ensures.ok
 
 pub returns-then-eq-4-clause-ok : goal.returns-then-eq-4-clause-ok
 returns-then-eq-4-clause-ok c =
     let key = c.args.key.now in
     let old = c.args.self.now in
     let same : bytes_eq key (codes "buckets") ≡ true = grind arith in
-    on_ok_weaker c.put_member-then-eq-4.result (λ w. (
+    on_ok_weaker c.put_number-then-eq-4.result (λ w. (
       w.0,
       w.1,
       λ ms h. (
         taken_other IsNumberOf key (codes "version") old.version w.0 ms (apart key (codes "buckets") (codes "version") same refl) h.0,
         taken_other IsNumberOf key (codes "callers") old.callers w.0 ms (apart key (codes "buckets") (codes "callers") same refl) h.1,
         taken_other IsNumberOf key (codes "stripes") old.stripes w.0 ms (apart key (codes "buckets") (codes "stripes") same refl) h.2,
-        taken_here IsNumberOf key (codes "buckets") c.put_member-then-eq-4.new.place w.0 ms same w.2,
+        taken_here IsNumberOf key (codes "buckets") c.put_number-then-eq-4.new.place w.0 ms same w.2,
         taken_other (ArePiecesOf step_of parts.Step (suc max_steps)) key (codes "steps") old.steps w.0 ms (apart key (codes "buckets") (codes "steps") same refl) h.4,
       ),
-    )) c.put_member-then-eq-4.ensures.ok
+    )) c.put_number-then-eq-4.ensures.ok
 
 pub returns-then-eq-5-clause-ok : goal.returns-then-eq-5-clause-ok
 returns-then-eq-5-clause-ok c =
     let key = c.args.key.now in
     let old = c.args.self.now in
     let same : bytes_eq key (codes "steps") ≡ true = grind arith in
-    on_ok_weaker c.put_member-then-eq-5.result (λ w. (
+    on_ok_weaker c.put_pieces.result (λ w. (
       w.0,
       w.1,
       λ ms h. (
@@ -89,9 +89,9 @@ returns-then-eq-5-clause-ok c =
         taken_other IsNumberOf key (codes "callers") old.callers w.0 ms (apart key (codes "steps") (codes "callers") same refl) h.1,
         taken_other IsNumberOf key (codes "stripes") old.stripes w.0 ms (apart key (codes "steps") (codes "stripes") same refl) h.2,
         taken_other IsNumberOf key (codes "buckets") old.buckets w.0 ms (apart key (codes "steps") (codes "buckets") same refl) h.3,
-        taken_here (ArePiecesOf step_of parts.Step (suc max_steps)) key (codes "steps") c.put_member-then-eq-5.new.place w.0 ms same w.2,
+        taken_here (ArePiecesOf step_of parts.Step (suc max_steps)) key (codes "steps") c.put_pieces.new.place w.0 ms same w.2,
       ),
-    )) c.put_member-then-eq-5.ensures.ok
+    )) c.put_pieces.ensures.ok
 
 pub returns-in_ok-pass_value-clause-ok : goal.returns-in_ok-pass_value-clause-ok
 returns-in_ok-pass_value-clause-ok c =

@@ -1,0 +1,29 @@
+-- The value that bytes are in JSON, and the members of an object.
+use Rattle.std.specs.Prelude.{ℕ, List, length, nat_le, option_and_then, Result, Err, if◌then◌else◌}
+use Rattle.std.specs.Str.{is_utf8}
+use Rattle.serde_json.specs.Data.{Data}
+use Rattle.serde_json.specs.Find.{get}
+use Rattle.serde_json.specs.Read.{read}
+use Rattle.piece_files.specs.declared.file_fault.FileFault.{FileFault}
+use Rattle.piece_files.specs.declared.file_fault.FileFault.TheVariants.{NotJson, Member, Limit}
+use Rattle.piece_files.specs.Faults.{or_fault}
+use Rattle.piece_files.specs.Elements.{number_of, elements_of}
+
+-- how many bytes a file may have
+abbrev pub max_bytes : ℕ
+max_bytes = 16777216
+
+-- the value that a file is: its length is tested first
+unfoldable pub json_of : List ℕ → Result Data FileFault
+json_of bytes =
+    if nat_le (length bytes) max_bytes
+    then (if is_utf8 bytes then or_fault NotJson (read bytes) else Err NotJson)
+    else Err Limit
+
+-- the member of this name, a number
+abbrev pub number_member : List ℕ → Data → Result ℕ FileFault
+number_member name d = or_fault Member (option_and_then number_of (get name d))
+
+-- the elements of the member of this name, an array
+abbrev pub array_member : List ℕ → Data → Result (List Data) FileFault
+array_member name d = or_fault Member (option_and_then elements_of (get name d))

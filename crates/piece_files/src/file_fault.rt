@@ -1,0 +1,56 @@
+ghost use Rattle.std.specs.Prelude.{◌≡◌};
+ghost use Rattle.piece_files.specs.Faults.{words_of};
+ghost use Rattle.piece_files.specs.declared.file_fault.FileFault.TheVariants.{NoMemory};
+
+use crate::part::Part;
+use std::alloc::{AllocError, AllocFailed};
+use std::fmt;
+
+/// Why a file was refused. It is printed as its number, with the place where there is one.
+#[derive(Clone, Copy, Debug, PartialEq, Eq)]
+pub enum FileFault {
+    /// 20: the bytes are no JSON.
+    NotJson,
+    /// 21: the file is no object, or a member is missing or of the wrong kind.
+    Member,
+    /// 21, with the index from 0: the first piece that has not the shape that it should have.
+    Piece(Part, usize),
+    /// 22: the file is too long, or a number in it or the number of its pieces is out of range.
+    Limit,
+    /// 14: memory was refused. It says nothing about the file.
+    NoMemory,
+}
+
+impl fmt::Display for FileFault {
+    ghost use Rattle.std.specs.Prelude.{Some};
+
+    ghost output = { λ fault. Some (words_of fault) };
+
+    fn fmt<W: fmt::Write>(&self, f: &mut fmt::Formatter<W>) -> fmt::Result {
+        match *self {
+            FileFault::NotJson => write!(f, "20"),
+            FileFault::Member => write!(f, "21"),
+            FileFault::Piece(Part::Step, index) => write!(f, "21 step {index}"),
+            FileFault::Piece(Part::Script, index) => write!(f, "21 script {index}"),
+            FileFault::Piece(Part::Entry, index) => write!(f, "21 entry {index}"),
+            FileFault::Limit => write!(f, "22"),
+            FileFault::NoMemory => write!(f, "14"),
+        }
+    }
+}
+
+impl From<AllocError> for FileFault {
+    ghost from_gives = { λ _ fault. fault ≡ NoMemory };
+
+    fn from(_error: AllocError) -> FileFault {
+        FileFault::NoMemory
+    }
+}
+
+impl<T: Drop> From<AllocFailed<T>> for FileFault {
+    ghost from_gives = { λ _ fault. fault ≡ NoMemory };
+
+    fn from(_error: AllocFailed<T>) -> FileFault {
+        FileFault::NoMemory
+    }
+}

@@ -1,0 +1,72 @@
+//! Values that are passed over: they are tested to be JSON, and nothing of them is kept.
+
+ghost use Rattle.std.specs.Prelude.{◌≡◌, ◌∷◌, ◌<◌, ◌≤◌, length, Some, None, OnOk, OnErr};
+ghost use Rattle.json.specs.Reads.{token_of};
+ghost use Rattle.serde_json.specs.Data.{Data, Items, Members};
+ghost use Rattle.piece_files.specs.Tokens.{value_at, items_at, members_at};
+
+use crate::numeral::number_in_text;
+use json::{Invalid, Reader, Token};
+
+/// Passes over the value that begins with this token, which was taken from the reader. The reader is
+/// then behind the value.
+///
+/// `Invalid` where no value of JSON comes in which arrays and objects nest no deeper than `depth`, or
+/// a number is too large for a float. The reader is then anywhere in the text.
+///
+/// Time is proportional to the tokens taken; nothing is kept of them.
+#[cycle(pass)]
+pub fn pass_value(token: Token<'_>, reader: &mut Reader<'_>, depth: usize) -> Result<(), Invalid>
+    ensures ok { OnOk result ((d : Data) × (value_at depth (token_of token.entry ∷ reader.old) ≡ Some (d, reader.new))) }
+    ensures err { OnErr result (value_at depth (token_of token.entry ∷ reader.old) ≡ None) }
+    ensures shorter { OnOk result (length reader.new ≤ length reader.old) }
+{
+    match token {
+        Token::String(_) | Token::Bool(_) | Token::Null => Ok(()),
+        Token::Number(text) => match number_in_text(text) {
+            Some(_) => Ok(()),
+            None => Err(Invalid),
+        },
+        Token::EndObject | Token::EndArray | Token::Key(_) | Token::Bad => Err(Invalid),
+        Token::BeginArray => {
+            if depth == 0 {
+                return Err(Invalid);
+            }
+            pass_items(reader, depth - 1)
+        }
+        Token::BeginObject => {
+            if depth == 0 {
+                return Err(Invalid);
+            }
+            pass_members(reader, depth - 1)
+        }
+    }
+}
+
+/// Passes over the elements of an array.
+#[cycle(pass)]
+fn pass_items(reader: &mut Reader<'_>, depth: usize) -> Result<(), Invalid>
+    ensures ok { OnOk result ((ds : Items) × (items_at depth reader.old ≡ Some (ds, reader.new))) }
+    ensures err { OnErr result (items_at depth reader.old ≡ None) }
+    ensures shorter { OnOk result (length reader.new < length reader.old) }
+{
+    'items: while !reader.take_end_array() {
+        let token = reader.next().ok_or(Invalid)?;
+        pass_value(token, reader, depth)?;
+    }
+    Ok(())
+}
+
+/// Passes over the members of an object.
+#[cycle(pass)]
+fn pass_members(reader: &mut Reader<'_>, depth: usize) -> Result<(), Invalid>
+    ensures ok { OnOk result ((ms : Members) × (members_at depth reader.old ≡ Some (ms, reader.new))) }
+    ensures err { OnErr result (members_at depth reader.old ≡ None) }
+    ensures shorter { OnOk result (length reader.new < length reader.old) }
+{
+    'members: while let Some(_) = reader.next_key()? {
+        let token = reader.next().ok_or(Invalid)?;
+        pass_value(token, reader, depth)?;
+    }
+    Ok(())
+}

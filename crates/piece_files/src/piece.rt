@@ -1,0 +1,150 @@
+//! The pieces of an array, read one after the other: one loop for all kinds of pieces.
+
+ghost use Rattle.std.specs.Prelude.{◌≡◌, ℕ, ◌+◌, ◌^◌, ◌∷◌, ◌<◌, ◌≤◌, List, length, Option, Some, None, Err, MatchResult, IfOk, OnOk, option_and_then};
+ghost use Rattle.json.specs.Token.{Token as SpecToken};
+ghost use Rattle.json.specs.Reads.{token_of};
+ghost use Rattle.serde_json.specs.Data.{Data};
+ghost use Rattle.piece_files.specs.Elements.{elements_of};
+ghost use Rattle.piece_files.specs.Pieces.{pieces_from};
+ghost use Rattle.piece_files.specs.Tokens.{value_at, items_at, items_from, Finds};
+ghost use Rattle.piece_files.specs.declared.part.Part.{Part};
+ghost use Rattle.piece_files.specs.declared.stop.Stop.TheVariants.{NotJson, NoMemory};
+
+use crate::part::Part;
+use crate::passing::pass_value;
+use crate::stop::Stop;
+use json::{Reader, Token};
+use std::alloc::Global;
+
+/// A kind of pieces, of which a file has an array. Each piece is an array itself, and its elements say
+/// what it is. A kind has no value; it is named where pieces are read.
+pub trait PieceKind {
+    /// A piece of this kind.
+    type Piece: Drop;
+
+    /// The piece that has these elements, where some piece has them.
+    ghost of: { List Data → Option Self.Piece };
+
+    /// What a fault calls a piece of this kind.
+    ghost part: { Part };
+
+    /// How many pieces of an array are kept.
+    ghost most: { ℕ };
+
+    /// What a fault calls a piece of this kind. Fixed cost.
+    fn part() -> Part
+        ensures { result ≡ part };
+
+    /// How many pieces of an array are kept at most, where the others are only counted. Where a file may
+    /// have no more than so many, one more is kept, which shows that there are too many. Fixed cost.
+    fn most() -> usize
+        ensures { result ≡ most };
+
+    /// The piece whose elements come next, after the bracket that opens it, or none where no piece of
+    /// this kind has them. The reader is then behind the bracket that closes it.
+    ///
+    /// `NotJson` where what comes is not the rest of an array in which arrays and objects nest no
+    /// deeper than `depth`, `NoMemory` where memory was refused. The reader is then anywhere in the text.
+    fn read(
+        alloc: Global,
+        reader: &mut Reader<'_>,
+        depth: usize,
+    ) -> Result<Option<Self::Piece>, Stop>
+        ensures ok { IfOk result (λ piece. (ds : List Data) × (items_at depth reader.old ≡ Some (items_from ds, reader.new)) × (piece ≡ of ds)) }
+        ensures err { result ≡ Err NotJson → items_at depth reader.old ≡ None }
+        ensures shorter { OnOk result (length reader.new < length reader.old) };
+}
+
+/// The pieces that an array begins with, up to its first element that is none.
+#[derive(Drop)]
+pub struct Pieces<P> {
+    /// The first of them, as many as the kind keeps.
+    pub pieces: Vec<P>,
+    /// How many there are.
+    pub count: usize,
+    /// Whether all elements of the array are pieces.
+    pub are_all: bool,
+}
+
+/// The piece that begins with this token, which was taken, or none where it is no piece.
+fn piece_in<K: PieceKind>(
+    alloc: Global,
+    token: Token<'_>,
+    reader: &mut Reader<'_>,
+    depth: usize,
+) -> Result<Option<K::Piece>, Stop>
+    ensures ok { IfOk result (λ piece. (d : Data) × (value_at depth (token_of token.entry ∷ reader.old) ≡ Some (d, reader.new)) × (piece ≡ option_and_then K.of (elements_of d))) }
+    ensures err { result ≡ Err NotJson → value_at depth (token_of token.entry ∷ reader.old) ≡ None }
+    ensures shorter { OnOk result (length reader.new ≤ length reader.old) }
+{
+    match token {
+        Token::BeginArray => {
+            if depth == 0 {
+                return Err(Stop::NotJson);
+            }
+            K::read(alloc, reader, depth - 1)
+        }
+        Token::BeginObject
+        | Token::EndObject
+        | Token::EndArray
+        | Token::Key(_)
+        | Token::String(_)
+        | Token::Number(_)
+        | Token::Bool(_)
+        | Token::Null
+        | Token::Bad => {
+            pass_value(token, reader, depth)?;
+            Ok(None)
+        }
+    }
+}
+
+/// One more. Memory gives out long before the numbers do.
+fn next_count(count: usize) -> Result<usize, Stop>
+    ensures { MatchResult result (λ next. (next ≡ count + 1) × (next < 2 ^ 64)) (λ stop. stop ≡ NoMemory) }
+{
+    count.checked_add(1).ok_or(Stop::NoMemory)
+}
+
+/// The pieces of an array, whose bracket was taken from the reader. The reader is then behind the
+/// bracket that closes the array.
+///
+/// `NotJson` where what comes is not the rest of an array in which arrays and objects nest no deeper
+/// than `depth`, `NoMemory` where memory was refused. The reader is then anywhere in the text.
+///
+/// Each piece is read once, by `K::read`, and memory is taken for those that are kept.
+pub fn pieces_in<K: PieceKind>(
+    alloc: Global,
+    reader: &mut Reader<'_>,
+    depth: usize,
+) -> Result<Pieces<K::Piece>, Stop>
+    ensures ok { IfOk result (λ found. (ds : List Data) × (items_at depth reader.old ≡ Some (items_from ds, reader.new)) × Finds K.part K.most found.pieces.items found.count found.are_all (pieces_from K.of K.part 0 ds)) }
+    ensures range { IfOk result (λ found. found.count < 2 ^ 64) }
+    ensures err { result ≡ Err NotJson → items_at depth reader.old ≡ None }
+    ensures shorter { OnOk result (length reader.new < length reader.old) }
+{
+    let most = K::most();
+    let mut pieces = Vec::new(alloc);
+    let mut count = 0;
+    let mut are_all = true;
+    'pieces: while !reader.take_end_array() {
+        let token = reader.next().ok_or(Stop::NotJson)?;
+        let read = piece_in::<K>(alloc, token, reader, depth)?;
+        match read {
+            Some(piece) => {
+                if are_all {
+                    if count < most {
+                        pieces.push(piece)?;
+                    }
+                    count = next_count(count)?;
+                }
+            }
+            None => are_all = false,
+        }
+    }
+    Ok(Pieces {
+        pieces,
+        count,
+        are_all,
+    })
+}

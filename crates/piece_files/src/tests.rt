@@ -1,0 +1,227 @@
+ghost use Rattle.std.specs.Prelude.{◌≡◌, codes};
+ghost use Rattle.piece_files.specs.Elements.{two_of};
+ghost use Rattle.piece_files.specs.Members.{GivesLast, IsNumberOf, ArePiecesOf};
+
+use super::*;
+use json::{Reader, Scratch, Token};
+use serde_json::Value;
+use std::alloc::Global;
+use std::process::Abort;
+use std::test::Fail;
+
+/// Points, each two numbers, of which three are kept.
+struct PointKind;
+
+impl PieceKind for PointKind {
+    ghost use Rattle.piece_files.specs.declared.part.Part.TheVariants as parts;
+
+    type Piece = (u64, u64);
+
+    ghost of = { two_of };
+
+    ghost part = { parts.Entry };
+
+    ghost most = { 3 };
+
+    fn part() -> Part {
+        Part::Entry
+    }
+
+    fn most() -> usize {
+        3
+    }
+
+    #[tactic(auto, using(crate::proofs::PlainElements::no_two))]
+    fn read(
+        alloc: Global,
+        reader: &mut Reader<'_>,
+        depth: usize,
+    ) -> Result<Option<(u64, u64)>, Stop> {
+        let elements = plain_elements(alloc, reader, depth, 2)?;
+        match elements {
+            Some(values) => Ok(two_in(&values)),
+            None => Ok(None),
+        }
+    }
+}
+
+/// The members of a drawing.
+#[derive(Drop)]
+struct Drawing {
+    width: Option<u64>,
+    points: Option<Pieces<(u64, u64)>>,
+}
+
+impl Wanted for Drawing {
+    ghost use Rattle.piece_files.specs.declared.part.Part.TheVariants as parts;
+
+    ghost found = { λ m ms. GivesLast IsNumberOf m.width (codes "width") ms × GivesLast (ArePiecesOf two_of parts.Entry 3) m.points (codes "points") ms };
+
+    fn take(
+        &mut self,
+        alloc: Global,
+        key: &str,
+        token: Token<'_>,
+        reader: &mut Reader<'_>,
+        depth: usize,
+    ) -> Result<(), Stop> {
+        if key == "width" {
+            put_number(&mut self.width, alloc, token, reader, depth)
+        } else if key == "points" {
+            put_pieces::<PointKind>(&mut self.points, alloc, token, reader, depth)
+        } else {
+            pass_value(token, reader, depth)?;
+            Ok(())
+        }
+    }
+}
+
+/// The width and the points of a drawing.
+fn drawing_in(alloc: Global, text: &str) -> Result<(u64, Vec<(u64, u64)>), FileFault> {
+    let nothing = Drawing {
+        width: None,
+        points: None,
+    };
+    let found = members_in(alloc, text.as_bytes(), nothing)?;
+    let width = number_found(found.width)?;
+    let points = pieces_kept::<PointKind>(found.points)?;
+    Ok((width, points))
+}
+
+#[test]
+fn drawings(rt: HostRuntime) -> Result<(), Fail> {
+    let few = [(1, 2), (3, 4)];
+    let three = [(1, 2), (3, 4), (5, 6)];
+    let cases: [(&str, &[(u64, u64)]); 5] = [
+        ("{\"width\":7,\"points\":[]}", &[]),
+        (" {\"points\":[[1,2],[3,4]],\n\"width\":7} ", &few),
+        (
+            "{\"x\":[[1e5],{\"width\":8}],\"width\":7,\"points\":[[1,2],[3,4]],\"\":null}",
+            &few,
+        ),
+        (
+            "{\"points\":0,\"width\":8,\"width\":7,\"points\":[[1,2],[3,4]]}",
+            &few,
+        ),
+        (
+            "{\"width\":7,\"points\":[[1,2],[3,4],[5,6],[7,8],[9,10]]}",
+            &three,
+        ),
+    ];
+    for (text, wanted) in cases {
+        let Ok((width, points)) = drawing_in(rt.alloc(), text) else {
+            return Err("refused")?;
+        };
+        assert_eq!(rt; width, 7, "{text}");
+        assert_eq!(rt; points.as_slice(), wanted, "{text}");
+    }
+    Ok(())
+}
+
+#[test]
+fn wrong_drawings(rt: HostRuntime) {
+    let cases = [
+        ("", FileFault::NotJson),
+        ("{\"width\":7,\"points\":[[1,2]}", FileFault::NotJson),
+        ("{\"width\":7,\"points\":[]} 7", FileFault::NotJson),
+        (
+            "{\"width\":7,\"points\":[],\"x\":1e999}",
+            FileFault::NotJson,
+        ),
+        ("7", FileFault::Member),
+        ("[]", FileFault::Member),
+        ("{\"points\":[]}", FileFault::Member),
+        ("{\"width\":-7,\"points\":[]}", FileFault::Member),
+        ("{\"width\":7}", FileFault::Member),
+        (
+            "{\"width\":7,\"points\":[],\"points\":{}}",
+            FileFault::Member,
+        ),
+        (
+            "{\"width\":7,\"points\":[0,[1,2]]}",
+            FileFault::Piece(Part::Entry, 0),
+        ),
+        (
+            "{\"width\":7,\"points\":[[1,2],[1,2],[1,2],[1,2],[1,2,3],[]]}",
+            FileFault::Piece(Part::Entry, 4),
+        ),
+    ];
+    for (text, wanted) in cases {
+        assert_eq!(rt; drawing_in(rt.alloc(), text).err(), Some(wanted), "{text}");
+    }
+}
+
+/// The elements of the array that a text is, where they are plain and no more than four.
+fn elements_of_text(rt: &(impl Abort + AllocGlobal), text: &str) -> Result<Vec<Value>, Fail> {
+    let mut scratch = Scratch::new(rt.alloc());
+    let mut reader = Reader::new(text, &mut scratch)?;
+    assert!(rt; matches!(reader.next(), Some(Token::BeginArray)));
+    match plain_elements(rt.alloc(), &mut reader, 1, 4) {
+        Ok(Some(values)) => Ok(values),
+        Ok(None) => Err("not plain")?,
+        Err(_) => Err("no JSON, or no memory")?,
+    }
+}
+
+#[test]
+fn elements(rt: HostRuntime) -> Result<(), Fail> {
+    let values = elements_of_text(&rt, "[\"put\",1,18446744073709551615,null]")?;
+    let Some((name, rest)) = word_in(&values) else {
+        return Err("no text")?;
+    };
+    assert_eq!(rt; name, "put");
+    let Some((number, rest)) = number_in(rest) else {
+        return Err("no number")?;
+    };
+    assert_eq!(rt; (number, rest.len()), (1, 2));
+    assert_eq!(rt; two_in(rest), None);
+    let values = elements_of_text(&rt, "[8,9]")?;
+    assert_eq!(rt; two_in(&values), Some((8, 9)));
+    assert_eq!(rt; one_in(&values), None);
+    assert_eq!(rt; end_in(&values), None);
+    let values = elements_of_text(&rt, "[9]")?;
+    assert_eq!(rt; one_in(&values), Some(9));
+    assert_eq!(rt; optional_in(&values), Some(Some(9)));
+    let values = elements_of_text(&rt, "[null]")?;
+    assert_eq!(rt; optional_in(&values), Some(None));
+    assert_eq!(rt; one_in(&values), None);
+    let values = elements_of_text(&rt, "[]")?;
+    assert_eq!(rt; end_in(&values), Some(()));
+    Ok(())
+}
+
+/// A value that is passed over, and the pieces of the array behind it.
+#[test]
+fn values_in_a_row(rt: HostRuntime) -> Result<(), Fail> {
+    let mut scratch = Scratch::new(rt.alloc());
+    let mut reader = Reader::new("[{\"x\":[1,-2.5]},[[1,2],[3,4],0]]", &mut scratch)?;
+    assert!(rt; matches!(reader.next(), Some(Token::BeginArray)));
+    let Some(token) = reader.next() else {
+        return Err("no value")?;
+    };
+    assert!(rt; pass_value(token, &mut reader, 2).is_ok());
+    assert!(rt; matches!(reader.next(), Some(Token::BeginArray)));
+    let Ok(found) = pieces_in::<PointKind>(rt.alloc(), &mut reader, 1) else {
+        return Err("no JSON, or no memory")?;
+    };
+    let wanted = [(1, 2), (3, 4)];
+    assert_eq!(rt; found.pieces.as_slice(), wanted.as_slice());
+    assert_eq!(rt; (found.count, found.are_all), (2, false));
+    Ok(())
+}
+
+#[test]
+fn words_of_faults(rt: HostRuntime) -> Result<(), Fail> {
+    for (fault, wanted) in [
+        (FileFault::NotJson, "20"),
+        (FileFault::Member, "21"),
+        (FileFault::Piece(Part::Step, 4), "21 step 4"),
+        (FileFault::Piece(Part::Script, 0), "21 script 0"),
+        (FileFault::Piece(Part::Entry, 10), "21 entry 10"),
+        (FileFault::Limit, "22"),
+        (FileFault::NoMemory, "14"),
+    ] {
+        assert_eq!(rt; fault.to_string(rt.alloc())?.as_str(), wanted);
+    }
+    Ok(())
+}
