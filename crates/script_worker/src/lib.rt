@@ -15,11 +15,13 @@
 #![tactic(auto)]
 
 mod attempt;
+mod standing;
 mod task;
 #[cfg(test)]
 mod tests;
 mod worker;
 
 pub use attempt::{Attempt, Outcome, Progress, Stage};
+pub use standing::Standing;
 pub use task::Task;
 pub use worker::Worker;

@@ -72,7 +72,10 @@ fn busy_is_tried_again(rt: HostRuntime) -> Result<(), Fail> {
     let scripts = scripts_of(&rt, &[&[Action::Op(op)], &[]])?;
     let mut worker = Worker::new(0, 1, &scripts);
     for script in [0, 0] {
-        assert_eq!(rt; worker.task.map(|task| task.script), Some(script));
+        assert_eq!(rt;
+            worker.standing().task.map(|task| task.script),
+            Some(script)
+        );
         takes(&rt, &mut worker, &scripts, Step::Begin(0), Answer::Began(1));
         takes(
             &rt,
@@ -90,7 +93,7 @@ fn busy_is_tried_again(rt: HostRuntime) -> Result<(), Fail> {
         );
         takes(&rt, &mut worker, &scripts, Step::Act(0), Answer::Aborted);
     }
-    assert_eq!(rt; worker.task.map(|task| task.script), Some(1));
+    assert_eq!(rt; worker.standing().task.map(|task| task.script), Some(1));
     Ok(())
 }
 
@@ -108,7 +111,7 @@ fn refusals_end_a_script(rt: HostRuntime) -> Result<(), Fail> {
     let mut worker = Worker::new(0, 1, &scripts);
     takes(&rt, &mut worker, &scripts, Step::Begin(0), Answer::Began(1));
     assert_eq!(rt;
-        worker.task.map(|task| task.attempt.stage),
+        worker.standing().task.map(|task| task.attempt.stage),
         Some(Stage::Leaving(Refusal::BadKey))
     );
     takes(&rt, &mut worker, &scripts, Step::Abort(0), Answer::Leaving);

@@ -6,13 +6,13 @@ use Rattle.script_mix.proofs.crew.live_count.Goals.{then-is_live, else-is_live}
 pub loop-worker-preserved : goal.loop-worker-preserved
 loop-worker-preserved c = elim c.if-is_live.branch [
   | then-is_live w ↦
-      let lives = take-live c.args.workers.now c.loop-worker.worker-index _ c.loop-worker-test.true (sym c.is_live.ensures ∙ w.if-is_live.true) in
+      let lives = take-live c.args.workers.now c.loop-worker.worker-index _ c.loop-worker-test.true c.worker-item.is (sym c.is_live.ensures.step ∙ w.if-is_live.true) in
       record {
         count = omega (arith, lives, c.loop-worker.invariant.count, w.count-is);
         small = omega (arith, c.loop-worker.invariant.small, w.count-is);
       }
   | else-is_live w ↦
-      let idle = take-idle c.args.workers.now c.loop-worker.worker-index _ c.loop-worker-test.true (sym c.is_live.ensures ∙ w.if-is_live.false) in
+      let idle = take-idle c.args.workers.now c.loop-worker.worker-index _ c.loop-worker-test.true c.worker-item.is (sym c.is_live.ensures.step ∙ w.if-is_live.false) in
       record {
         count = omega (arith, idle, c.loop-worker.invariant.count, w.count-is);
         small = omega (arith, c.loop-worker.invariant.small, w.count-is);
