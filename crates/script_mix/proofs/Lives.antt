@@ -1,11 +1,13 @@
 -- How many workers have a step to take.
-use Rattle.std.proofs.Common.{◌≡◌, ℕ, ◌+◌, ◌<◌, true, false, cond, List, [], ◌∷◌, ◌++◌, length, take, get_or, refl, sym, ap, ◌∙◌, arith}
+use Rattle.std.proofs.Common.{◌≡◌, ℕ, ◌+◌, ◌<◌, true, false, cond, List, [], ◌∷◌, ◌++◌, length, take, get_or, Option, Some, None, subst, refl, sym, ap, ◌∙◌, arith}
 use Rattle.std.specs.Prelude.{is_some}
 use Rattle.std.proofs.lemmas.List.{take_more}
+use Rattle.std.proofs.lemmas.List.Elements.{All-nil, All-cons, All-append}
 use Prim.Native.Nat.{suc}
+use Rattle.script_worker.specs.declared.task.Task.{Task}
 use Rattle.script_worker.specs.declared.worker.Worker.{Worker}
 use Rattle.script_worker.specs.Workers.{step_by}
-use Rattle.script_mix.specs.Turns.{live, IsAtPlace}
+use Rattle.script_mix.specs.Turns.{live, AreDone, IsAtPlace}
 
 -- One live worker more.
 pub live-live : (ws : List Worker) (w : Worker) → is_some (step_by w) ≡ true → live (ws ++ w ∷ []) ≡ suc (live ws)
@@ -35,3 +37,13 @@ drawn_lives ws place i w at drawn = elim (is_some (step_by w)) as (λ b. is_some
       let same = take-idle ws i w drawn.within at is in
       absurd (omega (arith, same, drawn.before, drawn.lives))
 ] refl
+
+-- One worker more from the front that has no script left.
+no_script : (o : Option Task) → is_some o ≡ false → o ≡ None
+no_script None is = refl
+no_script (Some task) is = absurd (cc is)
+
+pub done_more : (ws : List Worker) (i : ℕ) (w : Worker) → i < length ws → w ≡ get_or ws i w → is_some w.task ≡ false → AreDone (take i ws) → AreDone (take (i + 1) ws)
+done_more ws i w within at is done =
+    subst AreDone (sym (take_more ws i w within))
+    (All-append (λ (x : Worker). x.task ≡ None) (take i ws) (get_or ws i w ∷ []) done (All-cons (λ (x : Worker). x.task ≡ None) (get_or ws i w) [] (subst (λ (x : Worker). x.task ≡ None) at (no_script w.task is)) (All-nil (λ (x : Worker). x.task ≡ None))))

@@ -1,5 +1,5 @@
 -- Which worker takes each turn, and what the turn does.
-use Rattle.std.specs.Prelude.{◌≡◌, ℕ, ◌+◌, ◌<◌, ◌%◌, if◌then◌else◌, List, [], ◌∷◌, ◌++◌, length, take, Option, Some, None, is_some, slice_index_or, slice_set}
+use Rattle.std.specs.Prelude.{◌≡◌, ℕ, ◌+◌, ◌<◌, ◌%◌, if◌then◌else◌, List, [], ◌∷◌, ◌++◌, All, length, take, Option, Some, None, is_some, slice_index_or, slice_set}
 use Prim.Native.Nat.{zero, suc}
 use Rattle.txn_trace.specs.declared.action.Action.{Action}
 use Rattle.txn_trace.specs.declared.answer.Answer.{Answer}
@@ -19,6 +19,10 @@ use Rattle.rand_pcg.specs.Pcg.{pcg32, pcg32_of_seed}
 abbrev pub live : List Worker → ℕ
 live [] = 0
 live (worker ∷ workers) = if is_some (step_by worker) then suc (live workers) else live workers
+
+-- None of these workers has a script left.
+abbrev pub AreDone : List Worker → Type 0
+AreDone workers = All (λ (worker : Worker). worker.task ≡ None) workers
 
 -- The worker of this number is live, and as many live ones stand before it as the place says.
 pub record IsAtPlace (workers : List Worker) (place number : ℕ) : Type 0 where

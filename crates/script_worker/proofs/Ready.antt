@@ -18,7 +18,7 @@ use Rattle.txn_drive.specs.declared.phase.Phase.{Phase}
 use Rattle.txn_drive.specs.declared.phase.Phase.TheVariants.{Fresh, Seeking, Acting, Doubling, Initialising, Linking, Storing, Refused}
 use Rattle.txn_drive.specs.declared.turn.Turn.{Turn}
 use Rattle.txn_drive.specs.declared.turn.Turn.TheVariants.{One, Two, Ended}
-use Rattle.txn_drive.specs.Drives.{first_phase, step_in, step_of, turn_in, sized_in, sized_of, ended_by, end_of, new_drive, IsTurnOf, told_of}
+use Rattle.txn_drive.specs.Drives.{step_in, step_of, turn_in, sized_in, sized_of, ended_by, end_of, new_drive, IsTurnOf, told_of}
 use Rattle.script_worker.specs.declared.attempt.Progress.{Progress}
 use Rattle.script_worker.specs.declared.attempt.Progress.TheVariants.{Next, Over}
 use Rattle.script_worker.specs.declared.attempt.Stage.{Stage}

@@ -34,10 +34,9 @@ impl Standing {
     pub(crate) fn told(self, scripts: &[Script], tries: u64, answer: Answer) -> Standing
         ensures { result ≡ told_by scripts.now tries self answer }
     {
+        let next = self.heard(answer).settled(scripts, tries);
         // A call of help may end before its first step, and then an abort follows at once, which takes a step.
-        self.heard(answer)
-            .settled(scripts, tries)
-            .settled(scripts, tries)
+        next.settled(scripts, tries)
     }
 
     /// The worker whose call was told the answer.
