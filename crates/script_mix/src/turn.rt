@@ -30,6 +30,7 @@ pub(crate) fn take_turn(core: &mut Core, worker: &mut Worker, scripts: &[Script]
                 take_step(core, worker, scripts, tries, second);
             }
         }
+        // Not reached: the worker has a step to take.
         Some(Turn::Ended(_)) | None => {}
     }
 }
