@@ -135,6 +135,13 @@ crew_goes scripts count w old new crew before after within at is goes = record {
           (stays d (get_or crew d other) away (is.each d other still))
     ] refl
 
+-- Each member keeps to its scripts.
+pub member_keeps : (scripts theirs : List (List Action)) (count w : ℕ) (h : List Entry) (crew : List Worker) (worker : Worker) → scripts ≡ theirs → w < length crew → worker ≡ get_or crew w worker → IsCrew theirs count h crew
+    → Keeps scripts worker (own worker.number h)
+member_keeps scripts theirs count w h crew worker scripts_is within at is =
+    let member : IsMember theirs count h w worker = subst (IsMember theirs count h w) (sym at) (is.each w worker within) in
+    subst (λ s. Keeps s worker (own worker.number h)) (sym scripts_is) (subst (λ n. Keeps theirs worker (own n h)) (sym member.number) member.keeps)
+
 -- One member more.
 pub crew_more : (scripts : List (List Action)) (count : ℕ) (crew : List Worker) (worker : Worker) → IsMember scripts count [] (length crew) worker
     → ((w : ℕ) (other : Worker) → w < length crew → IsMember scripts count [] w (get_or crew w other))

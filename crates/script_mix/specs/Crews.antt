@@ -8,7 +8,7 @@ use Rattle.txn_files.specs.Work.{Work}
 use Rattle.boost_core.specs.Machine.{State}
 use Rattle.script_worker.specs.declared.worker.Worker.{Worker}
 use Rattle.script_worker.specs.Keeps.{Keeps}
-use Rattle.script_mix.specs.Turns.{live, Mixing, beginning, TakeDrawn}
+use Rattle.script_mix.specs.Turns.{live, AreDone, Mixing, beginning, TakeDrawn}
 
 -- One of so many workers, whose own entries in the history are what its scripts ask for so far.
 pub record IsMember (scripts : List (List Action)) (count : ℕ) (h : List Entry) (w : ℕ) (worker : Worker) : Type 0 where
@@ -29,8 +29,9 @@ pub record Goes (scripts : List (List Action)) (old new : State) (before after :
   pub others : (c : ℕ) → c ≢ before.number → own c new.history ≡ own c old.history
   pub keeps : Keeps scripts after (own after.number new.history)
 
--- A core of the limits asked for, on which the workers took turns as they were drawn, until none had a step left or 2^64 - 1
--- turns were taken; and in whose history each worker's committed transactions play scripts of its own, their numbers rising.
+-- A core of the limits asked for, on which the workers took turns as they were drawn, until none had a step or a script left
+-- or 2^64 - 1 turns were taken; and in whose history each worker's committed transactions play scripts of its own, their
+-- numbers rising.
 pub record IsMixed (work : Work) (seed : ℕ) (state : State) : Type 0 where
   pub limits : state.limits ≡ work.sizes
   pub plays : PlayScripts work.sizes.callers work.scripts state.history
@@ -38,4 +39,4 @@ pub record IsMixed (work : Work) (seed : ℕ) (state : State) : Type 0 where
   pub last : Mixing
   pub core : last.core ≡ state
   pub turns : TakeDrawn work.scripts work.tries (beginning work seed) drawn last
-  pub ended : (live last.crew ≡ 0) ⊎ (length drawn ≡ 2 ^ 64 - 1)
+  pub ended : ((live last.crew ≡ 0) × AreDone last.crew) ⊎ (length drawn ≡ 2 ^ 64 - 1)

@@ -1,5 +1,5 @@
 -- Which worker takes each turn, and what the turn does.
-use Rattle.std.specs.Prelude.{◌≡◌, ℕ, ◌+◌, ◌<◌, ◌%◌, if◌then◌else◌, List, [], ◌∷◌, ◌++◌, length, take, Option, Some, None, is_some, slice_index_or, slice_set}
+use Rattle.std.specs.Prelude.{◌≡◌, ℕ, ◌+◌, ◌<◌, ◌%◌, if◌then◌else◌, List, [], ◌∷◌, ◌++◌, All, length, take, Option, Some, None, is_some, slice_index_or, slice_set}
 use Prim.Native.Nat.{zero, suc}
 use Rattle.txn_trace.specs.declared.action.Action.{Action}
 use Rattle.txn_trace.specs.declared.answer.Answer.{Answer}
@@ -10,7 +10,7 @@ use Rattle.txn_drive.specs.declared.turn.Turn.{Turn}
 use Rattle.txn_drive.specs.declared.turn.Turn.TheVariants.{One, Two, Ended}
 use Rattle.boost_core.specs.Machine.{State, Move, start}
 use Rattle.script_worker.specs.declared.worker.Worker.{Worker}
-use Rattle.script_worker.specs.Workers.{new_worker, told_by, sized_by, turn_by}
+use Rattle.script_worker.specs.Workers.{new_worker, told_by, sized_by, turn_by, step_by}
 use Rattle.rand_core.specs.Pcg32Seed.{pcg32_seed}
 use Rattle.rand_pcg.specs.Lcg.{Lcg}
 use Rattle.rand_pcg.specs.Pcg.{pcg32, pcg32_of_seed}
@@ -18,7 +18,11 @@ use Rattle.rand_pcg.specs.Pcg.{pcg32, pcg32_of_seed}
 -- How many of these workers have a step to take.
 abbrev pub live : List Worker → ℕ
 live [] = 0
-live (worker ∷ workers) = if is_some worker.task then suc (live workers) else live workers
+live (worker ∷ workers) = if is_some (step_by worker) then suc (live workers) else live workers
+
+-- None of these workers has a script left.
+abbrev pub AreDone : List Worker → Type 0
+AreDone workers = All (λ (worker : Worker). worker.task ≡ None) workers
 
 -- The worker of this number is live, and as many live ones stand before it as the place says.
 pub record IsAtPlace (workers : List Worker) (place number : ℕ) : Type 0 where
@@ -36,13 +40,13 @@ abbrev pub TakesSecond : List (List Action) → ℕ → State → Worker → Ste
 TakesSecond scripts tries old before second answers.Placed new after = (answer : Answer) × Takes scripts tries old before second answer new after
 TakesSecond scripts tries old before second answer new after = (new ≡ old) × (after ≡ before)
 
--- A turn of a worker.
+-- A turn of a worker: it takes one step at least.
 abbrev pub TakesIn : List (List Action) → ℕ → State → Worker → Option Turn → State → Worker → Type 0
 TakesIn scripts tries old before (Some (One step)) new after = (answer : Answer) × Takes scripts tries old before step answer new after
 TakesIn scripts tries old before (Some (Two first second)) new after =
     (answer : Answer) × (between : State) × (middle : Worker) × Takes scripts tries old before first answer between middle × TakesSecond scripts tries between middle second answer new after
-TakesIn scripts tries old before (Some (Ended outcome)) new after = (new ≡ old) × (after ≡ before)
-TakesIn scripts tries old before None new after = (new ≡ old) × (after ≡ before)
+TakesIn scripts tries old before (Some (Ended outcome)) new after = ⊥
+TakesIn scripts tries old before None new after = ⊥
 
 -- The next turn of a worker, at the size of the table.
 abbrev pub TakesTurn : List (List Action) → ℕ → State → Worker → State → Worker → Type 0

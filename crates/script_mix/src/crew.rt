@@ -1,6 +1,6 @@
 ghost use Rattle.std.specs.Prelude.{◌≡◌, ◌<◌, ◌≤◌, ◌%◌, IfOk, IfSome, None, []};
 ghost use Rattle.rand_pcg.specs.Pcg.{pcg32};
-ghost use Rattle.script_mix.specs.Turns.{IsAtPlace, first_crew, live};
+ghost use Rattle.script_mix.specs.Turns.{AreDone, IsAtPlace, first_crew, live};
 ghost use Rattle.script_mix.specs.Crews.{IsCrew};
 
 use crate::drawing::draw;
@@ -27,7 +27,8 @@ pub(crate) fn workers_of(
 
 /// How many of the workers have a step to take.
 fn live_count(workers: &[Worker]) -> usize
-    ensures { result ≡ live workers.now }
+    ensures live { result ≡ live workers.now }
+    ensures done { result ≡ 0 → AreDone workers.now }
 {
     let mut count = 0;
     for worker in workers {
@@ -45,7 +46,7 @@ fn live_count(workers: &[Worker]) -> usize
 pub(crate) fn drawn(generator: &mut Pcg32, workers: &[Worker]) -> Option<usize>
     ensures drawn { IfSome result (λ number. IsAtPlace workers.now ((pcg32 generator.old).0 % live workers.now) number) }
     ensures generator { IfSome result (λ number. generator.new ≡ (pcg32 generator.old).1) }
-    ensures none { result ≡ None → live workers.now ≡ 0 }
+    ensures none { result ≡ None → (live workers.now ≡ 0) × AreDone workers.now }
 {
     let count = live_count(workers);
     if count == 0 {

@@ -94,3 +94,79 @@ fn the_worker_drawn_goes(rt: HostRuntime) -> Result<(), Fail> {
     }
     Ok(())
 }
+
+/// The entries of the turns of two scripts that begin with a help with a bad key: begin, abort, seek, act.
+const BAD_HELPS: [Option<&str>; 8] = [
+    Some("began"),
+    Some("leave"),
+    None,
+    Some("aborted"),
+    Some("began"),
+    Some("leave"),
+    None,
+    Some("aborted"),
+];
+
+/// The entries of the turns of such a script, and of one that is a put: begin, ask, seek, act, commit.
+const BAD_HELP_AND_PUT: [Option<&str>; 9] = [
+    Some("began"),
+    Some("leave"),
+    None,
+    Some("aborted"),
+    Some("began"),
+    Some("asked"),
+    None,
+    Some("did"),
+    Some("committed"),
+];
+
+/// An entry's caller and its name.
+fn named(entry: &Entry) -> (u64, &'static str) {
+    match *entry {
+        Entry::Began(caller, _) => (caller, "began"),
+        Entry::Asked(caller, _) => (caller, "asked"),
+        Entry::Did(caller, _) => (caller, "did"),
+        Entry::Leave(caller, None) => (caller, "leave"),
+        Entry::Committed(caller, _) => (caller, "committed"),
+        Entry::Aborted(caller) => (caller, "aborted"),
+        _ => (64, "another entry"),
+    }
+}
+
+/// Helps with bad keys draw nothing: worker 0 has no other action and takes eight turns, and worker 1 also puts and takes
+/// nine.
+#[test]
+fn bad_helps_beside_a_put(rt: HostRuntime) -> Result<(), Fail> {
+    let text =
+        "{\"version\":1,\"workers\":2,\"stripes\":1,\"buckets\":2,\"tries\":0,\"scripts\":[[[\"help\",9223372036854775808]],[[\"help\",9223372036854775808],[\"help\",9223372036854775808],[\"help\",9223372036854775808],[\"put\",1,10]],[[\"help\",9223372036854775808],[\"help\",18446744073709551615]],[[\"put\",1,10]]]}";
+    let Ok(work) = read_scripts(rt.alloc(), text.as_bytes()) else {
+        return Err("refused")?;
+    };
+    for seed in 0..20 {
+        let core = mixed(rt.alloc(), seed, &work)?;
+        let mut entries = core.trace().iter();
+        let mut words = Pcg32::seed_from_u64(seed);
+        let mut live = Vec::from_array(
+            rt.alloc(),
+            [(0, &BAD_HELPS[..]), (1, &BAD_HELP_AND_PUT[..])],
+        )?;
+        for _turn in 0..17 {
+            let word = u64::from(words.next_word());
+            assert!(rt; !live.is_empty(), "{seed}");
+            let place = (word % live.len() as u64) as usize;
+            let (worker, row) = live.remove(place);
+            let Some((entry, later)) = row.split_first() else {
+                return Err("no turn is left")?;
+            };
+            if let Some(name) = entry {
+                assert_eq!(rt; entries.next().map(named), Some((worker, *name)), "{seed}");
+            }
+            if !later.is_empty() {
+                live.insert(place, (worker, later))?;
+            }
+        }
+        assert!(rt; live.is_empty(), "{seed}");
+        assert!(rt; entries.next().is_none(), "{seed}");
+    }
+    Ok(())
+}

@@ -1,4 +1,4 @@
-ghost use Rattle.std.specs.Prelude.{◌≡◌, Some};
+ghost use Rattle.std.specs.Prelude.{◌≡◌, Some, is_some, true};
 ghost use Rattle.txn_trace.specs.declared.answer.Answer.TheVariants as answers;
 ghost use Rattle.txn_trace.specs.declared.step.Step.{Step};
 ghost use Rattle.txn_trace.specs.Shape.{own};
@@ -13,9 +13,10 @@ use txn_drive::Turn;
 use txn_files::Script;
 use txn_trace::{Answer, Step};
 
-/// A worker takes its next turn, of one step or of two.
+/// A worker that has a step to take takes its next turn, of one step or of two.
 pub(crate) fn take_turn(core: &mut Core, worker: &mut Worker, scripts: &[Script], tries: u64)
-    requires { Keeps scripts.now worker.old (own worker.old.number core.old.history) }
+    requires live { is_some (step_by worker.old) ≡ true }
+    requires keeps { Keeps scripts.now worker.old (own worker.old.number core.old.history) }
     ensures goes { Goes scripts.now core.old core.new worker.old worker.new }
     ensures takes { TakesTurn scripts.now tries core.old worker.old core.new worker.new }
 {
@@ -29,6 +30,7 @@ pub(crate) fn take_turn(core: &mut Core, worker: &mut Worker, scripts: &[Script]
                 take_step(core, worker, scripts, tries, second);
             }
         }
+        // Not reached: the worker has a step to take.
         Some(Turn::Ended(_)) | None => {}
     }
 }

@@ -38,7 +38,7 @@ use Rattle.script_worker.specs.declared.attempt.Progress.{Progress}
 use Rattle.script_worker.specs.declared.attempt.Progress.TheVariants.{Next, Over}
 use Rattle.script_worker.specs.declared.attempt.Outcome.TheVariants as outcomes
 use Rattle.script_worker.specs.declared.task.Task.{Task}
-use Rattle.script_worker.specs.declared.worker.Worker.{Worker}
+use Rattle.script_worker.specs.declared.standing.Standing.{Standing}
 use Rattle.script_worker.specs.Attempts.{attempt_at, call_for, call_of, call_at, done_with, busy_at, refused_with, refused_at, progress_at, progress_of}
 use Rattle.script_worker.specs.Workers.{started, followed, progressed, settled_in, settled_at, settled, with_drive_in, told_drive, told_by, sized_by, step_by}
 use Rattle.script_worker.specs.Keeps.{IsFront, IsAsFar, IsBegun, IsCommitting, IsActing, IsAt, KeepsTask, KeepsAt, Keeps}
@@ -396,34 +396,34 @@ module _ (workers : ℕ) (scripts : List (List Action)) (w : ℕ) (below : w < w
     at = sized_at task.script at.script at.mine size task.attempt.stage task.drive parts at.at;
   }
 
-follows_keeps : (scripts : List (List Action)) (worker : Worker) (below : worker.number < worker.workers) (task : Task) (script : List Action) (is : IsScriptOf worker.workers scripts worker.number task.script script) (parts : List (List Entry)) (progress : Progress)
+follows_keeps : (scripts : List (List Action)) (worker : Standing) (below : worker.number < worker.workers) (task : Task) (script : List Action) (is : IsScriptOf worker.workers scripts worker.number task.script script) (parts : List (List Entry)) (progress : Progress)
     → Follows worker.workers scripts worker.number below task.script script is parts progress → KeepsAt worker.workers scripts worker.number (followed scripts worker task script progress) parts
 follows_keeps scripts worker below task script is parts (Next attempt) follows = follows
 follows_keeps scripts worker below task script is parts (Over outcome) follows = follows
 
-progressed_keeps : (scripts : List (List Action)) (tries : ℕ) (worker : Worker) (below : worker.number < worker.workers) (task : Task) (outcome : End) (parts : List (List Entry)) → end_of task.drive ≡ Some outcome
+progressed_keeps : (scripts : List (List Action)) (tries : ℕ) (worker : Standing) (below : worker.number < worker.workers) (task : Task) (outcome : End) (parts : List (List Entry)) → end_of task.drive ≡ Some outcome
     → KeepsTask worker.workers scripts worker.number task parts → KeepsAt worker.workers scripts worker.number (progressed scripts tries worker task outcome) parts
 progressed_keeps scripts tries worker below task outcome parts is at =
     subst (λ o. KeepsAt worker.workers scripts worker.number (option_and_then (λ script. followed scripts worker task script (progress_of script tries task.attempt outcome)) o) parts) (sym at.mine.there)
     (follows_keeps scripts worker below task at.script at.mine parts (progress_of at.script tries task.attempt outcome)
     (follows_end worker.workers scripts worker.number below task.script at.script at.mine tries task.attempt.again task.attempt.stage task.drive outcome parts at.call is at.at))
 
-settled_in_keeps : (scripts : List (List Action)) (tries : ℕ) (worker : Worker) (below : worker.number < worker.workers) (task : Task) (seen : List Entry) (o : Option End) → end_of task.drive ≡ o → worker.task ≡ Some task
+settled_in_keeps : (scripts : List (List Action)) (tries : ℕ) (worker : Standing) (below : worker.number < worker.workers) (task : Task) (seen : List Entry) (o : Option End) → end_of task.drive ≡ o → worker.task ≡ Some task
     → KeepsTask worker.workers scripts worker.number task (parts_of seen) → Keeps scripts (settled_in scripts tries worker task o) seen
 settled_in_keeps scripts tries worker below task seen None is task_is at = record { number = below; at = subst (λ o. KeepsAt worker.workers scripts worker.number o (parts_of seen)) (sym task_is) at }
 settled_in_keeps scripts tries worker below task seen (Some outcome) is task_is at = record { number = below; at = progressed_keeps scripts tries worker below task outcome (parts_of seen) is at }
 
-settled_at_keeps : (scripts : List (List Action)) (tries : ℕ) (worker : Worker) (below : worker.number < worker.workers) (seen : List Entry) (o : Option Task) → worker.task ≡ o
+settled_at_keeps : (scripts : List (List Action)) (tries : ℕ) (worker : Standing) (below : worker.number < worker.workers) (seen : List Entry) (o : Option Task) → worker.task ≡ o
     → KeepsAt worker.workers scripts worker.number o (parts_of seen) → Keeps scripts (settled_at scripts tries worker o) seen
 settled_at_keeps scripts tries worker below seen None is at = record { number = below; at = subst (λ o. KeepsAt worker.workers scripts worker.number o (parts_of seen)) (sym is) at }
 settled_at_keeps scripts tries worker below seen (Some task) is at = settled_in_keeps scripts tries worker below task seen (end_of task.drive) refl is at
 
 -- A worker that goes on keeps to its scripts.
-pub settled_keeps : (scripts : List (List Action)) (tries : ℕ) (worker : Worker) (seen : List Entry) → Keeps scripts worker seen → Keeps scripts (settled scripts tries worker) seen
+pub settled_keeps : (scripts : List (List Action)) (tries : ℕ) (worker : Standing) (seen : List Entry) → Keeps scripts worker seen → Keeps scripts (settled scripts tries worker) seen
 settled_keeps scripts tries worker seen keeps = settled_at_keeps scripts tries worker keeps.number seen worker.task refl keeps.at
 
 -- A worker that is told an answer keeps to its scripts.
-pub told_keeps : (scripts : List (List Action)) (tries : ℕ) (worker : Worker) (answer : Answer) (seen : List Entry) (step : Step) → step_by worker ≡ Some step → Keeps scripts worker seen
+pub told_keeps : (scripts : List (List Action)) (tries : ℕ) (worker : Standing) (answer : Answer) (seen : List Entry) (step : Step) → step_by worker ≡ Some step → Keeps scripts worker seen
     → Keeps scripts (told_by scripts tries worker answer) (seen ++ entries_of step answer)
 told_keeps scripts tries worker answer seen step is keeps =
     let es : List Entry = seen ++ entries_of step answer in
@@ -434,20 +434,20 @@ told_keeps scripts tries worker answer seen step is keeps =
     } in
     settled_keeps scripts tries _ es (settled_keeps scripts tries _ es told)
 
-pub sized_keeps : (size : ℕ) (scripts : List (List Action)) (worker : Worker) (seen : List Entry) → Keeps scripts worker seen → Keeps scripts (sized_by size worker) seen
+pub sized_keeps : (size : ℕ) (scripts : List (List Action)) (worker : Standing) (seen : List Entry) → Keeps scripts worker seen → Keeps scripts (sized_by size worker) seen
 sized_keeps size scripts worker seen keeps = record { number = keeps.number; at = task_sized worker.workers scripts worker.number keeps.number size worker.task (parts_of seen) keeps.at }
 
 pub new_keeps : (scripts : List (List Action)) (w workers : ℕ) → w < workers → Keeps scripts (record { number = w; workers = workers; task = started scripts w w }) []
 new_keeps scripts w workers below = record { number = below; at = keeps_new workers scripts w below }
 
 -- A worker with a step to take stays as it is.
-stays : (scripts : List (List Action)) (tries : ℕ) (worker : Worker) (step : Step) (o : Option Task) → option_and_then (λ (task : Task). step_of task.drive) o ≡ Some step → settled_at scripts tries worker o ≡ worker
+stays : (scripts : List (List Action)) (tries : ℕ) (worker : Standing) (step : Step) (o : Option Task) → option_and_then (λ (task : Task). step_of task.drive) o ≡ Some step → settled_at scripts tries worker o ≡ worker
 stays scripts tries worker step None is = absurd (cc is)
 stays scripts tries worker step (Some task) is = ap (settled_in scripts tries worker task) (goes_on task.drive step is)
 
-pub told_on : (scripts : List (List Action)) (tries : ℕ) (worker : Worker) (answer : Answer) (step : Step) → step_by (told_drive worker answer) ≡ Some step → told_by scripts tries worker answer ≡ told_drive worker answer
+pub told_on : (scripts : List (List Action)) (tries : ℕ) (worker : Standing) (answer : Answer) (step : Step) → step_by (told_drive worker answer) ≡ Some step → told_by scripts tries worker answer ≡ told_drive worker answer
 told_on scripts tries worker answer step is =
-    let told : Worker = told_drive worker answer in
+    let told : Standing = told_drive worker answer in
     let once : settled scripts tries told ≡ told = stays scripts tries told step told.task is in
     ap (settled scripts tries) once ∙ once
 
@@ -473,31 +473,31 @@ module _ (workers : ℕ) (scripts : List (List Action)) (w : ℕ) where
       let within : task.script < length scripts = slice_get_within scripts task.script at.script at.mine.there in
       played_below workers scripts w (suc task.script) (length scripts) parts (omega arith) (at_played task.script at.script task.drive parts task.attempt.stage at.at)
 
-pub keeps_played : (scripts : List (List Action)) (worker : Worker) (seen : List Entry) → Keeps scripts worker seen → HavePlayed worker.workers scripts worker.number (length scripts) (parts_of seen)
+pub keeps_played : (scripts : List (List Action)) (worker : Standing) (seen : List Entry) → Keeps scripts worker seen → HavePlayed worker.workers scripts worker.number (length scripts) (parts_of seen)
 keeps_played scripts worker seen keeps = task_played worker.workers scripts worker.number worker.task (parts_of seen) keeps.at
 
 -- The worker whose drive knows the size at this moment.
-pub sized_is : (size : ℕ) (worker : Worker) (task : Task) (drive : Drive) → worker.task ≡ Some task → drive ≡ sized_of size task.drive
+pub sized_is : (size : ℕ) (worker : Standing) (task : Task) (drive : Drive) → worker.task ≡ Some task → drive ≡ sized_of size task.drive
     → sized_by size worker ≡ record { number = worker.number; workers = worker.workers; task = Some (record { script = task.script; attempt = task.attempt; drive = drive }) }
 sized_is size worker task drive is drive_is =
-    let with_task : Option Task → Worker = λ o. record { number = worker.number; workers = worker.workers; task = o } in
+    let with_task : Option Task → Standing = λ o. record { number = worker.number; workers = worker.workers; task = o } in
     ap (λ o. with_task (with_drive_in (sized_of size) o)) is ∙ ap (λ d. with_task (Some (record { script = task.script; attempt = task.attempt; drive = d }))) (sym drive_is)
 
 -- A worker stays the same one among as many.
-abbrev IsSameOne : Worker → Worker → Type 0
+abbrev IsSameOne : Standing → Standing → Type 0
 IsSameOne after before = (after.number ≡ before.number) × (after.workers ≡ before.workers)
 
-settled_in_same : (scripts : List (List Action)) (tries : ℕ) (worker : Worker) (task : Task) (o : Option End) → IsSameOne (settled_in scripts tries worker task o) worker
+settled_in_same : (scripts : List (List Action)) (tries : ℕ) (worker : Standing) (task : Task) (o : Option End) → IsSameOne (settled_in scripts tries worker task o) worker
 settled_in_same scripts tries worker task None = (refl, refl)
 settled_in_same scripts tries worker task (Some outcome) = (refl, refl)
 
-settled_same : (scripts : List (List Action)) (tries : ℕ) (worker : Worker) (o : Option Task) → IsSameOne (settled_at scripts tries worker o) worker
+settled_same : (scripts : List (List Action)) (tries : ℕ) (worker : Standing) (o : Option Task) → IsSameOne (settled_at scripts tries worker o) worker
 settled_same scripts tries worker None = (refl, refl)
 settled_same scripts tries worker (Some task) = settled_in_same scripts tries worker task (end_of task.drive)
 
-pub told_same : (scripts : List (List Action)) (tries : ℕ) (worker : Worker) (answer : Answer) → IsSameOne (told_by scripts tries worker answer) worker
+pub told_same : (scripts : List (List Action)) (tries : ℕ) (worker : Standing) (answer : Answer) → IsSameOne (told_by scripts tries worker answer) worker
 told_same scripts tries worker answer =
-    let told : Worker = told_drive worker answer in
+    let told : Standing = told_drive worker answer in
     let once = settled_same scripts tries told told.task in
     let twice = settled_same scripts tries (settled scripts tries told) (settled scripts tries told).task in
     (twice.0 ∙ once.0, twice.1 ∙ once.1)

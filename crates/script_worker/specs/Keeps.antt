@@ -13,7 +13,7 @@ use Rattle.txn_drive.specs.Made.{made}
 use Rattle.script_worker.specs.declared.attempt.Stage.{Stage}
 use Rattle.script_worker.specs.declared.attempt.Stage.TheVariants.{Beginning, Acting, Leaving}
 use Rattle.script_worker.specs.declared.task.Task.{Task}
-use Rattle.script_worker.specs.declared.worker.Worker.{Worker}
+use Rattle.script_worker.specs.declared.standing.Standing.{Standing}
 use Rattle.script_worker.specs.Attempts.{call_at}
 
 -- Entries that any entries which the actions from this index on ask for make to those of the whole script.
@@ -68,6 +68,6 @@ KeepsAt workers scripts w None parts = HavePlayed workers scripts w (length scri
 KeepsAt workers scripts w (Some task) parts = KeepsTask workers scripts w task parts
 
 -- The worker's entries in the history are what its scripts ask for so far.
-pub record Keeps (scripts : List (List Action)) (worker : Worker) (seen : List Entry) : Type 0 where
+pub record Keeps (scripts : List (List Action)) (worker : Standing) (seen : List Entry) : Type 0 where
   pub number : worker.number < worker.workers
   pub at : KeepsAt worker.workers scripts worker.number worker.task (parts_of seen)

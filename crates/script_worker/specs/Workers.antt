@@ -1,5 +1,5 @@
 -- A worker: the script that it is at, its next step, and where it is once that was answered.
-use Rattle.std.specs.Prelude.{◌≡◌, ℕ, ◌+◌, nat_lt, if◌then◌else◌, List, length, Option, Some, None, slice_get}
+use Rattle.std.specs.Prelude.{◌≡◌, ℕ, ◌+◌, nat_lt, if◌then◌else◌, List, length, Option, Some, None, is_some, slice_get}
 use Rattle.std.specs.Option.{option_map, option_and_then}
 use Rattle.txn_trace.specs.declared.action.Action.{Action}
 use Rattle.txn_trace.specs.declared.answer.Answer.{Answer}
@@ -14,7 +14,7 @@ use Rattle.txn_drive.specs.Drives.{new_drive, sized_of, turn_of, told_of, step_o
 use Rattle.script_worker.specs.declared.attempt.Progress.{Progress}
 use Rattle.script_worker.specs.declared.attempt.Progress.TheVariants.{Next, Over}
 use Rattle.script_worker.specs.declared.task.Task.{Task}
-use Rattle.script_worker.specs.declared.worker.Worker.{Worker}
+use Rattle.script_worker.specs.declared.standing.Standing.{Standing}
 use Rattle.script_worker.specs.Attempts.{first_attempt, call_at, progress_of}
 
 -- The first attempt at the script of a number, where there is one.
@@ -22,29 +22,29 @@ abbrev pub started : List (List Action) → ℕ → ℕ → Option Task
 started scripts w n = if nat_lt n (length scripts) then Some (record { script = n; attempt = first_attempt; drive = new_drive w calls.Begin }) else None
 
 -- The worker before its first step.
-abbrev pub new_worker : List (List Action) → ℕ → ℕ → Worker
+abbrev pub new_worker : List (List Action) → ℕ → ℕ → Standing
 new_worker scripts w workers = record { number = w; workers = workers; task = started scripts w w }
 
 -- What the worker is at after a call of an attempt at a script: the next call, or the next script of its own.
-abbrev pub followed : List (List Action) → Worker → Task → List Action → Progress → Option Task
+abbrev pub followed : List (List Action) → Standing → Task → List Action → Progress → Option Task
 followed scripts worker task script (Next attempt) = Some (record { script = task.script; attempt = attempt; drive = new_drive worker.number (call_at script attempt.stage) })
 followed scripts worker task script (Over outcome) = started scripts worker.number (task.script + worker.workers)
 
 -- The same of the script of a number, after the call has ended so.
-abbrev pub progressed : List (List Action) → ℕ → Worker → Task → End → Option Task
+abbrev pub progressed : List (List Action) → ℕ → Standing → Task → End → Option Task
 progressed scripts tries worker task outcome =
     option_and_then (λ script. followed scripts worker task script (progress_of script tries task.attempt outcome)) (slice_get scripts task.script)
 
 -- Where the call has ended, the next one follows.
-abbrev pub settled_in : List (List Action) → ℕ → Worker → Task → Option End → Worker
+abbrev pub settled_in : List (List Action) → ℕ → Standing → Task → Option End → Standing
 settled_in scripts tries worker task None = worker
 settled_in scripts tries worker task (Some outcome) = record worker { task = progressed scripts tries worker task outcome }
 
-abbrev pub settled_at : List (List Action) → ℕ → Worker → Option Task → Worker
+abbrev pub settled_at : List (List Action) → ℕ → Standing → Option Task → Standing
 settled_at scripts tries worker None = worker
 settled_at scripts tries worker (Some task) = settled_in scripts tries worker task (end_of task.drive)
 
-abbrev pub settled : List (List Action) → ℕ → Worker → Worker
+abbrev pub settled : List (List Action) → ℕ → Standing → Standing
 settled scripts tries worker = settled_at scripts tries worker worker.task
 
 -- The task with what became of its drive.
@@ -53,32 +53,37 @@ with_drive_in f None = None
 with_drive_in f (Some task) = Some (record task { drive = f task.drive })
 
 -- The worker with what became of its drive.
-abbrev pub with_drive : (Drive → Drive) → Worker → Worker
+abbrev pub with_drive : (Drive → Drive) → Standing → Standing
 with_drive f worker = record worker { task = with_drive_in f worker.task }
 
 -- The worker whose drive was told an answer.
-abbrev pub told_drive : Worker → Answer → Worker
+abbrev pub told_drive : Standing → Answer → Standing
 told_drive worker answer = with_drive (λ drive. told_of drive answer) worker
 
 -- The worker that was told an answer. A call may end before its first step, and then the next one follows.
-abbrev pub told_by : List (List Action) → ℕ → Worker → Answer → Worker
+abbrev pub told_by : List (List Action) → ℕ → Standing → Answer → Standing
 told_by scripts tries worker answer = settled scripts tries (settled scripts tries (told_drive worker answer))
 
 -- The worker once the table's size at this moment is known.
-abbrev pub sized_by : ℕ → Worker → Worker
+abbrev pub sized_by : ℕ → Standing → Standing
 sized_by size worker = with_drive (sized_of size) worker
 
 -- The worker's turn, where it has a script left.
-abbrev pub turn_by : Worker → Option Turn
+abbrev pub turn_by : Standing → Option Turn
 turn_by worker = option_map (λ task. turn_of task.drive) worker.task
 
 -- The worker's next step.
-abbrev pub step_by : Worker → Option Step
+abbrev pub step_by : Standing → Option Step
 step_by worker = option_and_then (λ task. step_of task.drive) worker.task
 
--- A turn takes the worker's next step; of two steps the second is the one after `placed`.
-abbrev pub IsTurnBy : Worker → Option Turn → Type 0
-IsTurnBy worker None = Unit {0}
+-- A worker with a script left has a step to take: its call has not ended.
+abbrev pub IsReady : Standing → Type 0
+IsReady worker = is_some (step_by worker) ≡ is_some worker.task
+
+-- A turn takes the worker's next step; of two steps the second is the one after `placed`. Only a worker with no script left
+-- takes none.
+abbrev pub IsTurnBy : Standing → Option Turn → Type 0
+IsTurnBy worker None = worker.task ≡ None
 IsTurnBy worker (Some (One step)) = step_by worker ≡ Some step
 IsTurnBy worker (Some (Two step next)) = (step_by worker ≡ Some step) × (step_by (told_drive worker answers.Placed) ≡ Some next)
-IsTurnBy worker (Some (Ended outcome)) = Unit {0}
+IsTurnBy worker (Some (Ended outcome)) = ⊥

@@ -29,6 +29,14 @@ fn takes(rt: &impl Abort, worker: &mut Worker, scripts: &[Script], step: Step, a
     worker.told(scripts, 1, answer);
 }
 
+/// The worker gives its transaction up, in which nothing is changed.
+fn gives_up(rt: &impl Abort, worker: &mut Worker, scripts: &[Script]) {
+    let nothing = Answer::Refused(Refusal::NothingToSeek);
+    takes(rt, worker, scripts, Step::Abort(0), Answer::Leaving);
+    takes(rt, worker, scripts, Step::Seek(0), nothing);
+    takes(rt, worker, scripts, Step::Act(0), Answer::Aborted);
+}
+
 /// The worker of number 1 of 2 runs scripts 1 and 3.
 #[test]
 fn every_second_script(rt: HostRuntime) -> Result<(), Fail> {
@@ -72,7 +80,10 @@ fn busy_is_tried_again(rt: HostRuntime) -> Result<(), Fail> {
     let scripts = scripts_of(&rt, &[&[Action::Op(op)], &[]])?;
     let mut worker = Worker::new(0, 1, &scripts);
     for script in [0, 0] {
-        assert_eq!(rt; worker.task.map(|task| task.script), Some(script));
+        assert_eq!(rt;
+            worker.standing().task.map(|task| task.script),
+            Some(script)
+        );
         takes(&rt, &mut worker, &scripts, Step::Begin(0), Answer::Began(1));
         takes(
             &rt,
@@ -90,7 +101,7 @@ fn busy_is_tried_again(rt: HostRuntime) -> Result<(), Fail> {
         );
         takes(&rt, &mut worker, &scripts, Step::Act(0), Answer::Aborted);
     }
-    assert_eq!(rt; worker.task.map(|task| task.script), Some(1));
+    assert_eq!(rt; worker.standing().task.map(|task| task.script), Some(1));
     Ok(())
 }
 
@@ -108,18 +119,10 @@ fn refusals_end_a_script(rt: HostRuntime) -> Result<(), Fail> {
     let mut worker = Worker::new(0, 1, &scripts);
     takes(&rt, &mut worker, &scripts, Step::Begin(0), Answer::Began(1));
     assert_eq!(rt;
-        worker.task.map(|task| task.attempt.stage),
+        worker.standing().task.map(|task| task.attempt.stage),
         Some(Stage::Leaving(Refusal::BadKey))
     );
-    takes(&rt, &mut worker, &scripts, Step::Abort(0), Answer::Leaving);
-    takes(
-        &rt,
-        &mut worker,
-        &scripts,
-        Step::Seek(0),
-        Answer::Refused(Refusal::NothingToSeek),
-    );
-    takes(&rt, &mut worker, &scripts, Step::Act(0), Answer::Aborted);
+    gives_up(&rt, &mut worker, &scripts);
     takes(&rt, &mut worker, &scripts, Step::Begin(0), Answer::Began(2));
     takes(
         &rt,
@@ -128,15 +131,7 @@ fn refusals_end_a_script(rt: HostRuntime) -> Result<(), Fail> {
         Step::Back(0, 1),
         Answer::Refused(Refusal::NoSuchLevel),
     );
-    takes(&rt, &mut worker, &scripts, Step::Abort(0), Answer::Leaving);
-    takes(
-        &rt,
-        &mut worker,
-        &scripts,
-        Step::Seek(0),
-        Answer::Refused(Refusal::NothingToSeek),
-    );
-    takes(&rt, &mut worker, &scripts, Step::Act(0), Answer::Aborted);
+    gives_up(&rt, &mut worker, &scripts);
     takes(
         &rt,
         &mut worker,
@@ -148,21 +143,38 @@ fn refusals_end_a_script(rt: HostRuntime) -> Result<(), Fail> {
     Ok(())
 }
 
+/// The first help with a bad key is refused without a step, and its transaction given up: neither further ones nor a put
+/// come after it.
+#[test]
+fn bad_helps_in_a_row(rt: HostRuntime) -> Result<(), Fail> {
+    let bad = Action::Help(1 << 63);
+    let worse = Action::Help(u64::MAX);
+    let put = Action::Op(Op::Put(1, 10));
+    let scripts = scripts_of(
+        &rt,
+        &[&[bad, bad, worse, put], &[Action::Save, worse, bad], &[bad]],
+    )?;
+    let mut worker = Worker::new(0, 1, &scripts);
+    takes(&rt, &mut worker, &scripts, Step::Begin(0), Answer::Began(1));
+    gives_up(&rt, &mut worker, &scripts);
+    takes(&rt, &mut worker, &scripts, Step::Begin(0), Answer::Began(2));
+    takes(&rt, &mut worker, &scripts, Step::Save(0), Answer::Saved(1));
+    gives_up(&rt, &mut worker, &scripts);
+    takes(&rt, &mut worker, &scripts, Step::Begin(0), Answer::Began(3));
+    assert!(rt; worker.is_live());
+    gives_up(&rt, &mut worker, &scripts);
+    assert!(rt; !worker.is_live());
+    assert_eq!(rt; worker.turn(2), None);
+    Ok(())
+}
+
 /// An abort ends the script: later actions are not taken.
 #[test]
 fn abort_ends_a_script(rt: HostRuntime) -> Result<(), Fail> {
     let scripts = scripts_of(&rt, &[&[Action::Abort, Action::Save]])?;
     let mut worker = Worker::new(0, 1, &scripts);
     takes(&rt, &mut worker, &scripts, Step::Begin(0), Answer::Began(1));
-    takes(&rt, &mut worker, &scripts, Step::Abort(0), Answer::Leaving);
-    takes(
-        &rt,
-        &mut worker,
-        &scripts,
-        Step::Seek(0),
-        Answer::Refused(Refusal::NothingToSeek),
-    );
-    takes(&rt, &mut worker, &scripts, Step::Act(0), Answer::Aborted);
+    gives_up(&rt, &mut worker, &scripts);
     assert!(rt; !worker.is_live());
     Ok(())
 }

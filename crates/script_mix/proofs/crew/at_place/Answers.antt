@@ -5,7 +5,7 @@ use Rattle.script_mix.proofs.crew.at_place.Goals.{then-is_live+else-left-eq0, el
 
 pub returns-then-left-eq0-clause-some : goal.returns-then-left-eq0-clause-some
 returns-then-left-eq0-clause-some c =
-    let lives = take-live c.args.workers.now c.loop-number.number _ c.loop-number-test.true (sym c.is_live.ensures ∙ c.if-is_live.true) in
+    let lives = take-live c.args.workers.now c.loop-number.number _ c.loop-number-test.true c.index-workers-number.is (sym c.is_live.ensures.step ∙ c.if-is_live.true) in
     record {
       within = c.loop-number-test.true;
       before = omega (arith, c.loop-number.invariant, c.if-left-eq0.true);
@@ -15,9 +15,9 @@ returns-then-left-eq0-clause-some c =
 pub loop-number-preserved : goal.loop-number-preserved
 loop-number-preserved c = elim c.if-is_live.branch [
   | then-is_live+else-left-eq0 w ↦
-      let lives = take-live c.args.workers.now c.loop-number.number _ c.loop-number-test.true (sym c.is_live.ensures ∙ w.if-is_live.true) in
+      let lives = take-live c.args.workers.now c.loop-number.number _ c.loop-number-test.true c.index-workers-number.is (sym c.is_live.ensures.step ∙ w.if-is_live.true) in
       omega (arith, lives, c.loop-number.invariant, w.if-left-eq0.false, w.left-is)
   | else-is_live w ↦
-      let idle = take-idle c.args.workers.now c.loop-number.number _ c.loop-number-test.true (sym c.is_live.ensures ∙ w.if-is_live.false) in
+      let idle = take-idle c.args.workers.now c.loop-number.number _ c.loop-number-test.true c.index-workers-number.is (sym c.is_live.ensures.step ∙ w.if-is_live.false) in
       omega (arith, idle, c.loop-number.invariant, w.left-is)
 ]

@@ -4,8 +4,9 @@ use Rattle.rand_pcg.specs.Pcg.{pcg32}
 use Rattle.boost_core.specs.Machine.{State, start}
 use Rattle.script_worker.specs.declared.worker.Worker.{Worker}
 use Rattle.script_mix.specs.Crews.{Goes}
-use Rattle.script_mix.specs.Turns.{live, IsAtPlace}
-use Rattle.script_mix.proofs.Turns.{crew_goes, crew_plays}
+use Rattle.script_mix.specs.Turns.{live, AreDone, IsAtPlace}
+use Rattle.script_mix.proofs.Turns.{crew_goes, crew_plays, member_keeps}
+use Rattle.script_mix.proofs.Lives.{drawn_lives}
 use Rattle.script_mix.proofs.Mixings.{begins, crew_begins, crew_first, turn_of_work}
 use Rattle.script_mix.proofs.mix.mixed.Goals as goal
 use Rattle.script_mix.proofs.mix.mixed.Goals.{else-loop-turn-test, then-loop-turn-test+in_default-drawn}
@@ -25,6 +26,19 @@ loop-turn-init c =
             c.seed_from_u64-generator.ensures,
       );
     }
+
+pub take_turn-requires-clause-live : goal.take_turn-requires-clause-live
+take_turn-requires-clause-live c =
+    let drawn : IsAtPlace c.loop-turn.workers.items ((pcg32 c.loop-turn.generator).0 % live c.loop-turn.workers.items) c.in-Some.number =
+    subst (λ (ws : List Worker). IsAtPlace ws ((pcg32 c.loop-turn.generator).0 % live ws) c.in-Some.number) c.deref.ensures.value c.in-Some.ensures.drawn in
+    drawn_lives c.loop-turn.workers.items _ c.in-Some.number c.index_mut.result.now c.index_mut.ensures.value drawn
+
+pub take_turn-requires-clause-keeps : goal.take_turn-requires-clause-keeps
+take_turn-requires-clause-keeps c =
+    let drawn : IsAtPlace c.loop-turn.workers.items ((pcg32 c.loop-turn.generator).0 % live c.loop-turn.workers.items) c.in-Some.number =
+    subst (λ (ws : List Worker). IsAtPlace ws ((pcg32 c.loop-turn.generator).0 % live ws) c.in-Some.number) c.deref.ensures.value c.in-Some.ensures.drawn in
+    member_keeps c.scripts-in-loop-turn.result.now c.args.work.now.scripts c.args.work.now.sizes.callers c.in-Some.number c.loop-turn.core.history c.loop-turn.workers.items c.index_mut.result.now c.scripts-in-loop-turn.ensures drawn.within c.index_mut.ensures.value
+    c.loop-turn.invariant.crew
 
 pub loop-turn-preserved : goal.loop-turn-preserved
 loop-turn-preserved c =
@@ -67,6 +81,6 @@ returns c =
       turns = turns;
       ended = elim c.loop-turn-test.branch [
         | else-loop-turn-test w ↦ inr (omega (arith, count, w.loop-turn-test.false, c.loop-turn.auto._turn-end))
-        | then-loop-turn-test+in_default-drawn w ↦ inl (subst (λ (ws : List Worker). live ws ≡ 0) w.deref.ensures.value (w.drawn.ensures.none w.in_default-drawn.is))
+        | then-loop-turn-test+in_default-drawn w ↦ inl (subst (λ (ws : List Worker). (live ws ≡ 0) × AreDone ws) w.deref.ensures.value (w.drawn.ensures.none w.in_default-drawn.is))
       ];
     }
