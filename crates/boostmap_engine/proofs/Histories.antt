@@ -12,7 +12,7 @@ use Rattle.txn_files.specs.Part.TheVariants as parts
 use Rattle.txn_files.specs.FileFault.{FileFault}
 use Rattle.txn_files.specs.FileFault.TheVariants.{Member, Limit}
 use Rattle.txn_files.specs.Faults.{◌>>=◌, or_fault}
-use Rattle.txn_files.specs.Json.{json_of, number_in}
+use Rattle.txn_files.specs.Json.{json_of, number_named}
 use Rattle.txn_files.specs.Pieces.{pieces_member}
 use Rattle.txn_files.specs.Entries.{entry_of}
 use Rattle.txn_files.specs.HistoryFile.{is_in_range, is_history, entries_from, entries_of, history_of}
@@ -51,8 +51,8 @@ pub history_of-in_range : (bytes : List ℕ) (stripes : ℕ) (h : List Entry) �
 unfolding entries_of entries_from
 history_of-in_range bytes stripes h e =
     let (d, e0) = gone_on (json_of bytes) entries_of (stripes, h) e in
-    let (version, e1) = gone_on (or_fault Member (number_in (codes "version") d)) _ _ e0 in
-    let (s, e2) = gone_on (or_fault Member (number_in (codes "stripes") d)) _ _ e1 in
+    let (version, e1) = gone_on (or_fault Member (number_named (codes "version") d)) _ _ e0 in
+    let (s, e2) = gone_on (or_fault Member (number_named (codes "stripes") d)) _ _ e1 in
     let (entries, e3) = gone_on (pieces_member entry_of parts.Entry (codes "entries") d) _ _ e2 in
     let (right, same) = passed ((version == 1) && is_history s entries) (s, entries) (stripes, h) e3 in
     let whole : is_history stripes h ≡ true = subst (λ (file : ℕ × List Entry). is_history file.0 file.1 ≡ true) same (and_parts (version == 1) (is_history s entries) right).1 in

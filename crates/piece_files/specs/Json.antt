@@ -21,8 +21,8 @@ json_of bytes =
     else Err Limit
 
 -- the number in the member of this name
-abbrev pub number_in : List ℕ → Data → Option ℕ
-number_in name d = option_and_then number_of (get name d)
+abbrev pub number_named : List ℕ → Data → Option ℕ
+number_named name d = option_and_then number_of (get name d)
 
 -- the elements of the member of this name, an array
 abbrev pub array_member : List ℕ → Data → Result (List Data) FileFault

@@ -10,7 +10,7 @@ use Rattle.piece_files.specs.declared.part.Part.TheVariants as parts
 use Rattle.piece_files.specs.declared.file_fault.FileFault.{FileFault}
 use Rattle.piece_files.specs.declared.file_fault.FileFault.TheVariants.{Member, Limit}
 use Rattle.piece_files.specs.Faults.{◌>>=◌, or_fault}
-use Rattle.piece_files.specs.Json.{json_of, number_in}
+use Rattle.piece_files.specs.Json.{json_of, number_named}
 use Rattle.piece_files.specs.Pieces.{pieces_member}
 use Rattle.txn_files.specs.Entries.{entry_of}
 
@@ -41,7 +41,7 @@ entries_from version stripes pieces = do
 
 -- the stripes and the entries that a value is
 unfoldable pub entries_of : Data → Result (ℕ × List Entry) FileFault
-entries_of d = entries_from (number_in (codes "version") d) (number_in (codes "stripes") d) (pieces_member entry_of parts.Entry (codes "entries") d)
+entries_of d = entries_from (number_named (codes "version") d) (number_named (codes "stripes") d) (pieces_member entry_of parts.Entry (codes "entries") d)
 
 -- the history file that the bytes are
 abbrev pub history_of : List ℕ → Result (ℕ × List Entry) FileFault

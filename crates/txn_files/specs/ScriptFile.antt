@@ -7,7 +7,7 @@ use Rattle.piece_files.specs.declared.part.Part.TheVariants as parts
 use Rattle.piece_files.specs.declared.file_fault.FileFault.{FileFault}
 use Rattle.piece_files.specs.declared.file_fault.FileFault.TheVariants.{Member, Limit}
 use Rattle.piece_files.specs.Faults.{◌>>=◌, or_fault}
-use Rattle.piece_files.specs.Json.{json_of, number_in}
+use Rattle.piece_files.specs.Json.{json_of, number_named}
 use Rattle.piece_files.specs.Pieces.{pieces_member}
 use Rattle.txn_files.specs.StepFile.{sizes_at}
 use Rattle.txn_files.specs.Actions.{script_of}
@@ -48,7 +48,7 @@ work_from version workers stripes buckets tries pieces = do
 -- the work that a value is
 unfoldable pub work_of : Data → Result Work FileFault
 work_of d =
-    work_from (number_in (codes "version") d) (number_in (codes "workers") d) (number_in (codes "stripes") d) (number_in (codes "buckets") d) (number_in (codes "tries") d)
+    work_from (number_named (codes "version") d) (number_named (codes "workers") d) (number_named (codes "stripes") d) (number_named (codes "buckets") d) (number_named (codes "tries") d)
     (pieces_member script_of parts.Script (codes "scripts") d)
 
 -- the script file that the bytes are

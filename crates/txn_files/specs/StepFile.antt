@@ -8,7 +8,7 @@ use Rattle.piece_files.specs.declared.part.Part.TheVariants as parts
 use Rattle.piece_files.specs.declared.file_fault.FileFault.{FileFault}
 use Rattle.piece_files.specs.declared.file_fault.FileFault.TheVariants.{Member, Limit}
 use Rattle.piece_files.specs.Faults.{◌>>=◌, or_fault}
-use Rattle.piece_files.specs.Json.{json_of, number_in}
+use Rattle.piece_files.specs.Json.{json_of, number_named}
 use Rattle.piece_files.specs.Pieces.{pieces_member}
 use Rattle.txn_files.specs.Steps.{step_of}
 
@@ -38,7 +38,7 @@ steps_from version callers stripes buckets pieces = do
 -- the limits and the steps that a value is
 unfoldable pub steps_of : Data → Result (Sizes × List Step) FileFault
 steps_of d =
-    steps_from (number_in (codes "version") d) (number_in (codes "callers") d) (number_in (codes "stripes") d) (number_in (codes "buckets") d)
+    steps_from (number_named (codes "version") d) (number_named (codes "callers") d) (number_named (codes "stripes") d) (number_named (codes "buckets") d)
     (pieces_member step_of parts.Step (codes "steps") d)
 
 -- the step file that the bytes are

@@ -16,9 +16,7 @@ fn put_entry(text: &mut String, entry: &Entry) -> Result<(), AllocError>
         Entry::Asked(caller, Op::Take(key)) => {
             write!(text, "[\"asked\",{caller},\"take\",{key}]")
         }
-        Entry::Asked(caller, Op::Get(key)) => {
-            write!(text, "[\"asked\",{caller},\"get\",{key}]")
-        }
+        Entry::Asked(caller, Op::Get(key)) => write!(text, "[\"asked\",{caller},\"get\",{key}]"),
         Entry::Did(caller, None) => write!(text, "[\"did\",{caller},null]"),
         Entry::Did(caller, Some(value)) => write!(text, "[\"did\",{caller},{value}]"),
         Entry::Saved(caller) => write!(text, "[\"saved\",{caller}]"),
