@@ -27,6 +27,7 @@ map_ops tests refused_memory_for_a_link
 history_check tests fed_entry_by_entry
 history_check tests fed_with_savepoints
 boost_core tests five_callers_undone
+txn_files tests memory_refused
 boostmap_engine tests refused_allocations
 boostmap_engine check_tests history_without_memory
 boostmap_engine mix_tests mix_without_memory

@@ -10,12 +10,12 @@ use Rattle.txn_trace.specs.declared.entry.Entry.TheVariants.{Began, Asked, Did, 
 use Rattle.txn_trace.specs.History.{caller_of}
 use Rattle.txn_files.specs.Part.TheVariants as parts
 use Rattle.txn_files.specs.FileFault.{FileFault}
-use Rattle.txn_files.specs.FileFault.TheVariants.{Limit}
-use Rattle.txn_files.specs.Faults.{◌>>=◌}
-use Rattle.txn_files.specs.Json.{json_of, number_member, array_member}
-use Rattle.txn_files.specs.Pieces.{pieces_from}
+use Rattle.txn_files.specs.FileFault.TheVariants.{Member, Limit}
+use Rattle.txn_files.specs.Faults.{◌>>=◌, or_fault}
+use Rattle.txn_files.specs.Json.{json_of, number_named}
+use Rattle.txn_files.specs.Pieces.{pieces_member}
 use Rattle.txn_files.specs.Entries.{entry_of}
-use Rattle.txn_files.specs.HistoryFile.{is_in_range, is_history, entries_of, history_of}
+use Rattle.txn_files.specs.HistoryFile.{is_in_range, is_history, entries_from, entries_of, history_of}
 
 -- what came of both was made from what came of the first
 gone_on : {A B : Type 0} (first : Result A FileFault) (next : A → Result B FileFault) (last : B) → (first >>= next) ≡ Ok last → (x : A) × (next x ≡ Ok last)
@@ -48,13 +48,12 @@ is_history-parts stripes h e =
 
 -- a history has stripes, and its callers are below 64
 pub history_of-in_range : (bytes : List ℕ) (stripes : ℕ) (h : List Entry) → history_of bytes ≡ Ok (stripes, h) → (0 < stripes) × All (λ e. caller_of e < 64) h
-unfolding entries_of
+unfolding entries_of entries_from
 history_of-in_range bytes stripes h e =
     let (d, e0) = gone_on (json_of bytes) entries_of (stripes, h) e in
-    let (version, e1) = gone_on (number_member (codes "version") d) _ _ e0 in
-    let (s, e2) = gone_on (number_member (codes "stripes") d) _ _ e1 in
-    let (pieces, e3) = gone_on (array_member (codes "entries") d) _ _ e2 in
-    let (entries, e4) = gone_on (pieces_from entry_of parts.Entry 0 pieces) _ _ e3 in
-    let (right, same) = passed ((version == 1) && is_history s entries) (s, entries) (stripes, h) e4 in
+    let (version, e1) = gone_on (or_fault Member (number_named (codes "version") d)) _ _ e0 in
+    let (s, e2) = gone_on (or_fault Member (number_named (codes "stripes") d)) _ _ e1 in
+    let (entries, e3) = gone_on (pieces_member entry_of parts.Entry (codes "entries") d) _ _ e2 in
+    let (right, same) = passed ((version == 1) && is_history s entries) (s, entries) (stripes, h) e3 in
     let whole : is_history stripes h ≡ true = subst (λ (file : ℕ × List Entry). is_history file.0 file.1 ≡ true) same (and_parts (version == 1) (is_history s entries) right).1 in
     is_history-parts stripes h whole

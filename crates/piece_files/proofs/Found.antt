@@ -6,15 +6,15 @@ use Rattle.piece_files.specs.declared.piece.Pieces.{Pieces}
 use Rattle.piece_files.specs.declared.file_fault.FileFault.TheVariants.{Member}
 use Rattle.piece_files.specs.Elements.{number_of, elements_of}
 use Rattle.piece_files.specs.Faults.{◌>>=◌, or_fault}
-use Rattle.piece_files.specs.Json.{number_member}
+use Rattle.piece_files.specs.Json.{number_named}
 use Rattle.piece_files.specs.Members.{GivesLast, IsNumberOf, ArePiecesOf, members_within, pieces_found}
 use Rattle.piece_files.specs.Pieces.{pieces_from, pieces_member}
 use Rattle.piece_files.specs.Tokens.{first_of}
 use Rattle.piece_files.proofs.Kept.{number_read, pieces_read}
 use Rattle.piece_files.proofs.Taken.{get-within}
 
-pub number_is : (name : List ℕ) (d : Data) (found : Option ℕ) → GivesLast IsNumberOf found name (members_within d) → number_member name d ≡ or_fault Member found
-number_is name d found h = ap (λ o. or_fault Member (option_and_then number_of o)) (get-within name d) ∙ ap (or_fault Member) (number_read found _ h)
+pub number_is : (name : List ℕ) (d : Data) (found : Option ℕ) → GivesLast IsNumberOf found name (members_within d) → number_named name d ≡ found
+number_is name d found h = ap (option_and_then number_of) (get-within name d) ∙ number_read found _ h
 
 pub pieces_are : {P : Type 0} (of : List Data → Option P) (part : Part) (most : ℕ) (name : List ℕ) (d : Data) (found : Option (Pieces P)) → GivesLast (ArePiecesOf of part most) found name (members_within d)
     → pieces_found part found ≡ first_of most (pieces_member of part name d)

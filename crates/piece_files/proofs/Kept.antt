@@ -31,14 +31,9 @@ pieces_read of part most (Some p) (Some d) h = rw h.1 (found_is part most p.are_
 
 -- ---- to go on with the first pieces, where that is to go on with all
 
-go_on : {P W : Type 0} (most : ℕ) (r : Result (List P) FileFault) (next : List P → Result W FileFault) → ((all : List P) → next (take most all) ≡ next all) → (r >>= next) ≡ (first_of most r >>= next)
+pub go_on : {P W : Type 0} (most : ℕ) (r : Result (List P) FileFault) (next : List P → Result W FileFault) → ((all : List P) → next (take most all) ≡ next all) → (r >>= next) ≡ (first_of most r >>= next)
 go_on most (Ok all) next same = sym (same all)
 go_on most (Err e) next same = refl
-
-pub kept_chain : {A P W : Type 0} (most : ℕ) (a : Result A FileFault) (f : A → Result (List P) FileFault) (next : List P → Result W FileFault) → ((all : List P) → next (take most all) ≡ next all)
-    → (a >>= λ x. (f x >>= next)) ≡ (first_of most (a >>= f) >>= next)
-kept_chain most (Ok x) f next same = go_on most (f x) next same
-kept_chain most (Err e) f next same = refl
 
 -- ---- a test that refuses what is longer than it may be answers the same for all pieces and for the first
 

@@ -1,5 +1,5 @@
 -- The value that bytes are in JSON, and the members of an object.
-use Rattle.std.specs.Prelude.{ℕ, List, length, nat_le, option_and_then, Result, Err, if◌then◌else◌}
+use Rattle.std.specs.Prelude.{ℕ, List, length, nat_le, Option, option_and_then, Result, Err, if◌then◌else◌}
 use Rattle.std.specs.Str.{is_utf8}
 use Rattle.serde_json.specs.Data.{Data}
 use Rattle.serde_json.specs.Find.{get}
@@ -20,9 +20,9 @@ json_of bytes =
     then (if is_utf8 bytes then or_fault NotJson (read bytes) else Err NotJson)
     else Err Limit
 
--- the member of this name, a number
-abbrev pub number_member : List ℕ → Data → Result ℕ FileFault
-number_member name d = or_fault Member (option_and_then number_of (get name d))
+-- the number in the member of this name
+abbrev pub number_named : List ℕ → Data → Option ℕ
+number_named name d = option_and_then number_of (get name d)
 
 -- the elements of the member of this name, an array
 abbrev pub array_member : List ℕ → Data → Result (List Data) FileFault

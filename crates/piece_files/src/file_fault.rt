@@ -39,6 +39,8 @@ impl fmt::Display for FileFault {
     }
 }
 
+impl std::error::Error for FileFault {}
+
 impl From<AllocError> for FileFault {
     ghost from_gives = { λ _ fault. fault ≡ NoMemory };
 

@@ -10,8 +10,8 @@ use Rattle.piece_files.specs.declared.part.Part.TheVariants as parts
 use Rattle.piece_files.specs.declared.file_fault.FileFault.{FileFault}
 use Rattle.piece_files.specs.declared.file_fault.FileFault.TheVariants.{Member, Limit}
 use Rattle.piece_files.specs.Faults.{◌>>=◌, or_fault}
-use Rattle.piece_files.specs.Json.{json_of, number_member, array_member}
-use Rattle.piece_files.specs.Pieces.{pieces_from}
+use Rattle.piece_files.specs.Json.{json_of, number_named}
+use Rattle.piece_files.specs.Pieces.{pieces_member}
 use Rattle.txn_files.specs.Entries.{entry_of}
 
 -- the largest number that a caller may have
@@ -31,23 +31,18 @@ is_in_range e = nat_le (caller_of e) max_caller
 abbrev pub is_history : ℕ → List Entry → Bool
 is_history stripes entries = nat_le 1 stripes && nat_le stripes max_stripes && nat_le (length entries) max_entries && list_all is_in_range entries
 
--- the stripes and the entries that a value is: members in this order, then the entries, then the ranges
-unfoldable pub entries_of : Data → Result (ℕ × List Entry) FileFault
-entries_of d = do
-  version ← number_member (codes "version") d
-  stripes ← number_member (codes "stripes") d
-  pieces ← array_member (codes "entries") d
-  entries ← pieces_from entry_of parts.Entry 0 pieces
-  if (version == 1) && is_history stripes entries then Ok (stripes, entries) else Err Limit
-
--- the history file that the bytes are
-abbrev pub history_of : List ℕ → Result (ℕ × List Entry) FileFault
-history_of bytes = json_of bytes >>= entries_of
-
--- a history file by its members
+-- the stripes and the entries by the members, tested in this order, then the entries, then the ranges
 unfoldable pub entries_from : Option ℕ → Option ℕ → Result (List Entry) FileFault → Result (ℕ × List Entry) FileFault
 entries_from version stripes pieces = do
   version ← or_fault Member version
   stripes ← or_fault Member stripes
   entries ← pieces
   if (version == 1) && is_history stripes entries then Ok (stripes, entries) else Err Limit
+
+-- the stripes and the entries that a value is
+unfoldable pub entries_of : Data → Result (ℕ × List Entry) FileFault
+entries_of d = entries_from (number_named (codes "version") d) (number_named (codes "stripes") d) (pieces_member entry_of parts.Entry (codes "entries") d)
+
+-- the history file that the bytes are
+abbrev pub history_of : List ℕ → Result (ℕ × List Entry) FileFault
+history_of bytes = json_of bytes >>= entries_of

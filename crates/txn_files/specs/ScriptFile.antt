@@ -7,8 +7,8 @@ use Rattle.piece_files.specs.declared.part.Part.TheVariants as parts
 use Rattle.piece_files.specs.declared.file_fault.FileFault.{FileFault}
 use Rattle.piece_files.specs.declared.file_fault.FileFault.TheVariants.{Member, Limit}
 use Rattle.piece_files.specs.Faults.{◌>>=◌, or_fault}
-use Rattle.piece_files.specs.Json.{json_of, number_member, array_member}
-use Rattle.piece_files.specs.Pieces.{pieces_from}
+use Rattle.piece_files.specs.Json.{json_of, number_named}
+use Rattle.piece_files.specs.Pieces.{pieces_member}
 use Rattle.txn_files.specs.StepFile.{sizes_at}
 use Rattle.txn_files.specs.Actions.{script_of}
 use Rattle.txn_files.specs.Work.{Work}
@@ -33,24 +33,7 @@ is_short script = nat_le (length script) max_actions
 abbrev pub are_scripts : ℕ → List (List Action) → Bool
 are_scripts tries scripts = nat_le tries max_tries && nat_le (length scripts) max_scripts && list_all is_short scripts
 
--- the work that a value is: members in this order, then the scripts, then the ranges; the workers are the callers
-unfoldable pub work_of : Data → Result Work FileFault
-work_of d = do
-  version ← number_member (codes "version") d
-  workers ← number_member (codes "workers") d
-  stripes ← number_member (codes "stripes") d
-  buckets ← number_member (codes "buckets") d
-  tries ← number_member (codes "tries") d
-  pieces ← array_member (codes "scripts") d
-  scripts ← pieces_from script_of parts.Script 0 pieces
-  sizes ← sizes_at workers stripes buckets
-  if (version == 1) && are_scripts tries scripts then Ok (record { sizes = sizes; tries = tries; scripts = scripts }) else Err Limit
-
--- the script file that the bytes are
-abbrev pub scripts_of : List ℕ → Result Work FileFault
-scripts_of bytes = json_of bytes >>= work_of
-
--- a script file by its members
+-- the work by the members, tested in this order, then the scripts, then the ranges; the workers are the callers
 unfoldable pub work_from : Option ℕ → Option ℕ → Option ℕ → Option ℕ → Option ℕ → Result (List (List Action)) FileFault → Result Work FileFault
 work_from version workers stripes buckets tries pieces = do
   version ← or_fault Member version
@@ -61,3 +44,13 @@ work_from version workers stripes buckets tries pieces = do
   scripts ← pieces
   sizes ← sizes_at workers stripes buckets
   if (version == 1) && are_scripts tries scripts then Ok (record { sizes = sizes; tries = tries; scripts = scripts }) else Err Limit
+
+-- the work that a value is
+unfoldable pub work_of : Data → Result Work FileFault
+work_of d =
+    work_from (number_named (codes "version") d) (number_named (codes "workers") d) (number_named (codes "stripes") d) (number_named (codes "buckets") d) (number_named (codes "tries") d)
+    (pieces_member script_of parts.Script (codes "scripts") d)
+
+-- the script file that the bytes are
+abbrev pub scripts_of : List ℕ → Result Work FileFault
+scripts_of bytes = json_of bytes >>= work_of

@@ -8,8 +8,8 @@ use Rattle.piece_files.specs.declared.part.Part.TheVariants as parts
 use Rattle.piece_files.specs.declared.file_fault.FileFault.{FileFault}
 use Rattle.piece_files.specs.declared.file_fault.FileFault.TheVariants.{Member, Limit}
 use Rattle.piece_files.specs.Faults.{◌>>=◌, or_fault}
-use Rattle.piece_files.specs.Json.{json_of, number_member, array_member}
-use Rattle.piece_files.specs.Pieces.{pieces_from}
+use Rattle.piece_files.specs.Json.{json_of, number_named}
+use Rattle.piece_files.specs.Pieces.{pieces_member}
 use Rattle.txn_files.specs.Steps.{step_of}
 
 -- how many steps a file may have
@@ -24,23 +24,7 @@ in_limits (Err refusal) = Err Limit
 abbrev pub sizes_at : ℕ → ℕ → ℕ → Result Sizes FileFault
 sizes_at callers stripes buckets = in_limits (limits_of callers stripes buckets)
 
--- the limits and the steps that a value is: members in this order, then the steps, then the ranges
-unfoldable pub steps_of : Data → Result (Sizes × List Step) FileFault
-steps_of d = do
-  version ← number_member (codes "version") d
-  callers ← number_member (codes "callers") d
-  stripes ← number_member (codes "stripes") d
-  buckets ← number_member (codes "buckets") d
-  pieces ← array_member (codes "steps") d
-  steps ← pieces_from step_of parts.Step 0 pieces
-  sizes ← sizes_at callers stripes buckets
-  if (version == 1) && nat_le (length steps) max_steps then Ok (sizes, steps) else Err Limit
-
--- the step file that the bytes are
-abbrev pub file_of : List ℕ → Result (Sizes × List Step) FileFault
-file_of bytes = json_of bytes >>= steps_of
-
--- a step file by its members
+-- the limits and the steps by the members, tested in this order, then the steps, then the ranges
 unfoldable pub steps_from : Option ℕ → Option ℕ → Option ℕ → Option ℕ → Result (List Step) FileFault → Result (Sizes × List Step) FileFault
 steps_from version callers stripes buckets pieces = do
   version ← or_fault Member version
@@ -50,3 +34,13 @@ steps_from version callers stripes buckets pieces = do
   steps ← pieces
   sizes ← sizes_at callers stripes buckets
   if (version == 1) && nat_le (length steps) max_steps then Ok (sizes, steps) else Err Limit
+
+-- the limits and the steps that a value is
+unfoldable pub steps_of : Data → Result (Sizes × List Step) FileFault
+steps_of d =
+    steps_from (number_named (codes "version") d) (number_named (codes "callers") d) (number_named (codes "stripes") d) (number_named (codes "buckets") d)
+    (pieces_member step_of parts.Step (codes "steps") d)
+
+-- the step file that the bytes are
+abbrev pub file_of : List ℕ → Result (Sizes × List Step) FileFault
+file_of bytes = json_of bytes >>= steps_of

@@ -7,7 +7,8 @@
 //!
 //! Promised: `read_steps`, `read_scripts` and `read_history` compute these functions, or say that memory was refused.
 //! `history_text` writes a history, as `text_of_history` says. Time and memory are proportional to the length of the file
-//! or text: a file is read once, and of its pieces no more are kept than show that there are too many.
+//! or text: a file is read once, and of its steps, entries and scripts no more are kept than show that there are too many.
+//! Of a script's actions all are kept.
 #![tactic(auto)]
 
 mod history_file;

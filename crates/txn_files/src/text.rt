@@ -9,22 +9,32 @@ fn put_entry(text: &mut String, entry: &Entry) -> Result<(), AllocError>
     ensures { OnOk result (string_bytes text.new ≡ string_bytes text.old ++ entry_text entry.now) }
 {
     match *entry {
-        Entry::Began(c, txn) => write!(text, "[\"began\",{c},{txn}]"),
-        Entry::Asked(c, Op::Put(k, v)) => write!(text, "[\"asked\",{c},\"put\",{k},{v}]"),
-        Entry::Asked(c, Op::Take(k)) => write!(text, "[\"asked\",{c},\"take\",{k}]"),
-        Entry::Asked(c, Op::Get(k)) => write!(text, "[\"asked\",{c},\"get\",{k}]"),
-        Entry::Did(c, None) => write!(text, "[\"did\",{c},null]"),
-        Entry::Did(c, Some(v)) => write!(text, "[\"did\",{c},{v}]"),
-        Entry::Saved(c) => write!(text, "[\"saved\",{c}]"),
-        Entry::Leave(c, None) => write!(text, "[\"leave\",{c},null]"),
-        Entry::Leave(c, Some(level)) => write!(text, "[\"leave\",{c},{level}]"),
-        Entry::Undone(c) => write!(text, "[\"undone\",{c}]"),
-        Entry::Returned(c, level) => write!(text, "[\"returned\",{c},{level}]"),
-        Entry::Committed(c, place) => write!(text, "[\"committed\",{c},{place}]"),
-        Entry::Busy(c, Op::Put(k, v), x) => write!(text, "[\"busy\",{c},\"put\",{k},{v},{x}]"),
-        Entry::Busy(c, Op::Take(k), x) => write!(text, "[\"busy\",{c},\"take\",{k},{x}]"),
-        Entry::Busy(c, Op::Get(k), x) => write!(text, "[\"busy\",{c},\"get\",{k},{x}]"),
-        Entry::Aborted(c) => write!(text, "[\"aborted\",{c}]"),
+        Entry::Began(caller, txn) => write!(text, "[\"began\",{caller},{txn}]"),
+        Entry::Asked(caller, Op::Put(key, value)) => {
+            write!(text, "[\"asked\",{caller},\"put\",{key},{value}]")
+        }
+        Entry::Asked(caller, Op::Take(key)) => {
+            write!(text, "[\"asked\",{caller},\"take\",{key}]")
+        }
+        Entry::Asked(caller, Op::Get(key)) => write!(text, "[\"asked\",{caller},\"get\",{key}]"),
+        Entry::Did(caller, None) => write!(text, "[\"did\",{caller},null]"),
+        Entry::Did(caller, Some(value)) => write!(text, "[\"did\",{caller},{value}]"),
+        Entry::Saved(caller) => write!(text, "[\"saved\",{caller}]"),
+        Entry::Leave(caller, None) => write!(text, "[\"leave\",{caller},null]"),
+        Entry::Leave(caller, Some(level)) => write!(text, "[\"leave\",{caller},{level}]"),
+        Entry::Undone(caller) => write!(text, "[\"undone\",{caller}]"),
+        Entry::Returned(caller, level) => write!(text, "[\"returned\",{caller},{level}]"),
+        Entry::Committed(caller, place) => write!(text, "[\"committed\",{caller},{place}]"),
+        Entry::Busy(caller, Op::Put(key, value), holder) => {
+            write!(text, "[\"busy\",{caller},\"put\",{key},{value},{holder}]")
+        }
+        Entry::Busy(caller, Op::Take(key), holder) => {
+            write!(text, "[\"busy\",{caller},\"take\",{key},{holder}]")
+        }
+        Entry::Busy(caller, Op::Get(key), holder) => {
+            write!(text, "[\"busy\",{caller},\"get\",{key},{holder}]")
+        }
+        Entry::Aborted(caller) => write!(text, "[\"aborted\",{caller}]"),
     }
 }
 
