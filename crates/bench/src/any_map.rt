@@ -21,7 +21,7 @@ pub(crate) fn store_bucket(table: &mut Table, bucket: u32) {
     }
 }
 
-// Doubles a table that has more than two keys a bucket, and stores the new buckets.
+/// Doubles a table that has more than two keys a bucket, and stores the new buckets.
 fn grow(table: &mut Table) {
     let size = table.size();
     if let Double::Doubled(doubled) = table.double(u64::from(size)) {

@@ -6,7 +6,7 @@ ghost use Rattle.list_steps.specs.Seek.{IsStart};
 use list_steps::{Cursor, link, look, mark, seek, swap};
 use node_list::{Kind, NodeList, NodeRef, SpareFault};
 
-// Whether a dummy that is before the split key is linked here.
+/// Whether a dummy that is before the split key is linked here.
 fn is_start(list: &NodeList, from: NodeRef, split: u64) -> bool
     ensures { IsTrue result → IsStart list.now.nodes from split }
 {
@@ -16,7 +16,7 @@ fn is_start(list: &NodeList, from: NodeRef, split: u64) -> bool
     }
 }
 
-// Whether the regular node of the split key sought is where the cursor is.
+/// Whether the regular node of the split key sought is where the cursor is.
 fn is_key_there(list: &NodeList, cursor: &Cursor) -> bool
     requires { IsPlaced list.now cursor.now }
     ensures { IsTrue result → IsKeyThere list.now cursor.now }

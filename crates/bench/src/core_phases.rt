@@ -9,10 +9,10 @@ use std::rt::{Clock, Runtime};
 use txn_files::read_steps;
 use txn_trace::{Answer, Limits, Op, Step, answer_text};
 
-// At how many keys the steps put that no file names.
+/// At how many keys the steps put that no file names.
 const HOT_KEYS: u64 = 64;
 
-// So many transactions of caller 0, each of one put.
+/// So many transactions of caller 0, each of one put.
 fn put_steps(alloc: Global, puts: u64) -> Result<Vec<Step>, AllocError> {
     let mut steps = Vec::new(alloc);
     for position in 0..puts {
@@ -28,12 +28,12 @@ fn put_steps(alloc: Global, puts: u64) -> Result<Vec<Step>, AllocError> {
     Ok(steps)
 }
 
-// The sum goes on with a byte (Fowler, Noll and Vo's hash 1a).
+/// The sum goes on with a byte (Fowler, Noll and Vo's hash 1a).
 fn sum_with(sum: u64, byte: u8) -> u64 {
     (sum ^ u64::from(byte)).wrapping_mul(0x0100_0000_01b3)
 }
 
-// A number that differs where the lines of the answers differ, but by chance.
+/// A number that differs where the lines of the answers differ, but by chance.
 fn sum_of(alloc: Global, answers: &[Answer]) -> Result<u64, AllocError> {
     let mut sum = 0xcbf2_9ce4_8422_2325;
     for answer in answers {
@@ -46,7 +46,7 @@ fn sum_of(alloc: Global, answers: &[Answer]) -> Result<u64, AllocError> {
     Ok(sum)
 }
 
-// Runs the steps on a new core, which is made before the clock starts, and gives the time and the answers.
+/// Runs the steps on a new core, which is made before the clock starts, and gives the time and the answers.
 fn run_timed<R: AllocGlobal + Clock>(
     rt: &R,
     limits: Limits,
@@ -70,7 +70,7 @@ fn report<R: AllocGlobal + Eprint>(
     Ok(())
 }
 
-// Runs the steps twice: the first run has to take its memory from the system, and the second one finds it there.
+/// Runs the steps twice: the first run has to take its memory from the system, and the second one finds it there.
 fn time_runs<R: AllocGlobal + Clock + Eprint>(
     rt: &R,
     limits: Limits,

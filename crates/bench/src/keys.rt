@@ -1,7 +1,7 @@
 //! The keys, in a fixed mixed order.
 use split_key::Key;
 
-// The numbers of keys are below 2^63.
+/// The numbers of keys are below 2^63.
 const LOW_BITS: u64 = 0x7fff_ffff_ffff_ffff;
 
 /// The key at a position of the order. No key comes twice: a product with an odd number modulo a power of two can be

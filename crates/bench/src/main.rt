@@ -22,10 +22,10 @@ use map_phases::time_maps;
 use node_phases::time_nodes;
 use std::env;
 
-// How many keys, and how many mixed operations, there are if no argument says how many keys.
+/// How many keys, and how many mixed operations, there are if no argument says how many keys.
 const FEW: u64 = 10_000;
 
-// How many mixed operations there are if one does.
+/// How many mixed operations there are if one does.
 const MANY: u64 = 1_000_000;
 
 fn main(rt: HostRuntime) -> Result<()> {

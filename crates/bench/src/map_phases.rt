@@ -8,13 +8,13 @@ use std::collections::{BTreeMap, HashMap};
 use std::time::Clock;
 use txn_trace::{Op, Refusal};
 
-// The largest sizes of the two tables, in buckets.
+/// The largest sizes of the two tables, in buckets.
 const BUCKETS: u32 = 65_536;
 
 const MANY_BUCKETS: u32 = 1_048_576;
 
-// A half of the operations looks a key up, a quarter puts one and a quarter takes one, at twice as many keys as were put
-// in, so that about half of them are there.
+/// A half of the operations looks a key up, a quarter puts one and a quarter takes one, at twice as many keys as were put
+/// in, so that about half of them are there.
 fn mixed_op(position: u64, keys: u64) -> Op {
     let drawn = number_at(position.wrapping_add(1 << 40));
     let key = number_at((drawn >> 8) % keys.max(1).saturating_mul(2));
@@ -43,7 +43,7 @@ fn mix<M: AnyMap>(map: &mut M, keys: u64, operations: u64) -> Result<u64, Refusa
     Ok(sum)
 }
 
-// Puts the keys into an empty map, and then does mixed operations on it.
+/// Puts the keys into an empty map, and then does mixed operations on it.
 fn time_map<R: Clock + Eprint, M: AnyMap>(
     rt: &R,
     name: &str,

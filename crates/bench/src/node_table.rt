@@ -32,7 +32,7 @@ impl NodeTable {
         Ok(NodeTable { list, dummies })
     }
 
-    // The dummy from which a key is sought.
+    /// The dummy from which a key is sought.
     fn dummy_of(&self, key: Key) -> NodeRef {
         match self.dummies.get(bucket_of(key, SIZE) as usize) {
             Some(node) => *node,

@@ -5,7 +5,7 @@ use std::process::Abort;
 use std::test::Fail;
 use txn_trace::{Answer, Entry, Limits, Op, Refusal, Step};
 
-// A core of so many callers, with 8 stripes and at most 8 buckets.
+/// A core of so many callers, with 8 stripes and at most 8 buckets.
 fn core_of(alloc: Global, callers: u64) -> Result<Core, Fail> {
     let limits = Limits::new(callers, 8, 8)?;
     match Core::new(alloc, limits) {
@@ -14,7 +14,7 @@ fn core_of(alloc: Global, callers: u64) -> Result<Core, Fail> {
     }
 }
 
-// A step by `run`, or a plain call.
+/// A step by `run`, or a plain call.
 #[derive(Clone, Copy, Debug)]
 enum Call {
     Run(Step),
@@ -105,7 +105,7 @@ fn savepoints(rt: HostRuntime) -> Result<(), Fail> {
     Ok(())
 }
 
-// Each kind of step, by `step`, with the bucket steps of one helper.
+/// Each kind of step, by `step`, with the bucket steps of one helper.
 #[test]
 fn steps_in_turn(rt: HostRuntime) -> Result<(), Fail> {
     let alloc = rt.alloc();
@@ -140,7 +140,7 @@ fn steps_in_turn(rt: HostRuntime) -> Result<(), Fail> {
     Ok(())
 }
 
-// An abort from each phase; one that has left to the end goes on, one that has left to a level is refused.
+/// An abort from each phase; one that has left to the end goes on, one that has left to a level is refused.
 #[test]
 fn aborts(rt: HostRuntime) -> Result<(), Fail> {
     let alloc = rt.alloc();
@@ -167,7 +167,7 @@ fn aborts(rt: HostRuntime) -> Result<(), Fail> {
     Ok(())
 }
 
-// The pairs of the core. Asks again where memory is refused once.
+/// The pairs of the core. Asks again where memory is refused once.
 fn pairs_of(alloc: Global, core: &Core) -> Result<Vec<(u64, u64)>, AllocError> {
     match core.regular_list(alloc) {
         Ok(pairs) => Ok(pairs),
@@ -175,7 +175,7 @@ fn pairs_of(alloc: Global, core: &Core) -> Result<Vec<(u64, u64)>, AllocError> {
     }
 }
 
-// Takes a step. Where it is refused memory, all is as it was before, and the answer is false.
+/// Takes a step. Where it is refused memory, all is as it was before, and the answer is false.
 fn took(
     rt: &impl Abort,
     alloc: Global,
@@ -196,7 +196,7 @@ fn took(
     Ok(true)
 }
 
-// A caller does an operation, or is refused memory.
+/// A caller does an operation, or is refused memory.
 fn did(
     rt: &impl Abort,
     alloc: Global,
@@ -212,7 +212,7 @@ fn did(
     )
 }
 
-// Five callers begin and change a key each three times; false where memory is refused.
+/// Five callers begin and change a key each three times; false where memory is refused.
 fn five_changed(rt: &impl Abort, alloc: Global, core: &mut Core) -> Result<bool, Fail> {
     for caller in 0..5 {
         if !took(
@@ -236,7 +236,7 @@ fn five_changed(rt: &impl Abort, alloc: Global, core: &mut Core) -> Result<bool,
     Ok(true)
 }
 
-// Each caller takes its newest change back, after which each key has this value.
+/// Each caller takes its newest change back, after which each key has this value.
 fn five_undone(
     rt: &impl Abort,
     alloc: Global,
@@ -258,7 +258,7 @@ fn five_undone(
     Ok(())
 }
 
-// Also run with each allocation refused in turn: then every caller aborts, for which no memory is wanted.
+/// Also run with each allocation refused in turn: then every caller aborts, for which no memory is wanted.
 #[test]
 fn five_callers_undone(rt: HostRuntime) -> Result<(), Fail> {
     let alloc = rt.alloc();

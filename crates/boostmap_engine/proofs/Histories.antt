@@ -17,12 +17,12 @@ use Rattle.txn_files.specs.Pieces.{pieces_member}
 use Rattle.txn_files.specs.Entries.{entry_of}
 use Rattle.txn_files.specs.HistoryFile.{is_in_range, is_history, entries_from, entries_of, history_of}
 
--- what came of both was made from what came of the first
+-- What came of both was made from what came of the first.
 gone_on : {A B : Type 0} (first : Result A FileFault) (next : A → Result B FileFault) (last : B) → (first >>= next) ≡ Ok last → (x : A) × (next x ≡ Ok last)
 gone_on (Ok x) next last e = (x, e)
 gone_on (Err fault) next last e = cc
 
--- what was let through passed the test
+-- What was let through passed the test.
 passed : {A : Type 0} (test : Bool) (x y : A) → ◌≡◌ {A = Result A FileFault} (if test then Ok x else Err Limit) (Ok y) → (test ≡ true) × (x ≡ y)
 passed true x y e = (refl, cc)
 passed false x y e = cc
@@ -46,7 +46,7 @@ is_history-parts stripes h e =
     let some = and_parts (nat_le 1 stripes) (nat_le stripes 4096) numbers.0 in
     (omega (arith, leb-true 1 stripes some.0), All-weaker (λ e. is_in_range e ≡ true) (λ e. caller_of e < 64) below_64 h (AllPass-from_list_all is_in_range h all.1))
 
--- a history has stripes, and its callers are below 64
+-- A history has stripes, and its callers are below 64.
 pub history_of-in_range : (bytes : List ℕ) (stripes : ℕ) (h : List Entry) → history_of bytes ≡ Ok (stripes, h) → (0 < stripes) × All (λ e. caller_of e < 64) h
 unfolding entries_of entries_from
 history_of-in_range bytes stripes h e =

@@ -5,7 +5,7 @@ use Rattle.txn_files.specs.FileFault.TheVariants as files
 use Rattle.boostmap_engine.specs.declared.fault.Fault.{Fault}
 use Rattle.boostmap_engine.specs.declared.fault.Fault.TheVariants.{Usage, Input, NoMemory, NoThread, Read, Write, OutOfStep}
 
--- the exit status
+-- The exit status.
 abbrev pub status_of : Fault → ℕ
 status_of Usage = 2
 status_of (Input fault) = 3
@@ -15,7 +15,7 @@ status_of Read = 4
 status_of Write = 4
 status_of OutOfStep = 4
 
--- a fault of a file, where want of memory is none of the file's
+-- A fault of a file, where want of memory is none of the file's.
 abbrev pub of_file : FileFault → Fault
 of_file files.NoMemory = NoMemory
 of_file files.NotJson = Input files.NotJson
@@ -23,7 +23,7 @@ of_file files.Member = Input files.Member
 of_file (files.Piece part i) = Input (files.Piece part i)
 of_file files.Limit = Input files.Limit
 
--- what reading may fail with
+-- What reading may fail with.
 abbrev pub IsReadFault : Fault → Type 0
 IsReadFault Read = Unit {0}
 IsReadFault NoMemory = Unit {0}

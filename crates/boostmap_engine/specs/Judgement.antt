@@ -6,17 +6,17 @@ use Rattle.txn_files.specs.FileFault.{FileFault}
 use Rattle.txn_files.specs.HistoryFile.{history_of}
 use Rattle.boostmap_engine.specs.Report.{line}
 
--- the line of a verdict
+-- The line of a verdict.
 abbrev pub verdict_line : Verdict → List ℕ
 verdict_line (Legal commits running) = line (codes "legal " ++ (decimal commits ++ (codes " commits " ++ (decimal running ++ codes " open"))))
 verdict_line (Illegal entry rule) = line (codes "illegal entry " ++ (decimal entry ++ (codes " rule " ++ decimal rule)))
 
--- whether a verdict is that the history is legal
+-- Whether a verdict is that the history is legal.
 abbrev pub says_legal : Verdict → Bool
 says_legal (Legal commits running) = true
 says_legal (Illegal entry rule) = false
 
--- the verdict on the history that the bytes are, which says legal exactly where the history is
+-- The verdict on the history that the bytes are, which says legal exactly where the history is.
 pub record IsJudged (bytes : List ℕ) (outcome : Verdict) : Type 0 where
   pub stripes : ℕ
   pub history : List Entry
@@ -24,14 +24,14 @@ pub record IsJudged (bytes : List ℕ) (outcome : Verdict) : Type 0 where
   pub right : outcome ≡ verdict stripes history
   pub sound : IsTrue (says_legal outcome) ↔ IsLegal stripes history
 
--- the line of the verdict on the history that the bytes are, and whether that is legal
+-- The line of the verdict on the history that the bytes are, and whether that is legal.
 abbrev pub IsJudgement : Bool → List ℕ → List ℕ → Type 0
 IsJudgement legal bytes text = (outcome : Verdict) × IsJudged bytes outcome × (legal ≡ says_legal outcome) × (text ≡ verdict_line outcome)
 
--- the line of the verdict, whichever it is
+-- The line of the verdict, whichever it is.
 abbrev pub IsJudgementOf : List ℕ → List ℕ → Type 0
 IsJudgementOf bytes text = (legal : Bool) × IsJudgement legal bytes text
 
--- the bytes are no history file, for this fault
+-- The bytes are no history file, for this fault.
 abbrev pub IsNoHistoryFile : List ℕ → FileFault → Type 0
 IsNoHistoryFile bytes fault = history_of bytes ≡ Err fault

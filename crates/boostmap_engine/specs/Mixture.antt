@@ -12,8 +12,8 @@ use Rattle.boost_core.specs.State.{State}
 use Rattle.script_mix.specs.Crews.{IsMixed}
 use Rattle.boostmap_engine.specs.Report.{line}
 
--- a core on which the workers took turns as this seed draws them; its history, which is legal, of these workers, and in which
--- each worker's committed transactions play scripts of its own, their numbers rising; and the history's text
+-- A core on which the workers took turns as this seed draws them; its history, which is legal, of these workers, and in which
+-- each worker's committed transactions play scripts of its own, their numbers rising; and the history's text.
 pub record IsMixture (work : Work) (seed : ℕ) (text : List ℕ) : Type 0 where
   pub core : State
   pub mixed : IsMixed work seed core
@@ -22,10 +22,10 @@ pub record IsMixture (work : Work) (seed : ℕ) (text : List ℕ) : Type 0 where
   pub plays : PlayScripts work.sizes.callers work.scripts core.history
   pub whole : text ≡ line (text_of_history work.sizes.stripes core.history)
 
--- the same of the scripts that the bytes are
+-- The same of the scripts that the bytes are.
 abbrev pub IsMixtureOf : ℕ → List ℕ → List ℕ → Type 0
 IsMixtureOf seed bytes text = (work : Work) × (scripts_of bytes ≡ Ok work) × IsMixture work seed text
 
--- the bytes are no script file, for this fault
+-- The bytes are no script file, for this fault.
 abbrev pub IsNoScriptFile : List ℕ → FileFault → Type 0
 IsNoScriptFile bytes fault = scripts_of bytes ≡ Err fault

@@ -12,38 +12,38 @@ use Rattle.txn_files.specs.FileFault.{FileFault}
 use Rattle.txn_files.specs.StepFile.{file_of}
 use Rattle.boost_core.specs.Machine.{State, Run}
 
--- a text and a line feed
+-- A text and a line feed.
 abbrev pub line : List ℕ → List ℕ
 line text = text ++ 10 ∷ []
 
--- the answers, one a line
+-- The answers, one a line.
 abbrev pub answers_text : List Answer → List ℕ
 answers_text answers = flat_map (λ answer. line (text_of answer)) answers
 
--- the line of the size and the count
+-- The line of the size and the count.
 abbrev pub size_text : ℕ → ℕ → List ℕ
 size_text size count = line (codes "size " ++ (decimal size ++ (codes " count " ++ decimal count)))
 
--- keys and values, a pair a line
+-- Keys and values, a pair a line.
 abbrev pub pairs_text : List (ℕ × ℕ) → List ℕ
 pairs_text pairs = flat_map (λ pair. line (decimal pair.0 ++ (codes " " ++ decimal pair.1))) pairs
 
--- the answers of a run, then the size and the count of its last state, then the pairs of its map in list order
+-- The answers of a run, then the size and the count of its last state, then the pairs of its map in list order.
 abbrev pub report : List Answer → State → List ℕ
 report answers last =
     answers_text answers ++ (size_text last.size (count_of (now last.history)) ++ pairs_text (ordered (now last.history)))
 
--- a run of these steps, and its report
+-- A run of these steps, and its report.
 pub record IsReport (sizes : Sizes) (steps : List Step) (text : List ℕ) : Type 0 where
   pub answers : List Answer
   pub last : State
   pub run : Run sizes steps answers last
   pub whole : text ≡ report answers last
 
--- the report of a run of the steps that the bytes are
+-- The report of a run of the steps that the bytes are.
 abbrev pub IsReportOf : List ℕ → List ℕ → Type 0
 IsReportOf bytes text = (sizes : Sizes) × (steps : List Step) × (file_of bytes ≡ Ok (sizes, steps)) × IsReport sizes steps text
 
--- the bytes are no step file, for this fault
+-- The bytes are no step file, for this fault.
 abbrev pub IsNoStepFile : List ℕ → FileFault → Type 0
 IsNoStepFile bytes fault = file_of bytes ≡ Err fault

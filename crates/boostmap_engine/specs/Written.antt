@@ -5,19 +5,19 @@ use Rattle.txn_files.specs.FileFault.{FileFault}
 use Rattle.boostmap_engine.specs.declared.fault.Fault.{Fault}
 use Rattle.boostmap_engine.specs.declared.fault.Fault.TheVariants as faults
 
--- one byte more than a file may have
+-- One byte more than a file may have.
 abbrev pub max_read : ℕ
 max_read = 16777217
 
--- the bytes that a reader had left, or as many of them as show that there are too many
+-- The bytes that a reader had left, or as many of them as show that there are too many.
 abbrev pub IsRead : Option (List ℕ) → List ℕ → Type 0
 IsRead remaining bytes = IfSome remaining (λ all. bytes ≡ take max_read all)
 
--- known bytes grow by a beginning of the text that is not all of it
+-- Known bytes grow by a beginning of the text that is not all of it.
 abbrev pub AppendsPart : Option (List ℕ) → Option (List ℕ) → List ℕ → Type 0
 AppendsPart old new text = (n : ℕ) × (n < length text) × Appends old new (take n text)
 
--- why bytes have no text: they are refused as a file, or memory was refused
+-- Why bytes have no text: they are refused as a file, or memory was refused.
 abbrev pub HasNone : (List ℕ → FileFault → Type 0) → List ℕ → Fault → Type 0
 HasNone IsRefused bytes (faults.Input fault) = IsRefused bytes fault
 HasNone IsRefused bytes faults.NoMemory = Unit {0}
@@ -27,11 +27,11 @@ HasNone IsRefused bytes faults.Read = ⊥
 HasNone IsRefused bytes faults.Write = ⊥
 HasNone IsRefused bytes faults.OutOfStep = ⊥
 
--- what was written is a text of the bytes that were read
+-- What was written is a text of the bytes that were read.
 abbrev pub Writes : (List ℕ → List ℕ → Type 0) → Option (List ℕ) → Option (List ℕ) → Option (List ℕ) → Type 0
 Writes IsTextOf remaining old new = (bytes : List ℕ) × (text : List ℕ) × IsRead remaining bytes × IsTextOf bytes text × Appends old new text
 
--- what was written at a fault: a part of a text of the bytes that were read where a write failed, else nothing
+-- What was written at a fault: a part of a text of the bytes that were read where a write failed, else nothing.
 abbrev pub Leaves : (List ℕ → List ℕ → Type 0) → (List ℕ → FileFault → Type 0) → Option (List ℕ) → Option (List ℕ) → Option (List ℕ) → Fault → Type 0
 Leaves IsTextOf IsRefused remaining old new (faults.Input fault) = (bytes : List ℕ) × IsRead remaining bytes × IsRefused bytes fault × Keeps old new
 Leaves IsTextOf IsRefused remaining old new faults.NoMemory = Keeps old new

@@ -33,7 +33,7 @@ pub enum Fault {
 }
 
 impl Fault {
-    /// The exit status of the program: 2 for `Usage`, 3 for `Input`, 4 for every other. Fixed cost.
+    /// The exit status of the program: 2 for `Usage`, 3 for `Input`, 4 for every other. Constant time.
     pub fn status(&self) -> u8
         ensures { result ≡ status_of self.now }
     {

@@ -35,7 +35,7 @@ caller_is : (caller : ℕ) (holder : Option ℕ) → is_caller caller holder ≡
 caller_is caller None is = cc
 caller_is caller (Some holder) is = ap (λ h. Some h) (eqb-true holder caller is)
 
--- the list after a write, at each place
+-- The list after a write, at each place.
 get_or-set_is : (holders : Holders) (stripe other : ℕ) (holder : Option ℕ) → stripe < length holders → (P : Option ℕ → Type 0) → (other ≡ stripe → P holder) → (other ≢ stripe → P (get_or holders other None)) → P (get_or (set holders stripe holder) other None)
 get_or-set_is holders stripe other holder within P here elsewhere =
     elim (cases_eq other stripe) [
@@ -43,7 +43,7 @@ get_or-set_is holders stripe other holder within P here elsewhere =
       | inr differs ↦ subst P (sym (get_or-set_other holders stripe other holder None differs)) (elsewhere differs)
     ]
 
--- a held stripe is one of the stripes
+-- A held stripe is one of the stripes.
 held_below : (holders : Holders) (stripe caller : ℕ) → get_or holders stripe None ≡ Some caller → stripe < length holders
 held_below holders stripe caller held =
     elim (cases_lt stripe (length holders)) [
@@ -60,7 +60,7 @@ Leads-set older first (other ∷ rest) stripe next out leads =
     let same = get_or-set_other older stripe other next None (eqb-false other stripe apart.0) in
     (leads.0, leads.1, subst (λ from. Leads (set older stripe next) from rest) (sym same) (Leads-set older (get_or older other None) rest stripe next apart.1 leads.2))
 
--- the stripe comes first in the chain of the caller that takes it
+-- The stripe comes first in the chain of the caller that takes it.
 IsChain-taken : (holders older : Holders) (caller stripe : ℕ) (first : Option ℕ) (chain : List ℕ) → IsChain holders older caller first chain → get_or holders stripe None ≡ None → stripe < length holders → stripe < length older
     → IsChain (set holders stripe (Some caller)) (set older stripe first) caller (Some stripe) (stripe ∷ chain)
 IsChain-taken holders older caller stripe first chain is free within within_older =
@@ -72,7 +72,7 @@ IsChain-taken holders older caller stripe first chain is free within within_olde
           (λ differs. ap (λ b. b || is_in chain other) (ne_eqb stripe other (λ same. differs (sym same))) ∙ is.held other);
     }
 
--- a stripe that goes from hand to hand among others is in no way the caller's
+-- A stripe that goes from hand to hand among others is in no way the caller's.
 IsChain-elsewhere : (holders older : Holders) (caller stripe : ℕ) (first next holder : Option ℕ) (chain : List ℕ) → IsChain holders older caller first chain → is_caller caller (get_or holders stripe None) ≡ false → is_caller caller holder ≡ false → stripe < length holders
     → IsChain (set holders stripe holder) (set older stripe next) caller first chain
 IsChain-elsewhere holders older caller stripe first next holder chain is not_before not_after within =
@@ -84,7 +84,7 @@ IsChain-elsewhere holders older caller stripe first next holder chain is not_bef
           (λ differs. is.held other);
     }
 
--- a chain that begins
+-- A chain that begins.
 chain_from : (holders older : Holders) (caller stripe : ℕ) (first : Option ℕ) (chain : List ℕ) → IsChain holders older caller first chain → first ≡ Some stripe → (rest : List ℕ) × IsChain holders older caller (Some stripe) (stripe ∷ rest)
 chain_from holders older caller stripe first [] is begins = absurd (none_is_not_some first stripe is.leads begins)
 chain_from holders older caller stripe first (other ∷ rest) is begins =
@@ -94,7 +94,7 @@ chain_from holders older caller stripe first (other ∷ rest) is begins =
 first_held : (holders older : Holders) (caller stripe : ℕ) (rest : List ℕ) → IsChain holders older caller (Some stripe) (stripe ∷ rest) → get_or holders stripe None ≡ Some caller
 first_held holders older caller stripe rest is = caller_is caller _ (sym (is.held stripe) ∙ or_left (eqb stripe stripe) (is_in rest stripe) (eq-eqb stripe stripe refl))
 
--- without its first stripe a chain is that of the rest
+-- Without its first stripe a chain is that of the rest.
 IsChain-freed : (holders older : Holders) (caller stripe : ℕ) (rest : List ℕ) → IsChain holders older caller (Some stripe) (stripe ∷ rest) → IsChain (set holders stripe None) older caller (get_or older stripe None) rest
 IsChain-freed holders older caller stripe rest is =
     let within = held_below holders stripe caller (first_held holders older caller stripe rest is) in
@@ -135,7 +135,7 @@ AreChained-taken holders older newest caller stripe are below within free =
     let its = are.chain_of other other_below in
     (its.0, IsChain-elsewhere holders older other stripe _ next (Some caller) its.0 its.1 (none_is_no_caller other _ free) (some_is_no_other caller other _ refl differs) within))
 
--- the stripe is the one that the caller took last
+-- The stripe is the one that the caller took last.
 pub record IsNewest (holders older newest : List (Option ℕ)) (caller stripe : ℕ) : Type 0 where
   pub newest_is : get_or newest caller None ≡ Some stripe
   pub held : get_or holders stripe None ≡ Some caller
@@ -170,7 +170,7 @@ AreChained-freed holders older newest caller stripe are below is =
           (IsChain-elsewhere holders older other stripe _ (get_or older stripe None) None its.0 its.1 (some_is_no_other caller other _ is.held differs) refl is.within),
     ))
 
--- at first no caller has a stripe
+-- At first no caller has a stripe.
 pub AreChained-new : (stripes : ℕ) (holders older newest : Holders) → holders ≡ replicate stripes None → older ≡ replicate stripes None → newest ≡ replicate 64 None → AreChained holders older newest
 AreChained-new stripes holders older newest holders_is older_is newest_is = record {
   as_many = ap length (older_is ∙ sym holders_is);
@@ -190,14 +190,14 @@ fewer_held holders caller stripe within held =
     let one : cond {A = ℕ} (is_caller caller (get_or holders stripe None)) 1 0 ≡ 1 = ap (λ b. cond {A = ℕ} b 1 0) (some_is_caller caller _ held) in
     omega (arith, one, sum_by-set (λ (holder : Option ℕ). cond {A = ℕ} (is_caller caller holder) 1 0) holders stripe None None within)
 
--- a stripe of the caller's may be freed first: what the release leaves is the same
+-- A stripe of the caller's may be freed first: what the release leaves is the same.
 pub without_caller-set : (holders : Holders) (caller stripe other : ℕ) → get_or holders stripe None ≡ Some caller → without_caller caller (get_or (set holders stripe None) other None) ≡ without_caller caller (get_or holders other None)
 without_caller-set holders caller stripe other held =
     get_or-set_is holders stripe other None (held_below holders stripe caller held) (λ holder. without_caller caller holder ≡ without_caller caller (get_or holders other None))
     (λ same. sym (ap (without_caller caller) (ap (λ k. get_or holders k None) same ∙ held) ∙ ap (λ b. cond b None (Some caller)) (eq-eqb caller caller refl)))
     (λ differs. refl)
 
--- a caller whose chain is empty holds no stripe
+-- A caller whose chain is empty holds no stripe.
 none_held : (holders older : Holders) (caller : ℕ) (first : Option ℕ) (chain : List ℕ) → IsChain holders older caller first chain → first ≡ None → (stripe : ℕ) → is_caller caller (get_or holders stripe None) ≡ false
 none_held holders older caller first [] is none stripe = sym (is.held stripe)
 none_held holders older caller first (other ∷ rest) is none stripe = absurd (none_is_not_some first other none is.leads.0)

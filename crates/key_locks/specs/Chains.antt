@@ -3,21 +3,21 @@ use Rattle.std.specs.Prelude.{◌≡◌, ℕ, ◌<◌, List, [], ◌∷◌, leng
 use Rattle.std.specs.List.{list_any}
 use Rattle.key_locks.specs.Locks.{holder_of, is_caller}
 
--- whether the chain has the stripe
+-- Whether the chain has the stripe.
 abbrev pub is_in : List ℕ → ℕ → Bool
 is_in chain stripe = list_any (λ other. other == stripe) chain
 
--- from this stripe on the older ones are this chain, each once
+-- From this stripe on the older ones are this chain, each once.
 abbrev pub Leads : List (Option ℕ) → Option ℕ → List ℕ → Type 0
 Leads older first [] = first ≡ None
 Leads older first (stripe ∷ rest) = (first ≡ Some stripe) × (is_in rest stripe ≡ false) × Leads older (slice_index_or older stripe None) rest
 
--- the chain has just the stripes that the caller holds
+-- The chain has just the stripes that the caller holds.
 pub record IsChain (holders older : List (Option ℕ)) (caller : ℕ) (first : Option ℕ) (chain : List ℕ) : Type 0 where
   pub leads : Leads older first chain
   pub held : (stripe : ℕ) → is_in chain stripe ≡ is_caller caller (holder_of holders stripe)
 
--- each caller has a chain
+-- Each caller has a chain.
 pub record AreChained (holders older newest : List (Option ℕ)) : Type 0 where
   pub as_many : length older ≡ length holders
   pub callers : length newest ≡ 64

@@ -59,7 +59,7 @@ each_swept P (n ∷ rest) each = elim (either n.marked) [
 pub belong_swept : (nodes : List NodeAt) → Belong nodes → Belong (without_first_marked nodes)
 belong_swept nodes belong = record { keyed = each_swept IsKeyedNode nodes belong.keyed; even = each_swept IsEvenDummy nodes belong.even }
 
--- the dummies of a list in which one node changed
+-- The dummies of a list in which one node changed.
 has_dummy-changed_at : (nodes : List NodeAt) (place : ℕ) (change : NodeAt → NodeAt) (bucket : ℕ) → ((n : NodeAt) → is_dummy_of bucket (change n) ≡ is_dummy_of bucket n) → has_dummy (changed_at nodes place change) bucket ≡ has_dummy nodes bucket
 unfolding has_dummy changed_at
 has_dummy-changed_at [] place change bucket same = refl

@@ -9,7 +9,7 @@ use Rattle.list_steps.specs.Content.{pair_if, pair_of, pairs}
 use Rattle.list_steps.proofs.NodeLemmas.{IsAt, found_at, next_at, at_next, first_is, first_none}
 use Rattle.list_steps.proofs.OrderLemmas.{before_later}
 
--- all pairs up to this place are found
+-- All pairs up to this place are found.
 pub record IsWalking (nodes : List NodeAt) (place : ℕ) (found : List (ℕ × ℕ)) : Type 0 where
   pub node : NodeAt
   pub at : IsAt nodes place node

@@ -13,11 +13,11 @@ use Rattle.bucket_table.specs.declared.answer.Double.TheVariants.{Moved, AtLimit
 use Rattle.map_ops.specs.TableAt.{TableAt, Help, Nothing, Sought, Dummy, regular, turn_of, last_of, largest_of, size_of, stored_of, linked_of, helps_of, KeepsSpares}
 pub use Rattle.map_ops.specs.TableAt.{helper_fits}
 
--- the bucket is stored
+-- The bucket is stored.
 abbrev pub is_stored : List Bool → ℕ → Bool
 is_stored stored bucket = slice_index_or stored bucket false
 
--- what a seek for a bucket by a helper that has this is answered, at this size and with these buckets stored
+-- What a seek for a bucket by a helper that has this is answered, at this size and with these buckets stored.
 abbrev pub seek_answer : ℕ → List Bool → Option Help → ℕ → Result InitSeek InitRefusal
 seek_answer size stored None bucket = Err NoSuchHelper
 seek_answer size stored (Some help) bucket =
@@ -26,8 +26,8 @@ seek_answer size stored (Some help) bucket =
     else (if is_stored stored (parent_of bucket) then Ok Placed
     else Err ParentMissing))
 
--- what a link by a helper that has this is answered, where memory lasts: by whether its cursor fits, by which dummies are
--- linked, and by the last stamp
+-- What a link by a helper that has this is answered, where memory lasts: by whether its cursor fits, by which dummies are
+-- linked, and by the last stamp.
 abbrev pub link_answer : Bool → List Bool → ℕ → Option Help → Result InitLink InitRefusal
 link_answer fitting linked last None = Err NoSuchHelper
 link_answer fitting linked last (Some Nothing) = Err HelperOutOfOrder
@@ -38,18 +38,18 @@ link_answer fitting linked last (Some (Sought bucket turn)) =
     else (if last == 2 ^ 64 - 2 then Err StampsUsedUp
     else Ok Linked))
 
--- what a link by the helper of this number is answered by a table, where memory lasts
+-- What a link by the helper of this number is answered by a table, where memory lasts.
 abbrev pub link_answer_of : TableAt → ℕ → Result InitLink InitRefusal
 link_answer_of t helper = link_answer (helper_fits t helper) (linked_of t) (last_of t) (slice_get (helps_of t) helper)
 
--- what a store by a helper that has this is answered
+-- What a store by a helper that has this is answered.
 abbrev pub store_answer : Option Help → Result Unit InitRefusal
 store_answer None = Err NoSuchHelper
 store_answer (Some Nothing) = Err HelperOutOfOrder
 store_answer (Some (Sought bucket turn)) = Err HelperOutOfOrder
 store_answer (Some (Dummy bucket)) = Ok tt
 
--- what a doubling is answered, at this size, with a largest size, and with so many keys
+-- What a doubling is answered, at this size, with a largest size, and with so many keys.
 abbrev pub double_answer : ℕ → ℕ → ℕ → ℕ → Double
 double_answer size largest count seen =
     if not (size == seen) then Moved size
@@ -57,14 +57,14 @@ double_answer size largest count seen =
     else (if nat_le count (2 * size) then Light
     else Doubled (2 * size)))
 
--- the size after a doubling that was answered so
+-- The size after a doubling that was answered so.
 abbrev pub size_after : ℕ → Double → ℕ
 size_after size (Moved now) = size
 size_after size AtLimit = size
 size_after size Light = size
 size_after size (Doubled now) = now
 
--- the buckets are so now, and the pairs and the spares are as they were
+-- The buckets are so now, and the pairs and the spares are as they were.
 pub record Becomes (old new : TableAt) (size : ℕ) (stored linked : List Bool) (helps : List Help) : Type 0 where
   pub regular : regular new ≡ regular old
   pub spares : KeepsSpares old new
@@ -74,23 +74,23 @@ pub record Becomes (old new : TableAt) (size : ℕ) (stored linked : List Bool) 
   pub linked_is : linked_of new ≡ linked
   pub helps_is : helps_of new ≡ helps
 
--- a helper has something else, and no node and no stamp is taken
+-- A helper has something else, and no node and no stamp is taken.
 pub record Helps (old new : TableAt) (helper : ℕ) (help : Help) : Type 0 where
   pub becomes : Becomes old new (size_of old) (stored_of old) (linked_of old) (slice_set (helps_of old) helper help)
   pub last : last_of new ≡ last_of old
 
--- a seek placed a cursor for the bucket: the helper has it, with the change number that there is now, and it fits
+-- A seek placed a cursor for the bucket: the helper has it, with the change number that there is now, and it fits.
 pub record Seeks (old new : TableAt) (helper bucket : ℕ) : Type 0 where
   pub helps : Helps old new helper (Sought bucket (turn_of new))
   pub fits : helper_fits new helper ≡ true
 
--- what a seek for a bucket changes
+-- What a seek for a bucket changes.
 abbrev pub SeekChanges : TableAt → TableAt → ℕ → ℕ → Result InitSeek InitRefusal → Type 0
 SeekChanges old new helper bucket (Ok Ready) = Helps old new helper Nothing × (turn_of new ≡ turn_of old)
 SeekChanges old new helper bucket (Ok Placed) = Seeks old new helper bucket
 SeekChanges old new helper bucket (Err refusal) = new ≡ old
 
--- the helper that had a cursor for a bucket has its dummy, which was linked before
+-- The helper that had a cursor for a bucket has its dummy, which was linked before.
 pub record Holds (old new : TableAt) (helper : ℕ) : Type 0 where
   pub bucket : ℕ
   pub turn : ℕ
@@ -99,7 +99,7 @@ pub record Holds (old new : TableAt) (helper : ℕ) : Type 0 where
   pub helps : Helps old new helper (Dummy bucket)
   pub kept : turn_of new ≡ turn_of old
 
--- the helper that had a cursor for a bucket has its dummy, which is linked now, with the next stamp
+-- The helper that had a cursor for a bucket has its dummy, which is linked now, with the next stamp.
 pub record Links (old new : TableAt) (helper : ℕ) : Type 0 where
   pub bucket : ℕ
   pub turn : ℕ
@@ -108,14 +108,14 @@ pub record Links (old new : TableAt) (helper : ℕ) : Type 0 where
   pub becomes : Becomes old new (size_of old) (stored_of old) (slice_set (linked_of old) bucket true) (slice_set (helps_of old) helper (Dummy bucket))
   pub last : last_of new ≡ last_of old + 1
 
--- what a link by a helper changes
+-- What a link by a helper changes.
 abbrev pub LinkChanges : TableAt → TableAt → ℕ → Result InitLink InitRefusal → Type 0
 LinkChanges old new helper (Ok Again) = Helps old new helper Nothing × (turn_of new ≡ turn_of old)
 LinkChanges old new helper (Ok Present) = Holds old new helper
 LinkChanges old new helper (Ok Linked) = Links old new helper
 LinkChanges old new helper (Err refusal) = new ≡ old
 
--- the bucket whose dummy the helper had is stored, and the helper has nothing
+-- The bucket whose dummy the helper had is stored, and the helper has nothing.
 pub record Stores (old new : TableAt) (helper : ℕ) : Type 0 where
   pub bucket : ℕ
   pub had : slice_get (helps_of old) helper ≡ Some (Dummy bucket)
@@ -123,12 +123,12 @@ pub record Stores (old new : TableAt) (helper : ℕ) : Type 0 where
   pub last : last_of new ≡ last_of old
   pub kept : turn_of new ≡ turn_of old
 
--- what a store by a helper changes
+-- What a store by a helper changes.
 abbrev pub StoreChanges : TableAt → TableAt → ℕ → Result Unit InitRefusal → Type 0
 StoreChanges old new helper (Ok done) = Stores old new helper
 StoreChanges old new helper (Err refusal) = new ≡ old
 
--- only the size changes by a doubling
+-- Only the size changes by a doubling.
 pub record Doubles (old new : TableAt) (answer : Double) : Type 0 where
   pub becomes : Becomes old new (size_after (size_of old) answer) (stored_of old) (linked_of old) (helps_of old)
   pub last : last_of new ≡ last_of old

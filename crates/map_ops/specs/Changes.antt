@@ -14,17 +14,17 @@ use Rattle.map_ops.specs.declared.job.MapJob.TheVariants.{Unput, Restore, Relink
 use Rattle.map_ops.specs.TableAt.{TableAt, Cursor, SpareAt, SweepOutcome, content, turn_of, last_of, linked_of, nodes_of, nodes_sought, spare_out, Owns, KeepsOthers, KeepsSpares, KeepsBuckets, KeepsNodes, Keeps, IsPlaced, IsStart, SweepsNodes, cursor_turn, fits}
 use Rattle.map_ops.specs.Jobs.{PendingAt, takes_node, key_of_job, value_before, spare_of_job, job_of, IsDue}
 
--- the spare, if there is one, is the table's
+-- The spare, if there is one, is the table's.
 abbrev pub OwnsIf : TableAt → Option SpareAt → Type 0
 OwnsIf t None = Unit {0}
 OwnsIf t (Some spare) = Owns t spare
 
--- the spare, if there is one, is out no more; all others are as they were
+-- The spare, if there is one, is out no more; all others are as they were.
 abbrev pub Spends : TableAt → TableAt → Option SpareAt → Type 0
 Spends old new None = KeepsSpares old new
 Spends old new (Some spare) = (spare_out new spare.place ≡ None) × KeepsOthers old new spare.place
 
--- a new spare is out, with the next stamp, at a place where none was
+-- A new spare is out, with the next stamp, at a place where none was.
 pub record GivesSpare (old new : TableAt) (spare : SpareAt) : Type 0 where
   pub room : last_of old < 2 ^ 64 - 2
   pub stamp : spare.stamp ≡ last_of old + 1
@@ -33,29 +33,29 @@ pub record GivesSpare (old new : TableAt) (spare : SpareAt) : Type 0 where
   pub owned : Owns new spare
   pub others : KeepsOthers old new spare.place
 
--- a spare for an operation that takes a node, and none for one that does not
+-- A spare for an operation that takes a node, and none for one that does not.
 abbrev pub GivesFor : TableAt → TableAt → Bool → Option SpareAt → Type 0
 GivesFor old new true None = ⊥
 GivesFor old new true (Some spare) = GivesSpare old new spare
 GivesFor old new false None = new ≡ old
 GivesFor old new false (Some spare) = ⊥
 
--- the operation is prepared: nothing but the spares and the last stamp has changed
+-- The operation is prepared: nothing but the spares and the last stamp has changed.
 pub record Prepares (old new : TableAt) (op : Op) (pending : PendingAt) : Type 0 where
   pub op_is : pending.op ≡ op
   pub key_fits : key_of op < 2 ^ 63
   pub given : GivesFor old new (takes_node op) pending.spare
   pub nodes : KeepsNodes old new
 
--- why an operation is not prepared: a bad key exactly where the key is 2^63 or more; then, where it takes a node, stamps
--- used up exactly where the last one is given; else memory was refused
+-- Why an operation is not prepared: a bad key exactly where the key is 2^63 or more; then, where it takes a node, stamps
+-- used up exactly where the last one is given; else memory was refused.
 abbrev pub IsRefused : TableAt → Op → Refusal → Type 0
 IsRefused t op refusals.BadKey = 2 ^ 63 ≤ key_of op
 IsRefused t op refusals.StampsUsedUp = (key_of op < 2 ^ 63) × (takes_node op ≡ true) × (last_of t ≡ 2 ^ 64 - 2)
 IsRefused t op refusals.NoMemory = (key_of op < 2 ^ 63) × (takes_node op ≡ true) × (last_of t < 2 ^ 64 - 2)
 IsRefused t op refusal = ⊥
 
--- a key was sought: marked nodes may be unlinked, and the cursor fits
+-- A key was sought: marked nodes may be unlinked, and the cursor fits.
 pub record Places (old new : TableAt) (key : ℕ) (cursor : Cursor) : Type 0 where
   pub keeps : Keeps old new
   pub spares : KeepsSpares old new
@@ -63,21 +63,21 @@ pub record Places (old new : TableAt) (key : ℕ) (cursor : Cursor) : Type 0 whe
   pub fits : fits new cursor ≡ true
   pub turn : cursor_turn cursor ≡ turn_of new
 
--- a key was sought from the dummy of its bucket, or of the nearest ancestor that is initialised: the marked nodes between
--- there and the key's place are unlinked, and no others
+-- A key was sought from the dummy of its bucket, or of the nearest ancestor that is initialised: the marked nodes between
+-- there and the key's place are unlinked, and no others.
 pub record SeeksNear (old new : TableAt) (key : ℕ) : Type 0 where
   pub start : ℕ
   pub nearest : IsStart old key start
   pub nodes : nodes_of new ≡ nodes_sought old start key
 
--- the spare of an operation: with a job that owns it, it stays out; else it is out no more
+-- The spare of an operation: with a job that owns it, it stays out; else it is out no more.
 abbrev pub SpendsFor : TableAt → TableAt → Option SpareAt → Option MapJob → Type 0
 SpendsFor old new spare (Some (Relink k before kept)) = KeepsSpares old new
 SpendsFor old new spare (Some (Unput k)) = Spends old new spare
 SpendsFor old new spare (Some (Restore k before)) = Spends old new spare
 SpendsFor old new spare None = Spends old new spare
 
--- the operation is done: its reply and what it leaves are the map's, and the job is there exactly where it is a change
+-- The operation is done: its reply and what it leaves are the map's, and the job is there exactly where it is a change.
 pub record Does (old new : TableAt) (pending : PendingAt) (reply : Option ℕ) (job : Option MapJob) : Type 0 where
   pub reply_is : reply ≡ reply_of (content old) pending.op
   pub content_is : content new ≡ after (content old) pending.op
@@ -87,12 +87,12 @@ pub record Does (old new : TableAt) (pending : PendingAt) (reply : Option ℕ) (
   pub linked : linked_of new ≡ linked_of old
   pub last : last_of new ≡ last_of old
 
--- an act at a cursor: the operation is done where the cursor fits; else nothing has changed and it comes back
+-- An act at a cursor: the operation is done where the cursor fits; else nothing has changed and it comes back.
 abbrev pub Acts : TableAt → TableAt → PendingAt → Cursor → Act → Type 0
 Acts old new pending cursor (Acted reply job) = (fits old cursor ≡ true) × Does old new pending reply job
 Acts old new pending cursor (ActAgain back) = (fits old cursor ≡ false) × (back ≡ pending) × (new ≡ old)
 
--- the change is taken back: its key has what it had before, and every other key what it has now
+-- The change is taken back: its key has what it had before, and every other key what it has now.
 pub record TakesBack (old new : TableAt) (job : MapJob) : Type 0 where
   pub content_is : content new ≡ set_at (content old) (key_of_job job) (value_before job)
   pub spares : Spends old new (spare_of_job job)
@@ -100,25 +100,25 @@ pub record TakesBack (old new : TableAt) (job : MapJob) : Type 0 where
   pub linked : linked_of new ≡ linked_of old
   pub last : last_of new ≡ last_of old
 
--- an undo at a cursor: the change is taken back where the cursor fits; else nothing has changed and the job comes back
+-- An undo at a cursor: the change is taken back where the cursor fits; else nothing has changed and the job comes back.
 abbrev pub Undoes : TableAt → TableAt → MapJob → Cursor → Undo → Type 0
 Undoes old new job cursor Undone = (fits old cursor ≡ true) × TakesBack old new job
 Undoes old new job cursor (UndoAgain back) = (fits old cursor ≡ false) × (back ≡ job) × (new ≡ old)
 
--- a spare, if there is one, is given back, and nothing else has changed
+-- A spare, if there is one, is given back, and nothing else has changed.
 pub record GivesBack (old new : TableAt) (spare : Option SpareAt) : Type 0 where
   pub nodes : KeepsNodes old new
   pub last : last_of new ≡ last_of old
   pub spares : Spends old new spare
 
--- the spares after an operation that was done at once: that of its job is out, and all others are as they were
+-- The spares after an operation that was done at once: that of its job is out, and all others are as they were.
 abbrev pub JobSpare : TableAt → TableAt → Option MapJob → Type 0
 JobSpare old new (Some (Relink k before spare)) = GivesSpare old new spare
 JobSpare old new (Some (Unput k)) = KeepsSpares old new
 JobSpare old new (Some (Restore k before)) = KeepsSpares old new
 JobSpare old new None = KeepsSpares old new
 
--- an operation is done at once: its reply and what it leaves are the map's, and the job is there exactly where it is a change
+-- An operation is done at once: its reply and what it leaves are the map's, and the job is there exactly where it is a change.
 pub record Applies (old new : TableAt) (op : Op) (reply : Option ℕ) (job : Option MapJob) : Type 0 where
   pub spare : Option SpareAt
   pub reply_is : reply ≡ reply_of (content old) op
@@ -130,19 +130,19 @@ pub record Applies (old new : TableAt) (op : Op) (reply : Option ℕ) (job : Opt
   pub linked : linked_of new ≡ linked_of old
   pub last : last_of new ≡ last_of old + (if takes_node op then 1 else 0)
 
--- a sweep: the first marked node is unlinked and nothing else has changed, or no node is marked and nothing has changed
+-- A sweep: the first marked node is unlinked and nothing else has changed, or no node is marked and nothing has changed.
 abbrev pub Sweeps : TableAt → TableAt → SweepOutcome → Type 0
 Sweeps old new outcome = SweepsNodes old new outcome × KeepsBuckets old new
 
--- the table shows what the job names as after its change, and the job's spare is the table's
+-- The table shows what the job names as after its change, and the job's spare is the table's.
 abbrev pub ShowsAfter : MapJob → TableAt → Type 0
 ShowsAfter job t = IsDue (content t) job × OwnsIf t (spare_of_job job)
 
--- the table shows what the job names as before its change
+-- The table shows what the job names as before its change.
 abbrev pub ShowsBefore : MapJob → TableAt → Type 0
 ShowsBefore job t = get (content t) (key_of_job job) ≡ value_before job
 
--- the two spares, where there are two, are at different places
+-- The two spares, where there are two, are at different places.
 abbrev pub AreApart : Option SpareAt → Option SpareAt → Type 0
 AreApart None other = Unit {0}
 AreApart (Some spare) None = Unit {0}

@@ -7,53 +7,53 @@ use Rattle.map_ops.specs.declared.job.MapJob.{MapJob}
 use Rattle.map_ops.specs.declared.job.MapJob.TheVariants.{Unput, Restore, Relink}
 use Rattle.map_ops.specs.TableAt.{SpareAt}
 
--- an operation, and the spare that it owns
+-- An operation, and the spare that it owns.
 pub record PendingAt : Type 0 where
   pub op : Op
   pub spare : Option SpareAt
 
--- whether an operation takes a node
+-- Whether an operation takes a node.
 abbrev pub takes_node : Op → Bool
 takes_node (Put k v) = true
 takes_node (Take k) = true
 takes_node (Get k) = false
 
--- the key of a job
+-- The key of a job.
 abbrev pub key_of_job : MapJob → ℕ
 key_of_job (Unput k) = k
 key_of_job (Restore k old) = k
 key_of_job (Relink k old spare) = k
 
--- what the job's key had before the change
+-- What the job's key had before the change.
 abbrev pub value_before : MapJob → Option ℕ
 value_before (Unput k) = None
 value_before (Restore k old) = Some old
 value_before (Relink k old spare) = Some old
 
--- the spare that a job owns
+-- The spare that a job owns.
 abbrev pub spare_of_job : MapJob → Option SpareAt
 spare_of_job (Unput k) = None
 spare_of_job (Restore k old) = None
 spare_of_job (Relink k old spare) = Some spare
 
--- the map is as the job's change left it at the key: there after a put, absent after a take
+-- The map is as the job's change left it at the key: there after a put, absent after a take.
 abbrev pub IsDue : Map → MapJob → Type 0
 IsDue m (Unput k) = IsSome (get m k)
 IsDue m (Restore k old) = IsSome (get m k)
 IsDue m (Relink k old spare) = get m k ≡ None
 
--- the job that a take of a value leaves
+-- The job that a take of a value leaves.
 abbrev pub relink : ℕ → Option ℕ → Option SpareAt → Option MapJob
 relink k (Some old) (Some spare) = Some (Relink k old spare)
 relink k (Some old) None = None
 relink k None spare = None
 
--- the job that a put over a value, or over none, leaves
+-- The job that a put over a value, or over none, leaves.
 abbrev pub unput : ℕ → Option ℕ → Option MapJob
 unput k None = Some (Unput k)
 unput k (Some old) = Some (Restore k old)
 
--- the job that an operation with this spare leaves on a map, exactly where it is a change
+-- The job that an operation with this spare leaves on a map, exactly where it is a change.
 abbrev pub job_of : Map → Op → Option SpareAt → Option MapJob
 job_of m (Put k v) spare = unput k (get m k)
 job_of m (Take k) spare = relink k (get m k) spare

@@ -5,7 +5,7 @@ use Rattle.map_ops.specs.declared.pending.Plan.{Plan}
 use Rattle.map_ops.specs.declared.pending.Plan.TheVariants.{Put, Take, Get}
 use Rattle.map_ops.specs.Jobs.{PendingAt}
 
--- what a contract sees of a plan
+-- What a contract sees of a plan.
 abbrev pub pending_of : Plan → PendingAt
 pending_of (Put k v spare) = record { op = ops.Put k v; spare = Some spare }
 pending_of (Take k spare) = record { op = ops.Take k; spare = Some spare }

@@ -7,20 +7,20 @@ use Rattle.bucket_table.specs.Directory.{Directory}
 use Rattle.bucket_table.specs.Dummies.{IsKeyed}
 use Rattle.bucket_table.specs.Home.{IsHome}
 
--- a dummy stands where no key belongs: its split key is even
+-- A dummy stands where no key belongs: its split key is even.
 abbrev pub IsEvenDummy : NodeAt → Type 0
 IsEvenDummy n = n.kind ≡ Dummy → n.split % 2 ≡ 0
 
--- each dummy stands where no key belongs
+-- Each dummy stands where no key belongs.
 abbrev pub AllEven : List NodeAt → Type 0
 AllEven nodes = AllByRecursion IsEvenDummy nodes
 
--- each node stands where its key belongs, or where no key does
+-- Each node stands where its key belongs, or where no key does.
 pub record Belong (nodes : List NodeAt) : Type 0 where
   pub keyed : IsKeyed nodes
   pub even : AllEven nodes
 
--- the buckets are the list's, and each node stands where it belongs
+-- The buckets are the list's, and each node stands where it belongs.
 pub record IsSound (list : Listing) (buckets : Directory) : Type 0 where
   pub home : IsHome buckets list
   pub belong : Belong list.nodes

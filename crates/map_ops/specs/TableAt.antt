@@ -20,56 +20,56 @@ use Rattle.bucket_table.specs.declared.helper.Helper.{Helper}
 use Rattle.bucket_table.specs.declared.helper.Helper.TheVariants.{Idle, Seeking, Holding}
 use Rattle.txn_trace.specs.Map.{Map, empty, insert}
 
--- the list of nodes and the buckets, of which contracts speak by the words below alone
+-- The list of nodes and the buckets, of which contracts speak by the words below alone.
 pub record TableAt : Type 0 where
   pub list : Listing
   pub buckets : Directory
 
--- the table of a list and of buckets
+-- The table of a list and of buckets.
 abbrev pub table_of : Listing → Directory → TableAt
 table_of list buckets = record { list = list; buckets = buckets }
 
--- the linked nodes in order, the marked ones too
+-- The linked nodes in order, the marked ones too.
 abbrev pub nodes_of : TableAt → List NodeAt
 nodes_of t = t.list.nodes
 
--- the map of these pairs
+-- The map of these pairs.
 abbrev pub map_of : List (ℕ × ℕ) → Map
 map_of rows = fold (λ m pair. insert m pair.0 pair.1) empty rows
 
--- key and value of each linked, unmarked, regular node, in the list's order
+-- Key and value of each linked, unmarked, regular node, in the list's order.
 abbrev pub regular : TableAt → List (ℕ × ℕ)
 regular t = pairs t.list.nodes
 
--- the map of these
+-- The map of these.
 abbrev pub content : TableAt → Map
 content t = map_of (regular t)
 
--- the change number
+-- The change number.
 abbrev pub turn_of : TableAt → ℕ
 turn_of t = t.list.turn
 
--- the last stamp given
+-- The last stamp given.
 abbrev pub last_of : TableAt → ℕ
 last_of t = t.list.last
 
--- the number of buckets now
+-- The number of buckets now.
 abbrev pub size_of : TableAt → ℕ
 size_of t = t.buckets.size
 
--- the largest number of buckets
+-- The largest number of buckets.
 abbrev pub largest_of : TableAt → ℕ
 largest_of t = limit_of t.buckets
 
--- for each bucket, whether it is stored, which is to say initialised
+-- For each bucket, whether it is stored, which is to say initialised.
 abbrev pub stored_of : TableAt → List Bool
 stored_of t = map is_some t.buckets.entries
 
--- for each bucket, whether its dummy is linked
+-- For each bucket, whether its dummy is linked.
 abbrev pub linked_of : TableAt → List Bool
 linked_of t = map (has_dummy t.list.nodes) (range_with_len 0 (limit_of t.buckets))
 
--- what a helper has: nothing, a cursor of this turn for the dummy of a bucket, or the dummy of a bucket
+-- What a helper has: nothing, a cursor of this turn for the dummy of a bucket, or the dummy of a bucket.
 pub data Help : Type 0 where
   Nothing : Help
   Sought : ℕ → ℕ → Help
@@ -80,11 +80,11 @@ help_of Idle = Nothing
 help_of (Seeking bucket cursor) = Sought bucket (cursors.turn_of cursor)
 help_of (Holding bucket dummy) = Dummy bucket
 
--- for each helper, what it has
+-- For each helper, what it has.
 abbrev pub helps_of : TableAt → List Help
 helps_of t = map help_of t.buckets.helpers
 
--- the buckets are as they were, and so is each thing that is read of them
+-- The buckets are as they were, and so is each thing that is read of them.
 pub record KeepsBuckets (old new : TableAt) : Type 0 where
   pub all : new.buckets ≡ old.buckets
   pub size : size_of new ≡ size_of old
@@ -92,7 +92,7 @@ pub record KeepsBuckets (old new : TableAt) : Type 0 where
   pub stored : stored_of new ≡ stored_of old
   pub helps : helps_of new ≡ helps_of old
 
--- the nodes, the buckets and the change number are as they were: spares may come and go, and stamps be given
+-- The nodes, the buckets and the change number are as they were: spares may come and go, and stamps be given.
 pub record KeepsNodes (old new : TableAt) : Type 0 where
   pub all : nodes_of new ≡ nodes_of old
   pub regular : regular new ≡ regular old
@@ -100,82 +100,82 @@ pub record KeepsNodes (old new : TableAt) : Type 0 where
   pub linked : linked_of new ≡ linked_of old
   pub turn : turn_of new ≡ turn_of old
 
--- whether a helper that has this has a cursor, and it fits
+-- Whether a helper that has this has a cursor, and it fits.
 abbrev pub cursor_fits : TableAt → Option Helper → Bool
 cursor_fits t (Some (Seeking bucket cursor)) = cursors.fits t.list cursor
 cursor_fits t (Some Idle) = false
 cursor_fits t (Some (Holding bucket dummy)) = false
 cursor_fits t None = false
 
--- whether the cursor of the helper of this number fits
+-- Whether the cursor of the helper of this number fits.
 abbrev pub helper_fits : TableAt → ℕ → Bool
 helper_fits t helper = cursor_fits t (helper_of t.buckets helper)
 
--- the stamp of the spare that is out at a place, if one is
+-- The stamp of the spare that is out at a place, if one is.
 abbrev pub spare_out : TableAt → ℕ → Option ℕ
 spare_out t place = out_at t.list place
 
--- the spare is the table's
+-- The spare is the table's.
 abbrev pub Owns : TableAt → SpareAt → Type 0
 Owns t spare = spare_out t spare.place ≡ Some spare.stamp
 
--- the spares that were out are out, and no others, but for those at this place
+-- The spares that were out are out, and no others, but for those at this place.
 abbrev pub KeepsOthers : TableAt → TableAt → ℕ → Type 0
 KeepsOthers old new place = (other : ℕ) → other ≢ place → spare_out new other ≡ spare_out old other
 
--- the same spares are out
+-- The same spares are out.
 abbrev pub KeepsSpares : TableAt → TableAt → Type 0
 KeepsSpares old new = (place : ℕ) → spare_out new place ≡ spare_out old place
 
--- the change number when the cursor was placed
+-- The change number when the cursor was placed.
 abbrev pub cursor_turn : Cursor → ℕ
 cursor_turn cursor = cursors.turn_of cursor
 
--- whether the cursor fits: nothing has changed where it was placed
+-- Whether the cursor fits: nothing has changed where it was placed.
 abbrev pub fits : TableAt → Cursor → Bool
 fits t cursor = cursors.fits t.list cursor
 
--- the cursor was placed on this table for this key, at any time: it fits while the change number stays, below the last one
+-- The cursor was placed on this table for this key, at any time: it fits while the change number stays, below the last one.
 pub record IsPlaced (t : TableAt) (cursor : Cursor) (key : ℕ) : Type 0 where
   pub list : cursors.IsPlaced t.list cursor
   pub split_is : cursors.split_of cursor ≡ split key
   pub in_turn : turn_of t ≡ cursor_turn cursor → turn_of t < 2 ^ 64 - 1 → fits t cursor ≡ true
 
--- the place is that of the dummy of the key's bucket, or of its nearest ancestor that is initialised
+-- The place is that of the dummy of the key's bucket, or of its nearest ancestor that is initialised.
 abbrev pub IsStart : TableAt → ℕ → ℕ → Type 0
 IsStart t key place = IsNearest t.buckets (key % size_of t) place
 
--- the linked nodes after a seek of a key from a place: without the marked ones between there and the key's place
+-- The linked nodes after a seek of a key from a place: without the marked ones between there and the key's place.
 abbrev pub nodes_sought : TableAt → ℕ → ℕ → List NodeAt
 nodes_sought t place key = sought t.list.nodes place (split key)
 
--- no linked node is marked
+-- No linked node is marked.
 abbrev pub IsClean : TableAt → Type 0
 IsClean t = AllByRecursion (λ n. n.marked ≡ false) (nodes_of t)
 
--- the first marked node is unlinked and the spares are as they were, or none is marked and nothing has changed
+-- The first marked node is unlinked and the spares are as they were, or none is marked and nothing has changed.
 abbrev pub SweepsNodes : TableAt → TableAt → SweepOutcome → Type 0
 SweepsNodes old new outcome = steps.Sweeps old.list new.list outcome
 
--- the split keys of the linked nodes rise strictly
+-- The split keys of the linked nodes rise strictly.
 abbrev pub IsSplitOrdered : TableAt → Type 0
 IsSplitOrdered t = IsRising (nodes_of t)
 
--- each initialised bucket, and each helper that has one, names the linked dummy of its bucket
+-- Each initialised bucket, and each helper that has one, names the linked dummy of its bucket.
 abbrev pub NamesDummies : TableAt → Type 0
 NamesDummies t = IsHome t.buckets t.list
 
--- the sizes are powers of two, and each initialised bucket has an initialised parent
+-- The sizes are powers of two, and each initialised bucket has an initialised parent.
 abbrev pub HasParents : TableAt → Type 0
 HasParents t = directories.IsSound t.buckets
 
--- a table at two times: nothing older was disturbed, so that cursors stay placed
+-- A table at two times: nothing older was disturbed, so that cursors stay placed.
 pub record Follows (old new : TableAt) : Type 0 where
   pub list : nodes.Follows old.list new.list
   pub last : last_of old ≤ last_of new
   pub placed : (cursor : Cursor) (key : ℕ) → IsPlaced old cursor key → IsPlaced new cursor key
 
--- an empty table of two buckets, of which bucket 0 is stored, and of idle helpers; no spare is out
+-- An empty table of two buckets, of which bucket 0 is stored, and of idle helpers; no spare is out.
 pub record IsNew (t : TableAt) (largest helpers : ℕ) : Type 0 where
   pub regular_is : regular t ≡ []
   pub content_is : content t ≡ empty
@@ -188,7 +188,7 @@ pub record IsNew (t : TableAt) (largest helpers : ℕ) : Type 0 where
   pub last_is : last_of t ≡ 0
   pub none_out : (place : ℕ) → spare_out t place ≡ None
 
--- the pairs, the buckets, the linked dummies and the last stamp are as they were
+-- The pairs, the buckets, the linked dummies and the last stamp are as they were.
 pub record Keeps (old new : TableAt) : Type 0 where
   pub regular : regular new ≡ regular old
   pub buckets : KeepsBuckets old new

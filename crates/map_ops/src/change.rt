@@ -26,7 +26,7 @@ use node_list::{Kind, NodeList, Spare, SpareFault};
 use split_key::{Key, bucket_of, regular};
 use txn_trace::{Op, Refusal, Reply};
 
-// A spare of the list.
+/// A spare of the list.
 fn give_spare(list: &mut NodeList) -> Result<Spare, Refusal>
     ensures ok { IfOk result (λ spare. (buckets : Directory) → GivesOne (table_of list.old buckets) (table_of list.new buckets) spare) }
     ensures err { IfErr result (λ refusal. (buckets : Directory) → IsLacking (table_of list.old buckets) refusal) }
@@ -99,7 +99,7 @@ pub(crate) fn find(list: &NodeList, cursor: &Cursor, key: Key) -> Result<Reply, 
     }
 }
 
-// Links a node of an absent key.
+/// Links a node of an absent key.
 fn link_key(list: &mut NodeList, cursor: Cursor, key: Key, value: u64, mut spare: Spare)
     requires belong { Belong list.old.nodes }
     requires placed { IsPlaced list.old cursor }
@@ -122,7 +122,7 @@ fn link_key(list: &mut NodeList, cursor: Cursor, key: Key, value: u64, mut spare
     }
 }
 
-// Writes the value of a key that is there.
+/// Writes the value of a key that is there.
 fn swap_key(list: &mut NodeList, cursor: Cursor, key: Key, value: u64)
     requires belong { Belong list.old.nodes }
     requires placed { IsPlaced list.old cursor }
@@ -144,7 +144,7 @@ fn swap_key(list: &mut NodeList, cursor: Cursor, key: Key, value: u64)
     }
 }
 
-// Marks the node of a key that is there.
+/// Marks the node of a key that is there.
 fn mark_key(list: &mut NodeList, cursor: Cursor, key: Key)
     requires belong { Belong list.old.nodes }
     requires placed { IsPlaced list.old cursor }
@@ -166,7 +166,7 @@ fn mark_key(list: &mut NodeList, cursor: Cursor, key: Key)
     }
 }
 
-// Gives a spare back.
+/// Gives a spare back.
 fn give_back(list: &mut NodeList, spare: Spare)
     requires { IsOut list.old spare }
     ensures back { (buckets : Directory) → GivesBack (table_of list.old buckets) (table_of list.new buckets) (Some spare) }

@@ -8,7 +8,7 @@ use node_list::{Kind, Node, NodeList};
 use std::alloc::{AllocError, Global};
 use std::collections::BTreeMap;
 
-// Adds what a node adds to the content.
+/// Adds what a node adds to the content.
 fn push_pair(found: &mut Vec<(u64, u64)>, node: &Node) -> Result<(), AllocError>
     ensures { OnOk result (found.new.items ≡ found.old.items ++ pair_if node.now.kind node.now.marked node.now.value) }
 {

@@ -13,24 +13,24 @@ use std::process::Abort;
 use std::test::Fail;
 use txn_trace::{Op, Refusal, Reply};
 
-// A table of at most eight buckets and two helpers.
+/// A table of at most eight buckets and two helpers.
 fn table(alloc: Global) -> Result<Table, AllocError> {
     Table::new(alloc, 8, 2)
 }
 
-// A table of two buckets that cannot grow, and one helper.
+/// A table of two buckets that cannot grow, and one helper.
 fn small_table(alloc: Global) -> Result<Table, AllocError> {
     Table::new(alloc, 2, 1)
 }
 
-// Does an operation.
+/// Does an operation.
 fn applied(table: &mut Table, op: Op) -> Result<(Reply, Option<MapJob>), Refusal>
     ensures { IfOk result (λ done. IfSome done.1 (λ job. ShowsAfter job table.new)) }
 {
     table.apply(op)
 }
 
-// Does an operation and takes it back.
+/// Does an operation and takes it back.
 fn there_and_back(table: &mut Table, op: Op) -> Result<(), Refusal> {
     let (_, job) = applied(table, op)?;
     if let Some(job) = job {
@@ -39,7 +39,7 @@ fn there_and_back(table: &mut Table, op: Op) -> Result<(), Refusal> {
     Ok(())
 }
 
-// Compares the pairs of the table, and asks once more for what memory is refused to.
+/// Compares the pairs of the table, and asks once more for what memory is refused to.
 fn shows(rt: &impl Abort, alloc: Global, table: &Table, wanted: &[(u64, u64)]) -> Result<(), Fail> {
     let pairs = match table.regular_list(alloc) {
         Ok(pairs) => pairs,
@@ -185,7 +185,7 @@ fn a_job_is_run_at_a_cursor(rt: HostRuntime) -> Result<(), Fail> {
     shows(&rt, rt.alloc(), &table, &[])
 }
 
-// Whether a job is due where its key has this value.
+/// Whether a job is due where its key has this value.
 fn is_due(value: Reply, job: &MapJob) -> bool
     ensures { (m : Map) → get m (key_of_job job.now) ≡ value → result ≡ true → IsDue m job.now }
 {
@@ -196,7 +196,7 @@ fn is_due(value: Reply, job: &MapJob) -> bool
     }
 }
 
-// Takes a change back, where it is due.
+/// Takes a change back, where it is due.
 fn take_back(rt: &impl Abort, table: &mut Table, job: MapJob) -> Result<(), Refusal>
     requires { OwnsIf table.old (spare_of_job job) }
 {
@@ -207,7 +207,7 @@ fn take_back(rt: &impl Abort, table: &mut Table, job: MapJob) -> Result<(), Refu
     Ok(())
 }
 
-// Puts a value at a key at once.
+/// Puts a value at a key at once.
 fn put(table: &mut Table, key: u64, value: u64) -> Result<(Reply, Option<MapJob>), Refusal>
     ensures spares { KeepsSpares table.old table.new }
     ensures follows { Follows table.old table.new }
@@ -215,7 +215,7 @@ fn put(table: &mut Table, key: u64, value: u64) -> Result<(Reply, Option<MapJob>
     table.apply(Op::Put(key, value))
 }
 
-// Does a prepared operation.
+/// Does a prepared operation.
 fn finish(table: &mut Table, pending: Pending) -> (Reply, Option<MapJob>)
     requires { OwnsIf table.old pending.spare }
 {
@@ -226,7 +226,7 @@ fn finish(table: &mut Table, pending: Pending) -> (Reply, Option<MapJob>)
     }
 }
 
-// Takes back the put of a new key.
+/// Takes back the put of a new key.
 fn unput(rt: &impl Abort, table: &mut Table, job: Option<MapJob>) -> Result<(), Refusal> {
     if let Some(job) = job {
         match job {
@@ -238,7 +238,7 @@ fn unput(rt: &impl Abort, table: &mut Table, job: Option<MapJob>) -> Result<(), 
     Ok(())
 }
 
-// Takes back the put over a value.
+/// Takes back the put over a value.
 fn unwrite(rt: &impl Abort, table: &mut Table, job: Option<MapJob>) -> Result<(), Refusal> {
     if let Some(job) = job {
         match job {
@@ -290,7 +290,7 @@ fn stale_pending(rt: HostRuntime) -> Result<(), Fail> {
     shows(&rt, rt.alloc(), &table, &[])
 }
 
-// Keys with their values, in the order of the list.
+/// Keys with their values, in the order of the list.
 const PAIRS: [(u64, u64); 8] = [
     (4, 40),
     (2, 20),
@@ -302,7 +302,7 @@ const PAIRS: [(u64, u64); 8] = [
     (15, 150),
 ];
 
-// A table of two buckets that cannot grow, asked for once more where memory is refused.
+/// A table of two buckets that cannot grow, asked for once more where memory is refused.
 fn table_again(alloc: Global) -> Result<Table, AllocError> {
     match small_table(alloc) {
         Ok(table) => Ok(table),
@@ -310,12 +310,12 @@ fn table_again(alloc: Global) -> Result<Table, AllocError> {
     }
 }
 
-// What is seen of a table without memory.
+/// What is seen of a table without memory.
 fn figures(table: &Table) -> (u32, u64, u64) {
     (table.size(), table.count(), table.turn())
 }
 
-// Puts a new key. Where memory is refused, the table is as it was, with these pairs, and the put is done when it is asked again.
+/// Puts a new key. Where memory is refused, the table is as it was, with these pairs, and the put is done when it is asked again.
 fn put_again(
     rt: &impl Abort,
     alloc: Global,
@@ -337,7 +337,7 @@ fn put_again(
     Ok(())
 }
 
-// This test and the next two are also run with each allocation refused in turn.
+/// This test and the next two are also run with each allocation refused in turn.
 #[test]
 fn refused_memory_for_puts(rt: HostRuntime) -> Result<(), Fail> {
     let mut table = table_again(rt.alloc())?;
@@ -347,7 +347,7 @@ fn refused_memory_for_puts(rt: HostRuntime) -> Result<(), Fail> {
     shows(&rt, rt.alloc(), &table, &PAIRS)
 }
 
-// An operation that was prepared before keeps its spare.
+/// An operation that was prepared before keeps its spare.
 #[test]
 fn refused_memory_for_a_preparation(rt: HostRuntime) -> Result<(), Fail> {
     let mut table = table_again(rt.alloc())?;
@@ -372,7 +372,7 @@ fn refused_memory_for_a_preparation(rt: HostRuntime) -> Result<(), Fail> {
     }
 }
 
-// An operation that was prepared before keeps its spare, and the helper its cursor.
+/// An operation that was prepared before keeps its spare, and the helper its cursor.
 #[test]
 fn refused_memory_for_a_link(rt: HostRuntime) -> Result<(), Fail> {
     let mut table = table_again(rt.alloc())?;

@@ -8,7 +8,7 @@ use Rattle.serde_json.specs.View.{view}
 use Rattle.serde_json.specs.declared.value.Value.{Value}
 use Rattle.piece_files.specs.Tokens.{is_plain, are_plain, items_from, IsPlain}
 
--- a list of elements before items
+-- A list of elements before items.
 abbrev pub before : List Data → Items → Items
 before [] rest = rest
 before (d ∷ ds) rest = item d (before ds rest)
@@ -69,7 +69,7 @@ plain_last zero ds d lt e h = absurd (omega (arith, lt))
 plain_last (suc n) [] d lt e h = rw e refl
 plain_last (suc n) (x ∷ ds) d lt e h = later (is_plain x) h (λ rest. plain_last n ds d (omega (arith, lt)) e rest)
 
--- what is kept so far
+-- What is kept so far.
 abbrev pub AreKept : ℕ → Bool → List Value → List Data → Type 0
 AreKept most true vs ds = (map view vs ≡ ds) × (are_plain most ds ≡ true)
 AreKept most false vs ds = are_plain most ds ≡ false

@@ -17,7 +17,7 @@ pub number_read : (found : Option ℕ) (o : Option Data) → GivesMember IsNumbe
 number_read found None h = sym h
 number_read found (Some d) h = sym h
 
--- what was found is the first of what is wanted
+-- What was found is the first of what is wanted.
 found_is : {P : Type 0} (part : Part) (most : ℕ) (b : Bool) (items all : List P) (count : ℕ) (wanted : Result (List P) FileFault)
     → wanted ≡ outcome part b all → count ≡ length all → items ≡ take most all → cond b (Ok items) (Err (Piece part count)) ≡ first_of most wanted
 found_is part most true items all count wanted e counted kept = rw (e, kept) refl
@@ -47,7 +47,7 @@ module _ {P : Type 0} (m : ℕ) (test : List P → Bool) (refuses : (ps : List P
     | inr short ↦ ap (λ (ps : List P). cond (test ps) (Ok (make ps)) (Err Limit)) (take_all (suc m) all (omega (arith, short)))
   ]
 
--- the same, behind a further answer
+-- The same, behind a further answer.
 pub kept_same_behind : {P S W : Type 0} (most : ℕ) (s : Result S FileFault) (next : S → List P → Result W FileFault) (all : List P) → ((x : S) → next x (take most all) ≡ next x all) → (s >>= λ x. next x (take most all)) ≡ (s >>= λ x. next x all)
 kept_same_behind most (Ok x) next all same = same x
 kept_same_behind most (Err e) next all same = refl

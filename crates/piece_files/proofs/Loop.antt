@@ -10,7 +10,7 @@ use Rattle.piece_files.specs.Faults.{◌>>=◌, or_fault}
 use Rattle.piece_files.specs.Pieces.{piece_at, pieces_from}
 use Rattle.piece_files.specs.Tokens.{outcome}
 
--- pieces, and then one at the end
+-- Pieces, and then one at the end.
 abbrev with_last : {P : Type 0} → Result (List P) FileFault → Result P FileFault → Result (List P) FileFault
 with_last read last = read >>= λ ps. (last >>= λ p. Ok (ps ++ p ∷ []))
 
@@ -33,7 +33,7 @@ pieces-last of part i j (e ∷ ds) d at =
     let later : j ≡ suc i + length ds = omega (arith, at) in
     rw (pieces-last of part (suc i) j ds d later) (first_stays (piece_at of part i e) (pieces_from of part (suc i) ds) (piece_at of part j d))
 
--- what is read so far: all are pieces, or those before the first that is none; the first are kept, and all are counted
+-- What is read so far: all are pieces, or those before the first that is none; the first are kept, and all are counted.
 pub record IsRead {P : Type 0} (of : List Data → Option P) (part : Part) (most : ℕ) (are_all : Bool) (pieces : List P) (count : ℕ) (ds : List Data) : Type 0 where
   pub all : List P
   pub found : pieces_from of part 0 ds ≡ outcome part are_all all
@@ -48,7 +48,7 @@ nothing_read of part most = record { all = []; found = refl; each = λ e. refl; 
 true≢false : {Q : Type 0} → false ≡ true → Q
 true≢false e = absurd (grind (arith, e))
 
--- one more piece, kept or not
+-- One more piece, kept or not.
 piece_read : {P : Type 0} (of : List Data → Option P) (part : Part) (most : ℕ) (pieces kept : List P) (count : ℕ) (ds : List Data) (d : Data) (p : P)
     → Some p ≡ option_and_then of (elements_of d) → (h : IsRead of part most true pieces count ds) → kept ≡ take most (h.all ++ p ∷ []) → IsRead of part most true kept (count + 1) (ds ++ d ∷ [])
 piece_read of part most pieces kept count ds d p is h keeps =

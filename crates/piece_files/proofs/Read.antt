@@ -14,7 +14,7 @@ pub json_of-is : (bytes text : List ℕ) → length bytes ≤ max_bytes → IsUt
 unfolding json_of
 json_of-is bytes text short is_text same = rw (le-leb (length bytes) max_bytes short, is_utf8-from_IsUtf8 bytes is_text) (ap (λ s. or_fault NotJson (read s)) (sym same))
 
--- by what is read, where the bytes are text
+-- By what is read, where the bytes are text.
 chosen : (is_text : Bool) (found : Option Data) → (is_text ≡ true → found ≡ None) → cond is_text (or_fault NotJson found) (Err NotJson) ≡ Err NotJson
 chosen true found none = ap (or_fault NotJson) (none refl)
 chosen false found none = refl

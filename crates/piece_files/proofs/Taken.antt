@@ -20,7 +20,7 @@ taken_here gives key name new d ms same given =
 pub taken_other : {M : Type 0} (gives : Option M → Data → Type 0) (key name : List ℕ) (found : Option M) (d : Data) (ms : Members) → bytes_eq key name ≡ false → GivesLast gives found name ms → GivesLast gives found name (put key d ms)
 taken_other gives key name found d ms differs given = subst (GivesMember gives found) (sym (get_member-put_other name key d ms (differ key name differs))) given
 
--- the members of a value are those that are got of it
+-- The members of a value are those that are got of it.
 pub get-within : (name : List ℕ) (d : Data) → get name d ≡ get_member name (members_within d)
 get-within name null = refl
 get-within name (boolean b) = refl

@@ -9,7 +9,7 @@ use Rattle.serde_json.specs.Read.{of_json, of_items, of_members, converted}
 
 -- ---- what is converted
 
--- with the tokens that are left
+-- With the tokens that are left.
 abbrev with_rest : {B : Type 0} → List Token → Option B → Option (B × List Token)
 with_rest rest x = option_map (λ b. (b, rest)) x
 

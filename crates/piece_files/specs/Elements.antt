@@ -3,55 +3,55 @@ use Rattle.std.specs.Prelude.{ℕ, List, [], ◌∷◌, length, ◌==◌, Option
 use Rattle.serde_json.specs.Data.{Data, Items, no_items, item}
 use Rattle.serde_json.specs.Find.{as_null, as_number, as_str, as_array, as_u64}
 
--- go on with what is there
+-- Go on with what is there.
 infixl 10 ◌>>=◌
 abbrev pub ◌>>=◌ : {A B : Type 0} → Option A → (A → Option B) → Option B
 (Some x) >>= f = f x
 None >>= f = None
 
--- a whole number below 2^64 with no sign, fraction or exponent: 2.0, 1e2, -0 and 2^64 are read as floats
+-- A whole number below 2^64 with no sign, fraction or exponent: 2.0, 1e2, -0 and 2^64 are read as floats.
 abbrev pub number_of : Data → Option ℕ
 number_of d = option_and_then as_u64 (as_number d)
 
--- items as a list
+-- Items as a list.
 abbrev pub list_of : Items → List Data
 list_of no_items = []
 list_of (item d ds) = d ∷ list_of ds
 
--- the elements of an array
+-- The elements of an array.
 abbrev pub elements_of : Data → Option (List Data)
 elements_of d = option_map list_of (as_array d)
 
--- the first element, a number, and the elements after it
+-- The first element, a number, and the elements after it.
 unfoldable pub number_at : List Data → Option (ℕ × List Data)
 number_at [] = None
 number_at (d ∷ ds) = option_map (λ n. (n, ds)) (number_of d)
 
--- the first element, a text, and the elements after it
+-- The first element, a text, and the elements after it.
 unfoldable pub word_at : List Data → Option (List ℕ × List Data)
 word_at [] = None
 word_at (d ∷ ds) = option_map (λ s. (s, ds)) (as_str d)
 
--- one number and nothing else
+-- One number and nothing else.
 unfoldable pub one_of : List Data → Option ℕ
 one_of ds = do
   n ← number_at ds
   if length n.1 == 0 then Some n.0 else None
 
--- nothing else
+-- Nothing else.
 unfoldable pub end_of : List Data → Option ⊤
 end_of ds = if length ds == 0 then Some tt else None
 
--- null as none, and a number as itself
+-- Null as none, and a number as itself.
 abbrev pub optional : Data → Option (Option ℕ)
 optional d = if is_some (as_null d) then Some None else option_map (λ n. Some n) (number_of d)
 
--- null or one number, and nothing else
+-- Null or one number, and nothing else.
 unfoldable pub optional_of : List Data → Option (Option ℕ)
 optional_of [] = None
 optional_of (d ∷ ds) = if length ds == 0 then optional d else None
 
--- two numbers and nothing else
+-- Two numbers and nothing else.
 unfoldable pub two_of : List Data → Option (ℕ × ℕ)
 two_of ds = do
   m ← number_at ds

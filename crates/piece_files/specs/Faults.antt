@@ -4,7 +4,7 @@ use Rattle.piece_files.specs.declared.part.Part.TheVariants as parts
 use Rattle.piece_files.specs.declared.file_fault.FileFault.{FileFault}
 use Rattle.piece_files.specs.declared.file_fault.FileFault.TheVariants.{NotJson, Member, Piece, Limit, NoMemory}
 
--- a fault's number, and the place where there is one
+-- A fault's number, and the place where there is one.
 abbrev pub words_of : FileFault → List ℕ
 words_of NotJson = codes "20"
 words_of Member = codes "21"
@@ -14,18 +14,18 @@ words_of (Piece parts.Entry i) = codes "21 entry " ++ decimal i
 words_of Limit = codes "22"
 words_of NoMemory = codes "14"
 
--- go on with what was read, or stay with the first fault
+-- Go on with what was read, or stay with the first fault.
 infixl 10 ◌>>=◌
 abbrev pub ◌>>=◌ : {A B : Type 0} → Result A FileFault → (A → Result B FileFault) → Result B FileFault
 (Ok x) >>= f = f x
 (Err e) >>= f = Err e
 
--- what is there, or this fault
+-- What is there, or this fault.
 abbrev pub or_fault : {A : Type 0} → FileFault → Option A → Result A FileFault
 or_fault fault (Some x) = Ok x
 or_fault fault None = Err fault
 
--- the fault is the one that is wanted, unless memory was refused
+-- The fault is the one that is wanted, unless memory was refused.
 abbrev pub Fails : {Y : Type 0} → FileFault → Result Y FileFault → Type 0
 Fails NoMemory wanted = Unit {0}
 Fails NotJson wanted = wanted ≡ Err NotJson
@@ -33,7 +33,7 @@ Fails Member wanted = wanted ≡ Err Member
 Fails (Piece part i) wanted = wanted ≡ Err (Piece part i)
 Fails Limit wanted = wanted ≡ Err Limit
 
--- what a reader returned, as it is seen, is what is wanted, unless memory was refused
+-- What a reader returned, as it is seen, is what is wanted, unless memory was refused.
 abbrev pub Gives : {X Y : Type 0} → (X → Y) → Result X FileFault → Result Y FileFault → Type 0
 Gives seen (Ok x) wanted = wanted ≡ Ok (seen x)
 Gives seen (Err e) wanted = Fails e wanted

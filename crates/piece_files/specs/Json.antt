@@ -9,21 +9,21 @@ use Rattle.piece_files.specs.declared.file_fault.FileFault.TheVariants.{NotJson,
 use Rattle.piece_files.specs.Faults.{or_fault}
 use Rattle.piece_files.specs.Elements.{number_of, elements_of}
 
--- how many bytes a file may have
+-- How many bytes a file may have.
 abbrev pub max_bytes : ℕ
 max_bytes = 16777216
 
--- the value that a file is: its length is tested first
+-- The value that a file is: its length is tested first.
 unfoldable pub json_of : List ℕ → Result Data FileFault
 json_of bytes =
     if nat_le (length bytes) max_bytes
     then (if is_utf8 bytes then or_fault NotJson (read bytes) else Err NotJson)
     else Err Limit
 
--- the number in the member of this name
+-- The number in the member of this name.
 abbrev pub number_named : List ℕ → Data → Option ℕ
 number_named name d = option_and_then number_of (get name d)
 
--- the elements of the member of this name, an array
+-- The elements of the member of this name, an array.
 abbrev pub array_member : List ℕ → Data → Result (List Data) FileFault
 array_member name d = or_fault Member (option_and_then elements_of (get name d))

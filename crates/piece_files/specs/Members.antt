@@ -10,7 +10,7 @@ use Rattle.piece_files.specs.Elements.{number_of, elements_of}
 use Rattle.piece_files.specs.Pieces.{pieces_from}
 use Rattle.piece_files.specs.Tokens.{Finds}
 
--- the members of a value, which are none where it is no object
+-- The members of a value, which are none where it is no object.
 abbrev pub members_within : Data → Members
 members_within null = no_members
 members_within (boolean b) = no_members
@@ -19,25 +19,25 @@ members_within (string s) = no_members
 members_within (array ds) = no_members
 members_within (object ms) = ms
 
--- what is read of a member, where it is there
+-- What is read of a member, where it is there.
 abbrev pub GivesMember : {M : Type 0} → (Option M → Data → Type 0) → Option M → Option Data → Type 0
 GivesMember gives found None = found ≡ None
 GivesMember gives found (Some d) = gives found d
 
--- a number that is read
+-- A number that is read.
 abbrev pub IsNumberOf : Option ℕ → Data → Type 0
 IsNumberOf found d = found ≡ number_of d
 
--- pieces that are read, of an array
+-- Pieces that are read, of an array.
 abbrev pub ArePiecesOf : {P : Type 0} → (List Data → Option P) → Part → ℕ → Option (Pieces P) → Data → Type 0
 ArePiecesOf of part most None d = elements_of d ≡ None
 ArePiecesOf of part most (Some p) d = (ds : List Data) × (elements_of d ≡ Some ds) × Finds part most p.pieces.items p.count p.are_all (pieces_from of part 0 ds)
 
--- what is read of the last member of a name
+-- What is read of the last member of a name.
 abbrev pub GivesLast : {M : Type 0} → (Option M → Data → Type 0) → Option M → List ℕ → Members → Type 0
 GivesLast gives found name ms = GivesMember gives found (get_member name ms)
 
--- the pieces in a member
+-- The pieces in a member.
 abbrev pub pieces_found : {P : Type 0} → Part → Option (Pieces P) → Result (List P) FileFault
 pieces_found part None = Err Member
 pieces_found part (Some found) = cond found.are_all (Ok found.pieces.items) (Err (Piece part found.count))

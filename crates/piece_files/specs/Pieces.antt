@@ -8,11 +8,11 @@ use Rattle.piece_files.specs.Faults.{◌>>=◌, or_fault}
 use Rattle.piece_files.specs.Elements.{elements_of}
 use Rattle.piece_files.specs.Json.{array_member}
 
--- the piece at an index, by the elements that pieces of its kind have
+-- The piece at an index, by the elements that pieces of its kind have.
 abbrev pub piece_at : {P : Type 0} → (List Data → Option P) → Part → ℕ → Data → Result P FileFault
 piece_at of part i d = or_fault (Piece part i) (option_and_then of (elements_of d))
 
--- the pieces from an index on
+-- The pieces from an index on.
 unfoldable pub pieces_from : {P : Type 0} → (List Data → Option P) → Part → ℕ → List Data → Result (List P) FileFault
 pieces_from of part i [] = Ok []
 pieces_from of part i (d ∷ ds) = do
@@ -20,6 +20,6 @@ pieces_from of part i (d ∷ ds) = do
   others ← pieces_from of part (suc i) ds
   Ok (first ∷ others)
 
--- the pieces in the member of this name
+-- The pieces in the member of this name.
 abbrev pub pieces_member : {P : Type 0} → (List Data → Option P) → Part → List ℕ → Data → Result (List P) FileFault
 pieces_member of part name d = array_member name d >>= pieces_from of part 0

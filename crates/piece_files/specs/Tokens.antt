@@ -13,19 +13,19 @@ use Rattle.std.specs.Prelude.{Result, Ok, Err}
 use Rattle.piece_files.specs.declared.file_fault.FileFault.{FileFault}
 use Rattle.piece_files.specs.declared.file_fault.FileFault.TheVariants.{Piece}
 
--- a value, with arrays and objects nested no deeper than the number
+-- A value, with arrays and objects nested no deeper than the number.
 abbrev pub value_at : ℕ → List Token → Option (Data × List Token)
 value_at depth ts = converted of_json (value depth ts)
 
--- the elements of an array, whose bracket was taken
+-- The elements of an array, whose bracket was taken.
 abbrev pub items_at : ℕ → List Token → Option (Items × List Token)
 items_at depth ts = converted of_items (items (value depth) (length ts) ts)
 
--- the members of an object, whose brace was taken
+-- The members of an object, whose brace was taken.
 abbrev pub members_at : ℕ → List Token → Option (Members × List Token)
 members_at depth ts = converted (λ ms. of_members ms no_members) (members (value depth) (length ts) ts)
 
--- null, a text, or a whole number below 2^64: what is kept of elements
+-- Null, a text, or a whole number below 2^64: what is kept of elements.
 abbrev pub is_whole : Num → Bool
 is_whole (unsigned n) = true
 is_whole (negative z) = false
@@ -39,36 +39,36 @@ is_plain (string s) = true
 is_plain (array ds) = false
 is_plain (object ms) = false
 
--- no more elements than the number, and all of them plain
+-- No more elements than the number, and all of them plain.
 unfoldable pub are_plain : ℕ → List Data → Bool
 are_plain n [] = true
 are_plain zero (d ∷ ds) = false
 are_plain (suc n) (d ∷ ds) = is_plain d && are_plain n ds
 
--- a value where it is plain
+-- A value where it is plain.
 abbrev pub IsPlain : Option Value → Data → Type 0
 IsPlain (Some v) d = (view v ≡ d) × (is_plain d ≡ true)
 IsPlain None d = is_plain d ≡ false
 
--- the elements, where they are no more than the number and all plain
+-- The elements, where they are no more than the number and all plain.
 abbrev pub AreElements : ℕ → Option (Vec Value Global) → List Data → Type 0
 AreElements most (Some vs) ds = (map view vs.items ≡ ds) × (are_plain most ds ≡ true)
 AreElements most None ds = are_plain most ds ≡ false
 
--- the items that a list is
+-- The items that a list is.
 abbrev pub items_from : List Data → Items
 items_from [] = no_items
 items_from (d ∷ ds) = item d (items_from ds)
 
--- pieces that were read, all of them or those before the first that is wrong
+-- Pieces that were read, all of them or those before the first that is wrong.
 abbrev pub outcome : {P : Type 0} → Part → Bool → List P → Result (List P) FileFault
 outcome part true pieces = Ok pieces
 outcome part false pieces = Err (Piece part (length pieces))
 
--- of the pieces that are wanted, or those before the first that is wrong, the first are kept and all are counted
+-- Of the pieces that are wanted, or those before the first that is wrong, the first are kept and all are counted.
 abbrev pub Finds : {P : Type 0} → Part → ℕ → List P → ℕ → Bool → Result (List P) FileFault → Type 0
 Finds {P} part most pieces count are_all wanted = (all : List P) × (wanted ≡ outcome part are_all all) × (count ≡ length all) × (pieces ≡ take most all)
 
--- the first pieces, where all are pieces
+-- The first pieces, where all are pieces.
 abbrev pub first_of : {P : Type 0} → ℕ → Result (List P) FileFault → Result (List P) FileFault
 first_of most wanted = wanted >>= λ pieces. Ok (take most pieces)

@@ -1,4 +1,4 @@
-//! The elements of an array, read one after the other. Each call has a fixed cost and takes no memory.
+//! The elements of an array, read one after the other. Each call takes constant time and takes no memory.
 
 ghost use Rattle.std.specs.Prelude.{◌≡◌, map, option_map};
 ghost use Rattle.serde_json.specs.View.{view};

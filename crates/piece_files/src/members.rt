@@ -212,7 +212,7 @@ pub fn members_in<W: Wanted>(alloc: Global, bytes: &[u8], wanted: W) -> Result<W
     members_in_text(alloc, text, wanted)
 }
 
-/// The number in a member. `Member` where there is none. Fixed cost.
+/// The number in a member. `Member` where there is none. Constant time.
 pub fn number_found(found: Option<u64>) -> Result<u64, FileFault>
     ensures { Gives (λ number. number) result (or_fault NoMember found) }
 {

@@ -31,12 +31,12 @@ pub trait PieceKind {
     /// How many pieces of an array are kept.
     ghost most: { ℕ };
 
-    /// What a fault calls a piece of this kind. Fixed cost.
+    /// What a fault calls a piece of this kind. Constant time.
     fn part() -> Part
         ensures { result ≡ part };
 
     /// How many pieces of an array are kept at most, where the others are only counted. Where a file may
-    /// have no more than so many, one more is kept, which shows that there are too many. Fixed cost.
+    /// have no more than so many, one more is kept, which shows that there are too many. Constant time.
     fn most() -> usize
         ensures { result ≡ most };
 

@@ -46,7 +46,7 @@ pub enum Progress {
     Over(Outcome),
 }
 
-/// The call of an action. Fixed cost.
+/// The call of an action. Constant time.
 fn call_for(action: Action) -> Call
     ensures { result ≡ call_for action }
 {
@@ -60,7 +60,7 @@ fn call_for(action: Action) -> Call
 }
 
 impl Attempt {
-    /// The first attempt at a script, before its first call. Fixed cost.
+    /// The first attempt at a script, before its first call. Constant time.
     pub fn first() -> Attempt
         ensures { result ≡ first_attempt }
     {
@@ -70,7 +70,7 @@ impl Attempt {
         }
     }
 
-    /// The call that comes next in the attempt at this script. Fixed cost.
+    /// The call that comes next in the attempt at this script. Constant time.
     pub fn call(self, script: &[Action]) -> Call
         ensures { result ≡ call_at script.now self.stage }
     {
@@ -84,7 +84,7 @@ impl Attempt {
         }
     }
 
-    /// What follows once the call that `call` names has ended so. Fixed cost.
+    /// What follows once the call that `call` names has ended so. Constant time.
     ///
     /// A script that found a stripe held is attempted again where fewer than `tries` attempts were made again. After a
     /// refusal of an operation, a savepoint, a return or help the transaction is aborted; every other refusal, and

@@ -11,7 +11,7 @@
 //! `specs/Workers.antt`. Proved: the code follows these, and the worker keeps to its scripts (`specs/Keeps.antt`): of the
 //! entries that it added to the history, a part for each transaction, each part that is committed plays one of its
 //! scripts, with rising numbers, and the last part is what the present script asks for so far. A worker with a script left
-//! has a step to take: that is the invariant of its type. Each call has a fixed cost, but for the search of a helper's next
+//! has a step to take: that is the invariant of its type. Each call takes constant time, but for the search of a helper's next
 //! bucket, which takes up to 32 rounds.
 #![tactic(auto)]
 

@@ -38,7 +38,7 @@ impl Model for Worker {
 }
 
 impl Worker {
-    /// The worker of this number before its first step. Fixed cost.
+    /// The worker of this number before its first step. Constant time.
     pub fn new(number: usize, workers: usize, scripts: &[Script]) -> Worker
         requires { number < workers }
         ensures worker { result ≡ new_worker scripts.now number workers }
@@ -50,7 +50,7 @@ impl Worker {
         }
     }
 
-    /// Which worker it is and the script that it is at. Fixed cost.
+    /// Which worker it is and the script that it is at. Constant time.
     pub fn standing(self) -> Standing
         ensures worker { result ≡ self }
         ensures ready { IsReady self }
@@ -58,7 +58,7 @@ impl Worker {
         self.standing
     }
 
-    /// Whether the worker has a step to take: until the last step of its last script. Fixed cost.
+    /// Whether the worker has a step to take: until the last step of its last script. Constant time.
     pub fn is_live(&self) -> bool
         ensures step { result ≡ is_some (step_by self.now) }
         ensures script { result ≡ is_some self.now.task }
@@ -67,7 +67,7 @@ impl Worker {
     }
 
     /// The next turn, of one step or of two, at the size that the table has at this moment; none where the worker is not
-    /// live. Fixed cost.
+    /// live. Constant time.
     pub fn turn(&mut self, size: u32) -> Option<Turn>
         ensures worker { self.new ≡ sized_by size self.old }
         ensures turn { result ≡ turn_by self.new }

@@ -8,7 +8,7 @@ use Rattle.std.proofs.Math.Nat.{pow-le-pow_right, mod-eq_of_lt, mod-le}
 use Rattle.split_key.specs.Split.{reversed, split, highest_cleared, parent_of, ancestor_of, IsAncestor}
 use Rattle.split_key.proofs.SplitLemmas.{lowest_before, lowest_before_key}
 
--- the exponent of a power of two that fits a word
+-- The exponent of a power of two that fits a word.
 pub exponent_below : (bit width : ℕ) → 2 ^ bit < 2 ^ width → bit < width
 exponent_below bit width small =
     elim (cases_lt bit width) [
@@ -16,7 +16,7 @@ exponent_below bit width small =
       | inr more ↦ let large : 2 ^ width ≤ 2 ^ bit = pow-le-pow_right {n = 2} (omega arith) more in absurd (omega arith)
     ]
 
--- the lowest bits of the lowest bits
+-- The lowest bits of the lowest bits.
 mod_pow_twice : (number j k : ℕ) → (bits : ℕ) × (bits ≤ j) × (number % 2 ^ j % 2 ^ k ≡ number % 2 ^ bits)
 mod_pow_twice number j k =
     elim (cases_lt j k) [
@@ -31,7 +31,7 @@ mod_pow_twice number j k =
           (k, more, rw parts (mod_low (number / 2 ^ k % 2 ^ (j - k)) k (number % 2 ^ k) (mod_below number (2 ^ k) (pow_pos k))))
     ]
 
--- the highest 1 bit of a number, and the rest
+-- The highest 1 bit of a number, and the rest.
 pub highest_cleared_is : (width number bit rest : ℕ) → number ≡ 2 ^ bit + rest → rest < 2 ^ bit → bit < width → highest_cleared width number ≡ rest
 unfolding highest_cleared
 highest_cleared_is zero number bit rest is below small = absurd (omega arith)
@@ -51,7 +51,7 @@ highest_cleared_is (suc width) number bit rest is below small =
           ]
     ]
 
--- without its highest 1 bit a number is its bits below some place
+-- Without its highest 1 bit a number is its bits below some place.
 highest_cleared_lowest : (width number : ℕ) → number < 2 ^ width → (bits : ℕ) × (highest_cleared width number ≡ number % 2 ^ bits)
 unfolding highest_cleared
 highest_cleared_lowest zero number small = (0, omega arith)
@@ -64,7 +64,7 @@ highest_cleared_lowest (suc width) number small =
       | inr under ↦ let below = highest_cleared_lowest width number under.1 in (below.0, rw (under.0) below.1)
     ]
 
--- an ancestor is the bucket's bits below some place
+-- An ancestor is the bucket's bits below some place.
 ancestor_of_lowest : (steps bucket : ℕ) → bucket < 2 ^ 32 → (bits : ℕ) × (bits ≤ 32) × (ancestor_of steps bucket ≡ bucket % 2 ^ bits)
 unfolding ancestor_of parent_of
 ancestor_of_lowest zero bucket small = (32, omega arith, omega arith)
@@ -75,17 +75,17 @@ ancestor_of_lowest (suc steps) bucket small =
     let twice = mod_pow_twice bucket near.0 cleared.0 in
     (twice.0, omega arith, cleared.1 ∙ ap (λ n. n % 2 ^ cleared.0) near.2 ∙ twice.2)
 
--- a bucket is its own ancestor
+-- A bucket is its own ancestor.
 pub IsAncestor-self : (bucket : ℕ) → IsAncestor bucket bucket
 unfolding ancestor_of
 IsAncestor-self bucket = record { steps = 0; reached = refl }
 
--- the parent of an ancestor is one
+-- The parent of an ancestor is one.
 pub IsAncestor-parent_of : (ancestor descendant : ℕ) → IsAncestor ancestor descendant → IsAncestor (parent_of ancestor) descendant
 unfolding ancestor_of
 IsAncestor-parent_of ancestor descendant is = record { steps = suc is.steps; reached = ap parent_of is.reached }
 
--- another ancestor's dummy stands before the bucket's
+-- Another ancestor's dummy stands before the bucket's.
 pub ancestor_before : (ancestor bucket : ℕ) → bucket < 2 ^ 32 → IsAncestor ancestor bucket → ancestor ≢ bucket → reversed ancestor < reversed bucket
 ancestor_before ancestor bucket small is other =
     let lowest = ancestor_of_lowest is.steps bucket small in
@@ -95,7 +95,7 @@ ancestor_before ancestor bucket small is other =
       | inr longer ↦ rw low (lowest_before lowest.0 bucket (omega (arith, lowest.1)) (omega arith) longer)
     ]
 
--- the dummies of the key's bucket and of its ancestors stand before the key
+-- The dummies of the key's bucket and of its ancestors stand before the key.
 pub ancestor_before_key : (ancestor key exponent : ℕ) → key < 2 ^ 63 → exponent ≤ 32 → IsAncestor ancestor (key % 2 ^ exponent) → reversed ancestor < split key
 ancestor_before_key ancestor key exponent fits small is =
     let within = mod_below key (2 ^ exponent) (pow_pos exponent) in

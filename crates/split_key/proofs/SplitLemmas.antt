@@ -32,7 +32,7 @@ unfolding reversed_low
 reversed_low_of_zero zero = refl
 reversed_low_of_zero (suc width) = omega (arith, reversed_low_of_zero width)
 
--- what is lower in the word stands higher in the reversal
+-- What is lower in the word stands higher in the reversal.
 pub reversed_low_append : (j k high low word : ℕ) → low < 2 ^ j → word ≡ high * 2 ^ j + low → reversed_low (j + k) word ≡ reversed_low j low * 2 ^ k + reversed_low k high
 unfolding reversed_low
 reversed_low_append zero k high low word within is =
@@ -94,16 +94,16 @@ pub reversed_twice : (word : ℕ) → word < 2 ^ 64 → reversed (reversed word)
 unfolding reversed
 reversed_twice word within = reversed_low_twice 64 word within
 
--- two words with one reversal are one
+-- Two words with one reversal are one.
 pub same_from_reversed : (a b : ℕ) → a < 2 ^ 64 → b < 2 ^ 64 → reversed a ≡ reversed b → a ≡ b
 same_from_reversed a b a_fits b_fits same = sym (reversed_twice a a_fits) ∙ ap reversed same ∙ reversed_twice b b_fits
 
--- two keys with one split key are one
+-- Two keys with one split key are one.
 pub same_from_split : (a b : ℕ) → a < 2 ^ 63 → b < 2 ^ 63 → split a ≡ split b → a ≡ b
 unfolding split
 same_from_split a b a_fits b_fits same = omega (arith, same_from_reversed (a + 2 ^ 63) (b + 2 ^ 63) (omega arith) (omega arith) same)
 
--- a regular node's split key is odd, a dummy's even
+-- A regular node's split key is odd, a dummy's even.
 pub split_odd : (key : ℕ) → key < 2 ^ 63 → split key % 2 ≡ 1
 unfolding split
 split_odd key fits =
@@ -113,7 +113,7 @@ split_odd key fits =
 pub reversed_even : (bucket : ℕ) → bucket < 2 ^ 63 → reversed bucket % 2 ≡ 0
 reversed_even bucket fits = omega (arith, bit_at_lowest (reversed bucket), bit_at-reversed bucket 0 (omega arith))
 
--- a word's lowest bits stand before the word, where a higher bit is 1
+-- A word's lowest bits stand before the word, where a higher bit is 1.
 pub lowest_before : (j word : ℕ) → j ≤ 64 → word < 2 ^ 64 → 2 ^ j ≤ word → reversed (word % 2 ^ j) < reversed word
 unfolding reversed
 lowest_before j word small fits longer =
@@ -131,7 +131,7 @@ lowest_before j word small fits longer =
     let at : (n : ℕ) → reversed_low 64 n ≡ reversed_low (j + k) n = λ n. ap (λ w. reversed_low w n) (sym width) in
     omega (arith, at low, at word, alone, whole, more, reversed_low_of_zero k)
 
--- the key's lowest bits stand before the key
+-- The key's lowest bits stand before the key.
 pub lowest_before_key : (bits key : ℕ) → bits ≤ 63 → key < 2 ^ 63 → reversed (key % 2 ^ bits) < split key
 unfolding split
 lowest_before_key bits key small fits =

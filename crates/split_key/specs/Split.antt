@@ -2,40 +2,40 @@
 use Rattle.std.specs.Prelude.{ℕ, ◌≡◌, ◌+◌, ◌*◌, ◌-◌, ◌/◌, ◌%◌, ◌^◌, ◌<◌, nat_le, if◌then◌else◌}
 use Prim.Native.Nat.{zero, suc}
 
--- the lowest bits of a word, so many, in reverse order
+-- The lowest bits of a word, so many, in reverse order.
 unfoldable pub reversed_low : ℕ → ℕ → ℕ
 reversed_low zero word = 0
 reversed_low (suc width) word = word % 2 * 2 ^ width + reversed_low width (word / 2)
 
--- the 64 bits of a word in reverse order: of a bucket, the split key of its dummy node
+-- The 64 bits of a word in reverse order: of a bucket, the split key of its dummy node.
 unfoldable pub reversed : ℕ → ℕ
 reversed word = reversed_low 64 word
 
--- the split key of a key
+-- The split key of a key.
 unfoldable pub split : ℕ → ℕ
 split key = reversed (key + 2 ^ 63)
 
--- a number below 2 ^ width with its highest 1 bit cleared
+-- A number below 2 ^ width with its highest 1 bit cleared.
 unfoldable pub highest_cleared : ℕ → ℕ → ℕ
 highest_cleared zero number = 0
 highest_cleared (suc width) number = if nat_le (2 ^ width) number then number - 2 ^ width else highest_cleared width number
 
--- the parent of a bucket, and 0 for bucket 0
+-- The parent of a bucket, and 0 for bucket 0.
 unfoldable pub parent_of : ℕ → ℕ
 parent_of bucket = highest_cleared 32 bucket
 
--- the bucket is its parent with one 1 bit more, above all others
+-- The bucket is its parent with one 1 bit more, above all others.
 pub record IsParent (bucket parent : ℕ) : Type 0 where
   pub bit : ℕ
   pub splits : bucket ≡ 2 ^ bit + parent
   pub below : parent < 2 ^ bit
 
--- the bucket that so many steps to the parent reach
+-- The bucket that so many steps to the parent reach.
 unfoldable pub ancestor_of : ℕ → ℕ → ℕ
 ancestor_of zero bucket = bucket
 ancestor_of (suc steps) bucket = parent_of (ancestor_of steps bucket)
 
--- some number of steps to the parent reaches the ancestor; a bucket is its own, by no step
+-- Some number of steps to the parent reaches the ancestor; a bucket is its own, by no step.
 pub record IsAncestor (ancestor bucket : ℕ) : Type 0 where
   pub steps : ℕ
   pub reached : ancestor ≡ ancestor_of steps bucket

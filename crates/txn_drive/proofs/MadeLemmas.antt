@@ -26,7 +26,7 @@ use Rattle.txn_drive.specs.Drives.{first_step, step_in, step_of, end_first, end_
 use Rattle.txn_trace.specs.Entries.{entries_of}
 use Rattle.txn_drive.specs.Made.{undone_by, entered_by, made_by, made_in, made, IsRefused, IsMade, HasMade}
 
--- a fresh call has made the entry of its first step
+-- A fresh call has made the entry of its first step.
 made-told_first : (c : ℕ) (call : Call) (a : Answer) → made_in c call (told_first call a) ≡ entries_of (first_step c call) a
 made-told_first c calls.Begin (answers.Began t) = refl
 made-told_first c (calls.Op op) answers.Asked = refl
@@ -37,14 +37,14 @@ made-told_first c calls.Commit (answers.Committed p) = refl
 made-told_first c calls.Abort answers.Leaving = refl
 made-told_first c call a = refl
 
--- a seek adds nothing
+-- A seek adds nothing.
 made-told_seek : (c : ℕ) (call : Call) (work : Work) (again : ℕ) (a : Answer) → made_in c call (told_seek work again a) ≡ made_by c call work
 made-told_seek c call work again answers.Placed = refl
 made-told_seek c call Operation again (answers.Refused r) = refl
 made-told_seek c call work again (answers.Refused NothingToSeek) = refl
 made-told_seek c call work again a = refl
 
--- one change more is taken back
+-- One change more is taken back.
 made-counted : (c : ℕ) (call : Call) (undone : ℕ) (more work : Work) → made_by c call more ≡ made_by c call work ++ entries.Undone c ∷ []
     → made_in c call (counted undone more work) ≡ made_by c call work ++ entries.Undone c ∷ []
 made-counted c call undone more work is =
@@ -70,13 +70,13 @@ made-undone_more c call (Leaving k) = made-counted c call k (Leaving (k + 1)) (L
     more_leaving c calls.Abort k = one_undone_more c (entries.Leave c None ∷ []) k
     more_leaving c call k = one_undone_more c [] k
 
--- an act adds its entry
+-- An act adds its entry.
 made-told_act : (c : ℕ) (call : Call) (work : Work) (again : ℕ) (a : Answer) → made_in c call (told_act work again a) ≡ made_by c call work ++ entries_of (Act c) a
 made-told_act c call work again answers.Again = sym (append-nil (made_by c call work))
 made-told_act c call work again answers.Undone = made-undone_more c call work
 made-told_act c call work again a = refl
 
--- a helper adds nothing
+-- A helper adds nothing.
 made-towards : (c : ℕ) (call : Call) (last bucket : ℕ) → made_in c call (towards last bucket) ≡ []
 made-towards c call last bucket =
     elim (last == bucket) as (λ b. made_in c call (if b then Helped else Initialising (record { bucket = child_towards last bucket; target = bucket }) 0) ≡ []) [
@@ -126,7 +126,7 @@ made-told_store c call way answers.Stored = made-towards c call way.bucket way.t
 made-told_store c call way (answers.Refused r) = made-refused_help c call r
 made-told_store c call way a = refl
 
--- the entries of the step that a phase has
+-- The entries of the step that a phase has.
 abbrev added : Option Step → Answer → List Entry
 added (Some step) a = entries_of step a
 added None a = []
@@ -142,7 +142,7 @@ made-told_by c call (Linking way again) step a is = made-told_link c call way ag
 made-told_by c call (Storing way) step a is = made-told_store c call way a
 made-told_by c call phase step a is = absurd (cc is)
 
--- an answer to the step of a phase adds the entries of the step
+-- An answer to the step of a phase adds the entries of the step.
 made-told_in : (c : ℕ) (call : Call) (phase : Phase) (step : Step) (a : Answer) → step_in c call phase ≡ Some step
     → made_in c call (told_in call phase a) ≡ made_in c call phase ++ entries_of step a
 made-told_in c call phase step a is =
@@ -151,7 +151,7 @@ made-told_in c call phase step a is =
 pub made-told_of : (d : Drive) (step : Step) (a : Answer) → step_of d ≡ Some step → made (told_of d a) ≡ made d ++ entries_of step a
 made-told_of d step a is = made-told_in d.caller d.call d.phase step a is
 
--- what an ended drive has made
+-- What an ended drive has made.
 ended-refused : (r : Refusal) → IsRefused r []
 ended-refused OutOfStep = tt
 ended-refused r = refl

@@ -8,12 +8,12 @@ use Rattle.std.proofs.Math.Nat.{pow-le-pow_right}
 use Rattle.split_key.specs.Split.{parent_of, highest_cleared, ancestor_of, IsAncestor}
 use Rattle.txn_drive.specs.Ways.{child_within, child_towards}
 
--- bucket 0 is its own parent
+-- Bucket 0 is its own parent.
 pub parent_of-zero : parent_of 0 ≡ 0
 unfolding parent_of highest_cleared
 parent_of-zero = refl
 
--- after some steps of the 32
+-- After some steps of the 32.
 pub child_within-step : (taken last bucket : ℕ) → taken < 32
     → child_within (32 - taken) last bucket ≡ (if parent_of bucket == last then bucket else child_within (32 - (taken + 1)) last (parent_of bucket))
 unfolding child_within
@@ -37,7 +37,7 @@ pub child_within-missed : (taken last bucket : ℕ) → taken < 32 → (parent_o
 child_within-missed taken last bucket less differs =
     child_within-step taken last bucket less ∙ ap (λ b. if b then bucket else child_within (32 - (taken + 1)) last (parent_of bucket)) (ne_eqb (parent_of bucket) last differs)
 
--- a number without its highest 1 bit
+-- A number without its highest 1 bit.
 highest_cleared-le : (width number : ℕ) → highest_cleared width number ≤ number
 unfolding highest_cleared
 highest_cleared-le zero number = omega arith
@@ -68,13 +68,13 @@ parent_of-below : (bit bucket : ℕ) → bucket < 2 ^ 32 → bucket < 2 ^ suc bi
 unfolding parent_of
 parent_of-below bit bucket small below = highest_cleared-below 32 bit bucket small below
 
--- the ancestors of the parent
+-- The ancestors of the parent.
 ancestor_of-parent_of : (steps bucket : ℕ) → ancestor_of (suc steps) bucket ≡ ancestor_of steps (parent_of bucket)
 unfolding ancestor_of
 ancestor_of-parent_of zero bucket = refl
 ancestor_of-parent_of (suc steps) bucket = ap parent_of (ancestor_of-parent_of steps bucket)
 
--- bucket 0 is an ancestor of each bucket
+-- Bucket 0 is an ancestor of each bucket.
 ancestor_of-root : (steps bucket : ℕ) → bucket < 2 ^ 32 → bucket < 2 ^ steps → ancestor_of steps bucket ≡ 0
 unfolding ancestor_of
 ancestor_of-root zero bucket small below = omega arith
@@ -85,7 +85,7 @@ ancestor_of-root (suc steps) bucket small below =
 pub IsAncestor-root : (bucket : ℕ) → bucket < 2 ^ 32 → IsAncestor 0 bucket
 IsAncestor-root bucket small = record { steps = 32; reached = sym (ancestor_of-root 32 bucket small small) }
 
--- an ancestor other than the bucket is one to 32 steps away
+-- An ancestor other than the bucket is one to 32 steps away.
 ancestor_steps : (last bucket : ℕ) → bucket < 2 ^ 32 → IsAncestor last bucket → last ≢ bucket → (steps : ℕ) × (steps < 32) × (ancestor_of (suc steps) bucket ≡ last)
 unfolding ancestor_of
 ancestor_steps last bucket small is other = counted is.steps is.reached

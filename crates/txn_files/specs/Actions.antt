@@ -10,7 +10,7 @@ use Rattle.txn_files.specs.Operations.{op_of}
 use Rattle.piece_files.specs.declared.part.Part.TheVariants as parts
 use Rattle.piece_files.specs.Pieces.{pieces_from}
 
--- an action by its name, or an operation
+-- An action by its name, or an operation.
 unfoldable pub action_of : List Data → Option Action
 action_of ds = do
   name ← word_at ds
@@ -20,6 +20,6 @@ action_of ds = do
       else if bytes_eq name.0 (codes "abort") then (end_of name.1 >>= λ none. Some Abort)
       else (op_of ds >>= λ op. Some (Op op))
 
--- a script: its actions, where each element is one
+-- A script: its actions, where each element is one.
 unfoldable pub script_of : List Data → Option (List Action)
 script_of ds = result_ok (pieces_from action_of parts.Script 0 ds)

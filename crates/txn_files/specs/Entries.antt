@@ -7,14 +7,14 @@ use Rattle.txn_trace.specs.declared.entry.Entry.TheVariants.{Began, Asked, Did, 
 use Rattle.piece_files.specs.Elements.{◌>>=◌, number_at, word_at, one_of, end_of, optional_of}
 use Rattle.txn_files.specs.Operations.{op_at, op_of}
 
--- a caller's operation that found its stripe held, and the holder
+-- A caller's operation that found its stripe held, and the holder.
 unfoldable pub busy_of : ℕ → List Data → Option Entry
 busy_of c ds = do
   op ← op_at ds
   x ← one_of op.1
   Some (Busy c op.0 x)
 
--- the entry of this name and caller that has these further elements
+-- The entry of this name and caller that has these further elements.
 unfoldable pub entry_named : List ℕ → ℕ → List Data → Option Entry
 entry_named name c ds =
     if bytes_eq name (codes "began") then (one_of ds >>= λ t. Some (Began c t))
@@ -29,7 +29,7 @@ entry_named name c ds =
     else if bytes_eq name (codes "aborted") then (end_of ds >>= λ none. Some (Aborted c))
     else None
 
--- an entry by its name and its caller
+-- An entry by its name and its caller.
 unfoldable pub entry_of : List Data → Option Entry
 entry_of ds = do
   name ← word_at ds

@@ -14,24 +14,24 @@ use Rattle.piece_files.specs.Json.{json_of, number_named}
 use Rattle.piece_files.specs.Pieces.{pieces_member}
 use Rattle.txn_files.specs.Entries.{entry_of}
 
--- the largest number that a caller may have
+-- The largest number that a caller may have.
 abbrev pub max_caller : ℕ
 max_caller = max_callers - 1
 
--- how many entries a file may have
+-- How many entries a file may have.
 abbrev pub max_entries : ℕ
 max_entries = 1000000
 
--- whether the callers of an entry are in range: the holder too
+-- Whether the callers of an entry are in range: the holder too.
 abbrev pub is_in_range : Entry → Bool
 is_in_range (Busy c op x) = nat_le c max_caller && nat_le x max_caller
 is_in_range e = nat_le (caller_of e) max_caller
 
--- whether the numbers of a history are in range: a stripe or more, and no more than there may be
+-- Whether the numbers of a history are in range: a stripe or more, and no more than there may be.
 abbrev pub is_history : ℕ → List Entry → Bool
 is_history stripes entries = nat_le 1 stripes && nat_le stripes max_stripes && nat_le (length entries) max_entries && list_all is_in_range entries
 
--- the stripes and the entries by the members, tested in this order, then the entries, then the ranges
+-- The stripes and the entries by the members, tested in this order, then the entries, then the ranges.
 unfoldable pub entries_from : Option ℕ → Option ℕ → Result (List Entry) FileFault → Result (ℕ × List Entry) FileFault
 entries_from version stripes pieces = do
   version ← or_fault Member version
@@ -39,10 +39,10 @@ entries_from version stripes pieces = do
   entries ← pieces
   if (version == 1) && is_history stripes entries then Ok (stripes, entries) else Err Limit
 
--- the stripes and the entries that a value is
+-- The stripes and the entries that a value is.
 unfoldable pub entries_of : Data → Result (ℕ × List Entry) FileFault
 entries_of d = entries_from (number_named (codes "version") d) (number_named (codes "stripes") d) (pieces_member entry_of parts.Entry (codes "entries") d)
 
--- the history file that the bytes are
+-- The history file that the bytes are.
 abbrev pub history_of : List ℕ → Result (ℕ × List Entry) FileFault
 history_of bytes = json_of bytes >>= entries_of

@@ -5,15 +5,15 @@ use Rattle.txn_trace.specs.declared.op.Op.TheVariants.{Put, Take, Get}
 use Rattle.txn_trace.specs.declared.entry.Entry.{Entry}
 use Rattle.txn_trace.specs.declared.entry.Entry.TheVariants.{Began, Asked, Did, Saved, Leave, Undone, Returned, Committed, Busy, Aborted}
 
--- the byte of a comma
+-- The byte of a comma.
 abbrev pub comma : ℕ
 comma = 44
 
--- an array of elements, of which each is a text already
+-- An array of elements, of which each is a text already.
 abbrev pub array_text : List (List ℕ) → List ℕ
 array_text elements = codes "[" ++ (join_with_byte comma elements ++ codes "]")
 
--- the elements of an entry: its name, its caller and what is entered
+-- The elements of an entry: its name, its caller and what is entered.
 abbrev pub elements_of_entry : Entry → List (List ℕ)
 elements_of_entry (Began c t) = codes "\"began\"" ∷ decimal c ∷ decimal t ∷ []
 elements_of_entry (Asked c (Put k v)) = codes "\"asked\"" ∷ decimal c ∷ codes "\"put\"" ∷ decimal k ∷ decimal v ∷ []
@@ -32,11 +32,11 @@ elements_of_entry (Busy c (Take k) x) = codes "\"busy\"" ∷ decimal c ∷ codes
 elements_of_entry (Busy c (Get k) x) = codes "\"busy\"" ∷ decimal c ∷ codes "\"get\"" ∷ decimal k ∷ decimal x ∷ []
 elements_of_entry (Aborted c) = codes "\"aborted\"" ∷ decimal c ∷ []
 
--- an entry as an array
+-- An entry as an array.
 abbrev pub entry_text : Entry → List ℕ
 entry_text e = array_text (elements_of_entry e)
 
--- the object of the entries, the stripes and version 1, the names in this order
+-- The object of the entries, the stripes and version 1, the names in this order.
 abbrev pub text_of_history : ℕ → List Entry → List ℕ
 text_of_history stripes entries =
     codes "{\"entries\":" ++ (array_text (map entry_text entries) ++ (codes ",\"stripes\":" ++ (decimal stripes ++ codes ",\"version\":1}")))

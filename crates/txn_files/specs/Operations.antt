@@ -6,7 +6,7 @@ use Rattle.txn_trace.specs.declared.op.Op.{Op}
 use Rattle.txn_trace.specs.declared.op.Op.TheVariants.{Put, Take, Get}
 use Rattle.piece_files.specs.Elements.{◌>>=◌, number_at, word_at}
 
--- the operation that elements begin with, "put", a key and a value, or "take" or "get" and a key, and the elements after it
+-- The operation that elements begin with, "put", a key and a value, or "take" or "get" and a key, and the elements after it.
 unfoldable pub op_at : List Data → Option (Op × List Data)
 op_at ds = do
   name ← word_at ds
@@ -16,7 +16,7 @@ op_at ds = do
       else if bytes_eq name.0 (codes "get") then Some (Get k.0, k.1)
       else None
 
--- an operation and nothing else
+-- An operation and nothing else.
 unfoldable pub op_of : List Data → Option Op
 op_of ds = do
   op ← op_at ds

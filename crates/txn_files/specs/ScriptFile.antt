@@ -13,27 +13,27 @@ use Rattle.txn_files.specs.StepFile.{sizes_at}
 use Rattle.txn_files.specs.Actions.{script_of}
 use Rattle.txn_files.specs.Work.{Work}
 
--- how many tries there may be after the first
+-- How many tries there may be after the first.
 abbrev pub max_tries : ℕ
 max_tries = 1000
 
--- how many scripts a file may have
+-- How many scripts a file may have.
 abbrev pub max_scripts : ℕ
 max_scripts = 10000
 
--- how many actions a script may have
+-- How many actions a script may have.
 abbrev pub max_actions : ℕ
 max_actions = 10000
 
--- whether a script is no longer than it may be
+-- Whether a script is no longer than it may be.
 abbrev pub is_short : List Action → Bool
 is_short script = nat_le (length script) max_actions
 
--- whether the tries and the scripts are in range
+-- Whether the tries and the scripts are in range.
 abbrev pub are_scripts : ℕ → List (List Action) → Bool
 are_scripts tries scripts = nat_le tries max_tries && nat_le (length scripts) max_scripts && list_all is_short scripts
 
--- the work by the members, tested in this order, then the scripts, then the ranges; the workers are the callers
+-- The work by the members, tested in this order, then the scripts, then the ranges; the workers are the callers.
 unfoldable pub work_from : Option ℕ → Option ℕ → Option ℕ → Option ℕ → Option ℕ → Result (List (List Action)) FileFault → Result Work FileFault
 work_from version workers stripes buckets tries pieces = do
   version ← or_fault Member version
@@ -45,12 +45,12 @@ work_from version workers stripes buckets tries pieces = do
   sizes ← sizes_at workers stripes buckets
   if (version == 1) && are_scripts tries scripts then Ok (record { sizes = sizes; tries = tries; scripts = scripts }) else Err Limit
 
--- the work that a value is
+-- The work that a value is.
 unfoldable pub work_of : Data → Result Work FileFault
 work_of d =
     work_from (number_named (codes "version") d) (number_named (codes "workers") d) (number_named (codes "stripes") d) (number_named (codes "buckets") d) (number_named (codes "tries") d)
     (pieces_member script_of parts.Script (codes "scripts") d)
 
--- the script file that the bytes are
+-- The script file that the bytes are.
 abbrev pub scripts_of : List ℕ → Result Work FileFault
 scripts_of bytes = json_of bytes >>= work_of

@@ -12,7 +12,7 @@ use Rattle.piece_files.specs.Json.{json_of, number_named}
 use Rattle.piece_files.specs.Pieces.{pieces_member}
 use Rattle.txn_files.specs.Steps.{step_of}
 
--- how many steps a file may have
+-- How many steps a file may have.
 abbrev pub max_steps : ℕ
 max_steps = 1000000
 
@@ -20,11 +20,11 @@ abbrev in_limits : Result Sizes Refusal → Result Sizes FileFault
 in_limits (Ok sizes) = Ok sizes
 in_limits (Err refusal) = Err Limit
 
--- the numbers as limits, where they are in range
+-- The numbers as limits, where they are in range.
 abbrev pub sizes_at : ℕ → ℕ → ℕ → Result Sizes FileFault
 sizes_at callers stripes buckets = in_limits (limits_of callers stripes buckets)
 
--- the limits and the steps by the members, tested in this order, then the steps, then the ranges
+-- The limits and the steps by the members, tested in this order, then the steps, then the ranges.
 unfoldable pub steps_from : Option ℕ → Option ℕ → Option ℕ → Option ℕ → Result (List Step) FileFault → Result (Sizes × List Step) FileFault
 steps_from version callers stripes buckets pieces = do
   version ← or_fault Member version
@@ -35,12 +35,12 @@ steps_from version callers stripes buckets pieces = do
   sizes ← sizes_at callers stripes buckets
   if (version == 1) && nat_le (length steps) max_steps then Ok (sizes, steps) else Err Limit
 
--- the limits and the steps that a value is
+-- The limits and the steps that a value is.
 unfoldable pub steps_of : Data → Result (Sizes × List Step) FileFault
 steps_of d =
     steps_from (number_named (codes "version") d) (number_named (codes "callers") d) (number_named (codes "stripes") d) (number_named (codes "buckets") d)
     (pieces_member step_of parts.Step (codes "steps") d)
 
--- the step file that the bytes are
+-- The step file that the bytes are.
 abbrev pub file_of : List ℕ → Result (Sizes × List Step) FileFault
 file_of bytes = json_of bytes >>= steps_of

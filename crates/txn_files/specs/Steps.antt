@@ -7,14 +7,14 @@ use Rattle.txn_trace.specs.declared.step.Step.TheVariants.{Begin, Ask, Seek, Act
 use Rattle.piece_files.specs.Elements.{◌>>=◌, number_at, word_at, one_of, two_of}
 use Rattle.txn_files.specs.Operations.{op_of}
 
--- a caller and the operation that it asks for
+-- A caller and the operation that it asks for.
 unfoldable pub ask_of : List Data → Option Step
 ask_of ds = do
   c ← number_at ds
   op ← op_of c.1
   Some (Ask c.0 op)
 
--- a step that is its name and one number
+-- A step that is its name and one number.
 unfoldable pub numbered_of : List ℕ → ℕ → Option Step
 numbered_of name n =
     if bytes_eq name (codes "begin") then Some (Begin n)
@@ -28,7 +28,7 @@ numbered_of name n =
     else if bytes_eq name (codes "double") then Some (Double n)
     else None
 
--- a step by its name, and what stands behind the name
+-- A step by its name, and what stands behind the name.
 unfoldable pub step_of : List Data → Option Step
 step_of ds = do
   name ← word_at ds

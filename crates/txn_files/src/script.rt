@@ -17,21 +17,21 @@ impl Model for Script {
 }
 
 impl Script {
-    /// The script of these actions. Fixed cost, and no memory.
+    /// The script of these actions. Constant time, and no memory.
     pub fn new(actions: Vec<Action>) -> Script
         ensures { result ≡ actions.items }
     {
         Self { actions }
     }
 
-    /// The actions in order. Fixed cost.
+    /// The actions in order. Constant time.
     pub fn actions(&self) -> &[Action]
         ensures { result.now ≡ self.now }
     {
         self.actions.as_slice()
     }
 
-    /// The actions in order, given back. Fixed cost, and no memory.
+    /// The actions in order, given back. Constant time, and no memory.
     pub fn into_actions(self) -> Vec<Action>
         ensures { result.items ≡ self }
     {

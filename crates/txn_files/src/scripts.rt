@@ -20,7 +20,7 @@ impl Model for Scripts {
 }
 
 impl Scripts {
-    /// The work of these scripts. Fixed cost, and no memory.
+    /// The work of these scripts. Constant time, and no memory.
     pub(crate) fn new(limits: Limits, tries: u64, scripts: Vec<Script>) -> Scripts
         ensures { result ≡ record { sizes = limits; tries = tries; scripts = scripts.items } }
     {
@@ -31,21 +31,21 @@ impl Scripts {
         }
     }
 
-    /// The limits of the map, whose callers are the workers. Fixed cost.
+    /// The limits of the map, whose callers are the workers. Constant time.
     pub fn limits(&self) -> Limits
         ensures { result ≡ self.now.sizes }
     {
         self.limits
     }
 
-    /// How often a script is tried again that found a stripe held: 0 to 1,000. Fixed cost.
+    /// How often a script is tried again that found a stripe held: 0 to 1,000. Constant time.
     pub fn tries(&self) -> u64
         ensures { result ≡ self.now.tries }
     {
         self.tries
     }
 
-    /// The scripts in order. Fixed cost.
+    /// The scripts in order. Constant time.
     pub fn scripts(&self) -> &[Script]
         ensures { result.now ≡ self.now.scripts }
     {

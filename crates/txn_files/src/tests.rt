@@ -306,7 +306,7 @@ fn wrong_steps(rt: HostRuntime) -> Result<(), Fail> {
     Ok(())
 }
 
-// Memory may be refused anywhere in it: then that is the answer, and no other fault.
+/// Memory may be refused anywhere in it: then that is the answer, and no other fault.
 #[test]
 fn memory_refused(rt: HostRuntime) {
     let text =

@@ -4,7 +4,7 @@ use Rattle.std.specs.Int.{is_power_of_two}
 use Rattle.txn_trace.specs.declared.refusal.Refusal.{Refusal}
 use Rattle.txn_trace.specs.declared.refusal.Refusal.TheVariants.{Limit}
 
--- how many callers, stripes and buckets there are, the buckets at most
+-- How many callers, stripes and buckets there are, the buckets at most.
 pub record Sizes : Type 0 where
   pub callers : ℕ
   pub stripes : ℕ
@@ -29,6 +29,6 @@ max_buckets = 65536
 abbrev pub are_limits : ℕ → ℕ → ℕ → Bool
 are_limits callers stripes buckets = is_within 1 max_callers callers && is_within 1 max_stripes stripes && is_within 2 max_buckets buckets && is_power_of_two buckets
 
--- the numbers as limits, where they are in range
+-- The numbers as limits, where they are in range.
 abbrev pub limits_of : ℕ → ℕ → ℕ → Result Sizes Refusal
 limits_of callers stripes buckets = if are_limits callers stripes buckets then Ok (record { callers = callers; stripes = stripes; buckets = buckets }) else Err Limit

@@ -11,7 +11,7 @@
 //!
 //! Proved: the laws of histories in `proofs/`, entry by entry, for crates above to cite; and, as the contract of
 //! `laws::erased`, that nothing is left of aborted transactions. The code itself makes limits and texts, and tells the
-//! key of an operation and the caller of an entry, at fixed cost but for one allocation of `answer_text`.
+//! key of an operation and the caller of an entry, in constant time but for one allocation of `answer_text`.
 #![tactic(auto)]
 
 mod action;

@@ -35,7 +35,7 @@ impl Limits {
     /// Limits that are in range: 1 to `MAX_CALLERS` callers, 1 to `MAX_STRIPES` stripes, and as the largest size a
     /// power of two from 2 to `MAX_BUCKETS` buckets.
     ///
-    /// `Refusal::Limit` where a number is out of range. Fixed cost.
+    /// `Refusal::Limit` where a number is out of range. Constant time.
     pub fn new(callers: u64, stripes: u64, buckets: u64) -> Result<Limits, Refusal>
         ensures { result ≡ limits_of callers stripes buckets }
     {

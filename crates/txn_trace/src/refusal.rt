@@ -66,7 +66,7 @@ impl fmt::Display for Refusal {
 impl Error for Refusal {}
 
 impl Refusal {
-    /// The refusal's number, from 1 to 22. Fixed cost.
+    /// The refusal's number, from 1 to 22. Constant time.
     pub fn number(self) -> u64
         ensures { result ≡ number_of self }
     {

@@ -6,30 +6,30 @@ use Rattle.std.proofs.lemmas.Option.{slice_get-map, slice_get-get_or}
 use Rattle.undo_log.specs.UndoLog.{Log, kept_at}
 use Rattle.undo_log.specs.SideValue.{words_at, levels_of, IsChain, IsRising, IsUndoable}
 
--- a higher bound is one too
+-- A higher bound is one too.
 IsRising-more : (low : ℕ) (ks : List ℕ) (high higher : ℕ) → high ≤ higher → IsRising low ks high → IsRising low ks higher
 IsRising-more low [] high higher more rising = omega (arith, more, rising)
 IsRising-more low (k ∷ ks) high higher more rising = (rising.0, IsRising-more k ks high higher more rising.1)
 
--- the bound may be added to the numbers
+-- The bound may be added to the numbers.
 IsRising-push : (low : ℕ) (ks : List ℕ) (high : ℕ) → IsRising low ks high → IsRising low (ks ++ high ∷ []) high
 IsRising-push low [] high rising = (rising, omega arith)
 IsRising-push low (k ∷ ks) high rising = (rising.0, IsRising-push k ks high rising.1)
 
--- each of the numbers bounds those before it
+-- Each of the numbers bounds those before it.
 IsRising-take : (low : ℕ) (ks : List ℕ) (high n : ℕ) → n ≤ length ks → IsRising low ks high → IsRising low (take n ks) (get_or (low ∷ ks) n 0)
 IsRising-take low ks high zero there rising = omega arith
 IsRising-take low [] high (suc n) there rising = absurd (omega (arith, there))
 IsRising-take low (k ∷ ks) high (suc n) there rising = (rising.0, IsRising-take k ks high n (omega (arith, there)) rising.1)
 
--- none of the numbers is above the highest
+-- None of the numbers is above the highest.
 rising_within : (low : ℕ) (ks : List ℕ) (high n : ℕ) → n ≤ length ks → IsRising low ks high → get_or (low ∷ ks) n 0 ≤ high
 rising_within low [] high zero there rising = rising
 rising_within low [] high (suc n) there rising = absurd (omega (arith, there))
 rising_within low (k ∷ ks) high zero there rising = omega (arith, rising.0, rising_within k ks high 0 (omega arith) rising.1)
 rising_within low (k ∷ ks) high (suc n) there rising = rising_within k ks high n (omega (arith, there)) rising.1
 
--- functions that agree up to the highest of the numbers map them alike
+-- Functions that agree up to the highest of the numbers map them alike.
 map_rising : {A : Type 0} (f g : ℕ → A) (low : ℕ) (ks : List ℕ) (high : ℕ) → IsRising low ks high → ((n : ℕ) → n ≤ high → f n ≡ g n) → map f (low ∷ ks) ≡ map g (low ∷ ks)
 map_rising f g low [] high rising same = ap (λ y. y ∷ []) (same low rising)
 map_rising f g low (k ∷ ks) high rising same =
@@ -37,37 +37,37 @@ map_rising f g low (k ∷ ks) high rising same =
     let rest : map f (k ∷ ks) ≡ map g (k ∷ ks) = map_rising f g k ks high rising.1 same in cc
 
 module _ {J : Type 0} (before after : J → List ℕ) where
-  -- past the jobs the words are those now
+  -- Past the jobs the words are those now.
   words_at_end : (now : List ℕ) (jobs : List J) (k : ℕ) → length jobs ≤ k → words_at before now jobs k ≡ now
   words_at_end now [] k past = refl
   words_at_end now (job ∷ jobs) zero past = absurd (omega (arith, past))
   words_at_end now (job ∷ jobs) (suc k) past = words_at_end now jobs k (omega (arith, past))
 
-  -- below the newest job the words are as if its own were the words now
+  -- Below the newest job the words are as if its own were the words now.
   words_at-push : (now : List ℕ) (jobs : List J) (job : J) (k : ℕ) → k ≤ length jobs → words_at before now (jobs ++ job ∷ []) k ≡ words_at before (before job) jobs k
   words_at-push now [] job zero within = refl
   words_at-push now [] job (suc k) within = absurd (omega (arith, within))
   words_at-push now (first ∷ jobs) job zero within = refl
   words_at-push now (first ∷ jobs) job (suc k) within = words_at-push now jobs job k (omega (arith, within))
 
-  -- one more job, which fits the words that were there, keeps the chain
+  -- One more job, which fits the words that were there, keeps the chain.
   IsChain-push : (jobs : List J) (job : J) → IsChain before after (before job) jobs → IsChain before after (after job) (jobs ++ job ∷ [])
   IsChain-push [] job chain = (refl, tt)
   IsChain-push (first ∷ jobs) job chain =
       (chain.0 ∙ sym (words_at-push (after job) jobs job 0 (omega arith)), IsChain-push jobs job chain.1)
 
-  -- the newest job names as after the words now
+  -- The newest job names as after the words now.
   newest_fits : (now : List ℕ) (jobs : List J) (job : J) → IsChain before after now (jobs ++ job ∷ []) → now ≡ after job
   newest_fits now [] job chain = sym chain.0
   newest_fits now (first ∷ jobs) job chain = newest_fits now jobs job chain.1
 
-  -- without its newest job the chain leads from what that one names as before
+  -- Without its newest job the chain leads from what that one names as before.
   IsChain_pop : (now : List ℕ) (jobs : List J) (job : J) → IsChain before after now (jobs ++ job ∷ []) → IsChain before after (before job) jobs
   IsChain_pop now [] job chain = tt
   IsChain_pop now (first ∷ jobs) job chain =
       (chain.0 ∙ words_at-push now jobs job 0 (omega arith), IsChain_pop now jobs job chain.1)
 
-  -- a log with one more job, whose change led from the words as they were to the words now
+  -- A log with one more job, whose change led from the words as they were to the words now.
   pub IsUndoable-push : (was now : List ℕ) (log pushed : Log J) (job : J) → was ≡ before job → now ≡ after job → pushed.jobs ≡ log.jobs ++ job ∷ [] → pushed.kept ≡ log.kept → IsUndoable before after was log → IsUndoable before after now pushed
   IsUndoable-push was now log pushed job fits gives jobs kept undoable =
       let chain : IsChain before after (before job) log.jobs = subst (λ w. IsChain before after w log.jobs) fits undoable.chain in
@@ -78,21 +78,21 @@ module _ {J : Type 0} (before after : J → List ℕ) where
         nested = subst (λ ks. IsRising 0 ks (length pushed.jobs)) (sym kept) (IsRising-more 0 log.kept (length log.jobs) (length pushed.jobs) more undoable.nested);
       }
 
-  -- a change moves the words of no level
+  -- A change moves the words of no level.
   pub levels_of-push : (was now : List ℕ) (log pushed : Log J) (job : J) → was ≡ before job → pushed.jobs ≡ log.jobs ++ job ∷ [] → pushed.kept ≡ log.kept → IsRising 0 log.kept (length log.jobs) → levels_of before now pushed ≡ levels_of before was log
   levels_of-push was now log pushed job fits jobs kept nested =
       let same : (k : ℕ) → k ≤ length log.jobs → words_at before now pushed.jobs k ≡ words_at before was log.jobs k =
       λ k within. ap (λ js. words_at before now js k) jobs ∙ words_at-push now log.jobs job k within ∙ ap (λ w. words_at before w log.jobs k) (sym fits) in
       ap (λ ks. map (words_at before now pushed.jobs) (0 ∷ ks)) kept ∙ map_rising (words_at before now pushed.jobs) (words_at before was log.jobs) 0 log.kept (length log.jobs) nested same
 
-  -- a savepoint here keeps all jobs
+  -- A savepoint here keeps all jobs.
   IsUndoable-save : (now : List ℕ) (log saved : Log J) → saved.jobs ≡ log.jobs → saved.kept ≡ log.kept ++ length log.jobs ∷ [] → IsUndoable before after now log → IsUndoable before after now saved
   IsUndoable-save now log saved jobs kept undoable = record {
     chain = subst (IsChain before after now) (sym jobs) undoable.chain;
     nested = subst (λ ks. IsRising 0 ks (length saved.jobs)) (sym kept) (subst (λ js. IsRising 0 (log.kept ++ length log.jobs ∷ []) (length js)) (sym jobs) (IsRising-push 0 log.kept (length log.jobs) undoable.nested));
   }
 
-  -- a savepoint here has the words now
+  -- A savepoint here has the words now.
   pub levels_of-save : (now : List ℕ) (log saved : Log J) → saved.jobs ≡ log.jobs → saved.kept ≡ log.kept ++ length log.jobs ∷ [] → levels_of before now saved ≡ levels_of before now log ++ now ∷ []
   levels_of-save now log saved jobs kept =
       ap (λ js. map (words_at before now js) (0 ∷ saved.kept)) jobs
@@ -100,19 +100,19 @@ module _ {J : Type 0} (before after : J → List ℕ) where
       ∙ map-append (words_at before now log.jobs) (0 ∷ log.kept) (length log.jobs ∷ [])
       ∙ ap (λ w. levels_of before now log ++ w ∷ []) (words_at_end now log.jobs (length log.jobs) (omega arith))
 
-  -- whether or not there was memory for the savepoint
+  -- Whether or not there was memory for the savepoint.
   pub IsUndoable-saved : {T E : Type 0} (now : List ℕ) (log saved : Log J) (r : Result T E) → saved.jobs ≡ log.jobs → OnOk r (saved.kept ≡ log.kept ++ length log.jobs ∷ []) → OnErr r (saved ≡ log) → IsUndoable before after now log → IsUndoable before after now saved
   IsUndoable-saved now log saved (Ok x) jobs kept err undoable = IsUndoable-save now log saved jobs kept undoable
   IsUndoable-saved now log saved (Err e) jobs kept err undoable = subst (IsUndoable before after now) (sym err) undoable
 
-  -- the newest jobs have been run, none of those that the level keeps, and led from the words start to those now
+  -- The newest jobs have been run, none of those that the level keeps, and led from the words start to those now.
   pub record IsOnTheWay (start now : List ℕ) (old new : Log J) (level : ℕ) : Type 0 where
     pub kept : new.kept ≡ old.kept
     pub chain : IsChain before after now new.jobs
     pub enough : kept_at old.kept level ≤ length new.jobs
     pub words : (k : ℕ) → k ≤ length new.jobs → words_at before now new.jobs k ≡ words_at before start old.jobs k
 
-  -- at its start no job has been run
+  -- At its start no job has been run.
   pub on_the_way_start : (start : List ℕ) (log : Log J) (level : ℕ) → level ≤ length log.kept → IsUndoable before after start log → IsOnTheWay start start log log level
   on_the_way_start start log level there undoable = record {
     kept = refl;
@@ -121,7 +121,7 @@ module _ {J : Type 0} (before after : J → List ℕ) where
     words = λ k within. refl;
   }
 
-  -- one more job leads on to the words that it names as before
+  -- One more job leads on to the words that it names as before.
   pub on_the_way_step : (start now next : List ℕ) (old log popped : Log J) (job : J) (level : ℕ) → IsOnTheWay start now old log level → kept_at log.kept level < length log.jobs → log.jobs ≡ popped.jobs ++ job ∷ [] → popped.kept ≡ log.kept → next ≡ before job → IsOnTheWay start next old popped level
   on_the_way_step start now next old log popped job level way above jobs kept gives =
       let shorter : length log.jobs ≡ length popped.jobs + 1 = ap length jobs ∙ length_push popped.jobs job in
@@ -137,17 +137,17 @@ module _ {J : Type 0} (before after : J → List ℕ) where
             ∙ way.words k (omega (arith, within, shorter));
       }
 
-  -- the job that comes out finds the words that it names as after
+  -- The job that comes out finds the words that it names as after.
   pub on_the_way_fits : (start now : List ℕ) (old log : Log J) (jobs : List J) (job : J) (level : ℕ) → IsOnTheWay start now old log level → log.jobs ≡ jobs ++ job ∷ [] → now ≡ after job
   on_the_way_fits start now old log jobs job level way is = newest_fits now jobs job (subst (IsChain before after now) is way.chain)
 
-  -- a log cut at a level to which the way has led
+  -- A log cut at a level to which the way has led.
   pub record IsCutAt (start now : List ℕ) (old cut : Log J) (level : ℕ) : Type 0 where
     pub undoable : IsUndoable before after now cut
     pub levels : levels_of before now cut ≡ take (level + 1) (levels_of before start old)
     pub words : slice_get (levels_of before start old) level ≡ Some now
 
-  -- with no job above the level, the way is at its end
+  -- With no job above the level, the way is at its end.
   pub on_the_way_end : (start now : List ℕ) (old log cut : Log J) (level : ℕ) → level ≤ length old.kept → IsUndoable before after start old → IsOnTheWay start now old log level → length log.jobs ≤ kept_at log.kept level → log.jobs ≡ cut.jobs → cut.kept ≡ take level log.kept → IsCutAt start now old cut level
   on_the_way_end start now old log cut level there undoable way none_above jobs kept =
       let all_kept : length cut.jobs ≡ kept_at old.kept level =

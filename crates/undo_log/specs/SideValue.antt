@@ -2,35 +2,35 @@
 use Rattle.std.specs.Prelude.{ℕ, zero, suc, ◌≡◌, ◌≤◌, List, [], ◌∷◌, map, length}
 use Rattle.undo_log.specs.UndoLog.{Log}
 
--- the value, its words at each level, level 0 first, and how many changes and how many savepoints can be made
--- before memory is taken
+-- The value, its words at each level, level 0 first, and how many changes and how many savepoints can be made
+-- before memory is taken.
 pub record Leveled (S : Type 0) : Type 0 where
   pub value : S
   pub levels : List (List ℕ)
   pub room : ℕ
   pub save_room : ℕ
 
--- the words when only the first k jobs are left: what the next one names as before, or the words now
+-- The words when only the first k jobs are left: what the next one names as before, or the words now.
 abbrev pub words_at : {J : Type 0} → (J → List ℕ) → List ℕ → List J → ℕ → List ℕ
 words_at before now [] k = now
 words_at before now (job ∷ jobs) zero = before job
 words_at before now (job ∷ jobs) (suc k) = words_at before now jobs k
 
--- the words at each level, level 0 first
+-- The words at each level, level 0 first.
 abbrev pub levels_of : {J : Type 0} → (J → List ℕ) → List ℕ → Log J → List (List ℕ)
 levels_of before now log = map (words_at before now log.jobs) (0 ∷ log.kept)
 
--- each job names as after what the next newer one names as before, and the newest the words now
+-- Each job names as after what the next newer one names as before, and the newest the words now.
 abbrev pub IsChain : {J : Type 0} → (J → List ℕ) → (J → List ℕ) → List ℕ → List J → Type 0
 IsChain before after now [] = Unit {0}
 IsChain before after now (job ∷ jobs) = (after job ≡ words_at before now jobs 0) × IsChain before after now jobs
 
--- the numbers never fall, from low to high
+-- The numbers never fall, from low to high.
 abbrev pub IsRising : ℕ → List ℕ → ℕ → Type 0
 IsRising low [] high = low ≤ high
 IsRising low (k ∷ ks) high = (low ≤ k) × IsRising k ks high
 
--- from the words now, the jobs lead back through the words of each level
+-- From the words now, the jobs lead back through the words of each level.
 pub record IsUndoable {J : Type 0} (before after : J → List ℕ) (now : List ℕ) (log : Log J) : Type 0 where
   pub chain : IsChain before after now log.jobs
   pub nested : IsRising 0 log.kept (length log.jobs)

@@ -1,19 +1,19 @@
 -- What contracts see of an undo log, and which jobs lie above a level.
 use Rattle.std.specs.Prelude.{ℕ, ◌∷◌, ◌-◌, nat_lt, List, length, slice_get, slice_index, Option, None, if◌then◌else◌}
 
--- the jobs, oldest first; how many there were at each savepoint, savepoint 1 first; and how many jobs and
--- how many savepoints can be added before memory is taken
+-- The jobs, oldest first; how many there were at each savepoint, savepoint 1 first; and how many jobs and
+-- how many savepoints can be added before memory is taken.
 pub record Log (J : Type 0) : Type 0 where
   pub jobs : List J
   pub kept : List ℕ
   pub room : ℕ
   pub save_room : ℕ
 
--- the number of jobs that a return to a level keeps: none at level 0, the beginning
+-- The number of jobs that a return to a level keeps: none at level 0, the beginning.
 abbrev pub kept_at : List ℕ → ℕ → ℕ
 kept_at kept level = slice_index (0 ∷ kept) level
 
--- the newest job, if more jobs are there than the level keeps
+-- The newest job, if more jobs are there than the level keeps.
 abbrev pub newest_above : {J : Type 0} → Log J → ℕ → Option J
 newest_above log level =
     if nat_lt (kept_at log.kept level) (length log.jobs)
