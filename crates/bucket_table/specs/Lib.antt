@@ -6,3 +6,4 @@ pub mod Helpers
 pub mod Home
 pub mod Links
 pub mod Refusals
+pub mod Text

@@ -1,8 +1,11 @@
 //! What the calls on buckets answer, and why they refuse.
 ghost use Rattle.std.specs.Prelude.{◌≡◌};
 ghost use Rattle.bucket_table.specs.Refusals.{refusal_of};
+ghost use Rattle.bucket_table.specs.Text.{refusal_text};
 
 use node_list::SpareFault;
+use std::fmt;
+use std::fmt::Display;
 
 /// What `Buckets::init_seek` did.
 #[derive(Clone, Copy, Debug, PartialEq, Eq)]
@@ -24,7 +27,8 @@ pub enum InitLink {
     Linked,
 }
 
-/// Why a step of a bucket's initialisation is refused. After each of these all is as it was.
+/// Why a step of a bucket's initialisation is refused. After each of these all is as it was. Each is
+/// printed as a sentence of its own.
 #[derive(Clone, Copy, Debug, PartialEq, Eq)]
 pub enum InitRefusal {
     /// The bucket is not below the size.
@@ -40,6 +44,27 @@ pub enum InitRefusal {
     /// No stamp is left for the dummy: the list's last one is 2^64 - 2.
     StampsUsedUp,
 }
+
+impl Display for InitRefusal {
+    ghost use Rattle.std.specs.Prelude.{Some};
+
+    ghost output = { λ refusal. Some (refusal_text refusal) };
+
+    fn fmt<W: fmt::Write>(&self, f: &mut fmt::Formatter<W>) -> fmt::Result {
+        match *self {
+            InitRefusal::NoSuchBucket => f.write_str("the bucket is not below the size"),
+            InitRefusal::ParentMissing => f.write_str("the bucket's parent is not stored"),
+            InitRefusal::NoSuchHelper => f.write_str("there is no helper of this number"),
+            InitRefusal::HelperOutOfOrder => {
+                f.write_str("the helper has no cursor to link at, or no dummy to store")
+            }
+            InitRefusal::NoMemory => f.write_str("the list got no memory for the dummy"),
+            InitRefusal::StampsUsedUp => f.write_str("the list has no stamp left for the dummy"),
+        }
+    }
+}
+
+impl std::error::Error for InitRefusal {}
 
 impl From<SpareFault> for InitRefusal {
     ghost from_gives = { λ fault refusal. refusal ≡ refusal_of fault };

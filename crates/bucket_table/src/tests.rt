@@ -255,3 +255,37 @@ fn refused_allocations(rt: HostRuntime) -> Result<(), Fail> {
     }
     Ok(())
 }
+
+#[test]
+fn refusals_in_words(rt: HostRuntime) -> Result<(), Fail> {
+    for (refusal, wanted) in [
+        (
+            InitRefusal::NoSuchBucket,
+            "the bucket is not below the size",
+        ),
+        (
+            InitRefusal::ParentMissing,
+            "the bucket's parent is not stored",
+        ),
+        (
+            InitRefusal::NoSuchHelper,
+            "there is no helper of this number",
+        ),
+        (
+            InitRefusal::HelperOutOfOrder,
+            "the helper has no cursor to link at, or no dummy to store",
+        ),
+        (
+            InitRefusal::NoMemory,
+            "the list got no memory for the dummy",
+        ),
+        (
+            InitRefusal::StampsUsedUp,
+            "the list has no stamp left for the dummy",
+        ),
+    ] {
+        let words = format!(in rt.alloc(); "{refusal}")?;
+        assert_eq!(rt; words.as_str(), wanted);
+    }
+    Ok(())
+}

@@ -2,8 +2,11 @@
 ghost use Rattle.std.specs.Prelude.{◌≡◌, Some, true, ◌==◌, ◌&&◌, not};
 ghost use Rattle.node_list.specs.Nodes.{IsLinked, next_of, node_of};
 ghost use Rattle.node_list.specs.Sound.{IsSound};
+ghost use Rattle.list_steps.specs.Text.{again_text};
 
 use node_list::{Node, NodeList, NodeRef};
+use std::fmt;
+use std::fmt::Display;
 
 /// A node that a cursor noted: its place, and the stamp that tells it from any other node there.
 #[derive(Clone, Copy, Debug, PartialEq, Eq)]
@@ -24,9 +27,20 @@ pub struct Cursor {
     pub(crate) turn: u64,
 }
 
-/// The cursor does not fit: the list is not as it noted it. Nothing was changed; seek again.
+/// The cursor does not fit: the list is not as it noted it. Nothing was changed; seek again. It is
+/// printed as `the list is not as the cursor noted it`.
 #[derive(Clone, Copy, Debug, PartialEq, Eq)]
 pub struct Again;
+
+impl Display for Again {
+    ghost output = { λ _. Some again_text };
+
+    fn fmt<W: fmt::Write>(&self, f: &mut fmt::Formatter<W>) -> fmt::Result {
+        f.write_str("the list is not as the cursor noted it")
+    }
+}
+
+impl std::error::Error for Again {}
 
 impl Noted {
     ghost use Rattle.list_steps.specs.Found.{noted};

@@ -35,5 +35,5 @@ mod tests;
 
 pub use cursor::{Again, Cursor};
 pub use search::seek;
-pub use steps::{is_there, link, look, mark, swap};
+pub use steps::{link, look, mark, swap};
 pub use sweeps::{SweepOutcome, sweep};

@@ -1,5 +1,5 @@
 //! What is done at a cursor.
-ghost use Rattle.std.specs.Prelude.{◌≡◌, ℕ, ◌<◌, ◌-◌, ◌^◌, Some, None, true, is_ok, is_some, IsOk, IfOk, IfErr, OnOk, OnErr, ◌&&◌};
+ghost use Rattle.std.specs.Prelude.{◌≡◌, ℕ, ◌<◌, ◌-◌, ◌^◌, Some, None, true, is_ok, IsOk, IfOk, IfErr, OnOk, OnErr};
 ghost use Rattle.node_list.specs.Nodes.{IsLinked, IsOut, filled, place_of};
 ghost use Rattle.node_list.specs.Follow.{Follows};
 ghost use Rattle.list_steps.specs.Found.{IsKeyThere, IsPlaced, IsRoomFor, fits, node_there, pred_of, split_of, turn_of};
@@ -37,15 +37,6 @@ pub fn look(list: &NodeList, cursor: &Cursor) -> Result<Option<NodeRef>, Again>
     } else {
         Err(Again)
     }
-}
-
-/// Says whether the cursor fits and a node with the split key sought is there. A fixed number of
-/// look-ups.
-pub fn is_there(list: &NodeList, cursor: &Cursor) -> bool
-    requires { IsPlaced list.now cursor.now }
-    ensures { result ≡ (fits list.now cursor.now && is_some (node_there list.now cursor.now)) }
-{
-    matches!(look(list, cursor), Ok(Some(_)))
 }
 
 /// Links the node of a spare where the cursor is, and answers that node. The spare is this list's

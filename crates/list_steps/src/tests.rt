@@ -4,7 +4,7 @@ ghost use Rattle.node_list.specs.Nodes.{IsOut, out_at};
 ghost use Rattle.node_list.specs.Follow.{Follows};
 ghost use Rattle.list_steps.specs.Found.{IsKeyThere, IsPlaced, split_of};
 
-use crate::{Again, Cursor, SweepOutcome, is_there, link, look, mark, seek, swap, sweep};
+use crate::{Again, Cursor, SweepOutcome, link, look, mark, seek, swap, sweep};
 use node_list::{Kind, NodeList, Spare, SpareFault};
 use std::test::Fail;
 
@@ -118,13 +118,11 @@ fn list_steps_in_order(rt: HostRuntime) -> Result<(), Fail> {
 fn values_at_a_cursor(rt: HostRuntime) -> Result<(), Fail> {
     let mut list = NodeList::new(rt.alloc(), 0)?;
     let cursor = seek_from_head(&mut list, KEY_2);
-    assert!(rt; !is_there(&list, &cursor));
     let spare = regular_spare(&mut list, KEY_2, 2, 20)?;
     assert_eq!(rt; look(&list, &cursor), Ok(None));
     let two = link(&mut list, cursor, spare).map_err(|_| "key 2")?;
 
     let cursor = seek_from_head(&mut list, KEY_2);
-    assert!(rt; is_there(&list, &cursor));
     assert!(rt; is_key_there(&list, &cursor));
     assert_eq!(rt; swap(&mut list, cursor, 21), Ok(20));
     let node = *list.linked_node(two).ok_or("no key 2")?;
@@ -140,5 +138,12 @@ fn values_at_a_cursor(rt: HostRuntime) -> Result<(), Fail> {
     assert_eq!(rt; passing.pred.place, list.head());
     assert_eq!(rt; kinds(&list), [Some(Kind::Dummy), None, None, None]);
     assert_eq!(rt; list.turn(), 4);
+    Ok(())
+}
+
+#[test]
+fn again_in_words(rt: HostRuntime) -> Result<(), Fail> {
+    let words = format!(in rt.alloc(); "{Again}")?;
+    assert_eq!(rt; words.as_str(), "the list is not as the cursor noted it");
     Ok(())
 }

@@ -4,3 +4,4 @@ pub mod Nodes
 pub mod Order
 pub mod Seen
 pub mod Sound
+pub mod Text

@@ -2,7 +2,7 @@
 ghost use Rattle.std.specs.Prelude.{◌≡◌, ◌≢◌, ℕ, ◌+◌, ◌-◌, ◌<◌, ◌≤◌, ◌^◌, ◌↔◌, Some, None, Err, [], ◌∷◌, IfOk, OnErr, IfSome, IfNone, false};
 ghost use Rattle.std.specs.List.{AllByRecursion};
 ghost use Rattle.node_list.specs.Follow.{Follows};
-ghost use Rattle.node_list.specs.Nodes.{out_at, IsOut, filled, first_dummy, IsLinked, IsRegularAt, IsBeforeMarked, node_of, next_of, place_of, live_count, marked_count, linked_after, unlinked_after, marked_at, written_at, GivesOut, Becomes, Takes, TakesBack};
+ghost use Rattle.node_list.specs.Nodes.{out_at, IsOut, filled, first_dummy, IsLinked, IsRegularAt, IsBeforeMarked, node_of, next_of, place_of, live_count, marked_count, turn_after, linked_after, unlinked_after, marked_at, written_at, GivesOut, Becomes, Takes, TakesBack};
 ghost use Rattle.node_list.specs.Order.{IsRising};
 ghost use Rattle.node_list.specs.Seen.{seen};
 ghost use Rattle.node_list.specs.Sound.{IsSound};
@@ -35,6 +35,13 @@ impl Model for NodeList {
     ghost view = { λ f. listing_of f.slab f.head f.turn f.last };
 
     ghost invariant = { λ f. IsKept f.slab f.head f.last f.count f.marked };
+}
+
+// Counts one change more, up to 2^64 - 1.
+fn advance(turn: &mut u64)
+    ensures { turn.new ≡ turn_after turn.old }
+{
+    *turn = turn.saturating_add(1);
 }
 
 impl NodeList {
@@ -120,7 +127,7 @@ impl NodeList {
         // No more nodes are counted than places are in use, so the counts fit.
         let _places = self.slab.len();
         self.count += weight;
-        self.turn = self.turn.saturating_add(1);
+        advance(&mut self.turn);
     }
 
     /// Unlinks the marked node behind a linked node, and frees its place.
@@ -136,7 +143,7 @@ impl NodeList {
             let _ = replace_next(&mut self.slab, pred.place(), next);
             let _ = self.slab.try_remove(node.place());
             self.marked -= 1;
-            self.turn = self.turn.saturating_add(1);
+            advance(&mut self.turn);
         }
     }
 
@@ -153,7 +160,7 @@ impl NodeList {
         let _places = self.slab.len();
         self.count -= 1;
         self.marked += 1;
-        self.turn = self.turn.saturating_add(1);
+        advance(&mut self.turn);
     }
 
     /// Writes the value of a linked node.
@@ -165,7 +172,7 @@ impl NodeList {
         ensures follows { Follows self.old self.new }
     {
         set_value(&mut self.slab, node.place(), value);
-        self.turn = self.turn.saturating_add(1);
+        advance(&mut self.turn);
     }
 
     /// A linked node. Constant time.

@@ -2,8 +2,11 @@
 ghost use Rattle.std.specs.Prelude.{◌≡◌};
 ghost use Rattle.node_list.specs.Layout.{stored};
 ghost use Rattle.node_list.specs.Nodes.{filled};
+ghost use Rattle.node_list.specs.Text.{fault_text};
 
 use crate::node::{Kind, Node, NodeRef};
+use std::fmt;
+use std::fmt::Display;
 use std::marker::Model;
 
 /// A place that a list keeps for a node, a stamp that was never used before, and what the node will
@@ -34,7 +37,7 @@ impl Model for Spare {
     } };
 }
 
-/// Why a list gives no spare.
+/// Why a list gives no spare. Each is printed as a sentence of its own.
 #[derive(Clone, Copy, Debug, PartialEq, Eq)]
 pub enum SpareFault {
     /// The last stamp that was given is 2^64 - 2: the stamps are used up.
@@ -42,6 +45,21 @@ pub enum SpareFault {
     /// A growth of the slab was refused.
     NoMemory,
 }
+
+impl Display for SpareFault {
+    ghost use Rattle.std.specs.Prelude.{Some};
+
+    ghost output = { λ fault. Some (fault_text fault) };
+
+    fn fmt<W: fmt::Write>(&self, f: &mut fmt::Formatter<W>) -> fmt::Result {
+        match *self {
+            SpareFault::Worn => f.write_str("the list has no stamp left for a spare"),
+            SpareFault::NoMemory => f.write_str("the list got no memory for a spare"),
+        }
+    }
+}
+
+impl std::error::Error for SpareFault {}
 
 impl Spare {
     // A spare that is filled as a node is, and has its stamp.

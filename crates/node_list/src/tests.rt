@@ -12,6 +12,16 @@ fn stamps_used_up(rt: HostRuntime) -> Result<(), Fail> {
 }
 
 #[test]
+fn faults_in_words(rt: HostRuntime) -> Result<(), Fail> {
+    let words = format!(in rt.alloc(); "{}; {}", SpareFault::Worn, SpareFault::NoMemory)?;
+    assert_eq!(rt;
+        words.as_str(),
+        "the list has no stamp left for a spare; the list got no memory for a spare"
+    );
+    Ok(())
+}
+
+#[test]
 fn calls_in_turn(rt: HostRuntime) -> Result<(), Fail> {
     let mut list = NodeList::new(rt.alloc(), 6)?;
     let head = list.head();

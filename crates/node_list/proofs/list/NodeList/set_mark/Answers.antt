@@ -32,11 +32,11 @@ returns-clause-marked c =
     let regular = rw (← c.self.view_is) at c.requires in
     let slot = slot_linked _ _ _ _ _ _ c.self.invariant (found_linked _ _ _ regular.is) in
     let is_written = rw c.place.ensures at c.mark.ensures slot.0 in
-    rw (c.saturating_add-self-inside.ensures, ← c.self.view_is) ((node_marked _ _ _ _ _ _ c.self.invariant _ _ slot.0 regular slot.1 (is_written slot.1)).1)
+    rw (c.advance.ensures, ← c.self.view_is) ((node_marked _ _ _ _ _ _ c.self.invariant _ _ slot.0 regular slot.1 (is_written slot.1)).1)
 
 pub returns-clause-follows : goal.returns-clause-follows
 returns-clause-follows c =
     let regular = rw (← c.self.view_is) at c.requires in
     let slot = slot_linked _ _ _ _ _ _ c.self.invariant (found_linked _ _ _ regular.is) in
     let is_written = rw c.place.ensures at c.mark.ensures slot.0 in
-    rw (c.saturating_add-self-inside.ensures, ← c.self.view_is) ((node_marked _ _ _ _ _ _ c.self.invariant _ _ slot.0 regular slot.1 (is_written slot.1)).2)
+    rw (c.advance.ensures, ← c.self.view_is) ((node_marked _ _ _ _ _ _ c.self.invariant _ _ slot.0 regular slot.1 (is_written slot.1)).2)

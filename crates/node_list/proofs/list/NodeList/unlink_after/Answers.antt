@@ -36,7 +36,7 @@ returns-in-Some-clause-unlinked c =
     let is_behind = rw c.place-in-Some.ensures at c.node_at-in-Some.ensures in
     let passed = rw c.place-in-Some-2.ensures at c.replace_next.ensures.now c.node_at.result.now in
     let freed = rw c.place-in-Some-3.ensures at c.try_remove.ensures.updates in
-    rw (c.saturating_add-self-inside.ensures, ← c.self.view_is) ((unlinked _ _ _ _ _ _ c.self.invariant _ _ _ _ _ _ behind is_before c.in-Some.is is_behind (passed is_before) freed).1)
+    rw (c.advance.ensures, ← c.self.view_is) ((unlinked _ _ _ _ _ _ c.self.invariant _ _ _ _ _ _ behind is_before c.in-Some.is is_behind (passed is_before) freed).1)
 
 pub returns-in-Some-clause-follows : goal.returns-in-Some-clause-follows
 returns-in-Some-clause-follows c =
@@ -45,7 +45,7 @@ returns-in-Some-clause-follows c =
     let is_behind = rw c.place-in-Some.ensures at c.node_at-in-Some.ensures in
     let passed = rw c.place-in-Some-2.ensures at c.replace_next.ensures.now c.node_at.result.now in
     let freed = rw c.place-in-Some-3.ensures at c.try_remove.ensures.updates in
-    rw (c.saturating_add-self-inside.ensures, ← c.self.view_is) ((unlinked _ _ _ _ _ _ c.self.invariant _ _ _ _ _ _ behind is_before c.in-Some.is is_behind (passed is_before) freed).2)
+    rw (c.advance.ensures, ← c.self.view_is) ((unlinked _ _ _ _ _ _ c.self.invariant _ _ _ _ _ _ behind is_before c.in-Some.is is_behind (passed is_before) freed).2)
 
 pub returns-in_default-clause-unlinked : goal.returns-in_default-clause-unlinked
 returns-in_default-clause-unlinked c =

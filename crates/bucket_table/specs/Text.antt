@@ -1,0 +1,13 @@
+-- Refusals in words.
+use Rattle.std.specs.Prelude.{ℕ, List, codes}
+use Rattle.bucket_table.specs.declared.answer.InitRefusal.{InitRefusal}
+use Rattle.bucket_table.specs.declared.answer.InitRefusal.TheVariants.{NoSuchBucket, ParentMissing, NoSuchHelper, HelperOutOfOrder, NoMemory, StampsUsedUp}
+
+-- What a refusal is printed as.
+abbrev pub refusal_text : InitRefusal → List ℕ
+refusal_text NoSuchBucket = codes "the bucket is not below the size"
+refusal_text ParentMissing = codes "the bucket's parent is not stored"
+refusal_text NoSuchHelper = codes "there is no helper of this number"
+refusal_text HelperOutOfOrder = codes "the helper has no cursor to link at, or no dummy to store"
+refusal_text NoMemory = codes "the list got no memory for the dummy"
+refusal_text StampsUsedUp = codes "the list has no stamp left for the dummy"
