@@ -12,12 +12,12 @@ use Rattle.bucket_table.specs.declared.helper.Helper.{Helper}
 use Rattle.bucket_table.specs.declared.helper.Helper.TheVariants.{Idle, Seeking, Holding}
 use Rattle.bucket_table.specs.Directory.{Directory, dummy_of, is_stored, limit_of, with_helper, with_dummy, with_size, beginning, IsReady, IsInOrder, IsSound}
 
--- a fact of each helper is one of the helper of a number
+-- A fact of each helper is one of the helper of a number.
 pub helper_found : (P : Helper → Type 0) (helpers : List Helper) (number : ℕ) (helper : Helper) → All P helpers → slice_get helpers number ≡ Some helper → P helper
 helper_found P helpers number helper each is =
     subst P (get_or_from_slice_get helpers number helper helper is) (All-get_or P helpers number helper (slice_get_within helpers number helper is) each)
 
--- a bucket stays ready while no bucket is forgotten
+-- A bucket stays ready while no bucket is forgotten.
 pub ready_kept : (old new : Directory) → old.size ≤ new.size → ((bucket : ℕ) → is_stored old bucket ≡ true → is_stored new bucket ≡ true) → (bucket : ℕ) → IsReady old bucket → IsReady new bucket
 ready_kept old new more kept bucket ready = record {
   within = omega (arith, ready.within);
@@ -46,7 +46,7 @@ sound_with_helper d helper now sound order = record {
       All-set (IsInOrder new) d.helpers helper now (kept now order) (All-weaker (IsInOrder d) (IsInOrder new) kept d.helpers sound.helpers);
 }
 
--- the stored buckets with one more
+-- The stored buckets with one more.
 pub stored_here : (d : Directory) (bucket place : ℕ) → bucket < limit_of d → is_stored (with_dummy d bucket place) bucket ≡ true
 stored_here d bucket place within = ap is_some (get_or-set_same d.entries bucket (Some place) None within)
 
@@ -86,7 +86,7 @@ sound_with_dummy d bucket place sound ready =
 power_doubled : (a : ℕ) → 2 ^ (a + 1) ≡ 2 * 2 ^ a
 power_doubled a = let next : a + 1 ≡ suc a = omega arith in rw next (omega (arith, pow-suc 2 a))
 
--- two times a power of two is at most a larger one
+-- Two times a power of two is at most a larger one.
 pub doubled_within : (a b : ℕ) → 2 ^ a < 2 ^ b → 2 * 2 ^ a ≤ 2 ^ b
 doubled_within a b less = elim (cases_lt a b) [
   | inl below ↦ let power : 2 ^ (a + 1) ≤ 2 ^ b = pow-le-pow_right {n = 2} (omega arith) (omega arith) in
@@ -122,7 +122,7 @@ none_there zero at = refl
 none_there (suc count) zero = refl
 none_there (suc count) (suc at) = none_there count at
 
--- at the beginning only bucket 0 is stored
+-- At the beginning only bucket 0 is stored.
 pub dummy_first : (limit helpers head bucket place : ℕ) → dummy_of (beginning limit helpers head) bucket ≡ Some place → (bucket ≡ 0) × (head ≡ place)
 dummy_first limit helpers head zero place is = (refl, cc)
 dummy_first limit helpers head (suc bucket) place is = absurd (cc (none_there (limit - 1) bucket))

@@ -19,7 +19,7 @@ either : (b : Bool) → (b ≡ true) ⊎ (b ≡ false)
 either true = inl refl
 either false = inr refl
 
--- a fact of all nodes after a seek
+-- A fact of all nodes after a seek.
 each_cleaned : (P : NodeAt → Type 0) (split : ℕ) (nodes : List NodeAt) → AllByRecursion P nodes → AllByRecursion P (cleaned split nodes)
 unfolding cleaned
 each_cleaned P split [] each = tt
@@ -42,7 +42,7 @@ each_sought P (n ∷ rest) from split each = elim (eqb_tells n.place from) [
   | inr past ↦ rw past.0 (each.0, each_sought P rest from split each.1)
 ]
 
--- which nodes are dummies of a bucket
+-- Which nodes are dummies of a bucket.
 pub is_dummy_true : (bucket : ℕ) (n : NodeAt) → n.kind ≡ Dummy → n.split ≡ reversed bucket → is_dummy_of bucket n ≡ true
 is_dummy_true bucket n dummy same = elim (eqb_tells n.split (reversed bucket)) [
   | inl here ↦ rw (dummy, here.0) refl
@@ -66,7 +66,7 @@ is_dummy_regular bucket n regular = go n.kind refl
     go Dummy is = absurd (regular is)
     go (Regular key) is = rw is refl
 
--- a linked dummy is had
+-- A linked dummy is had.
 pub dummy_had : (nodes : List NodeAt) (place bucket : ℕ) (n : NodeAt) → node_of nodes place ≡ Some n → n.kind ≡ Dummy → n.split ≡ reversed bucket → has_dummy nodes bucket ≡ true
 unfolding has_dummy node_of
 dummy_had [] place bucket n is dummy same = absurd (some-none (sym is))
@@ -81,13 +81,13 @@ dummy_had (m ∷ rest) place bucket n is dummy same = elim (eqb_tells m.place pl
     or_true true = refl
     or_true false = refl
 
--- where no node has its split key, a bucket has no dummy
+-- Where no node has its split key, a bucket has no dummy.
 pub no_dummy : (nodes : List NodeAt) (bucket : ℕ) → AllByRecursion (λ n. n.split ≢ reversed bucket) nodes → has_dummy nodes bucket ≡ false
 unfolding has_dummy
 no_dummy [] bucket each = refl
 no_dummy (n ∷ rest) bucket each = rw (is_dummy_other bucket n each.0) (no_dummy rest bucket each.1)
 
--- the dummies with one node more
+-- The dummies with one node more.
 pub has_dummy-linked_after : (nodes : List NodeAt) (pred : ℕ) (x : NodeAt) (bucket : ℕ) → IsLinked nodes pred → has_dummy (linked_after nodes pred x) bucket ≡ (is_dummy_of bucket x || has_dummy nodes bucket)
 unfolding has_dummy linked_after IsLinked
 has_dummy-linked_after [] pred x bucket linked = absurd linked
@@ -105,7 +105,7 @@ has_dummy-linked_after (n ∷ rest) pred x bucket linked = elim (eqb_tells n.pla
     swapped false true c = refl
     swapped false false c = refl
 
--- a seek unlinks no dummy
+-- A seek unlinks no dummy.
 has_dummy-cleaned : (split : ℕ) (nodes : List NodeAt) (bucket : ℕ) → AllPlain nodes → has_dummy (cleaned split nodes) bucket ≡ has_dummy nodes bucket
 unfolding has_dummy cleaned
 has_dummy-cleaned split [] bucket plain = refl
@@ -129,14 +129,14 @@ has_dummy-sought (n ∷ rest) from split bucket plain = elim (eqb_tells n.place 
   | inr past ↦ rw past.0 (ap (λ b. is_dummy_of bucket n || b) (has_dummy-sought rest from split bucket plain.1))
 ]
 
--- a new dummy is that of its bucket alone
+-- A new dummy is that of its bucket alone.
 pub is_dummy_of-dummy_node : (place bucket stamp other : ℕ) → bucket < 2 ^ 32 → other < 2 ^ 32 → is_dummy_of other (dummy_node place bucket stamp) ≡ (bucket == other)
 is_dummy_of-dummy_node place bucket stamp other fits other_fits = elim (eqb_tells bucket other) [
   | inl same ↦ rw same.0 (is_dummy_true other (dummy_node place bucket stamp) refl (ap reversed same.1))
   | inr apart ↦ rw apart.0 (is_dummy_other other (dummy_node place bucket stamp) (λ same. apart.1 (same_from_reversed bucket other (omega arith) (omega arith) same)))
 ]
 
--- where each regular node stands where its key belongs, a node with a bucket's split key is its dummy
+-- Where each regular node stands where its key belongs, a node with a bucket's split key is its dummy.
 pub dummy_there : (n : NodeAt) (bucket : ℕ) → bucket < 2 ^ 32 → IsKeyedNode n → n.split ≡ reversed bucket → n.kind ≡ Dummy
 dummy_there n bucket fits keyed same = go n.kind refl
   where
@@ -149,11 +149,11 @@ dummy_there n bucket fits keyed same = go n.kind refl
         let parity : split key ≡ reversed bucket = sym own.1 ∙ same in
         absurd (omega (arith, odd, even, parity))
 
--- a dummy is no regular node
+-- A dummy is no regular node.
 pub keyed_dummy : (n : NodeAt) → n.kind ≡ Dummy → IsKeyedNode n
 keyed_dummy n dummy key regular = absurd (cc (sym dummy ∙ regular))
 
--- nor does a change that leaves kind and split key of a node
+-- Nor does a change that leaves kind and split key of a node.
 pub has_dummy-changed_at : (nodes : List NodeAt) (place : ℕ) (change : NodeAt → NodeAt) (bucket : ℕ) → ((n : NodeAt) → is_dummy_of bucket (change n) ≡ is_dummy_of bucket n) → has_dummy (changed_at nodes place change) bucket ≡ has_dummy nodes bucket
 unfolding has_dummy changed_at
 has_dummy-changed_at [] place change bucket same = refl
@@ -162,7 +162,7 @@ has_dummy-changed_at (n ∷ rest) place change bucket same = elim (eqb_tells n.p
   | inr past ↦ rw past.0 (ap (λ b. is_dummy_of bucket n || b) (has_dummy-changed_at rest place change bucket same))
 ]
 
--- nor does a sweep
+-- Nor does a sweep.
 pub has_dummy-without_first_marked : (nodes : List NodeAt) (bucket : ℕ) → AllPlain nodes → has_dummy (without_first_marked nodes) bucket ≡ has_dummy nodes bucket
 unfolding has_dummy without_first_marked
 has_dummy-without_first_marked [] bucket plain = refl

@@ -17,7 +17,7 @@ use Rattle.bucket_table.specs.Dummies.{IsDummyAt}
 use Rattle.bucket_table.specs.Home.{IsHelperHome, IsHome}
 
 module _ (old new : Listing) (follows : Follows old new) where
-  -- a linked dummy stays linked
+  -- A linked dummy stays linked.
   pub still_dummy : (place bucket : ℕ) → IsDummyAt old.nodes place bucket → IsDummyAt new.nodes place bucket
   still_dummy place bucket dummy =
       let there = follows.dummies place dummy.node dummy.is dummy.kind in
@@ -33,7 +33,7 @@ module _ (old new : Listing) (follows : Follows old new) where
   still_helper_home (Seeking bucket cursor) home = (still_placed old new cursor home.0 follows, home.1)
   still_helper_home (Holding bucket dummy) home = still_dummy dummy bucket home
 
-  -- a later list is as much the buckets' home
+  -- A later list is as much the buckets' home.
   pub still_home : (d : Directory) → IsHome d old → IsHome d new
   still_home d home = record {
     stored = λ bucket place is. still_dummy place bucket (home.stored bucket place is);
@@ -71,6 +71,6 @@ reversed_zero : reversed 0 ≡ 0
 unfolding reversed reversed_low
 reversed_zero = refl
 
--- the first node is the dummy of bucket 0
+-- The first node is the dummy of bucket 0.
 pub first_dummy_at : (l : Listing) → IsFirst l → IsDummyAt l.nodes l.head 0
 first_dummy_at l first = record { node = first.node; is = first.is; kind = first.kind; split = first.split ∙ sym reversed_zero }

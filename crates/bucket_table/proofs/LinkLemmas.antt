@@ -23,13 +23,13 @@ use Rattle.bucket_table.specs.Links.{IsUnlinked, LinksAt}
 use Rattle.bucket_table.specs.Refusals.{refusal_of}
 use Rattle.bucket_table.proofs.DummyLemmas.{has_dummy-linked_after, is_dummy_of-dummy_node, dummy_there, dummy_had, no_dummy}
 
--- why there was no spare
+-- Why there was no spare.
 pub unlinked : (before after : Listing) (fault : SpareFault) → (◌≡◌ {A = Result SpareAt SpareFault} (Err fault) (Err Worn) ↔ (before.last ≡ 2 ^ 64 - 2)) → after ≡ before → IsUnlinked before after (refusal_of fault)
 unlinked before after Worn worn same = (same, worn.0 refl)
 unlinked before after SpareNoMemory worn same = (same, λ last. absurd (cc (worn.1 last)))
 
 module _ (before middle after : Listing) (cursor : Cursor) (bucket place stamp : ℕ) where
-  -- the spare is linked as the bucket's dummy
+  -- The spare is linked as the bucket's dummy.
   pub links_at : GivesOut before middle place stamp → stamp ≡ before.last + 1 → before.last ≢ 2 ^ 64 - 2 → bucket < 2 ^ 32 → IsLinked middle.nodes (pred_of cursor)
       → (x : NodeAt) → x ≡ dummy_node place bucket stamp → Links middle after cursor x → LinksAt before after cursor bucket place
   links_at given next last fits linked x is links =
@@ -56,7 +56,7 @@ module _ (before middle after : Listing) (cursor : Cursor) (bucket place stamp :
             ap (λ ns. has_dummy ns other) links.takes.nodes ∙ more ∙ ap (λ b. b || has_dummy middle.nodes other) own ∙ ap (λ ns. (bucket == other) || has_dummy ns other) given.nodes;
       }
 
--- where a cursor finds a node, it is the bucket's dummy
+-- Where a cursor finds a node, it is the bucket's dummy.
 pub there_dummy : (l : Listing) (cursor : Cursor) (bucket place : ℕ) → bucket < 2 ^ 32 → IsKeyed l.nodes → split_of cursor ≡ reversed bucket → IsThere l cursor place → IsDummyAt l.nodes place bucket
 there_dummy l cursor bucket place fits keyed sought there =
     let same = there.split ∙ sought in
@@ -70,13 +70,13 @@ there_dummy l cursor bucket place fits keyed sought there =
 pub there_had : (l : Listing) (bucket place : ℕ) → IsDummyAt l.nodes place bucket → has_dummy l.nodes bucket ≡ true
 there_had l bucket place dummy = dummy_had l.nodes place bucket dummy.node dummy.is dummy.kind dummy.split
 
--- and where it finds none, the dummy is not linked
+-- And where it finds none, the dummy is not linked.
 pub absent_not_had : (l : Listing) (cursor : Cursor) (bucket : ℕ) → split_of cursor ≡ reversed bucket → IsAbsent l cursor → has_dummy l.nodes bucket ≡ false
 absent_not_had l cursor bucket sought absent =
     let P : ℕ → Type 0 = λ s. AllByRecursion (λ n. n.split ≢ s) l.nodes in
     no_dummy l.nodes bucket (subst P sought absent.others)
 
--- what a link at a cursor that fits is answered
+-- What a link at a cursor that fits is answered.
 module _ (d : Directory) (l : Listing) (helper bucket : ℕ) (cursor : Cursor) (had : helper_of d helper ≡ Some (Seeking bucket cursor)) (fit : fits l cursor ≡ true) where
   pub answer_present : has_dummy l.nodes bucket ≡ true → link_answer d l helper ≡ Ok Present
   answer_present has = rw (had, fit, has) refl
@@ -109,7 +109,7 @@ module _ (d : Directory) (l : Listing) (helper bucket : ℕ) (cursor : Cursor) (
   answer_no_memory after NoSuchHelper none why same = absurd why
   answer_no_memory after HelperOutOfOrder none why same = absurd why
 
--- a refused link changes nothing
+-- A refused link changes nothing.
 pub unlinked_same : (before after : Listing) (refusal : InitRefusal) → IsUnlinked before after refusal → after ≡ before
 unlinked_same before after StampsUsedUp why = why.0
 unlinked_same before after NoMemory why = why.0

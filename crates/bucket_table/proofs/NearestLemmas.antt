@@ -10,7 +10,7 @@ use Rattle.bucket_table.specs.Directory.{Directory, dummy_of, is_stored, IsNeare
 use Rattle.bucket_table.specs.Dummies.{IsDummyAt, IsBeforeBucket}
 use Rattle.bucket_table.specs.Home.{IsHome}
 
--- some number of steps to the parent reaches this bucket, and none passed was stored
+-- Some number of steps to the parent reaches this bucket, and none passed was stored.
 pub record IsPassing (d : Directory) (bucket at : ℕ) : Type 0 where
   pub steps : ℕ
   pub reached : at ≡ ancestor_of steps bucket
@@ -39,7 +39,7 @@ nearest_passing d bucket at place passing stored = record {
 }
 
 module _ (d : Directory) (l : Listing) (bucket place : ℕ) (home : IsHome d l) (nearest : IsNearest d bucket place) where
-  -- the dummy of the nearest stored bucket
+  -- The dummy of the nearest stored bucket.
   near_dummy : IsDummyAt l.nodes place (ancestor_of nearest.steps bucket)
   near_dummy = home.stored (ancestor_of nearest.steps bucket) place nearest.stored
 

@@ -16,7 +16,7 @@ use Rattle.bucket_table.specs.declared.helper.Helper.TheVariants.{Idle, Seeking,
 use Rattle.bucket_table.specs.Directory.{Directory, is_stored, helper_of, limit_of}
 use Rattle.bucket_table.specs.Dummies.{has_dummy}
 
--- what a seek for a bucket is answered
+-- What a seek for a bucket is answered.
 abbrev pub seek_answer : Directory → ℕ → ℕ → Result InitSeek InitRefusal
 seek_answer d helper bucket =
     if is_none (helper_of d helper) then Err NoSuchHelper
@@ -25,7 +25,7 @@ seek_answer d helper bucket =
     else (if is_stored d (parent_of bucket) then Ok Placed
     else Err ParentMissing)))
 
--- what a link by a helper that has this is answered, where memory lasts
+-- What a link by a helper that has this is answered, where memory lasts.
 abbrev pub link_answer_of : Listing → Option Helper → Result InitLink InitRefusal
 link_answer_of l None = Err NoSuchHelper
 link_answer_of l (Some Idle) = Err HelperOutOfOrder
@@ -36,22 +36,22 @@ link_answer_of l (Some (Seeking bucket cursor)) =
     else (if l.last == 2 ^ 64 - 2 then Err StampsUsedUp
     else Ok Linked))
 
--- what a link by a helper is answered, where memory lasts
+-- What a link by a helper is answered, where memory lasts.
 abbrev pub link_answer : Directory → Listing → ℕ → Result InitLink InitRefusal
 link_answer d l helper = link_answer_of l (helper_of d helper)
 
--- what a store by a helper that has this is answered
+-- What a store by a helper that has this is answered.
 abbrev pub store_answer_of : Option Helper → Result Unit InitRefusal
 store_answer_of None = Err NoSuchHelper
 store_answer_of (Some Idle) = Err HelperOutOfOrder
 store_answer_of (Some (Seeking bucket cursor)) = Err HelperOutOfOrder
 store_answer_of (Some (Holding bucket dummy)) = Ok tt
 
--- what a store by a helper is answered
+-- What a store by a helper is answered.
 abbrev pub store_answer : Directory → ℕ → Result Unit InitRefusal
 store_answer d helper = store_answer_of (helper_of d helper)
 
--- what a doubling is answered, with so many keys in the table
+-- What a doubling is answered, with so many keys in the table.
 abbrev pub double_answer : Directory → ℕ → ℕ → Double
 double_answer d count seen =
     if not (d.size == seen) then Moved d.size

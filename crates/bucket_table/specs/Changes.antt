@@ -17,7 +17,7 @@ use Rattle.bucket_table.specs.Directory.{Directory, dummy_of, helper_of, with_he
 use Rattle.bucket_table.specs.Dummies.{IsDummyAt}
 use Rattle.bucket_table.specs.Links.{LinksAt}
 
--- the helper has a cursor for the bucket's dummy, sought from the dummy of the bucket's parent
+-- The helper has a cursor for the bucket's dummy, sought from the dummy of the bucket's parent.
 pub record Seeks (old new : Directory) (before after : Listing) (helper bucket : ℕ) : Type 0 where
   pub cursor : Cursor
   pub now : new ≡ with_helper old helper (Seeking bucket cursor)
@@ -28,13 +28,13 @@ pub record Seeks (old new : Directory) (before after : Listing) (helper bucket :
   pub nodes : after.nodes ≡ sought before.nodes from (reversed bucket)
   pub rest : KeepsRest before after
 
--- what a seek for a bucket changes
+-- What a seek for a bucket changes.
 abbrev pub SeekChanges : Directory → Directory → Listing → Listing → ℕ → ℕ → Result InitSeek InitRefusal → Type 0
 SeekChanges old new before after helper bucket (Ok Ready) = (new ≡ with_helper old helper Idle) × (after ≡ before)
 SeekChanges old new before after helper bucket (Ok Placed) = Seeks old new before after helper bucket
 SeekChanges old new before after helper bucket (Err refusal) = (new ≡ old) × (after ≡ before)
 
--- the helper has the dummy of its bucket, which is linked
+-- The helper has the dummy of its bucket, which is linked.
 pub record Holds (old new : Directory) (after : Listing) (helper : ℕ) : Type 0 where
   pub bucket : ℕ
   pub cursor : Cursor
@@ -43,7 +43,7 @@ pub record Holds (old new : Directory) (after : Listing) (helper : ℕ) : Type 0
   pub now : new ≡ with_helper old helper (Holding bucket place)
   pub dummy : IsDummyAt after.nodes place bucket
 
--- the dummy of the helper's bucket is linked where the helper's cursor is, and the helper has it
+-- The dummy of the helper's bucket is linked where the helper's cursor is, and the helper has it.
 pub record LinksDummy (old new : Directory) (before after : Listing) (helper : ℕ) : Type 0 where
   pub bucket : ℕ
   pub cursor : Cursor
@@ -52,26 +52,26 @@ pub record LinksDummy (old new : Directory) (before after : Listing) (helper : �
   pub now : new ≡ with_helper old helper (Holding bucket place)
   pub links : LinksAt before after cursor bucket place
 
--- what a link by a helper changes
+-- What a link by a helper changes.
 abbrev pub LinkChanges : Directory → Directory → Listing → Listing → ℕ → Result InitLink InitRefusal → Type 0
 LinkChanges old new before after helper (Ok Again) = (new ≡ with_helper old helper Idle) × (after ≡ before)
 LinkChanges old new before after helper (Ok Present) = Holds old new after helper × (after ≡ before)
 LinkChanges old new before after helper (Ok Linked) = LinksDummy old new before after helper
 LinkChanges old new before after helper (Err refusal) = (new ≡ old) × (after ≡ before)
 
--- the dummy that the helper had is stored as its bucket's, and the helper is idle
+-- The dummy that the helper had is stored as its bucket's, and the helper is idle.
 pub record Stores (old new : Directory) (helper : ℕ) : Type 0 where
   pub bucket : ℕ
   pub place : ℕ
   pub had : helper_of old helper ≡ Some (Holding bucket place)
   pub now : new ≡ with_helper (with_dummy old bucket place) helper Idle
 
--- what a store by a helper changes
+-- What a store by a helper changes.
 abbrev pub StoreChanges : Directory → Directory → ℕ → Result Unit InitRefusal → Type 0
 StoreChanges old new helper (Ok done) = Stores old new helper
 StoreChanges old new helper (Err refusal) = new ≡ old
 
--- the buckets after a doubling that was answered so
+-- The buckets after a doubling that was answered so.
 abbrev pub after_double : Directory → Double → Directory
 after_double d (Moved size) = d
 after_double d AtLimit = d

@@ -5,30 +5,30 @@ use Rattle.split_key.specs.Split.{parent_of, ancestor_of, IsPowerOfTwo}
 use Rattle.bucket_table.specs.declared.helper.Helper.{Helper}
 use Rattle.bucket_table.specs.declared.helper.Helper.TheVariants.{Idle, Seeking, Holding}
 
--- the size, the place of the dummy of each stored bucket, and what each helper has; there are as many
--- entries as the largest size
+-- The size, the place of the dummy of each stored bucket, and what each helper has; there are as many
+-- entries as the largest size.
 pub record Directory : Type 0 where
   pub size : ℕ
   pub entries : List (Option ℕ)
   pub helpers : List Helper
 
--- the largest size
+-- The largest size.
 abbrev pub limit_of : Directory → ℕ
 limit_of d = length d.entries
 
--- the place of a bucket's dummy, if the bucket is stored
+-- The place of a bucket's dummy, if the bucket is stored.
 abbrev pub dummy_of : Directory → ℕ → Option ℕ
 dummy_of d bucket = slice_index_or d.entries bucket None
 
--- whether a bucket is stored, which is to say initialised
+-- Whether a bucket is stored, which is to say initialised.
 abbrev pub is_stored : Directory → ℕ → Bool
 is_stored d bucket = is_some (dummy_of d bucket)
 
--- what a helper has, if there is one of this number
+-- What a helper has, if there is one of this number.
 abbrev pub helper_of : Directory → ℕ → Option Helper
 helper_of d helper = slice_get d.helpers helper
 
--- size 2, bucket 0 alone stored, and every helper idle
+-- Size 2, bucket 0 alone stored, and every helper idle.
 abbrev pub beginning : ℕ → ℕ → ℕ → Directory
 beginning limit helpers head = record {
   size = 2;
@@ -36,31 +36,31 @@ beginning limit helpers head = record {
   helpers = replicate helpers Idle;
 }
 
--- a helper has this now
+-- A helper has this now.
 abbrev pub with_helper : Directory → ℕ → Helper → Directory
 with_helper d helper now = record d { helpers = slice_set d.helpers helper now }
 
--- a bucket is stored, with its dummy at this place
+-- A bucket is stored, with its dummy at this place.
 abbrev pub with_dummy : Directory → ℕ → ℕ → Directory
 with_dummy d bucket place = record d { entries = slice_set d.entries bucket (Some place) }
 
--- the size is this one now
+-- The size is this one now.
 abbrev pub with_size : Directory → ℕ → Directory
 with_size d size = record d { size = size }
 
--- the bucket is in the table and its parent is stored, so it may be stored too
+-- The bucket is in the table and its parent is stored, so it may be stored too.
 pub record IsReady (d : Directory) (bucket : ℕ) : Type 0 where
   pub within : bucket < d.size
   pub above : 0 < bucket
   pub parent : is_stored d (parent_of bucket) ≡ true
 
--- the bucket that a helper is at may be stored
+-- The bucket that a helper is at may be stored.
 abbrev pub IsInOrder : Directory → Helper → Type 0
 IsInOrder d Idle = Unit {0}
 IsInOrder d (Seeking bucket cursor) = IsReady d bucket
 IsInOrder d (Holding bucket dummy) = IsReady d bucket
 
--- the sizes are powers of two, and no bucket is stored before its parent
+-- The sizes are powers of two, and no bucket is stored before its parent.
 pub record IsSound (d : Directory) : Type 0 where
   pub size : IsPowerOfTwo d.size
   pub limit : IsPowerOfTwo (limit_of d)
@@ -72,8 +72,8 @@ pub record IsSound (d : Directory) : Type 0 where
   pub parents : (bucket : ℕ) → 0 < bucket → is_stored d bucket ≡ true → is_stored d (parent_of bucket) ≡ true
   pub helpers : All (IsInOrder d) d.helpers
 
--- the place is that of the dummy of the nearest stored one among the bucket, its parent, the parent's
--- parent and so on
+-- The place is that of the dummy of the nearest stored one among the bucket, its parent, the parent's
+-- parent and so on.
 pub record IsNearest (d : Directory) (bucket place : ℕ) : Type 0 where
   pub steps : ℕ
   pub stored : dummy_of d (ancestor_of steps bucket) ≡ Some place

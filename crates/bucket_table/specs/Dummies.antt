@@ -5,7 +5,7 @@ use Rattle.node_list.specs.declared.node.Kind.TheVariants.{Dummy, Regular}
 use Rattle.node_list.specs.Nodes.{NodeAt, node_of, is_regular}
 use Rattle.split_key.specs.Split.{reversed, split}
 
--- the dummy of a bucket, unmarked and with value 0
+-- The dummy of a bucket, unmarked and with value 0.
 abbrev pub dummy_node : ℕ → ℕ → ℕ → NodeAt
 dummy_node place bucket stamp = record {
   place = place;
@@ -16,33 +16,33 @@ dummy_node place bucket stamp = record {
   marked = false;
 }
 
--- whether a node is the dummy of a bucket
+-- Whether a node is the dummy of a bucket.
 abbrev pub is_dummy_of : ℕ → NodeAt → Bool
 is_dummy_of bucket n = not (is_regular n.kind) && n.split == reversed bucket
 
--- whether the dummy of a bucket is linked
+-- Whether the dummy of a bucket is linked.
 unfoldable pub has_dummy : List NodeAt → ℕ → Bool
 has_dummy [] bucket = false
 has_dummy (n ∷ rest) bucket = is_dummy_of bucket n || has_dummy rest bucket
 
--- the dummy of a bucket is linked at a place
+-- The dummy of a bucket is linked at a place.
 pub record IsDummyAt (nodes : List NodeAt) (place bucket : ℕ) : Type 0 where
   pub node : NodeAt
   pub is : node_of nodes place ≡ Some node
   pub kind : node.kind ≡ Dummy
   pub split : node.split ≡ reversed bucket
 
--- a dummy that stands no later than a bucket's is linked at a place
+-- A dummy that stands no later than a bucket's is linked at a place.
 pub record IsBeforeBucket (nodes : List NodeAt) (place bucket : ℕ) : Type 0 where
   pub node : NodeAt
   pub is : node_of nodes place ≡ Some node
   pub kind : node.kind ≡ Dummy
   pub at_most : node.split ≤ reversed bucket
 
--- a regular node stands where its key belongs
+-- A regular node stands where its key belongs.
 abbrev pub IsKeyedNode : NodeAt → Type 0
 IsKeyedNode n = (key : ℕ) → n.kind ≡ Regular key → (key < 2 ^ 63) × (n.split ≡ split key)
 
--- each regular node stands where its key belongs
+-- Each regular node stands where its key belongs.
 abbrev pub IsKeyed : List NodeAt → Type 0
 IsKeyed nodes = AllByRecursion IsKeyedNode nodes

@@ -6,13 +6,13 @@ use Rattle.bucket_table.specs.declared.answer.InitRefusal.TheVariants.{HelperOut
 use Rattle.bucket_table.specs.declared.helper.Helper.{Helper}
 use Rattle.bucket_table.specs.declared.helper.Helper.TheVariants.{Idle, Seeking, Holding}
 
--- the bucket and the cursor of a helper that has a cursor
+-- The bucket and the cursor of a helper that has a cursor.
 abbrev pub seeking_of : Helper → Result (ℕ × Cursor) InitRefusal
 seeking_of Idle = Err HelperOutOfOrder
 seeking_of (Seeking bucket cursor) = Ok (bucket, cursor)
 seeking_of (Holding bucket dummy) = Err HelperOutOfOrder
 
--- the bucket and the dummy of a helper that has a dummy
+-- The bucket and the dummy of a helper that has a dummy.
 abbrev pub holding_of : Helper → Result (ℕ × ℕ) InitRefusal
 holding_of Idle = Err HelperOutOfOrder
 holding_of (Seeking bucket cursor) = Err HelperOutOfOrder

@@ -8,13 +8,13 @@ use Rattle.bucket_table.specs.declared.helper.Helper.TheVariants.{Idle, Seeking,
 use Rattle.bucket_table.specs.Directory.{Directory, dummy_of}
 use Rattle.bucket_table.specs.Dummies.{IsDummyAt}
 
--- a helper's cursor was placed on the list for its bucket's dummy, and a helper's dummy is linked
+-- A helper's cursor was placed on the list for its bucket's dummy, and a helper's dummy is linked.
 abbrev pub IsHelperHome : Listing → Helper → Type 0
 IsHelperHome l Idle = Unit {0}
 IsHelperHome l (Seeking bucket cursor) = IsPlaced l cursor × (split_of cursor ≡ reversed bucket)
 IsHelperHome l (Holding bucket dummy) = IsDummyAt l.nodes dummy bucket
 
--- the buckets are those of this list: each stored one names its linked dummy, and so do the helpers.
+-- The buckets are those of this list: each stored one names its linked dummy, and so do the helpers.
 -- Each later list is as much their home.
 pub record IsHome (d : Directory) (l : Listing) : Type 0 where
   pub stored : (bucket place : ℕ) → dummy_of d bucket ≡ Some place → IsDummyAt l.nodes place bucket

@@ -7,7 +7,7 @@ use Rattle.bucket_table.specs.declared.answer.InitRefusal.{InitRefusal}
 use Rattle.bucket_table.specs.declared.answer.InitRefusal.TheVariants.{NoSuchBucket, ParentMissing, NoSuchHelper, HelperOutOfOrder, NoMemory, StampsUsedUp}
 use Rattle.bucket_table.specs.Dummies.{IsDummyAt, dummy_node, has_dummy}
 
--- the dummy of a bucket is linked where a cursor is, at this place and with a new stamp
+-- The dummy of a bucket is linked where a cursor is, at this place and with a new stamp.
 pub record LinksAt (before after : Listing) (cursor : Cursor) (bucket place : ℕ) : Type 0 where
   pub nodes : after.nodes ≡ linked_after before.nodes (pred_of cursor) (dummy_node place bucket (before.last + 1))
   pub dummy : IsDummyAt after.nodes place bucket
@@ -18,7 +18,7 @@ pub record LinksAt (before after : Listing) (cursor : Cursor) (bucket place : �
   pub out : (other : ℕ) → out_at after other ≡ out_at before other
   pub dummies : (other : ℕ) → other < 2 ^ 32 → has_dummy after.nodes other ≡ ((bucket == other) || has_dummy before.nodes other)
 
--- why no dummy is linked: the stamps are used up exactly where the last one is given, and else memory was refused
+-- Why no dummy is linked: the stamps are used up exactly where the last one is given, and else memory was refused.
 abbrev pub IsUnlinked : Listing → Listing → InitRefusal → Type 0
 IsUnlinked before after StampsUsedUp = (after ≡ before) × (before.last ≡ 2 ^ 64 - 2)
 IsUnlinked before after NoMemory = (after ≡ before) × (before.last ≢ 2 ^ 64 - 2)

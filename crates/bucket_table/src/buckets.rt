@@ -37,7 +37,7 @@ impl Model for Buckets {
     ghost invariant = { λ b. IsSound (record { size = b.size; entries = b.entries.items; helpers = b.helpers.items }) };
 }
 
-// A vector of so many equal values.
+/// A vector of so many equal values.
 fn filled<T: Copy>(alloc: Global, count: u32, value: T) -> Result<Vec<T>, AllocError>
     ensures { IfOk result (λ items. items.items ≡ replicate count value) }
 {
@@ -83,7 +83,7 @@ impl Buckets {
         self.size
     }
 
-    // The dummy of a bucket, if the bucket is stored.
+    /// The dummy of a bucket, if the bucket is stored.
     fn dummy(&self, bucket: u32) -> Option<NodeRef>
         ensures dummy { result ≡ dummy_of self.now bucket }
         ensures sound { IsSoundDirectory self.now }
@@ -109,7 +109,7 @@ impl Buckets {
         }
     }
 
-    // What a helper has, or `NoSuchHelper`.
+    /// What a helper has, or `NoSuchHelper`.
     fn helper(&self, helper: u64) -> Result<&Helper, InitRefusal>
         ensures ok { IfOk result (λ had. helper_of self.now helper ≡ Some had.now) }
         ensures err { IfErr result (λ refusal. (refusal ≡ InitRefusal.NoSuchHelper) × (helper_of self.now helper ≡ None)) }
@@ -120,7 +120,7 @@ impl Buckets {
             .ok_or(InitRefusal::NoSuchHelper)
     }
 
-    // Stores a bucket with its dummy.
+    /// Stores a bucket with its dummy.
     fn set_dummy(&mut self, bucket: u32, dummy: NodeRef)
         requires { IsReady self.old bucket }
         ensures { self.new ≡ with_dummy self.old bucket dummy }
@@ -128,7 +128,7 @@ impl Buckets {
         self.entries[bucket as usize] = Some(dummy);
     }
 
-    // Gives a helper something else.
+    /// Gives a helper something else.
     fn set_helper(&mut self, helper: u64, now: Helper)
         requires there { helper < length self.old.helpers }
         requires order { IsInOrder self.old now }
@@ -181,7 +181,7 @@ impl Buckets {
         Ok(InitSeek::Placed)
     }
 
-    // `init_link` at the bucket and the cursor of the helper.
+    /// `init_link` at the bucket and the cursor of the helper.
     fn link_at(
         &mut self,
         list: &mut NodeList,
@@ -281,7 +281,7 @@ impl Buckets {
     }
 }
 
-// Links the dummy of a bucket where a cursor is.
+/// Links the dummy of a bucket where a cursor is.
 fn link_dummy(list: &mut NodeList, cursor: Cursor, bucket: u32) -> Result<NodeRef, InitRefusal>
     requires split { split_of cursor ≡ reversed bucket }
     requires placed { IsPlaced list.old cursor }

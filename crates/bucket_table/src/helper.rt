@@ -19,7 +19,7 @@ pub enum Helper {
 impl Helper {
     ghost use Rattle.bucket_table.specs.Helpers.{seeking_of, holding_of};
 
-    // The bucket and the cursor of a helper that has a cursor.
+    /// The bucket and the cursor of a helper that has a cursor.
     pub(crate) fn seeking(&self) -> Result<(u32, Cursor), InitRefusal>
         ensures { result ≡ seeking_of self.now }
     {
@@ -29,7 +29,7 @@ impl Helper {
         }
     }
 
-    // The bucket and the dummy of a helper that has a dummy.
+    /// The bucket and the dummy of a helper that has a dummy.
     pub(crate) fn holding(&self) -> Result<(u32, NodeRef), InitRefusal>
         ensures { result ≡ holding_of self.now }
     {

@@ -11,7 +11,7 @@ use std::alloc::{AllocError, Global};
 use std::process::Abort;
 use std::test::Fail;
 
-// One call on the buckets.
+/// One call on the buckets.
 #[derive(Clone, Copy, Debug)]
 enum Call {
     Seek { helper: u64, bucket: u64 },
@@ -20,7 +20,7 @@ enum Call {
     Double { seen: u64 },
 }
 
-// What a call answered.
+/// What a call answered.
 #[derive(Clone, Copy, Debug, PartialEq, Eq)]
 enum Answer {
     Seek(Result<InitSeek, InitRefusal>),
@@ -29,7 +29,7 @@ enum Answer {
     Double(Double),
 }
 
-// Makes one call.
+/// Makes one call.
 fn made(list: &mut NodeList, buckets: &mut Buckets, call: Call) -> Answer
     requires home { IsHome buckets.old list.old }
     requires keyed { IsKeyed list.old.nodes }
@@ -44,7 +44,7 @@ fn made(list: &mut NodeList, buckets: &mut Buckets, call: Call) -> Answer
     }
 }
 
-// Makes calls in turn, and compares their answers.
+/// Makes calls in turn, and compares their answers.
 fn make_all(rt: &impl Abort, list: &mut NodeList, buckets: &mut Buckets, calls: &[(Call, Answer)])
     requires home { IsHome buckets.old list.old }
     requires keyed { IsKeyed list.old.nodes }
@@ -57,7 +57,7 @@ fn make_all(rt: &impl Abort, list: &mut NodeList, buckets: &mut Buckets, calls: 
     }
 }
 
-// Links the node of a key, sought from the nearest stored bucket.
+/// Links the node of a key, sought from the nearest stored bucket.
 fn put(list: &mut NodeList, buckets: &Buckets, number: u64) -> Result<(), Fail>
     requires home { IsHome buckets.now list.old }
     requires keyed { IsKeyed list.old.nodes }
@@ -78,7 +78,7 @@ fn put(list: &mut NodeList, buckets: &Buckets, number: u64) -> Result<(), Fail>
     }
 }
 
-// Links the nodes of keys in turn.
+/// Links the nodes of keys in turn.
 fn put_all(list: &mut NodeList, buckets: &Buckets, numbers: &[u64]) -> Result<(), Fail>
     requires home { IsHome buckets.now list.old }
     requires keyed { IsKeyed list.old.nodes }
@@ -91,7 +91,7 @@ fn put_all(list: &mut NodeList, buckets: &Buckets, numbers: &[u64]) -> Result<()
     Ok(())
 }
 
-// A table of largest size 8 for two helpers, with keys 1 to 5 at size 4.
+/// A table of largest size 8 for two helpers, with keys 1 to 5 at size 4.
 fn five_keys(rt: &impl Abort, alloc: Global) -> Result<(NodeList, Buckets), Fail>
     ensures home { IfOk result (λ made. IsHome made.1 made.0) }
     ensures keyed { IfOk result (λ made. IsKeyed made.0.nodes) }
@@ -107,22 +107,22 @@ fn five_keys(rt: &impl Abort, alloc: Global) -> Result<(NodeList, Buckets), Fail
     Ok((list, buckets))
 }
 
-// A seek by a helper for a bucket, and its answer.
+/// A seek by a helper for a bucket, and its answer.
 fn seek_by(helper: u64, bucket: u64, wanted: Result<InitSeek, InitRefusal>) -> (Call, Answer) {
     (Call::Seek { helper, bucket }, Answer::Seek(wanted))
 }
 
-// A link by a helper, and its answer.
+/// A link by a helper, and its answer.
 fn link_by(helper: u64, wanted: Result<InitLink, InitRefusal>) -> (Call, Answer) {
     (Call::Link { helper }, Answer::Link(wanted))
 }
 
-// A store by a helper, and its answer.
+/// A store by a helper, and its answer.
 fn store_by(helper: u64, wanted: Result<(), InitRefusal>) -> (Call, Answer) {
     (Call::Store { helper }, Answer::Store(wanted))
 }
 
-// The five keys, with buckets 1 and 3 initialised by two helpers in turn.
+/// The five keys, with buckets 1 and 3 initialised by two helpers in turn.
 fn initialised(rt: &impl Abort, alloc: Global) -> Result<(NodeList, Buckets), Fail> {
     let (mut list, mut buckets) = five_keys(rt, alloc)?;
     let calls = [
@@ -147,7 +147,7 @@ fn initialised(rt: &impl Abort, alloc: Global) -> Result<(NodeList, Buckets), Fa
     Ok((list, buckets))
 }
 
-// The first nodes of a list.
+/// The first nodes of a list.
 fn kinds(list: &NodeList) -> [Option<(u64, Kind)>; 9] {
     let mut kinds = [None; 9];
     let mut next = Some(list.head());
@@ -215,7 +215,7 @@ fn maximum_size(rt: HostRuntime) -> Result<(), Fail> {
     Ok(())
 }
 
-// A list of the dummy of bucket 0, which keeps the places of so many spares.
+/// A list of the dummy of bucket 0, which keeps the places of so many spares.
 fn with_spares(alloc: Global, spares: u32) -> Result<NodeList, Fail>
     ensures { IfOk result (λ list. IsKeyed list.nodes) }
 {
@@ -231,8 +231,8 @@ fn with_spares(alloc: Global, spares: u32) -> Result<NodeList, Fail>
     Ok(list)
 }
 
-// Also run with each allocation refused in turn: buckets and list are then as they were, and the call
-// succeeds when it is made again.
+/// Also run with each allocation refused in turn: buckets and list are then as they were, and the call
+/// succeeds when it is made again.
 #[test]
 fn refused_allocations(rt: HostRuntime) -> Result<(), Fail> {
     for spares in 0..9 {

@@ -25,11 +25,11 @@ no_pair : (k : Kind) (value : ℕ) → pair_if k true value ≡ []
 no_pair Dummy value = refl
 no_pair (Regular key) value = refl
 
--- a marked node adds nothing
+-- A marked node adds nothing.
 pub pair_marked : (n : NodeAt) → n.marked ≡ true → pair_of n ≡ []
 pair_marked n marked = ap (λ b. pair_if n.kind b n.value) marked ∙ no_pair n.kind n.value
 
--- a regular, unmarked node adds its pair
+-- A regular, unmarked node adds its pair.
 pub pair_regular : (n : NodeAt) (key : ℕ) → n.kind ≡ Regular key → n.marked ≡ false → pair_of n ≡ (key, n.value) ∷ []
 pair_regular n key regular unmarked = rw (regular, unmarked) refl
 
@@ -45,14 +45,14 @@ pairs_cons : (n : NodeAt) (rest : List NodeAt) → pairs (n ∷ rest) ≡ pair_o
 unfolding pairs
 pairs_cons n rest = refl
 
--- the content goes by that of the nodes behind
+-- The content goes by that of the nodes behind.
 pairs_same_rest : (front : List NodeAt) (n : NodeAt) (rest other : List NodeAt) → pairs rest ≡ pairs other → pairs (front ++ n ∷ rest) ≡ pairs (front ++ n ∷ other)
 pairs_same_rest front n rest other same =
     pairs-append front (n ∷ rest)
     ∙ ap (λ ps. pairs front ++ ps) (pairs_cons n rest ∙ ap (λ ps. pair_of n ++ ps) same ∙ sym (pairs_cons n other))
     ∙ sym (pairs-append front (n ∷ other))
 
--- some nodes in the place of others
+-- Some nodes in the place of others.
 pub replaced : (front was now rest : List NodeAt) → Replaces (pairs (front ++ (was ++ rest))) (pairs (front ++ (now ++ rest))) (pairs was) (pairs now)
 replaced front was now rest = record {
   before = pairs front;
@@ -73,7 +73,7 @@ module _ (nodes : List NodeAt) (place : ℕ) (n : NodeAt) (is : node_of nodes pl
   at : IsAt nodes place n
   at = found_at nodes place n is
 
-  -- a node that is linked adds what it has
+  -- A node that is linked adds what it has.
   pub pairs_linked : (x : NodeAt) → Replaces (pairs nodes) (pairs (linked_after nodes place x)) [] (pair_of x)
   pairs_linked x = replaces_same _ _ _ _ _ _ _ _
       (ap pairs (append_assoc at.front (n ∷ []) at.rest ∙ sym at.is))
@@ -89,19 +89,19 @@ module _ (nodes : List NodeAt) (place : ℕ) (n : NodeAt) (is : node_of nodes pl
       (replaced at.front (n ∷ []) (change n ∷ []) at.rest)
 
   module _ (key : ℕ) (regular : n.kind ≡ Regular key) (unmarked : n.marked ≡ false) where
-    -- a node that is marked takes its pair away
+    -- A node that is marked takes its pair away.
     pub pairs_marked : Replaces (pairs nodes) (pairs (marked_at nodes place)) ((key, n.value) ∷ []) []
     pairs_marked = replaces_same _ _ _ _ _ _ _ _ refl refl
         (pair_regular n key regular unmarked) (pair_marked (record n { marked = true }) refl)
         (changed (λ k. record k { marked = true }))
 
-    -- a value that is written stands in the pair
+    -- A value that is written stands in the pair.
     pub pairs_written : (value : ℕ) → Replaces (pairs nodes) (pairs (written_at nodes place value)) ((key, n.value) ∷ []) ((key, value) ∷ [])
     pairs_written value = replaces_same _ _ _ _ _ _ _ _ refl refl
         (pair_regular n key regular unmarked) (pair_regular (record n { value = value }) key regular unmarked)
         (changed (λ k. record k { value = value }))
 
-    -- its pair is in the content
+    -- Its pair is in the content.
     pub pairs_contain : Contains (pairs nodes) (key, n.value)
     pairs_contain =
         let parts : pairs nodes ≡ pairs at.front ++ ((key, n.value) ∷ pairs at.rest) =
@@ -110,7 +110,7 @@ module _ (nodes : List NodeAt) (place : ℕ) (n : NodeAt) (is : node_of nodes pl
         let P : List (ℕ × ℕ) → Type 0 = λ ps. Contains ps (key, n.value) in
         subst P (sym parts) (Contains-append_right (pairs at.front) ((key, n.value) ∷ pairs at.rest) (key, n.value) (0, omega arith, refl))
 
--- a marked node that is unlinked takes nothing away
+-- A marked node that is unlinked takes nothing away.
 pub pairs_unlinked : (nodes : List NodeAt) (place : ℕ) → IsBeforeMarked nodes place → pairs (unlinked_after nodes place) ≡ pairs nodes
 pairs_unlinked nodes place before =
     let found = next_from nodes place before.node before.next in
@@ -123,7 +123,7 @@ pairs_unlinked nodes place before =
     ) in
     ap pairs (unlinked_at nodes place found.0 at) ∙ pairs_same_rest at.front found.0 (without_first at.rest) at.rest keeps ∙ sym (ap pairs at.is)
 
--- unlinking marked nodes keeps the content
+-- Unlinking marked nodes keeps the content.
 pub pairs_cleaned : (split : ℕ) (nodes : List NodeAt) → pairs (cleaned split nodes) ≡ pairs nodes
 unfolding cleaned
 pairs_cleaned split [] = refl
@@ -147,7 +147,7 @@ pairs_sought nodes from split start =
     ∙ pairs_same_rest at.front start.node (cleaned split at.rest) at.rest (pairs_cleaned split at.rest)
     ∙ sym (ap pairs at.is)
 
--- what holds of each regular, unmarked node holds of each pair
+-- What holds of each regular, unmarked node holds of each pair.
 pub each_pair : (P : NodeAt → Type 0) (Q : ℕ → ℕ → Type 0) → ((n : NodeAt) (key : ℕ) → n.kind ≡ Regular key → n.marked ≡ false → P n → Q key n.value) → (nodes : List NodeAt) → AllByRecursion P nodes → AllByRecursion (λ pair. Q pair.0 pair.1) (pairs nodes)
 unfolding pairs
 each_pair P Q holds [] each = tt

@@ -35,17 +35,17 @@ unmarked_from_not : (b : Bool) → not b ≡ true → b ≡ false
 unmarked_from_not true is = cc
 unmarked_from_not false is = refl
 
--- the tests on the next node
+-- The tests on the next node.
 pub next_noted : (n : NodeAt) (cur : Noted) → n.place ≡ cur.place → is_next_noted (Some n) (Some cur) ≡ (n.stamp == cur.stamp && not n.marked)
 next_noted n cur same = rw (same_test n.place cur.place same) refl
 
--- the node is the noted one, and unmarked
+-- The node is the noted one, and unmarked.
 pub record Fits (n : NodeAt) (cur : Noted) : Type 0 where
   pub place : n.place ≡ cur.place
   pub stamp : n.stamp ≡ cur.stamp
   pub unmarked : n.marked ≡ false
 
--- what the test of the next node tells
+-- What the test of the next node tells.
 next_fits : (n : NodeAt) (cur : Noted) → is_next_noted (Some n) (Some cur) ≡ true → Fits n cur
 next_fits n cur is = record {
   place = same_from_test n.place cur.place (and_left _ _ is);
@@ -70,9 +70,9 @@ module _ (l : Listing) (c : Cursor) where
   unfolding fits
   fits_none is = ap (λ o. is_noted o c.pred.stamp && is_next_noted (behind l c) c.cur) is
 
--- where a cursor fits
+-- Where a cursor fits.
 module _ (l : Listing) (c : Cursor) (fitting : fits l c ≡ true) where
-  -- its first node is there
+  -- Its first node is there.
   pub fits_pred : (n : NodeAt) × (node_of l.nodes (pred_of c) ≡ Some n) × (n.stamp ≡ c.pred.stamp)
   unfolding fits
   fits_pred = go (node_of l.nodes (pred_of c)) (and_left _ _ fitting)
@@ -84,7 +84,7 @@ module _ (l : Listing) (c : Cursor) (fitting : fits l c ≡ true) where
   pub fits_linked : IsLinked l.nodes (pred_of c)
   fits_linked = found_linked l.nodes (pred_of c) fits_pred.0 fits_pred.1
 
-  -- the node behind that, if there is one, is the noted second one
+  -- The node behind that, if there is one, is the noted second one.
   pub fits_next : (m : NodeAt) → behind l c ≡ Some m → (cur : Noted) × (c.cur ≡ Some cur) × Fits m cur
   unfolding fits
   fits_next m is = go c.cur refl
@@ -96,7 +96,7 @@ module _ (l : Listing) (c : Cursor) (fitting : fits l c ≡ true) where
       go None cur_is = absurd (true-false (sym (sym (ap (λ o. is_next_noted (Some m) o) cur_is) ∙ holds)))
       go (Some k) cur_is = (k, cur_is, next_fits m k (sym (ap (λ o. is_next_noted (Some m) o) cur_is) ∙ holds))
 
--- where a cursor that was placed fits
+-- Where a cursor that was placed fits.
 module _ (l : Listing) (c : Cursor) (sound : IsSound l) (placed : IsPlaced l c) (fitting : fits l c ≡ true) where
   pub low : (n : NodeAt) → node_of l.nodes (pred_of c) ≡ Some n → n.split < split_of c
   low n is =
@@ -104,7 +104,7 @@ module _ (l : Listing) (c : Cursor) (sound : IsSound l) (placed : IsPlaced l c) 
       let same : pred.0 ≡ n = some-injective (sym pred.1 ∙ is) in
       placed.below n is (sym (ap (λ (v : NodeAt). v.stamp) same) ∙ pred.2)
 
-  -- the node behind is not below the split key
+  -- The node behind is not below the split key.
   pub high : (m : NodeAt) → behind l c ≡ Some m → split_of c ≤ m.split
   high m is =
       let next = fits_next l c fitting m is in
@@ -112,7 +112,7 @@ module _ (l : Listing) (c : Cursor) (sound : IsSound l) (placed : IsPlaced l c) 
       let P : ℕ → Type 0 = λ p. node_of l.nodes p ≡ Some m in
       placed.beyond m next.0 next.1 (subst P next.2.place there) next.2.stamp
 
-  -- and is above it where it does not have it
+  -- And is above it where it does not have it.
   pub above : node_there l c ≡ None → (m : NodeAt) → behind l c ≡ Some m → split_of c < m.split
   above none m is = elim (eqb_tells m.split (split_of c)) [
     | inl same ↦ absurd (some-none (rw same.0 at (sym (ap (λ o. with_split o (split_of c)) is) ∙ none)))
@@ -122,7 +122,7 @@ module _ (l : Listing) (c : Cursor) (sound : IsSound l) (placed : IsPlaced l c) 
     ]
   ]
 
--- the node of the split key, where a cursor fits
+-- The node of the split key, where a cursor fits.
 pub record There (l : Listing) (c : Cursor) (n : NodeAt) : Type 0 where
   pub behind_is : behind l c ≡ Some n
   pub is : node_of l.nodes n.place ≡ Some n
@@ -147,9 +147,9 @@ there l c n spread fitting is = go (behind l c) refl is
       | inr differs ↦ absurd (some-none (sym (rw differs.0 at with_is)))
     ]
 
--- a cursor that is found
+-- A cursor that is found.
 module _ (l : Listing) (c : Cursor) (found : IsFound l c) where
-  -- fits
+  -- Fits.
   pub found_fits : fits l c ≡ true
   found_fits =
       fits_then l c found.pred found.pred_is pred_noted
@@ -168,7 +168,7 @@ module _ (l : Listing) (c : Cursor) (found : IsFound l c) where
           let stamp : m.stamp ≡ cur.stamp = ap (λ (n : Noted). n.stamp) same in
           rw (same_test m.place cur.place place, same_test m.stamp cur.stamp stamp, beyond.0) refl
 
-  -- and is placed
+  -- And is placed.
   pub found_placed : IsSound l → IsPlaced l c
   found_placed sound = record {
     pred_known = omega (arith, sound.stamped.bound (pred_of c) found.pred found.pred_is, found.pred_noted);
@@ -197,13 +197,13 @@ module _ (l : Listing) (c : Cursor) (found : IsFound l c) where
       cur_node : (cur : Noted) → c.cur ≡ Some cur → (k : NodeAt) × (node_of l.nodes cur.place ≡ Some k) × (k.stamp ≡ cur.stamp) × (split_of c ≤ k.split)
       cur_node cur cur_is = go (behind l c) cur refl (found.cur_noted ∙ cur_is) found.beyond
 
--- what is noted of the node behind a place
+-- What is noted of the node behind a place.
 pub noted_next : (nodes : List NodeAt) (place next : ℕ) (k : Noted) → IsSpread nodes → place_of (next_of nodes place) ≡ Some next → noted (node_of nodes next) ≡ Some k → noted (next_of nodes place) ≡ Some k
 noted_next nodes place next k spread is note =
     let found = linked_found nodes next (next_linked nodes place next spread is) in
     ap noted (next_node nodes place next spread is found.0 found.1 ∙ sym found.1) ∙ note
 
--- a cursor that notes the place of its split key is found
+-- A cursor that notes the place of its split key is found.
 pub noted_found : (l : Listing) (place : ℕ) (c : Cursor) → IsPred l.nodes place (split_of c) → IsBeyond (next_of l.nodes place) (split_of c) → noted (node_of l.nodes place) ≡ Some c.pred → c.cur ≡ noted (next_of l.nodes place) → turn_of c ≡ l.turn → IsFound l c
 noted_found l place c before beyond pred_is cur_is turn_is = record {
   pred = before.node;
@@ -231,12 +231,12 @@ noted_found l place c before beyond pred_is cur_is turn_is = record {
     Beyond : ℕ → Type 0
     Beyond p = IsBeyond (next_of l.nodes p) (split_of c)
 
--- a cursor fits the same nodes alike
+-- A cursor fits the same nodes alike.
 pub fits_same : (old new : Listing) (c : Cursor) → new.nodes ≡ old.nodes → fits new c ≡ fits old c
 unfolding fits
 fits_same old new c same = ap (λ ns. is_noted (node_of ns (pred_of c)) c.pred.stamp && is_next_noted (next_of ns (pred_of c)) c.cur) same
 
--- a cursor stays placed while the list changes
+-- A cursor stays placed while the list changes.
 pub still_placed : (old new : Listing) (c : Cursor) → IsPlaced old c → Follows old new → IsPlaced new c
 still_placed old new c placed follows = record {
   pred_known = omega (arith, placed.pred_known, follows.last);

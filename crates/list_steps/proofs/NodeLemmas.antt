@@ -18,7 +18,7 @@ apart_test a b differs = elim (eqb_tells a b) [
   | inr apart ↦ apart.0
 ]
 
--- the node at the place, with the nodes before and behind it
+-- The node at the place, with the nodes before and behind it.
 pub record IsAt (nodes : List NodeAt) (place : ℕ) (n : NodeAt) : Type 0 where
   pub front : List NodeAt
   pub rest : List NodeAt
@@ -26,7 +26,7 @@ pub record IsAt (nodes : List NodeAt) (place : ℕ) (n : NodeAt) : Type 0 where
   pub absent : AbsentFrom place front
   pub here : n.place ≡ place
 
--- each node that is found is at its place
+-- Each node that is found is at its place.
 pub found_at : (nodes : List NodeAt) (place : ℕ) (n : NodeAt) → node_of nodes place ≡ Some n → IsAt nodes place n
 unfolding node_of
 found_at [] place n is = absurd (some-none (sym is))
@@ -51,7 +51,7 @@ found_at (m ∷ rest) place n is = elim (eqb_tells m.place place) [
       }
 ]
 
--- each function of a list at a place, on a list that is taken apart there
+-- Each function of a list at a place, on a list that is taken apart there.
 module _ (place : ℕ) (n : NodeAt) (rest : List NodeAt) (here : n.place ≡ place) where
   node_of-append : (front : List NodeAt) → AbsentFrom place front → node_of (front ++ n ∷ rest) place ≡ Some n
   unfolding node_of
@@ -83,7 +83,7 @@ module _ (place : ℕ) (n : NodeAt) (rest : List NodeAt) (here : n.place ≡ pla
   linked-append [] = inl here
   linked-append (m ∷ front) = inr (linked-append front)
 
--- a node behind others is at none of their places
+-- A node behind others is at none of their places.
 apart_append : (place : ℕ) (front : List NodeAt) (m : NodeAt) (rest : List NodeAt) → AbsentFrom place (front ++ m ∷ rest) → m.place ≢ place
 apart_append place [] m rest absent = absent.0
 apart_append place (k ∷ front) m rest absent = apart_append place front m rest absent.1
@@ -122,11 +122,11 @@ module _ (nodes : List NodeAt) (place : ℕ) (n : NodeAt) (at : IsAt nodes place
   is_linked = let P : List NodeAt → Type 0 = λ ns. IsLinked ns place in
       subst P (sym at.is) (linked-append place n at.rest at.here at.front)
 
-  -- the list without the next node
+  -- The list without the next node.
   abbrev pub at_unlinked : IsAt (unlinked_after nodes place) place n
   at_unlinked = record { front = at.front; rest = without_first at.rest; is = unlinked_at; absent = at.absent; here = at.here }
 
-  -- the next node is at its place, behind this one
+  -- The next node is at its place, behind this one.
   abbrev pub at_next : (m : NodeAt) → IsSpread nodes → first at.rest ≡ Some m → IsAt nodes m.place m
   at_next m spread is =
       let rest_is : at.rest ≡ m ∷ without_first at.rest = first_is at.rest m is in
@@ -145,20 +145,20 @@ some_place : (o : Option NodeAt) (place : ℕ) → place_of o ≡ Some place →
 some_place None place is = absurd (some-none (sym is))
 some_place (Some m) place is = (m, refl, some-injective is)
 
--- nothing is behind the last node
+-- Nothing is behind the last node.
 pub no_place : (o : Option NodeAt) → place_of o ≡ None → o ≡ None
 no_place None is = refl
 no_place (Some n) is = absurd (some-none is)
 
 module _ (nodes : List NodeAt) (place next : ℕ) (spread : IsSpread nodes) (is : place_of (next_of nodes place) ≡ Some next) where
-  -- the place behind a node is linked
+  -- The place behind a node is linked.
   pub next_linked : IsLinked nodes next
   next_linked =
       let there = some_place (next_of nodes place) next is in
       let P : ℕ → Type 0 = λ p. IsLinked nodes p in
       subst P there.2 (found_linked nodes there.0.place there.0 (next_found nodes place there.0 spread there.1))
 
-  -- and the node there is the next one
+  -- And the node there is the next one.
   pub next_node : (m : NodeAt) → node_of nodes next ≡ Some m → next_of nodes place ≡ Some m
   next_node m found =
       let there = some_place (next_of nodes place) next is in
@@ -166,7 +166,7 @@ module _ (nodes : List NodeAt) (place next : ℕ) (spread : IsSpread nodes) (is 
       sym (next_found nodes place there.0 spread there.1) ∙ ap (λ p. node_of nodes p) there.2 ∙ found in
       there.1 ∙ same
 
--- a place with a next node is linked
+-- A place with a next node is linked.
 pub next_from : (nodes : List NodeAt) (place : ℕ) (m : NodeAt) → next_of nodes place ≡ Some m → (n : NodeAt) × (node_of nodes place ≡ Some n)
 unfolding next_of node_of
 next_from [] place m is = absurd (some-none (sym is))

@@ -7,7 +7,7 @@ use Rattle.node_list.proofs.OrderLemmas.{split-before}
 use Rattle.list_steps.specs.Seek.{IsBelow}
 use Rattle.list_steps.proofs.NodeLemmas.{found_at, next_at}
 
--- what is before all that follow it is before one that does
+-- What is before all that follow it is before one that does.
 pub before_later : (k n : NodeAt) (front rest : List NodeAt) → AllByRecursion (IsBefore k) (front ++ n ∷ rest) → IsBefore k n
 before_later k n [] rest before = before.0
 before_later k n (m ∷ front) rest before = before_later k n front rest before.1
@@ -17,11 +17,11 @@ unfolding IsRising
 rising_rest [] n rest rising = rising.1
 rising_rest (k ∷ front) n rest rising = rising_rest front n rest rising.1
 
--- none of these nodes has the split key
+-- None of these nodes has the split key.
 abbrev pub NoneHas : ℕ → List NodeAt → Type 0
 NoneHas split nodes = AllByRecursion (λ n. n.split ≢ split) nodes
 
--- the nodes up to one that is below the split key
+-- The nodes up to one that is below the split key.
 none_before : (front : List NodeAt) (n : NodeAt) (rest : List NodeAt) (split : ℕ) → IsRising (front ++ n ∷ rest) → IsBelow n split → NoneHas split rest → NoneHas split (front ++ n ∷ rest)
 unfolding IsRising
 none_before [] n rest split rising below others = ((λ same. omega arith), others)
@@ -29,7 +29,7 @@ none_before (m ∷ front) n rest split rising below others =
     let low = split-before m n (before_later m n front rest rising.0) in
     ((λ same. omega arith), none_before front n rest split rising.1 below others)
 
--- the nodes behind one that is above the split key
+-- The nodes behind one that is above the split key.
 none_behind : (n : NodeAt) (rest : List NodeAt) (split : ℕ) → split < n.split → AllByRecursion (IsBefore n) rest → NoneHas split rest
 none_behind n [] split above before = tt
 none_behind n (m ∷ rest) split above before =
@@ -43,7 +43,7 @@ none_from (m ∷ rest) split rising above =
     let high = above m refl in
     ((λ same. omega arith), none_behind m rest split high rising.0)
 
--- no node has a split key that is between two neighbours
+-- No node has a split key that is between two neighbours.
 pub none_between : (nodes : List NodeAt) (place : ℕ) (n : NodeAt) (split : ℕ) → IsRising nodes → node_of nodes place ≡ Some n → IsBelow n split → ((m : NodeAt) → next_of nodes place ≡ Some m → split < m.split) → NoneHas split nodes
 none_between nodes place n split rising is below above =
     let at = found_at nodes place n is in

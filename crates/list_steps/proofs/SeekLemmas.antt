@@ -12,12 +12,12 @@ use Rattle.node_list.proofs.OrderLemmas.{each_found}
 use Rattle.list_steps.specs.Seek.{cleaned, sought, IsBelow, IsPred, IsStart, KeepsRest}
 use Rattle.list_steps.proofs.NodeLemmas.{IsAt, found_at, node_at, next_at, at_unlinked, at_next, first_is, first_none, same_test, apart_test}
 
--- the nodes behind a place
+-- The nodes behind a place.
 unfoldable pub nodes_behind : List NodeAt → ℕ → List NodeAt
 nodes_behind [] place = []
 nodes_behind (n ∷ rest) place = if n.place == place then rest else nodes_behind rest place
 
--- the seek is at a node before the place sought, and the rest of it gives what the whole would
+-- The seek is at a node before the place sought, and the rest of it gives what the whole would.
 pub record IsSeeking (old now : Listing) (from place split : ℕ) : Type 0 where
   pub linked : IsLinked now.nodes place
   pub pred : AllPlain now.nodes → IsPred now.nodes place split
@@ -25,7 +25,7 @@ pub record IsSeeking (old now : Listing) (from place split : ℕ) : Type 0 where
   pub kept : KeepsRest old now
   pub follows : Follows old now
 
--- a seek begins at an unmarked node
+-- A seek begins at an unmarked node.
 pub pred_from_start : (nodes : List NodeAt) (place split : ℕ) → IsStart nodes place split → AllPlain nodes → IsPred nodes place split
 pred_from_start nodes place split start plain = record {
   node = start.node;
@@ -74,7 +74,7 @@ module _ (nodes : List NodeAt) (place : ℕ) (n : NodeAt) (at : IsAt nodes place
   pub behind_at : nodes_behind nodes place ≡ at.rest
   behind_at = ap (λ ns. nodes_behind ns place) at.is ∙ nodes_behind-append place n at.rest at.here at.front at.absent
 
--- at a node before the place sought
+-- At a node before the place sought.
 module _ (nodes : List NodeAt) (place split : ℕ) (pred : IsPred nodes place split) where
   pred_at : IsAt nodes place pred.node
   pred_at = found_at nodes place pred.node pred.is
@@ -82,7 +82,7 @@ module _ (nodes : List NodeAt) (place split : ℕ) (pred : IsPred nodes place sp
   first_rest : (o : Option NodeAt) → next_of nodes place ≡ o → first pred_at.rest ≡ o
   first_rest o is = sym (next_at nodes place pred.node pred_at) ∙ is
 
-  -- nothing is left where nothing is behind
+  -- Nothing is left where nothing is behind.
   pub sought_at_end : next_of nodes place ≡ None → sought nodes place split ≡ nodes
   sought_at_end is =
       sought_at nodes place pred.node pred_at split
@@ -96,7 +96,7 @@ module _ (nodes : List NodeAt) (place split : ℕ) (pred : IsPred nodes place sp
     rest_is : pred_at.rest ≡ m ∷ without_first pred_at.rest
     rest_is = first_is pred_at.rest m (first_rest (Some m) is)
 
-    -- nor where an unmarked node that is not below the split key is behind
+    -- Nor where an unmarked node that is not below the split key is behind.
     pub sought_stopped : m.marked ≡ false → split ≤ m.split → sought nodes place split ≡ nodes
     sought_stopped unmarked above =
         sought_at nodes place pred.node pred_at split
@@ -104,7 +104,7 @@ module _ (nodes : List NodeAt) (place split : ℕ) (pred : IsPred nodes place sp
         (ap (cleaned split) rest_is ∙ cleaned_stopped m (without_first pred_at.rest) split unmarked above ∙ sym rest_is)
         ∙ sym pred_at.is
 
-    -- an unmarked node below the split key is passed
+    -- An unmarked node below the split key is passed.
     pub sought_passed : IsSpread nodes → m.marked ≡ false → IsBelow m split → sought nodes m.place split ≡ sought nodes place split
     sought_passed spread unmarked below =
         sought_at nodes m.place m next split
@@ -118,7 +118,7 @@ module _ (nodes : List NodeAt) (place split : ℕ) (pred : IsPred nodes place sp
         next : IsAt nodes m.place m
         next = at_next nodes place pred.node pred_at m spread (first_rest (Some m) is)
 
-    -- a marked node is unlinked
+    -- A marked node is unlinked.
     pub sought_unlinked : m.marked ≡ true → sought (unlinked_after nodes place) place split ≡ sought nodes place split
     sought_unlinked marked =
         sought_at (unlinked_after nodes place) place pred.node (at_unlinked nodes place pred.node pred_at) split
@@ -126,7 +126,7 @@ module _ (nodes : List NodeAt) (place split : ℕ) (pred : IsPred nodes place sp
         (sym (ap (cleaned split) rest_is ∙ cleaned_marked m (without_first pred_at.rest) split marked))
         ∙ sym (sought_at nodes place pred.node pred_at split)
 
-  -- the node at the place stays
+  -- The node at the place stays.
   pub pred_unlinked : IsPred (unlinked_after nodes place) place split
   pred_unlinked = record {
     node = pred.node;
@@ -135,21 +135,21 @@ module _ (nodes : List NodeAt) (place split : ℕ) (pred : IsPred nodes place sp
     below = pred.below;
   }
 
--- at any linked node
+-- At any linked node.
 module _ (nodes : List NodeAt) (place : ℕ) (n m : NodeAt) (is : node_of nodes place ≡ Some n) (next_is : next_of nodes place ≡ Some m) where
   behind_first : nodes_behind nodes place ≡ m ∷ without_first (found_at nodes place n is).rest
   behind_first =
       let at = found_at nodes place n is in
       behind_at nodes place n at ∙ first_is at.rest m (sym (next_at nodes place n at) ∙ next_is)
 
-  -- fewer nodes are behind the next one
+  -- Fewer nodes are behind the next one.
   pub behind_next : IsSpread nodes → length (nodes_behind nodes m.place) < length (nodes_behind nodes place)
   behind_next spread =
       let at = found_at nodes place n is in
       let next = at_next nodes place n at m spread (sym (next_at nodes place n at) ∙ next_is) in
       omega (arith, ap length (behind_at nodes m.place m next), ap length behind_first)
 
-  -- fewer nodes are behind a node when the next one is unlinked
+  -- Fewer nodes are behind a node when the next one is unlinked.
   pub behind_fewer : length (nodes_behind (unlinked_after nodes place) place) < length (nodes_behind nodes place)
   behind_fewer =
       let at = found_at nodes place n is in
@@ -159,7 +159,7 @@ module _ (nodes : List NodeAt) (place : ℕ) (n m : NodeAt) (is : node_of nodes 
         ap length behind_first,
       )
 
--- what holds of each node holds of each that a seek leaves
+-- What holds of each node holds of each that a seek leaves.
 pub each_cleaned : (P : NodeAt → Type 0) (split : ℕ) (nodes : List NodeAt) → AllByRecursion P nodes → AllByRecursion P (cleaned split nodes)
 each_cleaned P split [] each = let Each : List NodeAt → Type 0 = λ ns. AllByRecursion P ns in subst Each (sym (cleaned_nil split)) tt
 each_cleaned P split (n ∷ rest) each = go n.marked refl (each_cleaned P split rest each.1)

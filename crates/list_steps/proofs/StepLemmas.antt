@@ -17,7 +17,7 @@ use Rattle.list_steps.proofs.ContentLemmas.{pairs_linked, pairs_marked, pairs_wr
 use Rattle.list_steps.proofs.CursorLemmas.{there, above, low, fits_pred}
 
 module _ (l : Listing) (c : Cursor) (sound : IsSound l) (placed : IsPlaced l c) (fitting : fits l c ≡ true) where
-  -- what a look finds
+  -- What a look finds.
   pub finds : (found : Option ℕ) → found ≡ place_of (node_there l c) → Finds l c found
   finds found found_is = go (node_there l c) found refl found_is
     where
@@ -44,7 +44,7 @@ module _ (l : Listing) (c : Cursor) (sound : IsSound l) (placed : IsPlaced l c) 
             content = λ key regular. pairs_contain l.nodes n.place n here.is key regular here.unmarked;
           })
 
-  -- where there is room, a node of the split key keeps the order
+  -- Where there is room, a node of the split key keeps the order.
   pub rising_where_fits : node_there l c ≡ None → (x : NodeAt) → x.split ≡ split_of c → IsRising (linked_after l.nodes (pred_of c) x)
   rising_where_fits none x split_is =
       let pred = fits_pred l c fitting in
@@ -52,7 +52,7 @@ module _ (l : Listing) (c : Cursor) (sound : IsSound l) (placed : IsPlaced l c) 
       rising_linked l.nodes (pred_of c) pred.0 x sound.rising pred.1 (before-split pred.0 x is_below)
       (λ m is. before-split x m (omega (arith, above l c sound placed fitting none m is, split_is)))
 
-  -- a node that is linked
+  -- A node that is linked.
   pub links : (new : Listing) (x : NodeAt) → Takes l new (linked_after l.nodes (pred_of c) x) x.place → node_of new.nodes x.place ≡ Some x → Links l new c x
   links new x takes found =
       let pred = fits_pred l c fitting in
@@ -63,7 +63,7 @@ module _ (l : Listing) (c : Cursor) (sound : IsSound l) (placed : IsPlaced l c) 
         content = subst Content (sym takes.nodes) (pairs_linked l.nodes (pred_of c) pred.0 pred.1 x);
       }
 
-  -- the key of a regular node that is there
+  -- The key of a regular node that is there.
   key_of : (k : Kind) → is_regular k ≡ true → (key : ℕ) × (k ≡ Regular key)
   key_of Dummy is = cc
   key_of (Regular key) is = (key, refl)
@@ -79,7 +79,7 @@ module _ (l : Listing) (c : Cursor) (sound : IsSound l) (placed : IsPlaced l c) 
       let key = regular_there here.node here.there key_there in
       record { node = here.node; key = key.0; is = here.is; regular = key.1; unmarked = here.unmarked }
 
-  -- a node that is marked
+  -- A node that is marked.
   pub marks : (new : Listing) (place : ℕ) → IsThere l c place → IsKeyThere l c → Becomes l new (marked_at l.nodes place) → (n : NodeAt) → node_of l.nodes place ≡ Some n → Marks l new c n.value
   marks new place here key_there becomes n is =
       let key = regular_there here.node here.there key_there in
@@ -99,7 +99,7 @@ module _ (l : Listing) (c : Cursor) (sound : IsSound l) (placed : IsPlaced l c) 
         content = subst Content (sym becomes.nodes) (subst Value value (pairs_marked l.nodes place here.node here.is key.0 key.1 here.unmarked));
       }
 
-  -- a value that is written
+  -- A value that is written.
   pub swaps : (new : Listing) (place now : ℕ) → IsThere l c place → IsKeyThere l c → Becomes l new (written_at l.nodes place now) → (n : NodeAt) → node_of l.nodes place ≡ Some n → Swaps l new c n.value now
   swaps new place now here key_there becomes n is =
       let key = regular_there here.node here.there key_there in

@@ -9,11 +9,11 @@ use Rattle.list_steps.specs.Steps.{without_first_marked}
 use Rattle.list_steps.proofs.NodeLemmas.{IsAt, found_at, next_at, unlinked_at, at_next, first_is, first_none}
 use Rattle.list_steps.proofs.OrderLemmas.{before_later}
 
--- none of these nodes is marked
+-- None of these nodes is marked.
 abbrev pub IsClean : List NodeAt → Type 0
 IsClean nodes = AllByRecursion (λ n. n.marked ≡ false) nodes
 
--- the sweep is at a node, and neither that nor any before it is marked
+-- The sweep is at a node, and neither that nor any before it is marked.
 pub record IsSweeping (nodes : List NodeAt) (place : ℕ) : Type 0 where
   pub node : NodeAt
   pub at : IsAt nodes place node
@@ -23,7 +23,7 @@ clean-append : (front rest : List NodeAt) → IsClean front → IsClean rest →
 clean-append [] rest before after = after
 clean-append (n ∷ front) rest before after = (before.0, clean-append front rest before.1 after)
 
--- nothing is before the lowest node
+-- Nothing is before the lowest node.
 nothing_before : (front : List NodeAt) (n : NodeAt) (rest : List NodeAt) → IsRising (front ++ n ∷ rest) → n.split ≡ 0 → front ≡ []
 unfolding IsRising IsBefore
 nothing_before [] n rest rising lowest = refl
@@ -44,7 +44,7 @@ without_first_marked-append (n ∷ front) m rest passed marked =
     without_first_marked-cons n (front ++ m ∷ rest) passed.0
     ∙ ap (λ ns. n ∷ ns) (without_first_marked-append front m rest passed.1 marked)
 
--- it begins at the first node
+-- It begins at the first node.
 pub sweeping_first : (l : Listing) → IsSound l → IsSweeping l.nodes l.head
 sweeping_first l sound =
     let node = sound.first.node in
@@ -60,7 +60,7 @@ module _ (nodes : List NodeAt) (place : ℕ) (sweeping : IsSweeping nodes place)
   first_rest : (o : Option NodeAt) → next_of nodes place ≡ o → first sweeping.at.rest ≡ o
   first_rest o is = sym (next_at nodes place sweeping.node sweeping.at) ∙ is
 
-  -- goes on behind an unmarked node
+  -- Goes on behind an unmarked node.
   pub sweeping_passed : (m : NodeAt) → IsSpread nodes → next_of nodes place ≡ Some m → m.marked ≡ false → IsSweeping nodes m.place
   sweeping_passed m spread is unmarked = record {
     node = m;
@@ -68,7 +68,7 @@ module _ (nodes : List NodeAt) (place : ℕ) (sweeping : IsSweeping nodes place)
     passed = clean-append (sweeping.at.front ++ sweeping.node ∷ []) (m ∷ []) sweeping.passed (unmarked, tt);
   }
 
-  -- finds the first marked node
+  -- Finds the first marked node.
   pub sweeping_found : (m : NodeAt) → next_of nodes place ≡ Some m → m.marked ≡ true → unlinked_after nodes place ≡ without_first_marked nodes
   sweeping_found m is marked =
       unlinked_at nodes place sweeping.node sweeping.at
@@ -83,14 +83,14 @@ module _ (nodes : List NodeAt) (place : ℕ) (sweeping : IsSweeping nodes place)
           sweeping.at.is ∙ ap (λ ns. sweeping.at.front ++ sweeping.node ∷ ns) (first_is sweeping.at.rest m (first_rest (Some m) is))
           ∙ sym (append_assoc sweeping.at.front (sweeping.node ∷ []) (m ∷ without_first sweeping.at.rest))
 
-  -- or the end, and then none is marked
+  -- Or the end, and then none is marked.
   pub sweeping_ends : next_of nodes place ≡ None → IsClean nodes
   sweeping_ends is =
       let nothing = first_none sweeping.at.rest (first_rest None is) in
       let C : List NodeAt → Type 0 = IsClean in
       subst C (sym (sweeping.at.is ∙ ap (λ ns. sweeping.at.front ++ sweeping.node ∷ ns) nothing)) sweeping.passed
 
--- what holds of each node holds of each that a sweep leaves
+-- What holds of each node holds of each that a sweep leaves.
 pub each_swept : (P : NodeAt → Type 0) (nodes : List NodeAt) → AllByRecursion P nodes → AllByRecursion P (without_first_marked nodes)
 unfolding without_first_marked
 each_swept P [] each = tt

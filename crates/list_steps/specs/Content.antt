@@ -4,22 +4,22 @@ use Rattle.node_list.specs.declared.node.Kind.{Kind}
 use Rattle.node_list.specs.declared.node.Kind.TheVariants.{Dummy, Regular}
 use Rattle.node_list.specs.Nodes.{NodeAt}
 
--- what a node of this kind, mark and value adds to the content: its pair, if it is regular and unmarked
+-- What a node of this kind, mark and value adds to the content: its pair, if it is regular and unmarked.
 abbrev pub pair_if : Kind → Bool → ℕ → List (ℕ × ℕ)
 pair_if Dummy marked value = []
 pair_if (Regular key) true value = []
 pair_if (Regular key) false value = (key, value) ∷ []
 
--- what a node adds to the content
+-- What a node adds to the content.
 abbrev pub pair_of : NodeAt → List (ℕ × ℕ)
 pair_of n = pair_if n.kind n.marked n.value
 
--- key and value of each regular, unmarked node
+-- Key and value of each regular, unmarked node.
 unfoldable pub pairs : List NodeAt → List (ℕ × ℕ)
 pairs [] = []
 pairs (n ∷ rest) = pair_of n ++ pairs rest
 
--- one stretch of the list has become another, and the rest stands as it was
+-- One stretch of the list has become another, and the rest stands as it was.
 pub record Replaces (old new was now : List (ℕ × ℕ)) : Type 0 where
   pub before : List (ℕ × ℕ)
   pub after : List (ℕ × ℕ)

@@ -5,34 +5,34 @@ use Rattle.list_steps.specs.declared.cursor.Cursor.{Cursor}
 use Rattle.list_steps.specs.declared.cursor.Noted.{Noted}
 use Rattle.list_steps.specs.Seek.{IsBelow, IsNotBelow}
 
--- the split key that was sought
+-- The split key that was sought.
 abbrev pub split_of : Cursor → ℕ
 split_of c = c.split
 
--- the change number when the seek ended
+-- The change number when the seek ended.
 abbrev pub turn_of : Cursor → ℕ
 turn_of c = c.turn
 
--- the place of the node before the place sought
+-- The place of the node before the place sought.
 abbrev pub pred_of : Cursor → ℕ
 pred_of c = c.pred.place
 
--- the node that now stands behind the cursor's first one
+-- The node that now stands behind the cursor's first one.
 abbrev pub behind : Listing → Cursor → Option NodeAt
 behind l c = next_of l.nodes (pred_of c)
 
--- what a cursor notes of a node
+-- What a cursor notes of a node.
 abbrev pub noted : Option NodeAt → Option Noted
 noted None = None
 noted (Some n) = Some (record { place = n.place; stamp = n.stamp })
 
--- the node, if there is one, is unmarked and not below the split key
+-- The node, if there is one, is unmarked and not below the split key.
 abbrev pub IsBeyond : Option NodeAt → ℕ → Type 0
 IsBeyond None split = Unit {0}
 IsBeyond (Some n) split = (n.marked ≡ false) × IsNotBelow n split
 
--- the cursor notes an unmarked node below its split key and the node behind that, which is
--- unmarked and not below it
+-- The cursor notes an unmarked node below its split key and the node behind that, which is
+-- unmarked and not below it.
 pub record IsFound (l : Listing) (c : Cursor) : Type 0 where
   pub pred : NodeAt
   pub pred_is : node_of l.nodes (pred_of c) ≡ Some pred
@@ -43,20 +43,20 @@ pub record IsFound (l : Listing) (c : Cursor) : Type 0 where
   pub beyond : IsBeyond (behind l c) (split_of c)
   pub turn : turn_of c ≡ l.turn
 
--- there is a node, with this stamp and unmarked
+-- There is a node, with this stamp and unmarked.
 abbrev pub is_noted : Option NodeAt → ℕ → Bool
 is_noted None stamp = false
 is_noted (Some n) stamp = n.stamp == stamp && not n.marked
 
--- the next node is what the cursor noted, and unmarked
+-- The next node is what the cursor noted, and unmarked.
 abbrev pub is_next_noted : Option NodeAt → Option Noted → Bool
 is_next_noted None None = true
 is_next_noted None (Some c) = false
 is_next_noted (Some n) None = false
 is_next_noted (Some n) (Some c) = n.place == c.place && (n.stamp == c.stamp && not n.marked)
 
--- the cursor fits: its first node is linked and unmarked with the noted stamp, behind it is the noted
--- second one or the end, and that one is unmarked and has its noted stamp
+-- The cursor fits: its first node is linked and unmarked with the noted stamp, behind it is the noted
+-- second one or the end, and that one is unmarked and has its noted stamp.
 unfoldable pub fits : Listing → Cursor → Bool
 fits l c = is_noted (node_of l.nodes (pred_of c)) c.pred.stamp && is_next_noted (behind l c) c.cur
 
@@ -73,19 +73,19 @@ pub record IsPlaced (l : Listing) (c : Cursor) : Type 0 where
   pub turn_known : min (turn_of c) (2 ^ 64 - 1) ≤ l.turn
   pub held : l.turn ≡ turn_of c → l.turn < 2 ^ 64 - 1 → fits l c ≡ true
 
--- the node, if it has the split key
+-- The node, if it has the split key.
 abbrev pub with_split : Option NodeAt → ℕ → Option NodeAt
 with_split None split = None
 with_split (Some n) split = if n.split == split then Some n else None
 
--- the node of the split key sought, if it stands where the cursor is
+-- The node of the split key sought, if it stands where the cursor is.
 abbrev pub node_there : Listing → Cursor → Option NodeAt
 node_there l c = with_split (behind l c) (split_of c)
 
--- where the cursor fits, no node has its split key
+-- Where the cursor fits, no node has its split key.
 abbrev pub IsRoomFor : Listing → Cursor → Type 0
 IsRoomFor l c = fits l c ≡ true → node_there l c ≡ None
 
--- where the cursor fits, a regular node has its split key
+-- Where the cursor fits, a regular node has its split key.
 abbrev pub IsKeyThere : Listing → Cursor → Type 0
 IsKeyThere l c = fits l c ≡ true → IsSomeAnd (node_there l c) (λ n. IsTrue (is_regular n.kind))

@@ -9,7 +9,7 @@ use Rattle.list_steps.specs.declared.sweeps.SweepOutcome.TheVariants.{Swept, Cle
 use Rattle.list_steps.specs.Content.{pairs, pair_of, Replaces}
 use Rattle.list_steps.specs.Found.{split_of, pred_of, node_there}
 
--- at the place is the node of the split key sought, unmarked, and its pair is in the content if it is regular
+-- At the place is the node of the split key sought, unmarked, and its pair is in the content if it is regular.
 pub record IsThere (l : Listing) (c : Cursor) (place : ℕ) : Type 0 where
   pub node : NodeAt
   pub there : node_there l c ≡ Some node
@@ -18,23 +18,23 @@ pub record IsThere (l : Listing) (c : Cursor) (place : ℕ) : Type 0 where
   pub unmarked : node.marked ≡ false
   pub content : (key : ℕ) → node.kind ≡ Regular key → Contains (pairs l.nodes) (key, node.value)
 
--- no linked node has the split key sought
+-- No linked node has the split key sought.
 pub record IsAbsent (l : Listing) (c : Cursor) : Type 0 where
   pub none : node_there l c ≡ None
   pub others : AllByRecursion (λ n. n.split ≢ split_of c) l.nodes
 
--- what a look finds
+-- What a look finds.
 abbrev pub Finds : Listing → Cursor → Option ℕ → Type 0
 Finds l c None = IsAbsent l c
 Finds l c (Some place) = IsThere l c place
 
--- the node is linked where the cursor is
+-- The node is linked where the cursor is.
 pub record Links (old new : Listing) (c : Cursor) (node : NodeAt) : Type 0 where
   pub takes : Takes old new (linked_after old.nodes (pred_of c) node) node.place
   pub linked : node_of new.nodes node.place ≡ Some node
   pub content : Replaces (pairs old.nodes) (pairs new.nodes) [] (pair_of node)
 
--- the node of the split key sought, which had this value, is marked
+-- The node of the split key sought, which had this value, is marked.
 pub record Marks (old new : Listing) (c : Cursor) (value : ℕ) : Type 0 where
   pub node : NodeAt
   pub key : ℕ
@@ -44,7 +44,7 @@ pub record Marks (old new : Listing) (c : Cursor) (value : ℕ) : Type 0 where
   pub becomes : Becomes old new (marked_at old.nodes node.place)
   pub content : Replaces (pairs old.nodes) (pairs new.nodes) ((key, value) ∷ []) []
 
--- the node of the split key sought, which had the first value, has the second
+-- The node of the split key sought, which had the first value, has the second.
 pub record Swaps (old new : Listing) (c : Cursor) (was now : ℕ) : Type 0 where
   pub node : NodeAt
   pub key : ℕ
@@ -54,12 +54,12 @@ pub record Swaps (old new : Listing) (c : Cursor) (was now : ℕ) : Type 0 where
   pub becomes : Becomes old new (written_at old.nodes node.place now)
   pub content : Replaces (pairs old.nodes) (pairs new.nodes) ((key, was) ∷ []) ((key, now) ∷ [])
 
--- the nodes without the first marked one
+-- The nodes without the first marked one.
 unfoldable pub without_first_marked : List NodeAt → List NodeAt
 without_first_marked [] = []
 without_first_marked (n ∷ rest) = if n.marked then rest else n ∷ without_first_marked rest
 
--- the first marked node is unlinked, or none is marked and nothing has changed
+-- The first marked node is unlinked, or none is marked and nothing has changed.
 abbrev pub Sweeps : Listing → Listing → SweepOutcome → Type 0
 Sweeps old new Swept = Becomes old new (without_first_marked old.nodes)
 Sweeps old new Clean = new ≡ old

@@ -45,7 +45,7 @@ impl std::error::Error for Again {}
 impl Noted {
     ghost use Rattle.list_steps.specs.Found.{noted};
 
-    // The node that is linked at a place.
+    /// The node that is linked at a place.
     fn of(list: &NodeList, place: NodeRef) -> Noted
         requires { IsLinked list.now.nodes place }
         ensures { noted (node_of list.now.nodes place) ≡ Some result }
@@ -56,7 +56,7 @@ impl Noted {
         }
     }
 
-    // The node behind a linked node, if there is one.
+    /// The node behind a linked node, if there is one.
     fn behind(list: &NodeList, place: NodeRef) -> Option<Noted>
         requires { IsLinked list.now.nodes place }
         ensures { result ≡ noted (next_of list.now.nodes place) }
@@ -66,7 +66,7 @@ impl Noted {
     }
 }
 
-// Whether this node has this stamp and is unmarked.
+/// Whether this node has this stamp and is unmarked.
 fn is_unmarked_with(node: &Node, stamp: u64) -> bool
     ensures { result ≡ (node.now.stamp == stamp && not node.now.marked) }
 {
@@ -77,7 +77,7 @@ impl Cursor {
     ghost use Rattle.list_steps.specs.Seek.{IsPred};
     ghost use Rattle.list_steps.specs.Found.{IsBeyond, IsFound, IsPlaced, behind, fits, is_next_noted, pred_of, split_of};
 
-    // The cursor of a split key, which belongs behind this place.
+    /// The cursor of a split key, which belongs behind this place.
     pub(crate) fn behind(list: &NodeList, place: NodeRef, split: u64) -> Cursor
         requires pred { IsPred list.now.nodes place split }
         requires beyond { IsBeyond (next_of list.now.nodes place) split }
@@ -94,7 +94,7 @@ impl Cursor {
         }
     }
 
-    // Whether the node behind the first one is what was noted, and unmarked.
+    /// Whether the node behind the first one is what was noted, and unmarked.
     fn is_next_fitting(&self, list: &NodeList) -> bool
         requires { IsLinked list.now.nodes (pred_of self.now) }
         ensures { result ≡ is_next_noted (behind list.now self.now) self.now.cur }
@@ -109,7 +109,7 @@ impl Cursor {
         }
     }
 
-    // Whether the list is still as the cursor noted it.
+    /// Whether the list is still as the cursor noted it.
     pub(crate) fn is_fitting(&self, list: &NodeList) -> bool
         ensures fits { result ≡ fits list.now self.now }
         ensures sound { IsSound list.now }

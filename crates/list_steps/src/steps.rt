@@ -8,7 +8,7 @@ ghost use Rattle.list_steps.specs.Steps.{Finds, Links, Marks, Swaps};
 use crate::cursor::{Again, Cursor};
 use node_list::{NodeList, NodeRef, Spare};
 
-// The node behind the cursor's first one, if it has the split key sought.
+/// The node behind the cursor's first one, if it has the split key sought.
 fn node_there(list: &NodeList, cursor: &Cursor) -> Option<NodeRef>
     requires { IsLinked list.now.nodes (pred_of cursor.now) }
     ensures { result ≡ place_of (node_there list.now cursor.now) }

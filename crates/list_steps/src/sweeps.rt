@@ -17,7 +17,7 @@ pub enum SweepOutcome {
     Clean,
 }
 
-// The node before the first marked one.
+/// The node before the first marked one.
 fn before_first_marked(list: &NodeList) -> NodeRef
     requires { ¬ AllByRecursion (λ n. n.marked ≡ false) list.now.nodes }
     ensures marked { IsBeforeMarked list.now.nodes result }

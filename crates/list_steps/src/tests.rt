@@ -8,12 +8,12 @@ use crate::{Again, Cursor, SweepOutcome, link, look, mark, seek, swap, sweep};
 use node_list::{Kind, NodeList, Spare, SpareFault};
 use std::test::Fail;
 
-// The split keys of keys 2 and 4.
+/// The split keys of keys 2 and 4.
 const KEY_2: u64 = 0x4000_0000_0000_0001;
 
 const KEY_4: u64 = 0x2000_0000_0000_0001;
 
-// A spare that is filled as a regular node.
+/// A spare that is filled as a regular node.
 fn regular_spare(list: &mut NodeList, split: u64, key: u64, value: u64) -> Result<Spare, SpareFault>
     ensures out { IfOk result (IsOut list.new) }
     ensures split { IfOk result (λ spare. spare.split ≡ split) }
@@ -24,7 +24,7 @@ fn regular_spare(list: &mut NodeList, split: u64, key: u64, value: u64) -> Resul
     Ok(spare)
 }
 
-// Seeks from the dummy of bucket 0.
+/// Seeks from the dummy of bucket 0.
 fn seek_from_head(list: &mut NodeList, split: u64) -> Cursor
     requires { 0 < split }
     ensures placed { IsPlaced list.new result }
@@ -36,7 +36,7 @@ fn seek_from_head(list: &mut NodeList, split: u64) -> Cursor
     seek(list, head, split)
 }
 
-// Whether a regular node of the split key sought is there.
+/// Whether a regular node of the split key sought is there.
 fn is_key_there(list: &NodeList, cursor: &Cursor) -> bool
     requires { IsPlaced list.now cursor.now }
     ensures { IsTrue result → IsKeyThere list.now cursor.now }
@@ -47,7 +47,7 @@ fn is_key_there(list: &NodeList, cursor: &Cursor) -> bool
     }
 }
 
-// What the first four nodes stand for.
+/// What the first four nodes stand for.
 fn kinds(list: &NodeList) -> [Option<Kind>; 4] {
     let mut kinds = [None; 4];
     let mut next = Some(list.head());

@@ -17,22 +17,22 @@ use Rattle.node_list.proofs.CountLemmas.{gain, count-linked, count-unlinked, cou
 use Rattle.node_list.proofs.SlabSteps.{kept, spare_laid_out, spare_stamps, spare_out, spare_was_free, spare_others, back_laid_out, back_stamps, back_gone, back_others, link_absent, link_laid_out, link_stamps, link_gone, link_others, mid_spare, change_laid_out, change_stamps, change_out, unlink_laid_out, unlink_stamps, unlink_out}
 use Rattle.node_list.proofs.FollowLemmas.{gives_out_follows, takes_back_follows, links_follow, changes_follow, unlinks_follow}
 
--- no more nodes are counted than slots are in use
+-- No more nodes are counted than slots are in use.
 pub counted_fit : (slab : Slab Slot) (head last count marked : ℕ) → IsKept slab head last count marked → count + marked ≤ slab_len slab
 counted_fit slab head last count marked is =
     let fits = nodes_fit slab head (nodes_in slab head) is.laid_out in
     omega (arith, fits, counts_fit (nodes_in slab head), is.counted, is.marks)
 
--- the slot of a linked node
+-- The slot of a linked node.
 pub slot_linked : (slab : Slab Slot) (head last count marked place : ℕ) → IsKept slab head last count marked → IsLinked (nodes_in slab head) place → (node : Node) × (get slab place ≡ Some (Linked node))
 slot_linked slab head last count marked place is linked = linked_node (get slab) (nodes_in slab head) place is.laid_out.chain linked
 
--- a marked node behind another
+-- A marked node behind another.
 pub behind_linked : (slab : Slab Slot) (head : ℕ) (pred : ℕ) → IsBeforeMarked (nodes_in slab head) pred → IsLinked (nodes_in slab head) pred
 behind_linked slab head pred behind = (next_linked (nodes_in slab head) pred behind.node.place (ap place_of behind.next)).0
 
 module _ (old : Slab Slot) (head turn last count marked : ℕ) (is : IsKept old head last count marked) where
-  -- a spare is given out
+  -- A spare is given out.
   pub spared : (new : Slab Slot) (place : ℕ) → last + 1 < 2 ^ 64 - 1 → get old place ≡ None → Updates old new place (Some (Out (last + 1))) → IsKept new head (last + 1) count marked × GivesOut (listing_of old head turn last) (listing_of new head turn (last + 1)) place (last + 1) × Follows (listing_of old head turn last) (listing_of new head turn (last + 1))
   spared new place below free updates =
       let nodes = nodes_in old head in
@@ -52,7 +52,7 @@ module _ (old : Slab Slot) (head turn last count marked : ℕ) (is : IsKept old 
         gives_out_follows _ _ place (last + 1) refl gives,
       )
 
-  -- a spare is given back
+  -- A spare is given back.
   pub taken_back : (new : Slab Slot) (place stamp : ℕ) → out_at (listing_of old head turn last) place ≡ Some stamp → Updates old new place None → IsKept new head last count marked × TakesBack (listing_of old head turn last) (listing_of new head turn last) place × Follows (listing_of old head turn last) (listing_of new head turn last)
   taken_back new place stamp is_out freed =
       let nodes = nodes_in old head in
@@ -71,7 +71,7 @@ module _ (old : Slab Slot) (head turn last count marked : ℕ) (is : IsKept old 
         takes_back_follows _ _ place back,
       )
 
-  -- a node is changed
+  -- A node is changed.
   module _ (new : Slab Slot) (place : ℕ) (change : NodeAt → NodeAt) (node written : Node)
       (same : (n : NodeAt) → IsSameNode n (change n))
       (changes : (n : NodeAt) (next : Option ℕ) → node ≡ stored n next → written ≡ stored (change n) next)
@@ -107,7 +107,7 @@ module _ (old : Slab Slot) (head turn last count marked : ℕ) (is : IsKept old 
           changes_follow _ _ place change same becomes,
         )
 
-  -- a value is written
+  -- A value is written.
   pub value_written : (new : Slab Slot) (place value : ℕ) (node : Node) → IsLinked (nodes_in old head) place → get old place ≡ Some (Linked node) → new ≡ with_value old place (Linked (record node { value = value })) → IsKept new head last count marked × Becomes (listing_of old head turn last) (listing_of new head (turn_after turn) last) (written_at (nodes_in old head) place value) × Follows (listing_of old head turn last) (listing_of new head (turn_after turn) last)
   value_written new place value node linked is_node new_is =
       changed new place (λ n. record n { value = value }) node (record node { value = value })
@@ -115,7 +115,7 @@ module _ (old : Slab Slot) (head turn last count marked : ℕ) (is : IsKept old 
       (λ n next node_is. ap (λ (v : Node). record v { value = value }) node_is)
       refl linked is_node new_is (λ n there plain. plain) count marked refl refl
 
-  -- the node at the place of an unmarked regular node
+  -- The node at the place of an unmarked regular node.
   regular_seen : (place : ℕ) (node : Node) → IsRegularAt (nodes_in old head) place → get old place ≡ Some (Linked node) → (key : ℕ) × (node.kind ≡ Regular key) × (node.marked ≡ false)
   regular_seen place node regular is_node =
       let linked = found_linked (nodes_in old head) place regular.node regular.is in
@@ -123,7 +123,7 @@ module _ (old : Slab Slot) (head turn last count marked : ℕ) (is : IsKept old 
       let same = some-injective (sym there ∙ regular.is) in
       (regular.key, ap (λ (v : NodeAt). v.kind) same ∙ regular.regular, ap (λ (v : NodeAt). v.marked) same ∙ regular.unmarked)
 
-  -- an unmarked regular node is counted
+  -- An unmarked regular node is counted.
   pub counts_one : (place : ℕ) → IsRegularAt (nodes_in old head) place → 1 ≤ count
   counts_one place regular =
       let linked = found_linked (nodes_in old head) place regular.node regular.is in
@@ -136,7 +136,7 @@ module _ (old : Slab Slot) (head turn last count marked : ℕ) (is : IsKept old 
   dummy-not-regular : {key : ℕ} → Dummy ≡ Regular key → ⊥
   dummy-not-regular e = cc
 
-  -- a node is marked
+  -- A node is marked.
   pub node_marked : (new : Slab Slot) (place : ℕ) (node : Node) → IsRegularAt (nodes_in old head) place → get old place ≡ Some (Linked node) → new ≡ with_value old place (Linked (record node { marked = true })) → IsKept new head last (count - 1) (marked + 1) × Becomes (listing_of old head turn last) (listing_of new head (turn_after turn) last) (marked_at (nodes_in old head) place) × Follows (listing_of old head turn last) (listing_of new head (turn_after turn) last)
   node_marked new place node regular is_node new_is =
       let linked = found_linked (nodes_in old head) place regular.node regular.is in
@@ -154,12 +154,12 @@ module _ (old : Slab Slot) (head turn last count marked : ℕ) (is : IsKept old 
       absurd (dummy-not-regular (sym dummy ∙ ap (λ (v : NodeAt). v.kind) n_is ∙ regular.regular)))
       (count - 1) (marked + 1) (omega (arith, one, none, some)) (omega (arith, unmarked))
 
-  -- the next place of the node before a marked one
+  -- The next place of the node before a marked one.
   pub behind_place : (pred : ℕ) (before : Node) (behind : IsBeforeMarked (nodes_in old head) pred) → get old pred ≡ Some (Linked before) → before.next ≡ Some behind.node.place
   behind_place pred before behind is_before =
       sym (next_is (get old) (nodes_in old head) pred before is.laid_out.chain (behind_linked old head pred behind) is_before) ∙ ap place_of behind.next
 
-  -- the slot of the node behind another
+  -- The slot of the node behind another.
   pub behind_slot : (pred place : ℕ) (before : Node) → IsLinked (nodes_in old head) pred → get old pred ≡ Some (Linked before) → before.next ≡ Some place → (node : Node) × (get old place ≡ Some (Linked node))
   behind_slot pred place before linked is_before next =
       let place_is = next_is (get old) (nodes_in old head) pred before is.laid_out.chain linked is_before ∙ next in
@@ -171,11 +171,11 @@ module _ (old : Slab Slot) (head turn last count marked : ℕ) (is : IsKept old 
       let less = count-unlinked is_marked (nodes_in old head) pred behind.node behind.next in
       omega (arith, one, less)
 
-  -- a marked node is counted
+  -- A marked node is counted.
   pub marks_one : (pred : ℕ) → IsBeforeMarked (nodes_in old head) pred → 1 ≤ marked
   marks_one pred behind = omega (arith, marks_behind pred behind, is.marks)
 
-  -- a marked node is unlinked
+  -- A marked node is unlinked.
   pub unlinked : (mid new : Slab Slot) (pred place : ℕ) (before behind : Node) → IsBeforeMarked (nodes_in old head) pred → get old pred ≡ Some (Linked before) → before.next ≡ Some place → get old place ≡ Some (Linked behind) → mid ≡ with_value old pred (Linked (record before { next = behind.next })) → Updates mid new place None → IsKept new head last count (marked - 1) × Becomes (listing_of old head turn last) (listing_of new head (turn_after turn) last) (unlinked_after (nodes_in old head) pred) × Follows (listing_of old head turn last) (listing_of new head (turn_after turn) last)
   unlinked mid new pred place before behind is_behind_marked is_before next is_behind mid_is freed =
       let nodes = nodes_in old head in
@@ -197,13 +197,13 @@ module _ (old : Slab Slot) (head turn last count marked : ℕ) (is : IsKept old 
         unlinks_follow _ _ pred (spread (get old) nodes is.laid_out.chain is.laid_out.rising) is.laid_out.plain is_behind_marked becomes,
       )
 
-  -- the node of a spare is linked
+  -- The node of a spare is linked.
   module _ (mid new : Slab Slot) (pred : ℕ) (before : Node) (s : SpareAt) (next : Option ℕ)
       (is_before : get old pred ≡ Some (Linked before))
       (is_out : IsOut (listing_of old head turn last) s)
       (next_was : next ≡ before.next)
       (mid_is : mid ≡ with_value old pred (Linked (record before { next = Some s.place }))) where
-    -- the spare's place is still in use once the node before has its place
+    -- The spare's place is still in use once the node before has its place.
     pub filling_slot : get mid s.place ≡ Some (Out s.stamp)
     filling_slot = mid_spare old mid (with_value mid s.place (Linked (stored (filled s) before.next))) head last pred (nodes_in old head) (filled s) before is.laid_out is.stamps is_before is_out mid_is refl
 

@@ -26,7 +26,7 @@ out-not-linked e = cc
 pub true-ne-false : true ≡ false → ⊥
 true-ne-false e = cc
 
--- a walk finds the chain
+-- A walk finds the chain.
 walk_is : (fuel : ℕ) (at : ℕ → Option Slot) (nodes : List NodeAt) → IsChain at nodes → length nodes ≤ fuel → walk fuel at (first_place nodes) ≡ nodes
 unfolding walk IsChain
 walk_is zero at [] chain room = refl
@@ -35,7 +35,7 @@ walk_is (suc fuel) at [] chain room = refl
 walk_is (suc fuel) at (n ∷ rest) chain room =
     rw chain.0 (ap (λ ns. n ∷ ns) (walk_is fuel at rest chain.1 (omega arith)))
 
--- a node that is before those of a chain is not in it
+-- A node that is before those of a chain is not in it.
 absent_after : (at : ℕ → Option Slot) (n : NodeAt) (next : Option ℕ) (nodes : List NodeAt) → at n.place ≡ Some (Linked (stored n next)) → IsChain at nodes → AllByRecursion (IsBefore n) nodes → AbsentFrom n.place nodes
 unfolding IsChain
 absent_after at n next [] is chain before = tt
@@ -53,7 +53,7 @@ spread at [] chain rising = tt
 spread at (n ∷ rest) chain rising =
     (absent_after at n (first_place rest) rest chain.0 chain.1 rising.0, spread at rest chain.1 rising.1)
 
--- each node's slot is in use
+-- Each node's slot is in use.
 abbrev pub AllInUse : List (Option Slot) → List NodeAt → Type 0
 AllInUse slots nodes = AllByRecursion (λ n. is_some (get_or slots n.place None) ≡ true) nodes
 
@@ -62,13 +62,13 @@ unfolding IsChain
 in_use slots [] chain = tt
 in_use slots (n ∷ rest) chain = (ap is_some chain.0, in_use slots rest chain.1)
 
--- a slot that is emptied stays in use at no other node
+-- A slot that is emptied stays in use at no other node.
 in_use_after : (slots : List (Option Slot)) (place : ℕ) (nodes : List NodeAt) → AbsentFrom place nodes → AllInUse slots nodes → AllInUse (set slots place None) nodes
 in_use_after slots place [] absent used = tt
 in_use_after slots place (n ∷ rest) absent used =
     (rw (get_or-set_other slots place n.place None None absent.0) used.0, in_use_after slots place rest absent.1 used.1)
 
--- a slot in use is in range
+-- A slot in use is in range.
 in_range : (slots : List (Option Slot)) (place : ℕ) → is_some (get_or slots place None) ≡ true → place < length slots
 in_range slots place used =
     elim (cases_lt place (length slots)) [
@@ -81,7 +81,7 @@ in_range slots place used =
 one_if : (b : Bool) → b ≡ true → cond {A = ℕ} b 1 0 ≡ 1
 one_if b is = rw is refl
 
--- no more nodes than slots in use
+-- No more nodes than slots in use.
 room : (slots : List (Option Slot)) (nodes : List NodeAt) → IsSpread nodes → AllInUse slots nodes → length nodes ≤ count_by is_some slots
 unfolding IsSpread
 room slots [] apart used = omega arith
@@ -103,41 +103,41 @@ place_of_first (n ∷ rest) = refl
 start_place : (nodes : List NodeAt) (head : ℕ) → StartsAt nodes head → first_place nodes ≡ Some head
 start_place nodes head starts = sym (place_of_first nodes) ∙ ap place_of starts.is ∙ ap Some starts.place
 
--- the nodes of a slab are the ones that are laid out in it
+-- The nodes of a slab are the ones that are laid out in it.
 pub nodes_in_is : (slab : Slab Slot) (head : ℕ) (nodes : List NodeAt) → IsLaidOut slab head nodes → nodes_in slab head ≡ nodes
 unfolding nodes_in
 nodes_in_is slab head nodes laid =
     rw (← start_place nodes head laid.starts) (walk_is (slab_len slab) (get slab) nodes laid.chain (nodes_fit slab head nodes laid))
 
--- a chain stays where its slots do
+-- A chain stays where its slots do.
 chain_kept : (at new : ℕ → Option Slot) (nodes : List NodeAt) → IsChain at nodes → AllByRecursion (λ n. new n.place ≡ at n.place) nodes → IsChain new nodes
 unfolding IsChain
 chain_kept at new [] chain same = tt
 chain_kept at new (n ∷ rest) chain same = (same.0 ∙ chain.0, chain_kept at new rest chain.1 same.1)
 
--- a change at a place that a chain lacks keeps it
+-- A change at a place that a chain lacks keeps it.
 pub chain_absent : (at new : ℕ → Option Slot) (place : ℕ) (nodes : List NodeAt) → IsChain at nodes → AbsentFrom place nodes → ((other : ℕ) → other ≢ place → new other ≡ at other) → IsChain new nodes
 chain_absent at new place nodes chain absent others =
     chain_kept at new nodes chain (each_map (λ n. n.place ≢ place) (λ n. new n.place ≡ at n.place) nodes (λ n apart. others n.place apart) absent)
 
--- a slot with no node is no node's
+-- A slot with no node is no node's.
 pub absent_free : (at : ℕ → Option Slot) (nodes : List NodeAt) (place : ℕ) → IsChain at nodes → ((node : Node) → at place ≢ Some (Linked node)) → AbsentFrom place nodes
 unfolding IsChain
 absent_free at [] place chain free = tt
 absent_free at (n ∷ rest) place chain free = ((λ same. free _ (rw same at chain.0)), absent_free at rest place chain.1 free)
 
--- a linked node's slot has it
+-- A linked node's slot has it.
 pub linked_node : (at : ℕ → Option Slot) (nodes : List NodeAt) (place : ℕ) → IsChain at nodes → IsLinked nodes place → (node : Node) × (at place ≡ Some (Linked node))
 unfolding IsChain IsLinked
 linked_node at [] place chain is = absurd is
 linked_node at (n ∷ rest) place chain (inl here) = (stored n (first_place rest), rw (← here) chain.0)
 linked_node at (n ∷ rest) place chain (inr later) = linked_node at rest place chain.1 later
 
--- a place with no node in its slot is not linked
+-- A place with no node in its slot is not linked.
 pub not_linked : (at : ℕ → Option Slot) (nodes : List NodeAt) (place : ℕ) → IsChain at nodes → ((node : Node) → at place ≢ Some (Linked node)) → IsLinked nodes place → ⊥
 not_linked at nodes place chain free linked = let there = linked_node at nodes place chain linked in free there.0 there.1
 
--- the node at a place is the one in its slot
+-- The node at a place is the one in its slot.
 pub node_found : (at : ℕ → Option Slot) (nodes : List NodeAt) (place : ℕ) (node : Node) → IsChain at nodes → IsLinked nodes place → at place ≡ Some (Linked node) → node_of nodes place ≡ Some (seen place node)
 unfolding IsChain IsLinked node_of
 node_found at [] place node chain is is_node = absurd is
@@ -148,7 +148,7 @@ node_found at (n ∷ rest) place node chain is is_node = elim (eqb_tells n.place
   | inr apart ↦ rw apart.0 (node_found at rest place node chain.1 (elim is [ inl here ↦ absurd (apart.1 here) | inr later ↦ later ]) is_node)
 ]
 
--- the next of a node is the next place in its slot
+-- The next of a node is the next place in its slot.
 pub next_is : (at : ℕ → Option Slot) (nodes : List NodeAt) (pred : ℕ) (before : Node) → IsChain at nodes → IsLinked nodes pred → at pred ≡ Some (Linked before) → place_of (next_of nodes pred) ≡ before.next
 unfolding IsChain IsLinked next_of
 next_is at [] pred before chain is is_before = absurd is
@@ -159,7 +159,7 @@ next_is at (n ∷ rest) pred before chain is is_before = elim (eqb_tells n.place
   | inr apart ↦ rw apart.0 (next_is at rest pred before chain.1 (elim is [ inl here ↦ absurd (apart.1 here) | inr later ↦ later ]) is_before)
 ]
 
--- each change keeps the first place
+-- Each change keeps the first place.
 first_linked : (nodes : List NodeAt) (pred : ℕ) (x : NodeAt) → first (linked_after nodes pred x) ≡ first nodes
 unfolding linked_after
 first_linked [] pred x = refl
@@ -192,7 +192,7 @@ first_place-changed (n ∷ rest) place change same = elim (eqb_tells n.place pla
   | inr apart ↦ rw apart.0 refl
 ]
 
--- each change keeps the dummy of bucket 0 first
+-- Each change keeps the dummy of bucket 0 first.
 pub starts_linked : (nodes : List NodeAt) (head pred : ℕ) (x : NodeAt) → StartsAt nodes head → StartsAt (linked_after nodes pred x) head
 starts_linked nodes head pred x starts =
     record { node = starts.node; is = first_linked nodes pred x ∙ starts.is; place = starts.place; split = starts.split; kind = starts.kind }
@@ -218,7 +218,7 @@ starts_changed (n ∷ rest) head place change same starts = elim (eqb_tells n.pl
       rw apart.0 (record { node = starts.node; is = starts.is; place = starts.place; split = starts.split; kind = starts.kind })
 ]
 
--- a node is linked behind another: the other's slot has its place, and its own has the other's next
+-- A node is linked behind another: the other's slot has its place, and its own has the other's next.
 pub chain_linked : (at new : ℕ → Option Slot) (nodes : List NodeAt) (pred : ℕ) (x : NodeAt) (before : Node) → IsChain at nodes → IsSpread nodes → AbsentFrom x.place nodes → at pred ≡ Some (Linked before) → new pred ≡ Some (Linked (record before { next = Some x.place })) → new x.place ≡ Some (Linked (stored x before.next)) → ((other : ℕ) → other ≢ pred → other ≢ x.place → new other ≡ at other) → IsChain new (linked_after nodes pred x)
 unfolding IsChain IsSpread linked_after
 chain_linked at new [] pred x before chain apart absent is written x_is others = tt
@@ -243,7 +243,7 @@ chain_linked at new (n ∷ rest) pred x before chain apart absent is written x_i
 renamed : (before behind : Node) (n m : NodeAt) (next after : Option ℕ) → before ≡ stored n next → behind ≡ stored m after → record before { next = behind.next } ≡ stored n after
 renamed before behind n m next after first second = ap₂ (λ (b c : Node). record b { next = c.next }) first second
 
--- the node behind another is unlinked: the other's slot has the place after it
+-- The node behind another is unlinked: the other's slot has the place after it.
 pub chain_unlinked : (at new : ℕ → Option Slot) (nodes : List NodeAt) (pred place : ℕ) (before behind : Node) → IsChain at nodes → IsSpread nodes → at pred ≡ Some (Linked before) → before.next ≡ Some place → at place ≡ Some (Linked behind) → new pred ≡ Some (Linked (record before { next = behind.next })) → ((other : ℕ) → other ≢ pred → new other ≡ at other) → IsChain new (unlinked_after nodes pred)
 unfolding IsChain IsSpread unlinked_after
 chain_unlinked at new [] pred place before behind chain apart is next_is is_behind written others = tt
@@ -273,7 +273,7 @@ chain_unlinked at new (n ∷ (m ∷ rest)) pred place before behind chain apart 
       )
 ]
 
--- a node is changed in its slot
+-- A node is changed in its slot.
 pub chain_changed : (at new : ℕ → Option Slot) (nodes : List NodeAt) (place : ℕ) (change : NodeAt → NodeAt) (node written : Node) → IsChain at nodes → IsSpread nodes → ((n : NodeAt) → IsSameNode n (change n)) → ((n : NodeAt) (next : Option ℕ) → node ≡ stored n next → written ≡ stored (change n) next) → at place ≡ Some (Linked node) → new place ≡ Some (Linked written) → ((other : ℕ) → other ≢ place → new other ≡ at other) → IsChain new (changed_at nodes place change)
 unfolding IsChain IsSpread changed_at
 chain_changed at new [] place change node written chain apart same changes is is_written others = tt
@@ -293,7 +293,7 @@ chain_changed at new (n ∷ rest) place change node written chain apart same cha
       )
 ]
 
--- a slot is written with a stamp that no other slot has
+-- A slot is written with a stamp that no other slot has.
 pub stamps_set : (old new : Slab Slot) (last more place : ℕ) (slot : Slot) → HasStamps old last → Updates old new place (Some slot) → last ≤ more → slot_stamp slot ≤ more → ((other : ℕ) (there : Slot) → other ≢ place → get old other ≡ Some there → slot_stamp there ≢ slot_stamp slot) → HasStamps new more
 stamps_set old new last more place slot stamps updates rise within fresh = record {
   bound = λ p s is. elim (cases_eq p place) [
@@ -321,14 +321,14 @@ stamps_set old new last more place slot stamps updates rise within fresh = recor
   ];
 }
 
--- a slot is written with its old stamp
+-- A slot is written with its old stamp.
 pub stamps_kept : (old new : Slab Slot) (last place : ℕ) (was slot : Slot) → HasStamps old last → get old place ≡ Some was → slot_stamp slot ≡ slot_stamp was → Updates old new place (Some slot) → HasStamps new last
 stamps_kept old new last place was slot stamps is same updates =
     let low = stamps.bound place was is in
     stamps_set old new last last place slot stamps updates (omega arith) (omega arith)
     (λ other there apart is_there equal. apart (stamps.one_place other place there was is_there is (equal ∙ same)))
 
--- a slot is freed
+-- A slot is freed.
 pub stamps_freed : (old new : Slab Slot) (last place : ℕ) → HasStamps old last → Updates old new place None → HasStamps new last
 stamps_freed old new last place stamps updates = record {
   bound = λ p s is. stamps.bound p s (sym (updates.others p (in_use_apart p s is)) ∙ is);

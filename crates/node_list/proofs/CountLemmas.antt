@@ -7,7 +7,7 @@ use Rattle.node_list.specs.declared.node.Kind.TheVariants.{Dummy, Regular}
 use Rattle.node_list.specs.Nodes.{NodeAt, node_of, next_of, IsLinked, linked_after, unlinked_after, changed_at, count_where, is_live, is_regular, live_count, marked_count}
 use Rattle.node_list.proofs.OrderLemmas.{some-none, some-injective}
 
--- what one node counts
+-- What one node counts.
 abbrev pub gain : (NodeAt → Bool) → NodeAt → ℕ
 gain test n = cond (test n) 1 0
 
@@ -51,7 +51,7 @@ count-changed test (m ∷ rest) place change n is = elim (eqb_tells m.place plac
       rw apart.0 (omega (arith, later))
 ]
 
--- a marked node does not count
+-- A marked node does not count.
 pub live-marked : (n : NodeAt) → n.marked ≡ true → gain is_live n ≡ 0
 live-marked n marked = go n.kind
   where
@@ -59,11 +59,11 @@ live-marked n marked = go n.kind
     go Dummy = refl
     go (Regular key) = rw marked refl
 
--- an unmarked regular node counts
+-- An unmarked regular node counts.
 pub live-regular : (n : NodeAt) (key : ℕ) → n.kind ≡ Regular key → n.marked ≡ false → gain is_live n ≡ 1
 live-regular n key regular unmarked = rw (regular, unmarked) refl
 
--- a fresh node counts where it is regular
+-- A fresh node counts where it is regular.
 pub live-fresh : (k : Kind) → cond {A = ℕ} (is_regular k) 1 0 ≡ cond {A = ℕ} (is_regular k && not false) 1 0
 live-fresh Dummy = refl
 live-fresh (Regular key) = refl
@@ -74,13 +74,13 @@ gains Dummy false = omega arith
 gains (Regular key) true = omega arith
 gains (Regular key) false = omega arith
 
--- a node counts as live or as marked, or not at all
+-- A node counts as live or as marked, or not at all.
 pub counts_fit : (nodes : List NodeAt) → live_count nodes + marked_count nodes ≤ length nodes
 unfolding count_where
 counts_fit [] = omega arith
 counts_fit (n ∷ rest) = omega (arith, counts_fit rest, gains n.kind n.marked)
 
--- no node is counted exactly where none passes
+-- No node is counted exactly where none passes.
 unmarked : (b : Bool) → cond {A = ℕ} b 1 0 ≡ 0 → b ≡ false
 unmarked true none = absurd (omega arith)
 unmarked false none = refl

@@ -16,7 +16,7 @@ use Rattle.node_list.proofs.NodesLemmas.{same_node, same_after, found_linked, fi
 use Rattle.node_list.proofs.ChainLemmas.{true-ne-false, out-not-linked, linked_node, node_found, spread}
 use Rattle.node_list.proofs.SlabSteps.{out_in, slot_out}
 
--- a list follows itself
+-- A list follows itself.
 pub follows_self : (l : Listing) → Follows l l
 follows_self l = record {
   last = omega arith;
@@ -27,7 +27,7 @@ follows_self l = record {
   dummies = λ place n is dummy. (n, is, same_node n);
 }
 
--- a list that follows one that follows another follows that
+-- A list that follows one that follows another follows that.
 pub follows_twice : (a b c : Listing) → Follows a b → Follows b c → Follows a c
 follows_twice a b c first second = record {
   last = omega (arith, first.last, second.last);
@@ -60,7 +60,7 @@ follows_twice a b c first second = record {
       (in_c.0, in_c.1, same_after _ _ _ in_b.2 in_c.2);
 }
 
--- each change follows
+-- Each change follows.
 pub gives_out_follows : (old new : Listing) (place stamp : ℕ) → stamp ≡ old.last + 1 → GivesOut old new place stamp → Follows old new
 gives_out_follows old new place stamp above given = record {
   last = omega (arith, given.last);
@@ -126,7 +126,7 @@ unlinks_follow old new pred spread plain behind now = record {
       (n, rw now.nodes (still_found_unlinked old.nodes pred place n behind.node spread behind.next differs is), same_node n);
 }
 
--- the stamps of linked nodes and of spares
+-- The stamps of linked nodes and of spares.
 stamped : (slab : Slab Slot) (head turn last : ℕ) → IsLaidOut slab head (nodes_in slab head) → HasStamps slab last → IsStamped (listing_of slab head turn last)
 stamped slab head turn last laid stamps =
     let slot_of : (place : ℕ) (n : NodeAt) → node_of (nodes_in slab head) place ≡ Some n → (node : Node) × (get slab place ≡ Some (Linked node)) × (node.stamp ≡ n.stamp) = λ place n is.
@@ -154,7 +154,7 @@ stamped slab head turn last laid stamps =
       out_alone = λ p q stamp is_p is_q. stamps.one_place p q (Out stamp) (Out stamp) (spare_of p stamp is_p) (spare_of q stamp is_q) refl;
     }
 
--- what callers may know of a list
+-- What callers may know of a list.
 pub sound : (slab : Slab Slot) (head turn last count marked : ℕ) → IsKept slab head last count marked → IsSound (listing_of slab head turn last)
 sound slab head turn last count marked kept = record {
   first = record {

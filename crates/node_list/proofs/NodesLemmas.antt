@@ -21,7 +21,7 @@ pub some_place : (o : Option NodeAt) → is_some o ≡ true → (place : ℕ) ×
 some_place None is = cc
 some_place (Some n) is = (n.place, refl)
 
--- a place that is linked is no place that is absent
+-- A place that is linked is no place that is absent.
 pub absent_linked : (nodes : List NodeAt) (p q : ℕ) → AbsentFrom p nodes → IsLinked nodes q → p ≢ q
 unfolding IsLinked
 absent_linked [] p q absent is same = absurd is
@@ -38,7 +38,7 @@ unfolding IsLinked
 linked_more [] place is = is
 linked_more (n ∷ rest) place is = inr is
 
--- a node with a next one is linked, and so is the next one
+-- A node with a next one is linked, and so is the next one.
 pub next_linked : (nodes : List NodeAt) (pred place : ℕ) → place_of (next_of nodes pred) ≡ Some place → IsLinked nodes pred × IsLinked (without_first nodes) place
 unfolding IsLinked next_of
 next_linked [] pred place is = absurd (some-none (sym is))
@@ -49,7 +49,7 @@ next_linked (n ∷ rest) pred place is = elim (eqb_tells n.place pred) [
       (inr later.0, linked_more rest place later.1)
 ]
 
--- a node that is found is linked, and is at that place
+-- A node that is found is linked, and is at that place.
 pub found_linked : (nodes : List NodeAt) (place : ℕ) (n : NodeAt) → node_of nodes place ≡ Some n → IsLinked nodes place
 unfolding node_of IsLinked
 found_linked [] place n is = absurd (some-none (sym is))
@@ -66,7 +66,7 @@ place-found (m ∷ rest) place n is = elim (eqb_tells m.place place) [
   | inr apart ↦ place-found rest place n (rw apart.0 at is)
 ]
 
--- a place that is linked has a node
+-- A place that is linked has a node.
 pub linked_found : (nodes : List NodeAt) (place : ℕ) → IsLinked nodes place → (n : NodeAt) × (node_of nodes place ≡ Some n)
 unfolding node_of IsLinked
 linked_found [] place is = absurd is
@@ -77,7 +77,7 @@ linked_found (n ∷ rest) place is = elim (eqb_tells n.place place) [
       (later.0, rw apart.0 later.1)
 ]
 
--- no node is at a place that is not linked
+-- No node is at a place that is not linked.
 pub none_found : (nodes : List NodeAt) (place : ℕ) → (IsLinked nodes place → ⊥) → node_of nodes place ≡ None
 unfolding IsLinked node_of
 none_found [] place not_linked = refl
@@ -86,7 +86,7 @@ none_found (n ∷ rest) place not_linked = elim (eqb_tells n.place place) [
   | inr apart ↦ rw apart.0 (none_found rest place (λ later. not_linked (inr later)))
 ]
 
--- the first node is found
+-- The first node is found.
 pub first_found : (nodes : List NodeAt) (n : NodeAt) → first nodes ≡ Some n → node_of nodes n.place ≡ Some n
 unfolding node_of
 first_found [] n is = absurd (some-none (sym is))
@@ -95,7 +95,7 @@ first_found (m ∷ rest) n is = elim (eqb_tells m.place n.place) [
   | inr apart ↦ absurd (apart.1 (ap (λ (v : NodeAt). v.place) (some-injective is)))
 ]
 
--- the next node is found at its own place
+-- The next node is found at its own place.
 pub next_found : (nodes : List NodeAt) (pred : ℕ) (m : NodeAt) → IsSpread nodes → next_of nodes pred ≡ Some m → node_of nodes m.place ≡ Some m
 unfolding next_of node_of IsSpread IsLinked
 next_found [] pred m apart is = absurd (some-none (sym is))
@@ -117,7 +117,7 @@ next_found (n ∷ rest) pred m apart is = elim (eqb_tells n.place pred) [
     behind : first rest ≡ Some m → node_of rest m.place ≡ Some m → node_of (n ∷ rest) m.place ≡ Some m
     behind is_first there = deeper there
 
--- the next node is the one at the next place
+-- The next node is the one at the next place.
 pub next-found : (nodes : List NodeAt) (pred place : ℕ) (n : NodeAt) → IsSpread nodes → place_of (next_of nodes pred) ≡ Some place → node_of nodes place ≡ Some n → next_of nodes pred ≡ Some n
 next-found nodes pred place n apart next is = go (next_of nodes pred) refl next
   where
@@ -125,12 +125,12 @@ next-found nodes pred place n apart next is = go (next_of nodes pred) refl next
     go None same there = absurd (some-none (sym there))
     go (Some m) same there = same ∙ sym (next_found nodes pred m apart same) ∙ ap (node_of nodes) (some-injective there) ∙ is
 
--- one node alone has none behind it
+-- One node alone has none behind it.
 pub next_of-single : (n : NodeAt) (place : ℕ) → next_of (n ∷ []) place ≡ None
 unfolding next_of
 next_of-single n place = elim (eqb_tells n.place place) [ inl here ↦ rw here.0 refl | inr apart ↦ rw apart.0 refl ]
 
--- which places stay linked
+-- Which places stay linked.
 pub still_linked : (nodes : List NodeAt) (pred place : ℕ) (x : NodeAt) → IsLinked nodes place → IsLinked (linked_after nodes pred x) place
 unfolding linked_after IsLinked
 still_linked [] pred place x is = is
@@ -147,7 +147,7 @@ now_linked (n ∷ rest) pred x is = elim (eqb_tells n.place pred) [
   | inr apart ↦ rw apart.0 (inr (now_linked rest pred x (elim is [ inl first ↦ absurd (apart.1 first) | inr later ↦ later ])))
 ]
 
--- a node that is linked is found, if its place was free
+-- A node that is linked is found, if its place was free.
 pub now_found : (nodes : List NodeAt) (pred : ℕ) (x : NodeAt) → AbsentFrom x.place nodes → IsLinked nodes pred → node_of (linked_after nodes pred x) x.place ≡ Some x
 unfolding node_of linked_after IsLinked
 now_found [] pred x absent is = absurd is
@@ -198,7 +198,7 @@ others_linked (n ∷ (m ∷ rest)) pred gone place next differs is = elim (eqb_t
   ])
 ]
 
--- a node that is unlinked is there no more
+-- A node that is unlinked is there no more.
 pub absent_unlinked : (nodes : List NodeAt) (pred place : ℕ) → IsSpread nodes → place_of (next_of nodes pred) ≡ Some place → AbsentFrom place (unlinked_after nodes pred)
 unfolding IsSpread unlinked_after next_of
 absent_unlinked [] pred place apart is = tt
@@ -216,7 +216,7 @@ absent_unlinked (n ∷ (m ∷ rest)) pred place apart is = elim (eqb_tells n.pla
       rw later.0 (absent_linked (m ∷ rest) n.place place apart.0 (linked_more (m ∷ rest) place there.1), absent_unlinked (m ∷ rest) pred place apart.1 is_later)
 ]
 
--- what is found after each change was there before
+-- What is found after each change was there before.
 pub found_linked_after : (nodes : List NodeAt) (pred place : ℕ) (x n : NodeAt) → node_of (linked_after nodes pred x) place ≡ Some n → (node_of nodes place ≡ Some n) ⊎ ((x ≡ n) × (x.place ≡ place))
 unfolding node_of linked_after
 found_linked_after [] pred place x n is = inl is
@@ -293,7 +293,7 @@ found_unlinked (m ∷ (k ∷ rest)) pred place n spread is = elim (eqb_tells m.p
   ]
 ]
 
--- what was found before each change is there after it
+-- What was found before each change is there after it.
 pub still_found_linked : (nodes : List NodeAt) (pred place : ℕ) (x n : NodeAt) → AbsentFrom x.place nodes → node_of nodes place ≡ Some n → node_of (linked_after nodes pred x) place ≡ Some n
 unfolding node_of linked_after
 still_found_linked [] pred place x n absent is = is

@@ -12,7 +12,7 @@ some-injective e = cc
 pub some-none : {X : Type 0} {x : X} → Some x ≡ None → ⊥
 some-none e = cc
 
--- no node is before itself
+-- No node is before itself.
 pub before-irreflexive : (n : NodeAt) → IsBefore n n → ⊥
 unfolding IsBefore
 before-irreflexive n before = omega arith
@@ -21,22 +21,22 @@ pub before-transitive : (n m k : NodeAt) → IsBefore n m → IsBefore m k → I
 unfolding IsBefore
 before-transitive n m k first second = omega arith
 
--- only the split keys and the kinds matter
+-- Only the split keys and the kinds matter.
 pub before-same : (n m k l : NodeAt) → n.split ≡ k.split → n.kind ≡ k.kind → m.split ≡ l.split → m.kind ≡ l.kind → IsBefore n m → IsBefore k l
 unfolding IsBefore
 before-same n m k l n_split n_kind m_split m_kind before = omega arith
 
--- a node with a lower split key is before
+-- A node with a lower split key is before.
 pub before-split : (n m : NodeAt) → n.split < m.split → IsBefore n m
 unfolding IsBefore
 before-split n m below = below
 
--- a node that is before has no higher split key
+-- A node that is before has no higher split key.
 pub split-before : (n m : NodeAt) → IsBefore n m → n.split ≤ m.split
 unfolding IsBefore
 split-before n m before = omega arith
 
--- what is true of each node, by what is
+-- What is true of each node, by what is.
 pub each_map : (P Q : NodeAt → Type 0) (nodes : List NodeAt) → ((n : NodeAt) → P n → Q n) → AllByRecursion P nodes → AllByRecursion Q nodes
 each_map P Q [] more each = tt
 each_map P Q (n ∷ rest) more each = (more n each.0, each_map P Q rest more each.1)
@@ -45,7 +45,7 @@ pub each_both : (P Q : NodeAt → Type 0) (nodes : List NodeAt) → AllByRecursi
 each_both P Q [] one other = tt
 each_both P Q (n ∷ rest) one other = ((one.0, other.0), each_both P Q rest one.1 other.1)
 
--- it is true of a node that is found
+-- It is true of a node that is found.
 pub each_found : (P : NodeAt → Type 0) (nodes : List NodeAt) (place : ℕ) (n : NodeAt) → AllByRecursion P nodes → node_of nodes place ≡ Some n → P n
 unfolding node_of
 each_found P [] place n each is = absurd (some-none (sym is))
@@ -54,7 +54,7 @@ each_found P (m ∷ rest) place n each is = elim (eqb_tells m.place place) [
   | inr apart ↦ each_found P rest place n each.1 (rw apart.0 at is)
 ]
 
--- each change keeps it
+-- Each change keeps it.
 pub each_linked : (P : NodeAt → Type 0) (nodes : List NodeAt) (pred : ℕ) (x : NodeAt) → P x → AllByRecursion P nodes → AllByRecursion P (linked_after nodes pred x)
 unfolding linked_after
 each_linked P [] pred x it each = tt
@@ -83,7 +83,7 @@ each_changed P (n ∷ rest) place change kept each = elim (eqb_tells n.place pla
   | inr apart ↦ rw apart.0 (each.0, each_changed P rest place change (λ m is. kept m (rw apart.0 is)) each.1)
 ]
 
--- each change keeps the order
+-- Each change keeps the order.
 pub rising_linked : (nodes : List NodeAt) (pred : ℕ) (n x : NodeAt) → IsRising nodes → node_of nodes pred ≡ Some n → IsBefore n x → ((m : NodeAt) → next_of nodes pred ≡ Some m → IsBefore x m) → IsRising (linked_after nodes pred x)
 unfolding IsRising linked_after node_of next_of
 rising_linked [] pred n x rising is before next = tt

@@ -17,21 +17,21 @@ use Rattle.node_list.proofs.OrderLemmas.{some-injective, some-none, each_linked,
 use Rattle.node_list.proofs.NodesLemmas.{absent_unlinked, still_linked, now_linked, changed_linked, others_linked}
 use Rattle.node_list.proofs.ChainLemmas.{out-not-linked, spread, nodes_in_is, next_is, chain_absent, absent_free, chain_linked, chain_unlinked, chain_changed, starts_linked, starts_unlinked, starts_changed, stamps_set, stamps_kept, stamps_freed}
 
--- what is out at a place, by its slot
+-- What is out at a place, by its slot.
 pub out_in : (slab : Slab Slot) (place : ℕ) → get_or (map out_stamp slab.slots) place None ≡ out_stamp (get slab place)
 out_in slab place = get_or-map out_stamp slab.slots place None
 
--- the slot of a spare that is out
+-- The slot of a spare that is out.
 pub slot_out : (slot : Option Slot) (stamp : ℕ) → out_stamp slot ≡ Some stamp → slot ≡ Some (Out stamp)
 slot_out None stamp is = absurd (some-none (sym is))
 slot_out (Some (Linked n)) stamp is = absurd (some-none (sym is))
 slot_out (Some (Out t)) stamp is = ap (λ n. Some (Out n)) (some-injective is)
 
--- a write at a slot in use
+-- A write at a slot in use.
 write_updates : (old new : Slab Slot) (place : ℕ) (was slot : Slot) → get old place ≡ Some was → new ≡ with_value old place slot → Updates old new place (Some slot)
 write_updates old new place was slot is written = rw written (Updates-with_value old place slot (rw is refl))
 
--- a new list
+-- A new list.
 module _ (old new : Slab Slot) (head stamp : ℕ) (empty : old.slots ≡ []) (updates : Updates old new head (Some (Linked (stored (first_dummy head stamp) None)))) where
   nothing_at : (place : ℕ) → get old place ≡ None
   nothing_at place = ap (λ (slots : List (Option Slot)). get_or slots place None) empty
@@ -60,7 +60,7 @@ module _ (old new : Slab Slot) (head stamp : ℕ) (empty : old.slots ≡ []) (up
     | inr apart ↦ ap out_stamp (updates.others place apart ∙ nothing_at place)
   ]
 
--- a spare is given out
+-- A spare is given out.
 module _ (old new : Slab Slot) (head place stamp : ℕ) (nodes : List NodeAt) (free : get old place ≡ None) (updates : Updates old new place (Some (Out stamp))) where
   pub spare_laid_out : IsLaidOut old head nodes → IsLaidOut new head nodes
   spare_laid_out laid =
@@ -90,7 +90,7 @@ module _ (old new : Slab Slot) (head place stamp : ℕ) (nodes : List NodeAt) (f
   pub spare_others : (other : ℕ) → other ≢ place → get_or (map out_stamp new.slots) other None ≡ get_or (map out_stamp old.slots) other None
   spare_others other apart = out_in new other ∙ ap out_stamp (updates.others other apart) ∙ sym (out_in old other)
 
--- a spare is given back
+-- A spare is given back.
 module _ (old new : Slab Slot) (head place stamp : ℕ) (nodes : List NodeAt)
     (is_out : get_or (map out_stamp old.slots) place None ≡ Some stamp)
     (freed : Updates old new place None) where
@@ -120,7 +120,7 @@ module _ (old new : Slab Slot) (head place stamp : ℕ) (nodes : List NodeAt)
   pub back_others : (other : ℕ) → other ≢ place → get_or (map out_stamp new.slots) other None ≡ get_or (map out_stamp old.slots) other None
   back_others other apart = out_in new other ∙ ap out_stamp (freed.others other apart) ∙ sym (out_in old other)
 
--- a node is linked
+-- A node is linked.
 module _ (old mid new : Slab Slot) (head last pred : ℕ) (nodes : List NodeAt) (x : NodeAt) (before : Node)
     (laid : IsLaidOut old head nodes) (stamps : HasStamps old last)
     (is_before : get old pred ≡ Some (Linked before))
@@ -183,7 +183,7 @@ module _ (old mid new : Slab Slot) (head last pred : ℕ) (nodes : List NodeAt) 
     | inr more ↦ ap out_stamp (others_kept other more apart) ∙ sym (out_in old other)
   ]
 
--- a node is changed
+-- A node is changed.
 module _ (old new : Slab Slot) (head last place : ℕ) (nodes : List NodeAt) (change : NodeAt → NodeAt) (node written : Node)
     (laid : IsLaidOut old head nodes) (stamps : HasStamps old last)
     (same : (n : NodeAt) → IsSameNode n (change n))
@@ -215,7 +215,7 @@ module _ (old new : Slab Slot) (head last place : ℕ) (nodes : List NodeAt) (ch
     | inr more ↦ ap out_stamp (changed_in.others other more) ∙ sym (out_in old other)
   ]
 
--- a node is unlinked
+-- A node is unlinked.
 module _ (old mid new : Slab Slot) (head last pred place : ℕ) (nodes : List NodeAt) (before behind : Node)
     (laid : IsLaidOut old head nodes) (stamps : HasStamps old last)
     (linked : IsLinked nodes pred)
@@ -263,7 +263,7 @@ module _ (old mid new : Slab Slot) (head last pred place : ℕ) (nodes : List No
     ]
   ]
 
--- the fields are kept with these nodes
+-- The fields are kept with these nodes.
 pub kept : (slab : Slab Slot) (head last count marked : ℕ) (nodes : List NodeAt) → IsLaidOut slab head nodes → HasStamps slab last → last < 2 ^ 64 - 1 → count ≡ live_count nodes → marked ≡ marked_count nodes → IsKept slab head last count marked
 kept slab head last count marked nodes laid stamps below counted marks =
     let same = nodes_in_is slab head nodes laid in
@@ -275,7 +275,7 @@ kept slab head last count marked nodes laid stamps below counted marks =
       marks = rw same marks;
     }
 
--- a slab that only has more room
+-- A slab that only has more room.
 pub grown : (slab : Slab Slot) (room head : ℕ) → nodes_in (record slab { capacity = room }) head ≡ nodes_in slab head
 unfolding nodes_in
 grown slab room head = refl
@@ -294,7 +294,7 @@ kept_grown slab room head last count marked is =
 pub listing_grown : (slab : Slab Slot) (room head turn last : ℕ) → listing_of (record slab { capacity = room }) head turn last ≡ listing_of slab head turn last
 listing_grown slab room head turn last = rw (grown slab room head) refl
 
--- the answer of which `ok` hands on a value, or none
+-- The answer of which `ok` hands on a value, or none.
 pub ok_some : {T E : Type 0} (r : Result T E) (x : T) → result_ok r ≡ Some x → r ≡ Ok x
 ok_some (Ok y) x is = ap Ok (some-injective is)
 ok_some (Err e) x is = absurd (some-none (sym is))

@@ -3,20 +3,20 @@ use Rattle.std.specs.Prelude.{◌≡◌, ℕ, ◌<◌, ◌≤◌, ◌-◌, ◌^�
 use Rattle.node_list.specs.declared.node.Kind.TheVariants.{Dummy}
 use Rattle.node_list.specs.Nodes.{NodeAt, Listing, node_of, out_at}
 
--- one node at two times: only its value and its mark may differ
+-- One node at two times: only its value and its mark may differ.
 pub record IsSameNode (n m : NodeAt) : Type 0 where
   pub place : n.place ≡ m.place
   pub split : n.split ≡ m.split
   pub kind : n.kind ≡ m.kind
   pub stamp : n.stamp ≡ m.stamp
 
--- the node was linked at this place before, or its stamp was out there or is new
+-- The node was linked at this place before, or its stamp was out there or is new.
 abbrev pub WasThere : Listing → ℕ → NodeAt → Type 0
 WasThere old place n =
     ((m : NodeAt) × (node_of old.nodes place ≡ Some m) × IsSameNode m n)
     ⊎ ((out_at old place ≡ Some n.stamp) ⊎ (old.last < n.stamp))
 
--- the node is linked at this place still
+-- The node is linked at this place still.
 abbrev pub IsStillThere : Listing → ℕ → NodeAt → Type 0
 IsStillThere new place n = (m : NodeAt) × (node_of new.nodes place ≡ Some m) × IsSameNode n m
 

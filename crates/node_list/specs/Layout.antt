@@ -11,48 +11,48 @@ use Rattle.node_list.specs.Order.{IsRising}
 use Rattle.node_list.specs.Seen.{seen}
 use Rattle.node_list.specs.Sound.{AllPlain}
 
--- a node as it is stored, before a next one
+-- A node as it is stored, before a next one.
 abbrev pub stored : NodeAt → Option ℕ → Node
 stored n next = record { split = n.split; kind = n.kind; value = n.value; stamp = n.stamp; marked = n.marked; next = next }
 
--- the node in a slot, and then the nodes from its next one on
+-- The node in a slot, and then the nodes from its next one on.
 abbrev pub step : ℕ → Option Slot → (Option ℕ → List NodeAt) → List NodeAt
 step place None rest = []
 step place (Some (Out stamp)) rest = []
 step place (Some (Linked n)) rest = seen place n ∷ rest n.next
 
--- the nodes from a place on, so many at most
+-- The nodes from a place on, so many at most.
 unfoldable pub walk : ℕ → (ℕ → Option Slot) → Option ℕ → List NodeAt
 walk zero at from = []
 walk (suc fuel) at None = []
 walk (suc fuel) at (Some place) = step place (at place) (λ next. walk fuel at next)
 
--- the place of the first node
+-- The place of the first node.
 abbrev pub first_place : List NodeAt → Option ℕ
 first_place [] = None
 first_place (n ∷ rest) = Some n.place
 
--- the slots have these nodes, each with the next one's place
+-- The slots have these nodes, each with the next one's place.
 unfoldable pub IsChain : (ℕ → Option Slot) → List NodeAt → Type 0
 IsChain at [] = Unit {0}
 IsChain at (n ∷ rest) = (at n.place ≡ Some (Linked (stored n (first_place rest)))) × IsChain at rest
 
--- the stamp of what lies in a slot
+-- The stamp of what lies in a slot.
 abbrev pub slot_stamp : Slot → ℕ
 slot_stamp (Linked n) = n.stamp
 slot_stamp (Out stamp) = stamp
 
--- the stamp of the spare that keeps a slot
+-- The stamp of the spare that keeps a slot.
 abbrev pub out_stamp : Option Slot → Option ℕ
 out_stamp None = None
 out_stamp (Some (Linked n)) = None
 out_stamp (Some (Out stamp)) = Some stamp
 
--- the linked nodes of a slab
+-- The linked nodes of a slab.
 unfoldable pub nodes_in : Slab Slot → ℕ → List NodeAt
 nodes_in slab head = walk (slab_len slab) (get slab) (Some head)
 
--- what a contract sees of the fields
+-- What a contract sees of the fields.
 abbrev pub listing_of : Slab Slot → ℕ → ℕ → ℕ → Listing
 listing_of slab head turn last = record {
   nodes = nodes_in slab head;
@@ -62,7 +62,7 @@ listing_of slab head turn last = record {
   last = last;
 }
 
--- the first of these nodes is the dummy of bucket 0, at this place
+-- The first of these nodes is the dummy of bucket 0, at this place.
 pub record StartsAt (nodes : List NodeAt) (head : ℕ) : Type 0 where
   pub node : NodeAt
   pub is : first nodes ≡ Some node
@@ -70,7 +70,7 @@ pub record StartsAt (nodes : List NodeAt) (head : ℕ) : Type 0 where
   pub split : node.split ≡ 0
   pub kind : node.kind ≡ Dummy
 
--- these are the linked nodes
+-- These are the linked nodes.
 pub record IsLaidOut (slab : Slab Slot) (head : ℕ) (nodes : List NodeAt) : Type 0 where
   pub chain : IsChain (get slab) nodes
   pub starts : StartsAt nodes head
@@ -78,12 +78,12 @@ pub record IsLaidOut (slab : Slab Slot) (head : ℕ) (nodes : List NodeAt) : Typ
   pub plain : AllPlain nodes
   pub all : (place : ℕ) (node : Node) → get slab place ≡ Some (Linked node) → IsLinked nodes place
 
--- no stamp is above the last one, and no two places have one stamp
+-- No stamp is above the last one, and no two places have one stamp.
 pub record HasStamps (slab : Slab Slot) (last : ℕ) : Type 0 where
   pub bound : (place : ℕ) (slot : Slot) → get slab place ≡ Some slot → slot_stamp slot ≤ last
   pub one_place : (p q : ℕ) (s t : Slot) → get slab p ≡ Some s → get slab q ≡ Some t → slot_stamp s ≡ slot_stamp t → p ≡ q
 
--- the fields of a list
+-- The fields of a list.
 pub record IsKept (slab : Slab Slot) (head last count marked : ℕ) : Type 0 where
   pub laid_out : IsLaidOut slab head (nodes_in slab head)
   pub stamps : HasStamps slab last

@@ -3,7 +3,7 @@ use Rattle.std.specs.Prelude.{◌≡◌, ◌≢◌, ℕ, ◌+◌, ◌-◌, ◌^�
 use Rattle.node_list.specs.declared.node.Kind.{Kind}
 use Rattle.node_list.specs.declared.node.Kind.TheVariants.{Dummy, Regular}
 
--- a linked node and its place
+-- A linked node and its place.
 pub record NodeAt : Type 0 where
   pub place : ℕ
   pub split : ℕ
@@ -12,8 +12,8 @@ pub record NodeAt : Type 0 where
   pub stamp : ℕ
   pub marked : Bool
 
--- the linked nodes in order, the place of the first, the stamp of the spare that is out at each
--- place, the change number, and the last stamp that was given
+-- The linked nodes in order, the place of the first, the stamp of the spare that is out at each
+-- place, the change number, and the last stamp that was given.
 pub record Listing : Type 0 where
   pub nodes : List NodeAt
   pub head : ℕ
@@ -21,7 +21,7 @@ pub record Listing : Type 0 where
   pub turn : ℕ
   pub last : ℕ
 
--- a place that is kept, its stamp, and what the node there will be
+-- A place that is kept, its stamp, and what the node there will be.
 pub record SpareAt : Type 0 where
   pub place : ℕ
   pub stamp : ℕ
@@ -29,53 +29,53 @@ pub record SpareAt : Type 0 where
   pub kind : Kind
   pub value : ℕ
 
--- the node that a spare becomes
+-- The node that a spare becomes.
 abbrev pub filled : SpareAt → NodeAt
 filled s = record { place = s.place; split = s.split; kind = s.kind; value = s.value; stamp = s.stamp; marked = false }
 
--- the dummy of bucket 0
+-- The dummy of bucket 0.
 abbrev pub first_dummy : ℕ → ℕ → NodeAt
 first_dummy place stamp = record { place = place; split = 0; kind = Dummy; value = 0; stamp = stamp; marked = false }
 
--- the stamp of the spare that is out at a place, if there is one
+-- The stamp of the spare that is out at a place, if there is one.
 abbrev pub out_at : Listing → ℕ → Option ℕ
 out_at l place = slice_index_or l.out place None
 
--- this spare is the list's
+-- This spare is the list's.
 abbrev pub IsOut : Listing → SpareAt → Type 0
 IsOut l spare = out_at l spare.place ≡ Some spare.stamp
 
--- the first of some nodes
+-- The first of some nodes.
 abbrev pub first : List NodeAt → Option NodeAt
 first [] = None
 first (n ∷ rest) = Some n
 
--- all but the first of some nodes
+-- All but the first of some nodes.
 abbrev pub without_first : List NodeAt → List NodeAt
 without_first [] = []
 without_first (n ∷ rest) = rest
 
--- the place of a node, if there is one
+-- The place of a node, if there is one.
 abbrev pub place_of : Option NodeAt → Option ℕ
 place_of None = None
 place_of (Some n) = Some n.place
 
--- the node at a place
+-- The node at a place.
 unfoldable pub node_of : List NodeAt → ℕ → Option NodeAt
 node_of [] place = None
 node_of (n ∷ rest) place = if n.place == place then Some n else node_of rest place
 
--- the node after the one at a place
+-- The node after the one at a place.
 unfoldable pub next_of : List NodeAt → ℕ → Option NodeAt
 next_of [] place = None
 next_of (n ∷ rest) place = if n.place == place then first rest else next_of rest place
 
--- one of these nodes is at the place
+-- One of these nodes is at the place.
 unfoldable pub IsLinked : List NodeAt → ℕ → Type 0
 IsLinked [] place = ⊥
 IsLinked (n ∷ rest) place = (n.place ≡ place) ⊎ IsLinked rest place
 
--- an unmarked regular node is at the place
+-- An unmarked regular node is at the place.
 pub record IsRegularAt (nodes : List NodeAt) (place : ℕ) : Type 0 where
   pub node : NodeAt
   pub key : ℕ
@@ -83,66 +83,66 @@ pub record IsRegularAt (nodes : List NodeAt) (place : ℕ) : Type 0 where
   pub regular : node.kind ≡ Regular key
   pub unmarked : node.marked ≡ false
 
--- the node behind the one at a place is marked
+-- The node behind the one at a place is marked.
 pub record IsBeforeMarked (nodes : List NodeAt) (place : ℕ) : Type 0 where
   pub node : NodeAt
   pub next : next_of nodes place ≡ Some node
   pub marked : node.marked ≡ true
 
--- how many of these nodes pass a test
+-- How many of these nodes pass a test.
 unfoldable pub count_where : (NodeAt → Bool) → List NodeAt → ℕ
 count_where test [] = 0
 count_where test (n ∷ rest) = (if test n then 1 else 0) + count_where test rest
 
--- whether a node of this kind is regular
+-- Whether a node of this kind is regular.
 abbrev pub is_regular : Kind → Bool
 is_regular Dummy = false
 is_regular (Regular key) = true
 
--- whether a node counts
+-- Whether a node counts.
 abbrev pub is_live : NodeAt → Bool
 is_live n = is_regular n.kind && not n.marked
 
--- whether a node is marked
+-- Whether a node is marked.
 abbrev pub is_marked : NodeAt → Bool
 is_marked n = n.marked
 
--- how many regular nodes are unmarked
+-- How many regular nodes are unmarked.
 abbrev pub live_count : List NodeAt → ℕ
 live_count nodes = count_where is_live nodes
 
--- how many nodes are marked
+-- How many nodes are marked.
 abbrev pub marked_count : List NodeAt → ℕ
 marked_count nodes = count_where is_marked nodes
 
--- the list with one node more, behind the one at a place
+-- The list with one node more, behind the one at a place.
 unfoldable pub linked_after : List NodeAt → ℕ → NodeAt → List NodeAt
 linked_after [] place x = []
 linked_after (n ∷ rest) place x = if n.place == place then n ∷ (x ∷ rest) else n ∷ linked_after rest place x
 
--- the list without the node behind the one at a place
+-- The list without the node behind the one at a place.
 unfoldable pub unlinked_after : List NodeAt → ℕ → List NodeAt
 unlinked_after [] place = []
 unlinked_after (n ∷ rest) place = if n.place == place then n ∷ without_first rest else n ∷ unlinked_after rest place
 
--- the list with a change to the node at a place
+-- The list with a change to the node at a place.
 unfoldable pub changed_at : List NodeAt → ℕ → (NodeAt → NodeAt) → List NodeAt
 changed_at [] place change = []
 changed_at (n ∷ rest) place change = if n.place == place then change n ∷ rest else n ∷ changed_at rest place change
 
--- the list with the node at a place marked
+-- The list with the node at a place marked.
 abbrev pub marked_at : List NodeAt → ℕ → List NodeAt
 marked_at nodes place = changed_at nodes place (λ n. record n { marked = true })
 
--- the list with a value written into the node at a place
+-- The list with a value written into the node at a place.
 abbrev pub written_at : List NodeAt → ℕ → ℕ → List NodeAt
 written_at nodes place value = changed_at nodes place (λ n. record n { value = value })
 
--- the change number one higher, if there is a higher one
+-- The change number one higher, if there is a higher one.
 abbrev pub turn_after : ℕ → ℕ
 turn_after turn = min (turn + 1) (2 ^ 64 - 1)
 
--- the nodes are these now, by one change, and the same spares are out
+-- The nodes are these now, by one change, and the same spares are out.
 pub record Becomes (old new : Listing) (after : List NodeAt) : Type 0 where
   pub nodes : new.nodes ≡ after
   pub head : new.head ≡ old.head
@@ -150,7 +150,7 @@ pub record Becomes (old new : Listing) (after : List NodeAt) : Type 0 where
   pub last : new.last ≡ old.last
   pub out : (place : ℕ) → out_at new place ≡ out_at old place
 
--- the nodes are these now, by one change, and the spare at the place is out no more
+-- The nodes are these now, by one change, and the spare at the place is out no more.
 pub record Takes (old new : Listing) (after : List NodeAt) (place : ℕ) : Type 0 where
   pub nodes : new.nodes ≡ after
   pub head : new.head ≡ old.head
@@ -159,7 +159,7 @@ pub record Takes (old new : Listing) (after : List NodeAt) (place : ℕ) : Type 
   pub gone : out_at new place ≡ None
   pub others : (other : ℕ) → other ≢ place → out_at new other ≡ out_at old other
 
--- a spare is out at the place, and all else is as it was but for the last stamp
+-- A spare is out at the place, and all else is as it was but for the last stamp.
 pub record GivesOut (old new : Listing) (place stamp : ℕ) : Type 0 where
   pub nodes : new.nodes ≡ old.nodes
   pub head : new.head ≡ old.head
@@ -169,7 +169,7 @@ pub record GivesOut (old new : Listing) (place stamp : ℕ) : Type 0 where
   pub is_out : out_at new place ≡ Some stamp
   pub others : (other : ℕ) → other ≢ place → out_at new other ≡ out_at old other
 
--- the spare at the place is out no more, and all else is as it was
+-- The spare at the place is out no more, and all else is as it was.
 pub record TakesBack (old new : Listing) (place : ℕ) : Type 0 where
   pub nodes : new.nodes ≡ old.nodes
   pub head : new.head ≡ old.head

@@ -3,20 +3,20 @@ use Rattle.std.specs.Prelude.{◌≢◌, ℕ, ◌<◌, List, [], ◌∷◌}
 use Rattle.std.specs.List.{AllByRecursion}
 use Rattle.node_list.specs.Nodes.{NodeAt}
 
--- the first node belongs before the second
+-- The first node belongs before the second.
 unfoldable pub IsBefore : NodeAt → NodeAt → Type 0
 IsBefore n m = n.split < m.split
 
--- each node belongs before all that follow it
+-- Each node belongs before all that follow it.
 unfoldable pub IsRising : List NodeAt → Type 0
 IsRising [] = Unit {0}
 IsRising (n ∷ rest) = AllByRecursion (IsBefore n) rest × IsRising rest
 
--- none of these nodes is at the place
+-- None of these nodes is at the place.
 abbrev pub AbsentFrom : ℕ → List NodeAt → Type 0
 AbsentFrom place nodes = AllByRecursion (λ n. n.place ≢ place) nodes
 
--- no two nodes are at one place
+-- No two nodes are at one place.
 unfoldable pub IsSpread : List NodeAt → Type 0
 IsSpread [] = Unit {0}
 IsSpread (n ∷ rest) = AbsentFrom n.place rest × IsSpread rest

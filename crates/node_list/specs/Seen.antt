@@ -3,6 +3,6 @@ use Rattle.std.specs.Prelude.{ℕ}
 use Rattle.node_list.specs.declared.node.Node.{Node}
 use Rattle.node_list.specs.Nodes.{NodeAt}
 
--- the node at a place
+-- The node at a place.
 abbrev pub seen : ℕ → Node → NodeAt
 seen place n = record { place = place; split = n.split; kind = n.kind; value = n.value; stamp = n.stamp; marked = n.marked }

@@ -5,18 +5,18 @@ use Rattle.node_list.specs.declared.node.Kind.TheVariants.{Dummy}
 use Rattle.node_list.specs.Nodes.{NodeAt, Listing, node_of, out_at}
 use Rattle.node_list.specs.Order.{IsRising, IsSpread}
 
--- no dummy is marked
+-- No dummy is marked.
 abbrev pub AllPlain : List NodeAt → Type 0
 AllPlain nodes = AllByRecursion (λ n. n.kind ≡ Dummy → n.marked ≡ false) nodes
 
--- the first node is the dummy of bucket 0
+-- The first node is the dummy of bucket 0.
 pub record IsFirst (l : Listing) : Type 0 where
   pub node : NodeAt
   pub is : node_of l.nodes l.head ≡ Some node
   pub split : node.split ≡ 0
   pub kind : node.kind ≡ Dummy
 
--- no stamp is above the last one, and no two places have one stamp
+-- No stamp is above the last one, and no two places have one stamp.
 pub record IsStamped (l : Listing) : Type 0 where
   pub bound : (place : ℕ) (n : NodeAt) → node_of l.nodes place ≡ Some n → n.stamp ≤ l.last
   pub alone : (p q : ℕ) (n m : NodeAt) → node_of l.nodes p ≡ Some n → node_of l.nodes q ≡ Some m → n.stamp ≡ m.stamp → p ≡ q
@@ -24,7 +24,7 @@ pub record IsStamped (l : Listing) : Type 0 where
   pub out_bound : (place stamp : ℕ) → out_at l place ≡ Some stamp → stamp ≤ l.last
   pub out_alone : (p q stamp : ℕ) → out_at l p ≡ Some stamp → out_at l q ≡ Some stamp → p ≡ q
 
--- the nodes are in order and at places of their own, no dummy is marked, and no stamp is used twice
+-- The nodes are in order and at places of their own, no dummy is marked, and no stamp is used twice.
 pub record IsSound (l : Listing) : Type 0 where
   pub first : IsFirst l
   pub rising : IsRising l.nodes

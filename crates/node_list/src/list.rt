@@ -37,7 +37,7 @@ impl Model for NodeList {
     ghost invariant = { λ f. IsKept f.slab f.head f.last f.count f.marked };
 }
 
-// Counts one change more, up to 2^64 - 1.
+/// Counts one change more, up to 2^64 - 1.
 fn advance(turn: &mut u64)
     ensures { turn.new ≡ turn_after turn.old }
 {

@@ -15,7 +15,7 @@ pub enum Kind {
 }
 
 impl Kind {
-    // How much a new node of this kind counts.
+    /// How much a new node of this kind counts.
     pub(crate) fn weight(self) -> u64
         ensures { result ≡ (if is_regular self then 1 else 0) }
     {
@@ -75,7 +75,7 @@ pub struct Node {
 }
 
 impl Node {
-    // A dummy with nothing behind it.
+    /// A dummy with nothing behind it.
     pub(crate) fn dummy(split: u64, stamp: u64) -> Self
         ensures { result ≡ record {
           split = split;

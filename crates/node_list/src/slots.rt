@@ -15,7 +15,7 @@ pub enum Slot {
 }
 
 impl Slot {
-    // Changes the next of the linked node, and returns the one that it had.
+    /// Changes the next of the linked node, and returns the one that it had.
     fn replace_next(&mut self, next: Option<NodeRef>) -> Option<NodeRef>
         ensures was { (node : Node) → self.old ≡ Linked node → result ≡ node.next }
         ensures now { (node : Node) → self.old ≡ Linked node →

@@ -62,7 +62,7 @@ impl Display for SpareFault {
 impl std::error::Error for SpareFault {}
 
 impl Spare {
-    // A spare that is filled as a node is, and has its stamp.
+    /// A spare that is filled as a node is, and has its stamp.
     pub(crate) fn of(place: NodeRef, node: Node) -> Self
         ensures { result ≡ record {
           place = place;
@@ -81,7 +81,7 @@ impl Spare {
         }
     }
 
-    // The node that the spare becomes, before a next one.
+    /// The node that the spare becomes, before a next one.
     pub(crate) fn into_node(self, next: Option<NodeRef>) -> Node
         ensures { result ≡ stored (filled self) next }
     {

@@ -9,7 +9,7 @@ use Rattle.node_list.proofs.OrderLemmas.{each_linked}
 use Rattle.bucket_table.proofs.LinkLemmas.{unlinked, links_at}
 use Rattle.bucket_table.proofs.buckets.link_dummy.Goals as goal
 
--- a dummy with this split key
+-- A dummy with this split key.
 abbrev dummy_with : ℕ → ℕ → ℕ → NodeAt
 dummy_with place split stamp = record { place = place; split = split; kind = Dummy; value = 0; stamp = stamp; marked = false }
 

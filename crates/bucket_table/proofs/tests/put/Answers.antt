@@ -27,7 +27,7 @@ pub returns-in-Ok-clause-home : goal.returns-in-Ok-clause-home
 returns-in-Ok-clause-home c =
     still_home _ _ c.link.ensures.follows _ (still_home _ _ c.seek-cursor.ensures.follows _ (still_home _ _ c.in_ok-spare.ensures.follows _ c.requires.home))
 
--- a regular node where its key belongs
+-- A regular node where its key belongs.
 regular_keyed : (n : NodeAt) (number : ℕ) → number < 2 ^ 63 → n.kind ≡ Regular number → n.split ≡ split number → IsKeyedNode n
 regular_keyed n number small regular at key is =
     let same : number ≡ key = cc (sym regular ∙ is) in

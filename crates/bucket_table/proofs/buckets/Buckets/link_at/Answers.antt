@@ -25,13 +25,13 @@ link_dummy-requires-clause-placed c = (helper_found (IsHelperHome c.args.list.no
 pub set_helper-requires-in-Ok-None-clause-there : goal.set_helper-requires-in-Ok-None-clause-there
 set_helper-requires-in-Ok-None-clause-there c = slice_get_within _ _ _ c.requires.had
 
--- the dummy that was there
+-- The dummy that was there.
 there : (l : Listing) (cursor : Cursor) (bucket dummy : ℕ) (found : Option ℕ) → bucket < 2 ^ 32 → IsKeyed l.nodes → split_of cursor ≡ reversed bucket → found ≡ Some dummy → Finds l cursor found → IsDummyAt l.nodes dummy bucket
 there l cursor bucket dummy found fits keyed sought is finds =
     let P : Option ℕ → Type 0 = Finds l cursor in
     there_dummy l cursor bucket dummy fits keyed sought (subst P is finds)
 
--- no dummy was there
+-- No dummy was there.
 none : (l : Listing) (cursor : Cursor) (bucket : ℕ) (found : Option ℕ) → split_of cursor ≡ reversed bucket → found ≡ None → Finds l cursor found → has_dummy l.nodes bucket ≡ false
 none l cursor bucket found sought is finds =
     let P : Option ℕ → Type 0 = Finds l cursor in
