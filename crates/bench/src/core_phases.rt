@@ -52,7 +52,7 @@ fn run_timed<R: AllocGlobal + Clock>(
     limits: Limits,
     steps: &[Step],
 ) -> Result<(Lap, Vec<Answer>)> {
-    let mut core = Core::new(rt.alloc(), limits).map_err(|refusal| anyhow!("{refusal:?}"))?;
+    let mut core = Core::new(rt.alloc(), limits).map_err(|refusal| anyhow!("refused {refusal}"))?;
     let watch = Stopwatch::start(rt)?;
     let answers = core.run(rt.alloc(), steps)?;
     let lap = watch.stop(rt)?;
@@ -85,7 +85,7 @@ fn time_runs<R: AllocGlobal + Clock + Eprint>(
 
 /// Times transactions of one put each, at few keys.
 pub(crate) fn time_puts<R: AllocGlobal + Clock + Eprint>(rt: &R, puts: u64) -> Result<()> {
-    let limits = Limits::new(1, 64, 64).map_err(|refusal| anyhow!("{refusal:?}"))?;
+    let limits = Limits::new(1, 64, 64).map_err(|refusal| anyhow!("refused {refusal}"))?;
     let steps = put_steps(rt.alloc(), puts)?;
     time_runs(rt, limits, &steps)
 }

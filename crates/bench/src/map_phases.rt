@@ -52,10 +52,10 @@ fn time_map<R: Clock + Eprint, M: AnyMap>(
     operations: u64,
 ) -> Result<()> {
     let watch = Stopwatch::start(rt)?;
-    let filled = fill(map, keys).map_err(|refusal| anyhow!("{name}: {refusal:?}"))?;
+    let filled = fill(map, keys).map_err(|refusal| anyhow!("{name}: refused {refusal}"))?;
     watch.report(rt, name, "fill", keys, filled)?;
     let watch = Stopwatch::start(rt)?;
-    let mixed = mix(map, keys, operations).map_err(|refusal| anyhow!("{name}: {refusal:?}"))?;
+    let mixed = mix(map, keys, operations).map_err(|refusal| anyhow!("{name}: refused {refusal}"))?;
     watch.report(rt, name, "mixed", operations, mixed)?;
     Ok(())
 }
