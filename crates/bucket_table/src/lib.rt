@@ -7,11 +7,26 @@
 //! sought from the nearest stored ancestor of its bucket. A *helper* stores a bucket in three steps: it
 //! seeks the place of the dummy, links the dummy there unless it is linked already, and stores it.
 //!
+//! The buckets are a flat array, beside the one list. In the test `nodes_after_initialisation` the size is 4,
+//! the keys are 1 to 5, and all buckets but bucket 2 are stored. The list is in the order that `split_key`
+//! draws:
+//!
 //! ```text
-//!     size 4   bucket   0        1        2         3
-//!              stored   |        |        not yet   |
-//!     list              dummy 0, 4, 2,    dummy 1, 1, 5,   dummy 3, 3
+//!     buckets            list         bucket of the key
+//!     +---+---+
+//!     | 0 | o-+------->  dummy 0
+//!     |   |   |          key   4      0
+//!     |   |   |          key   2      2
+//!     | 1 | o-+------->  dummy 1
+//!     |   |   |          key   1      1
+//!     | 2 |   |          key   5      1
+//!     | 3 | o-+------->  dummy 3
+//!     |   |   |          key   3      3
+//!     +---+---+
 //! ```
+//!
+//! Key 2 is sought from dummy 0, since bucket 0 is the parent of bucket 2. The dummy of bucket 2 will be linked
+//! between the keys 4 and 2.
 //!
 //! Contracts see a `Directory`: the size, the place of each stored bucket's dummy, and what each helper has.
 //! On every value the sizes are powers of two and no bucket is stored before its parent (`IsSound`). Buckets

@@ -1,5 +1,5 @@
 //! What is done at a cursor.
-ghost use Rattle.std.specs.Prelude.{◌≡◌, ℕ, ◌<◌, ◌-◌, ◌^◌, Some, None, true, is_ok, IsOk, IfOk, IfErr, OnOk, OnErr};
+ghost use Rattle.std.specs.Prelude.{◌≡◌, ◌<◌, ◌-◌, ◌^◌, is_ok, IsOk, IfOk, IfErr, OnOk, OnErr};
 ghost use Rattle.node_list.specs.Nodes.{IsLinked, IsOut, filled, place_of};
 ghost use Rattle.node_list.specs.Follow.{Follows};
 ghost use Rattle.list_steps.specs.Found.{IsKeyThere, IsPlaced, IsRoomFor, fits, node_there, pred_of, split_of, turn_of};
