@@ -1,0 +1,3 @@
+pub mod Keeps
+pub mod Moves
+pub mod SeatLemmas

@@ -1,0 +1,61 @@
+-- The rule of the words, which holds between any two atomic steps.
+use Rattle.std.specs.Prelude.{◌≡◌, ◌≢◌, ℕ, ◌+◌, ◌<◌, ◌==◌, ◌⊎◌, cond, List, [], ◌∷◌, length, slice_index, Contains, Option, Some}
+use mathlib.Core.Option.{some, none}
+use lib.ListN.{get_elem?}
+use Rattle.atomic_table.specs.Table.{State}
+use Rattle.key_words.specs.declared.view.View.{View}
+
+-- A view by its parts.
+abbrev pub view : ℕ → ℕ → List ℕ → List (ℕ × ℕ) → View
+view number made held notes = record { number = number; made = made; held = held; notes = notes }
+
+-- How many times a stripe stands in a list.
+abbrev pub times : ℕ → List ℕ → ℕ
+times stripe [] = 0
+times stripe (first ∷ rest) = cond (first == stripe) 1 0 + times stripe rest
+
+-- The seat of the view holds the stripe.
+abbrev pub Holds : View → ℕ → Type 0
+Holds v stripe = 0 < times stripe v.held
+
+-- One where the word is that of the seat with this number, else none.
+abbrev pub once_for : ℕ → ℕ → ℕ
+once_for number word = cond (word == number + 1) 1 0
+
+-- The word is 0, or one more than the number of a seat.
+abbrev pub IsNamed : List View → ℕ → Type 0
+IsNamed views word = (word ≡ 0) ⊎ ((seat : ℕ) × (v : View) × (get_elem? views seat ≡ some v) × (word ≡ v.number + 1))
+
+-- The seat that the word names has at some time taken the stripe, when it saw the word 0.
+abbrev pub WasTaken : List View → ℕ → ℕ → Type 0
+WasTaken views stripe word =
+    (seat : ℕ) × (v : View) × (get_elem? views seat ≡ some v) × (word ≡ v.number + 1)
+    × Contains v.notes (stripe, 0)
+
+-- Each stripe is held by one seat, the one that its word names, or its right is at home; and each
+-- note was true.
+pub record IsOrderly (s : State (Option ℕ) View) : Type 0 where
+  pub wide : length s.homes ≡ length s.words
+  -- No two views have the same number, and each number is below the count of the view of seat 0.
+  pub first : View
+  pub at_first : get_elem? s.views 0 ≡ some first
+  pub zeroth : first.number ≡ 0
+  pub below : (i : ℕ) (v : View) → get_elem? s.views i ≡ some v → v.number < first.made
+  pub apart : (i j : ℕ) (v w : View) → get_elem? s.views i ≡ some v → get_elem? s.views j ≡ some w
+      → v.number ≡ w.number → i ≡ j
+  -- A word is 0 or names a seat, and a seat holds a stripe, once, exactly where the word is the
+  -- seat's.
+  pub named : (stripe : ℕ) → stripe < length s.words → IsNamed s.views (slice_index s.words stripe)
+  pub held : (i : ℕ) (v : View) → get_elem? s.views i ≡ some v → (stripe : ℕ)
+      → times stripe v.held ≡ once_for v.number (slice_index s.words stripe)
+  -- Where the word is 0 the stripe's slot is at home with its right, and else it is out.
+  pub home : (stripe : ℕ) → stripe < length s.words → slice_index s.words stripe ≡ 0
+      → get_elem? s.homes stripe ≡ some (some (Some stripe))
+  pub out : (stripe : ℕ) → stripe < length s.words → slice_index s.words stripe ≢ 0
+      → get_elem? s.homes stripe ≡ some none
+  -- Who holds a stripe has noted that its word was 0, and a seat is noted as a stripe's holder only
+  -- after it took the stripe.
+  pub taken : (i : ℕ) (v : View) → get_elem? s.views i ≡ some v → (stripe : ℕ) → Holds v stripe
+      → Contains v.notes (stripe, 0)
+  pub noted : (i : ℕ) (v : View) → get_elem? s.views i ≡ some v → (stripe word : ℕ) → word ≢ 0
+      → Contains v.notes (stripe, word) → WasTaken s.views stripe word

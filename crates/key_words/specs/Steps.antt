@@ -1,0 +1,57 @@
+-- What each step makes of its seat.
+use Rattle.std.specs.Prelude.{◌≡◌, ◌≢◌, ◌↔◌, ℕ, ◌+◌, ◌==◌, cond, List, [], ◌∷◌, ◌++◌, Option, Some, None}
+use Rattle.atomic_table.specs.Table.{Me, Step, rest}
+use Rattle.key_words.specs.declared.view.View.{View}
+use Rattle.key_words.specs.Rule.{view, Holds}
+
+-- A seat's view and the slots that it has out.
+abbrev pub Sat : Type 0
+Sat = Me (Option ℕ) View
+
+-- A step, the seat before it, the word that it found, and the seat after it.
+abbrev pub Told : Type 1
+Told = Step (Option ℕ) → Sat → ℕ → Sat → Type 0
+
+-- The stripe and its word are noted.
+abbrev pub noted : View → ℕ → ℕ → View
+noted v stripe word = view v.number v.made v.held (v.notes ++ (stripe, word) ∷ [])
+
+-- The stripe is held, and noted as free.
+abbrev pub gained : View → ℕ → View
+gained v stripe = view v.number v.made (stripe ∷ v.held) (v.notes ++ (stripe, 0) ∷ [])
+
+-- The list without the stripe, where it stands first.
+abbrev pub removed : ℕ → List ℕ → List ℕ
+removed stripe [] = []
+removed stripe (first ∷ others) = cond (first == stripe) others (first ∷ removed stripe others)
+
+-- The stripe is held no more.
+abbrev pub lost : View → ℕ → View
+lost v stripe = view v.number v.made (removed stripe v.held) v.notes
+
+-- One more seat was made.
+abbrev pub elder : View → View
+elder v = view v.number (v.made + 1) v.held v.notes
+
+-- The seat that was made.
+abbrev pub newborn : View → View
+newborn v = view v.made 0 [] []
+
+-- The slots of these stripes, each empty.
+abbrev pub emptied : List ℕ → List (ℕ × Option ℕ)
+emptied [] = []
+emptied (stripe ∷ others) = (stripe, None) ∷ emptied others
+
+-- Where the word was 0, the seat has the stripe, and its slot with the right. Else it notes the
+-- word, which is its own exactly where it held the stripe before.
+abbrev pub took : Told
+took st m found n = (found ≡ 0 → n ≡ (gained m.0 st.word, (st.word, Some st.word) ∷ m.1))
+    × (found ≢ 0 → (n ≡ (noted m.0 st.word found, m.1)) × (Holds m.0 st.word ↔ (found ≡ m.0.number + 1)))
+
+-- The stripe's slot is the first of the seat's.
+abbrev pub brought : Told
+brought st m found n = n ≡ (m.0, emptied (st.word ∷ removed st.word m.0.held))
+
+-- The stripe is the seat's no more, and its slot is at home.
+abbrev pub freed : Told
+freed st m found n = n ≡ (lost m.0 st.word, rest m.1)

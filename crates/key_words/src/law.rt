@@ -1,0 +1,10 @@
+//! A law of the rule.
+ghost use Rattle.key_words.specs.Laws.{HeldOnce};
+
+/// No stripe is held in two views.
+///
+/// Does nothing when it runs: its contract is the law, of what the rule of the words promises.
+#[tactic(auto, using(crate::proofs::Moves::held_once))]
+pub fn held_once()
+    ensures { HeldOnce }
+{}

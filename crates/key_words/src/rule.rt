@@ -1,0 +1,51 @@
+//! The rule of the words, and the names of its steps.
+ghost use Rattle.std.specs.Prelude.{[]};
+ghost use Rattle.key_words.specs.Rule.{IsOrderly, view};
+ghost use Rattle.key_words.specs.Steps.{brought, elder, freed, newborn, took};
+
+use crate::view::View;
+use atomic_table::{Play, Split, TableRule};
+use key_locks::StripeRight;
+
+/// Where a stripe's right lies while no seat holds the stripe.
+pub(crate) type Slot = Option<StripeRight>;
+
+/// The words are in order.
+pub(crate) struct Order;
+
+impl TableRule<Slot, View, ()> for Order {
+    ghost holds = { λ _. IsOrderly };
+
+    ghost first = { λ _. view 0 1 [] [] };
+}
+
+/// A compare-exchange of the word from 0 to the seat's: where it was 0, the slot goes out to the
+/// seat.
+pub(crate) struct Take;
+
+impl Play<Slot, View> for Take {
+    ghost then = { took };
+}
+
+/// A load, after which the stripe's slot is the first of the seat's.
+pub(crate) struct Bring;
+
+impl Play<Slot, View> for Bring {
+    ghost then = { brought };
+}
+
+/// A store of 0: the first slot goes home.
+pub(crate) struct Free;
+
+impl Play<Slot, View> for Free {
+    ghost then = { freed };
+}
+
+/// One more seat, with the next number.
+pub(crate) struct Another;
+
+impl Split<View> for Another {
+    ghost left = { elder };
+
+    ghost right = { newborn };
+}

@@ -1,0 +1,35 @@
+ghost use Rattle.std.specs.Prelude.{◌≡◌, ℕ, ◌<◌, []};
+ghost use Rattle.key_words.specs.Rule.{Holds};
+ghost use Rattle.key_words.specs.Steps.{emptied};
+
+use crate::rule::Slot;
+use crate::view::View;
+use atomic_table::Seat;
+
+/// A seat at the words, for one thread at a time. It has out just the slots of the stripes that it
+/// holds, each empty.
+#[derive(Drop)]
+pub struct KeySeat {
+    pub(crate) number: u64,
+    pub(crate) seat: Seat<Slot, View>,
+    ghost low: { number < 64 },
+    ghost numbered: { seat.me.0.number ≡ number },
+    ghost inside: { (stripe : ℕ) → Holds seat.me.0 stripe → stripe < seat.table_id.words },
+    ghost empty: { seat.me.1 ≡ emptied seat.me.0.held },
+}
+
+impl KeySeat {
+    /// A seat that holds nothing.
+    pub(crate) fn fresh(number: usize, seat: Seat<Slot, View>) -> KeySeat
+        requires low { number < 64 }
+        requires numbered { seat.me.0.number ≡ number }
+        requires held { seat.me.0.held ≡ [] }
+        requires slots { seat.me.1 ≡ [] }
+        ensures { result.seat ≡ seat }
+    {
+        KeySeat {
+            number: number as u64,
+            seat,
+        }
+    }
+}

@@ -1,0 +1,142 @@
+ghost use Rattle.std.specs.Prelude.{◌≡◌, ◌<◌, ◌≤◌, [], replicate, IfErr, IfOk, vec_capacity, vec_len};
+ghost use Rattle.key_locks.specs.Rights.{AreAll};
+ghost use Rattle.key_words.specs.Rule.{Holds, view};
+ghost use Rattle.key_words.specs.Steps.{lost};
+
+use crate::rule::{Another, Bring, Free, Order, Slot, Take};
+use crate::seat::KeySeat;
+use crate::slots::{empty_slots, lay, lift};
+use crate::taken::Taken;
+use crate::view::View;
+use atomic_table::{Refused, Seat, Table};
+use key_locks::StripeRight;
+use std::alloc::{AllocError, Global};
+use txn_trace::Refusal;
+
+/// A word for each stripe, and the rights of the stripes that no seat holds.
+#[derive(Drop)]
+pub struct KeyWords {
+    pub(crate) table: Table<Slot, View, (), Order, Global>,
+    ghost sized: { table.shared.table_id.slots ≡ table.shared.table_id.words },
+}
+
+/// So many words, each 0.
+fn zeros(alloc: Global, count: usize) -> Result<Vec<u64>, AllocError>
+    ensures { IfOk result (λ words. words.items ≡ replicate count 0) }
+{
+    vec![in alloc; 0; count]
+}
+
+impl KeyWords {
+    ghost use Rattle.key_words.specs.Seats.{AreSeats, IsOf, Takes, known, stripes_of};
+
+    /// The words of these stripes, all of them free, and their seats by rising number.
+    ///
+    /// Takes time and memory in proportion to the stripes and seats.
+    ///
+    /// # Errors
+    ///
+    /// `Refusal::NoMemory` where memory is refused, with the rights that were handed in.
+    pub fn new(
+        alloc: Global,
+        mut rights: Vec<StripeRight>,
+        seats: usize,
+    ) -> Result<(KeyWords, Vec<KeySeat>), (Refusal, Vec<StripeRight>)>
+        requires stripes { 0 < vec_len rights }
+        requires rights { AreAll (vec_len rights) rights.items }
+        requires any_seat { 0 < seats }
+        requires few_seats { seats ≤ 64 }
+        ensures stripes { IfOk result (λ made. stripes_of made.0 ≡ vec_len rights) }
+        ensures seats { IfOk result (λ made. AreSeats made.0 seats made.1.items) }
+        ensures refusal { IfErr result (λ refused. refused.0 ≡ Refusal.NoMemory) }
+        ensures handed_back { IfErr result (λ refused. AreAll (vec_len rights) refused.1.items) }
+    {
+        let stripes = rights.len();
+        let Ok(words) = zeros(alloc, stripes) else {
+            return Err((Refusal::NoMemory, rights));
+        };
+        let Ok(mut slots) = empty_slots(alloc, stripes) else {
+            return Err((Refusal::NoMemory, rights));
+        };
+        let Ok(room) = Vec::with_capacity(alloc, seats) else {
+            return Err((Refusal::NoMemory, rights));
+        };
+        lay(&mut rights, &mut slots);
+        match Table::new(alloc, &words, slots, &()) {
+            Ok((table, first)) => {
+                let words = KeyWords { table };
+                let all = words.seated(first, room, seats);
+                Ok((words, all))
+            }
+            Err(Refused { mut slots }) => {
+                lift(&mut slots, &mut rights);
+                Err((Refusal::NoMemory, rights))
+            }
+        }
+    }
+
+    /// Splits the other seats from the first, by rising number.
+    fn seated(
+        &self,
+        mut first: Seat<Slot, View>,
+        mut all: Vec<KeySeat>,
+        seats: usize,
+    ) -> Vec<KeySeat>
+        requires first { (first.table_id ≡ self.now.table.shared.table_id)
+            × (first.me ≡ (view 0 1 [] [], [])) }
+        requires words { 0 < stripes_of self.now }
+        requires seats { (0 < seats) × (seats ≤ 64) }
+        requires room { (all.items ≡ []) × (vec_capacity all ≡ seats) }
+        ensures { AreSeats self.now seats result.items }
+    {
+        for number in 1..seats {
+            let seat = self.table.shared.split_seat::<Another>(&mut first);
+            all.push_reserved(KeySeat::fresh(number, seat));
+        }
+        let Ok(()) = all.insert(0, KeySeat::fresh(0, first)) else {
+            unreachable!()
+        };
+        all
+    }
+
+    /// Takes a stripe, in one try, which never waits: one compare-exchange of its word, which the
+    /// seat notes.
+    ///
+    /// Granted, with the stripe's right, exactly where the word was 0 then; else `Held` with the
+    /// word. Takes no memory, constant time.
+    pub fn take(&self, seat: &mut KeySeat, stripe: usize) -> Taken
+        requires seat { IsOf seat.old self.now }
+        requires stripe { stripe < stripes_of self.now }
+        ensures seat { IsOf seat.new self.now }
+        ensures taken { Takes stripe (known seat.old) result (known seat.new) }
+    {
+        let shared = &self.table.shared;
+        let own = seat.number + 1;
+        let found = shared.compare_exchange::<Take>(&mut seat.seat, stripe, 0, own);
+        if found != 0 {
+            return Taken::Held(found);
+        }
+        match shared.exchange(&mut seat.seat, stripe, None) {
+            Some(right) => Taken::Granted(right),
+            None => unreachable!(),
+        }
+    }
+
+    /// Gives a stripe back, by its right, and leaves the seat's others: lays the right into its
+    /// slot and frees the word by one store. Before it one load, which changes nothing, puts the
+    /// stripe's slot in front of the seat's others.
+    ///
+    /// Takes no memory, constant time.
+    pub fn give(&self, seat: &mut KeySeat, right: StripeRight)
+        requires seat { IsOf seat.old self.now }
+        requires held { Holds (known seat.old) right }
+        ensures seat { IsOf seat.new self.now }
+        ensures given { known seat.new ≡ lost (known seat.old) right }
+    {
+        let shared = &self.table.shared;
+        let stripe = right.stripe();
+        shared.load::<Bring>(&mut seat.seat, stripe);
+        drop(shared.exchange(&mut seat.seat, stripe, Some(right)));
+        shared.store::<Free>(&mut seat.seat, stripe, 0);
+    }
+}
