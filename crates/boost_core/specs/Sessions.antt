@@ -190,9 +190,9 @@ pub record WithdrawsIn (s : Session) (t : TableAt) (s' : Session) (t' : TableAt)
   pub cursor : s'.cursor ≡ None
   pub log : s'.log ≡ s.log
 
--- The spares of the log are the table's, each once.
+-- The spares of the log are the table's, each once, beside those that others keep.
 abbrev pub CanSettle : Session → TableAt → Type 0
-CanSettle s t = IsCovered (times_in s.log.jobs) t
+CanSettle s t = (others : ℕ → ℕ → ℕ) × IsCovered (λ place stamp. others place stamp + times_in s.log.jobs place stamp) t
 
 -- All jobs are dropped with their spares, and the caller has no transaction.
 pub record SettlesIn (s : Session) (t : TableAt) (s' : Session) (t' : TableAt) : Type 0 where
