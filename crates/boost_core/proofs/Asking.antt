@@ -17,7 +17,7 @@ use Rattle.txn_trace.specs.Serial.{serial}
 use Rattle.txn_trace.specs.Now.{now}
 use Rattle.txn_trace.specs.Locks.{holder_of, stripe_of, is_locked}
 use Rattle.txn_trace.specs.Owed.{owed_for}
-use Rattle.txn_trace.specs.Shape.{Waiting, LeavingToEnd}
+use Rattle.txn_trace.specs.declared.seat.Phase.TheVariants.{Waiting, LeavingToEnd}
 use Rattle.txn_trace.specs.declared.refusal.Refusal.{Refusal}
 use Rattle.txn_trace.specs.declared.refusal.Refusal.TheVariants as refusals
 use Rattle.txn_trace.proofs.Now.{same_is}

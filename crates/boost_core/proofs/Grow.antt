@@ -14,7 +14,9 @@ use Rattle.txn_trace.specs.Sizes.{Sizes}
 use Rattle.txn_trace.specs.Map.{Map, get}
 use Rattle.txn_trace.specs.History.{caller_of, is_began, is_commit}
 use Rattle.txn_trace.specs.Now.{now}
-use Rattle.txn_trace.specs.Shape.{Phase, Closed, Opened, Waiting, LeavingTo, LeavingToEnd, Seat, row, seat_after, own}
+use Rattle.txn_trace.specs.declared.seat.Phase.{Phase}
+use Rattle.txn_trace.specs.declared.seat.Phase.TheVariants.{Closed, Opened, Waiting, LeavingTo, LeavingToEnd}
+use Rattle.txn_trace.specs.Shape.{Seat, row, seat_after, own}
 use Rattle.txn_trace.specs.Log.{log_of}
 use Rattle.txn_trace.specs.Locks.{stripe_of, holder_of}
 use Rattle.txn_trace.specs.Legal.{IsLegal, runs, is_running}
