@@ -22,7 +22,7 @@ pub seek_writes : (before after : Listing) (old new : Directory) (helper bucket 
     → buckets.SeekChanges old new before after helper bucket result
     → SeekWrites (table_of before old) (table_of after new) bucket result
 seek_writes before after old new helper bucket (Ok Ready) changes = changes.1
-seek_writes before after old new helper bucket (Ok Placed) seeks = record { start = seeks.from; parent = seeks.parent; nodes = seeks.nodes }
+seek_writes before after old new helper bucket (Ok Placed) seeks = record { start = seeks.from; parent = seeks.parent; nodes = seeks.nodes; changes = seeks.turn }
 seek_writes before after old new helper bucket (Err refusal) changes = changes.1
 
 -- What a link writes, where the helper sought this bucket.

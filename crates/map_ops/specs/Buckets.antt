@@ -15,7 +15,7 @@ use Rattle.bucket_table.specs.declared.answer.InitRefusal.TheVariants.{NoSuchBuc
 use Rattle.bucket_table.specs.declared.answer.Double.{Double}
 use Rattle.bucket_table.specs.declared.answer.Double.TheVariants.{Moved, AtLimit, Light, Doubled}
 use Rattle.map_ops.specs.TableAt.{TableAt, Help, Nothing, Sought, Dummy, regular, turn_of, last_of, largest_of, size_of, stored_of, linked_of, helps_of, nodes_of, KeepsList, KeepsSpares}
-use Rattle.map_ops.specs.Nodes.{LinksNode}
+use Rattle.map_ops.specs.Nodes.{IsUnlinking, LinksNode}
 pub use Rattle.map_ops.specs.TableAt.{helper_fits}
 
 -- The bucket is stored.
@@ -90,11 +90,12 @@ pub record Seeks (old new : TableAt) (helper bucket : ℕ) : Type 0 where
   pub fits : helper_fits new helper ≡ true
 
 -- The place of a bucket's dummy was sought from the dummy of the bucket's parent: the marked nodes between there and the
--- place are unlinked, and no others.
+-- place are unlinked, and no others. The change number grows by one for each.
 pub record SeeksBucket (old new : TableAt) (bucket : ℕ) : Type 0 where
   pub start : ℕ
   pub parent : dummy_of old.buckets (parent_of bucket) ≡ Some start
   pub nodes : nodes_of new ≡ sought (nodes_of old) start (reversed bucket)
+  pub changes : IsUnlinking old.list new.list
 
 -- What a seek for a bucket writes.
 abbrev pub SeekWrites : TableAt → TableAt → ℕ → Result InitSeek InitRefusal → Type 0

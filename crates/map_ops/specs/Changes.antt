@@ -11,9 +11,9 @@ use Rattle.map_ops.specs.declared.act.Undo.{Undo}
 use Rattle.map_ops.specs.declared.act.Undo.TheVariants.{Undone, Again as UndoAgain}
 use Rattle.map_ops.specs.declared.job.MapJob.{MapJob}
 use Rattle.map_ops.specs.declared.job.MapJob.TheVariants.{Unput, Restore, Relink}
-use Rattle.map_ops.specs.TableAt.{TableAt, Cursor, SpareAt, SweepOutcome, content, turn_of, last_of, linked_of, nodes_of, nodes_sought, spare_out, Owns, KeepsOthers, KeepsSpares, KeepsBuckets, KeepsNodes, Keeps, IsPlaced, IsStart, SweepsNodes, cursor_turn, fits}
+use Rattle.map_ops.specs.TableAt.{TableAt, Cursor, SpareAt, SweepOutcome, content, turn_of, last_of, linked_of, nodes_of, nodes_sought, spare_out, Owns, KeepsOthers, KeepsSpares, KeepsBuckets, KeepsNodes, Keeps, Follows, IsPlaced, IsStart, SweepsNodes, cursor_turn, fits}
 use Rattle.map_ops.specs.Jobs.{PendingAt, takes_node, key_of_job, value_before, spare_of_job, job_of, IsDue}
-use Rattle.map_ops.specs.Nodes.{JobWrites, OpWrites, WritesNothing}
+use Rattle.map_ops.specs.Nodes.{IsUnlinking, JobWrites, OpWrites, WritesNothing}
 
 -- The spare, if there is one, is the table's.
 abbrev pub OwnsIf : TableAt → Option SpareAt → Type 0
@@ -65,11 +65,12 @@ pub record Places (old new : TableAt) (key : ℕ) (cursor : Cursor) : Type 0 whe
   pub turn : cursor_turn cursor ≡ turn_of new
 
 -- A key was sought from the dummy of its bucket, or of the nearest ancestor that is initialised: the marked nodes between
--- there and the key's place are unlinked, and no others.
+-- there and the key's place are unlinked, and no others. The change number grows by one for each.
 pub record SeeksNear (old new : TableAt) (key : ℕ) : Type 0 where
   pub start : ℕ
   pub nearest : IsStart old key start
   pub nodes : nodes_of new ≡ nodes_sought old start key
+  pub changes : IsUnlinking old.list new.list
 
 -- The spare of an operation: with a job that owns it, it stays out; else it is out no more.
 abbrev pub SpendsFor : TableAt → TableAt → Option SpareAt → Option MapJob → Type 0
@@ -163,6 +164,12 @@ ShowsAfter job t = IsDue (content t) job × OwnsIf t (spare_of_job job)
 -- The table shows what the job names as before its change.
 abbrev pub ShowsBefore : MapJob → TableAt → Type 0
 ShowsBefore job t = get (content t) (key_of_job job) ≡ value_before job
+
+-- What the run of a job changes: its change is taken back and nothing else, and nothing older is disturbed.
+pub record Runs (old new : TableAt) (job : MapJob) : Type 0 where
+  pub back : TakesBack old new job
+  pub writes : SeeksAndUndoes old new job
+  pub follows : Follows old new
 
 -- The two spares, where there are two, are at different places.
 abbrev pub AreApart : Option SpareAt → Option SpareAt → Type 0

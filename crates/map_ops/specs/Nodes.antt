@@ -1,7 +1,7 @@
 -- What is done to the linked nodes and to the change number.
-use Rattle.std.specs.Prelude.{◌≡◌, ℕ, List, Option, Some, None, false}
+use Rattle.std.specs.Prelude.{◌≡◌, ℕ, ◌-◌, List, Option, Some, None, false, length}
 use Rattle.node_list.specs.declared.node.Kind.TheVariants.{Regular}
-use Rattle.node_list.specs.Nodes.{NodeAt, Listing, SpareAt, IsLinked, node_of, linked_after, marked_at, written_at, turn_after}
+use Rattle.node_list.specs.Nodes.{NodeAt, Listing, SpareAt, IsLinked, node_of, linked_after, marked_at, written_at, turn_after, turns_after}
 use Rattle.split_key.specs.Split.{split}
 use Rattle.txn_trace.specs.declared.op.Op.{Op}
 use Rattle.txn_trace.specs.declared.op.Op.TheVariants.{Put, Take, Get}
@@ -34,6 +34,10 @@ pub record WritesNothing (old new : Listing) : Type 0 where
 pub record WritesOnce (old new : Listing) (now : List NodeAt) : Type 0 where
   pub nodes : new.nodes ≡ now
   pub changes : new.turn ≡ turn_after old.turn
+
+-- Nodes are unlinked and nothing else is written: the change number is higher by as many.
+abbrev pub IsUnlinking : Listing → Listing → Type 0
+IsUnlinking old new = new.turn ≡ turns_after old.turn (length old.nodes - length new.nodes)
 
 -- The node is linked behind one that is linked.
 pub record LinksNode (old new : Listing) (node : NodeAt) : Type 0 where
