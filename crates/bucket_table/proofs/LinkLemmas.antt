@@ -35,6 +35,7 @@ module _ (before middle after : Listing) (cursor : Cursor) (bucket place stamp :
   links_at given next last fits linked x is links =
       let at_place : x.place ≡ place = ap (λ (v : NodeAt). v.place) is in
       record {
+        linked = subst (λ ns. IsLinked ns (pred_of cursor)) given.nodes linked;
         nodes = links.takes.nodes ∙ ap (λ ns. linked_after ns (pred_of cursor) x) given.nodes ∙ ap (λ v. linked_after before.nodes (pred_of cursor) v) (is ∙ ap (λ s. dummy_node place bucket s) next);
         dummy = record {
           node = x;

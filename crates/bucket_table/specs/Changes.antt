@@ -1,6 +1,6 @@
 -- What each call changes.
-use Rattle.std.specs.Prelude.{◌≡◌, ℕ, Some, Result, Ok, Err}
-use Rattle.node_list.specs.Nodes.{Listing}
+use Rattle.std.specs.Prelude.{◌≡◌, ℕ, ◌-◌, Some, Result, Ok, Err, length}
+use Rattle.node_list.specs.Nodes.{Listing, turns_after}
 use Rattle.list_steps.specs.declared.cursor.Cursor.{Cursor}
 use Rattle.list_steps.specs.Found.{IsFound, split_of}
 use Rattle.list_steps.specs.Seek.{KeepsRest, sought}
@@ -17,7 +17,8 @@ use Rattle.bucket_table.specs.Directory.{Directory, dummy_of, helper_of, with_he
 use Rattle.bucket_table.specs.Dummies.{IsDummyAt}
 use Rattle.bucket_table.specs.Links.{LinksAt}
 
--- The helper has a cursor for the bucket's dummy, sought from the dummy of the bucket's parent.
+-- The helper has a cursor for the bucket's dummy, sought from the dummy of the bucket's parent: the marked
+-- nodes between there and the place are unlinked, and no others. The change number grows by one for each.
 pub record Seeks (old new : Directory) (before after : Listing) (helper bucket : ℕ) : Type 0 where
   pub cursor : Cursor
   pub now : new ≡ with_helper old helper (Seeking bucket cursor)
@@ -26,6 +27,7 @@ pub record Seeks (old new : Directory) (before after : Listing) (helper bucket :
   pub from : ℕ
   pub parent : dummy_of old (parent_of bucket) ≡ Some from
   pub nodes : after.nodes ≡ sought before.nodes from (reversed bucket)
+  pub turn : after.turn ≡ turns_after before.turn (length before.nodes - length after.nodes)
   pub rest : KeepsRest before after
 
 -- What a seek for a bucket changes.

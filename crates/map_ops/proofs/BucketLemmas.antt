@@ -338,6 +338,7 @@ is_new l d largest helpers nodes_is none turn last d_is least most =
     let same : pairs l.nodes ≡ [] = ap pairs nodes_is ∙ pairs_first l.head 0 in
     let limit : length (Some l.head ∷ replicate (largest - 1) None) ≡ largest = let rest = length-replicate {A = Option ℕ} (largest - 1) None in omega (arith, rest, least) in
     subst (λ (b : Directory). IsNew (table_of l b) largest helpers) (sym d_is) (record {
+      nodes_are = nodes_is;
       regular_is = same;
       content_is = ap map_of same;
       size_is = refl;

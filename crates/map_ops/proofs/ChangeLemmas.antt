@@ -1,20 +1,21 @@
 -- What a step at a key does to the table.
 use Rattle.std.proofs.Common.{◌≡◌, ℕ, ◌<◌, ◌^◌, List, [], ◌∷◌, Some, None, true, false, sym, ◌∙◌, ap, subst}
 use Rattle.node_list.specs.declared.node.Kind.TheVariants.{Regular}
-use Rattle.node_list.specs.Nodes.{NodeAt, Listing}
+use Rattle.node_list.specs.Nodes.{NodeAt, Listing, linked_after}
 use Rattle.node_list.specs.Sound.{IsSound}
 use Rattle.list_steps.specs.declared.cursor.Cursor.{Cursor}
 use Rattle.list_steps.specs.Content.{pairs, Replaces}
 use Rattle.list_steps.specs.Found.{fits, node_there, pred_of, split_of, IsPlaced}
 use Rattle.list_steps.specs.Steps.{Links, Marks, Swaps}
 use Rattle.list_steps.proofs.ContentLemmas.{pair_regular}
-use Rattle.list_steps.proofs.CursorLemmas.{fits_linked}
+use Rattle.list_steps.proofs.CursorLemmas.{fits_linked, there}
 use Rattle.split_key.specs.Split.{split}
 use Rattle.bucket_table.specs.Directory.{Directory}
 use Rattle.bucket_table.specs.Dummies.{has_dummy}
 use Rattle.txn_trace.proofs.Order.{Rises}
 use Rattle.map_ops.specs.TableAt.{table_of}
 use Rattle.map_ops.specs.Steps.{Sets}
+use Rattle.map_ops.specs.Nodes.{IsNodeOf, LinksNode, MarksNode, WritesNode}
 use Rattle.map_ops.specs.Sound.{Belong}
 use Rattle.map_ops.proofs.ContentLemmas.{rises-pairs, map_of-linked, map_of-written, map_of-unlinked}
 use Rattle.map_ops.proofs.ThereLemmas.{kind_there}
@@ -29,6 +30,27 @@ module _ (old new : Listing) (c : Cursor) (key : ℕ) (sound : IsSound old) (aft
   same_key n other is kind =
       let own : Regular other ≡ Regular key = sym kind ∙ kind_there old c key sound belong placed fitting same small n is in
       cc
+
+  its : (n : NodeAt) → node_there old c ≡ Some n → IsNodeOf old.nodes key n
+  its n is =
+      let at = there old c n sound.spread fitting is in
+      record { is = at.is; kind = kind_there old c key sound belong placed fitting same small n is; unmarked = at.unmarked }
+
+  -- The key's node is the one that is marked.
+  pub marks_node : (value : ℕ) → Marks old new c value → MarksNode old new key
+  marks_node value marks = record {
+    node = marks.node;
+    its = its marks.node marks.there;
+    writes = record { nodes = marks.becomes.nodes; changes = marks.becomes.turn };
+  }
+
+  -- The key's node is the one that is written.
+  pub swaps_node : (was now : ℕ) → Swaps old new c was now → WritesNode old new key now
+  swaps_node was now swaps = record {
+    node = swaps.node;
+    its = its swaps.node swaps.there;
+    writes = record { nodes = swaps.becomes.nodes; changes = swaps.becomes.turn };
+  }
 
   pub marks_belong : (value : ℕ) → Marks old new c value → Belong new.nodes
   marks_belong value marks = subst Belong (sym marks.becomes.nodes) (belong_marked old.nodes marks.node.place belong)
@@ -60,6 +82,14 @@ module _ (old new : Listing) (c : Cursor) (key : ℕ) (sound : IsSound old) (aft
         last = swaps.becomes.last;
       }
 
+  -- This node is the one that is linked.
+  pub links_node : (x node : NodeAt) → x ≡ node → Links old new c x → LinksNode old new node
+  links_node x node is links = record {
+    before = pred_of c;
+    linked = fits_linked old c fitting;
+    writes = record { nodes = links.takes.nodes ∙ ap (λ (n : NodeAt). linked_after old.nodes (pred_of c) n) is; changes = links.takes.turn };
+  }
+
   module _ (x : NodeAt) (kind : x.kind ≡ Regular key) (unmarked : x.marked ≡ false) (place : x.split ≡ split key) where
     pub links_belong : Links old new c x → Belong new.nodes
     links_belong links = subst Belong (sym links.takes.nodes) (belong_linked old.nodes (pred_of c) x key belong kind small place)
@@ -75,3 +105,11 @@ module _ (old new : Listing) (c : Cursor) (key : ℕ) (sound : IsSound old) (aft
           linked = linked_same old new buckets (λ b. ap (λ (nodes : List NodeAt). has_dummy nodes b) links.takes.nodes ∙ has_dummy-regular old.nodes (pred_of c) x key b (fits_linked old c fitting) kind);
           last = links.takes.last;
         }
+
+-- A spare that is given back after the write changes no node.
+pub written_then_back : (old mid new : Listing) (key value : ℕ) → WritesNode old mid key value → new.nodes ≡ mid.nodes → new.turn ≡ mid.turn → WritesNode old new key value
+written_then_back old mid new key value writes same turn = record {
+  node = writes.node;
+  its = writes.its;
+  writes = record { nodes = same ∙ writes.writes.nodes; changes = turn ∙ writes.writes.changes };
+}

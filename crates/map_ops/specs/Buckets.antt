@@ -2,6 +2,10 @@
 use Rattle.std.specs.Prelude.{◌≡◌, ℕ, ◌*◌, ◌+◌, ◌-◌, ◌^◌, Bool, true, false, not, ◌==◌, nat_le, Option, Some, None, Result, Ok, Err, List, slice_set, slice_index_or, if◌then◌else◌}
 use Rattle.std.specs.List.{slice_get}
 pub use Rattle.split_key.specs.Split.{parent_of}
+use Rattle.split_key.specs.Split.{reversed}
+use Rattle.list_steps.specs.Seek.{sought}
+use Rattle.bucket_table.specs.Directory.{dummy_of}
+use Rattle.bucket_table.specs.Dummies.{dummy_node}
 use Rattle.bucket_table.specs.declared.answer.InitSeek.{InitSeek}
 use Rattle.bucket_table.specs.declared.answer.InitSeek.TheVariants.{Ready, Placed}
 use Rattle.bucket_table.specs.declared.answer.InitLink.{InitLink}
@@ -10,7 +14,8 @@ use Rattle.bucket_table.specs.declared.answer.InitRefusal.{InitRefusal}
 use Rattle.bucket_table.specs.declared.answer.InitRefusal.TheVariants.{NoSuchBucket, ParentMissing, NoSuchHelper, HelperOutOfOrder, StampsUsedUp}
 use Rattle.bucket_table.specs.declared.answer.Double.{Double}
 use Rattle.bucket_table.specs.declared.answer.Double.TheVariants.{Moved, AtLimit, Light, Doubled}
-use Rattle.map_ops.specs.TableAt.{TableAt, Help, Nothing, Sought, Dummy, regular, turn_of, last_of, largest_of, size_of, stored_of, linked_of, helps_of, KeepsSpares}
+use Rattle.map_ops.specs.TableAt.{TableAt, Help, Nothing, Sought, Dummy, regular, turn_of, last_of, largest_of, size_of, stored_of, linked_of, helps_of, nodes_of, KeepsList, KeepsSpares}
+use Rattle.map_ops.specs.Nodes.{IsUnlinking, LinksNode}
 pub use Rattle.map_ops.specs.TableAt.{helper_fits}
 
 -- The bucket is stored.
@@ -84,6 +89,20 @@ pub record Seeks (old new : TableAt) (helper bucket : ℕ) : Type 0 where
   pub helps : Helps old new helper (Sought bucket (turn_of new))
   pub fits : helper_fits new helper ≡ true
 
+-- The place of a bucket's dummy was sought from the dummy of the bucket's parent: the marked nodes between there and the
+-- place are unlinked, and no others. The change number grows by one for each.
+pub record SeeksBucket (old new : TableAt) (bucket : ℕ) : Type 0 where
+  pub start : ℕ
+  pub parent : dummy_of old.buckets (parent_of bucket) ≡ Some start
+  pub nodes : nodes_of new ≡ sought (nodes_of old) start (reversed bucket)
+  pub changes : IsUnlinking old.list new.list
+
+-- What a seek for a bucket writes.
+abbrev pub SeekWrites : TableAt → TableAt → ℕ → Result InitSeek InitRefusal → Type 0
+SeekWrites old new bucket (Ok Ready) = KeepsList old new
+SeekWrites old new bucket (Ok Placed) = SeeksBucket old new bucket
+SeekWrites old new bucket (Err refusal) = KeepsList old new
+
 -- What a seek for a bucket changes.
 abbrev pub SeekChanges : TableAt → TableAt → ℕ → ℕ → Result InitSeek InitRefusal → Type 0
 SeekChanges old new helper bucket (Ok Ready) = Helps old new helper Nothing × (turn_of new ≡ turn_of old)
@@ -107,6 +126,18 @@ pub record Links (old new : TableAt) (helper : ℕ) : Type 0 where
   pub absent : slice_get (linked_of old) bucket ≡ Some false
   pub becomes : Becomes old new (size_of old) (stored_of old) (slice_set (linked_of old) bucket true) (slice_set (helps_of old) helper (Dummy bucket))
   pub last : last_of new ≡ last_of old + 1
+
+-- The bucket's dummy is linked, with the next stamp.
+pub record LinksDummy (old new : TableAt) (bucket : ℕ) : Type 0 where
+  pub place : ℕ
+  pub links : LinksNode old.list new.list (dummy_node place bucket (last_of old + 1))
+
+-- What a link by a helper writes, where it sought this bucket.
+abbrev pub LinkWrites : TableAt → TableAt → ℕ → Result InitLink InitRefusal → Type 0
+LinkWrites old new bucket (Ok Again) = KeepsList old new
+LinkWrites old new bucket (Ok Present) = KeepsList old new
+LinkWrites old new bucket (Ok Linked) = LinksDummy old new bucket
+LinkWrites old new bucket (Err refusal) = KeepsList old new
 
 -- What a link by a helper changes.
 abbrev pub LinkChanges : TableAt → TableAt → ℕ → Result InitLink InitRefusal → Type 0

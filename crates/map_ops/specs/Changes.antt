@@ -11,8 +11,9 @@ use Rattle.map_ops.specs.declared.act.Undo.{Undo}
 use Rattle.map_ops.specs.declared.act.Undo.TheVariants.{Undone, Again as UndoAgain}
 use Rattle.map_ops.specs.declared.job.MapJob.{MapJob}
 use Rattle.map_ops.specs.declared.job.MapJob.TheVariants.{Unput, Restore, Relink}
-use Rattle.map_ops.specs.TableAt.{TableAt, Cursor, SpareAt, SweepOutcome, content, turn_of, last_of, linked_of, nodes_of, nodes_sought, spare_out, Owns, KeepsOthers, KeepsSpares, KeepsBuckets, KeepsNodes, Keeps, IsPlaced, IsStart, SweepsNodes, cursor_turn, fits}
+use Rattle.map_ops.specs.TableAt.{TableAt, Cursor, SpareAt, SweepOutcome, content, turn_of, last_of, linked_of, nodes_of, nodes_sought, spare_out, Owns, KeepsOthers, KeepsSpares, KeepsBuckets, KeepsNodes, Keeps, Follows, IsPlaced, IsStart, SweepsNodes, cursor_turn, fits}
 use Rattle.map_ops.specs.Jobs.{PendingAt, takes_node, key_of_job, value_before, spare_of_job, job_of, IsDue}
+use Rattle.map_ops.specs.Nodes.{IsUnlinking, JobWrites, OpWrites, WritesNothing}
 
 -- The spare, if there is one, is the table's.
 abbrev pub OwnsIf : TableAt → Option SpareAt → Type 0
@@ -64,11 +65,12 @@ pub record Places (old new : TableAt) (key : ℕ) (cursor : Cursor) : Type 0 whe
   pub turn : cursor_turn cursor ≡ turn_of new
 
 -- A key was sought from the dummy of its bucket, or of the nearest ancestor that is initialised: the marked nodes between
--- there and the key's place are unlinked, and no others.
+-- there and the key's place are unlinked, and no others. The change number grows by one for each.
 pub record SeeksNear (old new : TableAt) (key : ℕ) : Type 0 where
   pub start : ℕ
   pub nearest : IsStart old key start
   pub nodes : nodes_of new ≡ nodes_sought old start key
+  pub changes : IsUnlinking old.list new.list
 
 -- The spare of an operation: with a job that owns it, it stays out; else it is out no more.
 abbrev pub SpendsFor : TableAt → TableAt → Option SpareAt → Option MapJob → Type 0
@@ -92,6 +94,12 @@ abbrev pub Acts : TableAt → TableAt → PendingAt → Cursor → Act → Type 
 Acts old new pending cursor (Acted reply job) = (fits old cursor ≡ true) × Does old new pending reply job
 Acts old new pending cursor (ActAgain back) = (fits old cursor ≡ false) × (back ≡ pending) × (new ≡ old)
 
+-- What an act writes.
+abbrev pub ActWrites : TableAt → TableAt → PendingAt → Act → Type 0
+ActWrites old new pending (Acted reply job) =
+    OpWrites old.list new.list pending.op pending.spare (get (content old) (key_of pending.op))
+ActWrites old new pending (ActAgain back) = WritesNothing old.list new.list
+
 -- The change is taken back: its key has what it had before, and every other key what it has now.
 pub record TakesBack (old new : TableAt) (job : MapJob) : Type 0 where
   pub content_is : content new ≡ set_at (content old) (key_of_job job) (value_before job)
@@ -104,6 +112,17 @@ pub record TakesBack (old new : TableAt) (job : MapJob) : Type 0 where
 abbrev pub Undoes : TableAt → TableAt → MapJob → Cursor → Undo → Type 0
 Undoes old new job cursor Undone = (fits old cursor ≡ true) × TakesBack old new job
 Undoes old new job cursor (UndoAgain back) = (fits old cursor ≡ false) × (back ≡ job) × (new ≡ old)
+
+-- What an undo writes.
+abbrev pub UndoWrites : TableAt → TableAt → MapJob → Undo → Type 0
+UndoWrites old new job Undone = JobWrites old.list new.list job
+UndoWrites old new job (UndoAgain back) = WritesNothing old.list new.list
+
+-- The job's key is sought, and what takes its change back is written there.
+pub record SeeksAndUndoes (old new : TableAt) (job : MapJob) : Type 0 where
+  pub sought : TableAt
+  pub near : SeeksNear old sought (key_of_job job)
+  pub writes : JobWrites sought.list new.list job
 
 -- A spare, if there is one, is given back, and nothing else has changed.
 pub record GivesBack (old new : TableAt) (spare : Option SpareAt) : Type 0 where
@@ -119,6 +138,7 @@ JobSpare old new (Some (Restore k before)) = KeepsSpares old new
 JobSpare old new None = KeepsSpares old new
 
 -- An operation is done at once: its reply and what it leaves are the map's, and the job is there exactly where it is a change.
+-- Its key is sought, and what it writes is written there.
 pub record Applies (old new : TableAt) (op : Op) (reply : Option ℕ) (job : Option MapJob) : Type 0 where
   pub spare : Option SpareAt
   pub reply_is : reply ≡ reply_of (content old) op
@@ -129,6 +149,9 @@ pub record Applies (old new : TableAt) (op : Op) (reply : Option ℕ) (job : Opt
   pub buckets : KeepsBuckets old new
   pub linked : linked_of new ≡ linked_of old
   pub last : last_of new ≡ last_of old + (if takes_node op then 1 else 0)
+  pub sought : TableAt
+  pub near : SeeksNear old sought (key_of op)
+  pub writes : OpWrites sought.list new.list op spare (get (content old) (key_of op))
 
 -- A sweep: the first marked node is unlinked and nothing else has changed, or no node is marked and nothing has changed.
 abbrev pub Sweeps : TableAt → TableAt → SweepOutcome → Type 0
@@ -141,6 +164,12 @@ ShowsAfter job t = IsDue (content t) job × OwnsIf t (spare_of_job job)
 -- The table shows what the job names as before its change.
 abbrev pub ShowsBefore : MapJob → TableAt → Type 0
 ShowsBefore job t = get (content t) (key_of_job job) ≡ value_before job
+
+-- What the run of a job changes: its change is taken back and nothing else, and nothing older is disturbed.
+pub record Runs (old new : TableAt) (job : MapJob) : Type 0 where
+  pub back : TakesBack old new job
+  pub writes : SeeksAndUndoes old new job
+  pub follows : Follows old new
 
 -- The two spares, where there are two, are at different places.
 abbrev pub AreApart : Option SpareAt → Option SpareAt → Type 0

@@ -2,7 +2,7 @@
 use Rattle.std.specs.Prelude.{◌≡◌, ◌≢◌, ℕ, ◌<◌, ◌≤◌, ◌-◌, ◌%◌, ◌^◌, Bool, true, false, Option, Some, None, List, [], ◌∷◌, map, is_some, replicate}
 use Rattle.std.specs.List.{AllByRecursion, fold, range_with_len}
 pub use Rattle.node_list.specs.Nodes.{NodeAt, SpareAt}
-use Rattle.node_list.specs.Nodes.{Listing, out_at}
+use Rattle.node_list.specs.Nodes.{Listing, first_dummy, out_at}
 use Rattle.node_list.specs.Order.{IsRising}
 use Rattle.node_list.specs.Follow as nodes
 pub use Rattle.list_steps.specs.declared.cursor.Cursor.{Cursor}
@@ -92,6 +92,10 @@ pub record KeepsBuckets (old new : TableAt) : Type 0 where
   pub stored : stored_of new ≡ stored_of old
   pub helps : helps_of new ≡ helps_of old
 
+-- The list is as it was: its nodes, the spares that are out, the change number and the last stamp.
+abbrev pub KeepsList : TableAt → TableAt → Type 0
+KeepsList old new = new.list ≡ old.list
+
 -- The nodes, the buckets and the change number are as they were: spares may come and go, and stamps be given.
 pub record KeepsNodes (old new : TableAt) : Type 0 where
   pub all : nodes_of new ≡ nodes_of old
@@ -175,8 +179,9 @@ pub record Follows (old new : TableAt) : Type 0 where
   pub last : last_of old ≤ last_of new
   pub placed : (cursor : Cursor) (key : ℕ) → IsPlaced old cursor key → IsPlaced new cursor key
 
--- An empty table of two buckets, of which bucket 0 is stored, and of idle helpers; no spare is out.
+-- An empty table of two buckets, of which bucket 0 is stored, and of idle helpers; its dummy alone is linked, and no spare is out.
 pub record IsNew (t : TableAt) (largest helpers : ℕ) : Type 0 where
+  pub nodes_are : nodes_of t ≡ first_dummy t.list.head 0 ∷ []
   pub regular_is : regular t ≡ []
   pub content_is : content t ≡ empty
   pub size_is : size_of t ≡ 2

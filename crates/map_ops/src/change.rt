@@ -15,6 +15,7 @@ ghost use Rattle.map_ops.specs.TableAt.{KeepsSpares, map_of, table_of};
 ghost use Rattle.map_ops.specs.Jobs.{IsDue, key_of_job, spare_of_job};
 ghost use Rattle.map_ops.specs.Plans.{pending_of};
 ghost use Rattle.map_ops.specs.Changes.{Does, GivesBack, IsRefused, OwnsIf, Places, Prepares, SeeksNear, Spends, TakesBack};
+ghost use Rattle.map_ops.specs.Nodes.{JobWrites, LinksNode, MarksNode, OpWrites, WritesNode, node_for};
 ghost use Rattle.map_ops.specs.Steps.{GivesOne, IsLacking, Sets};
 ghost use Rattle.map_ops.specs.Sound.{Belong};
 
@@ -109,6 +110,7 @@ fn link_key(list: &mut NodeList, cursor: Cursor, key: Key, value: u64, mut spare
     requires owned { IsOut list.old spare }
     ensures sets { (buckets : Directory) → Sets (table_of list.old buckets) (table_of list.new buckets) key (Some value) }
     ensures spares { (buckets : Directory) → Spends (table_of list.old buckets) (table_of list.new buckets) (Some spare) }
+    ensures writes { LinksNode list.old list.new (node_for key value spare) }
     ensures belong { Belong list.new.nodes }
     ensures follows { Follows list.old list.new }
 {
@@ -131,6 +133,7 @@ fn swap_key(list: &mut NodeList, cursor: Cursor, key: Key, value: u64)
     requires there { IsSome (get (map_of (pairs list.old.nodes)) key) }
     ensures sets { (buckets : Directory) → Sets (table_of list.old buckets) (table_of list.new buckets) key (Some value) }
     ensures spares { (buckets : Directory) → KeepsSpares (table_of list.old buckets) (table_of list.new buckets) }
+    ensures writes { WritesNode list.old list.new key value }
     ensures belong { Belong list.new.nodes }
     ensures follows { Follows list.old list.new }
 {
@@ -153,6 +156,7 @@ fn mark_key(list: &mut NodeList, cursor: Cursor, key: Key)
     requires there { IsSome (get (map_of (pairs list.old.nodes)) key) }
     ensures sets { (buckets : Directory) → Sets (table_of list.old buckets) (table_of list.new buckets) key None }
     ensures spares { (buckets : Directory) → KeepsSpares (table_of list.old buckets) (table_of list.new buckets) }
+    ensures writes { MarksNode list.old list.new key }
     ensures belong { Belong list.new.nodes }
     ensures follows { Follows list.old list.new }
 {
@@ -217,6 +221,7 @@ pub(crate) fn change(
     requires before { before ≡ get (map_of (pairs list.old.nodes)) (key_of (pending_of plan).op) }
     requires owned { (buckets : Directory) → OwnsIf (table_of list.old buckets) (pending_of plan).spare }
     ensures does { (buckets : Directory) → Does (table_of list.old buckets) (table_of list.new buckets) (pending_of plan) before result }
+    ensures writes { OpWrites list.old list.new (pending_of plan).op (pending_of plan).spare before }
     ensures belong { Belong list.new.nodes }
     ensures follows { Follows list.old list.new }
 {
@@ -256,6 +261,7 @@ pub(crate) fn restore(list: &mut NodeList, job: MapJob, cursor: Cursor)
     requires due { IsDue (map_of (pairs list.old.nodes)) job }
     requires owned { (buckets : Directory) → OwnsIf (table_of list.old buckets) (spare_of_job job) }
     ensures back { (buckets : Directory) → TakesBack (table_of list.old buckets) (table_of list.new buckets) job }
+    ensures writes { JobWrites list.old list.new job }
     ensures belong { Belong list.new.nodes }
     ensures follows { Follows list.old list.new }
 {

@@ -44,10 +44,10 @@ impl Model for Table {
 }
 
 impl Table {
-    ghost use Rattle.map_ops.specs.TableAt.{HasParents, IsClean, IsNew, IsPlaced, IsSplitOrdered, Follows, Keeps, KeepsSpares, NamesDummies, Sought, content, helper_fits, regular, helps_of, last_of, largest_of, linked_of, size_of, stored_of, turn_of};
+    ghost use Rattle.map_ops.specs.TableAt.{HasParents, IsClean, IsNew, IsPlaced, IsSplitOrdered, Follows, Keeps, KeepsList, KeepsSpares, NamesDummies, Sought, content, helper_fits, regular, helps_of, last_of, largest_of, linked_of, size_of, stored_of, turn_of};
     ghost use Rattle.map_ops.specs.Jobs.{IsDue, key_of_job, spare_of_job};
-    ghost use Rattle.map_ops.specs.Changes.{Acts, Applies, GivesBack, IsRefused, OwnsIf, Places, Prepares, SeeksNear, Sweeps, TakesBack, Undoes};
-    ghost use Rattle.map_ops.specs.Buckets.{Doubles, LinkChanges, SeekChanges, StoreChanges, double_answer, link_answer_of, seek_answer, store_answer};
+    ghost use Rattle.map_ops.specs.Changes.{ActWrites, Acts, Applies, GivesBack, IsRefused, OwnsIf, Places, Prepares, SeeksAndUndoes, SeeksNear, Sweeps, TakesBack, UndoWrites, Undoes};
+    ghost use Rattle.map_ops.specs.Buckets.{Doubles, LinkChanges, LinkWrites, SeekChanges, SeekWrites, StoreChanges, double_answer, link_answer_of, seek_answer, store_answer};
 
     /// An empty table of two buckets, of which bucket 0 is initialised, and of so many idle helpers. It can grow to `max`
     /// buckets, a power of two.
@@ -110,6 +110,7 @@ impl Table {
         requires placed { IsPlaced self.old cursor (key_of pending.op) }
         requires owned { OwnsIf self.old pending.spare }
         ensures acts { Acts self.old self.new pending cursor result }
+        ensures writes { ActWrites self.old self.new pending result }
         ensures rises { turn_of self.old ≤ turn_of self.new }
         ensures follows { Follows self.old self.new }
     {
@@ -155,6 +156,7 @@ impl Table {
         requires due { IsDue (content self.old) job }
         requires owned { OwnsIf self.old (spare_of_job job) }
         ensures undoes { Undoes self.old self.new job cursor result }
+        ensures writes { UndoWrites self.old self.new job result }
         ensures rises { turn_of self.old ≤ turn_of self.new }
         ensures follows { Follows self.old self.new }
     {
@@ -210,6 +212,7 @@ impl Table {
         requires due { IsDue (content self.old) job }
         requires owned { OwnsIf self.old (spare_of_job job) }
         ensures back { TakesBack self.old self.new job }
+        ensures writes { SeeksAndUndoes self.old self.new job }
         ensures rises { turn_of self.old ≤ turn_of self.new }
         ensures follows { Follows self.old self.new }
     {
@@ -307,6 +310,7 @@ impl Table {
     pub fn init_seek(&mut self, helper: u64, bucket: u64) -> Result<InitSeek, InitRefusal>
         ensures answer { result ≡ seek_answer (size_of self.old) (stored_of self.old) (slice_get (helps_of self.old) helper) bucket }
         ensures changes { SeekChanges self.old self.new helper bucket result }
+        ensures writes { SeekWrites self.old self.new bucket result }
         ensures rises { turn_of self.old ≤ turn_of self.new }
         ensures follows { Follows self.old self.new }
     {
@@ -329,6 +333,8 @@ impl Table {
         ensures in_turn { (bucket : ℕ) → slice_get (helps_of self.old) helper ≡ Some (Sought bucket (turn_of self.old))
             → turn_of self.old < 2 ^ 64 - 1 → result ≢ Ok InitLink.Again }
         ensures changes { LinkChanges self.old self.new helper result }
+        ensures writes { (bucket turn : ℕ) → slice_get (helps_of self.old) helper ≡ Some (Sought bucket turn)
+            → LinkWrites self.old self.new bucket result }
         ensures rises { turn_of self.old ≤ turn_of self.new }
         ensures follows { Follows self.old self.new }
     {
@@ -347,6 +353,7 @@ impl Table {
     pub fn init_store(&mut self, helper: u64) -> Result<(), InitRefusal>
         ensures answer { result ≡ store_answer (slice_get (helps_of self.old) helper) }
         ensures changes { StoreChanges self.old self.new helper result }
+        ensures list { KeepsList self.old self.new }
         ensures follows { Follows self.old self.new }
     {
         let _turn = self.list.turn();
@@ -360,6 +367,7 @@ impl Table {
     pub fn double(&mut self, seen: u64) -> Double
         ensures answer { result ≡ double_answer (size_of self.old) (largest_of self.old) (count_of (content self.old)) seen }
         ensures changes { Doubles self.old self.new result }
+        ensures list { KeepsList self.old self.new }
         ensures follows { Follows self.old self.new }
     {
         let _turn = self.list.turn();

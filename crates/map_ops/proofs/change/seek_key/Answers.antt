@@ -17,6 +17,7 @@ returns-clause-near c = record {
   start = c.nearest-from.result;
   nearest = subst (λ (bucket : ℕ). IsNearest c.args.buckets.now bucket c.nearest-from.result) (c.bucket_of-bucket.ensures.value ∙ ap (λ (size : ℕ). c.args.key % size) c.size.ensures.size) c.nearest-from.ensures.nearest;
   nodes = c.seek.ensures.nodes ∙ ap (λ (at : ℕ). sought c.args.list.now.nodes c.nearest-from.result at) c.regular.ensures.value;
+  changes = c.seek.ensures.turn;
 }
 
 pub returns-clause-belong : goal.returns-clause-belong

@@ -3,6 +3,7 @@ use Rattle.std.specs.List.{slice_get}
 use Rattle.map_ops.specs.TableAt.{help_of, linked_of, table_of}
 use Rattle.map_ops.specs.Buckets.{helper_fits}
 use Rattle.map_ops.proofs.BucketLemmas.{link_answers, link_changes, link_even, helper_in_turn, fits_not_again}
+use Rattle.map_ops.proofs.WriteLemmas.{link_writes}
 use Rattle.map_ops.proofs.SoundLemmas.{turn_rises}
 use Rattle.map_ops.proofs.table.Table.init_link.Goals as goal
 
@@ -31,3 +32,6 @@ returns-clause-changes c = rw (← c.self.view_is) (link_changes c.self.inside.l
 
 pub returns-clause-rises : goal.returns-clause-rises
 returns-clause-rises c = rw (← c.self.view_is) (turn_rises c.self.inside.list c.init_link.new.list c.turn-turn.result c.init_link.ensures.follows c.turn-turn.ensures.turn c.turn-turn.type_inv)
+
+pub returns-clause-writes : goal.returns-clause-writes
+returns-clause-writes c = rw (← c.self.view_is) (λ bucket turn had. link_writes c.self.inside.list c.init_link.new.list c.self.inside.buckets c.init_link.new.self c.args.helper bucket turn c.init_link.result had c.init_link.ensures.changes)

@@ -1,5 +1,6 @@
 use Rattle.std.proofs.Common.{◌∙◌}
 use Rattle.map_ops.proofs.BucketLemmas.{seek_answers, seek_changes, seek_even}
+use Rattle.map_ops.proofs.WriteLemmas.{seek_writes}
 use Rattle.map_ops.proofs.SoundLemmas.{turn_rises}
 use Rattle.map_ops.proofs.KeepLemmas.{follows}
 use Rattle.map_ops.proofs.table.Table.init_seek.Goals as goal
@@ -24,3 +25,6 @@ returns-clause-rises c = rw (← c.self.view_is) (turn_rises c.self.inside.list 
 
 pub returns-clause-follows : goal.returns-clause-follows
 returns-clause-follows c = rw (← c.self.view_is) (follows c.self.inside.list c.init_seek.new.list c.self.inside.buckets _ c.init_seek.ensures.follows)
+
+pub returns-clause-writes : goal.returns-clause-writes
+returns-clause-writes c = rw (← c.self.view_is) (seek_writes c.self.inside.list c.init_seek.new.list c.self.inside.buckets c.init_seek.new.self c.args.helper c.args.bucket c.init_seek.result c.init_seek.ensures.changes)
