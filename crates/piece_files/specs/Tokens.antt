@@ -68,7 +68,3 @@ outcome part false pieces = Err (Piece part (length pieces))
 -- Of the pieces that are wanted, or those before the first that is wrong, the first are kept and all are counted.
 abbrev pub Finds : {P : Type 0} → Part → ℕ → List P → ℕ → Bool → Result (List P) FileFault → Type 0
 Finds {P} part most pieces count are_all wanted = (all : List P) × (wanted ≡ outcome part are_all all) × (count ≡ length all) × (pieces ≡ take most all)
-
--- The first pieces, where all are pieces.
-abbrev pub first_of : {P : Type 0} → ℕ → Result (List P) FileFault → Result (List P) FileFault
-first_of most wanted = wanted >>= λ pieces. Ok (take most pieces)

@@ -28,15 +28,14 @@ pub trait PieceKind {
     /// What a fault calls a piece of this kind.
     ghost part: { Part };
 
-    /// How many pieces of an array are kept.
+    /// How many pieces a file may have.
     ghost most: { ℕ };
 
     /// What a fault calls a piece of this kind. Constant time.
     fn part() -> Part
         ensures { result ≡ part };
 
-    /// How many pieces of an array are kept at most, where the others are only counted. Where a file may
-    /// have no more than so many, one more is kept, which shows that there are too many. Constant time.
+    /// How many pieces a file may have. No more are kept, the others only counted. Constant time.
     fn most() -> usize
         ensures { result ≡ most };
 

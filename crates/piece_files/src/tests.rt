@@ -1,6 +1,4 @@
-ghost use Rattle.std.specs.Prelude.{◌≡◌, codes};
 ghost use Rattle.piece_files.specs.Elements.{two_of};
-ghost use Rattle.piece_files.specs.Members.{GivesLast, IsNumberOf, ArePiecesOf};
 
 use super::*;
 use json::{Reader, Scratch, Token};
@@ -9,7 +7,7 @@ use std::alloc::Global;
 use std::process::Abort;
 use std::test::Fail;
 
-/// Points, each two numbers, of which three are kept.
+/// Points, each two numbers, of which a file may have three.
 struct PointKind;
 
 impl PieceKind for PointKind {
@@ -45,46 +43,14 @@ impl PieceKind for PointKind {
     }
 }
 
-/// The members of a drawing.
-#[derive(Drop)]
-struct Drawing {
-    width: Option<u64>,
-    points: Option<Pieces<(u64, u64)>>,
-}
-
-impl Wanted for Drawing {
-    ghost use Rattle.piece_files.specs.declared.part.Part.TheVariants as parts;
-
-    ghost found = { λ m ms. GivesLast IsNumberOf m.width (codes "width") ms × GivesLast (ArePiecesOf two_of parts.Entry 3) m.points (codes "points") ms };
-
-    fn take(
-        &mut self,
-        alloc: Global,
-        key: &str,
-        token: Token<'_>,
-        reader: &mut Reader<'_>,
-        depth: usize,
-    ) -> Result<(), Stop> {
-        if key == "width" {
-            put_number(&mut self.width, alloc, token, reader, depth)
-        } else if key == "points" {
-            put_pieces::<PointKind>(&mut self.points, alloc, token, reader, depth)
-        } else {
-            pass_value(token, reader, depth)?;
-            Ok(())
-        }
-    }
-}
-
 /// The width and the points of a drawing.
 fn drawing_in(alloc: Global, text: &str) -> Result<(u64, Vec<(u64, u64)>), FileFault> {
-    let nothing = Drawing {
-        width: None,
-        points: None,
-    };
-    let found = members_in(alloc, text.as_bytes(), nothing)?;
-    let width = number_found(found.width)?;
-    let points = pieces_kept::<PointKind>(found.points)?;
+    let ([width], points) = read_file::<PointKind, 1>(
+        alloc,
+        text.as_bytes(),
+        &["width"],
+        "points",
+    )?;
     Ok((width, points))
 }
 
@@ -93,18 +59,21 @@ fn drawings(rt: HostRuntime) -> Result<(), Fail> {
     let few = [(1, 2), (3, 4)];
     let three = [(1, 2), (3, 4), (5, 6)];
     let cases: [(&str, &[(u64, u64)]); 5] = [
-        ("{\"width\":7,\"points\":[]}", &[]),
-        (" {\"points\":[[1,2],[3,4]],\n\"width\":7} ", &few),
+        ("{\"version\":1,\"width\":7,\"points\":[]}", &[]),
         (
-            "{\"x\":[[1e5],{\"width\":8}],\"width\":7,\"points\":[[1,2],[3,4]],\"\":null}",
+            " {\"points\":[[1,2],[3,4]],\n\"width\":7,\"version\":1} ",
             &few,
         ),
         (
-            "{\"points\":0,\"width\":8,\"width\":7,\"points\":[[1,2],[3,4]]}",
+            "{\"x\":[[1e5],{\"width\":8}],\"width\":7,\"version\":1,\"points\":[[1,2],[3,4]],\"\":null}",
             &few,
         ),
         (
-            "{\"width\":7,\"points\":[[1,2],[3,4],[5,6],[7,8],[9,10]]}",
+            "{\"points\":0,\"width\":8,\"version\":2,\"width\":7,\"version\":1,\"points\":[[1,2],[3,4]]}",
+            &few,
+        ),
+        (
+            "{\"version\":1,\"width\":7,\"points\":[[1,2],[3,4],[5,6]]}",
             &three,
         ),
     ];
@@ -122,28 +91,46 @@ fn drawings(rt: HostRuntime) -> Result<(), Fail> {
 fn wrong_drawings(rt: HostRuntime) {
     let cases = [
         ("", FileFault::NotJson),
-        ("{\"width\":7,\"points\":[[1,2]}", FileFault::NotJson),
-        ("{\"width\":7,\"points\":[]} 7", FileFault::NotJson),
         (
-            "{\"width\":7,\"points\":[],\"x\":1e999}",
+            "{\"version\":1,\"width\":7,\"points\":[[1,2]}",
+            FileFault::NotJson,
+        ),
+        (
+            "{\"version\":1,\"width\":7,\"points\":[]} 7",
+            FileFault::NotJson,
+        ),
+        (
+            "{\"version\":1,\"width\":7,\"points\":[],\"x\":1e999}",
             FileFault::NotJson,
         ),
         ("7", FileFault::Member),
         ("[]", FileFault::Member),
-        ("{\"points\":[]}", FileFault::Member),
-        ("{\"width\":-7,\"points\":[]}", FileFault::Member),
-        ("{\"width\":7}", FileFault::Member),
+        ("{\"width\":7,\"points\":[]}", FileFault::Member),
+        ("{\"version\":1,\"points\":[]}", FileFault::Member),
         (
-            "{\"width\":7,\"points\":[],\"points\":{}}",
+            "{\"version\":1,\"width\":-7,\"points\":[]}",
+            FileFault::Member,
+        ),
+        ("{\"version\":1,\"width\":7}", FileFault::Member),
+        (
+            "{\"version\":1,\"width\":7,\"points\":[],\"points\":{}}",
             FileFault::Member,
         ),
         (
-            "{\"width\":7,\"points\":[0,[1,2]]}",
+            "{\"version\":2,\"width\":7,\"points\":[0,[1,2]]}",
             FileFault::Piece(Part::Entry, 0),
         ),
         (
-            "{\"width\":7,\"points\":[[1,2],[1,2],[1,2],[1,2],[1,2,3],[]]}",
+            "{\"version\":1,\"width\":7,\"points\":[[1,2],[1,2],[1,2],[1,2],[1,2,3],[]]}",
             FileFault::Piece(Part::Entry, 4),
+        ),
+        (
+            "{\"version\":1,\"width\":7,\"points\":[[1,2],[3,4],[5,6],[7,8]]}",
+            FileFault::Limit,
+        ),
+        (
+            "{\"version\":2,\"width\":7,\"points\":[]}",
+            FileFault::Limit,
         ),
     ];
     for (text, wanted) in cases {

@@ -14,3 +14,4 @@ pub use Rattle.piece_files.specs.Faults
 pub use Rattle.piece_files.specs.Elements
 pub use Rattle.piece_files.specs.Json
 pub use Rattle.piece_files.specs.Pieces
+pub use Rattle.piece_files.specs.Files

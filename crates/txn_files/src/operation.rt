@@ -1,11 +1,14 @@
-//! The operation that elements are.
+//! An operation as elements in JSON: how it is read, and how it is written.
 
-ghost use Rattle.std.specs.Prelude.{◌≡◌, map, option_map};
+ghost use Rattle.std.specs.Prelude.{◌≡◌, ◌++◌, map, option_map, OnOk, string_bytes};
+ghost use Rattle.std.specs.List.{join_with_byte};
 ghost use Rattle.serde_json.specs.View.{view};
-ghost use Rattle.txn_files.specs.Operations.{op_at, op_of};
+ghost use Rattle.txn_files.specs.HistoryText.{comma};
+ghost use Rattle.txn_files.specs.Operations.{op_at, op_of, elements_of_op};
 
 use piece_files::{number_in, word_in};
 use serde_json::Value;
+use std::alloc::AllocError;
 use txn_trace::Op;
 
 /// The operation that the elements begin with, and the elements after it.
@@ -34,4 +37,15 @@ pub fn op_in(values: &[Value]) -> Option<Op>
 {
     let (op, rest) = leading_op_in(values)?;
     if rest.is_empty() { Some(op) } else { None }
+}
+
+/// Adds the elements of an operation, with a comma between each two.
+pub fn put_op(text: &mut String, op: Op) -> Result<(), AllocError>
+    ensures { OnOk result (string_bytes text.new ≡ string_bytes text.old ++ join_with_byte comma (elements_of_op op)) }
+{
+    match op {
+        Op::Put(key, value) => write!(text, "\"put\",{key},{value}"),
+        Op::Take(key) => write!(text, "\"take\",{key}"),
+        Op::Get(key) => write!(text, "\"get\",{key}"),
+    }
 }

@@ -6,7 +6,7 @@ use Rattle.piece_files.specs.Tokens.{value_at, items_from}
 use Rattle.piece_files.proofs.ItemLists.{list_of-items_from}
 use Rattle.piece_files.proofs.ValueKinds.{is_not_array}
 use Rattle.piece_files.proofs.Values.{value_at-array, too_deep_array}
-use Rattle.piece_files.proofs.members.put_pieces.Goals as goal
+use Rattle.piece_files.proofs.members.pieces_member.Goals as goal
 
 pub returns-then-depth-eq0-clause-err : goal.returns-then-depth-eq0-clause-err
 returns-then-depth-eq0-clause-err g c refused =
