@@ -4,8 +4,7 @@ ghost use Rattle.script_worker.specs.Workers.{new_worker, started, progressed, s
 use crate::attempt::{Attempt, Progress};
 use crate::task::Task;
 use txn_drive::{Call, Drive, End};
-use txn_files::Script;
-use txn_trace::Answer;
+use txn_trace::{Answer, Script};
 
 /// Which worker it is and what it is at. Its call may have ended.
 #[derive(Clone, Copy, Debug, PartialEq, Eq)]

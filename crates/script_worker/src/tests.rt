@@ -2,8 +2,7 @@ use crate::{Stage, Worker};
 use std::process::Abort;
 use std::test::Fail;
 use txn_drive::Turn;
-use txn_files::Script;
-use txn_trace::{Action, Answer, Op, Refusal, Step};
+use txn_trace::{Action, Answer, Op, Refusal, Script, Step};
 
 /// One script of these actions.
 fn script_of(rt: &(impl Abort + AllocGlobal), actions: &[Action]) -> Result<Script, Fail> {

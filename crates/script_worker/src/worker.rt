@@ -10,8 +10,7 @@ use crate::standing::Standing;
 use crate::task::Task;
 use std::marker::Model;
 use txn_drive::Turn;
-use txn_files::Script;
-use txn_trace::Answer;
+use txn_trace::{Answer, Script};
 
 /// One of several workers, which share scripts out: worker `w` of `n` runs the scripts `w`, `w + n`, `w + 2 n` and so on,
 /// in this order. While it has a script left it has a step to take.

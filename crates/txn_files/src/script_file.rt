@@ -6,8 +6,6 @@ ghost use Rattle.txn_files.specs.Actions.{action_of, script_of};
 ghost use Rattle.txn_files.specs.ScriptFile.{max_scripts, is_short, are_scripts, work_from, scripts_of};
 
 use crate::operation::op_in;
-use crate::script::Script;
-use crate::scripts::Scripts;
 use crate::step_file::limits_in;
 use json::Reader;
 use piece_files::{
@@ -15,7 +13,7 @@ use piece_files::{
 };
 use serde_json::Value;
 use std::alloc::Global;
-use txn_trace::Action;
+use txn_trace::{Action, Script, Scripts};
 
 /// How often a script may be tried again.
 const MAX_TRIES: u64 = 1000;
