@@ -49,6 +49,6 @@ fn take_step(
     ensures second { (next : Step) → result ≡ answers.Placed → step_by (told_drive worker.old answers.Placed) ≡ Some next → step_by worker.new ≡ Some next }
 {
     let answer = core.step(step);
-    worker.told(scripts, tries, answer);
+    let _outcome = worker.told(scripts, tries, answer);
     answer
 }
