@@ -3,5 +3,6 @@ pub mod Elements
 pub mod Json
 pub mod Pieces
 pub mod Files
+pub mod Plain
 pub mod Tokens
 pub mod Members

@@ -1,11 +1,13 @@
 //! A file as a whole: its numbers and its pieces, by the names of its members.
 
-ghost use Rattle.std.specs.Prelude.{◌≡◌, ◌∷◌, ◌≤◌, List, length, take, map, true, Option, Some, Result, Ok, MatchResult};
+ghost use Rattle.std.specs.Prelude.{◌≡◌, ◌∷◌, ◌≤◌, List, length, take, map, true, Option, Some, Result, Ok, Err, MatchResult};
+ghost use Rattle.std.specs.Str.{IsUtf8};
 ghost use Rattle.piece_files.specs.Faults.{Fails, Gives, or_fault};
 ghost use Rattle.piece_files.specs.Files.{FileKind, version, are_apart, all_of, contents_from, contents};
+ghost use Rattle.piece_files.specs.Json.{max_bytes};
 ghost use Rattle.piece_files.specs.Members.{FindsIn};
 ghost use Rattle.piece_files.specs.declared.file_fault.FileFault.{FileFault};
-ghost use Rattle.piece_files.specs.declared.file_fault.FileFault.TheVariants.{Member as NoMember};
+ghost use Rattle.piece_files.specs.declared.file_fault.FileFault.TheVariants.{NoMemory};
 
 use crate::file_fault::FileFault;
 use crate::members::{Found, Names, members_in};
@@ -67,7 +69,8 @@ fn contents_found<K: PieceKind, const N: usize>(
 /// where they are not UTF-8, or no JSON in which arrays and objects nest no deeper than 127 and each
 /// number is in range of a float; `Member` where the value is no object, or a member is missing or of
 /// the wrong kind; `Piece` for the first element of `pieces` that is none; `Limit` where the version
-/// is not 1 or there are more pieces than there may be. `NoMemory` can come in place of any answer.
+/// is not 1 or there are more pieces than there may be. `NoMemory` where memory was refused: not for the
+/// length, nor where the bytes are not UTF-8.
 ///
 /// Other members of the object are passed over, and of a member that is given twice the last counts.
 /// A number is written without a sign, a fraction or an exponent, and is below 2^64.
@@ -85,7 +88,8 @@ pub fn read_file<'n, K: PieceKind, const N: usize>(
     requires few { N ≤ 64 }
     requires many { length numbers.now ≡ N }
     requires apart { are_apart (version ∷ pieces.now ∷ map (λ name. name.now) numbers.now) ≡ true }
-    ensures { let kind : FileKind K.Piece = record { numbers = map (λ name. name.now) numbers.now; pieces = pieces.now; of = K.of; part = K.part; most = K.most } in Gives (λ file. (file.0, file.1.items)) result (contents kind bytes.now) }
+    ensures memory { result ≡ Err NoMemory → (length bytes.now ≤ max_bytes) × IsUtf8 bytes.now }
+    ensures contents { let kind : FileKind K.Piece = record { numbers = map (λ name. name.now) numbers.now; pieces = pieces.now; of = K.of; part = K.part; most = K.most } in Gives (λ file. (file.0, file.1.items)) result (contents kind bytes.now) }
 {
     if bytes.len() > MAX_BYTES {
         return Err(FileFault::Limit);

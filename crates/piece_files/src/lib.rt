@@ -31,5 +31,5 @@ pub use file_fault::FileFault;
 pub use part::Part;
 pub use passing::pass_value;
 pub use piece::{PieceKind, Pieces, pieces_in};
-pub use plain::plain_elements;
+pub use plain::{Plain, plain_elements};
 pub use stop::Stop;

@@ -1,6 +1,6 @@
 //! The members of a file, taken one after the other: those that its kind has are kept, the others passed over.
 
-ghost use Rattle.std.specs.Prelude.{◌≡◌, ◌∷◌, ◌≤◌, ◌<◌, true, false, map, length, Option, Some, None, Ok, Err, IfOk, OnOk, MatchResult, codes};
+ghost use Rattle.std.specs.Prelude.{◌≡◌, ◌∷◌, ◌≤◌, ◌<◌, true, false, map, length, Option, Some, None, Ok, Err, IfOk, OnOk, OnErr, MatchResult, codes};
 ghost use Rattle.json.specs.Reads.{token_of};
 ghost use Rattle.serde_json.specs.Data.{Data, Members, no_members, put};
 ghost use Rattle.serde_json.specs.Read.{max_depth, read};
@@ -18,9 +18,9 @@ ghost use Rattle.piece_files.specs.declared.stop.Stop.TheVariants.{NotJson};
 use crate::file_fault::FileFault;
 use crate::passing::pass_value;
 use crate::piece::{PieceKind, Pieces, pieces_in};
-use crate::plain::plain_value;
+use crate::plain::{Plain, plain_value};
 use crate::stop::Stop;
-use json::{Reader, Scratch, Token};
+use json::{Invalid, Reader, Scratch, Token};
 use std::alloc::Global;
 
 /// How deep arrays and objects may nest.
@@ -45,18 +45,17 @@ pub(crate) struct Found<P, const N: usize> {
 
 /// The number that begins with this token, which was taken: none where the value is another.
 fn number_member(
-    alloc: Global,
     token: Token<'_>,
     reader: &mut Reader<'_>,
     depth: usize,
-) -> Result<Option<u64>, Stop>
+) -> Result<Option<u64>, Invalid>
     ensures ok { IfOk result (λ found. (d : Data) × (value_at depth (token_of token.entry ∷ reader.old) ≡ Some (d, reader.new)) × (found ≡ number_of d)) }
-    ensures err { result ≡ Err NotJson → value_at depth (token_of token.entry ∷ reader.old) ≡ None }
+    ensures err { OnErr result (value_at depth (token_of token.entry ∷ reader.old) ≡ None) }
     ensures shorter { OnOk result (length reader.new ≤ length reader.old) }
 {
-    match plain_value(alloc, token, reader, depth)? {
-        Some(value) => Ok(value.as_u64()),
-        None => Ok(None),
+    match plain_value(token, reader, depth)? {
+        Some(Plain::Number(number)) => Ok(Some(number)),
+        Some(Plain::Null) | Some(Plain::Text(_)) | None => Ok(None),
     }
 }
 
@@ -117,11 +116,11 @@ fn take_member<K: PieceKind, const N: usize>(
     ensures shorter { OnOk result (length reader.new ≤ length reader.old) }
 {
     if key == "version" {
-        found.version = number_member(alloc, token, reader, depth)?;
+        found.version = number_member(token, reader, depth)?;
     } else if key == names.pieces {
         found.pieces = pieces_member::<K>(alloc, token, reader, depth)?;
     } else if let Some(place) = place_of(names.numbers, key) {
-        found.numbers[place] = number_member(alloc, token, reader, depth)?;
+        found.numbers[place] = number_member(token, reader, depth)?;
     } else {
         pass_value(token, reader, depth)?;
     }

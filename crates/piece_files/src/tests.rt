@@ -1,8 +1,9 @@
+ghost use Rattle.std.specs.Prelude.{false};
 ghost use Rattle.piece_files.specs.Elements.{two_of};
 
 use super::*;
+use arrayvec::ArrayVec;
 use json::{Reader, Scratch, Token};
-use serde_json::Value;
 use std::alloc::Global;
 use std::process::Abort;
 use std::test::Fail;
@@ -21,6 +22,8 @@ impl PieceKind for PointKind {
 
     ghost most = { 3 };
 
+    ghost takes_memory = { false };
+
     fn part() -> Part {
         Part::Entry
     }
@@ -31,11 +34,11 @@ impl PieceKind for PointKind {
 
     #[tactic(auto, using(crate::proofs::PlainElements::no_two))]
     fn read(
-        alloc: Global,
+        _alloc: Global,
         reader: &mut Reader<'_>,
         depth: usize,
     ) -> Result<Option<(u64, u64)>, Stop> {
-        let elements = plain_elements(alloc, reader, depth, 2)?;
+        let elements = plain_elements::<2>(reader, depth)?;
         match elements {
             Some(values) => Ok(two_in(&values)),
             None => Ok(None),
@@ -138,21 +141,26 @@ fn wrong_drawings(rt: HostRuntime) {
     }
 }
 
-/// The elements of the array that a text is, where they are plain and no more than four.
-fn elements_of_text(rt: &(impl Abort + AllocGlobal), text: &str) -> Result<Vec<Value>, Fail> {
-    let mut scratch = Scratch::new(rt.alloc());
-    let mut reader = Reader::new(text, &mut scratch)?;
+/// The elements of the next array, where they are plain and no more than four.
+fn next_elements<'a>(
+    rt: &impl Abort,
+    reader: &mut Reader<'a>,
+) -> Result<ArrayVec<Plain<'a>, 4>, Fail> {
     assert!(rt; matches!(reader.next(), Some(Token::BeginArray)));
-    match plain_elements(rt.alloc(), &mut reader, 1, 4) {
+    match plain_elements::<4>(reader, 1) {
         Ok(Some(values)) => Ok(values),
         Ok(None) => Err("not plain")?,
-        Err(_) => Err("no JSON, or no memory")?,
+        Err(_) => Err("no JSON")?,
     }
 }
 
 #[test]
 fn elements(rt: HostRuntime) -> Result<(), Fail> {
-    let values = elements_of_text(&rt, "[\"put\",1,18446744073709551615,null]")?;
+    let text = "[[\"put\",1,18446744073709551615,null],[8,9],[9],[null],[]]";
+    let mut scratch = Scratch::new(rt.alloc());
+    let mut reader = Reader::new(text, &mut scratch)?;
+    assert!(rt; matches!(reader.next(), Some(Token::BeginArray)));
+    let values = next_elements(&rt, &mut reader)?;
     let Some((name, rest)) = word_in(&values) else {
         return Err("no text")?;
     };
@@ -162,17 +170,17 @@ fn elements(rt: HostRuntime) -> Result<(), Fail> {
     };
     assert_eq!(rt; (number, rest.len()), (1, 2));
     assert_eq!(rt; two_in(rest), None);
-    let values = elements_of_text(&rt, "[8,9]")?;
+    let values = next_elements(&rt, &mut reader)?;
     assert_eq!(rt; two_in(&values), Some((8, 9)));
     assert_eq!(rt; one_in(&values), None);
     assert_eq!(rt; end_in(&values), None);
-    let values = elements_of_text(&rt, "[9]")?;
+    let values = next_elements(&rt, &mut reader)?;
     assert_eq!(rt; one_in(&values), Some(9));
     assert_eq!(rt; optional_in(&values), Some(Some(9)));
-    let values = elements_of_text(&rt, "[null]")?;
+    let values = next_elements(&rt, &mut reader)?;
     assert_eq!(rt; optional_in(&values), Some(None));
     assert_eq!(rt; one_in(&values), None);
-    let values = elements_of_text(&rt, "[]")?;
+    let values = next_elements(&rt, &mut reader)?;
     assert_eq!(rt; end_in(&values), Some(()));
     Ok(())
 }

@@ -4,7 +4,6 @@ pub mod StepFile
 pub mod Entries
 pub mod HistoryFile
 pub mod HistoryText
-pub mod Work
 pub mod Actions
 pub mod ScriptFile
 -- What a file is refused with, and the words by which these definitions are made.

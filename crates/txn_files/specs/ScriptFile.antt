@@ -9,7 +9,7 @@ use Rattle.piece_files.specs.Faults.{◌>>=◌}
 use Rattle.piece_files.specs.Files.{FileKind, contents}
 use Rattle.txn_files.specs.StepFile.{sizes_at}
 use Rattle.txn_files.specs.Actions.{script_of}
-use Rattle.txn_files.specs.Work.{Work}
+use Rattle.txn_trace.specs.Work.{Work}
 
 -- How many tries there may be after the first.
 abbrev pub max_tries : ℕ

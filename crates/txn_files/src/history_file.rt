@@ -1,6 +1,6 @@
-ghost use Rattle.std.specs.Prelude.{◌≡◌, map};
+ghost use Rattle.std.specs.Prelude.{◌≡◌, map, true, false};
 ghost use Rattle.std.specs.List.{list_all};
-ghost use Rattle.serde_json.specs.View.{view};
+ghost use Rattle.piece_files.specs.Plain.{data_of};
 ghost use Rattle.piece_files.specs.Faults.{Gives};
 ghost use Rattle.txn_files.specs.Entries.{busy_of, entry_named, entry_of};
 ghost use Rattle.txn_files.specs.HistoryFile.{max_entries, is_in_range, is_history, entries_from, history_of};
@@ -8,10 +8,9 @@ ghost use Rattle.txn_files.specs.HistoryFile.{max_entries, is_in_range, is_histo
 use crate::operation::{leading_op_in, op_in};
 use json::Reader;
 use piece_files::{
-    FileFault, Part, PieceKind, Stop, end_in, number_in, one_in, optional_in, plain_elements,
-    read_file, word_in,
+    FileFault, Part, PieceKind, Plain, Stop, end_in, number_in, one_in, optional_in,
+    plain_elements, read_file, word_in,
 };
-use serde_json::Value;
 use std::alloc::Global;
 use txn_trace::{Entry, Limits};
 
@@ -25,8 +24,8 @@ const MAX_ENTRIES: usize = 1_000_000;
 const MAX_ELEMENTS: usize = 6;
 
 #[tactic(auto, unfolding(crate::specs::Entries::busy_of))]
-fn busy_in(caller: u64, values: &[Value]) -> Option<Entry>
-    ensures { result ≡ busy_of caller (map view values.now) }
+fn busy_in(caller: u64, values: &[Plain<'_>]) -> Option<Entry>
+    ensures { result ≡ busy_of caller (map data_of values.now) }
 {
     let (op, rest) = leading_op_in(values)?;
     let holder = one_in(rest)?;
@@ -35,8 +34,8 @@ fn busy_in(caller: u64, values: &[Value]) -> Option<Entry>
 
 /// The entry of this name and caller that has these further elements.
 #[tactic(auto, unfolding(crate::specs::Entries::entry_named))]
-fn entry_named_in(name: &str, caller: u64, values: &[Value]) -> Option<Entry>
-    ensures { result ≡ entry_named name.now caller (map view values.now) }
+fn entry_named_in(name: &str, caller: u64, values: &[Plain<'_>]) -> Option<Entry>
+    ensures { result ≡ entry_named name.now caller (map data_of values.now) }
 {
     if name == "began" {
         Some(Entry::Began(caller, one_in(values)?))
@@ -67,8 +66,8 @@ fn entry_named_in(name: &str, caller: u64, values: &[Value]) -> Option<Entry>
 }
 
 #[tactic(auto, unfolding(crate::specs::Entries::entry_of))]
-fn entry_in(values: &[Value]) -> Option<Entry>
-    ensures { result ≡ entry_of (map view values.now) }
+fn entry_in(values: &[Plain<'_>]) -> Option<Entry>
+    ensures { result ≡ entry_of (map data_of values.now) }
 {
     let (name, rest) = word_in(values)?;
     let (caller, rest) = number_in(rest)?;
@@ -89,6 +88,8 @@ impl PieceKind for EntryKind {
 
     ghost most = { max_entries };
 
+    ghost takes_memory = { false };
+
     fn part() -> Part {
         Part::Entry
     }
@@ -98,8 +99,8 @@ impl PieceKind for EntryKind {
     }
 
     #[tactic(auto, using(crate::proofs::PlainPieces::no_entry))]
-    fn read(alloc: Global, reader: &mut Reader<'_>, depth: usize) -> Result<Option<Entry>, Stop> {
-        let elements = plain_elements(alloc, reader, depth, MAX_ELEMENTS)?;
+    fn read(_alloc: Global, reader: &mut Reader<'_>, depth: usize) -> Result<Option<Entry>, Stop> {
+        let elements = plain_elements::<MAX_ELEMENTS>(reader, depth)?;
         match elements {
             Some(values) => Ok(entry_in(&values)),
             None => Ok(None),

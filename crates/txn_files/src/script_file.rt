@@ -1,21 +1,19 @@
-ghost use Rattle.std.specs.Prelude.{◌≡◌, map};
+ghost use Rattle.std.specs.Prelude.{◌≡◌, map, true, false};
 ghost use Rattle.std.specs.List.{list_all};
-ghost use Rattle.serde_json.specs.View.{view};
+ghost use Rattle.piece_files.specs.Plain.{data_of};
 ghost use Rattle.piece_files.specs.Faults.{Gives};
 ghost use Rattle.txn_files.specs.Actions.{action_of, script_of};
 ghost use Rattle.txn_files.specs.ScriptFile.{max_scripts, is_short, are_scripts, work_from, scripts_of};
 
 use crate::operation::op_in;
-use crate::script::Script;
-use crate::scripts::Scripts;
 use crate::step_file::limits_in;
 use json::Reader;
 use piece_files::{
-    FileFault, Part, PieceKind, Stop, end_in, one_in, pieces_in, plain_elements, read_file, word_in,
+    FileFault, Part, PieceKind, Plain, Stop, end_in, one_in, pieces_in, plain_elements, read_file,
+    word_in,
 };
-use serde_json::Value;
 use std::alloc::Global;
-use txn_trace::Action;
+use txn_trace::{Action, Script, Scripts};
 
 /// How often a script may be tried again.
 const MAX_TRIES: u64 = 1000;
@@ -30,8 +28,8 @@ const MAX_ACTIONS: usize = 10_000;
 const MAX_ELEMENTS: usize = 3;
 
 #[tactic(auto, unfolding(crate::specs::Actions::action_of))]
-fn action_in(values: &[Value]) -> Option<Action>
-    ensures { result ≡ action_of (map view values.now) }
+fn action_in(values: &[Plain<'_>]) -> Option<Action>
+    ensures { result ≡ action_of (map data_of values.now) }
 {
     let (name, rest) = word_in(values)?;
     if name == "save" {
@@ -63,6 +61,8 @@ impl PieceKind for ActionKind {
 
     ghost most = { 18446744073709551615 };
 
+    ghost takes_memory = { false };
+
     fn part() -> Part {
         Part::Script
     }
@@ -72,8 +72,8 @@ impl PieceKind for ActionKind {
     }
 
     #[tactic(auto, using(crate::proofs::PlainPieces::no_action))]
-    fn read(alloc: Global, reader: &mut Reader<'_>, depth: usize) -> Result<Option<Action>, Stop> {
-        let elements = plain_elements(alloc, reader, depth, MAX_ELEMENTS)?;
+    fn read(_alloc: Global, reader: &mut Reader<'_>, depth: usize) -> Result<Option<Action>, Stop> {
+        let elements = plain_elements::<MAX_ELEMENTS>(reader, depth)?;
         match elements {
             Some(values) => Ok(action_in(&values)),
             None => Ok(None),
@@ -94,6 +94,8 @@ impl PieceKind for ScriptKind {
     ghost part = { parts.Script };
 
     ghost most = { max_scripts };
+
+    ghost takes_memory = { true };
 
     fn part() -> Part {
         Part::Script

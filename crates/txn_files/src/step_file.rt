@@ -1,5 +1,5 @@
-ghost use Rattle.std.specs.Prelude.{◌≡◌, map};
-ghost use Rattle.serde_json.specs.View.{view};
+ghost use Rattle.std.specs.Prelude.{◌≡◌, map, true, false};
+ghost use Rattle.piece_files.specs.Plain.{data_of};
 ghost use Rattle.piece_files.specs.Faults.{Gives};
 ghost use Rattle.txn_files.specs.Steps.{ask_of, numbered_of, step_of};
 ghost use Rattle.txn_files.specs.StepFile.{max_steps, sizes_at, steps_from, file_of};
@@ -7,9 +7,9 @@ ghost use Rattle.txn_files.specs.StepFile.{max_steps, sizes_at, steps_from, file
 use crate::operation::op_in;
 use json::Reader;
 use piece_files::{
-    FileFault, Part, PieceKind, Stop, number_in, one_in, plain_elements, read_file, two_in, word_in,
+    FileFault, Part, PieceKind, Plain, Stop, number_in, one_in, plain_elements, read_file, two_in,
+    word_in,
 };
-use serde_json::Value;
 use std::alloc::Global;
 use txn_trace::{Limits, Step};
 
@@ -20,8 +20,8 @@ const MAX_STEPS: usize = 1_000_000;
 const MAX_ELEMENTS: usize = 5;
 
 #[tactic(auto, unfolding(crate::specs::Steps::ask_of))]
-fn ask_in(values: &[Value]) -> Option<Step>
-    ensures { result ≡ ask_of (map view values.now) }
+fn ask_in(values: &[Plain<'_>]) -> Option<Step>
+    ensures { result ≡ ask_of (map data_of values.now) }
 {
     let (caller, rest) = number_in(values)?;
     let op = op_in(rest)?;
@@ -56,8 +56,8 @@ fn numbered_step(name: &str, number: u64) -> Option<Step>
 }
 
 #[tactic(auto, unfolding(crate::specs::Steps::step_of))]
-fn step_in(values: &[Value]) -> Option<Step>
-    ensures { result ≡ step_of (map view values.now) }
+fn step_in(values: &[Plain<'_>]) -> Option<Step>
+    ensures { result ≡ step_of (map data_of values.now) }
 {
     let (name, rest) = word_in(values)?;
     if name == "ask" {
@@ -94,6 +94,8 @@ impl PieceKind for StepKind {
 
     ghost most = { max_steps };
 
+    ghost takes_memory = { false };
+
     fn part() -> Part {
         Part::Step
     }
@@ -103,8 +105,8 @@ impl PieceKind for StepKind {
     }
 
     #[tactic(auto, using(crate::proofs::PlainPieces::no_step))]
-    fn read(alloc: Global, reader: &mut Reader<'_>, depth: usize) -> Result<Option<Step>, Stop> {
-        let elements = plain_elements(alloc, reader, depth, MAX_ELEMENTS)?;
+    fn read(_alloc: Global, reader: &mut Reader<'_>, depth: usize) -> Result<Option<Step>, Stop> {
+        let elements = plain_elements::<MAX_ELEMENTS>(reader, depth)?;
         match elements {
             Some(values) => Ok(step_in(&values)),
             None => Ok(None),
