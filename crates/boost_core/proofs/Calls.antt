@@ -46,7 +46,7 @@ seat_pushed h h' c e seat' is mine there goes =
     ∙ ap (option_and_then (λ (s : Seat). row s s.phase e)) (seat_there h c there) ∙ goes)
 
 -- A step that does not refuse.
-never_refused : (state : State) (step : Step) (refusal : Refusal) → refusal_of state step ≡ None → (refusal_of state step ≡ Some refusal) ⊎ ((refusal_of state step ≡ None) × MayLack state step refusal) → MayLack state step refusal
+pub never_refused : (state : State) (step : Step) (refusal : Refusal) → refusal_of state step ≡ None → (refusal_of state step ≡ Some refusal) ⊎ ((refusal_of state step ≡ None) × MayLack state step refusal) → MayLack state step refusal
 never_refused state step refusal none (inl is) = absurd (let both : None ≡ Some refusal = sym none ∙ is in cc)
 never_refused state step refusal none (inr lack) = lack.1
 

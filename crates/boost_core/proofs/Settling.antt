@@ -1,5 +1,5 @@
 -- What a table keeps while spares are given back.
-use Rattle.std.proofs.Common.{◌≡◌, ℕ, ◌+◌, ◌<◌, ◌≤◌, true, List, [], ◌∷◌, ◌++◌, length, Option, None, is_some, length-append, refl, sym, ap, ◌∙◌, arith}
+use Rattle.std.proofs.Common.{◌≡◌, ℕ, ◌+◌, ◌<◌, ◌≤◌, true, List, [], ◌∷◌, ◌++◌, length, Option, Some, None, is_some, length-append, refl, sym, ap, ◌∙◌, arith}
 use Rattle.std.proofs.lemmas.List.Sums.{sum_by_push}
 use Rattle.std.proofs.lemmas.Bool.{cases_lt, false≢true}
 use mathlib.Core.Logic.{inl, inr}
@@ -9,9 +9,7 @@ use Rattle.map_ops.specs.TableAt.{TableAt, SpareAt, Follows}
 use Rattle.map_ops.specs.Changes.{OwnsIf, GivesBack}
 use Rattle.boost_core.specs.Spares.{times_of, times_in, times_out, IsCovered}
 use Rattle.map_ops.specs.Jobs.{PendingAt}
-use Rattle.boost_core.specs.declared.stage.Stage.{Stage}
-use Rattle.boost_core.specs.declared.stage.Stage.TheVariants as stages
-use Rattle.boost_core.specs.Sessions.{Rests, spare_at}
+use Rattle.boost_core.specs.Sessions.{Rests, spare_if}
 use Rattle.boost_core.proofs.Spares.{owns_if, spent}
 
 pub rests_same : (t : TableAt) → Rests t t
@@ -72,17 +70,17 @@ no_jobs [] none = refl
 no_jobs (job ∷ jobs) none = absurd (omega arith)
 
 -- The spares that stay covered once what waits is given up.
-pub withdrawn_covered : (t t' : TableAt) (stage stage' : Stage) (pending : PendingAt) (jobs : List MapJob) → stage ≡ stages.Asked pending → stage' ≡ stages.LeavingToEnd → GivesBack t t' pending.spare
-    → (others : ℕ → ℕ → ℕ) → IsCovered (λ place stamp. others place stamp + (times_of (spare_at stage) place stamp + times_in jobs place stamp)) t
-    → IsCovered (λ place stamp. others place stamp + (times_of (spare_at stage') place stamp + times_in jobs place stamp)) t'
-withdrawn_covered t t' stage stage' pending jobs was is back others covered place stamp =
+pub withdrawn_covered : (t t' : TableAt) (had now : Option PendingAt) (pending : PendingAt) (jobs : List MapJob) → had ≡ Some pending → now ≡ None → GivesBack t t' pending.spare
+    → (others : ℕ → ℕ → ℕ) → IsCovered (λ place stamp. others place stamp + (times_of (spare_if had) place stamp + times_in jobs place stamp)) t
+    → IsCovered (λ place stamp. others place stamp + (times_of (spare_if now) place stamp + times_in jobs place stamp)) t'
+withdrawn_covered t t' had now pending jobs was is back others covered place stamp =
     let after : others place stamp + times_in jobs place stamp ≡ times_out t' place stamp =
     spent t t' pending.spare (λ p s. others p s + times_in jobs p s) back.spares (λ p s.
-    let same : times_of (spare_at stage) p s ≡ times_of pending.spare p s = ap (λ (q : Stage). times_of (spare_at q) p s) was in
-    let exact : others p s + (times_of (spare_at stage) p s + times_in jobs p s) ≡ times_out t p s = covered p s in
-    regroup (others p s) (times_of (spare_at stage) p s) (times_of pending.spare p s) (times_in jobs p s) (times_out t p s) same exact) place stamp in
-    let none : times_of (spare_at stage') place stamp ≡ 0 = ap (λ (q : Stage). times_of (spare_at q) place stamp) is in
-    regroup' (others place stamp) (times_of (spare_at stage') place stamp) (times_in jobs place stamp) (times_out t' place stamp) none after
+    let same : times_of (spare_if had) p s ≡ times_of pending.spare p s = ap (λ (o : Option PendingAt). times_of (spare_if o) p s) was in
+    let exact : others p s + (times_of (spare_if had) p s + times_in jobs p s) ≡ times_out t p s = covered p s in
+    regroup (others p s) (times_of (spare_if had) p s) (times_of pending.spare p s) (times_in jobs p s) (times_out t p s) same exact) place stamp in
+    let none : times_of (spare_if now) place stamp ≡ 0 = ap (λ (o : Option PendingAt). times_of (spare_if o) place stamp) is in
+    regroup' (others place stamp) (times_of (spare_if now) place stamp) (times_in jobs place stamp) (times_out t' place stamp) none after
   where
     regroup : (a b c d n : ℕ) → b ≡ c → a + (b + d) ≡ n → a + d + c ≡ n
     regroup a b c d n same exact = omega arith

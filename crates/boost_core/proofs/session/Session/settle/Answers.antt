@@ -14,6 +14,8 @@ loop-job-preserved c = record {
   spares = λ others covered. popped_covered c.loop-job.table c.discard.new.self c.loop-job.self.log.jobs c.pop_above.new.self.jobs c.in-Some.job c.in-Some.ensures.jobs c.discard.ensures.back others (c.loop-job.invariant.spares others covered);
   kept = c.in-Some.ensures.kept ∙ c.loop-job.invariant.kept;
   cursor = c.loop-job.invariant.cursor;
+  seat = c.loop-job.invariant.seat;
+  waits = c.loop-job.invariant.waits;
 }
 
 pub returns : goal.returns
@@ -25,7 +27,8 @@ returns c =
           let none_kept : times_in c.loop-job.self.log.jobs place stamp ≡ 0 = ap (λ (jobs : List MapJob). times_in jobs place stamp) (no_jobs c.loop-job.self.log.jobs none) in
           let exact : others place stamp + times_in c.loop-job.self.log.jobs place stamp ≡ times_out c.loop-job.table place stamp = c.loop-job.invariant.spares others covered place stamp in
           omega arith;
-      stage = refl;
+      seat = c.loop-job.invariant.seat;
+      waits = c.loop-job.invariant.waits;
       cursor = c.loop-job.invariant.cursor;
       jobs = c.cut.ensures.jobs ∙ front_none c.loop-job.self.log.jobs c.pop_above.new.self.jobs _ c.pop_above.ensures.jobs none;
       kept = c.cut.ensures.kept;

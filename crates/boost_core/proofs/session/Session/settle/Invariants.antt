@@ -10,6 +10,8 @@ invariant-loop-job l = record {
   spares : (others : ℕ → ℕ → ℕ) → IsCovered (λ place stamp. others place stamp + times_in l.fn.self.log.jobs place stamp) l.fn.table → IsCovered (λ place stamp. others place stamp + times_in l.self.log.jobs place stamp) l.table;
   kept : l.self.log.kept ≡ l.fn.self.log.kept;
   cursor : l.self.cursor ≡ l.fn.self.cursor;
+  seat : l.self.seat.seat ≡ l.fn.self.seat.seat;
+  waits : l.self.pending ≡ l.fn.self.pending;
 }
 
 abbrev pub decreases-loop-job : goal.decreases-loop-job
