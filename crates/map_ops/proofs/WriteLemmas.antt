@@ -5,7 +5,7 @@ use Rattle.std.specs.List.{slice_get}
 use Rattle.std.specs.Option.{option_map}
 use Rattle.std.proofs.lemmas.Option.{slice_get-map}
 use Rattle.node_list.specs.Nodes.{NodeAt, Listing, linked_after}
-use Rattle.list_steps.specs.Found.{pred_of, turn_of}
+use Rattle.list_steps.specs.Found.{changes_of, pred_of}
 use Rattle.bucket_table.specs.declared.answer.InitSeek.{InitSeek}
 use Rattle.bucket_table.specs.declared.answer.InitSeek.TheVariants.{Ready, Placed}
 use Rattle.bucket_table.specs.declared.answer.InitLink.{InitLink}
@@ -22,7 +22,7 @@ pub seek_writes : (before after : Listing) (old new : Directory) (helper bucket 
     → buckets.SeekChanges old new before after helper bucket result
     → SeekWrites (table_of before old) (table_of after new) bucket result
 seek_writes before after old new helper bucket (Ok Ready) changes = changes.1
-seek_writes before after old new helper bucket (Ok Placed) seeks = record { start = seeks.from; parent = seeks.parent; nodes = seeks.nodes; changes = seeks.turn }
+seek_writes before after old new helper bucket (Ok Placed) seeks = record { start = seeks.from; parent = seeks.parent; nodes = seeks.nodes; changes = seeks.changes }
 seek_writes before after old new helper bucket (Err refusal) changes = changes.1
 
 -- What a link writes, where the helper sought this bucket.
@@ -33,7 +33,7 @@ pub link_writes : (before after : Listing) (old new : Directory) (helper bucket 
 link_writes before after old new helper bucket turn (Ok Again) had changes = changes.1
 link_writes before after old new helper bucket turn (Ok Present) had changes = changes.1
 link_writes before after old new helper bucket turn (Ok Linked) had links =
-    let both : Some (Sought links.bucket (turn_of links.cursor)) ≡ Some (Sought bucket turn) =
+    let both : Some (Sought links.bucket (changes_of links.cursor)) ≡ Some (Sought bucket turn) =
     sym (slice_get-map help_of old.helpers helper ∙ ap (option_map help_of) links.had) ∙ had in
     let same : links.bucket ≡ bucket = cc in
     record {
@@ -44,7 +44,7 @@ link_writes before after old new helper bucket turn (Ok Linked) had links =
         writes = record {
           nodes = links.links.nodes
               ∙ ap (λ (b : ℕ). linked_after before.nodes (pred_of links.cursor) (dummy_node links.place b (before.last + 1))) same;
-          changes = links.links.turn;
+          changes = links.links.changes;
         };
       };
     }

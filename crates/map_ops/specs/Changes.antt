@@ -48,12 +48,14 @@ pub record Prepares (old new : TableAt) (op : Op) (pending : PendingAt) : Type 0
   pub given : GivesFor old new (takes_node op) pending.spare
   pub nodes : KeepsNodes old new
 
--- Why an operation is not prepared: a bad key exactly where the key is 2^63 or more; then, where it takes a node, stamps
--- used up exactly where the last one is given; else memory was refused.
+-- Why an operation is not prepared: a bad key exactly where the key is 2^63 or more; then, where it
+-- takes a node, stamps used up exactly where the last one is given; else memory was refused.
 abbrev pub IsRefused : TableAt → Op → Refusal → Type 0
 IsRefused t op refusals.BadKey = 2 ^ 63 ≤ key_of op
-IsRefused t op refusals.StampsUsedUp = (key_of op < 2 ^ 63) × (takes_node op ≡ true) × (last_of t ≡ 2 ^ 64 - 2)
-IsRefused t op refusals.NoMemory = (key_of op < 2 ^ 63) × (takes_node op ≡ true) × (last_of t < 2 ^ 64 - 2)
+IsRefused t op refusals.StampsUsedUp = (key_of op < 2 ^ 63) × (takes_node op ≡ true)
+    × (last_of t ≡ 2 ^ 64 - 2)
+IsRefused t op refusals.NoMemory = (key_of op < 2 ^ 63) × (takes_node op ≡ true)
+    × (last_of t < 2 ^ 64 - 2)
 IsRefused t op refusal = ⊥
 
 -- A key was sought: marked nodes may be unlinked, and the cursor fits.
@@ -64,8 +66,9 @@ pub record Places (old new : TableAt) (key : ℕ) (cursor : Cursor) : Type 0 whe
   pub fits : fits new cursor ≡ true
   pub turn : cursor_turn cursor ≡ turn_of new
 
--- A key was sought from the dummy of its bucket, or of the nearest ancestor that is initialised: the marked nodes between
--- there and the key's place are unlinked, and no others. The change number grows by one for each.
+-- A key was sought from the dummy of its bucket, or of the nearest ancestor that is initialised:
+-- the marked nodes between there and the key's place are unlinked, and no others. The change number
+-- grows by one for each.
 pub record SeeksNear (old new : TableAt) (key : ℕ) : Type 0 where
   pub start : ℕ
   pub nearest : IsStart old key start
@@ -79,7 +82,8 @@ SpendsFor old new spare (Some (Unput k)) = Spends old new spare
 SpendsFor old new spare (Some (Restore k before)) = Spends old new spare
 SpendsFor old new spare None = Spends old new spare
 
--- The operation is done: its reply and what it leaves are the map's, and the job is there exactly where it is a change.
+-- The operation is done: its reply and what it leaves are the map's, and the job is there exactly
+-- where it is a change.
 pub record Does (old new : TableAt) (pending : PendingAt) (reply : Option ℕ) (job : Option MapJob) : Type 0 where
   pub reply_is : reply ≡ reply_of (content old) pending.op
   pub content_is : content new ≡ after (content old) pending.op
@@ -89,10 +93,13 @@ pub record Does (old new : TableAt) (pending : PendingAt) (reply : Option ℕ) (
   pub linked : linked_of new ≡ linked_of old
   pub last : last_of new ≡ last_of old
 
--- An act at a cursor: the operation is done where the cursor fits; else nothing has changed and it comes back.
+-- An act at a cursor: the operation is done where the cursor fits; else nothing has changed and it
+-- comes back.
 abbrev pub Acts : TableAt → TableAt → PendingAt → Cursor → Act → Type 0
-Acts old new pending cursor (Acted reply job) = (fits old cursor ≡ true) × Does old new pending reply job
-Acts old new pending cursor (ActAgain back) = (fits old cursor ≡ false) × (back ≡ pending) × (new ≡ old)
+Acts old new pending cursor (Acted reply job) = (fits old cursor ≡ true)
+    × Does old new pending reply job
+Acts old new pending cursor (ActAgain back) = (fits old cursor ≡ false) × (back ≡ pending)
+    × (new ≡ old)
 
 -- What an act writes.
 abbrev pub ActWrites : TableAt → TableAt → PendingAt → Act → Type 0
@@ -108,7 +115,8 @@ pub record TakesBack (old new : TableAt) (job : MapJob) : Type 0 where
   pub linked : linked_of new ≡ linked_of old
   pub last : last_of new ≡ last_of old
 
--- An undo at a cursor: the change is taken back where the cursor fits; else nothing has changed and the job comes back.
+-- An undo at a cursor: the change is taken back where the cursor fits; else nothing has changed and
+-- the job comes back.
 abbrev pub Undoes : TableAt → TableAt → MapJob → Cursor → Undo → Type 0
 Undoes old new job cursor Undone = (fits old cursor ≡ true) × TakesBack old new job
 Undoes old new job cursor (UndoAgain back) = (fits old cursor ≡ false) × (back ≡ job) × (new ≡ old)
@@ -130,15 +138,16 @@ pub record GivesBack (old new : TableAt) (spare : Option SpareAt) : Type 0 where
   pub last : last_of new ≡ last_of old
   pub spares : Spends old new spare
 
--- The spares after an operation that was done at once: that of its job is out, and all others are as they were.
+-- The spares after an operation that was done at once: that of its job is out, and all others are
+-- as they were.
 abbrev pub JobSpare : TableAt → TableAt → Option MapJob → Type 0
 JobSpare old new (Some (Relink k before spare)) = GivesSpare old new spare
 JobSpare old new (Some (Unput k)) = KeepsSpares old new
 JobSpare old new (Some (Restore k before)) = KeepsSpares old new
 JobSpare old new None = KeepsSpares old new
 
--- An operation is done at once: its reply and what it leaves are the map's, and the job is there exactly where it is a change.
--- Its key is sought, and what it writes is written there.
+-- An operation is done at once: its reply and what it leaves are the map's, and the job is there
+-- exactly where it is a change. Its key is sought, and what it writes is written there.
 pub record Applies (old new : TableAt) (op : Op) (reply : Option ℕ) (job : Option MapJob) : Type 0 where
   pub spare : Option SpareAt
   pub reply_is : reply ≡ reply_of (content old) op
@@ -153,7 +162,8 @@ pub record Applies (old new : TableAt) (op : Op) (reply : Option ℕ) (job : Opt
   pub near : SeeksNear old sought (key_of op)
   pub writes : OpWrites sought.list new.list op spare (get (content old) (key_of op))
 
--- A sweep: the first marked node is unlinked and nothing else has changed, or no node is marked and nothing has changed.
+-- A sweep: the first marked node is unlinked and nothing else has changed, or no node is marked and
+-- nothing has changed.
 abbrev pub Sweeps : TableAt → TableAt → SweepOutcome → Type 0
 Sweeps old new outcome = SweepsNodes old new outcome × KeepsBuckets old new
 
@@ -165,7 +175,8 @@ ShowsAfter job t = IsDue (content t) job × OwnsIf t (spare_of_job job)
 abbrev pub ShowsBefore : MapJob → TableAt → Type 0
 ShowsBefore job t = get (content t) (key_of_job job) ≡ value_before job
 
--- What the run of a job changes: its change is taken back and nothing else, and nothing older is disturbed.
+-- What the run of a job changes: its change is taken back and nothing else, and nothing older is
+-- disturbed.
 pub record Runs (old new : TableAt) (job : MapJob) : Type 0 where
   pub back : TakesBack old new job
   pub writes : SeeksAndUndoes old new job

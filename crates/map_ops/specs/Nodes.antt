@@ -1,8 +1,8 @@
 -- What is done to the linked nodes and to the change number.
 use Rattle.std.specs.Prelude.{◌≡◌, ℕ, ◌-◌, List, Option, Some, None, false, length}
 use Rattle.node_list.specs.declared.node.Kind.TheVariants.{Regular}
-use Rattle.node_list.specs.Nodes.{NodeAt, Listing, SpareAt, IsLinked, node_of, linked_after, marked_at, written_at, turn_after, turns_after}
-use Rattle.split_key.specs.Split.{split}
+use Rattle.node_list.specs.Nodes.{NodeAt, Listing, SpareAt, IsLinked, node_of, linked_after, marked_at, written_at, one_more, changes_after}
+use Rattle.split_key.specs.Sort.{regular_at}
 use Rattle.txn_trace.specs.declared.op.Op.{Op}
 use Rattle.txn_trace.specs.declared.op.Op.TheVariants.{Put, Take, Get}
 use Rattle.map_ops.specs.declared.job.MapJob.{MapJob}
@@ -12,8 +12,8 @@ use Rattle.map_ops.specs.declared.job.MapJob.TheVariants.{Unput, Restore, Relink
 abbrev pub node_for : ℕ → ℕ → SpareAt → NodeAt
 node_for key value spare = record {
   place = spare.place;
-  split = split key;
-  kind = Regular key;
+  at = regular_at key;
+  kind = Regular;
   value = value;
   stamp = spare.stamp;
   marked = false;
@@ -22,22 +22,24 @@ node_for key value spare = record {
 -- The key's unmarked node is linked.
 pub record IsNodeOf (nodes : List NodeAt) (key : ℕ) (node : NodeAt) : Type 0 where
   pub is : node_of nodes node.place ≡ Some node
-  pub kind : node.kind ≡ Regular key
+  pub kind : node.kind ≡ Regular
+  pub at : node.at ≡ regular_at key
   pub unmarked : node.marked ≡ false
 
 -- Nothing is written: the nodes and the change number stay.
 pub record WritesNothing (old new : Listing) : Type 0 where
   pub nodes : new.nodes ≡ old.nodes
-  pub changes : new.turn ≡ old.turn
+  pub changes : new.changes ≡ old.changes
 
--- One thing is written: the nodes are these now, and the change number is one higher, up to 2^64 - 1.
+-- One thing is written: the nodes are these now, and the change number is one higher, up to 2^64 -
+-- 1.
 pub record WritesOnce (old new : Listing) (now : List NodeAt) : Type 0 where
   pub nodes : new.nodes ≡ now
-  pub changes : new.turn ≡ turn_after old.turn
+  pub changes : new.changes ≡ one_more old.changes
 
 -- Nodes are unlinked and nothing else is written: the change number is higher by as many.
 abbrev pub IsUnlinking : Listing → Listing → Type 0
-IsUnlinking old new = new.turn ≡ turns_after old.turn (length old.nodes - length new.nodes)
+IsUnlinking old new = new.changes ≡ changes_after old.changes (length old.nodes - length new.nodes)
 
 -- The node is linked behind one that is linked.
 pub record LinksNode (old new : Listing) (node : NodeAt) : Type 0 where
@@ -57,7 +59,8 @@ pub record WritesNode (old new : Listing) (key value : ℕ) : Type 0 where
   pub its : IsNodeOf old.nodes key node
   pub writes : WritesOnce old new (written_at old.nodes node.place value)
 
--- A put links its spare's node where the key had no value, and writes the key's node where it had one.
+-- A put links its spare's node where the key had no value, and writes the key's node where it had
+-- one.
 abbrev pub PutWrites : Listing → Listing → ℕ → ℕ → Option SpareAt → Option ℕ → Type 0
 PutWrites old new key value None before = ⊥
 PutWrites old new key value (Some spare) None = LinksNode old new (node_for key value spare)

@@ -360,7 +360,8 @@ fn figures(table: &Table) -> (u32, u64, u64) {
     (table.size(), table.count(), table.turn())
 }
 
-/// Puts a new key. Where memory is refused, the table is as it was, with these pairs, and the put is done when it is asked again.
+/// Puts a new key. Where memory is refused, the table is as it was, with these pairs, and the put
+/// is done when it is asked again.
 fn put_again(
     rt: &impl Abort,
     alloc: Global,

@@ -72,22 +72,22 @@ live-marked n marked = go n.kind
   where
     go : (k : Kind) → cond {A = ℕ} (is_live (record n { kind = k })) 1 0 ≡ 0
     go Dummy = refl
-    go (Regular key) = rw marked refl
+    go Regular = rw marked refl
 
 -- An unmarked regular node counts.
-pub live-regular : (n : NodeAt) (key : ℕ) → n.kind ≡ Regular key → n.marked ≡ false → gain is_live n ≡ 1
-live-regular n key regular unmarked = rw (regular, unmarked) refl
+pub live-regular : (n : NodeAt) → n.kind ≡ Regular → n.marked ≡ false → gain is_live n ≡ 1
+live-regular n regular unmarked = rw (regular, unmarked) refl
 
 -- A fresh node counts where it is regular.
 pub live-fresh : (k : Kind) → cond {A = ℕ} (is_regular k) 1 0 ≡ cond {A = ℕ} (is_regular k && not false) 1 0
 live-fresh Dummy = refl
-live-fresh (Regular key) = refl
+live-fresh Regular = refl
 
 gains : (k : Kind) (marked : Bool) → cond {A = ℕ} (is_regular k && not marked) 1 0 + cond {A = ℕ} marked 1 0 ≤ 1
 gains Dummy true = omega arith
 gains Dummy false = omega arith
-gains (Regular key) true = omega arith
-gains (Regular key) false = omega arith
+gains Regular true = omega arith
+gains Regular false = omega arith
 
 -- A node counts as live or as marked, or not at all.
 pub counts_fit : (nodes : List NodeAt) → live_count nodes + marked_count nodes ≤ length nodes
