@@ -10,3 +10,4 @@ pub mod Plain
 pub mod Spares
 pub mod Sessions
 pub mod Core
+pub mod Whole
