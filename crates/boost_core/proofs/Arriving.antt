@@ -14,7 +14,8 @@ use Rattle.txn_trace.specs.Sizes.{Sizes}
 use Rattle.txn_trace.specs.Serial.{serial}
 use Rattle.txn_trace.specs.Now.{now}
 use Rattle.txn_trace.specs.Locks.{holder_of}
-use Rattle.txn_trace.specs.Shape.{Closed, Opened, Seat, closed_seat, own}
+use Rattle.txn_trace.specs.declared.seat.Phase.TheVariants.{Closed, Opened}
+use Rattle.txn_trace.specs.Shape.{Seat, closed_seat, own}
 use Rattle.txn_trace.specs.Log.{log_of}
 use Rattle.txn_trace.proofs.Next.{Next}
 use Rattle.txn_trace.proofs.Entries as laws

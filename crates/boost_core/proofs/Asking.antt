@@ -17,7 +17,7 @@ use Rattle.txn_trace.specs.Serial.{serial}
 use Rattle.txn_trace.specs.Now.{now}
 use Rattle.txn_trace.specs.Locks.{holder_of, stripe_of, is_locked}
 use Rattle.txn_trace.specs.Owed.{owed_for}
-use Rattle.txn_trace.specs.Shape.{Waiting, LeavingToEnd}
+use Rattle.txn_trace.specs.declared.seat.Phase.TheVariants.{Waiting, LeavingToEnd}
 use Rattle.txn_trace.specs.declared.refusal.Refusal.{Refusal}
 use Rattle.txn_trace.specs.declared.refusal.Refusal.TheVariants as refusals
 use Rattle.txn_trace.proofs.Now.{same_is}
@@ -51,7 +51,7 @@ prepared_covered : (t t' : TableAt) (takes : Bool) (spare : Option SpareAt) → 
 prepared_covered t t' true None gives others covered = absurd gives
 prepared_covered t t' true (Some spare) gives others covered = given t t' spare others gives covered
 prepared_covered t t' false None gives others covered = λ place stamp.
-    let most : others place stamp ≤ times_out t' place stamp = subst (IsCovered others) (sym gives) covered place stamp in
+    let exact : others place stamp ≡ times_out t' place stamp = subst (IsCovered others) (sym gives) covered place stamp in
     omega arith
 prepared_covered t t' false (Some spare) gives others covered = absurd gives
 
@@ -108,11 +108,11 @@ module _ (limits : Sizes) (h : List Entry) (b m : ℕ) (t : TableAt) (sessions :
     spares_before others covered =
         prepared_covered t t' (takes_node op) pending.spare prepares.given (λ p s. others p s + times_in x.log.jobs p s) (λ p s.
         let same : times_of (spare_at x.stage) p s ≡ 0 = ap (λ (st : Stage). times_of (spare_at st) p s) ask_stage in
-        let most : others p s + (times_of (spare_at x.stage) p s + times_in x.log.jobs p s) ≤ times_out t p s = covered p s in
-        regroup (others p s) (times_of (spare_at x.stage) p s) (times_in x.log.jobs p s) (times_out t p s) same most)
+        let exact : others p s + (times_of (spare_at x.stage) p s + times_in x.log.jobs p s) ≡ times_out t p s = covered p s in
+        regroup (others p s) (times_of (spare_at x.stage) p s) (times_in x.log.jobs p s) (times_out t p s) same exact)
       where
-        regroup : (a z j n : ℕ) → z ≡ 0 → a + (z + j) ≤ n → a + j ≤ n
-        regroup a z j n same most = omega arith
+        regroup : (a z j n : ℕ) → z ≡ 0 → a + (z + j) ≡ n → a + j ≡ n
+        regroup a z j n same exact = omega arith
 
     module _ (locks' : List (Option ℕ)) (grants : Grants c (stripe_of limits.stripes (key_of op)) locks locks') where
       abbrev asking : Session
@@ -141,15 +141,15 @@ module _ (limits : Sizes) (h : List Entry) (b m : ℕ) (t : TableAt) (sessions :
         placed = λ cursor key is. follows.placed cursor key is;
         sought = subst (λ (cursor : Option Cursor). IsSoughtAt t' cursor (Some (key_of pending.op))) (sym (open_cursor limits h b m t sessions locks placed tells c x at ask_stage)) tt;
         spares = λ others covered place stamp.
-            let after : others place stamp + times_in x.log.jobs place stamp + times_of pending.spare place stamp ≤ times_out t' place stamp = spares_before others covered place stamp in
+            let after : others place stamp + times_in x.log.jobs place stamp + times_of pending.spare place stamp ≡ times_out t' place stamp = spares_before others covered place stamp in
             let same : times_in log.jobs place stamp ≡ times_in x.log.jobs place stamp = ap (λ (js : List MapJob). times_in js place stamp) jobs in
             regroup (others place stamp) (times_in x.log.jobs place stamp) (times_of pending.spare place stamp) (times_in log.jobs place stamp) (times_out t' place stamp) same after;
         largest = prepares.nodes.buckets.largest;
         helpers = ap length prepares.nodes.buckets.helps;
       }
         where
-          regroup : (a j s k n : ℕ) → k ≡ j → a + j + s ≤ n → a + (s + k) ≤ n
-          regroup a j s k n same most = omega arith
+          regroup : (a j s k n : ℕ) → k ≡ j → a + j + s ≡ n → a + (s + k) ≡ n
+          regroup a j s k n same exact = omega arith
 
       ask_holders : (s : ℕ) → s < limits.stripes → held_by locks' s ≡ holder s
       ask_holders s below = grants.each s ∙ elim (cases_eq s (stripe_of limits.stripes (key_of op))) [
@@ -203,15 +203,15 @@ module _ (limits : Sizes) (h : List Entry) (b m : ℕ) (t : TableAt) (sessions :
         placed = λ cursor key is. then.placed cursor key (follows.placed cursor key is);
         sought = subst (λ (cursor : Option Cursor). IsSoughtAt t'' cursor (target_at stages.LeavingToEnd log)) (sym (open_cursor limits h b m t sessions locks placed tells c x at ask_stage)) tt;
         spares = λ others covered place stamp.
-            let most : others place stamp + times_in x.log.jobs place stamp ≤ times_out t'' place stamp = spent t' t'' pending.spare (λ p s. others p s + times_in x.log.jobs p s) back.spares (spares_before others covered) place stamp in
+            let exact : others place stamp + times_in x.log.jobs place stamp ≡ times_out t'' place stamp = spent t' t'' pending.spare (λ p s. others p s + times_in x.log.jobs p s) back.spares (spares_before others covered) place stamp in
             let same : times_in log.jobs place stamp ≡ times_in x.log.jobs place stamp = ap (λ (js : List MapJob). times_in js place stamp) jobs in
-            regroup (others place stamp) (times_in x.log.jobs place stamp) (times_in log.jobs place stamp) (times_out t'' place stamp) same most;
+            regroup (others place stamp) (times_in x.log.jobs place stamp) (times_in log.jobs place stamp) (times_out t'' place stamp) same exact;
         largest = back.nodes.buckets.largest ∙ prepares.nodes.buckets.largest;
         helpers = ap length (back.nodes.buckets.helps ∙ prepares.nodes.buckets.helps);
       }
         where
-          regroup : (a j k n : ℕ) → k ≡ j → a + j ≤ n → a + (0 + k) ≤ n
-          regroup a j k n same most = omega arith
+          regroup : (a j k n : ℕ) → k ≡ j → a + j ≡ n → a + (0 + k) ≡ n
+          regroup a j k n same exact = omega arith
 
       busy_runs : Runs t t''
       busy_runs = record {

@@ -1,5 +1,5 @@
 -- The steps that end transactions.
-use Rattle.std.proofs.Common.{◌≡◌, ℕ, ◌+◌, ◌<◌, ◌≤◌, false, cond, List, [], ◌∷◌, ◌++◌, length, Option, Some, None, refl, sym, ap, subst, ◌∙◌, arith}
+use Rattle.std.proofs.Common.{◌≡◌, ℕ, ◌+◌, ◌-◌, ◌<◌, ◌≤◌, false, cond, List, [], ◌∷◌, ◌++◌, length, Option, Some, None, refl, sym, ap, subst, ◌∙◌, arith}
 use Rattle.std.specs.Prelude.{slice_get, slice_set, sum_by, map, reverse, nat_eq}
 use Rattle.std.specs.Option.{option_eq, option_map}
 use Rattle.undo_log.specs.UndoLog.{Log}
@@ -12,7 +12,9 @@ use Rattle.txn_trace.specs.Sizes.{Sizes}
 use Rattle.txn_trace.specs.Serial.{serial}
 use Rattle.txn_trace.specs.Now.{now}
 use Rattle.txn_trace.specs.Locks.{holder_of}
-use Rattle.txn_trace.specs.Shape.{Phase, Closed, Opened, Waiting, LeavingTo, LeavingToEnd, closed_seat}
+use Rattle.txn_trace.specs.declared.seat.Phase.{Phase}
+use Rattle.txn_trace.specs.declared.seat.Phase.TheVariants.{Closed, Opened, Waiting, LeavingTo, LeavingToEnd}
+use Rattle.txn_trace.specs.Shape.{closed_seat}
 use Rattle.txn_trace.specs.Log.{log_of}
 use Rattle.txn_trace.proofs.Next.{Next}
 use Rattle.txn_trace.proofs.Entries as laws
@@ -27,10 +29,10 @@ use Rattle.boost_core.specs.State.{Owner, seat_in}
 use Rattle.boost_core.specs.Refusals.{refusal_of, refusal_in, is_closed, is_leaving}
 use Rattle.boost_core.specs.Machine.{Move}
 use Rattle.boost_core.specs.Spares.{times_of, times_in, times_out, IsCovered}
-use Rattle.boost_core.specs.Sessions.{spare_at, phase_of, seat_of, owed_of, target_at, IsSoughtAt, IsReady, AreDue, times_kept, changes_of, Rests, SettlesIn, WithdrawsIn}
+use Rattle.boost_core.specs.Sessions.{spare_at, phase_of, seat_of, owed_of, target_at, IsSoughtAt, IsReady, AreDue, times_kept, changes_of, Rests, CanSettle, SettlesIn, WithdrawsIn}
 use Rattle.boost_core.specs.Core.{Tells, state_of, turn_at, all_times}
 use Rattle.boost_core.proofs.Counts.{no_more}
-use Rattle.boost_core.proofs.Spares.{owns_if, less_covered}
+use Rattle.boost_core.proofs.Spares.{owns_if}
 use Rattle.boost_core.proofs.Refused.{free, seat_here, commit_open, abort_runs, open_stage}
 use Rattle.boost_core.proofs.Moves.{rests_runs, state_is, turns_same, turns_set}
 use Rattle.boost_core.proofs.Grow.{Grown, grown, room_grown, next_as, one_of_sum}
@@ -55,16 +57,19 @@ module _ (limits : Sizes) (h : List Entry) (b m : ℕ) (t : TableAt) (sessions :
   here : seat_in h c ≡ seat_of x
   here = seat_here limits h b m t sessions locks placed tells c x at
 
-  -- The spares of the log are covered.
-  pub log_covered : IsCovered (times_in x.log.jobs) t
-  log_covered = less_covered t (all_times sessions) (times_in x.log.jobs) (λ place stamp.
-      let most : times_kept x place stamp ≤ all_times sessions place stamp = one_of_sum (λ session. times_kept session place stamp) sessions c x at in
-      fewer (times_in x.log.jobs place stamp) (times_of (spare_at x.stage) place stamp) (all_times sessions place stamp) most) tells.spares
+  -- The spares of the log are covered, beside those that wait or are other callers'.
+  pub can_settle : CanSettle x t
+  can_settle = (
+    λ place stamp. all_times sessions place stamp - times_in x.log.jobs place stamp,
+    λ place stamp.
+        let most : times_kept x place stamp ≤ all_times sessions place stamp = one_of_sum (λ session. times_kept session place stamp) sessions c x at in
+        rejoin (times_in x.log.jobs place stamp) (times_of (spare_at x.stage) place stamp) (all_times sessions place stamp) (times_out t place stamp) most (tells.spares place stamp),
+  )
     where
-      fewer : (a b n : ℕ) → b + a ≤ n → a ≤ n
-      fewer a b n most = omega arith
+      rejoin : (a b n out : ℕ) → b + a ≤ n → n ≡ out → n - a + a ≡ out
+      rejoin a b n out most exact = omega arith
 
-  -- And so is that of what waits.
+  -- The spare of what waits is the table's.
   pub waiting_owned : OwnsIf t (spare_at x.stage)
   waiting_owned = owns_if t (spare_at x.stage) (all_times sessions) (λ place stamp.
       let most : times_kept x place stamp ≤ all_times sessions place stamp = one_of_sum (λ session. times_kept session place stamp) sessions c x at in
@@ -109,19 +114,19 @@ module _ (limits : Sizes) (h : List Entry) (b m : ℕ) (t : TableAt) (sessions :
           let none_kept : times_kept y place stamp ≡ 0 + 0 = λ i. times_of (spare_at (settles.stage i)) place stamp + times_in (settles.jobs i) place stamp in
           let before : IsCovered (λ p s. others p s + times_in x.log.jobs p s) t = λ p s.
           let same : times_of (spare_at x.stage) p s ≡ 0 = ap (λ (st : Stage). times_of (spare_at st) p s) commit_stage in
-          let most : others p s + times_kept x p s ≤ times_out t p s = covered p s in
-          drop_zero (others p s) (times_of (spare_at x.stage) p s) (times_in x.log.jobs p s) (times_out t p s) same most in
-          let most : others place stamp ≤ times_out t' place stamp = settles.spares others before place stamp in
-          with_none (others place stamp) (times_kept y place stamp) (times_out t' place stamp) none_kept most;
+          let exact : others p s + times_kept x p s ≡ times_out t p s = covered p s in
+          drop_zero (others p s) (times_of (spare_at x.stage) p s) (times_in x.log.jobs p s) (times_out t p s) same exact in
+          let exact : others place stamp ≡ times_out t' place stamp = settles.spares others before place stamp in
+          with_none (others place stamp) (times_kept y place stamp) (times_out t' place stamp) none_kept exact;
       largest = rests_largest t t' settles.rests;
       helpers = rests_helpers t t' settles.rests;
     }
       where
-        drop_zero : (a z b n : ℕ) → z ≡ 0 → a + (z + b) ≤ n → a + b ≤ n
-        drop_zero a z b n is most = omega arith
+        drop_zero : (a z b n : ℕ) → z ≡ 0 → a + (z + b) ≡ n → a + b ≡ n
+        drop_zero a z b n is exact = omega arith
 
-        with_none : (a z n : ℕ) → z ≡ 0 + 0 → a ≤ n → a + z ≤ n
-        with_none a z n is most = omega arith
+        with_none : (a z n : ℕ) → z ≡ 0 + 0 → a ≡ n → a + z ≡ n
+        with_none a z n is exact = omega arith
 
     pub commit_tells : (h' : List Entry) (locks' : List (Option ℕ)) → h' ≡ h ++ entry.Committed c (m + 1) ∷ [] → Releases c locks locks' → Tells limits h' b (m + 1) t' (slice_set sessions c y) locks' None
     commit_tells h' locks' is releases = subst (λ g. Tells limits g b (m + 1) t' (slice_set sessions c y) locks' None) (sym is)

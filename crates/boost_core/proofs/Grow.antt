@@ -14,7 +14,9 @@ use Rattle.txn_trace.specs.Sizes.{Sizes}
 use Rattle.txn_trace.specs.Map.{Map, get}
 use Rattle.txn_trace.specs.History.{caller_of, is_began, is_commit}
 use Rattle.txn_trace.specs.Now.{now}
-use Rattle.txn_trace.specs.Shape.{Phase, Closed, Opened, Waiting, LeavingTo, LeavingToEnd, Seat, row, seat_after, own}
+use Rattle.txn_trace.specs.declared.seat.Phase.{Phase}
+use Rattle.txn_trace.specs.declared.seat.Phase.TheVariants.{Closed, Opened, Waiting, LeavingTo, LeavingToEnd}
+use Rattle.txn_trace.specs.Shape.{Seat, row, seat_after, own}
 use Rattle.txn_trace.specs.Log.{log_of}
 use Rattle.txn_trace.specs.Locks.{stripe_of, holder_of}
 use Rattle.txn_trace.specs.Legal.{IsLegal, runs, is_running}
@@ -77,11 +79,11 @@ traded t t' sessions c x y at trade covered place stamp =
     let others : ℕ → ℕ → ℕ = λ p s. all_times sessions p s - times_kept x p s in
     let before : IsCovered (λ p s. others p s + times_kept x p s) t = λ p s.
     let most : times_kept x p s ≤ all_times sessions p s = one_of_sum (λ session. times_kept session p s) sessions c x at in
-    subst (λ n. n ≤ times_out t p s) (rejoin (all_times sessions p s) (times_kept x p s) most) (covered p s) in
+    subst (λ n. n ≡ times_out t p s) (rejoin (all_times sessions p s) (times_kept x p s) most) (covered p s) in
     let after = trade others before place stamp in
     let sums : all_times (slice_set sessions c y) place stamp + times_kept x place stamp ≡ all_times sessions place stamp + times_kept y place stamp = sum_changed (λ session. times_kept session place stamp) sessions c x y at in
     let most : times_kept x place stamp ≤ all_times sessions place stamp = one_of_sum (λ session. times_kept session place stamp) sessions c x at in
-    subst (λ n. n ≤ times_out t' place stamp) (same_sum (all_times (slice_set sessions c y) place stamp) (times_kept x place stamp) (all_times sessions place stamp) (times_kept y place stamp) most sums) after
+    subst (λ n. n ≡ times_out t' place stamp) (same_sum (all_times (slice_set sessions c y) place stamp) (times_kept x place stamp) (all_times sessions place stamp) (times_kept y place stamp) most sums) after
   where
     rejoin : (a b : ℕ) → b ≤ a → a ≡ a - b + b
     rejoin a b most = omega arith
@@ -198,14 +200,14 @@ module _ (limits : Sizes) (h : List Entry) (b m : ℕ) (t : TableAt) (sessions :
     sought = sought;
     spares = λ others covered place stamp.
         let same : times_kept y place stamp ≡ times_kept x place stamp = λ i. times_of (spare i) place stamp + times_in (jobs i) place stamp in
-        let most : others place stamp + times_kept x place stamp ≤ times_out t place stamp = covered place stamp in
-        fewer (others place stamp) (times_kept y place stamp) (times_kept x place stamp) (times_out t place stamp) same most;
+        let exact : others place stamp + times_kept x place stamp ≡ times_out t place stamp = covered place stamp in
+        fewer (others place stamp) (times_kept y place stamp) (times_kept x place stamp) (times_out t place stamp) same exact;
     largest = refl;
     helpers = refl;
   }
     where
-      fewer : (a b d n : ℕ) → b ≡ d → a + d ≤ n → a + b ≤ n
-      fewer a b d n same most = omega arith
+      fewer : (a b d n : ℕ) → b ≡ d → a + d ≡ n → a + b ≡ n
+      fewer a b d n same exact = omega arith
 
   -- The entry takes a place of the room.
   pub room_grown : (e : Entry) (committed current : Map) (holder : ℕ → Option ℕ) (len cap : ℕ) → caller_of e ≡ c → Next limits.stripes h e (seat_of y) (changes_of y.log.jobs) committed current holder

@@ -18,7 +18,8 @@ use Rattle.txn_trace.specs.Map.{Map, get, key_of, reply_of, after}
 use Rattle.txn_trace.specs.Serial.{serial}
 use Rattle.txn_trace.specs.Now.{now}
 use Rattle.txn_trace.specs.Locks.{holder_of}
-use Rattle.txn_trace.specs.Shape.{Phase, Seat, changes}
+use Rattle.txn_trace.specs.declared.seat.Phase.{Phase}
+use Rattle.txn_trace.specs.Shape.{Seat, changes}
 use Rattle.txn_trace.proofs.Next.{Next}
 use Rattle.txn_trace.proofs.Entries as laws
 use Rattle.txn_trace.proofs.Acting.{get-after_other}
@@ -67,18 +68,18 @@ spent_covered : (t t' : TableAt) (spare : Option SpareAt) (jobs jobs' : List Map
     → (others : ℕ → ℕ → ℕ) → IsCovered (λ place stamp. others place stamp + (times_of spare place stamp + times_in jobs place stamp)) t
     → IsCovered (λ place stamp. others place stamp + (0 + times_in jobs' place stamp)) t'
 spent_covered t t' spare jobs jobs' same spends others covered place stamp =
-    let after : others place stamp + times_in jobs place stamp ≤ times_out t' place stamp =
+    let after : others place stamp + times_in jobs place stamp ≡ times_out t' place stamp =
     spent t t' spare (λ p s. others p s + times_in jobs p s) spends (λ p s.
-    let most : others p s + (times_of spare p s + times_in jobs p s) ≤ times_out t p s = covered p s in
-    regroup (others p s) (times_of spare p s) (times_in jobs p s) (times_out t p s) most) place stamp in
+    let exact : others p s + (times_of spare p s + times_in jobs p s) ≡ times_out t p s = covered p s in
+    regroup (others p s) (times_of spare p s) (times_in jobs p s) (times_out t p s) exact) place stamp in
     let is = same place stamp in
     regroup' (others place stamp) (times_in jobs' place stamp) (times_in jobs place stamp) (times_out t' place stamp) is after
   where
-    regroup : (a b d n : ℕ) → a + (b + d) ≤ n → a + d + b ≤ n
-    regroup a b d n most = omega arith
+    regroup : (a b d n : ℕ) → a + (b + d) ≡ n → a + d + b ≡ n
+    regroup a b d n exact = omega arith
 
-    regroup' : (a b d n : ℕ) → b ≡ d + 0 → a + d ≤ n → a + (0 + b) ≤ n
-    regroup' a b d n same most = omega arith
+    regroup' : (a b d n : ℕ) → b ≡ d + 0 → a + d ≡ n → a + (0 + b) ≡ n
+    regroup' a b d n same exact = omega arith
 
 times_more : (jobs : List MapJob) (job : MapJob) (place stamp : ℕ) → times_in (jobs ++ job ∷ []) place stamp ≡ times_in jobs place stamp + times_of (spare_of_job job) place stamp
 times_more jobs job place stamp = sum_by_push (λ (j : MapJob). times_of (spare_of_job j) place stamp) jobs job
@@ -90,13 +91,13 @@ relinked_covered : (t t' : TableAt) (spare : Option SpareAt) (kept : SpareAt) (k
     → (others : ℕ → ℕ → ℕ) → IsCovered (λ place stamp. others place stamp + (times_of spare place stamp + times_in jobs place stamp)) t
     → IsCovered (λ place stamp. others place stamp + (0 + times_in (jobs ++ Relink k old kept ∷ []) place stamp)) t'
 relinked_covered t t' spare kept k old jobs is spends others covered place stamp =
-    let most : others place stamp + (times_of spare place stamp + times_in jobs place stamp) ≤ times_out t' place stamp = still_covered t t' (λ p s. others p s + (times_of spare p s + times_in jobs p s)) spends covered place stamp in
+    let exact : others place stamp + (times_of spare place stamp + times_in jobs place stamp) ≡ times_out t' place stamp = still_covered t t' (λ p s. others p s + (times_of spare p s + times_in jobs p s)) spends covered place stamp in
     let more = times_more jobs (Relink k old kept) place stamp in
     let same : times_of spare place stamp ≡ times_of (Some kept) place stamp = ap (λ (o : Option SpareAt). times_of o place stamp) is in
-    regroup (others place stamp) (times_of spare place stamp) (times_of (Some kept) place stamp) (times_in jobs place stamp) (times_in (jobs ++ Relink k old kept ∷ []) place stamp) (times_out t' place stamp) same more most
+    regroup (others place stamp) (times_of spare place stamp) (times_of (Some kept) place stamp) (times_in jobs place stamp) (times_in (jobs ++ Relink k old kept ∷ []) place stamp) (times_out t' place stamp) same more exact
   where
-    regroup : (a b d j k n : ℕ) → b ≡ d → k ≡ j + d → a + (b + j) ≤ n → a + (0 + k) ≤ n
-    regroup a b d j k n same more most = omega arith
+    regroup : (a b d j k n : ℕ) → b ≡ d → k ≡ j + d → a + (b + j) ≡ n → a + (0 + k) ≡ n
+    regroup a b d j k n same more exact = omega arith
 
 done_covered : (t t' : TableAt) (spare : Option SpareAt) (job : Option MapJob) (jobs : List MapJob) (m : Map) (op : Op) → job ≡ job_of m op spare → SpendsFor t t' spare job
     → (others : ℕ → ℕ → ℕ) → IsCovered (λ place stamp. others place stamp + (times_of spare place stamp + times_in jobs place stamp)) t

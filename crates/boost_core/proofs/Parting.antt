@@ -10,7 +10,8 @@ use Rattle.txn_trace.specs.Sizes.{Sizes}
 use Rattle.txn_trace.specs.Serial.{serial}
 use Rattle.txn_trace.specs.Now.{now}
 use Rattle.txn_trace.specs.Locks.{holder_of}
-use Rattle.txn_trace.specs.Shape.{Opened, LeavingTo, Seat}
+use Rattle.txn_trace.specs.declared.seat.Phase.TheVariants.{Opened, LeavingTo}
+use Rattle.txn_trace.specs.Shape.{Seat}
 use Rattle.txn_trace.specs.Log.{log_of}
 use Rattle.txn_trace.proofs.Next.{Next}
 use Rattle.txn_trace.proofs.Entries as laws

@@ -13,7 +13,9 @@ use Rattle.txn_trace.specs.declared.step.Step.{Step}
 use Rattle.txn_trace.specs.declared.step.Step.TheVariants.{Begin, Ask, Seek, Act, Save, Back, Commit, Abort}
 use Rattle.txn_trace.specs.Sizes.{Sizes}
 use Rattle.txn_trace.specs.Map.{key_of}
-use Rattle.txn_trace.specs.Shape.{Phase, Closed, Opened, Waiting, LeavingTo, LeavingToEnd, Seat, closed_seat, own}
+use Rattle.txn_trace.specs.declared.seat.Phase.{Phase}
+use Rattle.txn_trace.specs.declared.seat.Phase.TheVariants.{Closed, Opened, Waiting, LeavingTo, LeavingToEnd}
+use Rattle.txn_trace.specs.Shape.{Seat, closed_seat, own}
 use Rattle.map_ops.specs.Jobs.{PendingAt}
 use Rattle.map_ops.specs.TableAt.{TableAt, Cursor, cursor_turn}
 use Rattle.boost_core.specs.declared.stage.Stage.{Stage}

@@ -23,7 +23,8 @@ use Rattle.boost_core.specs.declared.session.Session.{Session}
 use Rattle.boost_core.specs.State.{start}
 use Rattle.boost_core.specs.Spares.{times_of, times_in}
 use Rattle.boost_core.specs.Sessions.{IsIdle, IsReady, IsSoughtAt, AreDue, phase_of, owed_of, target_of, times_kept, spare_at, changes_of}
-use Rattle.boost_core.specs.Core.{Tells, state_of, turn_at}
+use Rattle.boost_core.specs.Core.{Tells, state_of, turn_at, all_times}
+use Rattle.boost_core.proofs.Spares.{none_covered}
 use Rattle.boost_core.proofs.Powers.{IsPower, power_from_test}
 
 -- What limits say of the number of buckets.
@@ -69,9 +70,7 @@ module _ (limits : Sizes) (t : TableAt) (new : IsNew t limits.buckets limits.cal
           ready = subst (λ (st : Stage). IsReady st s.log.room) (sym is.stage) tt;
         };
     sought = λ c s at. subst (λ (cursor : Option Cursor). IsSoughtAt t cursor (target_of s)) (sym (is_idle s c at).cursor) tt;
-    spares = λ place stamp.
-        let none_kept : sum_by (λ s. times_kept s place stamp) sessions ≡ 0 = sum_none (λ s. times_kept s place stamp) sessions (λ s c at. no_times s (is_idle s c at) place stamp) in
-        omega arith;
+    spares = none_covered t (all_times sessions) new.none_out (λ place stamp. sum_none (λ s. times_kept s place stamp) sessions (λ s c at. no_times s (is_idle s c at) place stamp));
     fresh = tt;
     stripes = ap length none ∙ length-replicate limits.stripes None;
     holders = λ s below. ap (λ ls. held_by ls s) none ∙ none_held limits.stripes s;

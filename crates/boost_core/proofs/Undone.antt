@@ -40,7 +40,7 @@ use Rattle.boost_core.proofs.Counts.{no_more}
 use Rattle.boost_core.proofs.Spares.{spent}
 use Rattle.boost_core.proofs.Settling.{newest_owned}
 use Rattle.boost_core.proofs.Refused.{seat_here, level_here}
-use Rattle.boost_core.proofs.Ending.{log_covered}
+use Rattle.boost_core.proofs.Ending.{can_settle}
 use Rattle.boost_core.proofs.Moves.{Runs, state_is, turns_set}
 use Rattle.boost_core.proofs.Grow.{Grown, grown, room_grown, next_as}
 use Rattle.boost_core.proofs.Operating.{cursor_there}
@@ -128,6 +128,7 @@ module _ (limits : Sizes) (h : List Entry) (b m : ℕ) (t : TableAt) (sessions :
   pub can_undo : CanUndo x t
   can_undo =
       let cursor = the_some x.cursor (cursor_there limits h b m t sessions locks placed tells c x at none (either (is_waiting (phase_of x.stage)) (has_job (seat_of x)) has)) in
+      let settle = can_settle limits h b m t sessions locks placed tells c x at in
       record {
         level = level_here limits h b m t sessions locks placed tells c x at;
         job = last.job;
@@ -136,7 +137,7 @@ module _ (limits : Sizes) (h : List Entry) (b m : ℕ) (t : TableAt) (sessions :
         had = cursor.1;
         placed = subst (IsPlacedFor t cursor.0) (going_target x.stage x.log goes.0 ∙ ap key_of_newest newest_is) (subst (λ (o : Option Cursor). IsSoughtAt t o (target_of x)) cursor.1 (tells.sought c x at));
         due = (subst (λ (js : List MapJob). AreDue (content t) js) (ap reverse last.is ∙ reverse-append last.front (last.job ∷ [])) (subst (λ n. AreDue n (reverse x.log.jobs)) (sym tells.content) (tells.seated c x at).due)).0;
-        owned = newest_owned t x.log.jobs last.front last.job last.is (log_covered limits h b m t sessions locks placed tells c x at);
+        owned = newest_owned t x.log.jobs last.front last.job last.is settle.0 settle.1;
       }
 
   module _ (y : Session) (t' : TableAt) (back : TakesBackIn x t y t') (follows : Follows t t') where
@@ -177,22 +178,22 @@ module _ (limits : Sizes) (h : List Entry) (b m : ℕ) (t : TableAt) (sessions :
       placed = follows.placed;
       sought = subst (λ (cursor : Option Cursor). IsSoughtAt t' cursor (target_at y.stage y.log)) (sym back.cursor) tt;
       spares = λ others covered place stamp.
-          let after : others place stamp + times_of (spare_at x.stage) place stamp + times_in y.log.jobs place stamp ≤ times_out t' place stamp =
+          let after : others place stamp + times_of (spare_at x.stage) place stamp + times_in y.log.jobs place stamp ≡ times_out t' place stamp =
           spent t t' (spare_of_job back.job) (λ p s. others p s + times_of (spare_at x.stage) p s + times_in y.log.jobs p s) back.back.spares (λ p s.
           let times : times_in x.log.jobs p s ≡ times_in y.log.jobs p s + times_of (spare_of_job back.job) p s = ap (λ (js : List MapJob). times_in js p s) back.jobs ∙ sum_by_push (λ (j : MapJob). times_of (spare_of_job j) p s) y.log.jobs back.job in
-          let most : others p s + (times_of (spare_at x.stage) p s + times_in x.log.jobs p s) ≤ times_out t p s = covered p s in
-          regroup (others p s) (times_of (spare_at x.stage) p s) (times_in x.log.jobs p s) (times_in y.log.jobs p s) (times_of (spare_of_job back.job) p s) (times_out t p s) times most) place stamp in
+          let exact : others p s + (times_of (spare_at x.stage) p s + times_in x.log.jobs p s) ≡ times_out t p s = covered p s in
+          regroup (others p s) (times_of (spare_at x.stage) p s) (times_in x.log.jobs p s) (times_in y.log.jobs p s) (times_of (spare_of_job back.job) p s) (times_out t p s) times exact) place stamp in
           let same : times_of (spare_at y.stage) place stamp ≡ times_of (spare_at x.stage) place stamp = ap (λ (st : Stage). times_of (spare_at st) place stamp) back.stage in
           regroup' (others place stamp) (times_of (spare_at y.stage) place stamp) (times_of (spare_at x.stage) place stamp) (times_in y.log.jobs place stamp) (times_out t' place stamp) same after;
       largest = back.back.buckets.largest;
       helpers = ap length back.back.buckets.helps;
     }
       where
-        regroup : (a b j k s n : ℕ) → j ≡ k + s → a + (b + j) ≤ n → a + b + k + s ≤ n
-        regroup a b j k s n times most = omega arith
+        regroup : (a b j k s n : ℕ) → j ≡ k + s → a + (b + j) ≡ n → a + b + k + s ≡ n
+        regroup a b j k s n times exact = omega arith
 
-        regroup' : (a b d k n : ℕ) → b ≡ d → a + d + k ≤ n → a + (b + k) ≤ n
-        regroup' a b d k n same most = omega arith
+        regroup' : (a b d k n : ℕ) → b ≡ d → a + d + k ≡ n → a + (b + k) ≡ n
+        regroup' a b d k n same exact = omega arith
 
     undone_runs : turn_of t ≤ turn_of t' → Runs t t'
     undone_runs turn = record {

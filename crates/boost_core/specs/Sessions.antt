@@ -3,7 +3,9 @@ use Rattle.std.specs.Prelude.{◌≡◌, ℕ, ◌+◌, ◌<◌, ◌≤◌, ◌�
 use Rattle.txn_trace.specs.Map.{Map, key_of}
 use Rattle.txn_trace.specs.Now.{set_at}
 use Rattle.txn_trace.specs.Owed.{owed_in}
-use Rattle.txn_trace.specs.Shape.{Phase, Closed, Opened, Waiting, LeavingTo, LeavingToEnd, Seat}
+use Rattle.txn_trace.specs.declared.seat.Phase.{Phase}
+use Rattle.txn_trace.specs.declared.seat.Phase.TheVariants.{Closed, Opened, Waiting, LeavingTo, LeavingToEnd}
+use Rattle.txn_trace.specs.Shape.{Seat}
 use Rattle.undo_log.specs.UndoLog.{Log, newest_above}
 use Rattle.map_ops.specs.declared.job.MapJob.{MapJob}
 use Rattle.map_ops.specs.Jobs.{PendingAt, takes_node, key_of_job, value_before, spare_of_job, IsDue}
@@ -190,9 +192,9 @@ pub record WithdrawsIn (s : Session) (t : TableAt) (s' : Session) (t' : TableAt)
   pub cursor : s'.cursor ≡ None
   pub log : s'.log ≡ s.log
 
--- The spares of the log are the table's, each once.
+-- The spares of the log are the table's, each once, beside those that others keep.
 abbrev pub CanSettle : Session → TableAt → Type 0
-CanSettle s t = IsCovered (times_in s.log.jobs) t
+CanSettle s t = (others : ℕ → ℕ → ℕ) × IsCovered (λ place stamp. others place stamp + times_in s.log.jobs place stamp) t
 
 -- All jobs are dropped with their spares, and the caller has no transaction.
 pub record SettlesIn (s : Session) (t : TableAt) (s' : Session) (t' : TableAt) : Type 0 where

@@ -1,9 +1,10 @@
 -- What is left of a seek at each node.
-use Rattle.std.proofs.Common.{◌≡◌, ℕ, ◌<◌, ◌≤◌, inl, inr, List, [], ◌∷◌, ◌++◌, Option, Some, None, Bool, true, false, length, refl, sym, ◌∙◌, ap, subst, arith, if◌then◌else◌, ◌==◌, nat_lt, append_assoc}
+use Prim.Native.Nat.{suc}
+use Rattle.std.proofs.Common.{◌≡◌, ℕ, ◌+◌, ◌-◌, ◌<◌, ◌≤◌, inl, inr, List, [], ◌∷◌, ◌++◌, Option, Some, None, Bool, true, false, length, refl, sym, ◌∙◌, ap, subst, arith, if◌then◌else◌, ◌==◌, nat_lt, append_assoc}
 use Rattle.std.proofs.lemmas.Bool.{cases_lt}
 use Rattle.std.proofs.lemmas.Bool.Decides.{eqb_tells, nat_tests}
 use Rattle.std.specs.List.{AllByRecursion}
-use Rattle.node_list.specs.Nodes.{NodeAt, Listing, IsLinked, node_of, next_of, first, without_first, unlinked_after}
+use Rattle.node_list.specs.Nodes.{NodeAt, Listing, IsLinked, node_of, next_of, first, without_first, unlinked_after, turn_after, turns_after}
 use Rattle.node_list.specs.Order.{AbsentFrom, IsSpread}
 use Rattle.node_list.specs.Follow.{Follows}
 use Rattle.node_list.specs.declared.node.Kind.TheVariants.{Dummy}
@@ -23,6 +24,8 @@ pub record IsSeeking (old now : Listing) (from place split : ℕ) : Type 0 where
   pub pred : AllPlain now.nodes → IsPred now.nodes place split
   pub rest : sought now.nodes place split ≡ sought old.nodes from split
   pub kept : KeepsRest old now
+  pub fewer : length now.nodes ≤ length old.nodes
+  pub turn : now.turn ≡ turns_after old.turn (length old.nodes - length now.nodes)
   pub follows : Follows old now
 
 -- A seek begins at an unmarked node.
@@ -158,6 +161,19 @@ module _ (nodes : List NodeAt) (place : ℕ) (n m : NodeAt) (is : node_of nodes 
         ap length (behind_at (unlinked_after nodes place) place n (at_unlinked nodes place n at)),
         ap length behind_first,
       )
+
+-- One node is unlinked by one change, so the change number has grown by the number of nodes unlinked.
+pub turn_unlinked : (first all turn unlinked before after : ℕ) → after + 1 ≡ before → before ≤ all → turn ≡ turns_after first (all - before) → unlinked ≡ turn_after turn → unlinked ≡ turns_after first (all - after)
+unfolding turns_after
+turn_unlinked first all turn unlinked before after one fewer turn_is unlinked_is =
+    let more : all - after ≡ suc (all - before) = omega arith in
+    unlinked_is ∙ ap turn_after turn_is ∙ ap (turns_after first) (sym more)
+
+pub turn_unchanged : (turn nodes : ℕ) → turn ≡ turns_after turn (nodes - nodes)
+unfolding turns_after
+turn_unchanged turn nodes =
+    let none : nodes - nodes ≡ 0 = omega arith in
+    ap (turns_after turn) (sym none)
 
 -- What holds of each node holds of each that a seek leaves.
 pub each_cleaned : (P : NodeAt → Type 0) (split : ℕ) (nodes : List NodeAt) → AllByRecursion P nodes → AllByRecursion P (cleaned split nodes)

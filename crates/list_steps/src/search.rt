@@ -1,6 +1,6 @@
 //! The seek of a place.
-ghost use Rattle.std.specs.Prelude.{◌≡◌, true};
-ghost use Rattle.node_list.specs.Nodes.{Listing};
+ghost use Rattle.std.specs.Prelude.{◌≡◌, ◌-◌, length, true};
+ghost use Rattle.node_list.specs.Nodes.{turns_after};
 ghost use Rattle.node_list.specs.Follow.{Follows};
 ghost use Rattle.list_steps.specs.Content.{pairs};
 ghost use Rattle.list_steps.specs.Found.{IsFound, IsPlaced, fits, split_of};
@@ -12,12 +12,14 @@ use node_list::{NodeList, NodeRef};
 /// Seeks the place of a split key from a dummy before it, and unlinks the marked nodes that it
 /// passes: all between its start and the first unmarked node that is not below the split key.
 ///
-/// The cursor fits the list as the seek leaves it. The content stays as it was, and so do the
-/// spares that are out. Takes no memory. Each node from the start to the place is visited once
+/// The cursor fits the list as the seek leaves it. The change number grows by the number of nodes
+/// that are unlinked. The content stays as it was, and so do the spares that are out. Takes no memory. Each node from the start to the place is visited once
 /// (the search of Harris, DISC 2001, which unlinks marked nodes).
 pub fn seek(list: &mut NodeList, from: NodeRef, split: u64) -> Cursor
     requires { IsStart list.old.nodes from split }
     ensures nodes { list.new.nodes ≡ sought list.old.nodes from split }
+    ensures turn { list.new.turn ≡
+        turns_after list.old.turn (length list.old.nodes - length list.new.nodes) }
     ensures kept { KeepsRest list.old list.new }
     ensures content { pairs list.new.nodes ≡ pairs list.old.nodes }
     ensures found { IsFound list.new result }

@@ -37,6 +37,21 @@ count-unlinked test (n ∷ (k ∷ rest)) pred m is = elim (eqb_tells n.place pre
       rw apart.0 (omega (arith, later))
 ]
 
+-- The list without the node behind another is one node shorter.
+pub length-unlinked : (nodes : List NodeAt) (pred : ℕ) (m : NodeAt) → next_of nodes pred ≡ Some m → length (unlinked_after nodes pred) + 1 ≡ length nodes
+unfolding next_of unlinked_after
+length-unlinked [] pred m is = absurd (some-none (sym is))
+length-unlinked (n ∷ []) pred m is = elim (eqb_tells n.place pred) [
+  | inl here ↦ absurd (some-none (sym (rw here.0 at is)))
+  | inr apart ↦ absurd (some-none (sym (rw apart.0 at is)))
+]
+length-unlinked (n ∷ (k ∷ rest)) pred m is = elim (eqb_tells n.place pred) [
+  | inl here ↦ rw here.0 (omega arith)
+  | inr apart ↦
+      let later = length-unlinked (k ∷ rest) pred m (rw apart.0 at is) in
+      rw apart.0 (omega (arith, later))
+]
+
 pub count-changed : (test : NodeAt → Bool) (nodes : List NodeAt) (place : ℕ) (change : NodeAt → NodeAt) (n : NodeAt) → node_of nodes place ≡ Some n → count_where test (changed_at nodes place change) + gain test n ≡ count_where test nodes + gain test (change n)
 unfolding node_of changed_at count_where
 count-changed test [] place change n is = absurd (some-none (sym is))

@@ -1,5 +1,6 @@
 -- What a contract sees of a list and of a spare.
 use Rattle.std.specs.Prelude.{◌≡◌, ◌≢◌, ℕ, ◌+◌, ◌-◌, ◌^◌, min, List, [], ◌∷◌, Option, Some, None, Bool, true, false, ◌==◌, if◌then◌else◌, slice_index_or, ◌⊎◌, ◌&&◌, not}
+use Prim.Native.Nat.{zero, suc}
 use Rattle.node_list.specs.declared.node.Kind.{Kind}
 use Rattle.node_list.specs.declared.node.Kind.TheVariants.{Dummy, Regular}
 
@@ -141,6 +142,11 @@ written_at nodes place value = changed_at nodes place (λ n. record n { value = 
 -- The change number one higher, if there is a higher one.
 abbrev pub turn_after : ℕ → ℕ
 turn_after turn = min (turn + 1) (2 ^ 64 - 1)
+
+-- The change number after so many changes.
+unfoldable pub turns_after : ℕ → ℕ → ℕ
+turns_after turn zero = turn
+turns_after turn (suc more) = turn_after (turns_after turn more)
 
 -- The nodes are these now, by one change, and the same spares are out.
 pub record Becomes (old new : Listing) (after : List NodeAt) : Type 0 where

@@ -71,13 +71,15 @@ impl NodeList {
     }
 
     /// A place that is kept for a node, with the stamp one above the last that was given. It is filled
-    /// as a dummy with split key 0.
+    /// as the dummy of bucket 0.
     ///
     /// `Worn` exactly where the last stamp was 2^64 - 2; then `NoMemory` where the slab could not grow.
     /// Either leaves the list as it was. May allocate. Amortised constant time.
     pub fn spare(&mut self) -> Result<Spare, SpareFault>
         ensures worn { (result ≡ Err SpareFault.Worn) ↔ (self.old.last ≡ 2 ^ 64 - 2) }
         ensures stamp { IfOk result (λ spare. spare.stamp ≡ self.old.last + 1) }
+        ensures filled { IfOk result (λ spare.
+            filled spare ≡ first_dummy spare.place spare.stamp) }
         ensures ok { IfOk result (λ spare. GivesOut self.old self.new spare.place spare.stamp) }
         ensures unchanged { OnErr result (self.new ≡ self.old) }
         ensures follows { Follows self.old self.new }

@@ -10,6 +10,7 @@ pub mod Now
 pub mod Replies
 pub mod Locks
 pub mod Shape
+pub mod Seats
 pub mod Log
 pub mod Legal
 pub mod Erase

@@ -1,10 +1,11 @@
-use Rattle.std.proofs.Common.{refl, sym, ◌∙◌, ap}
+use Rattle.std.proofs.Common.{refl, sym, ◌∙◌, ap, arith}
 use Rattle.node_list.specs.Seen.{seen}
 use Rattle.node_list.proofs.FollowLemmas.{follows_self, follows_twice}
 use Rattle.list_steps.specs.Content.{pairs}
 use Rattle.list_steps.proofs.NodeLemmas.{next_linked, next_node, no_place}
 use Rattle.node_list.proofs.NodesLemmas.{found_linked}
-use Rattle.list_steps.proofs.SeekLemmas.{behind_fewer, behind_next, sought_at_end, sought_passed, sought_stopped, sought_unlinked, pred_from_start, pred_unlinked}
+use Rattle.node_list.proofs.CountLemmas.{length-unlinked}
+use Rattle.list_steps.proofs.SeekLemmas.{behind_fewer, behind_next, sought_at_end, sought_passed, sought_stopped, sought_unlinked, pred_from_start, pred_unlinked, turn_unchanged, turn_unlinked}
 use Rattle.list_steps.proofs.ContentLemmas.{pairs_sought}
 use Rattle.list_steps.proofs.search.seek.Goals as goal
 
@@ -42,6 +43,8 @@ search-preserved-then-node c =
         last = now.last ∙ before.kept.last;
         out = λ place. now.out place ∙ before.kept.out place;
       };
+      fewer = rw now.nodes (omega (arith, before.fewer, length-unlinked _ _ _ next));
+      turn = rw now.nodes (turn_unlinked _ _ _ _ _ _ (length-unlinked _ _ _ next) before.fewer before.turn now.turn);
       follows = follows_twice _ _ _ before.follows c.unlink_after.ensures.follows;
     }
 
@@ -64,6 +67,8 @@ search-preserved c =
         below = c.if-node-split.true;
       };
       kept = before.kept;
+      fewer = before.fewer;
+      turn = before.turn;
       follows = before.follows;
     }
 
@@ -94,5 +99,7 @@ search-init c = record {
   pred = pred_from_start _ _ _ c.requires;
   rest = refl;
   kept = record { head = refl; last = refl; out = λ place. refl };
+  fewer = omega arith;
+  turn = turn_unchanged _ _;
   follows = follows_self _;
 }

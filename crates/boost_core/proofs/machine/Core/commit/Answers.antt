@@ -4,13 +4,19 @@ use Rattle.txn_trace.specs.declared.step.Step.TheVariants as steps
 use Rattle.boost_core.proofs.Counts.{committed_bound}
 use Rattle.boost_core.proofs.Refused.{at_free}
 use Rattle.boost_core.proofs.Moves.{move_of, none_of}
-use Rattle.boost_core.proofs.Ending.{commit_tells, commit_room, commit_move}
+use Rattle.boost_core.proofs.Ending.{can_settle, commit_tells, commit_room, commit_move}
 use Rattle.boost_core.specs.Sessions.{owed_of}
 use Rattle.boost_core.proofs.Grow.{owed_changed, one_of_sum, sum_changed}
 use Rattle.boost_core.proofs.machine.Core.commit.Goals as goal
 
 pub overflow_add-place : goal.overflow_add-place
 overflow_add-place c = omega (arith, committed_bound _ _ _ _ _ _ _ _ c.self.invariant.tells, c.self.inside.history.ok, c.self.inside.history.small)
+
+pub settle-requires : goal.settle-requires
+settle-requires c =
+    let none = none_of _ _ (steps.Commit c.args.caller) _ c.self.view_is c.refusal.ensures c.in_default.is in
+    let at = at_free _ _ _ _ _ _ _ _ c.self.invariant.tells c.args.caller (steps.Commit c.args.caller) refl none c.index_mut-session.result.now c.index_mut-session.ensures.value in
+    can_settle _ _ _ _ _ _ _ _ c.self.invariant.tells c.args.caller c.index_mut-session.result.now at
 
 pub push_reserved-requires : goal.push_reserved-requires
 push_reserved-requires c =

@@ -1,4 +1,5 @@
 ghost use Rattle.std.specs.Prelude.{◌≡◌, ◌⊎◌, IfErr};
+ghost use Rattle.command_line.specs.Runs.{file_of};
 ghost use Rattle.boostmap_engine.specs.declared.fault.Fault.TheVariants as faults;
 
 use boostmap_engine::Fault;
@@ -26,6 +27,16 @@ pub enum Call<'a> {
         /// The file's name.
         file: &'a str,
     },
+}
+
+impl<'a> Call<'a> {
+    /// The name of the call's file. Constant time.
+    pub fn file(self) -> &'a str
+        ensures { result.now ≡ file_of self.entry }
+    {
+        let (Call::Replay { file } | Call::Mix { file, .. } | Call::Check { file }) = self;
+        file
+    }
 }
 
 /// A command of this name over one file.

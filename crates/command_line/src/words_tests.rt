@@ -1,4 +1,5 @@
-use super::*;
+use crate::words::{Call, call_in};
+use boostmap_engine::Fault;
 use std::process::Abort;
 use std::test::Fail;
 
