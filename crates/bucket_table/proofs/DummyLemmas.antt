@@ -12,7 +12,7 @@ use Rattle.list_steps.specs.Steps.{without_first_marked}
 use Rattle.list_steps.proofs.SeekLemmas.{cleaned_marked, cleaned_passed, cleaned_stopped}
 use Rattle.split_key.specs.declared.sort.SortKey.{SortKey}
 use Rattle.split_key.specs.Split.{reversed, split}
-use Rattle.split_key.specs.Sort.{dummy_at, is_before, is_same, regular_at}
+use Rattle.split_key.specs.Sort.{dummy_at, is_before}
 use Rattle.split_key.proofs.SplitLemmas.{same_from_reversed, split_odd, reversed_even}
 use Rattle.split_key.proofs.SortLemmas.{cases_before, cases_same}
 use Rattle.bucket_table.specs.Dummies.{IsKeyedNode, dummy_node, has_dummy, is_dummy_of}

@@ -1,35 +1,31 @@
 -- The buckets of a table, as the words of its contracts say them.
-use Prim.Native.Nat.{zero, suc}
-use Rattle.std.proofs.Common.{◌≡◌, ◌≢◌, ℕ, ◌+◌, ◌-◌, ◌<◌, ◌≤◌, ◌^◌, ◌==◌, ◌||◌, inl, inr, List, [], ◌∷◌, Option, Some, None, Bool, true, false, not, map, length, refl, sym, ◌∙◌, ap, subst, arith, get_or, slice_index_or, slice_set, replicate, if◌then◌else◌}
-use Rattle.std.specs.Prelude.{Result, Ok, Err, is_some, is_none, nat_le}
+use Rattle.std.proofs.Common.{◌≡◌, ◌≢◌, ℕ, ◌+◌, ◌-◌, ◌<◌, ◌≤◌, ◌^◌, ◌==◌, ◌||◌, inl, inr, List, Option, Some, None, Bool, true, false, not, map, length, refl, sym, ◌∙◌, ap, subst, arith, get_or, slice_index_or, slice_set, if◌then◌else◌}
+use Rattle.std.specs.Prelude.{Result, Ok, Err, is_some}
 use Rattle.std.specs.List.{slice_get, range_with_len}
 use Rattle.std.specs.Option.{option_map}
 use Rattle.std.proofs.lemmas.Bool.{cases_eq, eq-eqb, ne_eqb}
 use Rattle.std.proofs.lemmas.Option.{slice_get-map, slice_get_within, slice_get-get_or}
-use Rattle.std.proofs.lemmas.List.{map-set, length-set, length-replicate, ext_get_or, get_or-set_same, get_or-set_other}
+use Rattle.std.proofs.lemmas.List.{map-set, length-set, ext_get_or, get_or-set_same, get_or-set_other}
 use Rattle.std.proofs.lemmas.List.FromFn.{get_or-map-range_with_len, length-map-range_with_len}
 use Rattle.std.proofs.Math.ListN as lists
-use Rattle.node_list.specs.Nodes.{NodeAt, Listing, first_dummy, out_at}
+use Rattle.node_list.specs.Nodes.{NodeAt, Listing, out_at}
 use Rattle.node_list.specs.Sound.{IsSound}
 use Rattle.list_steps.specs.Content.{pairs}
 use Rattle.list_steps.specs.Found.{changes_of, fits, pred_of}
 use Rattle.list_steps.proofs.CursorLemmas.{found_fits}
-use Rattle.split_key.specs.declared.sort.SortKey.{SortKey}
-use Rattle.split_key.specs.Split.{parent_of}
-use Rattle.split_key.specs.Sort.{dummy_at, is_same}
-use Rattle.split_key.proofs.SortLemmas.{cases_same, is_same_from}
-use Rattle.split_key.proofs.SplitLemmas.{reversed_even, same_from_reversed}
+use Rattle.split_key.specs.Sort.{dummy_at}
+use Rattle.split_key.proofs.SplitLemmas.{reversed_even}
 use Rattle.bucket_table.specs.declared.answer.InitSeek.{InitSeek}
 use Rattle.bucket_table.specs.declared.answer.InitSeek.TheVariants.{Ready, Placed}
 use Rattle.bucket_table.specs.declared.answer.InitLink.{InitLink}
 use Rattle.bucket_table.specs.declared.answer.InitLink.TheVariants.{Again, Present, Linked}
 use Rattle.bucket_table.specs.declared.answer.InitRefusal.{InitRefusal}
-use Rattle.bucket_table.specs.declared.answer.InitRefusal.TheVariants.{NoSuchBucket, ParentMissing, NoSuchHelper, NoMemory, StampsUsedUp}
+use Rattle.bucket_table.specs.declared.answer.InitRefusal.TheVariants.{NoSuchHelper, NoMemory, StampsUsedUp}
 use Rattle.bucket_table.specs.declared.answer.Double.{Double}
 use Rattle.bucket_table.specs.declared.answer.Double.TheVariants.{Moved, AtLimit, Light, Doubled}
 use Rattle.bucket_table.specs.declared.helper.Helper.{Helper}
 use Rattle.bucket_table.specs.declared.helper.Helper.TheVariants.{Idle, Seeking, Holding}
-use Rattle.bucket_table.specs.Directory.{Directory, IsInOrder, limit_of, helper_of, with_helper, with_dummy, with_size}
+use Rattle.bucket_table.specs.Directory.{Directory, IsInOrder, limit_of, helper_of, with_helper}
 use Rattle.bucket_table.specs.Directory as directories
 use Rattle.bucket_table.specs.Answers as buckets
 use Rattle.bucket_table.specs.Changes as buckets_changes
@@ -44,7 +40,7 @@ use Rattle.list_steps.specs.declared.sweeps.SweepOutcome.TheVariants.{Swept, Cle
 use Rattle.list_steps.specs.Steps as steps
 use Rattle.map_ops.specs.Sound.{AllEven, Belong, IsEvenDummy}
 use Rattle.bucket_table.specs.Helpers.{cursor_fits, help_at}
-use Rattle.map_ops.specs.TableAt.{Help, Nothing, Sought, Dummy, help_of, linked_of, map_of, table_of, IsNew, Keeps}
+use Rattle.map_ops.specs.TableAt.{Help, Nothing, Sought, Dummy, help_of, linked_of, table_of, Keeps}
 use Rattle.map_ops.specs.Buckets.{Doubles, Helps, Holds, Links, LinkChanges, SeekChanges, Seeks, Stores, StoreChanges, helper_fits, seek_answer, link_answer, store_answer}
 use Rattle.map_ops.proofs.BelongLemmas.{belong_swept, has_dummy-swept, linked_same}
 use Rattle.map_ops.proofs.KeepLemmas.{same_buckets}

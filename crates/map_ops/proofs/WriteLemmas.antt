@@ -1,10 +1,10 @@
 -- What the calls on buckets write.
-use Rattle.std.proofs.Common.{◌≡◌, ℕ, ◌+◌, List, Some, map, sym, ◌∙◌, ap}
+use Rattle.std.proofs.Common.{◌≡◌, ℕ, ◌+◌, Some, map, sym, ◌∙◌, ap}
 use Rattle.std.specs.Prelude.{Result, Ok, Err}
 use Rattle.std.specs.List.{slice_get}
 use Rattle.std.specs.Option.{option_map}
 use Rattle.std.proofs.lemmas.Option.{slice_get-map}
-use Rattle.node_list.specs.Nodes.{NodeAt, Listing, linked_after}
+use Rattle.node_list.specs.Nodes.{Listing, linked_after}
 use Rattle.list_steps.specs.Found.{changes_of, pred_of}
 use Rattle.bucket_table.specs.declared.answer.InitSeek.{InitSeek}
 use Rattle.bucket_table.specs.declared.answer.InitSeek.TheVariants.{Ready, Placed}

@@ -1,5 +1,5 @@
 -- What each call on the buckets of a table answers and changes.
-use Rattle.std.specs.Prelude.{◌≡◌, ℕ, ◌*◌, ◌+◌, ◌-◌, ◌^◌, Bool, true, false, not, ◌==◌, nat_le, Option, Some, None, Result, Ok, Err, List, slice_set, slice_index_or, if◌then◌else◌}
+use Rattle.std.specs.Prelude.{◌≡◌, ℕ, ◌+◌, ◌-◌, Bool, true, false, Option, Some, Result, Ok, Err, List, slice_set, slice_index_or}
 use Rattle.std.specs.List.{slice_get}
 pub use Rattle.split_key.specs.Split.{parent_of}
 pub use Rattle.bucket_table.specs.Answers.{store_answer, double_answer}
@@ -13,7 +13,6 @@ use Rattle.bucket_table.specs.declared.answer.InitSeek.TheVariants.{Ready, Place
 use Rattle.bucket_table.specs.declared.answer.InitLink.{InitLink}
 use Rattle.bucket_table.specs.declared.answer.InitLink.TheVariants.{Again, Present, Linked}
 use Rattle.bucket_table.specs.declared.answer.InitRefusal.{InitRefusal}
-use Rattle.bucket_table.specs.declared.answer.InitRefusal.TheVariants.{NoSuchBucket, ParentMissing, NoSuchHelper, HelperOutOfOrder, StampsUsedUp}
 use Rattle.bucket_table.specs.declared.answer.Double.{Double}
 use Rattle.bucket_table.specs.declared.answer.Double.TheVariants.{Moved, AtLimit, Light, Doubled}
 use Rattle.map_ops.specs.TableAt.{TableAt, Help, Nothing, Sought, Dummy, regular, turn_of, last_of, largest_of, size_of, stored_of, linked_of, helps_of, nodes_of, KeepsList, KeepsSpares}

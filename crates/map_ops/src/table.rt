@@ -108,7 +108,8 @@ impl Table {
     }
 
     /// Does an operation at a cursor that was placed for its key, and gives the reply with what
-    /// takes the change back.
+    /// takes the change back. A put links one node or writes one value, a take marks one node, and
+    /// what is no change writes nothing. No node is unlinked.
     ///
     /// `Again` comes exactly where the cursor no longer fits, so never while the change number is
     /// still the cursor's and below 2^64 - 1: then nothing has changed, and the operation comes
@@ -154,7 +155,8 @@ impl Table {
     }
 
     /// Takes a change back at a cursor that was placed for its key: the key has what it had before
-    /// the change, and every other key what it has now, whatever was changed there since.
+    /// the change, and every other key what it has now, whatever was changed there since. One node is
+    /// marked, written or linked, and none is unlinked.
     ///
     /// `Again` comes exactly where the cursor no longer fits: then nothing has changed, and the job
     /// comes back. Takes no memory. Constant time.
@@ -313,7 +315,7 @@ impl Table {
     }
 
     /// Seeks the place of a bucket's dummy for a helper, from the dummy of the bucket's parent.
-    /// Content and list of pairs stay.
+    /// Content and list of pairs stay; the marked nodes that it passes are unlinked.
     ///
     /// `Ready` where the bucket is initialised already: then the helper is idle. Else `Placed`, and
     /// the helper has a cursor that fits, in place of whatever it had. Takes no memory. One step a
