@@ -12,7 +12,9 @@ use Rattle.txn_trace.specs.History.{caller_of, is_began, is_commit}
 use Rattle.txn_trace.specs.Serial.{serial}
 use Rattle.txn_trace.specs.Now.{now, set_at}
 use Rattle.txn_trace.specs.Locks.{stripe_of, holder_of, is_locked}
-use Rattle.txn_trace.specs.Shape.{Phase, Closed, Opened, Waiting, LeavingTo, LeavingToEnd, Seat, closed_seat, changes, row, seat_after, own, how_many, is_numbered, is_shaped}
+use Rattle.txn_trace.specs.declared.seat.Phase.{Phase}
+use Rattle.txn_trace.specs.declared.seat.Phase.TheVariants.{Closed, Opened, Waiting, LeavingTo, LeavingToEnd}
+use Rattle.txn_trace.specs.Shape.{Seat, closed_seat, changes, row, seat_after, own, how_many, is_numbered, is_shaped}
 use Rattle.txn_trace.specs.Log.{log_of}
 use Rattle.txn_trace.specs.Legal.{IsLegal, replies_hold, broken}
 use Rattle.txn_trace.proofs.Breaking.{is_right_in, replies_hold-push}

@@ -5,7 +5,7 @@ use Rattle.txn_trace.specs.declared.op.Op.{Op}
 use Rattle.txn_trace.specs.declared.entry.Entry.{Entry}
 use Rattle.txn_trace.specs.declared.entry.Entry.TheVariants.{Did, Undone}
 use Rattle.txn_trace.specs.Locks.{is_locked}
-use Rattle.txn_trace.specs.Shape as shape
+use Rattle.txn_trace.specs.declared.seat.Phase.TheVariants as shape
 use Rattle.txn_trace.specs.Shape.{Seat, row, seat_after, own, is_numbered, is_shaped}
 use Rattle.txn_trace.specs.Legal.{IsLegal, replies_hold, broken}
 use Rattle.txn_trace.proofs.Breaking.{is_right, replies_hold-push}

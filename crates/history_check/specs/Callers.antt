@@ -1,13 +1,14 @@
 -- What a caller of the checker says.
 use Rattle.std.specs.Prelude.{ℕ, Option, Some, None, List, ◌∷◌, length, reverse}
-use Rattle.txn_trace.specs.Shape as shape
+use Rattle.txn_trace.specs.declared.seat.Phase as seats
+use Rattle.txn_trace.specs.declared.seat.Phase.TheVariants as shape
 use Rattle.txn_trace.specs.Shape.{Seat}
 use Rattle.history_check.specs.declared.caller.Caller.{Caller}
 use Rattle.history_check.specs.declared.caller.Phase.{Phase}
 use Rattle.history_check.specs.declared.caller.Phase.TheVariants.{Closed, Open, Asked, LeavingTo, LeavingToEnd}
 
 -- The phase.
-abbrev pub phase_of : Phase → shape.Phase
+abbrev pub phase_of : Phase → seats.Phase
 phase_of Closed = shape.Closed
 phase_of Open = shape.Opened
 phase_of (Asked op) = shape.Waiting op
@@ -15,7 +16,7 @@ phase_of (LeavingTo level) = shape.LeavingTo level
 phase_of LeavingToEnd = shape.LeavingToEnd
 
 -- The phase of a caller that goes back to a level, or to none.
-abbrev pub goal_of : Option ℕ → shape.Phase
+abbrev pub goal_of : Option ℕ → seats.Phase
 goal_of None = shape.LeavingToEnd
 goal_of (Some level) = shape.LeavingTo level
 

@@ -1,6 +1,7 @@
 ghost use Rattle.std.specs.Prelude.{◌≡◌, ◌+◌, ◌-◌, ◌<◌, ℕ, Bool, [], ◌∷◌, ◌++◌, drop, is_some, slice_get, slice_index, take, vec_len, vec_capacity, OnOk, OnErr, if◌then◌else◌};
 ghost use Rattle.txn_trace.specs.Map.{key_of};
-ghost use Rattle.txn_trace.specs.Shape.{Opened, Waiting, changes, closed_seat, row};
+ghost use Rattle.txn_trace.specs.declared.seat.Phase.TheVariants.{Opened, Waiting};
+ghost use Rattle.txn_trace.specs.Shape.{changes, closed_seat, row};
 ghost use Rattle.txn_trace.specs.Legal.{runs};
 ghost use Rattle.history_check.specs.Callers.{seat_of, log_in, phase_of, goal_of};
 

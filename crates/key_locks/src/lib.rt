@@ -20,14 +20,18 @@
 //! So a lock takes constant time, and giving a caller's stripes back takes time in proportion to those, however many
 //! stripes there are. All memory is taken when the stripes are made.
 //!
+//! `StripeRight` is for stripes that callers take elsewhere, each by its own right, of which there is one.
+//!
 //! Proved: a stripe has one holder at most; a lock is granted exactly where no other caller holds the stripe, and
 //! otherwise names that holder; each call says of every stripe who holds it afterwards.
 #![tactic(auto)]
 
 mod key_locks;
 mod lock_answer;
+mod stripe_right;
 #[cfg(test)]
 mod tests;
 
 pub use key_locks::{CALLERS, KeyLocks};
 pub use lock_answer::LockAnswer;
+pub use stripe_right::StripeRight;

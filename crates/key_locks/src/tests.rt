@@ -1,6 +1,6 @@
 ghost use Rattle.std.specs.Prelude.{◌≡◌, None, replicate, IfOk};
 
-use crate::{KeyLocks, LockAnswer};
+use crate::{KeyLocks, LockAnswer, StripeRight};
 use std::alloc::Global;
 use std::test::Fail;
 
@@ -48,4 +48,14 @@ fn a_caller_without_stripes_releases_none(rt: HostRuntime) -> Result<(), Fail> {
 #[test]
 fn more_stripes_than_memory_are_refused(rt: HostRuntime) {
     assert!(rt; KeyLocks::new(rt.alloc(), usize::MAX).is_err());
+}
+
+#[test]
+fn each_stripe_has_a_right(rt: HostRuntime) -> Result<(), Fail> {
+    let rights = match StripeRight::all(rt.alloc(), 3) {
+        Ok(rights) => rights,
+        Err(_) => StripeRight::all(rt.alloc(), 3)?,
+    };
+    assert!(rt; rights.iter().map(|right| right.stripe()).eq([0, 1, 2]));
+    Ok(())
 }

@@ -4,13 +4,15 @@ use crate::table::Table;
 use undo_log::UndoJob;
 
 impl UndoJob for MapJob {
-    ghost use Rattle.map_ops.specs.Changes.{ShowsAfter, ShowsBefore};
+    ghost use Rattle.map_ops.specs.Changes.{Runs, ShowsAfter, ShowsBefore};
 
     type World = Table;
 
     ghost shows_after = { ShowsAfter };
 
     ghost shows_before = { ShowsBefore };
+
+    ghost takes_back = { λ job old new. Runs old new job };
 
     fn run(self, world: Table) -> Table {
         let mut table = world;

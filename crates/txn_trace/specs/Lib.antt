@@ -1,6 +1,7 @@
 pub mod Refusals
 pub mod Text
 pub mod Sizes
+pub mod Work
 pub mod Map
 pub mod Ordered
 pub mod History

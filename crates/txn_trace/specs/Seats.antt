@@ -7,7 +7,9 @@ use Rattle.txn_trace.specs.declared.step.Step.TheVariants.{Begin, Ask, Seek, Act
 use Rattle.txn_trace.specs.declared.refusal.Refusal.{Refusal}
 use Rattle.txn_trace.specs.declared.refusal.Refusal.TheVariants.{BadKey, NotOpen, AlreadyOpen, OperationUnfinished, Leaving, NothingToSeek, NoSuchLevel}
 use Rattle.txn_trace.specs.Map.{key_of}
-use Rattle.txn_trace.specs.Shape.{Phase, Closed, Waiting, LeavingTo, LeavingToEnd, Seat}
+use Rattle.txn_trace.specs.declared.seat.Phase.{Phase}
+use Rattle.txn_trace.specs.declared.seat.Phase.TheVariants.{Closed, Waiting, LeavingTo, LeavingToEnd}
+use Rattle.txn_trace.specs.Shape.{Seat}
 
 abbrev pub is_closed : Phase → Bool
 is_closed Closed = true

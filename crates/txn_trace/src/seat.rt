@@ -1,6 +1,7 @@
 //! What a caller's own entries make of it.
 ghost use Rattle.std.specs.Prelude.{◌≡◌, ℕ, ◌+◌, ◌-◌, ◌<◌, ◌≤◌, ◌^◌, true, false, is_some, length, slice_get, slice_index, Some, OnOk, OnErr};
-ghost use Rattle.txn_trace.specs.Shape.{Opened, row, closed_seat};
+ghost use Rattle.txn_trace.specs.declared.seat.Phase.TheVariants.{Opened};
+ghost use Rattle.txn_trace.specs.Shape.{row, closed_seat};
 ghost use Rattle.txn_trace.specs.Seats.{first_of, has_job, has_target, is_saved, refusal_in, unready_tests};
 ghost use Rattle.txn_trace.specs.Owed.{owed_in};
 

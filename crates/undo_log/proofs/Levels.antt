@@ -144,6 +144,7 @@ module _ {J : Type 0} (before after : J → List ℕ) where
   -- A log cut at a level to which the way has led.
   pub record IsCutAt (start now : List ℕ) (old cut : Log J) (level : ℕ) : Type 0 where
     pub undoable : IsUndoable before after now cut
+    pub kept : 0 ∷ cut.kept ≡ take (level + 1) (0 ∷ old.kept)
     pub levels : levels_of before now cut ≡ take (level + 1) (levels_of before start old)
     pub words : slice_get (levels_of before start old) level ≡ Some now
 
@@ -163,6 +164,7 @@ module _ {J : Type 0} (before after : J → List ℕ) where
           chain = subst (IsChain before after now) jobs way.chain;
           nested = subst (λ ks. IsRising 0 ks (length cut.jobs)) (sym kept_old) nested;
         };
+        kept = ap (λ ks. 0 ∷ ks) kept_old ∙ ap (λ n. take n (0 ∷ old.kept)) (sym (add-one level));
         levels =
             ap (λ ks. map (words_at before now cut.jobs) (0 ∷ ks)) kept_old
             ∙ map_rising (words_at before now cut.jobs) old_words 0 (take level old.kept) (length cut.jobs) nested same

@@ -2,11 +2,13 @@
 use Rattle.std.specs.Prelude.{ℕ, zero, suc, ◌≡◌, ◌≤◌, List, [], ◌∷◌, map, length}
 use Rattle.undo_log.specs.UndoLog.{Log}
 
--- The value, its words at each level, level 0 first, and how many changes and how many savepoints can be made
--- before memory is taken.
+-- The value, its words at each level, level 0 first; how many changes can be taken back, and how many of them each
+-- level keeps, level 0 first; and how many changes and how many savepoints can be made before memory is taken.
 pub record Leveled (S : Type 0) : Type 0 where
   pub value : S
   pub levels : List (List ℕ)
+  pub changes : ℕ
+  pub kept : List ℕ
   pub room : ℕ
   pub save_room : ℕ
 

@@ -35,6 +35,8 @@ impl<J: UndoJob> UndoLog<J> {
     pub fn new(alloc: Global) -> UndoLog<J>
         ensures jobs { result.jobs ≡ [] }
         ensures kept { result.kept ≡ [] }
+        ensures room { result.room ≡ 0 }
+        ensures save_room { result.save_room ≡ 0 }
     {
         UndoLog {
             jobs: Vec::new(alloc),
@@ -75,7 +77,7 @@ impl<J: UndoJob> UndoLog<J> {
         }
     }
 
-    /// Makes room for one more job, if there is none. The room stays until a job is pushed into it.
+    /// Makes room for one more job, if there is none: takes no memory where some is left. The room stays until a job is pushed into it.
     ///
     /// Amortized constant time.
     ///
@@ -85,12 +87,15 @@ impl<J: UndoJob> UndoLog<J> {
     pub fn reserve_one(&mut self) -> Result<(), AllocError>
         ensures jobs { self.new.jobs ≡ self.old.jobs }
         ensures kept { self.new.kept ≡ self.old.kept }
-        ensures room { self.old.room ≤ self.new.room }
         ensures save_room { self.new.save_room ≡ self.old.save_room }
         ensures ok { OnOk result (0 < self.new.room) }
+        ensures left { 0 < self.old.room → self.new ≡ self.old }
         ensures err { OnErr result (self.new ≡ self.old) }
         ensures full { OnErr result (self.old.room ≡ 0) }
     {
+        if self.jobs.len() < self.jobs.capacity() {
+            return Ok(());
+        }
         self.jobs.reserve(1)
     }
 
@@ -105,7 +110,7 @@ impl<J: UndoJob> UndoLog<J> {
         self.jobs.push_reserved(job);
     }
 
-    /// Makes room for one more savepoint, if there is none, so that the next `save` succeeds.
+    /// Makes room for one more savepoint, if there is none, so that the next `save` succeeds: takes no memory where some is left.
     ///
     /// Amortized constant time.
     ///
@@ -116,11 +121,14 @@ impl<J: UndoJob> UndoLog<J> {
         ensures jobs { self.new.jobs ≡ self.old.jobs }
         ensures kept { self.new.kept ≡ self.old.kept }
         ensures room { self.new.room ≡ self.old.room }
-        ensures save_room { self.old.save_room ≤ self.new.save_room }
         ensures ok { OnOk result (0 < self.new.save_room) }
+        ensures left { 0 < self.old.save_room → self.new ≡ self.old }
         ensures err { OnErr result (self.new ≡ self.old) }
         ensures full { OnErr result (self.old.save_room ≡ 0) }
     {
+        if self.kept.len() < self.kept.capacity() {
+            return Ok(());
+        }
         self.kept.reserve(1)
     }
 
@@ -136,7 +144,7 @@ impl<J: UndoJob> UndoLog<J> {
         ensures room { self.new.room ≡ self.old.room }
         ensures number { IfOk result (λ level. level ≡ length self.old.kept + 1) }
         ensures kept { OnOk result (self.new.kept ≡ self.old.kept ++ length self.old.jobs ∷ []) }
-        ensures save_room { OnOk result (self.old.save_room ≤ self.new.save_room + 1) }
+        ensures save_room { 0 < self.old.save_room → self.new.save_room + 1 ≡ self.old.save_room }
         ensures err { OnErr result (self.new ≡ self.old) }
         ensures full { OnErr result (self.old.save_room ≡ 0) }
     {
@@ -184,7 +192,7 @@ impl<J: UndoJob> UndoLog<J> {
         ensures jobs { self.new.jobs ≡ self.old.jobs }
         ensures kept { self.new.kept ≡ take level self.old.kept }
         ensures room { self.new.room ≡ self.old.room }
-        ensures save_room { self.old.save_room ≤ self.new.save_room }
+        ensures save_room { self.new.save_room + level ≡ self.old.save_room + length self.old.kept }
     {
         self.kept.truncate(level);
     }

@@ -44,6 +44,8 @@ impl<S: Side> UndoJob for SideJob<S> {
 
     ghost shows_before = { λ side world. S.words_of world ≡ S.before side.job };
 
+    ghost takes_back = { λ side old new. S.words_of new ≡ S.before side.job };
+
     fn run(self, world: S) -> S {
         let SideJob { job } = self;
         world.undo(job)

@@ -9,8 +9,9 @@ use std::marker::Model;
 
 /// A side value with the jobs of its changes and its savepoints.
 ///
-/// Contracts see the `value`; in `levels` the words that it had at the beginning and at each savepoint, level 0 first; and the `room` for
-/// changes and the `save_room` for savepoints that is there already. No words are stored: each job names those that it gives.
+/// Contracts see the `value`; in `levels` the words that it had at the beginning and at each savepoint, level 0 first; in `changes` how
+/// many changes can be taken back, each by its job, and in `kept` how many of them each level keeps; and the `room` for changes and the
+/// `save_room` for savepoints that is there already. No words are stored: each job names those that it gives.
 #[derive(Drop)]
 pub struct SideValue<S: Side> {
     value: S,
@@ -18,6 +19,7 @@ pub struct SideValue<S: Side> {
 }
 
 impl<S: Side> Model for SideValue<S> {
+    ghost use Rattle.std.specs.Prelude.{length, ◌∷◌};
     ghost use Rattle.undo_log.specs.SideValue.{Leveled, levels_of, IsUndoable};
 
     ghost Value = { Leveled S };
@@ -25,6 +27,8 @@ impl<S: Side> Model for SideValue<S> {
     ghost view = { λ side. record {
       value = side.value;
       levels = levels_of (λ j. S.before j.job) (S.words_of side.value) side.log;
+      changes = length side.log.jobs;
+      kept = 0 ∷ side.log.kept;
       room = side.log.room;
       save_room = side.log.save_room;
     } };
@@ -37,6 +41,10 @@ impl<S: Side> SideValue<S> {
     pub fn new(alloc: Global, value: S) -> SideValue<S>
         ensures value { result.value ≡ value }
         ensures levels { result.levels ≡ S.words_of value ∷ [] }
+        ensures changes { result.changes ≡ 0 }
+        ensures kept { result.kept ≡ 0 ∷ [] }
+        ensures room { result.room ≡ 0 }
+        ensures save_room { result.save_room ≡ 0 }
     {
         SideValue {
             value,
@@ -77,7 +85,9 @@ impl<S: Side> SideValue<S> {
         requires after { (value : S) → F.post change self.old.value value → S.words_of value ≡ S.after job.job }
         ensures changed { OnOk result (F.post change self.old.value self.new.value) }
         ensures levels { self.new.levels ≡ self.old.levels }
-        ensures room { OnOk result (self.old.room ≤ self.new.room + 1) }
+        ensures changes { OnOk result (self.new.changes ≡ self.old.changes + 1) }
+        ensures kept { self.new.kept ≡ self.old.kept }
+        ensures room { 0 < self.old.room → self.new.room + 1 ≡ self.old.room }
         ensures save_room { self.new.save_room ≡ self.old.save_room }
         ensures err { OnErr result (self.new ≡ self.old) }
         ensures full { OnErr result (self.old.room ≡ 0) }
@@ -110,9 +120,11 @@ impl<S: Side> SideValue<S> {
     pub fn save_room(&mut self) -> Result<(), AllocError>
         ensures value { self.new.value ≡ self.old.value }
         ensures levels { self.new.levels ≡ self.old.levels }
+        ensures changes { self.new.changes ≡ self.old.changes }
+        ensures kept { self.new.kept ≡ self.old.kept }
         ensures room { self.new.room ≡ self.old.room }
-        ensures save_room { self.old.save_room ≤ self.new.save_room }
         ensures ok { OnOk result (0 < self.new.save_room) }
+        ensures left { 0 < self.old.save_room → self.new ≡ self.old }
         ensures err { OnErr result (self.new ≡ self.old) }
         ensures full { OnErr result (self.old.save_room ≡ 0) }
     {
@@ -130,8 +142,10 @@ impl<S: Side> SideValue<S> {
         ensures value { self.new.value ≡ self.old.value }
         ensures number { IfOk result (λ level. level ≡ length self.old.levels) }
         ensures levels { OnOk result (self.new.levels ≡ self.old.levels ++ S.words_of self.old.value ∷ []) }
+        ensures changes { self.new.changes ≡ self.old.changes }
+        ensures kept { OnOk result (self.new.kept ≡ self.old.kept ++ self.old.changes ∷ []) }
         ensures room { self.new.room ≡ self.old.room }
-        ensures save_room { OnOk result (self.old.save_room ≤ self.new.save_room + 1) }
+        ensures save_room { 0 < self.old.save_room → self.new.save_room + 1 ≡ self.old.save_room }
         ensures err { OnErr result (self.new ≡ self.old) }
         ensures full { OnErr result (self.old.save_room ≡ 0) }
     {
@@ -146,8 +160,10 @@ impl<S: Side> SideValue<S> {
         requires { level < length self.old.levels }
         ensures words { slice_get self.old.levels level ≡ Some (S.words_of self.new.value) }
         ensures levels { self.new.levels ≡ take (level + 1) self.old.levels }
-        ensures room { self.old.room ≤ self.new.room }
-        ensures save_room { self.old.save_room ≤ self.new.save_room }
+        ensures changes { slice_get self.old.kept level ≡ Some self.new.changes }
+        ensures kept { self.new.kept ≡ take (level + 1) self.old.kept }
+        ensures room { self.new.room + self.new.changes ≡ self.old.room + self.old.changes }
+        ensures save_room { self.new.save_room + length self.new.kept ≡ self.old.save_room + length self.old.kept }
     {
         while let Some(job) = self.log.pop_above(level) {
             replace_with(
@@ -168,8 +184,10 @@ impl<S: Side> SideValue<S> {
     pub fn settle(&mut self)
         ensures value { self.new.value ≡ self.old.value }
         ensures levels { self.new.levels ≡ S.words_of self.old.value ∷ [] }
-        ensures room { self.old.room ≤ self.new.room }
-        ensures save_room { self.old.save_room ≤ self.new.save_room }
+        ensures changes { self.new.changes ≡ 0 }
+        ensures kept { self.new.kept ≡ 0 ∷ [] }
+        ensures room { self.new.room ≡ self.old.room + self.old.changes }
+        ensures save_room { self.new.save_room + 1 ≡ self.old.save_room + length self.old.kept }
     {
         while let Some(job) = self.log.pop_above(0) {
             drop(job);

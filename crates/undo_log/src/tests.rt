@@ -23,6 +23,8 @@ impl UndoJob for Raised {
 
     ghost shows_before = { λ job count. count + 1 ≡ job.0 };
 
+    ghost takes_back = { λ job old new. new + 1 ≡ old };
+
     fn run(self, count: u64) -> u64 {
         count - 1
     }
@@ -86,6 +88,16 @@ fn a_savepoint_keeps_its_jobs(rt: HostRuntime) -> Result<(), Fail> {
 }
 
 #[test]
+fn room_is_made_before_the_first_savepoint(rt: HostRuntime) -> Result<(), Fail> {
+    let mut log = UndoLog::<Raised>::new(rt.alloc());
+    if log.save_room().is_err() {
+        log.save_room()?;
+    }
+    assert_eq!(rt; log.save()?, 1);
+    Ok(())
+}
+
+#[test]
 fn one_log_for_each_caller(rt: HostRuntime) -> Result<(), Fail> {
     let mut logs = Vec::new(rt.alloc());
     for _ in 0..3 {
@@ -142,6 +154,24 @@ fn save_side<S: Side>(rt: &impl Abort, side: &mut SideValue<S>) -> Result<usize,
     assert_eq!(rt; side.level(), level);
     side.save_room()?;
     Ok(side.save()?)
+}
+
+/// The number of a savepoint that is made in room of its own, with no change before it.
+fn first_savepoint<S: Side>(alloc: Global, value: S) -> Result<usize, Fail> {
+    let mut side = SideValue::new(alloc, value);
+    if side.save_room().is_err() {
+        side.save_room()?;
+    }
+    Ok(side.save()?)
+}
+
+#[test]
+fn room_is_made_in_a_new_side_value(rt: HostRuntime) -> Result<(), Fail> {
+    let value = Register {
+        words: [0, 0, 0, 0],
+    };
+    assert_eq!(rt; first_savepoint(rt.alloc(), value)?, 1);
+    Ok(())
 }
 
 /// The words after a change, a savepoint and two more changes, back at the savepoint, and back at the beginning.

@@ -3,7 +3,8 @@ use Rattle.std.specs.Result.{OnErr}
 use Rattle.txn_trace.specs.declared.entry.Entry.TheVariants.{Did}
 use Rattle.txn_trace.specs.Map.{key_of}
 use Rattle.txn_trace.specs.Now.{now}
-use Rattle.txn_trace.specs.Shape.{Seat, Opened, changes}
+use Rattle.txn_trace.specs.declared.seat.Phase.TheVariants.{Opened}
+use Rattle.txn_trace.specs.Shape.{Seat, changes}
 use Rattle.history_check.specs.Callers.{seat_of, phase_of}
 use Rattle.history_check.proofs.EachKind.{next-did, breaks_none}
 use Rattle.history_check.proofs.Growth.{sits_at, grown, stayed, none_more}

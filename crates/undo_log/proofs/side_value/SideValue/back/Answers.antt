@@ -25,7 +25,7 @@ loop-job-preserved g c =
     let above : kept_at c.loop-job.self-inside.log.kept c.args.level < length c.loop-job.self-inside.log.jobs = search (rules, c.in-Some.ensures.some) in
     record {
       way = on_the_way_step (λ j. g.S.Side.before j.job) (λ j. g.S.Side.after j.job) (g.S.Side.words_of c.self.inside.value) (g.S.Side.words_of c.loop-job.self-inside.value) (g.S.Side.words_of c.replace_with.new.dest) c.self.inside.log c.loop-job.self-inside.log c.pop_above.new.self c.in-Some.job c.args.level c.loop-job.invariant.way above c.in-Some.ensures.jobs c.in-Some.ensures.kept c.replace_with.ensures;
-      room = search rules;
+      room = grind (arith, common_steps, c.in-Some.ensures.jobs, c.in-Some.ensures.room, c.loop-job.invariant.room);
       save_room = search rules;
     }
 
@@ -45,3 +45,6 @@ returns-clause-words g c = ap (λ v. slice_get v.levels c.args.level) (sym c.sel
 
 pub returns-clause-levels : goal.returns-clause-levels
 returns-clause-levels g c = (ended g c).levels ∙ ap (λ v. take (c.args.level + 1) v.levels) c.self.view_is
+
+pub returns-clause-kept : goal.returns-clause-kept
+returns-clause-kept g c = (ended g c).kept ∙ ap (λ v. take (c.args.level + 1) v.kept) c.self.view_is

@@ -1,0 +1,45 @@
+ghost use Rattle.std.specs.Prelude.{◌≡◌, IfOk};
+ghost use Rattle.key_locks.specs.Rights.{AreAll};
+
+use std::alloc::{AllocError, Global};
+use std::marker::Model;
+
+/// The right to one stripe: whoever has it holds the stripe. It is not copied, and contracts see the stripe's number.
+#[derive(Debug, Drop)]
+pub struct StripeRight {
+    stripe: usize,
+}
+
+impl Model for StripeRight {
+    ghost use Rattle.std.specs.Prelude.{ℕ};
+
+    ghost Value = { ℕ };
+
+    ghost view = { λ right. right.stripe };
+}
+
+impl StripeRight {
+    /// One right for each of so many stripes, by rising number.
+    ///
+    /// Takes time and memory in proportion to the stripes.
+    ///
+    /// # Errors
+    ///
+    /// `AllocError` where memory is refused.
+    pub fn all(alloc: Global, stripes: usize) -> Result<Vec<StripeRight>, AllocError>
+        ensures { IfOk result (λ rights. AreAll stripes rights.items) }
+    {
+        let mut rights = Vec::with_capacity(alloc, stripes)?;
+        for stripe in 0..stripes {
+            rights.push(StripeRight { stripe })?;
+        }
+        Ok(rights)
+    }
+
+    /// The stripe's number. Constant time.
+    pub fn stripe(&self) -> usize
+        ensures { result ≡ self.now }
+    {
+        self.stripe
+    }
+}
