@@ -14,3 +14,4 @@ pub mod Adding
 pub mod Spares
 pub mod Sessions
 pub mod Core
+pub mod Whole

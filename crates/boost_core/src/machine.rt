@@ -58,6 +58,7 @@ impl Core {
     ghost use Rattle.boost_core.specs.Locks.{KeepsLocks};
     ghost use Rattle.boost_core.specs.Replies.{KeepsReplies};
     ghost use Rattle.boost_core.specs.Content.{IsContent, IsRegular};
+    ghost use Rattle.boost_core.specs.Whole.{IsWhole};
     ghost use Rattle.boost_core.specs.Machine.{Move, Moves};
     ghost use Rattle.boost_core.specs.Refusals.{owner_of, refusal_of};
     ghost use Rattle.boost_core.specs.Serves.{is_served};
@@ -193,7 +194,9 @@ impl Core {
         ensures replies { KeepsReplies self.now }
         ensures legal { IsLegal self.now.limits.stripes self.now.history }
         ensures callers { All (λ entry. caller_of entry < self.now.limits.callers) self.now.history }
+        ensures whole { IsWhole self.now }
     {
+        let _size = Table::size(&self.table);
         &self.history
     }
 
