@@ -1,6 +1,6 @@
 -- An operation that is asked for.
 use Rattle.std.proofs.Common.{◌≡◌, ℕ, ◌+◌, ◌-◌, ◌^◌, ◌<◌, ◌≤◌, ◌==◌, ◌||◌, Bool, true, false, cond, List, [], ◌∷◌, ◌++◌, length, Option, Some, None, is_some, refl, sym, ap, subst, ◌∙◌, arith}
-use Rattle.std.specs.Prelude.{slice_get, slice_set, sum_by, map, reverse, nat_eq, not}
+use Rattle.std.specs.Prelude.{slice_get, slice_set, map, reverse, nat_eq, not}
 use Rattle.std.specs.Option.{option_eq, option_map}
 use Rattle.std.proofs.lemmas.Bool.{false≢true, cases_eq, eq-eqb, ne_eqb, and_from, le-leb}
 use Rattle.std.proofs.lemmas.List.{append-nil}
@@ -15,44 +15,32 @@ use Rattle.txn_trace.proofs.Now.{same_is}
 use Rattle.txn_trace.proofs.Holders.{is_locked-asked, is_locked-busy}
 use Rattle.map_ops.specs.Jobs.{takes_node}
 use Rattle.map_ops.specs.TableAt.{SpareAt}
-use Rattle.map_ops.specs.Changes.{Prepares, GivesFor, GivesBack, IsRefused, OwnsIf}
-use Rattle.txn_trace.specs.declared.entry.Entry.{Entry}
+use Rattle.map_ops.specs.Changes.{Prepares, GivesFor, IsRefused, OwnsIf}
 use Rattle.txn_trace.specs.declared.entry.Entry.TheVariants as entry
 use Rattle.txn_trace.specs.declared.step.Step.{Step}
 use Rattle.txn_trace.specs.declared.step.Step.TheVariants as steps
-use Rattle.txn_trace.specs.declared.answer.Answer.{Answer}
 use Rattle.txn_trace.specs.declared.answer.Answer.TheVariants as answers
-use Rattle.txn_trace.specs.Map.{Map}
-use Rattle.txn_trace.specs.History.{caller_of, is_began, is_commit}
 use Rattle.txn_trace.specs.Serial.{serial}
 use Rattle.txn_trace.specs.Entries.{entries_of}
 use Rattle.txn_trace.specs.Now.{now}
 use Rattle.txn_trace.specs.Locks.{holder_of}
-use Rattle.txn_trace.specs.Log.{log_of}
 use Rattle.txn_trace.specs.declared.seat.Phase.{Phase}
-use Rattle.txn_trace.specs.declared.seat.Phase.TheVariants.{Closed, Opened, Waiting, LeavingTo, LeavingToEnd}
-use Rattle.txn_trace.specs.Shape.{Seat, RoomySeat, closed_seat, own}
-use Rattle.txn_trace.specs.Seats.{is_closed, is_waiting, is_leaving, has_job, has_target, refusal_in, is_saved}
-use Rattle.txn_trace.proofs.Levels.{IsLevelIn, seat_leveled}
+use Rattle.txn_trace.specs.declared.seat.Phase.TheVariants.{Opened, Waiting, LeavingToEnd}
+use Rattle.txn_trace.specs.Shape.{RoomySeat}
 use Rattle.txn_trace.proofs.Next.{Next}
 use Rattle.txn_trace.proofs.Entries as laws
-use Rattle.undo_log.specs.UndoLog.{Log, kept_at, newest_above}
-use Rattle.key_locks.specs.Locks.{Grants, Refuses, Releases, without_caller, holder_of as held_by}
+use Rattle.key_locks.specs.Locks.{holder_of as held_by}
 use Rattle.map_ops.specs.declared.job.MapJob.{MapJob}
 use Rattle.map_ops.specs.Jobs.{PendingAt}
-use Rattle.map_ops.specs.TableAt.{TableAt, Cursor, content, cursor_turn, map_of, largest_of, helps_of, turn_of, last_of, size_of, stored_of, linked_of, IsPlaced}
-use Rattle.boost_core.specs.declared.counts.Counts.{Counts}
+use Rattle.map_ops.specs.TableAt.{TableAt, Cursor, cursor_turn, map_of, last_of}
 use Rattle.boost_core.specs.declared.session.Session.{Session}
-use Rattle.boost_core.specs.State.{State, Owner, Caller, Helper, seat_in, turn_in}
+use Rattle.boost_core.specs.State.{Owner, Caller, Helper}
 use Rattle.boost_core.specs.Refusals.{refusal_of}
-use Rattle.boost_core.specs.Counts.{counts_after}
-use Rattle.boost_core.specs.Placed.{placed_then}
-use Rattle.boost_core.specs.Answers.{is_back_at, is_at_end}
 use Rattle.boost_core.specs.Spares.{times_of, times_in, times_out, IsCovered}
-use Rattle.boost_core.specs.Core.{World, Tells, IsFresh, state_of, turn_at, all_times}
+use Rattle.boost_core.specs.Core.{World, Tells, IsFresh, state_of, turn_at}
 use Rattle.boost_core.proofs.Numbers.{no_more}
-use Rattle.boost_core.proofs.Moves.{Runs, runs_same, rests_runs, state_is, turns_same, turns_set}
-use Rattle.boost_core.proofs.Grow.{Grows, Stays, world_after, seated_as, set_cases}
+use Rattle.boost_core.proofs.Moves.{Runs, state_is, turns_same}
+use Rattle.boost_core.proofs.Grow.{Stays, world_after, seated_as, set_cases}
 use Rattle.boost_core.proofs.Outcomes.{Comes, Called, move_is, same_times, same_world}
 use Rattle.boost_core.specs.Refusals.{has_stamp_for, MayLack}
 use Rattle.boost_core.specs.Machine.{Move}

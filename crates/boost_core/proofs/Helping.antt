@@ -29,7 +29,7 @@ use Rattle.boost_core.proofs.Spares.{still_covered}
 use Rattle.boost_core.proofs.Refused.{le_false}
 use Rattle.boost_core.proofs.Grow.{table_stayed}
 use Rattle.boost_core.proofs.Working.{keeps_runs}
-use Rattle.boost_core.proofs.Moves.{refused, lacks, Runs, state_is}
+use Rattle.boost_core.proofs.Moves.{refused, lacks, state_is}
 
 -- A world after a step that is no caller's.
 abbrev pub served : World → TableAt → Option Owner → World

@@ -1,6 +1,5 @@
 -- What the parts of a caller's steps come to.
-use Rattle.std.proofs.Common.{◌≡◌, ℕ, ◌+◌, ◌<◌, ◌≤◌, true, false, List, [], ◌∷◌, ◌++◌, length, Option, Some, None, refl, sym, ap, subst, ◌∙◌, arith}
-use mathlib.Core.Logic.{inl, inr, ◌⊎◌}
+use Rattle.std.proofs.Common.{◌≡◌, ℕ, ◌<◌, true, false, List, Option, Some, None, refl, sym, ap, subst, ◌∙◌}
 use Rattle.std.proofs.lemmas.Bool.{false≢true}
 use Rattle.txn_trace.specs.declared.op.Op.{Op}
 use Rattle.txn_trace.specs.declared.answer.Answer.{Answer}
@@ -16,7 +15,7 @@ use Rattle.map_ops.specs.Changes.{Prepares, GivesBack, Places}
 use Rattle.txn_trace.specs.Map.{key_of}
 use Rattle.undo_log.specs.UndoLog.{newest_above}
 use Rattle.boost_core.specs.declared.session.Session.{Session}
-use Rattle.boost_core.specs.Sessions.{GoesWith, StaysIn, IsAsked, Replies, Undoes, Arrives, ActsIn, SeeksIn, target_of, level_of}
+use Rattle.boost_core.specs.Sessions.{GoesWith, StaysIn, IsAsked, Replies, Undoes, Arrives, ActsIn, SeeksIn, level_of}
 use Rattle.boost_core.proofs.Sides.{waiting_target, newest_there, newest_target}
 
 -- The stripe is the caller's, and the operation waits.

@@ -1,6 +1,6 @@
 -- What a step of a caller comes to: what the core then tells, and the move.
-use Rattle.std.proofs.Common.{◌≡◌, ℕ, ◌+◌, ◌-◌, ◌<◌, ◌≤◌, ◌^◌, ◌==◌, ◌&&◌, Bool, true, false, cond, List, [], ◌∷◌, ◌++◌, length, Option, Some, None, refl, sym, ap, subst, ◌∙◌, arith}
-use Rattle.std.specs.Prelude.{slice_get, slice_set, sum_by, map, option_to_list}
+use Rattle.std.proofs.Common.{◌≡◌, ℕ, ◌+◌, ◌-◌, ◌<◌, ◌≤◌, ◌^◌, true, List, [], ◌∷◌, ◌++◌, length, Option, Some, None, sym, ap, subst, ◌∙◌, arith}
+use Rattle.std.specs.Prelude.{slice_get, slice_set, sum_by, option_to_list}
 use Rattle.std.proofs.lemmas.List.{append-nil}
 use Rattle.txn_trace.specs.declared.entry.Entry.{Entry}
 use Rattle.txn_trace.specs.declared.entry.Entry.TheVariants as entry
@@ -8,35 +8,27 @@ use Rattle.txn_trace.specs.declared.step.Step.{Step}
 use Rattle.txn_trace.specs.declared.step.Step.TheVariants as steps
 use Rattle.txn_trace.specs.declared.answer.Answer.{Answer}
 use Rattle.txn_trace.specs.declared.answer.Answer.TheVariants as answers
-use Rattle.txn_trace.specs.Map.{Map}
-use Rattle.txn_trace.specs.Serial.{serial}
-use Rattle.txn_trace.specs.Now.{now}
-use Rattle.txn_trace.specs.Locks.{holder_of}
-use Rattle.txn_trace.specs.Log.{log_of}
 use Rattle.txn_trace.specs.Entries.{entries_of}
 use Rattle.txn_trace.specs.declared.seat.Phase.{Phase}
 use Rattle.txn_trace.specs.declared.seat.Phase.TheVariants.{Closed, Opened, Waiting, LeavingTo, LeavingToEnd}
 use Rattle.txn_trace.specs.Shape.{Seat, RoomySeat, row, own}
-use Rattle.txn_trace.specs.Seats.{is_saved}
 use Rattle.txn_trace.specs.declared.op.Op.TheVariants.{Put, Take, Get}
 use Rattle.txn_trace.specs.declared.refusal.Refusal.TheVariants.{NoMemory}
 use Rattle.boost_core.specs.Refusals.{refusal_of}
 use Rattle.txn_trace.specs.Owed.{owed_in, owed_by, reserved}
 use Rattle.txn_trace.proofs.Levels.{IsLevelIn, seat_leveled}
-use Rattle.txn_trace.proofs.Next.{Next}
 use Rattle.txn_trace.proofs.Room.{reserved_for, owed_by-row}
-use Rattle.key_locks.specs.Locks.{holder_of as held_by}
-use Rattle.map_ops.specs.TableAt.{TableAt, turn_of, last_of, cursor_turn}
+use Rattle.map_ops.specs.TableAt.{TableAt, turn_of, last_of}
 use Rattle.boost_core.specs.declared.counts.Counts.{Counts}
 use Rattle.boost_core.specs.declared.session.Session.{Session}
-use Rattle.boost_core.specs.State.{State, Owner}
+use Rattle.boost_core.specs.State.{State}
 use Rattle.boost_core.specs.Counts.{counts_after}
 use Rattle.boost_core.specs.Placed.{placed_then}
 use Rattle.boost_core.specs.Answers.{keeps_list, after}
 use Rattle.boost_core.specs.Machine.{Move, IsAllowed}
-use Rattle.boost_core.specs.Adding.{Enters, CanEnter, CanAdd}
+use Rattle.boost_core.specs.Adding.{Enters, CanAdd}
 use Rattle.boost_core.specs.Spares.{times_of, times_in, IsCovered}
-use Rattle.boost_core.specs.Sessions.{owed_of, spare_if, times_kept, changes_of, IsSoughtAt, Waits, target_in, AreDue}
+use Rattle.boost_core.specs.Sessions.{owed_of, spare_if, times_kept}
 use Rattle.boost_core.specs.Core.{World, Tells, IsFresh, state_of}
 use Rattle.boost_core.proofs.Moves.{Runs, lacks}
 use Rattle.boost_core.proofs.Grow.{Grows, Stays, world_after, seated_as, row_there, grown, stayed, sum_changed, one_of_sum}

@@ -1,14 +1,12 @@
 -- The steps that begin, part and end transactions.
-use Rattle.std.proofs.Common.{◌≡◌, ℕ, ◌+◌, ◌-◌, ◌<◌, ◌≤◌, ◌&&◌, ◌||◌, Bool, true, false, cond, List, [], ◌∷◌, ◌++◌, length, take, Option, Some, None, refl, sym, ap, subst, ◌∙◌, add-one, arith}
-use Rattle.std.specs.Prelude.{slice_get, slice_set, slice_index, sum_by, map, reverse, nat_eq, nat_le, nat_lt, not}
+use Rattle.std.proofs.Common.{◌≡◌, ℕ, ◌+◌, ◌-◌, ◌<◌, ◌≤◌, Bool, true, false, cond, List, [], ◌∷◌, ◌++◌, length, take, Option, Some, None, refl, sym, ap, subst, ◌∙◌, add-one, arith}
+use Rattle.std.specs.Prelude.{slice_get, slice_set, slice_index, map, reverse, nat_eq, nat_lt, not}
 use Rattle.std.specs.Option.{option_eq, option_map}
 use Prim.Native.Nat.{suc}
 use Rattle.std.proofs.lemmas.Bool.{false≢true, and_from, eq-eqb}
 use Rattle.txn_trace.specs.declared.entry.Entry.{Entry}
 use Rattle.txn_trace.specs.declared.entry.Entry.TheVariants as entry
-use Rattle.txn_trace.specs.declared.step.Step.{Step}
 use Rattle.txn_trace.specs.declared.step.Step.TheVariants as steps
-use Rattle.txn_trace.specs.declared.answer.Answer.{Answer}
 use Rattle.txn_trace.specs.declared.answer.Answer.TheVariants as answers
 use Rattle.txn_trace.specs.Map.{Map}
 use Rattle.txn_trace.specs.History.{caller_of, is_began, is_commit}
@@ -19,29 +17,27 @@ use Rattle.txn_trace.specs.Log.{log_of}
 use Rattle.txn_trace.specs.declared.seat.Phase.{Phase}
 use Rattle.txn_trace.specs.declared.seat.Phase.TheVariants.{Closed, Opened, Waiting, LeavingTo, LeavingToEnd}
 use Rattle.txn_trace.specs.Shape.{Seat, RoomySeat, closed_seat, own}
-use Rattle.txn_trace.specs.Seats.{is_closed, is_waiting, is_leaving, has_job, has_target, refusal_in, is_saved}
+use Rattle.txn_trace.specs.Seats.{is_closed, is_waiting, is_leaving, has_job, is_saved}
 use Rattle.txn_trace.proofs.Levels.{IsLevelIn, seat_leveled}
 use Rattle.txn_trace.proofs.Next.{Next}
 use Rattle.txn_trace.proofs.Entries as laws
 use Rattle.undo_log.specs.UndoLog.{Log, kept_at, newest_above}
-use Rattle.key_locks.specs.Locks.{Grants, Refuses, Releases, without_caller, holder_of as held_by}
+use Rattle.key_locks.specs.Locks.{Releases, without_caller, holder_of as held_by}
 use Rattle.map_ops.specs.declared.job.MapJob.{MapJob}
 use Rattle.map_ops.specs.Jobs.{PendingAt}
-use Rattle.map_ops.specs.TableAt.{TableAt, Cursor, content, cursor_turn, map_of, largest_of, helps_of, turn_of, last_of, size_of, stored_of, linked_of, IsPlaced}
+use Rattle.map_ops.specs.TableAt.{TableAt, Cursor, cursor_turn, map_of}
 use Rattle.boost_core.specs.declared.counts.Counts.{Counts}
 use Rattle.boost_core.specs.declared.session.Session.{Session}
-use Rattle.boost_core.specs.State.{State, Owner, Caller, Helper, seat_in, turn_in}
+use Rattle.boost_core.specs.State.{seat_in}
 use Rattle.boost_core.specs.Refusals.{refusal_of}
-use Rattle.boost_core.specs.Counts.{counts_after}
-use Rattle.boost_core.specs.Placed.{placed_then}
 use Rattle.boost_core.specs.Answers.{is_back_at, is_at_end}
 use Rattle.boost_core.specs.Spares.{times_of, times_in, times_out, IsCovered}
-use Rattle.boost_core.specs.Core.{World, Tells, IsFresh, state_of, turn_at, all_times}
+use Rattle.boost_core.specs.Core.{World, Tells, state_of, turn_at}
 use Rattle.boost_core.proofs.Numbers.{no_more}
-use Rattle.boost_core.proofs.Moves.{Runs, runs_same, rests_runs, state_is, turns_same, turns_set}
-use Rattle.boost_core.proofs.Grow.{Grows, Stays, world_after, seated_as, set_cases}
-use Rattle.boost_core.proofs.Outcomes.{Comes, Called, move_is, same_times, same_world}
-use Rattle.boost_core.specs.Sessions.{target_in, key_of_newest, IsSoughtAt, Waits, spare_if, times_kept, changes_of, AreDue, StaysIn, SavesIn, ReturnsIn, EndsIn, Rests, SettlesIn, WithdrawsIn, CanArrive}
+use Rattle.boost_core.proofs.Moves.{runs_same, rests_runs, state_is, turns_same, turns_set}
+use Rattle.boost_core.proofs.Grow.{Grows, world_after, seated_as}
+use Rattle.boost_core.proofs.Outcomes.{Called, move_is, same_times, same_world}
+use Rattle.boost_core.specs.Sessions.{target_in, key_of_newest, IsSoughtAt, Waits, spare_if, times_kept, changes_of, AreDue, StaysIn, SavesIn, ReturnsIn, EndsIn, SettlesIn, WithdrawsIn}
 use Rattle.boost_core.proofs.Settling.{no_jobs}
 use Rattle.boost_core.proofs.Sides.{at_most}
 use Rattle.boost_core.proofs.Refused.{seat_here, seat_free, begin_closed, save_open, back_open, commit_open, abort_runs, no_cursor, le_false_lt}

@@ -1,13 +1,12 @@
 -- What each step that is no caller's comes to.
-use Rattle.std.proofs.Common.{◌≡◌, ◌≢◌, ℕ, ◌*◌, ◌-◌, ◌^◌, ◌<◌, ◌≤◌, ◌==◌, ◌&&◌, Bool, true, false, cond, List, [], ◌++◌, length, Option, Some, None, Result, Ok, Err, refl, sym, ap, subst, ◌∙◌, arith}
-use Rattle.std.specs.Prelude.{slice_set, map, nat_le, nat_lt, not}
-use Rattle.std.proofs.lemmas.Bool.{cases_Bool, cases_lt, lt-ltb, ltb-true, le-leb, and_from}
-use Rattle.std.proofs.lemmas.List.{length-set, append-nil}
+use Rattle.std.proofs.Common.{◌≡◌, ℕ, ◌*◌, ◌<◌, ◌≤◌, ◌==◌, ◌&&◌, Bool, true, false, cond, Some, None, Result, Ok, Err, refl, sym, ap, subst, ◌∙◌, arith}
+use Rattle.std.specs.Prelude.{nat_le, nat_lt, not}
+use Rattle.std.proofs.lemmas.Bool.{cases_Bool, cases_lt, lt-ltb, ltb-true, le-leb}
+use Rattle.std.proofs.lemmas.List.{length-set}
 use mathlib.Core.Logic.{inl, inr}
 use Rattle.txn_trace.specs.declared.step.Step.{Step}
 use Rattle.txn_trace.specs.declared.step.Step.TheVariants as steps
 use Rattle.txn_trace.specs.declared.answer.Answer.{Answer}
-use Rattle.txn_trace.specs.declared.answer.Answer.TheVariants as answers
 use Rattle.txn_trace.specs.Map.{Map, count_of}
 use Rattle.txn_trace.specs.Now.{now}
 use Rattle.map_ops.specs.Double.{Double}
@@ -17,11 +16,10 @@ use Rattle.map_ops.specs.InitSeek.TheVariants as seeks
 use Rattle.map_ops.specs.InitLink.{InitLink}
 use Rattle.map_ops.specs.InitLink.TheVariants as links
 use Rattle.map_ops.specs.InitRefusal.{InitRefusal}
-use Rattle.map_ops.specs.InitRefusal.TheVariants as inits
 use Rattle.map_ops.specs.SweepOutcome.{SweepOutcome}
 use Rattle.map_ops.specs.SweepOutcome.TheVariants as sweeps
-use Rattle.map_ops.specs.Buckets.{Doubles, SeekChanges, LinkChanges, StoreChanges, seek_answer, link_answer_of, store_answer, double_answer, size_after}
-use Rattle.map_ops.specs.TableAt.{TableAt, Follows, content, size_of, stored_of, linked_of, helps_of, turn_of, last_of, largest_of}
+use Rattle.map_ops.specs.Buckets.{Doubles, SeekChanges, LinkChanges, StoreChanges, seek_answer, store_answer, double_answer}
+use Rattle.map_ops.specs.TableAt.{TableAt, Follows, content, size_of, stored_of, helps_of, turn_of, largest_of}
 use Rattle.boost_core.specs.State.{Helper}
 use Rattle.boost_core.specs.Refusals.{refusal_for}
 use Rattle.boost_core.specs.Answers.{IsAnswer}
@@ -30,7 +28,7 @@ use Rattle.boost_core.specs.Machine.{Move}
 use Rattle.std.specs.List.{slice_get}
 use Rattle.boost_core.specs.Serves as said
 use Rattle.boost_core.specs.Serves.{Serves, Sweeping, Seeking, Linking, Storing, Doubling}
-use Rattle.boost_core.specs.Core.{World, Tells, state_of, turn_at}
+use Rattle.boost_core.specs.Core.{World, Tells, state_of}
 use Rattle.boost_core.proofs.Refused.{le_false}
 use Rattle.boost_core.proofs.Helping.{served, sweep_tells, swept_move, clean_move, becomes_tells, becomes_state, double_tells, seek_refusal, refusal_in_result, seek_ready_move, seek_placed_move, helper_refused, store_refusal, stored_move, link_refused_move, link_again_move, link_present_move, link_linked_move}
 

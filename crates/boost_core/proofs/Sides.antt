@@ -7,16 +7,15 @@ use Rattle.std.proofs.lemmas.Option.{slice_get-get_or}
 use mathlib.Core.Logic.{inl, inr}
 use Rattle.txn_trace.specs.declared.seat.Phase.{Phase}
 use Rattle.txn_trace.specs.declared.seat.Phase.TheVariants.{Closed, Opened, Waiting, LeavingTo, LeavingToEnd}
-use Rattle.txn_trace.specs.Shape.{Seat}
 use Rattle.txn_trace.specs.Seats.{is_waiting, is_leaving, has_job, has_target}
 use Rattle.txn_trace.proofs.Seated.{the_some}
 use Rattle.undo_log.specs.UndoLog.{Log, kept_at, newest_above}
 use Rattle.map_ops.specs.declared.job.MapJob.{MapJob}
-use Rattle.map_ops.specs.Jobs.{PendingAt, spare_of_job}
-use Rattle.map_ops.specs.TableAt.{TableAt, Cursor, IsPlaced, content}
+use Rattle.map_ops.specs.Jobs.{PendingAt}
+use Rattle.map_ops.specs.TableAt.{TableAt, Cursor, content}
 use Rattle.map_ops.specs.Changes.{OwnsIf}
 use Rattle.boost_core.specs.declared.session.Session.{Session}
-use Rattle.boost_core.specs.Sessions.{level_of, Waits, Agrees, key_of_newest, target_in, target_of, spare_if, change_of, changes_of, AreDue, IsPlacedFor, IsSoughtAt, GoesWith, CanAct, CanUndo, CanArrive}
+use Rattle.boost_core.specs.Sessions.{level_of, Waits, key_of_newest, target_in, target_of, spare_if, change_of, changes_of, AreDue, IsPlacedFor, IsSoughtAt, GoesWith, CanAct, CanUndo, CanArrive}
 use Rattle.boost_core.proofs.Refused.{not_is_false}
 use Rattle.boost_core.proofs.Settling.{newest_owned}
 

@@ -1,18 +1,17 @@
 -- What a caller's side says, and what its steps do to it, to the table and to the locks.
-use Rattle.std.specs.Prelude.{◌≡◌, ℕ, ◌+◌, ◌<◌, ◌^◌, ◌≤◌, ◌⊎◌, ◌∷◌, is_some, ◌++◌, Bool, true, false, List, [], Option, Some, None, length, map, reverse, take, option_to_list}
+use Rattle.std.specs.Prelude.{◌≡◌, ℕ, ◌+◌, ◌<◌, ◌^◌, ◌≤◌, ◌⊎◌, ◌∷◌, is_some, ◌++◌, true, false, List, [], Option, Some, None, length, map, reverse, take, option_to_list}
 use Rattle.txn_trace.specs.declared.op.Op.{Op}
 use Rattle.txn_trace.specs.declared.step.Step.{Step}
 use Rattle.txn_trace.specs.declared.step.Step.TheVariants.{Begin, Ask, Seek, Act, Save, Back, Commit, Abort}
 use Rattle.txn_trace.specs.declared.answer.Answer.{Answer}
 use Rattle.txn_trace.specs.declared.answer.Answer.TheVariants as answers
-use Rattle.txn_trace.specs.declared.refusal.Refusal.{Refusal}
 use Rattle.txn_trace.specs.declared.refusal.Refusal.TheVariants.{NoMemory}
 use Rattle.txn_trace.specs.Map.{Map, key_of}
 use Rattle.txn_trace.specs.Now.{set_at}
 use Rattle.txn_trace.specs.Owed.{owed_in}
 use Rattle.txn_trace.specs.Locks.{stripe_of}
 use Rattle.txn_trace.specs.declared.seat.Phase.{Phase}
-use Rattle.txn_trace.specs.declared.seat.Phase.TheVariants.{Closed, Waiting, LeavingTo, LeavingToEnd}
+use Rattle.txn_trace.specs.declared.seat.Phase.TheVariants.{Waiting, LeavingTo, LeavingToEnd}
 use Rattle.txn_trace.specs.Shape.{Seat, closed_seat}
 use Rattle.txn_trace.specs.Seats.{is_leaving, has_job, has_target, refusal_in}
 use Rattle.undo_log.specs.UndoLog.{Log, kept_at, newest_above}

@@ -1,15 +1,15 @@
-use Rattle.std.proofs.Common.{◌≡◌, ◌+◌, ◌≤◌, ◌<◌, ◌^◌, ◌++◌, List, Option, refl, sym, ap, subst, ◌∙◌, arith}
-use Rattle.std.specs.Prelude.{vec_len, vec_capacity, sum_by, option_to_list, slice_set}
+use Rattle.std.proofs.Common.{◌≡◌, ◌<◌, ◌++◌, List, Option, sym, ap, subst, ◌∙◌, arith}
+use Rattle.std.specs.Prelude.{vec_len, vec_capacity, sum_by, option_to_list}
 use Rattle.txn_trace.specs.declared.entry.Entry.{Entry}
 use Rattle.boost_core.specs.declared.counts.Counts.{Counts}
 use Rattle.boost_core.specs.Counts.{counts_after}
-use Rattle.boost_core.specs.State.{State, Owner}
+use Rattle.boost_core.specs.State.{Owner}
 use Rattle.boost_core.specs.Sessions.{Does, Takes, owed_of}
 use Rattle.boost_core.specs.Machine.{Move}
 use Rattle.boost_core.specs.Core.{Tells, world_of, state_of}
 use Rattle.boost_core.proofs.Numbers.{began_bound, committed_bound, when_ok, when_err}
 use Rattle.boost_core.proofs.Refused.{at_free}
-use Rattle.boost_core.proofs.Moves.{move_of, none_of, lacks}
+use Rattle.boost_core.proofs.Moves.{move_of, none_of}
 use Rattle.boost_core.proofs.Starting.{some_stripe, few_callers}
 use Rattle.boost_core.proofs.Grow.{world_after, seated_as}
 use Rattle.boost_core.proofs.Called.{called, takes, placed_cursor, turn_there}

@@ -1,4 +1,4 @@
-use Rattle.std.proofs.Common.{refl, ap, List, ◌≡◌, ◌≤◌, ◌+◌, length, arith, ◌∙◌}
+use Rattle.std.proofs.Common.{ap, List, ◌≡◌, ◌≤◌, ◌+◌, length, arith, ◌∙◌}
 use Rattle.map_ops.specs.declared.job.MapJob.{MapJob}
 use Rattle.boost_core.specs.Spares.{times_in, times_out}
 use Rattle.boost_core.proofs.Settling.{rests_more, newest_owned, popped_covered, no_jobs, none_left, front_none}
