@@ -162,16 +162,13 @@ fn writers_that_fail(rt: HostRuntime) -> Result<(), Fail> {
         let mut output = Short { left };
         let mut errors: Vec<u8> = Vec::new(rt.alloc());
         let ending = run(rt.alloc(), &desk, &mut output, &mut errors);
-        let (line, status) = if left < REPORT.len() {
-            ("write failed\n", 4)
+        if left < REPORT.len() {
+            assert_eq!(rt; errors.as_slice(), b"write failed\n".as_slice(), "{left}");
+            assert_eq!(rt; ending.status, 4, "{left}");
         } else {
-            ("", 0)
-        };
-        assert_eq!(rt;
-            (errors.as_slice(), ending.status),
-            (line.as_bytes(), status),
-            "{left}"
-        );
+            assert!(rt; errors.is_empty());
+            assert_eq!(rt; ending.status, 0);
+        }
         assert!(rt; ending.is_told);
     }
     let desk = Desk::new("boostmap replay missing", FILES);
@@ -184,4 +181,62 @@ fn writers_that_fail(rt: HostRuntime) -> Result<(), Fail> {
         assert_eq!(rt; ending.is_told, left == line, "{left}");
     }
     Ok(())
+}
+
+/// A writer that keeps what it takes in its own 64 bytes, so that it needs no memory.
+#[derive(Drop)]
+struct Page {
+    bytes: [u8; 64],
+    len: usize,
+}
+
+impl Page {
+    /// A page with nothing on it.
+    fn new() -> Page {
+        Page {
+            bytes: [0; 64],
+            len: 0,
+        }
+    }
+
+    /// What was written.
+    fn text(&self) -> &[u8] {
+        &self.bytes[..self.len.min(64)]
+    }
+}
+
+impl Write for Page {
+    fn write(&mut self, buf: &[u8]) -> io::Result<usize> {
+        let Some(first) = buf.first() else {
+            return Ok(0);
+        };
+        if self.len >= 64 {
+            return Err(ErrorKind::StorageFull.into());
+        }
+        self.bytes[self.len] = *first;
+        self.len += 1;
+        Ok(1)
+    }
+
+    fn flush(&mut self) -> io::Result<()> {
+        Ok(())
+    }
+}
+
+/// Is to be run with each allocation refused in turn: all is well, or nothing but the line of the
+/// fault is written.
+#[test]
+fn refused_allocations(rt: HostRuntime) {
+    let desk = Desk::new("boostmap check legal", FILES);
+    let (mut output, mut errors) = (Page::new(), Page::new());
+    let ending = run(rt.alloc(), &desk, &mut output, &mut errors);
+    assert!(rt; ending.is_told);
+    if ending.status == 0 {
+        assert_eq!(rt; output.text(), b"legal 1 commits 0 open\n".as_slice());
+        assert!(rt; errors.text().is_empty());
+    } else {
+        assert_eq!(rt; ending.status, 4);
+        assert!(rt; output.text().is_empty());
+        assert_eq!(rt; errors.text(), b"no memory\n".as_slice());
+    }
 }
