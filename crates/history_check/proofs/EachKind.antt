@@ -109,7 +109,7 @@ module _ (stripes : ℕ) (g : List Entry) (legal : IsLegal stripes g) (c : ℕ) 
       let shape = in_row (Began c t) refl (breaks_none stripes g (Began c t) fine).0 in
       entries.began stripes g legal c t seat seat_is (only_closed seat seat.phase c t shape.0) (eqb-true t _ shape.1)
 
-  -- The number of a transaction that begins, and the place of one that commits.
+  -- The number of a transaction that begins, and the commit number of one that commits.
   pub number-began : (t : ℕ) → broken stripes g (Began c t) ≡ None → t ≡ how_many is_began g + 1
   number-began t fine = eqb-true t _ (in_row (Began c t) refl (breaks_none stripes g (Began c t) fine).0).1
 
