@@ -31,6 +31,7 @@ txn_files tests memory_refused
 boostmap_engine tests refused_allocations
 boostmap_engine check_tests history_without_memory
 boostmap_engine mix_tests mix_without_memory
+command_line tests refused_allocations
 END
 }
 

@@ -2,7 +2,7 @@
 use crate::at_split::{put, take, value_of, write};
 use list_steps::{SweepOutcome, sweep};
 use node_list::{Kind, NodeList, NodeRef, SpareFault};
-use split_key::{Key, bucket_of, dummy, parent, regular};
+use split_key::{Key, SortKey, bucket_of, parent};
 use std::alloc::Global;
 
 /// How many buckets there are.
@@ -25,7 +25,7 @@ impl NodeTable {
         for bucket in 1..SIZE {
             let before = parent(bucket) as usize;
             let from = dummies.get(before).copied().unwrap_or(head);
-            if let Some(node) = put(&mut list, from, dummy(bucket), Kind::Dummy, 0)? {
+            if let Some(node) = put(&mut list, from, SortKey::dummy(bucket), Kind::Dummy, 0)? {
                 dummies.push(node).map_err(|_| SpareFault::NoMemory)?;
             }
         }
@@ -43,27 +43,32 @@ impl NodeTable {
     /// Puts a key in that is not there, and says whether it did.
     pub(crate) fn insert(&mut self, key: Key, value: u64) -> Result<bool, SpareFault> {
         let from = self.dummy_of(key);
-        let kind = Kind::Regular(key.number());
-        let node = put(&mut self.list, from, regular(key), kind, value)?;
+        let node = put(
+            &mut self.list,
+            from,
+            SortKey::regular(key),
+            Kind::Regular,
+            value,
+        )?;
         Ok(node.is_some())
     }
 
     /// The value of a key. Unlinks the marked nodes that it passes.
     pub(crate) fn get(&mut self, key: Key) -> Option<u64> {
         let from = self.dummy_of(key);
-        value_of(&mut self.list, from, regular(key))
+        value_of(&mut self.list, from, SortKey::regular(key))
     }
 
     /// Writes the value of a key that is there, and answers the one it had.
     pub(crate) fn swap(&mut self, key: Key, value: u64) -> Option<u64> {
         let from = self.dummy_of(key);
-        write(&mut self.list, from, regular(key), value)
+        write(&mut self.list, from, SortKey::regular(key), value)
     }
 
     /// Marks the node of a key that is there, and answers its value.
     pub(crate) fn mark(&mut self, key: Key) -> Option<u64> {
         let from = self.dummy_of(key);
-        take(&mut self.list, from, regular(key))
+        take(&mut self.list, from, SortKey::regular(key))
     }
 
     /// Unlinks the first marked node, and says whether there was one.

@@ -1,57 +1,61 @@
--- An operation that is asked for, where its stripe is free or the caller's.
+-- An operation that is asked for.
 use Rattle.std.proofs.Common.{◌≡◌, ℕ, ◌+◌, ◌-◌, ◌^◌, ◌<◌, ◌≤◌, ◌==◌, ◌||◌, Bool, true, false, cond, List, [], ◌∷◌, ◌++◌, length, Option, Some, None, is_some, refl, sym, ap, subst, ◌∙◌, arith}
-use Rattle.std.specs.Prelude.{slice_get, slice_set, sum_by, map, reverse, nat_eq, not}
-use Rattle.std.specs.Option.{option_eq}
+use Rattle.std.specs.Prelude.{slice_get, slice_set, map, reverse, nat_eq, not}
+use Rattle.std.specs.Option.{option_eq, option_map}
 use Rattle.std.proofs.lemmas.Bool.{false≢true, cases_eq, eq-eqb, ne_eqb, and_from, le-leb}
+use Rattle.std.proofs.lemmas.List.{append-nil}
+use Rattle.std.proofs.lemmas.Option.{slice_get_within}
 use mathlib.Core.Logic.{inl, inr, ◌⊎◌}
-use Rattle.txn_trace.specs.declared.answer.Answer.TheVariants as answers
-use Rattle.undo_log.specs.UndoLog.{Log}
-use Rattle.key_locks.specs.Locks.{Grants, Refuses, holder_of as held_by}
 use Rattle.txn_trace.specs.declared.op.Op.{Op}
-use Rattle.txn_trace.specs.declared.entry.Entry.{Entry}
-use Rattle.txn_trace.specs.declared.entry.Entry.TheVariants as entry
-use Rattle.txn_trace.specs.declared.step.Step.TheVariants as steps
-use Rattle.txn_trace.specs.Sizes.{Sizes}
-use Rattle.txn_trace.specs.Map.{key_of}
-use Rattle.txn_trace.specs.Serial.{serial}
-use Rattle.txn_trace.specs.Now.{now}
-use Rattle.txn_trace.specs.Locks.{holder_of, stripe_of, is_locked}
-use Rattle.txn_trace.specs.Owed.{owed_for}
-use Rattle.txn_trace.specs.Shape.{Waiting, LeavingToEnd}
 use Rattle.txn_trace.specs.declared.refusal.Refusal.{Refusal}
 use Rattle.txn_trace.specs.declared.refusal.Refusal.TheVariants as refusals
+use Rattle.txn_trace.specs.Map.{key_of}
+use Rattle.txn_trace.specs.Locks.{stripe_of, is_locked}
 use Rattle.txn_trace.proofs.Now.{same_is}
-use Rattle.txn_trace.specs.Log.{log_of}
-use Rattle.txn_trace.proofs.Next.{Next}
 use Rattle.txn_trace.proofs.Holders.{is_locked-asked, is_locked-busy}
+use Rattle.map_ops.specs.Jobs.{takes_node}
+use Rattle.map_ops.specs.TableAt.{SpareAt}
+use Rattle.map_ops.specs.Changes.{Prepares, GivesFor, IsRefused, OwnsIf}
+use Rattle.txn_trace.specs.declared.entry.Entry.TheVariants as entry
+use Rattle.txn_trace.specs.declared.step.Step.{Step}
+use Rattle.txn_trace.specs.declared.step.Step.TheVariants as steps
+use Rattle.txn_trace.specs.declared.answer.Answer.TheVariants as answers
+use Rattle.txn_trace.specs.Serial.{serial}
+use Rattle.txn_trace.specs.Entries.{entries_of}
+use Rattle.txn_trace.specs.Now.{now}
+use Rattle.txn_trace.specs.Locks.{holder_of}
+use Rattle.txn_trace.specs.declared.seat.Phase.{Phase}
+use Rattle.txn_trace.specs.declared.seat.Phase.TheVariants.{Opened, Waiting, LeavingToEnd}
+use Rattle.txn_trace.specs.Shape.{RoomySeat}
+use Rattle.txn_trace.proofs.Next.{Next}
 use Rattle.txn_trace.proofs.Entries as laws
+use Rattle.key_locks.specs.Locks.{holder_of as held_by}
 use Rattle.map_ops.specs.declared.job.MapJob.{MapJob}
-use Rattle.map_ops.specs.Jobs.{PendingAt, takes_node}
-use Rattle.map_ops.specs.TableAt.{TableAt, Cursor, SpareAt, Follows, size_of, stored_of, linked_of, helps_of, last_of, turn_of, map_of}
-use Rattle.map_ops.specs.Changes.{Prepares, GivesFor, GivesBack, IsRefused, OwnsIf}
-use Rattle.boost_core.specs.declared.stage.Stage.{Stage}
-use Rattle.boost_core.specs.declared.stage.Stage.TheVariants as stages
+use Rattle.map_ops.specs.Jobs.{PendingAt}
+use Rattle.map_ops.specs.TableAt.{TableAt, Cursor, cursor_turn, map_of, last_of}
 use Rattle.boost_core.specs.declared.session.Session.{Session}
-use Rattle.boost_core.specs.State.{Owner, Caller, Helper, seat_in}
-use Rattle.boost_core.specs.Refusals.{refusal_of, refusal_in, has_stamp_for, MayLack}
-use Rattle.boost_core.specs.Machine.{Move}
+use Rattle.boost_core.specs.State.{Owner, Caller, Helper}
+use Rattle.boost_core.specs.Refusals.{refusal_of}
 use Rattle.boost_core.specs.Spares.{times_of, times_in, times_out, IsCovered}
-use Rattle.boost_core.specs.Sessions.{target_at, spare_at, phase_of, seat_of, owed_of, IsSoughtAt, IsReady, AreDue, times_kept, changes_of}
-use Rattle.boost_core.specs.Core.{Tells, IsFresh, state_of, turn_at}
-use Rattle.boost_core.proofs.Counts.{no_more}
-use Rattle.boost_core.proofs.Moves.{Runs, state_is, turns_same, last_rises, lacks}
+use Rattle.boost_core.specs.Core.{World, Tells, IsFresh, state_of, turn_at}
+use Rattle.boost_core.proofs.Numbers.{no_more}
+use Rattle.boost_core.proofs.Moves.{Runs, state_is, turns_same}
+use Rattle.boost_core.proofs.Grow.{Stays, world_after, seated_as, set_cases}
+use Rattle.boost_core.proofs.Outcomes.{Comes, Called, move_is, same_times, same_world}
+use Rattle.boost_core.specs.Refusals.{has_stamp_for, MayLack}
+use Rattle.boost_core.specs.Machine.{Move}
+use Rattle.boost_core.specs.Sessions.{target_in, IsSoughtAt, KeepsPlaced, Waits, spare_if, times_kept, changes_of, AreDue, StaysIn, AsksIn, MeetsIn}
+use Rattle.boost_core.proofs.Moves.{lacks}
 use Rattle.boost_core.proofs.Spares.{given, spent}
-use Rattle.boost_core.proofs.Refused.{free, seat_here, ask_open, ask_key, open_stage}
-use Rattle.boost_core.proofs.Grow.{Grown, grown, room_grown, next_as, stayed, room_stayed, set_cases}
-use Rattle.std.proofs.lemmas.Option.{slice_get_within}
-use Rattle.boost_core.proofs.Parting.{open_cursor}
+use Rattle.boost_core.proofs.Refused.{seat_free, ask_open, ask_key, save_open}
+use Rattle.boost_core.proofs.Parting.{idle_cursor, nothing_waits}
 
 -- The spare that an operation is given is kept beside the others.
 prepared_covered : (t t' : TableAt) (takes : Bool) (spare : Option SpareAt) → GivesFor t t' takes spare → (others : ℕ → ℕ → ℕ) → IsCovered others t → IsCovered (λ place stamp. others place stamp + times_of spare place stamp) t'
 prepared_covered t t' true None gives others covered = absurd gives
 prepared_covered t t' true (Some spare) gives others covered = given t t' spare others gives covered
 prepared_covered t t' false None gives others covered = λ place stamp.
-    let most : others place stamp ≤ times_out t' place stamp = subst (IsCovered others) (sym gives) covered place stamp in
+    let exact : others place stamp ≡ times_out t' place stamp = subst (IsCovered others) (sym gives) covered place stamp in
     omega arith
 prepared_covered t t' false (Some spare) gives others covered = absurd gives
 
@@ -84,210 +88,229 @@ open_to : (o : Option ℕ) (c : ℕ) → (o ≡ None) ⊎ (o ≡ Some c) → (el
 open_to o c (inl free) = ap (λ (h : Option ℕ). elim h as (λ _. Bool) [ None ↦ true | Some d ↦ d == c ]) free
 open_to o c (inr mine) = ap (λ (h : Option ℕ). elim h as (λ _. Bool) [ None ↦ true | Some d ↦ d == c ]) mine ∙ eq-eqb c c refl
 
-module _ (limits : Sizes) (h : List Entry) (b m : ℕ) (t : TableAt) (sessions : List Session) (locks : List (Option ℕ)) (placed : Option Owner) (tells : Tells limits h b m t sessions locks placed) (c : ℕ) (x : Session) (at : slice_get sessions c ≡ Some x) (op : Op) (none : refusal_of (state_of limits h t sessions placed) (steps.Ask c op) ≡ None) where
-  here : seat_in h c ≡ seat_of x
-  here = seat_here limits h b m t sessions locks placed tells c x at
+last_rises : (t t' : TableAt) (takes : Bool) (spare : Option SpareAt) → GivesFor t t' takes spare → last_of t ≤ last_of t'
+last_rises t t' true None gives = absurd gives
+last_rises t t' true (Some spare) gives = let same = gives.last in omega arith
+last_rises t t' false None gives = let same : last_of t' ≡ last_of t = ap last_of gives in omega arith
+last_rises t t' false (Some spare) gives = absurd gives
 
-  pub ask_stage : x.stage ≡ stages.Open
-  ask_stage = open_stage x.stage (ask_open (seat_of x) c op (ap (λ s. refusal_in s (steps.Ask c op)) (sym here) ∙ (free (state_of limits h t sessions placed) c (steps.Ask c op) refl none).seat))
+module _ (w : World) (tells : Tells w) (c : ℕ) (x : Session) (at : slice_get w.sessions c ≡ Some x) where
+  -- Nothing has changed but room, and the step is refused.
+  module _ (step : Step) (refusal : Refusal) (none : refusal_of (state_of w) step ≡ None) (lack : MayLack (state_of w) step refusal) (opened : x.seat.seat.phase ≡ Opened) (y : Session) (stays : StaysIn x y) where
+    still_fresh : (seat' : RoomySeat) (o : Option Owner) → IsFresh w.table w.sessions o → IsFresh w.table (slice_set w.sessions c (seated_as y seat')) o
+    still_fresh seat' None fresh = tt
+    still_fresh seat' (Some (Helper d)) fresh = fresh
+    still_fresh seat' (Some (Caller d)) fresh = λ s cursor at_d had. elim (set_cases w.sessions c d (seated_as y seat') s (slice_get_within w.sessions c x at) at_d) [
+      | inl mine ↦ fresh x cursor (ap (slice_get w.sessions) mine.0 ∙ at) (sym stays.cursor ∙ ap (λ (q : Session). q.cursor) (sym mine.1) ∙ had)
+      | inr other ↦ fresh s cursor other.1 had
+    ]
 
-  module _ (log : Log MapJob) (jobs : log.jobs ≡ x.log.jobs) (kept : log.kept ≡ x.log.kept) (room_there : 0 < log.room) (t' : TableAt) (pending : PendingAt) (prepares : Prepares t t' op pending) (follows : Follows t t') (within : stripe_of limits.stripes (key_of op) < limits.stripes) where
-    prepared_runs : Runs t t'
-    prepared_runs = record {
+    pub lacking_stays : Stays w c x y w.table w.locks w.counts
+    lacking_stays = record {
+      same_seat = stays.seat;
+      jobs = stays.jobs;
+      kept = stays.kept;
+      waits = subst (λ (q : Phase). Waits q y.pending y.log.room) (sym opened) (subst (λ (o : Option PendingAt). Waits Opened o y.log.room) (sym (stays.waits ∙ nothing_waits w tells c x at Opened opened refl)) tt);
+      content = refl;
+      placed = λ cursor key is. is;
+      sought = subst (λ (o : Option Cursor). IsSoughtAt w.table o (target_in x.seat.seat.phase y.log)) (sym (stays.cursor ∙ idle_cursor w tells c x at Opened opened refl)) tt;
+      spares = same_times w.table x y stays.waits stays.jobs;
+      largest = refl;
+      helpers = refl;
+      same_locks = refl;
+      same_counts = refl;
+    }
+
+    lacking_move : (seat' : RoomySeat) → Move (state_of w) step (answers.Refused refusal) (state_of (world_after w c (seated_as y seat') w.history w.counts w.table w.locks w.placed))
+    lacking_move seat' = subst (λ cursors. Move (state_of w) step (answers.Refused refusal) (record (state_of w) { cursors = cursors })) (sym (turns_same w.sessions c x (seated_as y seat') at (ap (option_map cursor_turn) stays.cursor))) (lacks (state_of w) step refusal none lack)
+
+    pub lacking_called : entries_of step (answers.Refused refusal) ≡ [] → Called w c x step (answers.Refused refusal) y w.table w.locks
+    lacking_called no_entry = record {
+      comes = subst (Comes w c x y w.table w.locks w.counts) (sym no_entry) lacking_stays;
+      move = λ seat'. subst (λ g. Move (state_of w) step (answers.Refused refusal) (state_of (world_after w c (seated_as y seat') g w.counts w.table w.locks w.placed))) (sym (ap (λ es. w.history ++ es) no_entry ∙ append-nil w.history)) (lacking_move seat');
+      fresh = λ seat'. still_fresh seat' w.placed tells.fresh;
+    }
+
+  -- Want of memory for a savepoint.
+  pub save_refused : refusal_of (state_of w) (steps.Save c) ≡ None → (y : Session) (t' : TableAt) (locks' : List (Option ℕ)) → StaysIn x y → t' ≡ w.table → locks' ≡ w.locks → Called w c x (steps.Save c) (answers.Refused refusals.NoMemory) y t' locks'
+  save_refused none y t' locks' stays table same = same_world (Called w c x (steps.Save c) (answers.Refused refusals.NoMemory) y) w.table t' w.locks locks' table same
+      (lacking_called (steps.Save c) refusals.NoMemory none tt (save_open x.seat.seat c (seat_free w tells c x at (steps.Save c) refl none)) y stays refl)
+
+  module _ (op : Op) (none : refusal_of (state_of w) (steps.Ask c op) ≡ None) where
+    opened : x.seat.seat.phase ≡ Opened
+    opened = ask_open x.seat.seat c op (seat_free w tells c x at (steps.Ask c op) refl none)
+
+    nothing : x.pending ≡ None
+    nothing = nothing_waits w tells c x at Opened opened refl
+
+    no_cursor_there : x.cursor ≡ None
+    no_cursor_there = idle_cursor w tells c x at Opened opened refl
+
+    -- Want of memory or of a stamp.
+    pub ask_refused : (refusal : Refusal) (y : Session) (t' : TableAt) (locks' : List (Option ℕ)) → (refusal ≡ refusals.NoMemory) ⊎ IsRefused w.table op refusal → StaysIn x y → t' ≡ w.table → locks' ≡ w.locks → Called w c x (steps.Ask c op) (answers.Refused refusal) y t' locks'
+    ask_refused refusal y t' locks' why stays table same = same_world (Called w c x (steps.Ask c op) (answers.Refused refusal) y) w.table t' w.locks locks' table same
+        (lacking_called (steps.Ask c op) refusal none (lack why) opened y stays refl)
+      where
+        may_lack : (refusal : Refusal) → IsRefused w.table op refusal → MayLack (state_of w) (steps.Ask c op) refusal
+        may_lack refusals.BadKey is = absurd (false≢true (sym (ask_key x.seat.seat c op (seat_free w tells c x at (steps.Ask c op) refl none)) ∙ le-leb (2 ^ 63) (key_of op) is))
+        may_lack refusals.StampsUsedUp is = λ i. not (not (is.1 i) || not (is.2 i == 2 ^ 64 - 2))
+        may_lack refusals.NoMemory is = tt
+        may_lack _ is = absurd is
+
+        lack : (refusal ≡ refusals.NoMemory) ⊎ IsRefused w.table op refusal → MayLack (state_of w) (steps.Ask c op) refusal
+        lack (inl is) = subst (MayLack (state_of w) (steps.Ask c op)) (sym is) tt
+        lack (inr is) = may_lack refusal is
+
+    abbrev stripe : ℕ
+    stripe = stripe_of w.limits.stripes (key_of op)
+
+    -- The spares of the log stay covered beside the one that the operation is given.
+    spares_before : (t' : TableAt) (pending : PendingAt) → Prepares w.table t' op pending → (others : ℕ → ℕ → ℕ) → IsCovered (λ place stamp. others place stamp + times_kept x place stamp) w.table
+        → IsCovered (λ place stamp. others place stamp + times_in x.log.jobs place stamp + times_of pending.spare place stamp) t'
+    spares_before t' pending prepares others covered =
+        prepared_covered w.table t' (takes_node op) pending.spare prepares.given (λ p s. others p s + times_in x.log.jobs p s) (λ p s.
+        let same : times_of (spare_if x.pending) p s ≡ 0 = ap (λ (o : Option PendingAt). times_of (spare_if o) p s) nothing in
+        let exact : others p s + (times_of (spare_if x.pending) p s + times_in x.log.jobs p s) ≡ times_out w.table p s = covered p s in
+        regroup (others p s) (times_of (spare_if x.pending) p s) (times_in x.log.jobs p s) (times_out w.table p s) same exact)
+      where
+        regroup : (a z j n : ℕ) → z ≡ 0 → a + (z + j) ≡ n → a + j ≡ n
+        regroup a z j n same exact = omega arith
+
+    prepared_runs : (t' : TableAt) (pending : PendingAt) → Prepares w.table t' op pending → Runs w.table t'
+    prepared_runs t' pending prepares = record {
       size = prepares.nodes.buckets.size;
       stored = prepares.nodes.buckets.stored;
       linked = prepares.nodes.linked;
       helps = prepares.nodes.buckets.helps;
       turn = let same = prepares.nodes.turn in omega arith;
-      last = last_rises t t' follows;
-      one_last = one_stamp_more t t' (takes_node op) pending.spare prepares.given;
+      last = last_rises w.table t' (takes_node op) pending.spare prepares.given;
+      one_last = one_stamp_more w.table t' (takes_node op) pending.spare prepares.given;
     }
 
-    -- The spares of the log stay covered beside the one that the operation is given.
-    spares_before : (others : ℕ → ℕ → ℕ) → IsCovered (λ place stamp. others place stamp + times_kept x place stamp) t → IsCovered (λ place stamp. others place stamp + times_in x.log.jobs place stamp + times_of pending.spare place stamp) t'
-    spares_before others covered =
-        prepared_covered t t' (takes_node op) pending.spare prepares.given (λ p s. others p s + times_in x.log.jobs p s) (λ p s.
-        let same : times_of (spare_at x.stage) p s ≡ 0 = ap (λ (st : Stage). times_of (spare_at st) p s) ask_stage in
-        let most : others p s + (times_of (spare_at x.stage) p s + times_in x.log.jobs p s) ≤ times_out t p s = covered p s in
-        regroup (others p s) (times_of (spare_at x.stage) p s) (times_in x.log.jobs p s) (times_out t p s) same most)
-      where
-        regroup : (a z j n : ℕ) → z ≡ 0 → a + (z + j) ≤ n → a + j ≤ n
-        regroup a z j n same most = omega arith
-
-    module _ (locks' : List (Option ℕ)) (grants : Grants c (stripe_of limits.stripes (key_of op)) locks locks') where
-      abbrev asking : Session
-      asking = record x { stage = stages.Asked pending; log = log }
-
+    -- The stripe is free or the caller's: the operation waits.
+    module _ (y : Session) (t' : TableAt) (locks' : List (Option ℕ)) (asks : AsksIn c stripe op x w.table w.locks y t' locks') (keeps : KeepsPlaced w.table t') (within : stripe < w.limits.stripes) where
       abbrev holder : ℕ → Option ℕ
-      holder s = cond (stripe_of limits.stripes (key_of op) == s) (Some c) (holder_of limits.stripes s h)
+      holder s = cond (stripe == s) (Some c) (holder_of w.limits.stripes s w.history)
 
-      locked : is_locked limits.stripes h (entry.Asked c op) ≡ true
-      locked = is_locked-asked limits.stripes h c op tells.legal.shape tells.legal.locks ∙ open_to (holder_of limits.stripes (stripe_of limits.stripes (key_of op)) h) c
-          (subst (λ (o : Option ℕ). (o ≡ None) ⊎ (o ≡ Some c)) (tells.holders (stripe_of limits.stripes (key_of op)) within) grants.open_to_caller)
+      locked : is_locked w.limits.stripes w.history (entry.Asked c op) ≡ true
+      locked = is_locked-asked w.limits.stripes w.history c op tells.legal.shape tells.legal.locks ∙ open_to (holder_of w.limits.stripes stripe w.history) c
+          (subst (λ (o : Option ℕ). (o ≡ None) ⊎ (o ≡ Some c)) (tells.holders stripe within) asks.grants.open_to_caller)
 
-      ask_next : Next limits.stripes h (entry.Asked c op) (seat_of asking) (changes_of log.jobs) (serial h) (now h) holder
-      ask_next = next_as limits.stripes h (entry.Asked c op) (record (seat_of x) { phase = Waiting op }) (seat_of asking) (log_of c h) (changes_of log.jobs) (serial h) (now h) holder
-          (laws.asked limits.stripes h tells.legal c op (seat_of x) (tells.seated c x at).seat (ap phase_of ask_stage) locked)
-          (λ i. record { phase = Waiting (sym prepares.op_is i); standing = length (sym jobs i); kept = 0 ∷ sym kept i })
-          ((tells.seated c x at).log ∙ ap changes_of (sym jobs))
-
-      ask_grown : Grown limits h (entry.Asked c op) t t' c x asking (now h)
-      ask_grown = record {
-        mine = refl;
-        due = subst (λ (js : List MapJob). AreDue (now h) (reverse js)) (sym jobs) (tells.seated c x at).due;
-        ready = (room_there, given_spare t t' (takes_node op) pending.spare prepares.given ∙ ap takes_node (sym prepares.op_is));
-        content = ap map_of prepares.nodes.regular ∙ tells.content;
-        apart = λ d other k held. refl;
-        placed = λ cursor key is. follows.placed cursor key is;
-        sought = subst (λ (cursor : Option Cursor). IsSoughtAt t' cursor (Some (key_of pending.op))) (sym (open_cursor limits h b m t sessions locks placed tells c x at ask_stage)) tt;
-        spares = λ others covered place stamp.
-            let after : others place stamp + times_in x.log.jobs place stamp + times_of pending.spare place stamp ≤ times_out t' place stamp = spares_before others covered place stamp in
-            let same : times_in log.jobs place stamp ≡ times_in x.log.jobs place stamp = ap (λ (js : List MapJob). times_in js place stamp) jobs in
-            regroup (others place stamp) (times_in x.log.jobs place stamp) (times_of pending.spare place stamp) (times_in log.jobs place stamp) (times_out t' place stamp) same after;
-        largest = prepares.nodes.buckets.largest;
-        helpers = ap length prepares.nodes.buckets.helps;
-      }
-        where
-          regroup : (a j s k n : ℕ) → k ≡ j → a + j + s ≤ n → a + (s + k) ≤ n
-          regroup a j s k n same most = omega arith
-
-      ask_holders : (s : ℕ) → s < limits.stripes → held_by locks' s ≡ holder s
-      ask_holders s below = grants.each s ∙ elim (cases_eq s (stripe_of limits.stripes (key_of op))) [
-        | inl same ↦ ap (λ e. cond e (Some c) (held_by locks s)) (eq-eqb s (stripe_of limits.stripes (key_of op)) same) ∙ sym (ap (λ e. cond e (Some c) (holder_of limits.stripes s h)) (eq-eqb (stripe_of limits.stripes (key_of op)) s (sym same)))
-        | inr other ↦ ap (λ e. cond e (Some c) (held_by locks s)) (ne_eqb s (stripe_of limits.stripes (key_of op)) other) ∙ tells.holders s below
-            ∙ sym (ap (λ e. cond e (Some c) (holder_of limits.stripes s h)) (ne_eqb (stripe_of limits.stripes (key_of op)) s (λ e. other (sym e))))
+      asked_holders : (s : ℕ) → s < w.limits.stripes → held_by locks' s ≡ holder s
+      asked_holders s below = asks.grants.each s ∙ elim (cases_eq s stripe) [
+        | inl same ↦ ap (λ e. cond e (Some c) (held_by w.locks s)) (eq-eqb s stripe same) ∙ sym (ap (λ e. cond e (Some c) (holder_of w.limits.stripes s w.history)) (eq-eqb stripe s (sym same)))
+        | inr other ↦ ap (λ e. cond e (Some c) (held_by w.locks s)) (ne_eqb s stripe other) ∙ tells.holders s below
+            ∙ sym (ap (λ e. cond e (Some c) (holder_of w.limits.stripes s w.history)) (ne_eqb stripe s (λ e. other (sym e))))
       ]
 
-      pub ask_tells : (h' : List Entry) → h' ≡ h ++ entry.Asked c op ∷ [] → Tells limits h' b m t' (slice_set sessions c asking) locks' None
-      ask_tells h' is = subst (λ g. Tells limits g b m t' (slice_set sessions c asking) locks' None) (sym is)
-          (grown limits h b m t sessions locks placed tells c x asking at (entry.Asked c op) t' locks' b m (serial h) (now h) holder ask_grown ask_next (no_more b) (no_more m) grants.as_many ask_holders)
-
-      pub ask_room : (len cap : ℕ) → len + (sum_by owed_of sessions + (1 + owed_for op)) ≤ cap → len + 1 + sum_by owed_of (slice_set sessions c asking) ≤ cap
-      ask_room len cap room = room_grown limits h b m t sessions locks placed tells c x asking at (entry.Asked c op) (serial h) (now h) holder len cap refl ask_next (omega arith)
-
-      -- The move of an operation that is asked for.
-      pub ask_move : (h' : List Entry) → h' ≡ h ++ entry.Asked c op ∷ [] → Move (state_of limits h t sessions placed) (steps.Ask c op) answers.Asked (state_of limits h' t' (slice_set sessions c asking) None)
-      ask_move h' is = record {
-        allowed = (none, and_from (has_stamp_for (state_of limits h t sessions placed) op) (is_locked limits.stripes h (entry.Asked c op)) (stamped t t' (takes_node op) pending.spare prepares.given) locked);
-        state = state_is limits h' (h ++ entry.Asked c op ∷ []) t t' (map turn_at sessions) (slice_set sessions c asking) None prepared_runs is (turns_same sessions c x asking at refl);
-        changes = prepared_runs.turn;
-        list_kept = λ kept. prepares.nodes.turn;
-        stamp = prepared_runs.last;
-        one_stamp = prepared_runs.one_last;
-      }
-
-    -- Where another caller holds the stripe, what was prepared is withdrawn, and the caller leaves to the end.
-    module _ (t'' : TableAt) (back : GivesBack t' t'' pending.spare) (then : Follows t' t'') (locks' : List (Option ℕ)) (other : ℕ) (refuses : Refuses c (stripe_of limits.stripes (key_of op)) other locks locks') where
-      abbrev leaving : Session
-      leaving = record x { stage = stages.LeavingToEnd; log = log }
-
-      held_else : is_locked limits.stripes h (entry.Busy c op other) ≡ true
-      held_else =
-          is_locked-busy limits.stripes h c op other tells.legal.shape tells.legal.locks
-          ∙ and_from (not (other == c)) (option_eq nat_eq (holder_of limits.stripes (stripe_of limits.stripes (key_of op)) h) (Some other)) (ap not (ne_eqb other c refuses.by_another))
-          (same_is (holder_of limits.stripes (stripe_of limits.stripes (key_of op)) h) (Some other) (sym (tells.holders (stripe_of limits.stripes (key_of op)) within) ∙ refuses.held))
-
-      busy_next : Next limits.stripes h (entry.Busy c op other) (seat_of leaving) (changes_of log.jobs) (serial h) (now h) (λ s. holder_of limits.stripes s h)
-      busy_next = next_as limits.stripes h (entry.Busy c op other) (record (seat_of x) { phase = LeavingToEnd }) (seat_of leaving) (log_of c h) (changes_of log.jobs) (serial h) (now h) (λ s. holder_of limits.stripes s h)
-          (laws.busy limits.stripes h tells.legal c op other (seat_of x) (tells.seated c x at).seat (ap phase_of ask_stage) held_else)
-          (λ i. record { phase = LeavingToEnd; standing = length (sym jobs i); kept = 0 ∷ sym kept i })
-          ((tells.seated c x at).log ∙ ap changes_of (sym jobs))
-
-      busy_grown : Grown limits h (entry.Busy c op other) t t'' c x leaving (now h)
-      busy_grown = record {
-        mine = refl;
-        due = subst (λ (js : List MapJob). AreDue (now h) (reverse js)) (sym jobs) (tells.seated c x at).due;
-        ready = tt;
-        content = ap map_of (back.nodes.regular ∙ prepares.nodes.regular) ∙ tells.content;
-        apart = λ d away k held. refl;
-        placed = λ cursor key is. then.placed cursor key (follows.placed cursor key is);
-        sought = subst (λ (cursor : Option Cursor). IsSoughtAt t'' cursor (target_at stages.LeavingToEnd log)) (sym (open_cursor limits h b m t sessions locks placed tells c x at ask_stage)) tt;
-        spares = λ others covered place stamp.
-            let most : others place stamp + times_in x.log.jobs place stamp ≤ times_out t'' place stamp = spent t' t'' pending.spare (λ p s. others p s + times_in x.log.jobs p s) back.spares (spares_before others covered) place stamp in
-            let same : times_in log.jobs place stamp ≡ times_in x.log.jobs place stamp = ap (λ (js : List MapJob). times_in js place stamp) jobs in
-            regroup (others place stamp) (times_in x.log.jobs place stamp) (times_in log.jobs place stamp) (times_out t'' place stamp) same most;
-        largest = back.nodes.buckets.largest ∙ prepares.nodes.buckets.largest;
-        helpers = ap length (back.nodes.buckets.helps ∙ prepares.nodes.buckets.helps);
-      }
+      asked_covered : (others : ℕ → ℕ → ℕ) → IsCovered (λ place stamp. others place stamp + times_kept x place stamp) w.table → IsCovered (λ place stamp. others place stamp + times_kept y place stamp) t'
+      asked_covered others covered place stamp =
+          let after : others place stamp + times_in x.log.jobs place stamp + times_of asks.pending.spare place stamp ≡ times_out t' place stamp = spares_before t' asks.pending asks.prepares others covered place stamp in
+          let same : times_in y.log.jobs place stamp ≡ times_in x.log.jobs place stamp = ap (λ (js : List MapJob). times_in js place stamp) asks.jobs in
+          let mine : times_of (spare_if y.pending) place stamp ≡ times_of asks.pending.spare place stamp = ap (λ (o : Option PendingAt). times_of (spare_if o) place stamp) asks.waits in
+          regroup (others place stamp) (times_in x.log.jobs place stamp) (times_of asks.pending.spare place stamp) (times_of (spare_if y.pending) place stamp) (times_in y.log.jobs place stamp) (times_out t' place stamp) same mine after
         where
-          regroup : (a j k n : ℕ) → k ≡ j → a + j ≤ n → a + (0 + k) ≤ n
-          regroup a j k n same most = omega arith
+          regroup : (a j s p k n : ℕ) → k ≡ j → p ≡ s → a + j + s ≡ n → a + (p + k) ≡ n
+          regroup a j s p k n same mine exact = omega arith
 
-      busy_runs : Runs t t''
-      busy_runs = record {
-        size = back.nodes.buckets.size ∙ prepares.nodes.buckets.size;
-        stored = back.nodes.buckets.stored ∙ prepares.nodes.buckets.stored;
-        linked = back.nodes.linked ∙ prepares.nodes.linked;
-        helps = back.nodes.buckets.helps ∙ prepares.nodes.buckets.helps;
-        turn = let same = back.nodes.turn in let was = prepared_runs.turn in omega arith;
-        last = let same = back.last in let was = prepared_runs.last in omega arith;
-        one_last = let same = back.last in let was = prepared_runs.one_last in omega arith;
+      pub asked_called : Called w c x (steps.Ask c op) answers.Asked y t' locks'
+      asked_called = record {
+        comes = record {
+          seat = record { phase = Waiting op; standing = x.seat.seat.standing; kept = x.seat.seat.kept };
+          committed = serial w.history;
+          current = now w.history;
+          holder = holder;
+          next = subst (λ l. Next w.limits.stripes w.history (entry.Asked c op) (record { phase = Waiting op; standing = x.seat.seat.standing; kept = x.seat.seat.kept }) l (serial w.history) (now w.history) holder)
+              ((tells.seated c x at).log ∙ ap changes_of (sym asks.jobs)) (laws.asked w.limits.stripes w.history tells.legal c op x.seat.seat (tells.seated c x at).seat opened locked);
+          mine = refl;
+          same_seat = asks.seat;
+          saved = λ is. absurd (false≢true is);
+          kept = (tells.seated c x at).agrees.kept ∙ ap (λ ks. 0 ∷ ks) (sym asks.kept);
+          waits = subst (λ (o : Option PendingAt). Waits (Waiting op) o y.log.room) (sym asks.waits)
+              (asks.prepares.op_is, asks.room, given_spare w.table t' (takes_node op) asks.pending.spare asks.prepares.given);
+          due = subst (λ (js : List MapJob). AreDue (now w.history) (reverse js)) (sym asks.jobs) (tells.seated c x at).due;
+          content = ap map_of asks.prepares.nodes.regular ∙ tells.content;
+          apart = λ d other k held. refl;
+          placed = keeps;
+          sought = subst (λ (o : Option Cursor). IsSoughtAt t' o (Some (key_of op))) (sym (asks.cursor ∙ no_cursor_there)) tt;
+          spares = asked_covered;
+          largest = asks.prepares.nodes.buckets.largest;
+          helpers = ap length asks.prepares.nodes.buckets.helps;
+          begins = no_more w.counts.began;
+          commits = no_more w.counts.committed;
+          long = asks.grants.as_many;
+          holders = asked_holders;
+        };
+        move = λ seat'. move_is w (world_after w c (seated_as y seat') (w.history ++ entry.Asked c op ∷ []) w.counts t' locks' None) (steps.Ask c op) answers.Asked
+            (none, and_from (has_stamp_for (state_of w) op) (is_locked w.limits.stripes w.history (entry.Asked c op)) (stamped w.table t' (takes_node op) asks.pending.spare asks.prepares.given) locked)
+            (state_is w (w.history ++ entry.Asked c op ∷ []) (w.history ++ entry.Asked c op ∷ []) w.counts t' (map turn_at w.sessions) (slice_set w.sessions c (seated_as y seat')) locks' None (prepared_runs t' asks.pending asks.prepares) refl
+            (turns_same w.sessions c x (seated_as y seat') at (ap (option_map cursor_turn) asks.cursor)))
+            (prepared_runs t' asks.pending asks.prepares) (λ kept. asks.prepares.nodes.turn);
+        fresh = λ seat'. tt;
       }
 
-      pub busy_tells : (h' : List Entry) → h' ≡ h ++ entry.Busy c op other ∷ [] → Tells limits h' b m t'' (slice_set sessions c leaving) locks' None
-      busy_tells h' is = subst (λ g. Tells limits g b m t'' (slice_set sessions c leaving) locks' None) (sym is)
-          (grown limits h b m t sessions locks placed tells c x leaving at (entry.Busy c op other) t'' locks' b m (serial h) (now h) (λ s. holder_of limits.stripes s h) busy_grown busy_next (no_more b) (no_more m) (ap length refuses.same)
-          (λ s below. ap (λ ls. held_by ls s) refuses.same ∙ tells.holders s below))
+    -- Another caller holds the stripe: what was prepared is given up, and the caller leaves to the end.
+    module _ (holder : ℕ) (y : Session) (t' : TableAt) (locks' : List (Option ℕ)) (meets : MeetsIn c stripe op holder x w.table w.locks y t' locks') (keeps : KeepsPlaced w.table t') (within : stripe < w.limits.stripes) where
+      held_else : is_locked w.limits.stripes w.history (entry.Busy c op holder) ≡ true
+      held_else =
+          is_locked-busy w.limits.stripes w.history c op holder tells.legal.shape tells.legal.locks
+          ∙ and_from (not (holder == c)) (option_eq nat_eq (holder_of w.limits.stripes stripe w.history) (Some holder)) (ap not (ne_eqb holder c meets.refuses.by_another))
+          (same_is (holder_of w.limits.stripes stripe w.history) (Some holder) (sym (tells.holders stripe within) ∙ meets.refuses.held))
 
-      pub busy_room : (len cap : ℕ) → len + (sum_by owed_of sessions + (1 + owed_for op)) ≤ cap → len + 1 + sum_by owed_of (slice_set sessions c leaving) ≤ cap
-      busy_room len cap room = room_grown limits h b m t sessions locks placed tells c x leaving at (entry.Busy c op other) (serial h) (now h) (λ s. holder_of limits.stripes s h) len cap refl busy_next (omega arith)
+      busy_runs : Runs w.table t'
+      busy_runs =
+          let was = prepared_runs meets.between meets.pending meets.prepares in
+          record {
+            size = meets.back.nodes.buckets.size ∙ was.size;
+            stored = meets.back.nodes.buckets.stored ∙ was.stored;
+            linked = meets.back.nodes.linked ∙ was.linked;
+            helps = meets.back.nodes.buckets.helps ∙ was.helps;
+            turn = let same = meets.back.nodes.turn in let before = was.turn in omega arith;
+            last = let same = meets.back.last in let before = was.last in omega arith;
+            one_last = let same = meets.back.last in let before = was.one_last in omega arith;
+          }
 
-      -- The move of an operation whose stripe is another caller's.
-      pub busy_move : (h' : List Entry) → h' ≡ h ++ entry.Busy c op other ∷ [] → Move (state_of limits h t sessions placed) (steps.Ask c op) (answers.Busy other) (state_of limits h' t'' (slice_set sessions c leaving) None)
-      busy_move h' is = record {
-        allowed = (none, and_from (has_stamp_for (state_of limits h t sessions placed) op) (is_locked limits.stripes h (entry.Busy c op other)) (stamped t t' (takes_node op) pending.spare prepares.given) held_else);
-        state = state_is limits h' (h ++ entry.Busy c op other ∷ []) t t'' (map turn_at sessions) (slice_set sessions c leaving) None busy_runs is (turns_same sessions c x leaving at refl);
-        changes = busy_runs.turn;
-        list_kept = λ kept. back.nodes.turn ∙ prepares.nodes.turn;
-        stamp = busy_runs.last;
-        one_stamp = busy_runs.one_last;
+      busy_covered : (others : ℕ → ℕ → ℕ) → IsCovered (λ place stamp. others place stamp + times_kept x place stamp) w.table → IsCovered (λ place stamp. others place stamp + times_kept y place stamp) t'
+      busy_covered others covered place stamp =
+          let exact : others place stamp + times_in x.log.jobs place stamp ≡ times_out t' place stamp = spent meets.between t' meets.pending.spare (λ p s. others p s + times_in x.log.jobs p s) meets.back.spares (spares_before meets.between meets.pending meets.prepares others covered) place stamp in
+          let same : times_in y.log.jobs place stamp ≡ times_in x.log.jobs place stamp = ap (λ (js : List MapJob). times_in js place stamp) meets.jobs in
+          let none : times_of (spare_if y.pending) place stamp ≡ 0 = ap (λ (o : Option PendingAt). times_of (spare_if o) place stamp) (meets.waits ∙ nothing) in
+          regroup (others place stamp) (times_in x.log.jobs place stamp) (times_of (spare_if y.pending) place stamp) (times_in y.log.jobs place stamp) (times_out t' place stamp) same none exact
+        where
+          regroup : (a j p k n : ℕ) → k ≡ j → p ≡ 0 → a + j ≡ n → a + (p + k) ≡ n
+          regroup a j p k n same none exact = omega arith
+
+      pub busy_called : Called w c x (steps.Ask c op) (answers.Busy holder) y t' locks'
+      busy_called = record {
+        comes = record {
+          seat = record { phase = LeavingToEnd; standing = x.seat.seat.standing; kept = x.seat.seat.kept };
+          committed = serial w.history;
+          current = now w.history;
+          holder = λ s. holder_of w.limits.stripes s w.history;
+          next = subst (λ l. Next w.limits.stripes w.history (entry.Busy c op holder) (record { phase = LeavingToEnd; standing = x.seat.seat.standing; kept = x.seat.seat.kept }) l (serial w.history) (now w.history) (λ s. holder_of w.limits.stripes s w.history))
+              ((tells.seated c x at).log ∙ ap changes_of (sym meets.jobs)) (laws.busy w.limits.stripes w.history tells.legal c op holder x.seat.seat (tells.seated c x at).seat opened held_else);
+          mine = refl;
+          same_seat = meets.seat;
+          saved = λ is. absurd (false≢true is);
+          kept = (tells.seated c x at).agrees.kept ∙ ap (λ ks. 0 ∷ ks) (sym meets.kept);
+          waits = subst (λ (o : Option PendingAt). Waits LeavingToEnd o y.log.room) (sym (meets.waits ∙ nothing)) tt;
+          due = subst (λ (js : List MapJob). AreDue (now w.history) (reverse js)) (sym meets.jobs) (tells.seated c x at).due;
+          content = ap map_of (meets.back.nodes.regular ∙ meets.prepares.nodes.regular) ∙ tells.content;
+          apart = λ d other k held. refl;
+          placed = keeps;
+          sought = subst (λ (o : Option Cursor). IsSoughtAt t' o (target_in LeavingToEnd y.log)) (sym (meets.cursor ∙ no_cursor_there)) tt;
+          spares = busy_covered;
+          largest = meets.back.nodes.buckets.largest ∙ meets.prepares.nodes.buckets.largest;
+          helpers = ap length (meets.back.nodes.buckets.helps ∙ meets.prepares.nodes.buckets.helps);
+          begins = no_more w.counts.began;
+          commits = no_more w.counts.committed;
+          long = ap length meets.refuses.same;
+          holders = λ s below. ap (λ ls. held_by ls s) meets.refuses.same ∙ tells.holders s below;
+        };
+        move = λ seat'. move_is w (world_after w c (seated_as y seat') (w.history ++ entry.Busy c op holder ∷ []) w.counts t' locks' None) (steps.Ask c op) (answers.Busy holder)
+            (none, and_from (has_stamp_for (state_of w) op) (is_locked w.limits.stripes w.history (entry.Busy c op holder)) (stamped w.table meets.between (takes_node op) meets.pending.spare meets.prepares.given) held_else)
+            (state_is w (w.history ++ entry.Busy c op holder ∷ []) (w.history ++ entry.Busy c op holder ∷ []) w.counts t' (map turn_at w.sessions) (slice_set w.sessions c (seated_as y seat')) locks' None busy_runs refl
+            (turns_same w.sessions c x (seated_as y seat') at (ap (option_map cursor_turn) meets.cursor)))
+            busy_runs (λ kept. meets.back.nodes.turn ∙ meets.prepares.nodes.turn);
+        fresh = λ seat'. tt;
       }
-
-  -- Where memory or a stamp is wanted, the caller's side has more room at most.
-  module _ (log : Log MapJob) (jobs : log.jobs ≡ x.log.jobs) (kept : log.kept ≡ x.log.kept) where
-    abbrev relogged : Session
-    relogged = record x { log = log }
-
-    still_fresh : (o : Option Owner) → IsFresh t sessions o → IsFresh t (slice_set sessions c relogged) o
-    still_fresh None fresh = tt
-    still_fresh (Some (Helper d)) fresh = fresh
-    still_fresh (Some (Caller d)) fresh = λ s cursor at_d had. elim (set_cases sessions c d relogged s (slice_get_within sessions c x at) at_d) [
-      | inl mine ↦ fresh x cursor (ap (slice_get sessions) mine.0 ∙ at) (ap (λ (q : Session). q.cursor) (sym mine.1) ∙ had)
-      | inr other ↦ fresh s cursor other.1 had
-    ]
-
-    same_seat : seat_of relogged ≡ seat_of x
-    same_seat = λ i. record { phase = phase_of x.stage; standing = length (jobs i); kept = 0 ∷ kept i }
-
-    pub relogged_tells : Tells limits h b m t (slice_set sessions c relogged) locks placed
-    relogged_tells = stayed limits h b m t sessions locks placed tells c x relogged at t placed same_seat jobs
-        (subst (λ (st : Stage). IsReady st log.room) (sym ask_stage) tt) refl (λ cursor key is. is)
-        (subst (λ (cursor : Option Cursor). IsSoughtAt t cursor (target_at x.stage log)) (sym (open_cursor limits h b m t sessions locks placed tells c x at ask_stage)) tt)
-        (λ others covered. subst (λ (js : List MapJob). IsCovered (λ p q. others p q + (times_of (spare_at x.stage) p q + times_in js p q)) t) (sym jobs) covered)
-        refl refl (still_fresh placed tells.fresh)
-
-    -- Nothing has changed where preparing the operation is refused.
-    pub refused_move : (refusal : Refusal) → IsRefused t op refusal → (h' : List Entry) → h' ≡ h → (t' : TableAt) → t' ≡ t → Move (state_of limits h t sessions placed) (steps.Ask c op) (answers.Refused refusal) (state_of limits h' t' (slice_set sessions c relogged) placed)
-    refused_move refusal why h' same_h t' same_t =
-        let same : state_of limits h t sessions placed ≡ state_of limits h' t' (slice_set sessions c relogged) placed = λ i. record {
-          limits = limits;
-          history = sym same_h i;
-          size = size_of (sym same_t i);
-          stored = stored_of (sym same_t i);
-          linked = linked_of (sym same_t i);
-          changes = turn_of (sym same_t i);
-          stamp = last_of (sym same_t i);
-          cursors = sym (turns_same sessions c x relogged at refl) i;
-          helpers = helps_of (sym same_t i);
-          placed = placed;
-        } in
-        subst (Move (state_of limits h t sessions placed) (steps.Ask c op) (answers.Refused refusal)) same (lacks (state_of limits h t sessions placed) (steps.Ask c op) refusal none (may_lack refusal why))
-      where
-        may_lack : (refusal : Refusal) → IsRefused t op refusal → MayLack (state_of limits h t sessions placed) (steps.Ask c op) refusal
-        may_lack refusals.BadKey why = absurd (false≢true (sym (ask_key (seat_in h c) c op (free (state_of limits h t sessions placed) c (steps.Ask c op) refl none).seat) ∙ le-leb (2 ^ 63) (key_of op) why))
-        may_lack refusals.StampsUsedUp why = λ i. not (not (why.1 i) || not (why.2 i == 2 ^ 64 - 2))
-        may_lack refusals.NoMemory why = tt
-        may_lack _ why = absurd why
-
-    pub relogged_room : (len cap : ℕ) → len + sum_by owed_of sessions ≤ cap → len + sum_by owed_of (slice_set sessions c relogged) ≤ cap
-    relogged_room len cap room = room_stayed limits h b m t sessions locks placed tells c x relogged at len cap same_seat room

@@ -19,7 +19,9 @@ use Rattle.txn_trace.specs.declared.answer.Answer.TheVariants.{Refused, Asked, P
 use Rattle.txn_trace.specs.Map.{Map}
 use Rattle.txn_trace.specs.Sizes.{Sizes}
 use Rattle.txn_trace.specs.History.{caller_of}
-use Rattle.txn_trace.specs.Shape.{Phase, Closed, Opened, Waiting, LeavingTo, LeavingToEnd, Seat, closed_seat, row, seat_after, own}
+use Rattle.txn_trace.specs.declared.seat.Phase.{Phase}
+use Rattle.txn_trace.specs.declared.seat.Phase.TheVariants.{Closed, Opened, Waiting, LeavingTo, LeavingToEnd}
+use Rattle.txn_trace.specs.Shape.{Seat, closed_seat, row, seat_after, own}
 use Rattle.txn_trace.proofs.Pushes.{own-push_in, seat_after-push}
 use Rattle.boost_core.specs.State.{State, Owner, Caller, seat_in, turn_in}
 use Rattle.boost_core.specs.Refusals.{refusal_of, lacks_in, MayLack, is_closed, is_waiting, is_leaving, has_job, has_target}
@@ -44,7 +46,7 @@ seat_pushed h h' c e seat' is mine there goes =
     ∙ ap (option_and_then (λ (s : Seat). row s s.phase e)) (seat_there h c there) ∙ goes)
 
 -- A step that does not refuse.
-never_refused : (state : State) (step : Step) (refusal : Refusal) → refusal_of state step ≡ None → (refusal_of state step ≡ Some refusal) ⊎ ((refusal_of state step ≡ None) × MayLack state step refusal) → MayLack state step refusal
+pub never_refused : (state : State) (step : Step) (refusal : Refusal) → refusal_of state step ≡ None → (refusal_of state step ≡ Some refusal) ⊎ ((refusal_of state step ≡ None) × MayLack state step refusal) → MayLack state step refusal
 never_refused state step refusal none (inl is) = absurd (let both : None ≡ Some refusal = sym none ∙ is in cc)
 never_refused state step refusal none (inr lack) = lack.1
 

@@ -4,34 +4,36 @@ use Rattle.std.specs.Prelude.{slice_get, slice_set, sum_by, reverse}
 use Rattle.std.specs.Option.{option_and_then}
 use Rattle.std.specs.List.{AllByRecursion}
 use Rattle.std.proofs.lemmas.Bool.{cases_eq}
-use Rattle.std.proofs.lemmas.List.{length-set, length-reverse, get_or-set_same, get_or-set_other}
+use Rattle.std.proofs.lemmas.List.{length-set, length-map, length-reverse, get_or-set_same, get_or-set_other}
 use Rattle.std.proofs.lemmas.List.Sums.{sum_by-set, get_or-le-sum_by}
 use Rattle.std.proofs.lemmas.List.Elements.{All-push}
 use Rattle.std.proofs.lemmas.Option.{slice_get_within, get_or_from_slice_get, slice_get-get_or}
 use mathlib.Core.Logic.{◌⊎◌, inl, inr}
 use Rattle.txn_trace.specs.declared.entry.Entry.{Entry}
-use Rattle.txn_trace.specs.Sizes.{Sizes}
 use Rattle.txn_trace.specs.Map.{Map, get}
 use Rattle.txn_trace.specs.History.{caller_of, is_began, is_commit}
 use Rattle.txn_trace.specs.Now.{now}
-use Rattle.txn_trace.specs.Shape.{Phase, Closed, Opened, Waiting, LeavingTo, LeavingToEnd, Seat, row, seat_after, own}
+use Rattle.txn_trace.specs.declared.seat.Phase.{Phase}
+use Rattle.txn_trace.specs.declared.seat.Phase.TheVariants.{Closed, Opened, Waiting, LeavingTo, LeavingToEnd}
+use Rattle.txn_trace.specs.Shape.{Seat, RoomySeat, row, seat_after, own}
+use Rattle.txn_trace.specs.Seats.{is_saved}
 use Rattle.txn_trace.specs.Log.{log_of}
 use Rattle.txn_trace.specs.Locks.{stripe_of, holder_of}
 use Rattle.txn_trace.specs.Legal.{IsLegal, runs, is_running}
-use Rattle.txn_trace.specs.Owed.{owed_by}
-use Rattle.txn_trace.proofs.Pushes.{how_many-push, own-push_in, seat_after-push}
-use Rattle.txn_trace.proofs.Next.{Next}
-use Rattle.txn_trace.proofs.Room.{reserved_for, owed_by-row}
+use Rattle.txn_trace.proofs.Pushes.{how_many-push}
+use Rattle.txn_trace.proofs.Next.{Next, seat-own}
+use Rattle.txn_trace.proofs.Entries.{length-log_of}
 use Rattle.txn_trace.proofs.Held.{log_held}
+use Rattle.txn_trace.proofs.Levels.{IsLevelIn, seat_leveled}
 use Rattle.key_locks.specs.Locks.{holder_of as held_by}
 use Rattle.map_ops.specs.declared.job.MapJob.{MapJob}
 use Rattle.map_ops.specs.TableAt.{TableAt, Cursor, content, IsPlaced, largest_of, helps_of}
+use Rattle.boost_core.specs.declared.counts.Counts.{Counts}
 use Rattle.boost_core.specs.declared.session.Session.{Session}
 use Rattle.boost_core.specs.State.{Owner}
-use Rattle.boost_core.specs.Spares.{times_of, times_in, times_out, IsCovered}
-use Rattle.boost_core.specs.Sessions.{spare_at, phase_of, seat_of, owed_of, target_of, IsSought, IsSoughtAt, IsReady, times_kept, changes_of, AreDue}
-use Rattle.boost_core.specs.Core.{Tells, IsSeated, IsFresh, all_times}
-use Rattle.txn_trace.proofs.Levels.{IsLevelIn, seat_leveled}
+use Rattle.boost_core.specs.Spares.{times_out, IsCovered}
+use Rattle.boost_core.specs.Sessions.{level_of, target_in, target_of, KeepsPlaced, IsSought, IsSoughtAt, Waits, Agrees, change_of, times_kept, changes_of, AreDue}
+use Rattle.boost_core.specs.Core.{World, Tells, IsSeated, IsFresh, all_times}
 use Rattle.boost_core.proofs.Due.{all_of_changes, due_same}
 
 -- The session at another place stays, and at this one is the new one.
@@ -57,18 +59,6 @@ one_of_sum f sessions c x at =
     let most : f (get_or sessions c x) ≤ sum_by f sessions = get_or-le-sum_by f sessions c x (slice_get_within sessions c x at) in
     omega arith
 
--- What all callers owe, where one owes something else, or the same.
-pub owed_changed : (owed before now : ℕ) (sessions : List Session) (c : ℕ) (x y : Session) → slice_get sessions c ≡ Some x → owed ≡ sum_by owed_of sessions → before ≡ owed_of x → now ≡ owed - before + owed_of y → now ≡ sum_by owed_of (slice_set sessions c y)
-owed_changed owed before now sessions c x y at is was after =
-    let sums : sum_by owed_of (slice_set sessions c y) + owed_of x ≡ sum_by owed_of sessions + owed_of y = sum_changed owed_of sessions c x y at in
-    let most : owed_of x ≤ sum_by owed_of sessions = one_of_sum owed_of sessions c x at in
-    omega arith
-
-pub owed_stayed : (owed : ℕ) (sessions : List Session) (c : ℕ) (x y : Session) → slice_get sessions c ≡ Some x → owed_of y ≡ owed_of x → owed ≡ sum_by owed_of sessions → owed ≡ sum_by owed_of (slice_set sessions c y)
-owed_stayed owed sessions c x y at same is =
-    let sums : sum_by owed_of (slice_set sessions c y) + owed_of x ≡ sum_by owed_of sessions + owed_of y = sum_changed owed_of sessions c x y at in
-    omega arith
-
 -- Spares stay covered where those that one caller keeps are traded.
 pub traded : (t t' : TableAt) (sessions : List Session) (c : ℕ) (x y : Session) → slice_get sessions c ≡ Some x
     → ((others : ℕ → ℕ → ℕ) → IsCovered (λ place stamp. others place stamp + times_kept x place stamp) t → IsCovered (λ place stamp. others place stamp + times_kept y place stamp) t')
@@ -77,11 +67,11 @@ traded t t' sessions c x y at trade covered place stamp =
     let others : ℕ → ℕ → ℕ = λ p s. all_times sessions p s - times_kept x p s in
     let before : IsCovered (λ p s. others p s + times_kept x p s) t = λ p s.
     let most : times_kept x p s ≤ all_times sessions p s = one_of_sum (λ session. times_kept session p s) sessions c x at in
-    subst (λ n. n ≤ times_out t p s) (rejoin (all_times sessions p s) (times_kept x p s) most) (covered p s) in
+    subst (λ n. n ≡ times_out t p s) (rejoin (all_times sessions p s) (times_kept x p s) most) (covered p s) in
     let after = trade others before place stamp in
     let sums : all_times (slice_set sessions c y) place stamp + times_kept x place stamp ≡ all_times sessions place stamp + times_kept y place stamp = sum_changed (λ session. times_kept session place stamp) sessions c x y at in
     let most : times_kept x place stamp ≤ all_times sessions place stamp = one_of_sum (λ session. times_kept session place stamp) sessions c x at in
-    subst (λ n. n ≤ times_out t' place stamp) (same_sum (all_times (slice_set sessions c y) place stamp) (times_kept x place stamp) (all_times sessions place stamp) (times_kept y place stamp) most sums) after
+    subst (λ n. n ≡ times_out t' place stamp) (same_sum (all_times (slice_set sessions c y) place stamp) (times_kept x place stamp) (all_times sessions place stamp) (times_kept y place stamp) most sums) after
   where
     rejoin : (a b : ℕ) → b ≤ a → a ≡ a - b + b
     rejoin a b most = omega arith
@@ -100,9 +90,13 @@ closed_due : (m : Map) (jobs : List MapJob) → length jobs ≡ 0 → AreDue m j
 closed_due m [] none = tt
 closed_due m (job ∷ jobs) none = absurd (omega arith)
 
+-- As many changes as jobs.
+changes_long : (jobs : List MapJob) → length (changes_of jobs) ≡ length jobs
+changes_long jobs = length-map (reverse jobs) change_of ∙ length-reverse jobs
+
 still_due : (stripes : ℕ) (h : List Entry) (d : ℕ) (s : Session) (current : Map) → IsLegal stripes h → IsSeated h d s
     → ((k : ℕ) → holder_of stripes (stripe_of stripes k) h ≡ Some d → get current k ≡ get (now h) k) → AreDue current (reverse s.log.jobs)
-still_due stripes h d s current legal is same = at (phase_of s.stage) refl
+still_due stripes h d s current legal is same = at s.seat.seat.phase refl
   where
     keyed : is_running (seat_after (own d h)) ≡ true → AreDue current (reverse s.log.jobs)
     keyed active =
@@ -110,162 +104,180 @@ still_due stripes h d s current legal is same = at (phase_of s.stage) refl
         let held : AllByRecursion (λ (change : ℕ × Option ℕ). P change.0) (changes_of s.log.jobs) = subst (λ (log : List (ℕ × Option ℕ)). AllByRecursion (λ (change : ℕ × Option ℕ). P change.0) log) is.log (log_held stripes h legal d active) in
         due_same P (now h) current (reverse s.log.jobs) same (all_of_changes P (reverse s.log.jobs) held) is.due
 
-    run : (q : Phase) → phase_of s.stage ≡ q → runs q ≡ true → AreDue current (reverse s.log.jobs)
+    run : (q : Phase) → s.seat.seat.phase ≡ q → runs q ≡ true → AreDue current (reverse s.log.jobs)
     run q is_q active = keyed (ap is_running is.seat ∙ ap runs is_q ∙ active)
 
-    at : (q : Phase) → phase_of s.stage ≡ q → AreDue current (reverse s.log.jobs)
+    at : (q : Phase) → s.seat.seat.phase ≡ q → AreDue current (reverse s.log.jobs)
     at Closed is_q =
-        let none : length s.log.jobs ≡ 0 = (subst (λ q. IsLevelIn q (length s.log.jobs) (0 ∷ s.log.kept)) is_q (seat_leveled (own d h) (seat_of s) is.seat).within).0 in
-        closed_due current (reverse s.log.jobs) (length-reverse s.log.jobs ∙ none)
+        let none : s.seat.seat.standing ≡ 0 = (subst (λ q. IsLevelIn q s.seat.seat.standing s.seat.seat.kept) is_q (seat_leveled (own d h) s.seat.seat is.seat).within).0 in
+        closed_due current (reverse s.log.jobs) (length-reverse s.log.jobs ∙ sym is.agrees.standing ∙ none)
     at Opened is_q = run Opened is_q refl
     at (Waiting op) is_q = run (Waiting op) is_q refl
     at (LeavingTo n) is_q = run (LeavingTo n) is_q refl
     at LeavingToEnd is_q = run LeavingToEnd is_q refl
 
--- How a caller's side changes with an entry: what the caller is after it, and that no other caller is disturbed.
-pub record Grown (limits : Sizes) (h : List Entry) (e : Entry) (t t' : TableAt) (c : ℕ) (x y : Session) (current : Map) : Type 0 where
+-- A step that adds an entry: what the history then says, what the caller is before its seat enters the entry, and that no
+-- other caller is disturbed.
+pub record Grows (w : World) (c : ℕ) (x y : Session) (t' : TableAt) (locks' : List (Option ℕ)) (counts' : Counts) (e : Entry) : Type 0 where
+  pub seat : Seat
+  pub committed : Map
+  pub current : Map
+  pub holder : ℕ → Option ℕ
+  pub next : Next w.limits.stripes w.history e seat (changes_of y.log.jobs) committed current holder
   pub mine : caller_of e ≡ c
+  pub same_seat : y.seat.seat ≡ x.seat.seat
+  pub saved : is_saved e ≡ true → 0 < y.seat.room
+  pub kept : seat.kept ≡ 0 ∷ y.log.kept
+  pub waits : Waits seat.phase y.pending y.log.room
   pub due : AreDue current (reverse y.log.jobs)
-  pub ready : IsReady y.stage y.log.room
   pub content : content t' ≡ current
-  pub apart : (d : ℕ) → d ≢ c → (k : ℕ) → holder_of limits.stripes (stripe_of limits.stripes k) h ≡ Some d → get current k ≡ get (now h) k
-  pub placed : (cursor : Cursor) (key : ℕ) → IsPlaced t cursor key → IsPlaced t' cursor key
-  pub sought : IsSought t' y
-  pub spares : (others : ℕ → ℕ → ℕ) → IsCovered (λ place stamp. others place stamp + times_kept x place stamp) t → IsCovered (λ place stamp. others place stamp + times_kept y place stamp) t'
-  pub largest : largest_of t' ≡ largest_of t
-  pub helpers : length (helps_of t') ≡ length (helps_of t)
+  pub apart : (d : ℕ) → d ≢ c → (k : ℕ) → holder_of w.limits.stripes (stripe_of w.limits.stripes k) w.history ≡ Some d → get current k ≡ get (now w.history) k
+  pub placed : KeepsPlaced w.table t'
+  pub sought : IsSoughtAt t' y.cursor (target_in seat.phase y.log)
+  pub spares : (others : ℕ → ℕ → ℕ) → IsCovered (λ place stamp. others place stamp + times_kept x place stamp) w.table → IsCovered (λ place stamp. others place stamp + times_kept y place stamp) t'
+  pub largest : largest_of t' ≡ largest_of w.table
+  pub helpers : length (helps_of t') ≡ length (helps_of w.table)
+  pub begins : counts'.began ≡ w.counts.began + cond (is_began e) 1 0
+  pub commits : counts'.committed ≡ w.counts.committed + cond (is_commit e) 1 0
+  pub long : length locks' ≡ length w.locks
+  pub holders : (s : ℕ) → s < w.limits.stripes → held_by locks' s ≡ holder s
 
--- A history that says the same of the same seat and log.
-pub next_as : (stripes : ℕ) (h : List Entry) (e : Entry) (seat seat' : Seat) (log log' : List (ℕ × Option ℕ)) (committed current : Map) (holder : ℕ → Option ℕ)
-    → Next stripes h e seat log committed current holder → seat ≡ seat' → log ≡ log' → Next stripes h e seat' log' committed current holder
-next_as stripes h e seat seat' log log' committed current holder next seat_is log_is =
-    subst (λ l. Next stripes h e seat' l committed current holder) log_is (subst (λ s. Next stripes h e s log committed current holder) seat_is next)
+-- A step that adds none: the caller's side stays but for its cursor and for room, and the map stays.
+pub record Stays (w : World) (c : ℕ) (x y : Session) (t' : TableAt) (locks' : List (Option ℕ)) (counts' : Counts) : Type 0 where
+  pub same_seat : y.seat.seat ≡ x.seat.seat
+  pub jobs : y.log.jobs ≡ x.log.jobs
+  pub kept : y.log.kept ≡ x.log.kept
+  pub waits : Waits x.seat.seat.phase y.pending y.log.room
+  pub content : content t' ≡ content w.table
+  pub placed : KeepsPlaced w.table t'
+  pub sought : IsSoughtAt t' y.cursor (target_in x.seat.seat.phase y.log)
+  pub spares : (others : ℕ → ℕ → ℕ) → IsCovered (λ place stamp. others place stamp + times_kept x place stamp) w.table → IsCovered (λ place stamp. others place stamp + times_kept y place stamp) t'
+  pub largest : largest_of t' ≡ largest_of w.table
+  pub helpers : length (helps_of t') ≡ length (helps_of w.table)
+  pub same_locks : locks' ≡ w.locks
+  pub same_counts : counts' ≡ w.counts
 
-module _ (limits : Sizes) (h : List Entry) (b m : ℕ) (t : TableAt) (sessions : List Session) (locks : List (Option ℕ)) (placed : Option Owner) (tells : Tells limits h b m t sessions locks placed) (c : ℕ) (x y : Session) (at : slice_get sessions c ≡ Some x) where
-  pub within : c < length sessions
-  within = slice_get_within sessions c x at
+-- A world after a step of one caller.
+abbrev pub world_after : World → ℕ → Session → List Entry → Counts → TableAt → List (Option ℕ) → Option Owner → World
+world_after w c z h' counts' t' locks' placed' = record { limits = w.limits; history = h'; counts = counts'; table = t'; sessions = slice_set w.sessions c z; locks = locks'; placed = placed' }
+
+-- The caller's side once its seat has entered what is added.
+abbrev pub seated_as : Session → RoomySeat → Session
+seated_as y seat = record { seat = seat; pending = y.pending; cursor = y.cursor; log = y.log }
+
+level_at : (q : Phase) (standing : ℕ) (kept : List ℕ) → IsLevelIn q standing (0 ∷ kept) → level_of q ≤ length kept
+level_at Closed standing kept is = omega arith
+level_at Opened standing kept is = omega arith
+level_at (Waiting op) standing kept is = omega arith
+level_at (LeavingTo level) standing kept is = let below : level < length (0 ∷ kept) = is.0 in omega arith
+level_at LeavingToEnd standing kept is = omega arith
+
+module _ (w : World) (tells : Tells w) (c : ℕ) (x y : Session) (at : slice_get w.sessions c ≡ Some x) (t' : TableAt) (locks' : List (Option ℕ)) (counts' : Counts) where
+  within : c < length w.sessions
+  within = slice_get_within w.sessions c x at
+
+  -- The entry has a row in the caller's seat.
+  pub row_there : (e : Entry) (is : Grows w c x y t' locks' counts' e) → row x.seat.seat x.seat.seat.phase e ≡ Some is.seat
+  row_there e is =
+      let seat : seat_after (own (caller_of e) w.history) ≡ Some x.seat.seat = ap (λ k. seat_after (own k w.history)) is.mine ∙ (tells.seated c x at).seat in
+      sym (seat-own w.history e ∙ ap (option_and_then (λ (s : Seat). row s s.phase e)) seat) ∙ is.next.seat_is
 
   -- One more entry.
-  pub grown : (e : Entry) (t' : TableAt) (locks' : List (Option ℕ)) (b' m' : ℕ) (committed current : Map) (holder : ℕ → Option ℕ) → Grown limits h e t t' c x y current
-      → Next limits.stripes h e (seat_of y) (changes_of y.log.jobs) committed current holder → b' ≡ b + cond (is_began e) 1 0 → m' ≡ m + cond (is_commit e) 1 0
-      → length locks' ≡ length locks → ((s : ℕ) → s < limits.stripes → held_by locks' s ≡ holder s)
-      → Tells limits (h ++ e ∷ []) b' m' t' (slice_set sessions c y) locks' None
-  grown e t' locks' b' m' committed current holder is next begins commits long holders = record {
-    legal = next.legal;
-    callers = All-push (λ f. caller_of f < limits.callers) h e tells.callers (let count = tells.count in let mine = is.mine in let here = within in omega arith);
-    begins = begins ∙ ap (λ n. n + cond (is_began e) 1 0) tells.begins ∙ sym (how_many-push is_began h e);
-    commits = commits ∙ ap (λ n. n + cond (is_commit e) 1 0) tells.commits ∙ sym (how_many-push is_commit h e);
-    content = is.content ∙ sym next.now_is;
-    count = length-set sessions c y ∙ tells.count;
-    seated = λ d s at_d. elim (set_cases sessions c d y s within at_d) [
-      | inl here ↦ subst (IsSeated (h ++ e ∷ []) d) (sym here.1) (record {
-        seat = ap (λ k. seat_after (own k (h ++ e ∷ []))) (here.0 ∙ sym is.mine) ∙ next.seat_is;
-        log = ap (λ k. log_of k (h ++ e ∷ [])) (here.0 ∙ sym is.mine) ∙ next.log_is;
-        due = subst (λ n. AreDue n (reverse y.log.jobs)) (sym next.now_is) is.due;
-        ready = is.ready;
-      })
-      | inr other ↦
-          let was = tells.seated d s other.1 in
-          let away : d ≢ caller_of e = λ same. other.0 (same ∙ is.mine) in
-          record {
-            seat = next.other_seats d away ∙ was.seat;
-            log = next.other_logs d away ∙ was.log;
-            due = subst (λ n. AreDue n (reverse s.log.jobs)) (sym next.now_is) (still_due limits.stripes h d s current tells.legal was (is.apart d other.0));
-            ready = was.ready;
-          }
+  module _ (e : Entry) (is : Grows w c x y t' locks' counts' e) (seat' : RoomySeat) (entered : seat'.seat ≡ is.seat) (placed' : Option Owner) where
+    abbrev z : Session
+    z = seated_as y seat'
+
+    agrees_then : Agrees z
+    agrees_then = record {
+      standing = ap (λ (s : Seat). s.standing) entered ∙ sym (length-log_of (w.history ++ e ∷ []) (caller_of e) is.seat is.next.seat_is) ∙ ap length is.next.log_is ∙ changes_long y.log.jobs;
+      kept = ap (λ (s : Seat). s.kept) entered ∙ is.kept;
+      waits = subst (λ (s : Seat). Waits s.phase y.pending y.log.room) (sym entered) is.waits;
+      level = subst (λ (s : Seat). level_of s.phase ≤ length y.log.kept) (sym entered)
+          (level_at is.seat.phase is.seat.standing y.log.kept (subst (IsLevelIn is.seat.phase is.seat.standing) is.kept (seat_leveled (own (caller_of e) (w.history ++ e ∷ [])) is.seat is.next.seat_is).within));
+    }
+
+    seated_then : IsSeated (w.history ++ e ∷ []) c z
+    seated_then = record {
+      seat = ap (λ k. seat_after (own k (w.history ++ e ∷ []))) (sym is.mine) ∙ is.next.seat_is ∙ ap Some (sym entered);
+      log = ap (λ k. log_of k (w.history ++ e ∷ [])) (sym is.mine) ∙ is.next.log_is;
+      due = subst (λ n. AreDue n (reverse y.log.jobs)) (sym is.next.now_is) is.due;
+      agrees = agrees_then;
+    }
+
+    pub grown : IsFresh t' (slice_set w.sessions c z) placed' → Tells (world_after w c z (w.history ++ e ∷ []) counts' t' locks' placed')
+    grown fresh = record {
+      legal = is.next.legal;
+      callers = All-push (λ f. caller_of f < w.limits.callers) w.history e tells.callers (let count = tells.count in let mine = is.mine in let here = within in omega arith);
+      begins = is.begins ∙ ap (λ n. n + cond (is_began e) 1 0) tells.begins ∙ sym (how_many-push is_began w.history e);
+      commits = is.commits ∙ ap (λ n. n + cond (is_commit e) 1 0) tells.commits ∙ sym (how_many-push is_commit w.history e);
+      content = is.content ∙ sym is.next.now_is;
+      count = length-set w.sessions c z ∙ tells.count;
+      seated = λ d s at_d. elim (set_cases w.sessions c d z s within at_d) [
+        | inl here ↦ subst (λ (q : Session). IsSeated (w.history ++ e ∷ []) d q) (sym here.1) (subst (λ k. IsSeated (w.history ++ e ∷ []) k z) (sym here.0) seated_then)
+        | inr other ↦
+            let was = tells.seated d s other.1 in
+            let away : d ≢ caller_of e = λ same. other.0 (same ∙ is.mine) in
+            record {
+              seat = is.next.other_seats d away ∙ was.seat;
+              log = is.next.other_logs d away ∙ was.log;
+              due = subst (λ n. AreDue n (reverse s.log.jobs)) (sym is.next.now_is) (still_due w.limits.stripes w.history d s is.current tells.legal was (is.apart d other.0));
+              agrees = was.agrees;
+            }
+      ];
+      sought = λ d s at_d. elim (set_cases w.sessions c d z s within at_d) [
+        | inl here ↦ subst (IsSought t') (sym here.1) (subst (λ (q : Seat). IsSoughtAt t' y.cursor (target_in q.phase y.log)) (sym entered) is.sought)
+        | inr other ↦ still_sought_at w.table t' s.cursor (target_of s) is.placed (tells.sought d s other.1)
+      ];
+      spares = traded w.table t' w.sessions c x z at is.spares tells.spares;
+      fresh = fresh;
+      stripes = is.long ∙ tells.stripes;
+      holders = λ s below. is.holders s below ∙ sym (is.next.holder_is s);
+      largest = is.largest ∙ tells.largest;
+      helpers = is.helpers ∙ tells.helpers;
+    }
+
+  -- No entry.
+  pub stayed : Stays w c x y t' locks' counts' → (placed' : Option Owner) → IsFresh t' (slice_set w.sessions c y) placed' → Tells (world_after w c y w.history counts' t' locks' placed')
+  stayed is placed' fresh = record {
+    legal = tells.legal;
+    callers = tells.callers;
+    begins = ap (λ (n : Counts). n.began) is.same_counts ∙ tells.begins;
+    commits = ap (λ (n : Counts). n.committed) is.same_counts ∙ tells.commits;
+    content = is.content ∙ tells.content;
+    count = length-set w.sessions c y ∙ tells.count;
+    seated = λ d s at_d. elim (set_cases w.sessions c d y s within at_d) [
+      | inl here ↦
+          let was = tells.seated c x at in
+          subst (IsSeated w.history d) (sym here.1) (record {
+            seat = ap (λ k. seat_after (own k w.history)) here.0 ∙ was.seat ∙ ap Some (sym is.same_seat);
+            log = ap (λ k. log_of k w.history) here.0 ∙ was.log ∙ ap changes_of (sym is.jobs);
+            due = subst (λ (js : List MapJob). AreDue (now w.history) (reverse js)) (sym is.jobs) was.due;
+            agrees = record {
+              standing = ap (λ (q : Seat). q.standing) is.same_seat ∙ was.agrees.standing ∙ ap length (sym is.jobs);
+              kept = ap (λ (q : Seat). q.kept) is.same_seat ∙ was.agrees.kept ∙ ap (λ ks. 0 ∷ ks) (sym is.kept);
+              waits = subst (λ (q : Seat). Waits q.phase y.pending y.log.room) (sym is.same_seat) is.waits;
+              level = subst (λ (q : Seat). level_of q.phase ≤ length y.log.kept) (sym is.same_seat) (subst (λ ks. level_of x.seat.seat.phase ≤ length ks) (sym is.kept) was.agrees.level);
+            };
+          })
+      | inr other ↦ tells.seated d s other.1
     ];
-    sought = λ d s at_d. elim (set_cases sessions c d y s within at_d) [
-      | inl here ↦ subst (IsSought t') (sym here.1) is.sought
-      | inr other ↦ still_sought_at t t' s.cursor (target_of s) is.placed (tells.sought d s other.1)
+    sought = λ d s at_d. elim (set_cases w.sessions c d y s within at_d) [
+      | inl here ↦ subst (IsSought t') (sym here.1) (subst (λ (q : Seat). IsSoughtAt t' y.cursor (target_in q.phase y.log)) (sym is.same_seat) is.sought)
+      | inr other ↦ still_sought_at w.table t' s.cursor (target_of s) is.placed (tells.sought d s other.1)
     ];
-    spares = traded t t' sessions c x y at is.spares tells.spares;
-    fresh = tt;
-    stripes = long ∙ tells.stripes;
-    holders = λ s below. holders s below ∙ sym (next.holder_is s);
+    spares = traded w.table t' w.sessions c x y at is.spares tells.spares;
+    fresh = fresh;
+    stripes = ap length is.same_locks ∙ tells.stripes;
+    holders = λ s below. ap (λ ls. held_by ls s) is.same_locks ∙ tells.holders s below;
     largest = is.largest ∙ tells.largest;
     helpers = is.helpers ∙ tells.helpers;
   }
 
-  -- The table and the caller's jobs stay.
-  pub restaged : (e : Entry) → caller_of e ≡ c → y.log.jobs ≡ x.log.jobs → spare_at y.stage ≡ spare_at x.stage → IsReady y.stage y.log.room → IsSought t y → Grown limits h e t t c x y (now h)
-  restaged e mine jobs spare ready sought = record {
-    mine = mine;
-    due = subst (λ (js : List MapJob). AreDue (now h) (reverse js)) (sym jobs) (tells.seated c x at).due;
-    ready = ready;
-    content = tells.content;
-    apart = λ d other k held. refl;
-    placed = λ cursor key is. is;
-    sought = sought;
-    spares = λ others covered place stamp.
-        let same : times_kept y place stamp ≡ times_kept x place stamp = λ i. times_of (spare i) place stamp + times_in (jobs i) place stamp in
-        let most : others place stamp + times_kept x place stamp ≤ times_out t place stamp = covered place stamp in
-        fewer (others place stamp) (times_kept y place stamp) (times_kept x place stamp) (times_out t place stamp) same most;
-    largest = refl;
-    helpers = refl;
-  }
-    where
-      fewer : (a b d n : ℕ) → b ≡ d → a + d ≤ n → a + b ≤ n
-      fewer a b d n same most = omega arith
-
-  -- The entry takes a place of the room.
-  pub room_grown : (e : Entry) (committed current : Map) (holder : ℕ → Option ℕ) (len cap : ℕ) → caller_of e ≡ c → Next limits.stripes h e (seat_of y) (changes_of y.log.jobs) committed current holder
-      → len + sum_by owed_of sessions + reserved_for e ≤ cap → len + 1 + sum_by owed_of (slice_set sessions c y) ≤ cap
-  room_grown e committed current holder len cap mine next room =
-      let seat : seat_after (own (caller_of e) h) ≡ Some (seat_of x) = ap (λ k. seat_after (own k h)) mine ∙ (tells.seated c x at).seat in
-      let goes : row (seat_of x) (phase_of x.stage) e ≡ Some (seat_of y) =
-      sym (ap seat_after (own-push_in (caller_of e) h e refl) ∙ seat_after-push (own (caller_of e) h) e ∙ ap (option_and_then (λ (s : Seat). row s s.phase e)) seat) ∙ next.seat_is in
-      let step : owed_of y + 1 ≤ owed_of x + reserved_for e = owed_by-row (seat_of x) (seat_of y) e goes in
-      let sums : sum_by owed_of (slice_set sessions c y) + owed_of x ≡ sum_by owed_of sessions + owed_of y = sum_changed owed_of sessions c x y at in
-      omega arith
-
-  -- No entry: the caller's side stays but for its cursor, and the map stays.
-  pub stayed : (t' : TableAt) (placed' : Option Owner) → seat_of y ≡ seat_of x → y.log.jobs ≡ x.log.jobs → IsReady y.stage y.log.room → content t' ≡ content t
-      → ((cursor : Cursor) (key : ℕ) → IsPlaced t cursor key → IsPlaced t' cursor key) → IsSought t' y
-      → ((others : ℕ → ℕ → ℕ) → IsCovered (λ place stamp. others place stamp + times_kept x place stamp) t → IsCovered (λ place stamp. others place stamp + times_kept y place stamp) t')
-      → largest_of t' ≡ largest_of t → length (helps_of t') ≡ length (helps_of t) → IsFresh t' (slice_set sessions c y) placed'
-      → Tells limits h b m t' (slice_set sessions c y) locks placed'
-  stayed t' placed' seat jobs ready same keeps sought spares largest helpers fresh = record {
-    legal = tells.legal;
-    callers = tells.callers;
-    begins = tells.begins;
-    commits = tells.commits;
-    content = same ∙ tells.content;
-    count = length-set sessions c y ∙ tells.count;
-    seated = λ d s at_d. elim (set_cases sessions c d y s within at_d) [
-      | inl here ↦
-          let was = tells.seated c x at in
-          subst (IsSeated h d) (sym here.1) (record {
-            seat = ap (λ k. seat_after (own k h)) here.0 ∙ was.seat ∙ ap Some (sym seat);
-            log = ap (λ k. log_of k h) here.0 ∙ was.log ∙ ap changes_of (sym jobs);
-            due = subst (λ (js : List MapJob). AreDue (now h) (reverse js)) (sym jobs) was.due;
-            ready = ready;
-          })
-      | inr other ↦ tells.seated d s other.1
-    ];
-    sought = λ d s at_d. elim (set_cases sessions c d y s within at_d) [
-      | inl here ↦ subst (IsSought t') (sym here.1) sought
-      | inr other ↦ still_sought_at t t' s.cursor (target_of s) keeps (tells.sought d s other.1)
-    ];
-    spares = traded t t' sessions c x y at spares tells.spares;
-    fresh = fresh;
-    stripes = tells.stripes;
-    holders = tells.holders;
-    largest = largest ∙ tells.largest;
-    helpers = helpers ∙ tells.helpers;
-  }
-
-  pub room_stayed : (len cap : ℕ) → seat_of y ≡ seat_of x → len + sum_by owed_of sessions ≤ cap → len + sum_by owed_of (slice_set sessions c y) ≤ cap
-  room_stayed len cap seat room =
-      let sums : sum_by owed_of (slice_set sessions c y) + owed_of x ≡ sum_by owed_of sessions + owed_of y = sum_changed owed_of sessions c x y at in
-      let same : owed_of y ≡ owed_of x = ap (λ (s : Seat). owed_by (Some s)) seat in
-      omega arith
-
 -- No caller's side changes, and the map stays.
-pub table_stayed : (limits : Sizes) (h : List Entry) (b m : ℕ) (t : TableAt) (sessions : List Session) (locks : List (Option ℕ)) (placed : Option Owner) → Tells limits h b m t sessions locks placed
-    → (t' : TableAt) (placed' : Option Owner) → content t' ≡ content t → ((cursor : Cursor) (key : ℕ) → IsPlaced t cursor key → IsPlaced t' cursor key)
-    → IsCovered (all_times sessions) t' → largest_of t' ≡ largest_of t → length (helps_of t') ≡ length (helps_of t) → IsFresh t' sessions placed'
-    → Tells limits h b m t' sessions locks placed'
-table_stayed limits h b m t sessions locks placed tells t' placed' same keeps spares largest helpers fresh = record {
+pub table_stayed : (w : World) → Tells w → (t' : TableAt) (placed' : Option Owner) → content t' ≡ content w.table → KeepsPlaced w.table t'
+    → IsCovered (all_times w.sessions) t' → largest_of t' ≡ largest_of w.table → length (helps_of t') ≡ length (helps_of w.table) → IsFresh t' w.sessions placed'
+    → Tells (record { limits = w.limits; history = w.history; counts = w.counts; table = t'; sessions = w.sessions; locks = w.locks; placed = placed' })
+table_stayed w tells t' placed' same keeps spares largest helpers fresh = record {
   legal = tells.legal;
   callers = tells.callers;
   begins = tells.begins;
@@ -273,7 +285,7 @@ table_stayed limits h b m t sessions locks placed tells t' placed' same keeps sp
   content = same ∙ tells.content;
   count = tells.count;
   seated = tells.seated;
-  sought = λ d s at_d. still_sought_at t t' s.cursor (target_of s) keeps (tells.sought d s at_d);
+  sought = λ d s at_d. still_sought_at w.table t' s.cursor (target_of s) keeps (tells.sought d s at_d);
   spares = spares;
   fresh = fresh;
   stripes = tells.stripes;

@@ -1,5 +1,5 @@
 -- Moves of the machine, by what a step did to the table and to one caller's side.
-use Rattle.std.proofs.Common.{◌≡◌, ℕ, ◌+◌, ◌≤◌, List, [], ◌∷◌, ◌++◌, set, Option, Some, None, refl, sym, ap, subst, ◌∙◌, arith}
+use Rattle.std.proofs.Common.{◌≡◌, ℕ, ◌+◌, ◌≤◌, List, set, Option, Some, None, refl, sym, ap, subst, ◌∙◌, arith}
 use Rattle.std.specs.Prelude.{map, slice_get, slice_set}
 use Rattle.std.proofs.lemmas.List.{map-set}
 use Rattle.std.proofs.lemmas.Option.{get_or_from_slice_get}
@@ -10,14 +10,14 @@ use Rattle.txn_trace.specs.declared.refusal.Refusal.{Refusal}
 use Rattle.txn_trace.specs.declared.step.Step.{Step}
 use Rattle.txn_trace.specs.declared.answer.Answer.{Answer}
 use Rattle.txn_trace.specs.declared.answer.Answer.TheVariants.{Refused}
-use Rattle.txn_trace.specs.Sizes.{Sizes}
-use Rattle.map_ops.specs.TableAt.{TableAt, Follows, size_of, stored_of, linked_of, helps_of, turn_of, last_of}
+use Rattle.map_ops.specs.TableAt.{TableAt, size_of, stored_of, linked_of, helps_of, turn_of, last_of}
 use Rattle.boost_core.specs.Sessions.{Rests}
+use Rattle.boost_core.specs.declared.counts.Counts.{Counts}
 use Rattle.boost_core.specs.declared.session.Session.{Session}
 use Rattle.boost_core.specs.State.{State, Owner}
 use Rattle.boost_core.specs.Refusals.{refusal_of, MayLack}
 use Rattle.boost_core.specs.Machine.{Move}
-use Rattle.boost_core.specs.Core.{state_of, turn_at}
+use Rattle.boost_core.specs.Core.{World, state_of, turn_at}
 
 -- A step that is refused leaves the state.
 pub refused : (state : State) (step : Step) (refusal : Refusal) → refusal_of state step ≡ Some refusal → Move state step (Refused refusal) state
@@ -51,10 +51,11 @@ rests_runs t t' rests = record {
   one_last = let same = rests.last in omega arith;
 }
 
--- The state after such a step.
-pub state_is : (limits : Sizes) (h' h'' : List Entry) (t t' : TableAt) (cursors : List (Option ℕ)) (sessions' : List Session) (placed' : Option Owner) → Runs t t' → h' ≡ h'' → map turn_at sessions' ≡ cursors
-    → state_of limits h' t' sessions' placed' ≡ record { limits = limits; history = h''; size = size_of t; stored = stored_of t; linked = linked_of t; changes = turn_of t'; stamp = last_of t'; cursors = cursors; helpers = helps_of t; placed = placed' }
-state_is limits h' h'' t t' cursors sessions' placed' runs entries same = λ i. record { limits = limits; history = entries i; size = runs.size i; stored = runs.stored i; linked = runs.linked i; changes = turn_of t'; stamp = last_of t'; cursors = same i; helpers = runs.helps i; placed = placed' }
+-- The state after such a step, of a world with one caller's side changed.
+pub state_is : (w : World) (h' h'' : List Entry) (counts' : Counts) (t' : TableAt) (cursors : List (Option ℕ)) (sessions' : List Session) (locks' : List (Option ℕ)) (placed' : Option Owner) → Runs w.table t' → h' ≡ h'' → map turn_at sessions' ≡ cursors
+    → state_of (record { limits = w.limits; history = h'; counts = counts'; table = t'; sessions = sessions'; locks = locks'; placed = placed' })
+    ≡ record { limits = w.limits; history = h''; size = size_of w.table; stored = stored_of w.table; linked = linked_of w.table; changes = turn_of t'; stamp = last_of t'; cursors = cursors; helpers = helps_of w.table; placed = placed' }
+state_is w h' h'' counts' t' cursors sessions' locks' placed' runs entries same = λ i. record { limits = w.limits; history = entries i; size = runs.size i; stored = runs.stored i; linked = runs.linked i; changes = turn_of t'; stamp = last_of t'; cursors = same i; helpers = runs.helps i; placed = placed' }
 
 -- The turns of the callers' cursors, where one changes.
 pub turns_set : (sessions : List Session) (c : ℕ) (y : Session) (turn : Option ℕ) → turn_at y ≡ turn → map turn_at (slice_set sessions c y) ≡ slice_set (map turn_at sessions) c turn
@@ -63,9 +64,6 @@ turns_set sessions c y turn is = map-set turn_at sessions c y ∙ ap (set (map t
 pub turns_same : (sessions : List Session) (c : ℕ) (x y : Session) → slice_get sessions c ≡ Some x → turn_at y ≡ turn_at x → map turn_at (slice_set sessions c y) ≡ map turn_at sessions
 turns_same sessions c x y at same = map-set_same turn_at sessions c y x (same ∙ ap turn_at (sym (get_or_from_slice_get sessions c x x at)))
 
-pub last_rises : (t t' : TableAt) → Follows t t' → last_of t ≤ last_of t'
-last_rises t t' follows = follows.last
-
 -- A move of a state that is seen another way.
 pub move_of : (state old new : State) (step : Step) (answer : Answer) → state ≡ old → Move state step answer new → Move old step answer new
 move_of state old new step answer is move = subst (λ s. Move s step answer new) is move
@@ -73,7 +71,3 @@ move_of state old new step answer is move = subst (λ s. Move s step answer new)
 -- Nothing refuses a step of a state that is seen another way.
 pub none_of : (state old : State) (step : Step) (r : Option Refusal) → state ≡ old → r ≡ refusal_of old step → r ≡ None → refusal_of state step ≡ None
 none_of state old step r is says none = ap (λ (s : State). refusal_of s step) is ∙ sym says ∙ none
-
--- The history after one more entry, where room was made for it before.
-pub pushed : (h g h' : List Entry) (e : Entry) → h' ≡ g ++ e ∷ [] → g ≡ h → h' ≡ h ++ e ∷ []
-pushed h g h' e is same = is ∙ ap (λ es. es ++ e ∷ []) same

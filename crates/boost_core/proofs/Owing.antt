@@ -1,17 +1,12 @@
 -- What the callers' sides owe together is what the history says.
-use Rattle.std.proofs.Common.{◌≡◌, ℕ, suc, ◌+◌, List, [], ◌∷◌, length, Option, Some, refl, sym, ap, ◌∙◌, arith}
+use Rattle.std.proofs.Common.{◌≡◌, ℕ, suc, ◌+◌, List, [], ◌∷◌, length, Some, refl, sym, ap, ◌∙◌, arith}
 use Rattle.std.specs.Prelude.{slice_get}
 use Rattle.std.specs.List.{sum_by, range_with_len}
 use Rattle.std.proofs.lemmas.List.Sums.{sum_by-cons}
-use Rattle.txn_trace.specs.declared.entry.Entry.{Entry}
-use Rattle.txn_trace.specs.Sizes.{Sizes}
 use Rattle.txn_trace.specs.Shape.{seat_after, own}
 use Rattle.txn_trace.specs.Owed.{owed_by, owed}
-use Rattle.map_ops.specs.TableAt.{TableAt}
-use Rattle.boost_core.specs.declared.session.Session.{Session}
 use Rattle.boost_core.specs.Sessions.{owed_of}
-use Rattle.boost_core.specs.State.{Owner}
-use Rattle.boost_core.specs.Core.{Tells}
+use Rattle.boost_core.specs.Core.{World, Tells}
 
 -- A sum over the places of a list, where each summand is that of the element.
 sum_of_places : {X : Type 0} (f : ℕ → ℕ) (g : X → ℕ) (a : ℕ) (xs : List X) → ((i : ℕ) (x : X) → slice_get xs i ≡ Some x → f (a + i) ≡ g x) → sum_by f (range_with_len a (length xs)) ≡ sum_by g xs
@@ -26,7 +21,7 @@ sum_of_places f g a (x ∷ xs) same =
 from_none : (c : ℕ) → 0 + c ≡ c
 from_none c = omega arith
 
-pub owed_is : (limits : Sizes) (h : List Entry) (b m : ℕ) (t : TableAt) (sessions : List Session) (locks : List (Option ℕ)) (placed : Option Owner) → Tells limits h b m t sessions locks placed → owed limits.callers h ≡ sum_by owed_of sessions
-owed_is limits h b m t sessions locks placed tells =
-    ap (λ n. sum_by (λ c. owed_by (seat_after (own c h))) (range_with_len 0 n)) (sym tells.count)
-    ∙ sum_of_places (λ c. owed_by (seat_after (own c h))) owed_of 0 sessions (λ c s at. ap (λ k. owed_by (seat_after (own k h))) (from_none c) ∙ ap owed_by (tells.seated c s at).seat)
+pub owed_is : (w : World) → Tells w → owed w.limits.callers w.history ≡ sum_by owed_of w.sessions
+owed_is w tells =
+    ap (λ n. sum_by (λ c. owed_by (seat_after (own c w.history))) (range_with_len 0 n)) (sym tells.count)
+    ∙ sum_of_places (λ c. owed_by (seat_after (own c w.history))) owed_of 0 w.sessions (λ c s at. ap (λ k. owed_by (seat_after (own k w.history))) (from_none c) ∙ ap owed_by (tells.seated c s at).seat)

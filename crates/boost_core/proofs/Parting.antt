@@ -1,118 +1,334 @@
--- The steps that part and end transactions.
-use Rattle.std.proofs.Common.{◌≡◌, ℕ, ◌+◌, ◌≤◌, false, List, [], ◌∷◌, ◌++◌, length, Option, Some, None, refl, sym, ap, subst, ◌∙◌, arith}
-use Rattle.std.specs.Prelude.{slice_get, slice_set, sum_by, map, nat_le}
+-- The steps that begin, part and end transactions.
+use Rattle.std.proofs.Common.{◌≡◌, ℕ, ◌+◌, ◌-◌, ◌<◌, ◌≤◌, Bool, true, false, cond, List, [], ◌∷◌, ◌++◌, length, take, Option, Some, None, refl, sym, ap, subst, ◌∙◌, add-one, arith}
+use Rattle.std.specs.Prelude.{slice_get, slice_set, slice_index, map, reverse, nat_eq, nat_lt, not}
+use Rattle.std.specs.Option.{option_eq, option_map}
 use Prim.Native.Nat.{suc}
+use Rattle.std.proofs.lemmas.Bool.{false≢true, and_from, eq-eqb}
 use Rattle.txn_trace.specs.declared.entry.Entry.{Entry}
 use Rattle.txn_trace.specs.declared.entry.Entry.TheVariants as entry
 use Rattle.txn_trace.specs.declared.step.Step.TheVariants as steps
 use Rattle.txn_trace.specs.declared.answer.Answer.TheVariants as answers
-use Rattle.txn_trace.specs.Sizes.{Sizes}
+use Rattle.txn_trace.specs.Map.{Map}
+use Rattle.txn_trace.specs.History.{caller_of, is_began, is_commit}
 use Rattle.txn_trace.specs.Serial.{serial}
 use Rattle.txn_trace.specs.Now.{now}
 use Rattle.txn_trace.specs.Locks.{holder_of}
-use Rattle.txn_trace.specs.Shape.{Opened, LeavingTo, Seat}
 use Rattle.txn_trace.specs.Log.{log_of}
+use Rattle.txn_trace.specs.declared.seat.Phase.{Phase}
+use Rattle.txn_trace.specs.declared.seat.Phase.TheVariants.{Closed, Opened, Waiting, LeavingTo, LeavingToEnd}
+use Rattle.txn_trace.specs.Shape.{Seat, RoomySeat, closed_seat, own}
+use Rattle.txn_trace.specs.Seats.{is_closed, is_waiting, is_leaving, has_job, is_saved}
+use Rattle.txn_trace.proofs.Levels.{IsLevelIn, seat_leveled}
 use Rattle.txn_trace.proofs.Next.{Next}
 use Rattle.txn_trace.proofs.Entries as laws
-use Rattle.undo_log.specs.UndoLog.{Log}
+use Rattle.undo_log.specs.UndoLog.{Log, kept_at, newest_above}
+use Rattle.key_locks.specs.Locks.{Releases, without_caller, holder_of as held_by}
 use Rattle.map_ops.specs.declared.job.MapJob.{MapJob}
-use Rattle.map_ops.specs.TableAt.{TableAt, Cursor}
-use Rattle.boost_core.specs.declared.stage.Stage.{Stage}
-use Rattle.boost_core.specs.declared.stage.Stage.TheVariants as stages
+use Rattle.map_ops.specs.Jobs.{PendingAt}
+use Rattle.map_ops.specs.TableAt.{TableAt, Cursor, cursor_turn, map_of}
+use Rattle.boost_core.specs.declared.counts.Counts.{Counts}
 use Rattle.boost_core.specs.declared.session.Session.{Session}
-use Rattle.boost_core.specs.State.{Owner, seat_in}
-use Rattle.boost_core.specs.Refusals.{refusal_of, refusal_in}
-use Rattle.boost_core.specs.Machine.{Move}
-use Rattle.boost_core.specs.Sessions.{spare_at, phase_of, seat_of, owed_of, target_at, IsSoughtAt, IsReady, changes_of}
-use Rattle.boost_core.specs.Core.{Tells, state_of, turn_at}
-use Rattle.boost_core.proofs.Counts.{no_more}
-use Rattle.boost_core.proofs.Refused.{free, seat_here, save_open, back_open, open_stage, no_cursor, le_false_lt}
-use Rattle.boost_core.proofs.Moves.{runs_same, state_is, turns_same, turns_set}
-use Rattle.boost_core.proofs.Grow.{Grown, grown, room_grown, restaged, next_as}
+use Rattle.boost_core.specs.State.{seat_in}
+use Rattle.boost_core.specs.Refusals.{refusal_of}
+use Rattle.boost_core.specs.Answers.{is_back_at, is_at_end}
+use Rattle.boost_core.specs.Spares.{times_of, times_in, times_out, IsCovered}
+use Rattle.boost_core.specs.Core.{World, Tells, state_of, turn_at}
+use Rattle.boost_core.proofs.Numbers.{no_more}
+use Rattle.boost_core.proofs.Moves.{runs_same, rests_runs, state_is, turns_same, turns_set}
+use Rattle.boost_core.proofs.Grow.{Grows, world_after, seated_as}
+use Rattle.boost_core.proofs.Outcomes.{Called, move_is, same_times, same_world}
+use Rattle.boost_core.specs.Sessions.{target_in, key_of_newest, IsSoughtAt, Waits, spare_if, times_kept, changes_of, AreDue, StaysIn, SavesIn, ReturnsIn, EndsIn, SettlesIn, WithdrawsIn}
+use Rattle.boost_core.proofs.Settling.{no_jobs}
+use Rattle.boost_core.proofs.Sides.{at_most}
+use Rattle.boost_core.proofs.Refused.{seat_here, seat_free, begin_closed, save_open, back_open, commit_open, abort_runs, no_cursor, le_false_lt}
 
-module _ (limits : Sizes) (h : List Entry) (b m : ℕ) (t : TableAt) (sessions : List Session) (locks : List (Option ℕ)) (placed : Option Owner) (tells : Tells limits h b m t sessions locks placed) (c : ℕ) (x : Session) (at : slice_get sessions c ≡ Some x) where
-  -- A caller that is open has no cursor and waits for nothing.
-  module _ (opened : x.stage ≡ stages.Open) where
-    pub open_cursor : x.cursor ≡ None
-    open_cursor = no_cursor t x.cursor (subst (IsSoughtAt t x.cursor) (ap (λ (st : Stage). target_at st x.log) opened) (tells.sought c x at))
+-- The stripes of a caller are free, as the history says after its end.
+released : (c : ℕ) (o : Option ℕ) → without_caller c o ≡ cond (option_eq nat_eq o (Some c)) None o
+released c None = refl
+released c (Some d) = refl
 
-  stage_open : (seat_of x).phase ≡ Opened → x.stage ≡ stages.Open
-  stage_open is = open_stage x.stage is
+-- A level with nothing above it is acted on no more.
+no_newest : (log : Log MapJob) (n : ℕ) → nat_lt (kept_at log.kept n) (length log.jobs) ≡ false → key_of_newest (newest_above log n) ≡ None
+no_newest log n none = ap key_of_newest (ap (λ (more : Bool). cond more (slice_get log.jobs (length log.jobs - 1)) None) none)
 
-  here : seat_in h c ≡ seat_of x
-  here = seat_here limits h b m t sessions locks placed tells c x at
+module _ (w : World) (tells : Tells w) (c : ℕ) (x : Session) (at : slice_get w.sessions c ≡ Some x) where
+  -- Where the caller acts on no key, it has no cursor.
+  pub idle_cursor : (q : Phase) → x.seat.seat.phase ≡ q → target_in q x.log ≡ None → x.cursor ≡ None
+  idle_cursor q is none = no_cursor w.table x.cursor (subst (IsSoughtAt w.table x.cursor) (ap (λ p. target_in p x.log) is ∙ none) (tells.sought c x at))
+
+  -- Where it waits for nothing, nothing waits.
+  pub nothing_waits : (q : Phase) → x.seat.seat.phase ≡ q → is_waiting q ≡ false → x.pending ≡ None
+  nothing_waits q is rests = none_then q rests x.pending (subst (λ p. Waits p x.pending x.log.room) is (tells.seated c x at).agrees.waits)
+    where
+      none_then : (q : Phase) → is_waiting q ≡ false → (o : Option PendingAt) → Waits q o x.log.room → o ≡ None
+      none_then q rests None waits = refl
+      none_then Closed rests (Some pending) waits = absurd waits
+      none_then Opened rests (Some pending) waits = absurd waits
+      none_then (Waiting op) rests (Some pending) waits = absurd (false≢true (sym rests))
+      none_then (LeavingTo n) rests (Some pending) waits = absurd waits
+      none_then LeavingToEnd rests (Some pending) waits = absurd waits
+
+  rest_waits : (q : Phase) → is_waiting q ≡ false → (room : ℕ) → Waits q None room
+  rest_waits Closed rests room = tt
+  rest_waits Opened rests room = tt
+  rest_waits (Waiting op) rests room = absurd (false≢true (sym rests))
+  rest_waits (LeavingTo n) rests room = tt
+  rest_waits LeavingToEnd rests room = tt
+
+  released_holders : (locks' : List (Option ℕ)) → Releases c w.locks locks' → (s : ℕ) → s < w.limits.stripes → held_by locks' s ≡ cond (option_eq nat_eq (holder_of w.limits.stripes s w.history) (Some c)) None (holder_of w.limits.stripes s w.history)
+  released_holders locks' releases s below = releases.each s ∙ ap (without_caller c) (tells.holders s below) ∙ released c (holder_of w.limits.stripes s w.history)
+
+  -- A step that leaves the table, what waits and the jobs, and by which the caller has no cursor.
+  quiet : (e : Entry) (y : Session) (seat : Seat) (log : List (ℕ × Option ℕ)) (committed : Map) (holder : ℕ → Option ℕ) (locks' : List (Option ℕ)) (counts' : Counts) → Next w.limits.stripes w.history e seat log committed (now w.history) holder → log ≡ changes_of y.log.jobs
+      → caller_of e ≡ c → y.seat.seat ≡ x.seat.seat → (is_saved e ≡ true → 0 < y.seat.room) → seat.kept ≡ 0 ∷ y.log.kept → is_waiting seat.phase ≡ false → x.pending ≡ None → y.pending ≡ x.pending → y.log.jobs ≡ x.log.jobs → y.cursor ≡ None
+      → counts'.began ≡ w.counts.began + cond (is_began e) 1 0 → counts'.committed ≡ w.counts.committed + cond (is_commit e) 1 0 → length locks' ≡ length w.locks → ((s : ℕ) → s < w.limits.stripes → held_by locks' s ≡ holder s)
+      → Grows w c x y w.table locks' counts' e
+  quiet e y seat log committed holder locks' counts' next log_is mine same saved kept rests nothing pending jobs cursor begins commits long holders = record {
+    seat = seat;
+    committed = committed;
+    current = now w.history;
+    holder = holder;
+    next = subst (λ l. Next w.limits.stripes w.history e seat l committed (now w.history) holder) log_is next;
+    mine = mine;
+    same_seat = same;
+    saved = saved;
+    kept = kept;
+    waits = subst (λ (o : Option PendingAt). Waits seat.phase o y.log.room) (sym (pending ∙ nothing)) (rest_waits seat.phase rests y.log.room);
+    due = subst (λ (js : List MapJob). AreDue (now w.history) (reverse js)) (sym jobs) (tells.seated c x at).due;
+    content = tells.content;
+    apart = λ d other k held. refl;
+    placed = λ cursor key is. is;
+    sought = subst (λ (o : Option Cursor). IsSoughtAt w.table o (target_in seat.phase y.log)) (sym cursor) tt;
+    spares = same_times w.table x y pending jobs;
+    largest = refl;
+    helpers = refl;
+    begins = begins;
+    commits = commits;
+    long = long;
+    holders = holders;
+  }
+
+  level_in : (q : Phase) → x.seat.seat.phase ≡ q → IsLevelIn q x.seat.seat.standing x.seat.seat.kept
+  level_in q is = subst (λ (p : Phase). IsLevelIn p x.seat.seat.standing x.seat.seat.kept) is (seat_leveled (own c w.history) x.seat.seat (tells.seated c x at).seat).within
+
+  log_is : (y : Session) → y.log.jobs ≡ x.log.jobs → log_of c w.history ≡ changes_of y.log.jobs
+  log_is y jobs = (tells.seated c x at).log ∙ ap changes_of (sym jobs)
+
+  same_turn : (y : Session) → y.cursor ≡ x.cursor → (seat' : RoomySeat) → map turn_at (slice_set w.sessions c (seated_as y seat')) ≡ map turn_at w.sessions
+  same_turn y cursor seat' = turns_same w.sessions c x (seated_as y seat') at (ap (option_map cursor_turn) cursor)
+
+  no_turn : (y : Session) → y.cursor ≡ None → (seat' : RoomySeat) → map turn_at (slice_set w.sessions c (seated_as y seat')) ≡ slice_set (map turn_at w.sessions) c None
+  no_turn y cursor seat' = turns_set w.sessions c (seated_as y seat') None (ap (option_map cursor_turn) cursor)
+
+  -- Begin.
+  begun : refusal_of (state_of w) (steps.Begin c) ≡ None → (n : ℕ) (y : Session) → n ≡ w.counts.began + 1 → StaysIn x y → Called w c x (steps.Begin c) (answers.Began n) y w.table w.locks
+  begun none n y number stays =
+      let closed = begin_closed x.seat.seat c (seat_free w tells c x at (steps.Begin c) refl none) in
+      let level = level_in Closed closed in
+      let empty : x.log.jobs ≡ [] = no_jobs x.log.jobs (let same = (tells.seated c x at).agrees.standing in let nil = level.0 in omega arith) in
+      let numbered = number ∙ ap (λ k. k + 1) tells.begins in
+      record {
+        comes = quiet (entry.Began c n) y (record closed_seat { phase = Opened }) [] (serial w.history) (λ s. holder_of w.limits.stripes s w.history) w.locks (record { began = n; committed = w.counts.committed })
+            (laws.began w.limits.stripes w.history tells.legal c n x.seat.seat (tells.seated c x at).seat closed numbered) (ap changes_of (sym (stays.jobs ∙ empty)))
+            refl stays.seat (λ is. absurd (false≢true is)) (sym level.1 ∙ (tells.seated c x at).agrees.kept ∙ ap (λ ks. 0 ∷ ks) (sym stays.kept)) refl (nothing_waits Closed closed refl) stays.waits stays.jobs (stays.cursor ∙ idle_cursor Closed closed refl)
+            number (no_more w.counts.committed) refl tells.holders;
+        move = λ seat'. move_is w (world_after w c (seated_as y seat') (w.history ++ entry.Began c n ∷ []) (record { began = n; committed = w.counts.committed }) w.table w.locks None) (steps.Begin c) (answers.Began n) (none, numbered)
+            (state_is w (w.history ++ entry.Began c n ∷ []) (w.history ++ entry.Began c n ∷ []) (record { began = n; committed = w.counts.committed }) w.table (map turn_at w.sessions) (slice_set w.sessions c (seated_as y seat')) w.locks None (runs_same w.table) refl (same_turn y stays.cursor seat'))
+            (runs_same w.table) (λ kept. refl);
+        fresh = λ seat'. tt;
+      }
 
   -- Save.
-  module _ (none : refusal_of (state_of limits h t sessions placed) (steps.Save c) ≡ None) (log : Log MapJob) (jobs : log.jobs ≡ x.log.jobs) (kept : log.kept ≡ x.log.kept ++ length x.log.jobs ∷ []) where
-    abbrev saved : Session
-    saved = record x { log = log }
-
-    save_stage : x.stage ≡ stages.Open
-    save_stage = stage_open (save_open (seat_of x) c (ap (λ s. refusal_in s (steps.Save c)) (sym here) ∙ (free (state_of limits h t sessions placed) c (steps.Save c) refl none).seat))
-
-    saved_next : Next limits.stripes h (entry.Saved c) (seat_of saved) (changes_of saved.log.jobs) (serial h) (now h) (λ s. holder_of limits.stripes s h)
-    saved_next =
-        next_as limits.stripes h (entry.Saved c) (record (seat_of x) { kept = (0 ∷ x.log.kept) ++ length x.log.jobs ∷ [] }) (seat_of saved) (log_of c h) (changes_of saved.log.jobs) (serial h) (now h) (λ s. holder_of limits.stripes s h)
-        (laws.saved limits.stripes h tells.legal c (seat_of x) (tells.seated c x at).seat (ap phase_of save_stage))
-        (λ i. record { phase = phase_of x.stage; standing = length (sym jobs i); kept = 0 ∷ sym kept i })
-        ((tells.seated c x at).log ∙ ap changes_of (sym jobs))
-
-    saved_grown : Grown limits h (entry.Saved c) t t c x saved (now h)
-    saved_grown =
-        restaged limits h b m t sessions locks placed tells c x saved at (entry.Saved c) refl jobs refl (subst (λ (st : Stage). IsReady st log.room) (sym save_stage) tt)
-        (subst (λ (cursor : Option Cursor). IsSoughtAt t cursor (target_at x.stage log)) (sym (open_cursor save_stage)) tt)
-
-    pub saved_tells : (h' : List Entry) → h' ≡ h ++ entry.Saved c ∷ [] → Tells limits h' b m t (slice_set sessions c saved) locks None
-    saved_tells h' is = subst (λ g. Tells limits g b m t (slice_set sessions c saved) locks None) (sym is)
-        (grown limits h b m t sessions locks placed tells c x saved at (entry.Saved c) t locks b m (serial h) (now h) (λ s. holder_of limits.stripes s h) saved_grown saved_next (no_more b) (no_more m) refl tells.holders)
-
-    pub saved_room : (len cap : ℕ) → len + (sum_by owed_of sessions + 1) ≤ cap → len + 1 + sum_by owed_of (slice_set sessions c saved) ≤ cap
-    saved_room len cap room = room_grown limits h b m t sessions locks placed tells c x saved at (entry.Saved c) (serial h) (now h) (λ s. holder_of limits.stripes s h) len cap refl saved_next (omega arith)
-
-    pub saved_move : (h' : List Entry) (level : ℕ) → h' ≡ h ++ entry.Saved c ∷ [] → level ≡ length x.log.kept + 1 → Move (state_of limits h t sessions placed) (steps.Save c) (answers.Saved level) (state_of limits h' t (slice_set sessions c saved) None)
-    saved_move h' level is number = record {
-      allowed = (none, number ∙ one_more (length x.log.kept) ∙ ap (λ (s : Seat). length s.kept) (sym here));
-      state = state_is limits h' (h ++ entry.Saved c ∷ []) t t (map turn_at sessions) (slice_set sessions c saved) None (runs_same t) is (turns_same sessions c x saved at refl);
-      changes = omega arith;
-      list_kept = λ kept. refl;
-      stamp = omega arith;
-      one_stamp = omega arith;
-    }
-      where
-        one_more : (n : ℕ) → n + 1 ≡ suc n
-        one_more n = omega arith
+  saved : refusal_of (state_of w) (steps.Save c) ≡ None → (n : ℕ) (y : Session) → SavesIn n x y → Called w c x (steps.Save c) (answers.Saved n) y w.table w.locks
+  saved none n y saves =
+      let opened = save_open x.seat.seat c (seat_free w tells c x at (steps.Save c) refl none) in
+      let agrees = (tells.seated c x at).agrees in
+      record {
+        comes = quiet (entry.Saved c) y (record { phase = x.seat.seat.phase; standing = x.seat.seat.standing; kept = x.seat.seat.kept ++ x.seat.seat.standing ∷ [] }) (log_of c w.history) (serial w.history) (λ s. holder_of w.limits.stripes s w.history) w.locks w.counts
+            (laws.saved w.limits.stripes w.history tells.legal c x.seat.seat (tells.seated c x at).seat opened) (log_is y saves.jobs)
+            refl saves.seat (λ is. saves.room) ((λ i. agrees.kept i ++ agrees.standing i ∷ []) ∙ ap (λ ks. 0 ∷ ks) (sym saves.kept)) (ap is_waiting opened) (nothing_waits Opened opened refl) saves.waits saves.jobs (saves.cursor ∙ idle_cursor Opened opened refl)
+            (no_more w.counts.began) (no_more w.counts.committed) refl tells.holders;
+        move = λ seat'. move_is w (world_after w c (seated_as y seat') (w.history ++ entry.Saved c ∷ []) w.counts w.table w.locks None) (steps.Save c) (answers.Saved n)
+            (none, saves.number ∙ one_more (length x.log.kept) ∙ ap length (sym agrees.kept) ∙ ap (λ (s : Seat). length s.kept) (sym (seat_here w tells c x at)))
+            (state_is w (w.history ++ entry.Saved c ∷ []) (w.history ++ entry.Saved c ∷ []) w.counts w.table (map turn_at w.sessions) (slice_set w.sessions c (seated_as y seat')) w.locks None (runs_same w.table) refl (same_turn y saves.cursor seat'))
+            (runs_same w.table) (λ kept. refl);
+        fresh = λ seat'. tt;
+      }
+    where
+      one_more : (n : ℕ) → n + 1 ≡ suc n
+      one_more n = omega arith
 
   -- Back.
-  module _ (n : ℕ) (none : refusal_of (state_of limits h t sessions placed) (steps.Back c n) ≡ None) where
-    abbrev left : Session
-    left = record x { stage = stages.LeavingTo n; cursor = None }
+  left : (n : ℕ) → refusal_of (state_of w) (steps.Back c n) ≡ None → (y : Session) → y ≡ record x { cursor = None } → Called w c x (steps.Back c n) answers.Leaving y w.table w.locks
+  left n none y is =
+      let free = back_open x.seat.seat c n (seat_free w tells c x at (steps.Back c n) refl none) in
+      let dropped : y.cursor ≡ None = ap (λ (s : Session). s.cursor) is in
+      record {
+        comes = quiet (entry.Leave c (Some n)) y (record { phase = LeavingTo n; standing = x.seat.seat.standing; kept = x.seat.seat.kept }) (log_of c w.history) (serial w.history) (λ s. holder_of w.limits.stripes s w.history) w.locks w.counts
+            (laws.left_to w.limits.stripes w.history tells.legal c n x.seat.seat (tells.seated c x at).seat free.0 (le_false_lt (length x.seat.seat.kept) n free.1)) (log_is y (ap (λ (s : Session). s.log.jobs) is))
+            refl (ap (λ (s : Session). s.seat.seat) is) (λ saved. absurd (false≢true saved)) ((tells.seated c x at).agrees.kept ∙ ap (λ (s : Session). 0 ∷ s.log.kept) (sym is)) refl (nothing_waits Opened free.0 refl) (ap (λ (s : Session). s.pending) is) (ap (λ (s : Session). s.log.jobs) is) dropped
+            (no_more w.counts.began) (no_more w.counts.committed) refl tells.holders;
+        move = λ seat'. move_is w (world_after w c (seated_as y seat') (w.history ++ entry.Leave c (Some n) ∷ []) w.counts w.table w.locks None) (steps.Back c n) answers.Leaving (none, tt)
+            (state_is w (w.history ++ entry.Leave c (Some n) ∷ []) (w.history ++ entry.Leave c (Some n) ∷ []) w.counts w.table (slice_set (map turn_at w.sessions) c None) (slice_set w.sessions c (seated_as y seat')) w.locks None (runs_same w.table) refl (no_turn y dropped seat'))
+            (runs_same w.table) (λ kept. refl);
+        fresh = λ seat'. tt;
+      }
 
-    back_free : ((seat_of x).phase ≡ Opened) × (nat_le (length (seat_of x).kept) n ≡ false)
-    back_free = back_open (seat_of x) c n (ap (λ s. refusal_in s (steps.Back c n)) (sym here) ∙ (free (state_of limits h t sessions placed) c (steps.Back c n) refl none).seat)
+  -- Commit.
+  pub committed : refusal_of (state_of w) (steps.Commit c) ≡ None → (p : ℕ) (y : Session) (t' : TableAt) (locks' : List (Option ℕ)) → p ≡ w.counts.committed + 1 → SettlesIn x w.table y t' → Releases c w.locks locks' → Called w c x (steps.Commit c) (answers.Committed p) y t' locks'
+  committed none p y t' locks' number settles releases =
+      let opened = commit_open x.seat.seat c (seat_free w tells c x at (steps.Commit c) refl none) in
+      let nothing = nothing_waits Opened opened refl in
+      let runs = rests_runs w.table t' settles.rests in
+      let numbered = number ∙ ap (λ k. k + 1) tells.commits in
+      record {
+        comes = record {
+          seat = closed_seat;
+          committed = laws.settled (serial w.history) (now w.history) (log_of c w.history);
+          current = now w.history;
+          holder = λ s. cond (option_eq nat_eq (holder_of w.limits.stripes s w.history) (Some c)) None (holder_of w.limits.stripes s w.history);
+          next = subst (λ l. Next w.limits.stripes w.history (entry.Committed c p) closed_seat l (laws.settled (serial w.history) (now w.history) (log_of c w.history)) (now w.history) (λ s. cond (option_eq nat_eq (holder_of w.limits.stripes s w.history) (Some c)) None (holder_of w.limits.stripes s w.history)))
+              (ap changes_of (sym settles.jobs)) (laws.committed w.limits.stripes w.history tells.legal c p x.seat.seat (tells.seated c x at).seat opened numbered);
+          mine = refl;
+          same_seat = settles.seat;
+          saved = λ is. absurd (false≢true is);
+          kept = ap (λ ks. 0 ∷ ks) (sym settles.kept);
+          waits = subst (λ (o : Option PendingAt). Waits Closed o y.log.room) (sym (settles.waits ∙ nothing)) tt;
+          due = subst (λ (js : List MapJob). AreDue (now w.history) (reverse js)) (sym settles.jobs) tt;
+          content = ap map_of settles.rests.nodes.regular ∙ tells.content;
+          apart = λ d other k held. refl;
+          placed = settles.rests.placed;
+          sought = subst (λ (o : Option Cursor). IsSoughtAt t' o None) (sym (settles.cursor ∙ idle_cursor Opened opened refl)) tt;
+          spares = λ others covered place stamp.
+              let none_kept : times_kept y place stamp ≡ 0 + 0 = λ i. times_of (spare_if ((settles.waits ∙ nothing) i)) place stamp + times_in (settles.jobs i) place stamp in
+              let before : IsCovered (λ p s. others p s + times_in x.log.jobs p s) w.table = λ p s.
+              let same : times_of (spare_if x.pending) p s ≡ 0 = ap (λ (o : Option PendingAt). times_of (spare_if o) p s) nothing in
+              let exact : others p s + times_kept x p s ≡ times_out w.table p s = covered p s in
+              drop_zero (others p s) (times_of (spare_if x.pending) p s) (times_in x.log.jobs p s) (times_out w.table p s) same exact in
+              let exact : others place stamp ≡ times_out t' place stamp = settles.spares others before place stamp in
+              with_none (others place stamp) (times_kept y place stamp) (times_out t' place stamp) none_kept exact;
+          largest = settles.rests.nodes.buckets.largest;
+          helpers = ap length settles.rests.nodes.buckets.helps;
+          begins = no_more w.counts.began;
+          commits = number;
+          long = releases.as_many;
+          holders = released_holders locks' releases;
+        };
+        move = λ seat'. move_is w (world_after w c (seated_as y seat') (w.history ++ entry.Committed c p ∷ []) (record { began = w.counts.began; committed = p }) t' locks' None) (steps.Commit c) (answers.Committed p) (none, numbered)
+            (state_is w (w.history ++ entry.Committed c p ∷ []) (w.history ++ entry.Committed c p ∷ []) (record { began = w.counts.began; committed = p }) t' (map turn_at w.sessions) (slice_set w.sessions c (seated_as y seat')) locks' None runs refl (same_turn y settles.cursor seat'))
+            runs (λ kept. settles.rests.nodes.turn);
+        fresh = λ seat'. tt;
+      }
+    where
+      drop_zero : (a z b n : ℕ) → z ≡ 0 → a + (z + b) ≡ n → a + b ≡ n
+      drop_zero a z b n is exact = omega arith
 
-    left_next : Next limits.stripes h (entry.Leave c (Some n)) (seat_of left) (changes_of left.log.jobs) (serial h) (now h) (λ s. holder_of limits.stripes s h)
-    left_next =
-        next_as limits.stripes h (entry.Leave c (Some n)) (record (seat_of x) { phase = LeavingTo n }) (seat_of left) (log_of c h) (changes_of left.log.jobs) (serial h) (now h) (λ s. holder_of limits.stripes s h)
-        (laws.left_to limits.stripes h tells.legal c n (seat_of x) (tells.seated c x at).seat back_free.0 (le_false_lt (length (seat_of x).kept) n back_free.1))
-        refl (tells.seated c x at).log
+      with_none : (a z n : ℕ) → z ≡ 0 + 0 → a ≡ n → a + z ≡ n
+      with_none a z n is exact = omega arith
 
-    left_grown : Grown limits h (entry.Leave c (Some n)) t t c x left (now h)
-    left_grown =
-        restaged limits h b m t sessions locks placed tells c x left at (entry.Leave c (Some n)) refl refl (ap (λ (st : Stage). spare_at st) (sym (stage_open back_free.0))) tt tt
+  -- Abort.
+  pub withdrawn : refusal_of (state_of w) (steps.Abort c) ≡ None → (y : Session) (t' : TableAt) → WithdrawsIn x w.table y t' → Called w c x (steps.Abort c) answers.Leaving y t' w.locks
+  withdrawn none y t' leaves =
+      let runs = rests_runs w.table t' leaves.rests in
+      let parts = abort_runs x.seat.seat c (seat_free w tells c x at (steps.Abort c) refl none) in
+      record {
+        comes = record {
+          seat = record { phase = LeavingToEnd; standing = x.seat.seat.standing; kept = x.seat.seat.kept };
+          committed = serial w.history;
+          current = now w.history;
+          holder = λ s. holder_of w.limits.stripes s w.history;
+          next = subst (λ l. Next w.limits.stripes w.history (entry.Leave c None) (record { phase = LeavingToEnd; standing = x.seat.seat.standing; kept = x.seat.seat.kept }) l (serial w.history) (now w.history) (λ s. holder_of w.limits.stripes s w.history))
+              ((tells.seated c x at).log ∙ ap (λ (log : Log MapJob). changes_of log.jobs) (sym leaves.log)) (law x.seat.seat.phase refl parts.0 parts.1);
+          mine = refl;
+          same_seat = leaves.seat;
+          saved = λ is. absurd (false≢true is);
+          kept = (tells.seated c x at).agrees.kept ∙ ap (λ (log : Log MapJob). 0 ∷ log.kept) (sym leaves.log);
+          waits = subst (λ (o : Option PendingAt). Waits LeavingToEnd o y.log.room) (sym leaves.waits) tt;
+          due = subst (λ (log : Log MapJob). AreDue (now w.history) (reverse log.jobs)) (sym leaves.log) (tells.seated c x at).due;
+          content = ap map_of leaves.rests.nodes.regular ∙ tells.content;
+          apart = λ d other k held. refl;
+          placed = leaves.rests.placed;
+          sought = subst (λ (o : Option Cursor). IsSoughtAt t' o (target_in LeavingToEnd y.log)) (sym leaves.cursor) tt;
+          spares = leaves.spares;
+          largest = leaves.rests.nodes.buckets.largest;
+          helpers = ap length leaves.rests.nodes.buckets.helps;
+          begins = no_more w.counts.began;
+          commits = no_more w.counts.committed;
+          long = refl;
+          holders = tells.holders;
+        };
+        move = λ seat'. move_is w (world_after w c (seated_as y seat') (w.history ++ entry.Leave c None ∷ []) w.counts t' w.locks None) (steps.Abort c) answers.Leaving (none, tt)
+            (state_is w (w.history ++ entry.Leave c None ∷ []) (w.history ++ entry.Leave c None ∷ []) w.counts t' (slice_set (map turn_at w.sessions) c None) (slice_set w.sessions c (seated_as y seat')) w.locks None runs refl (no_turn y leaves.cursor seat'))
+            runs (λ kept. leaves.rests.nodes.turn);
+        fresh = λ seat'. tt;
+      }
+    where
+      law : (q : Phase) → x.seat.seat.phase ≡ q → is_closed q ≡ false → is_leaving q ≡ false → Next w.limits.stripes w.history (entry.Leave c None) (record { phase = LeavingToEnd; standing = x.seat.seat.standing; kept = x.seat.seat.kept }) (log_of c w.history) (serial w.history) (now w.history) (λ s. holder_of w.limits.stripes s w.history)
+      law Closed is closed leaving = absurd (false≢true (sym closed))
+      law Opened is closed leaving = laws.left_to_end w.limits.stripes w.history tells.legal c x.seat.seat (tells.seated c x at).seat is
+      law (Waiting op) is closed leaving = laws.withdrawn w.limits.stripes w.history tells.legal c op x.seat.seat (tells.seated c x at).seat is
+      law (LeavingTo n) is closed leaving = absurd (false≢true (sym leaving))
+      law LeavingToEnd is closed leaving = absurd (false≢true (sym leaving))
 
-    pub left_tells : (h' : List Entry) → h' ≡ h ++ entry.Leave c (Some n) ∷ [] → Tells limits h' b m t (slice_set sessions c left) locks None
-    left_tells h' is = subst (λ g. Tells limits g b m t (slice_set sessions c left) locks None) (sym is)
-        (grown limits h b m t sessions locks placed tells c x left at (entry.Leave c (Some n)) t locks b m (serial h) (now h) (λ s. holder_of limits.stripes s h) left_grown left_next (no_more b) (no_more m) refl tells.holders)
+  -- The end of taking back: no change above the level is left.
+  module _ (none : refusal_of (state_of w) (steps.Act c) ≡ None) (no_job : has_job x.seat.seat ≡ false) where
+    seat_is : x.seat.seat ≡ record { phase = x.seat.seat.phase; standing = length x.log.jobs; kept = 0 ∷ x.log.kept }
+    seat_is = λ i. record { phase = x.seat.seat.phase; standing = (tells.seated c x at).agrees.standing i; kept = (tells.seated c x at).agrees.kept i }
 
-    pub left_room : (len cap : ℕ) → len + (sum_by owed_of sessions + 2) ≤ cap → len + 1 + sum_by owed_of (slice_set sessions c left) ≤ cap
-    left_room len cap room = room_grown limits h b m t sessions locks placed tells c x left at (entry.Leave c (Some n)) (serial h) (now h) (λ s. holder_of limits.stripes s h) len cap refl left_next (omega arith)
+    no_job_here : not (has_job (seat_in w.history c)) ≡ true
+    no_job_here = ap (λ s. not (has_job s)) (seat_here w tells c x at) ∙ ap not no_job
 
-    pub left_move : (h' : List Entry) → h' ≡ h ++ entry.Leave c (Some n) ∷ [] → Move (state_of limits h t sessions placed) (steps.Back c n) answers.Leaving (state_of limits h' t (slice_set sessions c left) None)
-    left_move h' is = record {
-      allowed = (none, tt);
-      state = state_is limits h' (h ++ entry.Leave c (Some n) ∷ []) t t (slice_set (map turn_at sessions) c None) (slice_set sessions c left) None (runs_same t) is (turns_set sessions c left None refl);
-      changes = omega arith;
-      list_kept = λ kept. refl;
-      stamp = omega arith;
-      one_stamp = omega arith;
-    }
+    none_above : (q : Phase) → x.seat.seat.phase ≡ q → has_job (record { phase = q; standing = length x.log.jobs; kept = 0 ∷ x.log.kept }) ≡ false
+    none_above q is = ap (λ p. has_job (record { phase = p; standing = length x.log.jobs; kept = 0 ∷ x.log.kept })) (sym is) ∙ ap has_job (sym seat_is) ∙ no_job
+
+    -- Back at a level.
+    pub returned : (n : ℕ) (y : Session) → ReturnsIn n x w.locks y w.locks → Called w c x (steps.Act c) (answers.Returned n) y w.table w.locks
+    returned n y returns =
+        let level = level_in (LeavingTo n) returns.phase in
+        let more : nat_lt (kept_at x.log.kept n) (length x.log.jobs) ≡ false = none_above (LeavingTo n) returns.phase in
+        let agrees = (tells.seated c x at).agrees in
+        let reached : slice_index x.seat.seat.kept n ≡ x.seat.seat.standing =
+        ap (λ ks. slice_index ks n) agrees.kept ∙ reach (kept_at x.log.kept n) (length x.log.jobs) (subst (λ ks. slice_index ks n ≤ length x.log.jobs) agrees.kept (subst (λ k. slice_index x.seat.seat.kept n ≤ k) agrees.standing level.1)) (at_most (kept_at x.log.kept n) (length x.log.jobs) more) ∙ sym agrees.standing in
+        record {
+          comes = quiet (entry.Returned c n) y (record { phase = Opened; standing = x.seat.seat.standing; kept = take (n + 1) x.seat.seat.kept }) (log_of c w.history) (serial w.history) (λ s. holder_of w.limits.stripes s w.history) w.locks w.counts
+              (laws.returned w.limits.stripes w.history tells.legal c n x.seat.seat (tells.seated c x at).seat returns.phase reached) (log_is y returns.jobs)
+              refl returns.seat (λ is. absurd (false≢true is)) (ap (λ ks. take (n + 1) ks) agrees.kept ∙ ap (λ k. take k (0 ∷ x.log.kept)) (add-one n) ∙ ap (λ ks. 0 ∷ ks) (sym returns.kept)) refl (nothing_waits (LeavingTo n) returns.phase refl) returns.waits returns.jobs
+              (returns.cursor ∙ idle_cursor (LeavingTo n) returns.phase (no_newest x.log n more)) (no_more w.counts.began) (no_more w.counts.committed) refl tells.holders;
+          move = λ seat'. move_is w (world_after w c (seated_as y seat') (w.history ++ entry.Returned c n ∷ []) w.counts w.table w.locks None) (steps.Act c) (answers.Returned n)
+              (none, and_from (not (has_job (seat_in w.history c))) (is_back_at n (seat_in w.history c).phase) no_job_here (ap (λ (s : Seat). is_back_at n s.phase) (seat_here w tells c x at) ∙ ap (is_back_at n) returns.phase ∙ eq-eqb n n refl))
+              (state_is w (w.history ++ entry.Returned c n ∷ []) (w.history ++ entry.Returned c n ∷ []) w.counts w.table (map turn_at w.sessions) (slice_set w.sessions c (seated_as y seat')) w.locks None (runs_same w.table) refl (same_turn y returns.cursor seat'))
+              (runs_same w.table) (λ kept. refl);
+          fresh = λ seat'. tt;
+        }
+      where
+        reach : (a b : ℕ) → a ≤ b → b ≤ a → a ≡ b
+        reach a b least most = omega arith
+
+    -- At the end.
+    pub ended : (y : Session) (locks' : List (Option ℕ)) → EndsIn c x w.locks y locks' → Called w c x (steps.Act c) answers.Aborted y w.table locks'
+    ended y locks' ends =
+        let more : nat_lt 0 (length x.log.jobs) ≡ false = none_above LeavingToEnd ends.phase in
+        let agrees = (tells.seated c x at).agrees in
+        let empty : x.log.jobs ≡ [] = no_jobs x.log.jobs (at_most 0 (length x.log.jobs) more) in
+        let nil : x.seat.seat.standing ≡ 0 = agrees.standing ∙ ap length empty in
+        record {
+          comes = quiet (entry.Aborted c) y closed_seat [] (serial w.history) (λ s. cond (option_eq nat_eq (holder_of w.limits.stripes s w.history) (Some c)) None (holder_of w.limits.stripes s w.history)) locks' w.counts
+              (laws.aborted w.limits.stripes w.history tells.legal c x.seat.seat (tells.seated c x at).seat ends.phase nil) (ap changes_of (sym (ends.jobs ∙ empty)))
+              refl ends.seat (λ is. absurd (false≢true is)) (ap (λ ks. 0 ∷ ks) (sym ends.kept)) refl (nothing_waits LeavingToEnd ends.phase refl) ends.waits ends.jobs
+              (ends.cursor ∙ idle_cursor LeavingToEnd ends.phase (no_newest x.log 0 more)) (no_more w.counts.began) (no_more w.counts.committed) ends.releases.as_many (released_holders locks' ends.releases);
+          move = λ seat'. move_is w (world_after w c (seated_as y seat') (w.history ++ entry.Aborted c ∷ []) w.counts w.table locks' None) (steps.Act c) answers.Aborted
+              (none, and_from (not (has_job (seat_in w.history c))) (is_at_end (seat_in w.history c).phase) no_job_here (ap (λ (s : Seat). is_at_end s.phase) (seat_here w tells c x at) ∙ ap is_at_end ends.phase))
+              (state_is w (w.history ++ entry.Aborted c ∷ []) (w.history ++ entry.Aborted c ∷ []) w.counts w.table (map turn_at w.sessions) (slice_set w.sessions c (seated_as y seat')) locks' None (runs_same w.table) refl (same_turn y ends.cursor seat'))
+              (runs_same w.table) (λ kept. refl);
+          fresh = λ seat'. tt;
+        }
+
+  -- The same of a table and of locks that are as they were.
+  pub begun_called : refusal_of (state_of w) (steps.Begin c) ≡ None → (n : ℕ) (y : Session) (t' : TableAt) (locks' : List (Option ℕ)) → n ≡ w.counts.began + 1 → StaysIn x y → t' ≡ w.table → locks' ≡ w.locks → Called w c x (steps.Begin c) (answers.Began n) y t' locks'
+  begun_called none n y t' locks' number stays table same = same_world (Called w c x (steps.Begin c) (answers.Began n) y) w.table t' w.locks locks' table same (begun none n y number stays)
+
+  pub saved_called : refusal_of (state_of w) (steps.Save c) ≡ None → (n : ℕ) (y : Session) (t' : TableAt) (locks' : List (Option ℕ)) → SavesIn n x y → t' ≡ w.table → locks' ≡ w.locks → Called w c x (steps.Save c) (answers.Saved n) y t' locks'
+  saved_called none n y t' locks' saves table same = same_world (Called w c x (steps.Save c) (answers.Saved n) y) w.table t' w.locks locks' table same (saved none n y saves)
+
+  pub left_called : (n : ℕ) → refusal_of (state_of w) (steps.Back c n) ≡ None → (y : Session) (t' : TableAt) (locks' : List (Option ℕ)) → y ≡ record x { cursor = None } → t' ≡ w.table → locks' ≡ w.locks → Called w c x (steps.Back c n) answers.Leaving y t' locks'
+  left_called n none y t' locks' is table same = same_world (Called w c x (steps.Back c n) answers.Leaving y) w.table t' w.locks locks' table same (left n none y is)

@@ -6,24 +6,20 @@ use Rattle.std.proofs.lemmas.Bool.{false≢true, cases_Bool, cases_lt, leb-true,
 use Rattle.std.proofs.lemmas.Option.{slice_get-map, slice_get-get_or}
 use mathlib.Core.Logic.{inl, inr}
 use Rattle.txn_trace.specs.declared.op.Op.{Op}
-use Rattle.txn_trace.specs.declared.entry.Entry.{Entry}
 use Rattle.txn_trace.specs.declared.refusal.Refusal.{Refusal}
 use Rattle.txn_trace.specs.declared.refusal.Refusal.TheVariants.{NoSuchCaller, Unplaced}
 use Rattle.txn_trace.specs.declared.step.Step.{Step}
 use Rattle.txn_trace.specs.declared.step.Step.TheVariants.{Begin, Ask, Seek, Act, Save, Back, Commit, Abort}
-use Rattle.txn_trace.specs.Sizes.{Sizes}
 use Rattle.txn_trace.specs.Map.{key_of}
-use Rattle.txn_trace.specs.Shape.{Phase, Closed, Opened, Waiting, LeavingTo, LeavingToEnd, Seat, closed_seat, own}
-use Rattle.map_ops.specs.Jobs.{PendingAt}
+use Rattle.txn_trace.specs.declared.seat.Phase.{Phase}
+use Rattle.txn_trace.specs.declared.seat.Phase.TheVariants.{Closed, Opened, Waiting, LeavingTo, LeavingToEnd}
+use Rattle.txn_trace.specs.Shape.{Seat, closed_seat}
 use Rattle.map_ops.specs.TableAt.{TableAt, Cursor, cursor_turn}
-use Rattle.boost_core.specs.declared.stage.Stage.{Stage}
-use Rattle.boost_core.specs.declared.stage.Stage.TheVariants as stages
 use Rattle.boost_core.specs.declared.session.Session.{Session}
-use Rattle.boost_core.specs.State.{State, Owner, Caller, seat_in, turn_in}
+use Rattle.boost_core.specs.State.{State, Caller, seat_in, turn_in}
 use Rattle.boost_core.specs.Refusals.{owner_of, is_closed, is_waiting, is_leaving, has_target, tests_in, tests_of, first_of, refusal_in, refusal_of, lacks_in, lacks_cursor}
-use Rattle.boost_core.specs.Sessions.{phase_of, level_of, seat_of, IsLevel, IsSoughtAt}
-use Rattle.boost_core.specs.Core.{Tells, state_of, turn_at}
-use Rattle.txn_trace.proofs.Levels.{IsLevelIn, seat_leveled}
+use Rattle.boost_core.specs.Sessions.{IsSoughtAt}
+use Rattle.boost_core.specs.Core.{World, Tells, state_of, turn_at}
 
 -- The one option, or else the other.
 abbrev pub or_else : Option Refusal → Option Refusal → Option Refusal
@@ -123,21 +119,6 @@ back_open s c n none =
     let open_so = three_tests s _ _ _ _ none in
     (open_so.0, (first_none _ _ None open_so.1).0)
 
--- A caller's stage, where its phase says so.
-pub open_stage : (stage : Stage) → phase_of stage ≡ Opened → stage ≡ stages.Open
-open_stage stages.Closed is = absurd (cc (is))
-open_stage stages.Open is = refl
-open_stage (stages.Asked pending) is = absurd (cc (is))
-open_stage (stages.LeavingTo level) is = absurd (cc (is))
-open_stage stages.LeavingToEnd is = absurd (cc (is))
-
-pub closed_stage : (stage : Stage) → phase_of stage ≡ Closed → stage ≡ stages.Closed
-closed_stage stages.Closed is = refl
-closed_stage stages.Open is = absurd (cc (is))
-closed_stage (stages.Asked pending) is = absurd (cc (is))
-closed_stage (stages.LeavingTo level) is = absurd (cc (is))
-closed_stage stages.LeavingToEnd is = absurd (cc (is))
-
 -- A caller that acts on no key has no cursor.
 pub no_cursor : (t : TableAt) (cursor : Option Cursor) → IsSoughtAt t cursor None → cursor ≡ None
 no_cursor t None sought = refl
@@ -146,25 +127,15 @@ no_cursor t (Some cursor) sought = absurd sought
 slice_get-mapped : {A B : Type 0} (f : A → B) (xs : List A) (i : ℕ) (x : A) → slice_get xs i ≡ Some x → slice_get (map f xs) i ≡ Some (f x)
 slice_get-mapped f xs i x at = slice_get-map f xs i ∙ ap (option_map f) at
 
-level_at : (stage : Stage) (standing : ℕ) (kept : List ℕ) → IsLevelIn (phase_of stage) standing (0 ∷ kept) → level_of stage ≤ length kept
-level_at stages.Closed standing kept is = omega arith
-level_at stages.Open standing kept is = omega arith
-level_at (stages.Asked pending) standing kept is = omega arith
-level_at (stages.LeavingTo level) standing kept is = let below : level < length (0 ∷ kept) = is.0 in omega arith
-level_at stages.LeavingToEnd standing kept is = omega arith
-
-module _ (limits : Sizes) (h : List Entry) (b m : ℕ) (t : TableAt) (sessions : List Session) (locks : List (Option ℕ)) (placed : Option Owner) (tells : Tells limits h b m t sessions locks placed) (c : ℕ) (x : Session) (at : slice_get sessions c ≡ Some x) where
+module _ (w : World) (tells : Tells w) (c : ℕ) (x : Session) (at : slice_get w.sessions c ≡ Some x) where
   -- A caller's seat and its cursor's turn are the machine's.
-  pub seat_here : seat_in h c ≡ seat_of x
+  pub seat_here : seat_in w.history c ≡ x.seat.seat
   seat_here = ap (λ o. unwrap_or o closed_seat) (tells.seated c x at).seat
 
-  pub turn_here : turn_in (map turn_at sessions) c ≡ turn_at x
-  turn_here = ap (λ o. unwrap_or o None) (slice_get-mapped turn_at sessions c x at)
+  pub turn_here : turn_in (map turn_at w.sessions) c ≡ turn_at x
+  turn_here = ap (λ o. unwrap_or o None) (slice_get-mapped turn_at w.sessions c x at)
 
-  pub level_here : IsLevel x
-  level_here = level_at x.stage (length x.log.jobs) x.log.kept (seat_leveled (own c h) (seat_of x) (tells.seated c x at).seat).within
-
-  pub turn_is_some : is_some (turn_in (map turn_at sessions) c) ≡ is_some x.cursor
+  pub turn_is_some : is_some (turn_in (map turn_at w.sessions) c) ≡ is_some x.cursor
   turn_is_some = ap is_some turn_here ∙ both x.cursor
     where
       both : (o : Option Cursor) → is_some (option_map cursor_turn o) ≡ is_some o
@@ -172,12 +143,19 @@ module _ (limits : Sizes) (h : List Entry) (b m : ℕ) (t : TableAt) (sessions :
       both (Some cursor) = refl
 
   -- The refusal of a step is that of the caller's side.
-  pub refusal_here : (step : Step) → owner_of step ≡ Some (Caller c) → nat_le limits.callers c ≡ false
-      → refusal_of (state_of limits h t sessions placed) step ≡ or_else (refusal_in (seat_of x) step) (cond (lacks_in (seat_of x) (is_some x.cursor) step) (Some Unplaced) None)
+  pub refusal_here : (step : Step) → owner_of step ≡ Some (Caller c) → nat_le w.limits.callers c ≡ false
+      → refusal_of (state_of w) step ≡ or_else (refusal_in x.seat.seat step) (cond (lacks_in x.seat.seat (is_some x.cursor) step) (Some Unplaced) None)
   refusal_here step owner within =
-      refusal_parts (state_of limits h t sessions placed) c step owner
-      ∙ ap (λ b. cond b (Some NoSuchCaller) (or_else (refusal_in (seat_in h c) step) (cond (lacks_in (seat_in h c) (is_some (turn_in (map turn_at sessions) c)) step) (Some Unplaced) None))) within
+      refusal_parts (state_of w) c step owner
+      ∙ ap (λ b. cond b (Some NoSuchCaller) (or_else (refusal_in (seat_in w.history c) step) (cond (lacks_in (seat_in w.history c) (is_some (turn_in (map turn_at w.sessions) c)) step) (Some Unplaced) None))) within
       ∙ (λ i. or_else (refusal_in (seat_here i) step) (cond (lacks_in (seat_here i) (turn_is_some i) step) (Some Unplaced) None))
+
+  -- What nothing refuses, the caller's side does not refuse.
+  pub seat_free : (step : Step) → owner_of step ≡ Some (Caller c) → refusal_of (state_of w) step ≡ None → refusal_in x.seat.seat step ≡ None
+  seat_free step owner none = ap (λ s. refusal_in s step) (sym seat_here) ∙ (free (state_of w) c step owner none).seat
+
+  pub cursor_free : (step : Step) → owner_of step ≡ Some (Caller c) → refusal_of (state_of w) step ≡ None → lacks_in x.seat.seat (is_some x.cursor) step ≡ false
+  cursor_free step owner none = (λ i. lacks_in (sym seat_here i) (sym turn_is_some i) step) ∙ (free (state_of w) c step owner none).cursor
 
 -- Where the seat refuses, that is the refusal; where it does not, want of a cursor is.
 pub or_else_some : (one other : Option Refusal) → is_some one ≡ true → or_else one other ≡ one
@@ -208,12 +186,11 @@ pub lacking : (one : Option Refusal) (b value : Bool) → one ≡ None → b ≡
 lacking one b value none is = ap (λ o. or_else o (cond b (Some Unplaced) None)) none ∙ ap (λ v. cond v (Some Unplaced) None) is
 
 -- A caller of a step that nothing refuses has its side.
-pub at_free : (limits : Sizes) (h : List Entry) (b m : ℕ) (t : TableAt) (sessions : List Session) (locks : List (Option ℕ)) (placed : Option Owner) → Tells limits h b m t sessions locks placed
-    → (c : ℕ) (step : Step) → owner_of step ≡ Some (Caller c) → refusal_of (state_of limits h t sessions placed) step ≡ None → (x : Session) → x ≡ get_or sessions c x → slice_get sessions c ≡ Some x
-at_free limits h b m t sessions locks placed tells c step owner none x is =
-    let below : c < limits.callers = le_false_lt limits.callers c (free (state_of limits h t sessions placed) c step owner none).within in
-    let count : length sessions ≡ limits.callers = tells.count in
-    index_at sessions c x (omega arith) is
+pub at_free : (w : World) → Tells w → (c : ℕ) (step : Step) → owner_of step ≡ Some (Caller c) → refusal_of (state_of w) step ≡ None → (x : Session) → x ≡ get_or w.sessions c x → slice_get w.sessions c ≡ Some x
+at_free w tells c step owner none x is =
+    let below : c < w.limits.callers = le_false_lt w.limits.callers c (free (state_of w) c step owner none).within in
+    let count : length w.sessions ≡ w.limits.callers = tells.count in
+    index_at w.sessions c x (omega arith) is
 
 pub abort_runs : (s : Seat) (c : ℕ) → refusal_in s (Abort c) ≡ None → (is_closed s.phase ≡ false) × (is_leaving s.phase ≡ false)
 abort_runs s c none =
@@ -227,13 +204,6 @@ seek_target s c none =
 
 pub not_is_false : (b : Bool) → not b ≡ false → b ≡ true
 not_is_false b is = not_false b is
-
-pub asked_stage : (stage : Stage) → is_waiting (phase_of stage) ≡ true → (pending : PendingAt) × (stage ≡ stages.Asked pending)
-asked_stage stages.Closed is = absurd (false≢true is)
-asked_stage stages.Open is = absurd (false≢true is)
-asked_stage (stages.Asked pending) is = (pending, refl)
-asked_stage (stages.LeavingTo level) is = absurd (false≢true is)
-asked_stage stages.LeavingToEnd is = absurd (false≢true is)
 
 -- A caller of a step that nothing refuses, told of the machine's state.
 pub free_of : (state old : State) (step : Step) → state ≡ old → refusal_of old step ≡ None → refusal_of state step ≡ None

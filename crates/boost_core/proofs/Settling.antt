@@ -1,5 +1,5 @@
 -- What a table keeps while spares are given back.
-use Rattle.std.proofs.Common.{◌≡◌, ℕ, ◌+◌, ◌<◌, ◌≤◌, true, List, [], ◌∷◌, ◌++◌, length, Option, None, is_some, length-append, refl, sym, ap, ◌∙◌, arith}
+use Rattle.std.proofs.Common.{◌≡◌, ℕ, ◌+◌, ◌<◌, ◌≤◌, true, List, [], ◌∷◌, ◌++◌, length, Option, Some, None, is_some, length-append, refl, sym, ap, ◌∙◌, arith}
 use Rattle.std.proofs.lemmas.List.Sums.{sum_by_push}
 use Rattle.std.proofs.lemmas.Bool.{cases_lt, false≢true}
 use mathlib.Core.Logic.{inl, inr}
@@ -9,9 +9,7 @@ use Rattle.map_ops.specs.TableAt.{TableAt, SpareAt, Follows}
 use Rattle.map_ops.specs.Changes.{OwnsIf, GivesBack}
 use Rattle.boost_core.specs.Spares.{times_of, times_in, times_out, IsCovered}
 use Rattle.map_ops.specs.Jobs.{PendingAt}
-use Rattle.boost_core.specs.declared.stage.Stage.{Stage}
-use Rattle.boost_core.specs.declared.stage.Stage.TheVariants as stages
-use Rattle.boost_core.specs.Sessions.{Rests, spare_at}
+use Rattle.boost_core.specs.Sessions.{Rests, spare_if}
 use Rattle.boost_core.proofs.Spares.{owns_if, spent}
 
 pub rests_same : (t : TableAt) → Rests t t
@@ -50,8 +48,9 @@ times_pushed : (jobs jobs' : List MapJob) (job : MapJob) (place stamp : ℕ) →
 times_pushed jobs jobs' job place stamp is = ap (λ js. times_in js place stamp) is ∙ sum_by_push (λ (j : MapJob). times_of (spare_of_job j) place stamp) jobs' job
 
 -- The spare of the newest job is the table's.
-pub newest_owned : (t : TableAt) (jobs jobs' : List MapJob) (job : MapJob) → jobs ≡ jobs' ++ job ∷ [] → IsCovered (times_in jobs) t → OwnsIf t (spare_of_job job)
-newest_owned t jobs jobs' job is covered = owns_if t (spare_of_job job) (times_in jobs) (λ place stamp. let times = times_pushed jobs jobs' job place stamp is in omega arith) covered
+pub newest_owned : (t : TableAt) (jobs jobs' : List MapJob) (job : MapJob) → jobs ≡ jobs' ++ job ∷ [] → (others : ℕ → ℕ → ℕ) → IsCovered (λ place stamp. others place stamp + times_in jobs place stamp) t → OwnsIf t (spare_of_job job)
+newest_owned t jobs jobs' job is others covered =
+    owns_if t (spare_of_job job) (λ place stamp. others place stamp + times_in jobs place stamp) (λ place stamp. let times = times_pushed jobs jobs' job place stamp is in omega arith) covered
 
 -- Once the newest job is given up, the spares of the others are covered still.
 pub popped_covered : (t t' : TableAt) (jobs jobs' : List MapJob) (job : MapJob) → jobs ≡ jobs' ++ job ∷ [] → GivesBack t t' (spare_of_job job)
@@ -60,39 +59,34 @@ popped_covered t t' jobs jobs' job is back others covered =
     spent t t' (spare_of_job job) (λ place stamp. others place stamp + times_in jobs' place stamp) back.spares
     (λ place stamp.
     let times = times_pushed jobs jobs' job place stamp is in
-    let most : others place stamp + times_in jobs place stamp ≤ times_out t place stamp = covered place stamp in
-    regroup (others place stamp) (times_in jobs place stamp) (times_in jobs' place stamp) (times_of (spare_of_job job) place stamp) (times_out t place stamp) times most)
+    let exact : others place stamp + times_in jobs place stamp ≡ times_out t place stamp = covered place stamp in
+    regroup (others place stamp) (times_in jobs place stamp) (times_in jobs' place stamp) (times_of (spare_of_job job) place stamp) (times_out t place stamp) times exact)
   where
-    regroup : (a b c d n : ℕ) → b ≡ c + d → a + b ≤ n → a + c + d ≤ n
-    regroup a b c d n is most = omega arith
-
-pub popped_own : (t t' : TableAt) (jobs jobs' : List MapJob) (job : MapJob) → jobs ≡ jobs' ++ job ∷ [] → GivesBack t t' (spare_of_job job) → IsCovered (times_in jobs) t → IsCovered (times_in jobs') t'
-popped_own t t' jobs jobs' job is back covered =
-    let after = popped_covered t t' jobs jobs' job is back (λ place stamp. 0) (λ place stamp. let most : times_in jobs place stamp ≤ times_out t place stamp = covered place stamp in omega arith) in
-    λ place stamp. let most : 0 + times_in jobs' place stamp ≤ times_out t' place stamp = after place stamp in omega arith
+    regroup : (a b c d n : ℕ) → b ≡ c + d → a + b ≡ n → a + c + d ≡ n
+    regroup a b c d n is exact = omega arith
 
 pub no_jobs : (jobs : List MapJob) → length jobs ≤ 0 → jobs ≡ []
 no_jobs [] none = refl
 no_jobs (job ∷ jobs) none = absurd (omega arith)
 
 -- The spares that stay covered once what waits is given up.
-pub withdrawn_covered : (t t' : TableAt) (stage stage' : Stage) (pending : PendingAt) (jobs : List MapJob) → stage ≡ stages.Asked pending → stage' ≡ stages.LeavingToEnd → GivesBack t t' pending.spare
-    → (others : ℕ → ℕ → ℕ) → IsCovered (λ place stamp. others place stamp + (times_of (spare_at stage) place stamp + times_in jobs place stamp)) t
-    → IsCovered (λ place stamp. others place stamp + (times_of (spare_at stage') place stamp + times_in jobs place stamp)) t'
-withdrawn_covered t t' stage stage' pending jobs was is back others covered place stamp =
-    let after : others place stamp + times_in jobs place stamp ≤ times_out t' place stamp =
+pub withdrawn_covered : (t t' : TableAt) (had now : Option PendingAt) (pending : PendingAt) (jobs : List MapJob) → had ≡ Some pending → now ≡ None → GivesBack t t' pending.spare
+    → (others : ℕ → ℕ → ℕ) → IsCovered (λ place stamp. others place stamp + (times_of (spare_if had) place stamp + times_in jobs place stamp)) t
+    → IsCovered (λ place stamp. others place stamp + (times_of (spare_if now) place stamp + times_in jobs place stamp)) t'
+withdrawn_covered t t' had now pending jobs was is back others covered place stamp =
+    let after : others place stamp + times_in jobs place stamp ≡ times_out t' place stamp =
     spent t t' pending.spare (λ p s. others p s + times_in jobs p s) back.spares (λ p s.
-    let same : times_of (spare_at stage) p s ≡ times_of pending.spare p s = ap (λ (q : Stage). times_of (spare_at q) p s) was in
-    let most : others p s + (times_of (spare_at stage) p s + times_in jobs p s) ≤ times_out t p s = covered p s in
-    regroup (others p s) (times_of (spare_at stage) p s) (times_of pending.spare p s) (times_in jobs p s) (times_out t p s) same most) place stamp in
-    let none : times_of (spare_at stage') place stamp ≡ 0 = ap (λ (q : Stage). times_of (spare_at q) place stamp) is in
-    regroup' (others place stamp) (times_of (spare_at stage') place stamp) (times_in jobs place stamp) (times_out t' place stamp) none after
+    let same : times_of (spare_if had) p s ≡ times_of pending.spare p s = ap (λ (o : Option PendingAt). times_of (spare_if o) p s) was in
+    let exact : others p s + (times_of (spare_if had) p s + times_in jobs p s) ≡ times_out t p s = covered p s in
+    regroup (others p s) (times_of (spare_if had) p s) (times_of pending.spare p s) (times_in jobs p s) (times_out t p s) same exact) place stamp in
+    let none : times_of (spare_if now) place stamp ≡ 0 = ap (λ (o : Option PendingAt). times_of (spare_if o) place stamp) is in
+    regroup' (others place stamp) (times_of (spare_if now) place stamp) (times_in jobs place stamp) (times_out t' place stamp) none after
   where
-    regroup : (a b c d n : ℕ) → b ≡ c → a + (b + d) ≤ n → a + d + c ≤ n
-    regroup a b c d n same most = omega arith
+    regroup : (a b c d n : ℕ) → b ≡ c → a + (b + d) ≡ n → a + d + c ≡ n
+    regroup a b c d n same exact = omega arith
 
-    regroup' : (a b d n : ℕ) → b ≡ 0 → a + d ≤ n → a + (b + d) ≤ n
-    regroup' a b d n none most = omega arith
+    regroup' : (a b d n : ℕ) → b ≡ 0 → a + d ≡ n → a + (b + d) ≡ n
+    regroup' a b d n none exact = omega arith
 
 pub none_left : {A : Type 0} (o : Option A) (n : ℕ) → o ≡ None → (0 < n → is_some o ≡ true) → n ≤ 0
 none_left o n none some = elim (cases_lt 0 n) [

@@ -20,7 +20,7 @@ at_least_once false is = absurd (omega arith)
 -- A spare that is kept is the table's.
 pub kept_owned : (kept : ℕ → ℕ → ℕ) (t : TableAt) (place stamp : ℕ) → IsCovered kept t → 1 ≤ kept place stamp → spare_out t place ≡ Some stamp
 kept_owned kept t place stamp covered once =
-    let most : kept place stamp ≤ times_out t place stamp = covered place stamp in
+    let exact : kept place stamp ≡ times_out t place stamp = covered place stamp in
     same_option (spare_out t place) (Some stamp) (at_least_once (option_eq nat_eq (spare_out t place) (Some stamp)) (omega arith))
 
 times_same : (t t' : TableAt) (place stamp : ℕ) → spare_out t' place ≡ spare_out t place → times_out t' place stamp ≡ times_out t place stamp
@@ -37,9 +37,6 @@ times_one t place stamp is = ap (λ b. cond b 1 0) (same_is (spare_out t place) 
 
 pub times_here : (spare : SpareAt) → times_of (Some spare) spare.place spare.stamp ≡ 1
 times_here spare = ap (λ b. cond b 1 0) (and_from (spare.place == spare.place) (spare.stamp == spare.stamp) (eq-eqb spare.place spare.place refl) (eq-eqb spare.stamp spare.stamp refl))
-
-times_most : (spare : SpareAt) (place stamp : ℕ) → times_of (Some spare) place stamp ≤ 1
-times_most spare place stamp = elim (spare.place == place && spare.stamp == stamp) as (λ b. cond b 1 0 ≤ 1) [ true ↦ omega arith | false ↦ omega arith ]
 
 and_right_false : (a b : Bool) → b ≡ false → (a && b) ≡ false
 and_right_false true b is = is
@@ -58,17 +55,19 @@ times_is spare place stamp at is = ap (λ (p : ℕ). times_of (Some spare) p sta
 pub spent : (t t' : TableAt) (spare : Option SpareAt) (others : ℕ → ℕ → ℕ) → Spends t t' spare → IsCovered (λ place stamp. others place stamp + times_of spare place stamp) t → IsCovered others t'
 spent t t' None others is covered place stamp =
     let same : times_out t' place stamp ≡ times_out t place stamp = times_same t t' place stamp (is place) in
-    let most : others place stamp + 0 ≤ times_out t place stamp = covered place stamp in
+    let exact : others place stamp + 0 ≡ times_out t place stamp = covered place stamp in
     omega arith
 spent t t' (Some spare) others is covered place stamp = elim (cases_eq place spare.place) [
   | inr other ↦
       let same : times_out t' place stamp ≡ times_out t place stamp = times_same t t' place stamp (is.1 place other) in
-      let most : others place stamp + times_of (Some spare) place stamp ≤ times_out t place stamp = covered place stamp in
+      let exact : others place stamp + times_of (Some spare) place stamp ≡ times_out t place stamp = covered place stamp in
+      let away : times_of (Some spare) place stamp ≡ 0 = times_away spare place stamp (λ e. other (sym e)) in
       omega arith
   | inl here ↦
-      let most : others place stamp + times_of (Some spare) place stamp ≤ times_out t place stamp = covered place stamp in
+      let exact : others place stamp + times_of (Some spare) place stamp ≡ times_out t place stamp = covered place stamp in
       let one : times_of (Some spare) spare.place spare.stamp ≡ 1 = times_here spare in
       let owned : spare_out t spare.place ≡ Some spare.stamp = kept_owned (λ p s. others p s + times_of (Some spare) p s) t spare.place spare.stamp covered (omega arith) in
+      let gone : times_out t' place stamp ≡ 0 = times_none t' place stamp (ap (spare_out t') here ∙ is.0) in
       elim (cases_eq stamp spare.stamp) [
         | inl same ↦
             let once : times_of (Some spare) place stamp ≡ 1 = times_is spare place stamp here same in
@@ -85,19 +84,20 @@ pub given : (t t' : TableAt) (spare : SpareAt) (others : ℕ → ℕ → ℕ) �
 given t t' spare others gives covered place stamp = elim (cases_eq place spare.place) [
   | inr other ↦
       let same : times_out t' place stamp ≡ times_out t place stamp = times_same t t' place stamp (gives.others place other) in
-      let most : others place stamp ≤ times_out t place stamp = covered place stamp in
+      let exact : others place stamp ≡ times_out t place stamp = covered place stamp in
       let away : times_of (Some spare) place stamp ≡ 0 = times_away spare place stamp (λ e. other (sym e)) in
       omega arith
   | inl here ↦
       let none : times_out t place stamp ≡ 0 = times_none t place stamp (ap (spare_out t) here ∙ gives.fresh) in
-      let most : others place stamp ≤ times_out t place stamp = covered place stamp in
+      let exact : others place stamp ≡ times_out t place stamp = covered place stamp in
       elim (cases_eq stamp spare.stamp) [
         | inl same ↦
             let one : times_out t' place stamp ≡ 1 = times_one t' place stamp (ap (spare_out t') here ∙ gives.owned ∙ ap Some (sym same)) in
-            let once = times_most spare place stamp in
+            let once : times_of (Some spare) place stamp ≡ 1 = times_is spare place stamp here same in
             omega arith
         | inr differs ↦
             let unlike : times_of (Some spare) place stamp ≡ 0 = times_unlike spare place stamp (λ e. differs (sym e)) in
+            let other : times_out t' place stamp ≡ 0 = times_other t' place stamp spare.stamp (ap (spare_out t') here ∙ gives.owned) (λ e. differs (sym e)) in
             omega arith
       ]
 ]
@@ -106,13 +106,14 @@ given t t' spare others gives covered place stamp = elim (cases_eq place spare.p
 pub still_covered : (t t' : TableAt) (kept : ℕ → ℕ → ℕ) → KeepsSpares t t' → IsCovered kept t → IsCovered kept t'
 still_covered t t' kept same covered place stamp =
     let is : times_out t' place stamp ≡ times_out t place stamp = times_same t t' place stamp (same place) in
-    let most : kept place stamp ≤ times_out t place stamp = covered place stamp in
+    let exact : kept place stamp ≡ times_out t place stamp = covered place stamp in
     omega arith
 
-pub less_covered : (t : TableAt) (kept less : ℕ → ℕ → ℕ) → ((place stamp : ℕ) → less place stamp ≤ kept place stamp) → IsCovered kept t → IsCovered less t
-less_covered t kept less fewer covered place stamp =
-    let few = fewer place stamp in
-    let most : kept place stamp ≤ times_out t place stamp = covered place stamp in
+-- Where no spare is out, none is kept.
+pub none_covered : (t : TableAt) (kept : ℕ → ℕ → ℕ) → ((place : ℕ) → spare_out t place ≡ None) → ((place stamp : ℕ) → kept place stamp ≡ 0) → IsCovered kept t
+none_covered t kept none_out none_kept place stamp =
+    let none : times_out t place stamp ≡ 0 = times_none t place stamp (none_out place) in
+    let kept_none = none_kept place stamp in
     omega arith
 
 -- The spare of which one is kept is the table's.

@@ -1,5 +1,5 @@
 -- A core in which nothing has happened.
-use Rattle.std.proofs.Common.{◌≡◌, ℕ, ◌+◌, ◌<◌, ◌∷◌, true, List, [], length, map, replicate, Option, Some, None, suc, refl, sym, ap, subst, ◌∙◌, arith}
+use Rattle.std.proofs.Common.{◌≡◌, ℕ, ◌+◌, ◌<◌, ◌≤◌, ◌∷◌, true, List, [], length, map, replicate, Option, Some, None, suc, refl, sym, ap, subst, ◌∙◌, arith}
 use Rattle.std.specs.Prelude.{slice_get, sum_by, reverse}
 use Rattle.std.specs.List.{All}
 use Rattle.std.specs.Option.{option_map}
@@ -13,22 +13,32 @@ use mathlib.Core.Logic.{inl, inr}
 use Rattle.key_locks.specs.Locks.{holder_of as held_by}
 use Rattle.txn_trace.specs.Sizes.{Sizes, are_limits}
 use Rattle.txn_trace.specs.Now.{now}
+use Rattle.txn_trace.specs.declared.seat.Phase.TheVariants.{Closed}
+use Rattle.txn_trace.specs.Shape.{Seat}
 use Rattle.txn_trace.specs.Owed.{owed_in}
 use Rattle.txn_trace.specs.History.{caller_of}
 use Rattle.txn_trace.proofs.Judging.{legal_none}
 use Rattle.map_ops.specs.declared.job.MapJob.{MapJob}
+use Rattle.map_ops.specs.Jobs.{PendingAt}
 use Rattle.map_ops.specs.TableAt.{TableAt, Cursor, IsNew, Nothing, cursor_turn}
-use Rattle.boost_core.specs.declared.stage.Stage.{Stage}
 use Rattle.boost_core.specs.declared.session.Session.{Session}
 use Rattle.boost_core.specs.State.{start}
 use Rattle.boost_core.specs.Spares.{times_of, times_in}
-use Rattle.boost_core.specs.Sessions.{IsIdle, IsReady, IsSoughtAt, AreDue, phase_of, owed_of, target_of, times_kept, spare_at, changes_of}
-use Rattle.boost_core.specs.Core.{Tells, state_of, turn_at}
+use Rattle.boost_core.specs.Sessions.{IsIdle, Agrees, Waits, IsSoughtAt, AreDue, level_of, owed_of, target_of, times_kept, spare_if, changes_of}
+use Rattle.boost_core.specs.Core.{World, Tells, state_of, turn_at, all_times}
+use Rattle.boost_core.proofs.Spares.{none_covered}
 use Rattle.boost_core.proofs.Powers.{IsPower, power_from_test}
 
 -- What limits say of the number of buckets.
 pub buckets_power : (callers stripes buckets : ℕ) → are_limits callers stripes buckets ≡ true → IsPower buckets
 buckets_power callers stripes buckets are = power_from_test buckets (and_parts _ (is_power_of_two buckets) are).1
+
+-- What they say of callers and stripes.
+pub few_callers : (callers stripes buckets : ℕ) → are_limits callers stripes buckets ≡ true → callers ≤ 64
+few_callers callers stripes buckets are = grind arith
+
+pub some_stripe : (callers stripes buckets : ℕ) → are_limits callers stripes buckets ≡ true → 0 < stripes
+some_stripe callers stripes buckets are = grind arith
 
 -- A list whose elements all have one image.
 image_is : {A B : Type 0} (f : A → B) (b : B) (xs : List A) → ((x : A) (k : ℕ) → slice_get xs k ≡ Some x → f x ≡ b) → map f xs ≡ replicate (length xs) b
@@ -50,9 +60,20 @@ module _ (limits : Sizes) (t : TableAt) (new : IsNew t limits.buckets limits.cal
   is_idle s c at = subst IsIdle (get_or_from_slice_get sessions c s s at) (idle c s (slice_get_within sessions c s at))
 
   no_times : (s : Session) → IsIdle s → (place stamp : ℕ) → times_kept s place stamp ≡ 0
-  no_times s is place stamp = λ i. times_of (spare_at (is.stage i)) place stamp + times_in (is.jobs i) place stamp
+  no_times s is place stamp = λ i. times_of (spare_if (is.pending i)) place stamp + times_in (is.jobs i) place stamp
 
-  pub start_tells : (locks : List (Option ℕ)) → locks ≡ replicate limits.stripes None → Tells limits [] 0 0 t sessions locks None
+  abbrev pub first_world : List (Option ℕ) → World
+  first_world locks = record { limits = limits; history = []; counts = record { began = 0; committed = 0 }; table = t; sessions = sessions; locks = locks; placed = None }
+
+  idle_agrees : (s : Session) → IsIdle s → Agrees s
+  idle_agrees s is = record {
+    standing = ap (λ (q : Seat). q.standing) is.seat ∙ sym (ap length is.jobs);
+    kept = ap (λ (q : Seat). q.kept) is.seat ∙ sym (ap (λ ks. 0 ∷ ks) is.kept);
+    waits = subst (λ (q : Seat). Waits q.phase s.pending s.log.room) (sym is.seat) (subst (λ (o : Option PendingAt). Waits Closed o s.log.room) (sym is.pending) tt);
+    level = let none : level_of s.seat.seat.phase ≡ 0 = ap (λ (q : Seat). level_of q.phase) is.seat in omega arith;
+  }
+
+  pub start_tells : (locks : List (Option ℕ)) → locks ≡ replicate limits.stripes None → Tells (first_world locks)
   start_tells locks none = record {
     legal = legal_none limits.stripes;
     callers = All-nil (λ entry. caller_of entry < limits.callers);
@@ -63,15 +84,13 @@ module _ (limits : Sizes) (t : TableAt) (new : IsNew t limits.buckets limits.cal
     seated = λ c s at.
         let is = is_idle s c at in
         record {
-          seat = λ i. Some (record { phase = phase_of (sym is.stage i); standing = length (sym is.jobs i); kept = 0 ∷ sym is.kept i });
+          seat = ap Some (sym is.seat);
           log = ap changes_of (sym is.jobs);
           due = subst (λ (js : List MapJob). AreDue (now []) (reverse js)) (sym is.jobs) tt;
-          ready = subst (λ (st : Stage). IsReady st s.log.room) (sym is.stage) tt;
+          agrees = idle_agrees s is;
         };
     sought = λ c s at. subst (λ (cursor : Option Cursor). IsSoughtAt t cursor (target_of s)) (sym (is_idle s c at).cursor) tt;
-    spares = λ place stamp.
-        let none_kept : sum_by (λ s. times_kept s place stamp) sessions ≡ 0 = sum_none (λ s. times_kept s place stamp) sessions (λ s c at. no_times s (is_idle s c at) place stamp) in
-        omega arith;
+    spares = none_covered t (all_times sessions) new.none_out (λ place stamp. sum_none (λ s. times_kept s place stamp) sessions (λ s c at. no_times s (is_idle s c at) place stamp));
     fresh = tt;
     stripes = ap length none ∙ length-replicate limits.stripes None;
     holders = λ s below. ap (λ ls. held_by ls s) none ∙ none_held limits.stripes s;
@@ -80,10 +99,10 @@ module _ (limits : Sizes) (t : TableAt) (new : IsNew t limits.buckets limits.cal
   }
 
   pub none_owed : sum_by owed_of sessions ≡ 0
-  none_owed = sum_none owed_of sessions (λ s c at. let is = is_idle s c at in ap (λ (st : Stage). owed_in (length s.log.jobs) (phase_of st)) is.stage)
+  none_owed = sum_none owed_of sessions (λ s c at. ap (λ (q : Seat). owed_in q.standing q.phase) (is_idle s c at).seat)
 
-  pub start_is : state_of limits [] t sessions None ≡ start limits
-  start_is = λ i. record {
+  pub start_is : (locks : List (Option ℕ)) → state_of (first_world locks) ≡ start limits
+  start_is locks = λ i. record {
     limits = limits;
     history = [];
     size = new.size_is i;

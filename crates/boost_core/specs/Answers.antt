@@ -9,7 +9,9 @@ use Rattle.txn_trace.specs.Map.{Map, count_of, reply_of}
 use Rattle.txn_trace.specs.History.{is_began, is_commit}
 use Rattle.txn_trace.specs.Now.{now}
 use Rattle.txn_trace.specs.Entries.{entries_of}
-use Rattle.txn_trace.specs.Shape.{Phase, Waiting, LeavingTo, LeavingToEnd, how_many}
+use Rattle.txn_trace.specs.declared.seat.Phase.{Phase}
+use Rattle.txn_trace.specs.declared.seat.Phase.TheVariants.{Waiting, LeavingTo, LeavingToEnd}
+use Rattle.txn_trace.specs.Shape.{how_many}
 use Rattle.txn_trace.specs.Locks.{is_locked}
 use Rattle.boost_core.specs.State.{State, Owner, Caller, Helper, Help, Nothing, Sought, Dummy, seat_in, turn_in, help_in, turn_at, bucket_at, is_set, with_bucket}
 use Rattle.boost_core.specs.Refusals.{has_job, has_target, has_stamp, has_stamp_for, lacks_dummy}

@@ -3,7 +3,6 @@ use Rattle.std.specs.Prelude.{◌≡◌, ℕ, ◌+◌, ◌<◌, ◌≤◌, true,
 use Rattle.std.specs.Option.{option_map}
 use Rattle.std.specs.Global.{Vec}
 use Rattle.std.specs.List.{All}
-use Rattle.map_ops.specs.TableAt.{Cursor}
 use Rattle.txn_trace.specs.declared.entry.Entry.{Entry}
 use Rattle.txn_trace.specs.Sizes.{Sizes}
 use Rattle.txn_trace.specs.History.{caller_of, is_began, is_commit}
@@ -13,38 +12,61 @@ use Rattle.txn_trace.specs.Log.{log_of}
 use Rattle.txn_trace.specs.Locks.{holder_of}
 use Rattle.txn_trace.specs.Legal.{IsLegal}
 use Rattle.key_locks.specs.Locks.{holder_of as held_by}
-use Rattle.map_ops.specs.TableAt.{TableAt, content, cursor_turn, fits, size_of, stored_of, linked_of, helps_of, turn_of, last_of, largest_of}
+use Rattle.map_ops.specs.TableAt.{TableAt, Cursor, content, cursor_turn, fits, size_of, stored_of, linked_of, helps_of, turn_of, last_of, largest_of}
 use Rattle.map_ops.specs.Buckets.{helper_fits}
+use Rattle.boost_core.specs.declared.counts.Counts.{Counts}
 use Rattle.boost_core.specs.declared.session.Session.{Session}
 use Rattle.boost_core.specs.State.{State, Owner, Caller, Helper}
 use Rattle.boost_core.specs.Spares.{IsCovered}
-use Rattle.boost_core.specs.Sessions.{seat_of, owed_of, IsReady, IsSought, times_kept, changes_of, AreDue}
+use Rattle.boost_core.specs.Sessions.{owed_of, Agrees, IsSought, times_kept, changes_of, AreDue}
+
+-- What a core is made of, but for room: the limits, the history and its counts, the table, each caller's side, the
+-- stripes' holders, and whose cursor the last move placed.
+pub record World : Type 0 where
+  pub limits : Sizes
+  pub history : List Entry
+  pub counts : Counts
+  pub table : TableAt
+  pub sessions : List Session
+  pub locks : List (Option ℕ)
+  pub placed : Option Owner
+
+abbrev pub world_of : Sizes → Vec Entry → Counts → TableAt → Vec Session → List (Option ℕ) → Option Owner → World
+world_of limits history counts table sessions locks placed = record {
+  limits = limits;
+  history = history.items;
+  counts = counts;
+  table = table;
+  sessions = sessions.items;
+  locks = locks;
+  placed = placed;
+}
 
 -- The turn of each caller's cursor.
 abbrev pub turn_at : Session → Option ℕ
 turn_at s = option_map cursor_turn s.cursor
 
 -- The state of the machine.
-abbrev pub state_of : Sizes → List Entry → TableAt → List Session → Option Owner → State
-state_of limits history table sessions placed = record {
-  limits = limits;
-  history = history;
-  size = size_of table;
-  stored = stored_of table;
-  linked = linked_of table;
-  changes = turn_of table;
-  stamp = last_of table;
-  cursors = map turn_at sessions;
-  helpers = helps_of table;
-  placed = placed;
+abbrev pub state_of : World → State
+state_of w = record {
+  limits = w.limits;
+  history = w.history;
+  size = size_of w.table;
+  stored = stored_of w.table;
+  linked = linked_of w.table;
+  changes = turn_of w.table;
+  stamp = last_of w.table;
+  cursors = map turn_at w.sessions;
+  helpers = helps_of w.table;
+  placed = w.placed;
 }
 
 -- A caller's side is what the history says: its seat, and its log, which may be taken back from the map as it is now.
 pub record IsSeated (history : List Entry) (c : ℕ) (s : Session) : Type 0 where
-  pub seat : seat_after (own c history) ≡ Some (seat_of s)
+  pub seat : seat_after (own c history) ≡ Some s.seat.seat
   pub log : log_of c history ≡ changes_of s.log.jobs
   pub due : AreDue (now history) (reverse s.log.jobs)
-  pub ready : IsReady s.stage s.log.room
+  pub agrees : Agrees s
 
 -- How often all callers keep a spare.
 abbrev pub all_times : List Session → ℕ → ℕ → ℕ
@@ -57,24 +79,24 @@ IsFresh t sessions (Some (Caller c)) = (s : Session) (cursor : Cursor) → slice
 IsFresh t sessions (Some (Helper h)) = helper_fits t h ≡ true
 
 -- The history is legal, and the counts, the stripes' holders, the table and each caller's side are what it says.
-pub record Tells (limits : Sizes) (history : List Entry) (began committed : ℕ) (table : TableAt) (sessions : List Session) (locks : List (Option ℕ)) (placed : Option Owner) : Type 0 where
-  pub legal : IsLegal limits.stripes history
-  pub callers : All (λ entry. caller_of entry < limits.callers) history
-  pub begins : began ≡ how_many is_began history
-  pub commits : committed ≡ how_many is_commit history
-  pub content : content table ≡ now history
-  pub count : length sessions ≡ limits.callers
-  pub seated : (c : ℕ) (s : Session) → slice_get sessions c ≡ Some s → IsSeated history c s
-  pub sought : (c : ℕ) (s : Session) → slice_get sessions c ≡ Some s → IsSought table s
-  pub spares : IsCovered (all_times sessions) table
-  pub fresh : IsFresh table sessions placed
-  pub stripes : length locks ≡ limits.stripes
-  pub holders : (stripe : ℕ) → stripe < limits.stripes → held_by locks stripe ≡ holder_of limits.stripes stripe history
-  pub largest : largest_of table ≡ limits.buckets
-  pub helpers : length (helps_of table) ≡ limits.callers
+pub record Tells (w : World) : Type 0 where
+  pub legal : IsLegal w.limits.stripes w.history
+  pub callers : All (λ entry. caller_of entry < w.limits.callers) w.history
+  pub begins : w.counts.began ≡ how_many is_began w.history
+  pub commits : w.counts.committed ≡ how_many is_commit w.history
+  pub content : content w.table ≡ now w.history
+  pub count : length w.sessions ≡ w.limits.callers
+  pub seated : (c : ℕ) (s : Session) → slice_get w.sessions c ≡ Some s → IsSeated w.history c s
+  pub sought : (c : ℕ) (s : Session) → slice_get w.sessions c ≡ Some s → IsSought w.table s
+  pub spares : IsCovered (all_times w.sessions) w.table
+  pub fresh : IsFresh w.table w.sessions w.placed
+  pub stripes : length w.locks ≡ w.limits.stripes
+  pub holders : (stripe : ℕ) → stripe < w.limits.stripes → held_by w.locks stripe ≡ holder_of w.limits.stripes stripe w.history
+  pub largest : largest_of w.table ≡ w.limits.buckets
+  pub helpers : length (helps_of w.table) ≡ w.limits.callers
 
 -- And what the callers owe is counted, and the history has room for it.
-pub record Holds (limits : Sizes) (history : Vec Entry) (began committed owed : ℕ) (table : TableAt) (sessions : Vec Session) (locks : List (Option ℕ)) (placed : Option Owner) : Type 0 where
-  pub tells : Tells limits history.items began committed table sessions.items locks placed
-  pub owes : owed ≡ sum_by owed_of sessions.items
-  pub room : vec_len history + sum_by owed_of sessions.items ≤ vec_capacity history
+pub record Holds (w : World) (history : Vec Entry) (owed : ℕ) : Type 0 where
+  pub tells : Tells w
+  pub owes : owed ≡ sum_by owed_of w.sessions
+  pub room : vec_len history + sum_by owed_of w.sessions ≤ vec_capacity history

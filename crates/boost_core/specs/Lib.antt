@@ -7,6 +7,11 @@ pub mod Replies
 pub mod Content
 pub mod Machine
 pub mod Plain
+pub mod Counts
+pub mod Placed
+pub mod Serves
+pub mod Adding
 pub mod Spares
 pub mod Sessions
 pub mod Core
+pub mod Whole

@@ -1,13 +1,14 @@
 -- The refusals of each step, in their order.
 pub use Rattle.map_ops.specs.Jobs.{takes_node}
-use Rattle.std.specs.Prelude.{ℕ, ◌^◌, ◌-◌, Bool, true, false, not, ◌==◌, ◌&&◌, ◌||◌, nat_lt, nat_le, slice_index, IsTrue, is_some, length, List, [], ◌∷◌, ◌++◌, Option, Some, None, if◌then◌else◌}
+pub use Rattle.txn_trace.specs.Seats.{is_closed, is_waiting, is_leaving, has_job, has_target}
+pub use Rattle.txn_trace.specs.Seats.{unready_tests, tests_in, first_of, refusal_in}
+use Rattle.std.specs.Prelude.{ℕ, ◌^◌, ◌-◌, Bool, true, false, not, ◌==◌, ◌&&◌, ◌||◌, nat_le, IsTrue, is_some, List, [], ◌∷◌, ◌++◌, Option, Some, None}
 use Rattle.txn_trace.specs.declared.op.Op.{Op}
 use Rattle.txn_trace.specs.declared.step.Step.{Step}
 use Rattle.txn_trace.specs.declared.step.Step.TheVariants.{Begin, Ask, Seek, Act, Save, Back, Commit, Abort, Sweep, InitSeek, InitLink, InitStore, Double}
 use Rattle.txn_trace.specs.declared.refusal.Refusal.{Refusal}
-use Rattle.txn_trace.specs.declared.refusal.Refusal.TheVariants.{BadKey, NoSuchCaller, NotOpen, AlreadyOpen, OperationUnfinished, Leaving, Unplaced, NothingToSeek, NoSuchLevel, NoSuchBucket, ParentMissing, NoSuchHelper, HelperOutOfOrder, NoMemory, StampsUsedUp}
-use Rattle.txn_trace.specs.Map.{key_of}
-use Rattle.txn_trace.specs.Shape.{Phase, Closed, Waiting, LeavingTo, LeavingToEnd, Seat}
+use Rattle.txn_trace.specs.declared.refusal.Refusal.TheVariants.{NoSuchCaller, Unplaced, NoSuchBucket, ParentMissing, NoSuchHelper, HelperOutOfOrder, NoMemory, StampsUsedUp}
+use Rattle.txn_trace.specs.Shape.{Seat}
 use Rattle.map_ops.specs.Buckets.{parent_of}
 use Rattle.map_ops.specs.InitRefusal.{InitRefusal}
 use Rattle.map_ops.specs.InitRefusal.TheVariants as inits
@@ -28,52 +29,6 @@ owner_of (InitSeek h b) = Some (Helper h)
 owner_of (InitLink h) = Some (Helper h)
 owner_of (InitStore h) = Some (Helper h)
 owner_of (Double n) = None
-
-abbrev pub is_closed : Phase → Bool
-is_closed Closed = true
-is_closed _ = false
-
-abbrev pub is_waiting : Phase → Bool
-is_waiting (Waiting op) = true
-is_waiting _ = false
-
-abbrev pub is_leaving : Phase → Bool
-is_leaving (LeavingTo n) = true
-is_leaving LeavingToEnd = true
-is_leaving _ = false
-
--- Whether more changes stand than at the level to which the caller takes changes back.
-abbrev pub has_job : Seat → Bool
-has_job seat = elim seat.phase [ LeavingTo n ↦ nat_lt (slice_index seat.kept n) seat.standing | LeavingToEnd ↦ nat_lt 0 seat.standing | _ ↦ false ]
-
--- Whether there is something to seek: an operation that waits, or a change to take back.
-abbrev pub has_target : Seat → Bool
-has_target seat = is_waiting seat.phase || has_job seat
-
--- The tests of a step that only an open caller with nothing unfinished may take.
-abbrev pub unready_tests : Phase → List (Bool × Refusal)
-unready_tests phase = (is_closed phase, NotOpen) ∷ (is_leaving phase, Leaving) ∷ (is_waiting phase, OperationUnfinished) ∷ []
-
--- The tests of a step that the caller's seat decides, each with its refusal, in their order.
-abbrev pub tests_in : Seat → Step → List (Bool × Refusal)
-tests_in seat (Begin c) = (is_leaving seat.phase, Leaving) ∷ (not (is_closed seat.phase), AlreadyOpen) ∷ []
-tests_in seat (Ask c op) = unready_tests seat.phase ++ (nat_le (2 ^ 63) (key_of op), BadKey) ∷ []
-tests_in seat (Seek c) = (is_closed seat.phase, NotOpen) ∷ (not (has_target seat), NothingToSeek) ∷ []
-tests_in seat (Act c) = (is_closed seat.phase, NotOpen) ∷ (not (is_leaving seat.phase || is_waiting seat.phase), NothingToSeek) ∷ []
-tests_in seat (Save c) = unready_tests seat.phase
-tests_in seat (Back c n) = unready_tests seat.phase ++ (nat_le (length seat.kept) n, NoSuchLevel) ∷ []
-tests_in seat (Commit c) = unready_tests seat.phase
-tests_in seat (Abort c) = (is_closed seat.phase, NotOpen) ∷ (is_leaving seat.phase, Leaving) ∷ []
-tests_in seat step = []
-
--- The refusal of the first test that holds.
-abbrev pub first_of : List (Bool × Refusal) → Option Refusal
-first_of [] = None
-first_of (test ∷ tests) = if test.0 then Some test.1 else first_of tests
-
--- The refusal of a step by its caller's seat alone.
-abbrev pub refusal_in : Seat → Step → Option Refusal
-refusal_in seat step = first_of (tests_in seat step)
 
 -- Whether a step of a caller lacks the cursor that it acts on, where the caller has one or not.
 abbrev pub lacks_in : Seat → Bool → Step → Bool

@@ -1,77 +1,92 @@
--- What a caller's side says, and what its steps do to it and to the table.
-use Rattle.std.specs.Prelude.{◌≡◌, ℕ, ◌+◌, ◌<◌, ◌≤◌, ◌∷◌, is_some, ◌++◌, Bool, true, false, List, [], Option, Some, None, length, map, reverse, option_to_list}
+-- What a caller's side says, and what its steps do to it, to the table and to the locks.
+use Rattle.std.specs.Prelude.{◌≡◌, ℕ, ◌+◌, ◌<◌, ◌^◌, ◌≤◌, ◌⊎◌, ◌∷◌, is_some, ◌++◌, true, false, List, [], Option, Some, None, length, map, reverse, take, option_to_list}
+use Rattle.txn_trace.specs.declared.op.Op.{Op}
+use Rattle.txn_trace.specs.declared.step.Step.{Step}
+use Rattle.txn_trace.specs.declared.step.Step.TheVariants.{Begin, Ask, Seek, Act, Save, Back, Commit, Abort}
+use Rattle.txn_trace.specs.declared.answer.Answer.{Answer}
+use Rattle.txn_trace.specs.declared.answer.Answer.TheVariants as answers
+use Rattle.txn_trace.specs.declared.refusal.Refusal.TheVariants.{NoMemory}
 use Rattle.txn_trace.specs.Map.{Map, key_of}
 use Rattle.txn_trace.specs.Now.{set_at}
 use Rattle.txn_trace.specs.Owed.{owed_in}
-use Rattle.txn_trace.specs.Shape.{Phase, Closed, Opened, Waiting, LeavingTo, LeavingToEnd, Seat}
-use Rattle.undo_log.specs.UndoLog.{Log, newest_above}
+use Rattle.txn_trace.specs.Locks.{stripe_of}
+use Rattle.txn_trace.specs.declared.seat.Phase.{Phase}
+use Rattle.txn_trace.specs.declared.seat.Phase.TheVariants.{Waiting, LeavingTo, LeavingToEnd}
+use Rattle.txn_trace.specs.Shape.{Seat, closed_seat}
+use Rattle.txn_trace.specs.Seats.{is_leaving, has_job, has_target, refusal_in}
+use Rattle.undo_log.specs.UndoLog.{Log, kept_at, newest_above}
+use Rattle.key_locks.specs.Locks.{Grants, Refuses, Releases}
 use Rattle.map_ops.specs.declared.job.MapJob.{MapJob}
 use Rattle.map_ops.specs.Jobs.{PendingAt, takes_node, key_of_job, value_before, spare_of_job, IsDue}
 use Rattle.map_ops.specs.TableAt.{TableAt, Cursor, SpareAt, KeepsNodes, content, IsPlaced, fits, last_of}
-use Rattle.map_ops.specs.Changes.{OwnsIf, Places, Does, TakesBack}
-use Rattle.boost_core.specs.declared.stage.Stage.{Stage}
-use Rattle.boost_core.specs.declared.stage.Stage.TheVariants as stages
+use Rattle.map_ops.specs.Changes as changes
+use Rattle.map_ops.specs.Changes.{OwnsIf, Places, Prepares, IsRefused, GivesBack, TakesBack}
+use Rattle.boost_core.specs.declared.counts.Counts.{Counts}
 use Rattle.boost_core.specs.declared.session.Session.{Session}
+use Rattle.boost_core.specs.State.{Caller}
+use Rattle.boost_core.specs.Refusals.{owner_of, lacks_in}
 use Rattle.boost_core.specs.Spares.{times_of, times_in, IsCovered}
-
--- The phase of a stage.
-abbrev pub phase_of : Stage → Phase
-phase_of stages.Closed = Closed
-phase_of stages.Open = Opened
-phase_of (stages.Asked pending) = Waiting pending.op
-phase_of (stages.LeavingTo level) = LeavingTo level
-phase_of stages.LeavingToEnd = LeavingToEnd
-
--- The level to which a stage takes changes back, or 0.
-abbrev pub level_of : Stage → ℕ
-level_of (stages.LeavingTo level) = level
-level_of stage = 0
 
 -- The caller's seat.
 abbrev pub seat_of : Session → Seat
-seat_of s = record { phase = phase_of s.stage; standing = length s.log.jobs; kept = 0 ∷ s.log.kept }
+seat_of s = s.seat.seat
+
+abbrev pub phase_of : Session → Phase
+phase_of s = s.seat.seat.phase
+
+-- The level to which a phase takes changes back, or 0.
+abbrev pub level_of : Phase → ℕ
+level_of (LeavingTo level) = level
+level_of phase = 0
 
 -- How many entries the caller may still add without a new reservation.
 abbrev pub owed_of : Session → ℕ
-owed_of s = owed_in (length s.log.jobs) (phase_of s.stage)
+owed_of s = owed_in s.seat.seat.standing s.seat.seat.phase
 
--- The level is one of the log's.
-abbrev pub IsLevel : Session → Type 0
-IsLevel s = level_of s.stage ≤ length s.log.kept
-
--- No transaction, no cursor and an empty log.
+-- No transaction, nothing that waits, no cursor and an empty log.
 pub record IsIdle (s : Session) : Type 0 where
-  pub stage : s.stage ≡ stages.Closed
+  pub seat : s.seat.seat ≡ closed_seat
+  pub pending : s.pending ≡ None
   pub cursor : s.cursor ≡ None
   pub jobs : s.log.jobs ≡ []
   pub kept : s.log.kept ≡ []
 
--- The newest job, if more jobs are there than the level keeps.
-abbrev pub newest : Session → Option MapJob
-newest s = newest_above s.log (level_of s.stage)
+-- An operation waits exactly in the phase that says so; it has room for its job, and a spare if it takes a node.
+abbrev pub Waits : Phase → Option PendingAt → ℕ → Type 0
+Waits (Waiting op) (Some pending) room = (pending.op ≡ op) × (0 < room) × (is_some pending.spare ≡ takes_node op)
+Waits (Waiting op) None room = ⊥
+Waits phase (Some pending) room = ⊥
+Waits phase None room = Unit {0}
+
+-- The seat, what waits and the log say the same: as many changes as jobs, the same levels, and the same operation.
+pub record Agrees (s : Session) : Type 0 where
+  pub standing : s.seat.seat.standing ≡ length s.log.jobs
+  pub kept : s.seat.seat.kept ≡ 0 ∷ s.log.kept
+  pub waits : Waits s.seat.seat.phase s.pending s.log.room
+  pub level : level_of s.seat.seat.phase ≤ length s.log.kept
 
 abbrev pub key_of_newest : Option MapJob → Option ℕ
 key_of_newest None = None
 key_of_newest (Some job) = Some (key_of_job job)
 
--- The key that the caller acts on next, if it does on one.
-abbrev pub target_at : Stage → Log MapJob → Option ℕ
-target_at (stages.Asked pending) log = Some (key_of pending.op)
-target_at (stages.LeavingTo level) log = key_of_newest (newest_above log level)
-target_at stages.LeavingToEnd log = key_of_newest (newest_above log 0)
-target_at stage log = None
+-- The key that a caller acts on next, if it does on one.
+abbrev pub target_in : Phase → Log MapJob → Option ℕ
+target_in (Waiting op) log = Some (key_of op)
+target_in (LeavingTo level) log = key_of_newest (newest_above log level)
+target_in LeavingToEnd log = key_of_newest (newest_above log 0)
+target_in phase log = None
 
 abbrev pub target_of : Session → Option ℕ
-target_of s = target_at s.stage s.log
+target_of s = target_in s.seat.seat.phase s.log
 
--- The spare of an operation that waits, if it has one.
-abbrev pub spare_at : Stage → Option SpareAt
-spare_at (stages.Asked pending) = pending.spare
-spare_at stage = None
+-- The spare of an operation that waits, if there is one and it has one.
+abbrev pub spare_if : Option PendingAt → Option SpareAt
+spare_if None = None
+spare_if (Some pending) = pending.spare
 
 -- How often the caller keeps a spare, for what waits and in its log.
 abbrev pub times_kept : Session → ℕ → ℕ → ℕ
-times_kept s place stamp = times_of (spare_at s.stage) place stamp + times_in s.log.jobs place stamp
+times_kept s place stamp = times_of (spare_if s.pending) place stamp + times_in s.log.jobs place stamp
 
 -- The changes that stand, newest first: of each the key and the value before it.
 abbrev pub change_of : MapJob → ℕ × Option ℕ
@@ -84,11 +99,6 @@ changes_of jobs = map change_of (reverse jobs)
 abbrev pub AreDue : Map → List MapJob → Type 0
 AreDue m [] = Unit {0}
 AreDue m (job ∷ jobs) = IsDue m job × AreDue (set_at m (key_of_job job) (value_before job)) jobs
-
--- What an operation that waits has: room for its job, and a spare if it takes a node.
-abbrev pub IsReady : Stage → ℕ → Type 0
-IsReady (stages.Asked pending) room = (0 < room) × (is_some pending.spare ≡ takes_node pending.op)
-IsReady stage room = Unit {0}
 
 -- A cursor was placed for a key, if there is one.
 abbrev pub IsPlacedFor : TableAt → Cursor → Option ℕ → Type 0
@@ -103,6 +113,65 @@ IsSoughtAt t (Some cursor) target = IsPlacedFor t cursor target
 abbrev pub IsSought : TableAt → Session → Type 0
 IsSought t s = IsSoughtAt t s.cursor (target_of s)
 
+-- The spares of the log are the table's, each once, beside those that others keep.
+abbrev pub CanSettle : Session → TableAt → Type 0
+CanSettle s t = (others : ℕ → ℕ → ℕ) × IsCovered (λ place stamp. others place stamp + times_in s.log.jobs place stamp) t
+
+-- The spare of what waits, if it has one, is the table's.
+abbrev pub CanWithdraw : Session → TableAt → Type 0
+CanWithdraw s t = OwnsIf t (spare_if s.pending)
+
+-- A caller's side goes with the table: its cursor was placed there, its changes may be taken back there, its spares are out.
+pub record GoesWith (s : Session) (t : TableAt) : Type 0 where
+  pub agrees : Agrees s
+  pub sought : IsSought t s
+  pub due : AreDue (content t) (reverse s.log.jobs)
+  pub withdraws : CanWithdraw s t
+  pub settles : CanSettle s t
+
+-- Cursors stay placed.
+abbrev pub KeepsPlaced : TableAt → TableAt → Type 0
+KeepsPlaced t t' = (cursor : Cursor) (key : ℕ) → IsPlaced t cursor key → IsPlaced t' cursor key
+
+-- The table is as it was but for its spares, and cursors stay placed.
+pub record Rests (t t' : TableAt) : Type 0 where
+  pub nodes : KeepsNodes t t'
+  pub last : last_of t' ≡ last_of t
+  pub placed : KeepsPlaced t t'
+
+-- The operation is prepared and waits, with room for its job; the stripe is the caller's.
+pub record AsksIn (c stripe : ℕ) (op : Op) (s : Session) (t : TableAt) (locks : List (Option ℕ)) (s' : Session) (t' : TableAt) (locks' : List (Option ℕ)) : Type 0 where
+  pub pending : PendingAt
+  pub prepares : Prepares t t' op pending
+  pub grants : Grants c stripe locks locks'
+  pub waits : s'.pending ≡ Some pending
+  pub room : 0 < s'.log.room
+  pub seat : s'.seat.seat ≡ s.seat.seat
+  pub cursor : s'.cursor ≡ s.cursor
+  pub jobs : s'.log.jobs ≡ s.log.jobs
+  pub kept : s'.log.kept ≡ s.log.kept
+
+-- Another caller holds the stripe: what was prepared is given up, and the caller's side is as it was, but for room.
+pub record MeetsIn (c stripe : ℕ) (op : Op) (holder : ℕ) (s : Session) (t : TableAt) (locks : List (Option ℕ)) (s' : Session) (t' : TableAt) (locks' : List (Option ℕ)) : Type 0 where
+  pub pending : PendingAt
+  pub between : TableAt
+  pub prepares : Prepares t between op pending
+  pub back : GivesBack between t' pending.spare
+  pub refuses : Refuses c stripe holder locks locks'
+  pub seat : s'.seat.seat ≡ s.seat.seat
+  pub waits : s'.pending ≡ s.pending
+  pub cursor : s'.cursor ≡ s.cursor
+  pub jobs : s'.log.jobs ≡ s.log.jobs
+  pub kept : s'.log.kept ≡ s.log.kept
+
+-- Nothing has changed but room.
+pub record StaysIn (s s' : Session) : Type 0 where
+  pub seat : s'.seat.seat ≡ s.seat.seat
+  pub waits : s'.pending ≡ s.pending
+  pub cursor : s'.cursor ≡ s.cursor
+  pub jobs : s'.log.jobs ≡ s.log.jobs
+  pub kept : s'.log.kept ≡ s.log.kept
+
 -- The caller has a cursor for its key, which was sought on the table, and nothing else has changed for it.
 pub record SeeksIn (s : Session) (t : TableAt) (s' : Session) (t' : TableAt) : Type 0 where
   pub key : ℕ
@@ -115,7 +184,7 @@ pub record SeeksIn (s : Session) (t : TableAt) (s' : Session) (t' : TableAt) : T
 pub record CanAct (s : Session) (t : TableAt) : Type 0 where
   pub pending : PendingAt
   pub cursor : Cursor
-  pub waits : s.stage ≡ stages.Asked pending
+  pub waits : s.pending ≡ Some pending
   pub had : s.cursor ≡ Some cursor
   pub placed : IsPlaced t cursor (key_of pending.op)
   pub owned : OwnsIf t pending.spare
@@ -127,7 +196,8 @@ pub record Drops (s : Session) (t : TableAt) (s' : Session) (t' : TableAt) : Typ
   pub had : s.cursor ≡ Some cursor
   pub stale : fits t cursor ≡ false
   pub table : t' ≡ t
-  pub stage : s'.stage ≡ s.stage
+  pub seat : s'.seat.seat ≡ s.seat.seat
+  pub waits : s'.pending ≡ s.pending
   pub dropped : s'.cursor ≡ None
   pub jobs : s'.log.jobs ≡ s.log.jobs
   pub kept : s'.log.kept ≡ s.log.kept
@@ -137,23 +207,20 @@ pub record Drops (s : Session) (t : TableAt) (s' : Session) (t' : TableAt) : Typ
 pub record DoesIn (s : Session) (t : TableAt) (reply : Option ℕ) (s' : Session) (t' : TableAt) : Type 0 where
   pub pending : PendingAt
   pub job : Option MapJob
-  pub waits : s.stage ≡ stages.Asked pending
-  pub does : Does t t' pending reply job
-  pub stage : s'.stage ≡ stages.Open
+  pub had : s.pending ≡ Some pending
+  pub does : changes.Does t t' pending reply job
+  pub seat : s'.seat.seat ≡ s.seat.seat
+  pub waits : s'.pending ≡ None
   pub cursor : s'.cursor ≡ None
   pub jobs : s'.log.jobs ≡ s.log.jobs ++ option_to_list job
   pub kept : s'.log.kept ≡ s.log.kept
 
-abbrev pub ActsIn : Session → TableAt → Option (Option ℕ) → Session → TableAt → Type 0
-ActsIn s t None s' t' = Drops s t s' t'
-ActsIn s t (Some reply) s' t' = DoesIn s t reply s' t'
-
 -- A change is there to take back: its cursor was placed for it, it is due, and its spare is the table's.
 pub record CanUndo (s : Session) (t : TableAt) : Type 0 where
-  pub level : IsLevel s
+  pub level : level_of s.seat.seat.phase ≤ length s.log.kept
   pub job : MapJob
   pub cursor : Cursor
-  pub newest : newest s ≡ Some job
+  pub newest : newest_above s.log (level_of s.seat.seat.phase) ≡ Some job
   pub had : s.cursor ≡ Some cursor
   pub placed : IsPlaced t cursor (key_of_job job)
   pub due : IsDue (content t) job
@@ -163,42 +230,128 @@ pub record CanUndo (s : Session) (t : TableAt) : Type 0 where
 pub record TakesBackIn (s : Session) (t : TableAt) (s' : Session) (t' : TableAt) : Type 0 where
   pub job : MapJob
   pub back : TakesBack t t' job
-  pub stage : s'.stage ≡ s.stage
+  pub seat : s'.seat.seat ≡ s.seat.seat
+  pub waits : s'.pending ≡ s.pending
   pub cursor : s'.cursor ≡ None
   pub jobs : s.log.jobs ≡ s'.log.jobs ++ job ∷ []
   pub kept : s'.log.kept ≡ s.log.kept
 
-abbrev pub UndoesIn : Session → TableAt → Bool → Session → TableAt → Type 0
-UndoesIn s t true s' t' = TakesBackIn s t s' t'
-UndoesIn s t false s' t' = Drops s t s' t'
+-- A caller that takes changes back has none left above its level.
+pub record CanArrive (s : Session) : Type 0 where
+  pub leaves : is_leaving s.seat.seat.phase ≡ true
+  pub level : level_of s.seat.seat.phase ≤ length s.log.kept
+  pub none_above : length s.log.jobs ≤ kept_at s.log.kept (level_of s.seat.seat.phase)
 
--- The table is as it was but for its spares, and cursors stay placed.
-pub record Rests (t t' : TableAt) : Type 0 where
-  pub nodes : KeepsNodes t t'
-  pub last : last_of t' ≡ last_of t
-  pub placed : (cursor : Cursor) (key : ℕ) → IsPlaced t cursor key → IsPlaced t' cursor key
+-- It is back at its level: the later savepoints are dropped.
+pub record ReturnsIn (n : ℕ) (s : Session) (locks : List (Option ℕ)) (s' : Session) (locks' : List (Option ℕ)) : Type 0 where
+  pub phase : s.seat.seat.phase ≡ LeavingTo n
+  pub seat : s'.seat.seat ≡ s.seat.seat
+  pub waits : s'.pending ≡ s.pending
+  pub cursor : s'.cursor ≡ s.cursor
+  pub jobs : s'.log.jobs ≡ s.log.jobs
+  pub kept : s'.log.kept ≡ take n s.log.kept
+  pub locks_stay : locks' ≡ locks
 
--- The spare of what waits, if it has one, is the table's.
-abbrev pub CanWithdraw : Session → TableAt → Type 0
-CanWithdraw s t = OwnsIf t (spare_at s.stage)
+-- It is at the end: its stripes are free.
+pub record EndsIn (c : ℕ) (s : Session) (locks : List (Option ℕ)) (s' : Session) (locks' : List (Option ℕ)) : Type 0 where
+  pub phase : s.seat.seat.phase ≡ LeavingToEnd
+  pub seat : s'.seat.seat ≡ s.seat.seat
+  pub waits : s'.pending ≡ s.pending
+  pub cursor : s'.cursor ≡ s.cursor
+  pub jobs : s'.log.jobs ≡ s.log.jobs
+  pub kept : s'.log.kept ≡ []
+  pub releases : Releases c locks locks'
 
--- What waits is withdrawn, and the caller leaves to the end.
+-- A savepoint is set, and the seat has room for it.
+pub record SavesIn (n : ℕ) (s : Session) (s' : Session) : Type 0 where
+  pub number : n ≡ length s.log.kept + 1
+  pub seat : s'.seat.seat ≡ s.seat.seat
+  pub room : 0 < s'.seat.room
+  pub waits : s'.pending ≡ s.pending
+  pub cursor : s'.cursor ≡ s.cursor
+  pub jobs : s'.log.jobs ≡ s.log.jobs
+  pub kept : s'.log.kept ≡ s.log.kept ++ length s.log.jobs ∷ []
+
+-- What waits is given up, and the cursor is dropped.
 pub record WithdrawsIn (s : Session) (t : TableAt) (s' : Session) (t' : TableAt) : Type 0 where
   pub rests : Rests t t'
   pub spares : (others : ℕ → ℕ → ℕ) → IsCovered (λ place stamp. others place stamp + times_kept s place stamp) t → IsCovered (λ place stamp. others place stamp + times_kept s' place stamp) t'
-  pub stage : s'.stage ≡ stages.LeavingToEnd
+  pub seat : s'.seat.seat ≡ s.seat.seat
+  pub waits : s'.pending ≡ None
   pub cursor : s'.cursor ≡ None
   pub log : s'.log ≡ s.log
 
--- The spares of the log are the table's, each once.
-abbrev pub CanSettle : Session → TableAt → Type 0
-CanSettle s t = IsCovered (times_in s.log.jobs) t
-
--- All jobs are dropped with their spares, and the caller has no transaction.
+-- All jobs are dropped with their spares, and all savepoints.
 pub record SettlesIn (s : Session) (t : TableAt) (s' : Session) (t' : TableAt) : Type 0 where
   pub rests : Rests t t'
   pub spares : (others : ℕ → ℕ → ℕ) → IsCovered (λ place stamp. others place stamp + times_in s.log.jobs place stamp) t → IsCovered others t'
-  pub stage : s'.stage ≡ stages.Closed
+  pub seat : s'.seat.seat ≡ s.seat.seat
+  pub waits : s'.pending ≡ s.pending
   pub cursor : s'.cursor ≡ s.cursor
   pub jobs : s'.log.jobs ≡ []
   pub kept : s'.log.kept ≡ []
+
+-- What setting a savepoint is answered, and what it does.
+abbrev pub Saves : Session → Answer → Session → Type 0
+Saves s (answers.Saved n) s' = SavesIn n s s'
+Saves s (answers.Refused NoMemory) s' = StaysIn s s'
+Saves s answer s' = ⊥
+
+-- What asking is answered, and what it does.
+abbrev pub IsAsked : ℕ → ℕ → Op → Session → TableAt → List (Option ℕ) → Answer → Session → TableAt → List (Option ℕ) → Type 0
+IsAsked c stripe op s t locks answers.Asked s' t' locks' = AsksIn c stripe op s t locks s' t' locks'
+IsAsked c stripe op s t locks (answers.Busy x) s' t' locks' = MeetsIn c stripe op x s t locks s' t' locks'
+IsAsked c stripe op s t locks (answers.Refused refusal) s' t' locks' = ((refusal ≡ NoMemory) ⊎ IsRefused t op refusal) × StaysIn s s' × (t' ≡ t) × (locks' ≡ locks)
+IsAsked c stripe op s t locks answer s' t' locks' = ⊥
+
+-- What an act for the operation that waits is answered, and what it does.
+abbrev pub Replies : Session → TableAt → Answer → Session → TableAt → Type 0
+Replies s t answers.Again s' t' = Drops s t s' t'
+Replies s t (answers.Done reply) s' t' = DoesIn s t reply s' t'
+Replies s t answer s' t' = ⊥
+
+-- What taking the newest change back is answered, and what it does.
+abbrev pub Undoes : Session → TableAt → Answer → Session → TableAt → Type 0
+Undoes s t answers.Again s' t' = Drops s t s' t'
+Undoes s t answers.Undone s' t' = TakesBackIn s t s' t'
+Undoes s t answer s' t' = ⊥
+
+-- What the end of taking back is answered, and what it does.
+abbrev pub Arrives : ℕ → Session → List (Option ℕ) → Answer → Session → List (Option ℕ) → Type 0
+Arrives c s locks (answers.Returned n) s' locks' = ReturnsIn n s locks s' locks'
+Arrives c s locks answers.Aborted s' locks' = EndsIn c s locks s' locks'
+Arrives c s locks answer s' locks' = ⊥
+
+-- What an act is answered, and what it does.
+abbrev pub ActsIn : ℕ → Session → TableAt → List (Option ℕ) → Answer → Session → TableAt → List (Option ℕ) → Type 0
+ActsIn c s t locks answers.Again s' t' locks' = (has_target s.seat.seat ≡ true) × Drops s t s' t' × (locks' ≡ locks)
+ActsIn c s t locks (answers.Done reply) s' t' locks' = DoesIn s t reply s' t' × (locks' ≡ locks)
+ActsIn c s t locks answers.Undone s' t' locks' = (has_job s.seat.seat ≡ true) × TakesBackIn s t s' t' × (locks' ≡ locks)
+ActsIn c s t locks (answers.Returned n) s' t' locks' = (has_job s.seat.seat ≡ false) × ReturnsIn n s locks s' locks' × (t' ≡ t)
+ActsIn c s t locks answers.Aborted s' t' locks' = (has_job s.seat.seat ≡ false) × EndsIn c s locks s' locks' × (t' ≡ t)
+ActsIn c s t locks answer s' t' locks' = ⊥
+
+-- What is wanted of a caller's side for a step that nothing refuses.
+pub record Takes (stripes : ℕ) (counts : Counts) (step : Step) (s : Session) (t : TableAt) (locks : List (Option ℕ)) : Type 0 where
+  pub goes : GoesWith s t
+  pub free : refusal_in s.seat.seat step ≡ None
+  pub placed : lacks_in s.seat.seat (is_some s.cursor) step ≡ false
+  pub owner : (c : ℕ) × (owner_of step ≡ Some (Caller c))
+  pub caller : (c : ℕ) → owner_of step ≡ Some (Caller c) → c < 64
+  pub many : length locks ≡ stripes
+  pub some_stripe : 0 < stripes
+  pub begins : counts.began < 2 ^ 63
+  pub commits : counts.committed < 2 ^ 63
+
+-- What each step does to its caller's side, to the table and to the locks, by its answer. The seat stays, but for room: the
+-- entry of step and answer is entered there afterwards.
+abbrev pub Does : ℕ → Counts → Step → Session → TableAt → List (Option ℕ) → Answer → Session → TableAt → List (Option ℕ) → Type 0
+Does stripes counts (Begin c) s t locks (answers.Began n) s' t' locks' = (n ≡ counts.began + 1) × StaysIn s s' × (t' ≡ t) × (locks' ≡ locks)
+Does stripes counts (Ask c op) s t locks answer s' t' locks' = IsAsked c (stripe_of stripes (key_of op)) op s t locks answer s' t' locks'
+Does stripes counts (Seek c) s t locks answers.Placed s' t' locks' = SeeksIn s t s' t' × (locks' ≡ locks)
+Does stripes counts (Act c) s t locks answer s' t' locks' = ActsIn c s t locks answer s' t' locks'
+Does stripes counts (Save c) s t locks answer s' t' locks' = Saves s answer s' × (t' ≡ t) × (locks' ≡ locks)
+Does stripes counts (Back c n) s t locks answers.Leaving s' t' locks' = (s' ≡ record s { cursor = None }) × (t' ≡ t) × (locks' ≡ locks)
+Does stripes counts (Commit c) s t locks (answers.Committed p) s' t' locks' = (p ≡ counts.committed + 1) × SettlesIn s t s' t' × Releases c locks locks'
+Does stripes counts (Abort c) s t locks answers.Leaving s' t' locks' = WithdrawsIn s t s' t' × (locks' ≡ locks)
+Does stripes counts step s t locks answer s' t' locks' = ⊥

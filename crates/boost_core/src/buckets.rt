@@ -1,82 +1,87 @@
 //! The steps of the table and of its helpers.
-ghost use Rattle.txn_trace.specs.declared.step.Step.TheVariants as Step;
+ghost use Rattle.std.specs.Prelude.{◌≡◌, ◌≤◌, true};
+ghost use Rattle.map_ops.specs.TableAt.{turn_of, Follows};
+ghost use Rattle.boost_core.specs.Serves.{is_served, Serves, doubled, linked, sought, stored, swept};
 
-use crate::machine::Core;
-use crate::owner::Owner;
 use crate::refusals::refusal_for;
-use map_ops::{Double, InitLink, InitSeek, SweepOutcome};
-use txn_trace::Answer;
+use map_ops::{Double, InitLink, InitRefusal, InitSeek, SweepOutcome, Table};
+use txn_trace::{Answer, Step};
 
-impl Core {
-    ghost use Rattle.boost_core.specs.Machine.{Move};
-
-    pub(crate) fn sweep(&mut self) -> Answer
-        ensures { Move self.old Step.Sweep result self.new }
-    {
-        self.placed = None;
-        match self.table.sweep() {
-            SweepOutcome::Swept => Answer::Swept,
-            SweepOutcome::Clean => Answer::Clean,
-        }
+/// Does what a step asks for that is no caller's.
+pub(crate) fn serve(step: Step, table: &mut Table) -> Answer
+    requires { is_served step ≡ true }
+    ensures serves { Serves step table.old result table.new }
+    ensures rises { turn_of table.old ≤ turn_of table.new }
+    ensures follows { Follows table.old table.new }
+{
+    match step {
+        Step::Sweep => swept_answer(table.sweep()),
+        Step::InitSeek(helper, bucket) => sought_answer(table.init_seek(helper, bucket)),
+        Step::InitLink(helper) => linked_answer(table.init_link(helper)),
+        Step::InitStore(helper) => stored_answer(table.init_store(helper)),
+        Step::Double(seen) => doubled_answer(table.double(seen)),
+        Step::Begin(_)
+        | Step::Ask(..)
+        | Step::Seek(_)
+        | Step::Act(_)
+        | Step::Save(_)
+        | Step::Back(..)
+        | Step::Commit(_)
+        | Step::Abort(_) => unreachable!(),
     }
+}
 
-    pub(crate) fn init_seek(&mut self, helper: u64, bucket: u64) -> Answer
-        ensures { Move self.old (Step.InitSeek helper bucket) result self.new }
-    {
-        match self.table.init_seek(helper, bucket) {
-            Ok(InitSeek::Ready) => {
-                self.placed = None;
-                Answer::Ready
-            }
-            Ok(InitSeek::Placed) => {
-                self.placed = Some(Owner::Helper(helper));
-                Answer::Placed
-            }
-            Err(refusal) => Answer::Refused(refusal_for(refusal)),
-        }
+/// What a sweep is answered.
+fn swept_answer(outcome: SweepOutcome) -> Answer
+    ensures { result ≡ swept outcome }
+{
+    match outcome {
+        SweepOutcome::Swept => Answer::Swept,
+        SweepOutcome::Clean => Answer::Clean,
     }
+}
 
-    pub(crate) fn init_link(&mut self, helper: u64) -> Answer
-        ensures { Move self.old (Step.InitLink helper) result self.new }
-    {
-        match self.table.init_link(helper) {
-            Ok(InitLink::Again) => {
-                self.placed = None;
-                Answer::Again
-            }
-            Ok(InitLink::Present) => {
-                self.placed = None;
-                Answer::Present
-            }
-            Ok(InitLink::Linked) => {
-                self.placed = None;
-                Answer::Linked
-            }
-            Err(refusal) => Answer::Refused(refusal_for(refusal)),
-        }
+/// What a seek for a bucket is answered.
+fn sought_answer(outcome: Result<InitSeek, InitRefusal>) -> Answer
+    ensures { result ≡ sought outcome }
+{
+    match outcome {
+        Ok(InitSeek::Ready) => Answer::Ready,
+        Ok(InitSeek::Placed) => Answer::Placed,
+        Err(refusal) => Answer::Refused(refusal_for(refusal)),
     }
+}
 
-    pub(crate) fn init_store(&mut self, helper: u64) -> Answer
-        ensures { Move self.old (Step.InitStore helper) result self.new }
-    {
-        match self.table.init_store(helper) {
-            Ok(()) => {
-                self.placed = None;
-                Answer::Stored
-            }
-            Err(refusal) => Answer::Refused(refusal_for(refusal)),
-        }
+/// What the link of a dummy is answered.
+fn linked_answer(outcome: Result<InitLink, InitRefusal>) -> Answer
+    ensures { result ≡ linked outcome }
+{
+    match outcome {
+        Ok(InitLink::Again) => Answer::Again,
+        Ok(InitLink::Present) => Answer::Present,
+        Ok(InitLink::Linked) => Answer::Linked,
+        Err(refusal) => Answer::Refused(refusal_for(refusal)),
     }
+}
 
-    pub(crate) fn double(&mut self, seen: u64) -> Answer
-        ensures { Move self.old (Step.Double seen) result self.new }
-    {
-        self.placed = None;
-        match self.table.double(seen) {
-            Double::Moved(size) => Answer::Moved(u64::from(size)),
-            Double::AtLimit => Answer::AtLimit,
-            Double::Light => Answer::Light,
-            Double::Doubled(size) => Answer::Doubled(u64::from(size)),
-        }
+/// What the store of a dummy is answered.
+fn stored_answer(outcome: Result<(), InitRefusal>) -> Answer
+    ensures { result ≡ stored outcome }
+{
+    match outcome {
+        Ok(()) => Answer::Stored,
+        Err(refusal) => Answer::Refused(refusal_for(refusal)),
+    }
+}
+
+/// What a doubling is answered.
+fn doubled_answer(outcome: Double) -> Answer
+    ensures { result ≡ doubled outcome }
+{
+    match outcome {
+        Double::Moved(size) => Answer::Moved(u64::from(size)),
+        Double::AtLimit => Answer::AtLimit,
+        Double::Light => Answer::Light,
+        Double::Doubled(size) => Answer::Doubled(u64::from(size)),
     }
 }

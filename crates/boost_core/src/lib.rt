@@ -17,7 +17,9 @@
 //! all that an operation and its undoing want is reserved when it is asked for.
 #![tactic(auto)]
 
+mod adding;
 mod buckets;
+mod counts;
 mod machine;
 mod operations;
 mod owner;
@@ -25,7 +27,6 @@ mod plain;
 mod refusals;
 mod session;
 mod sessions;
-mod stage;
 #[cfg(test)]
 mod tests;
 mod transactions;

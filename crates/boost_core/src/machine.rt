@@ -1,5 +1,5 @@
 //! The core.
-ghost use Rattle.std.specs.Prelude.{◌≡◌, ℕ, ◌<◌, Some, IfOk, IfErr, OnErr, length};
+ghost use Rattle.std.specs.Prelude.{◌≡◌, ℕ, ◌<◌, true, is_some, Some, IfOk, IfErr, OnErr, length};
 ghost use Rattle.std.specs.List.{All};
 ghost use Rattle.txn_trace.specs.Map.{count_of};
 ghost use Rattle.txn_trace.specs.History.{caller_of};
@@ -8,7 +8,10 @@ ghost use Rattle.txn_trace.specs.Legal.{IsLegal};
 ghost use Rattle.txn_trace.specs.Owed.{owed};
 ghost use Rattle.boost_core.specs.Machine.{State, start};
 
-use crate::owner::Owner;
+use crate::adding::add;
+use crate::buckets::serve;
+use crate::counts::Counts;
+use crate::owner::{Owner, placed_after};
 use crate::session::Session;
 use crate::sessions::idle_sessions;
 use key_locks::KeyLocks;
@@ -16,7 +19,7 @@ use map_ops::Table;
 use std::alloc::{AllocError, Global};
 use std::collections::BTreeMap;
 use std::marker::Model;
-use txn_trace::{Answer, Entry, Limits, Refusal, Step};
+use txn_trace::{Answer, Entry, Limits, Refusal, Step, entry_of};
 
 /// A transactional map for 1 to 64 callers, its history, and where each caller is: boosted transactions (Herlihy and Koskinen,
 /// PPoPP 2008, rules 2 and 3) over a split-ordered hash table (Shalev and Shavit, Journal of the ACM 53(3), 2006, section 2).
@@ -28,8 +31,7 @@ use txn_trace::{Answer, Entry, Limits, Refusal, Step};
 pub struct Core {
     pub(crate) limits: Limits,
     pub(crate) history: Vec<Entry>,
-    pub(crate) began: u64,
-    pub(crate) committed: u64,
+    pub(crate) counts: Counts,
     pub(crate) table: Table,
     pub(crate) sessions: Vec<Session>,
     // How many entries the callers may still add without a new reservation.
@@ -44,11 +46,11 @@ impl Model for Core {
 
     ghost Value = { State };
 
-    ghost use Rattle.boost_core.specs.Core.{state_of, Holds};
+    ghost use Rattle.boost_core.specs.Core.{state_of, world_of, Holds};
 
-    ghost view = { λ c. state_of c.limits c.history.items c.table c.sessions.items c.placed };
+    ghost view = { λ c. state_of (world_of c.limits c.history c.counts c.table c.sessions c.locks c.placed) };
 
-    ghost invariant = { λ c. Holds c.limits c.history c.began c.committed c.owed c.table c.sessions c.locks c.placed };
+    ghost invariant = { λ c. Holds (world_of c.limits c.history c.counts c.table c.sessions c.locks c.placed) c.history c.owed };
 }
 
 impl Core {
@@ -56,8 +58,11 @@ impl Core {
     ghost use Rattle.boost_core.specs.Locks.{KeepsLocks};
     ghost use Rattle.boost_core.specs.Replies.{KeepsReplies};
     ghost use Rattle.boost_core.specs.Content.{IsContent, IsRegular};
+    ghost use Rattle.boost_core.specs.Whole.{IsWhole};
     ghost use Rattle.boost_core.specs.Machine.{Move, Moves};
     ghost use Rattle.boost_core.specs.Refusals.{owner_of, refusal_of};
+    ghost use Rattle.boost_core.specs.Serves.{is_served};
+    ghost use Rattle.boost_core.specs.State.{turn_in};
 
     /// A core in which nothing has happened: no caller has a transaction, and the table has two buckets, of which bucket 0 is
     /// initialised. Allocates in proportion to the callers, the stripes and the largest number of buckets.
@@ -81,8 +86,10 @@ impl Core {
         Ok(Core {
             limits,
             history: Vec::new(alloc),
-            began: 0,
-            committed: 0,
+            counts: Counts {
+                began: 0,
+                committed: 0,
+            },
             table,
             sessions,
             owed: 0,
@@ -104,20 +111,61 @@ impl Core {
         ensures { Move self.old step result self.new }
     {
         match step {
-            Step::Begin(caller) => self.begin(caller),
-            Step::Ask(caller, op) => self.ask(caller, op),
-            Step::Seek(caller) => self.seek(caller),
-            Step::Act(caller) => self.act(caller),
-            Step::Save(caller) => self.save(caller),
-            Step::Back(caller, level) => self.leave_to(caller, level),
-            Step::Commit(caller) => self.commit(caller),
-            Step::Abort(caller) => self.leave(caller),
-            Step::Sweep => self.sweep(),
-            Step::InitSeek(helper, bucket) => self.init_seek(helper, bucket),
-            Step::InitLink(helper) => self.init_link(helper),
-            Step::InitStore(helper) => self.init_store(helper),
-            Step::Double(seen) => self.double(seen),
+            Step::Begin(caller)
+            | Step::Ask(caller, _)
+            | Step::Seek(caller)
+            | Step::Act(caller)
+            | Step::Save(caller)
+            | Step::Back(caller, _)
+            | Step::Commit(caller)
+            | Step::Abort(caller) => self.call(caller, step),
+            Step::Sweep
+            | Step::InitSeek(..)
+            | Step::InitLink(_)
+            | Step::InitStore(_)
+            | Step::Double(_) => self.serve(step),
         }
+    }
+
+    /// Takes a step of a caller. What it asks for is done on the caller's side, the table and the locks; then the entry is added,
+    /// and whose cursor was placed is noted.
+    pub(crate) fn call(&mut self, caller: u64, step: Step) -> Answer
+        requires { owner_of step ≡ Some (Owner.Caller caller) }
+        ensures moves { Move self.old step result self.new }
+        ensures cursor { result ≡ Answer.Placed → is_some (turn_in self.new.cursors caller) ≡ true }
+    {
+        if let Some(refusal) = self.refusal(caller, step) {
+            return Answer::Refused(refusal);
+        }
+        if self
+            .history
+            .reserve(self.owed + step.reserved() as usize)
+            .is_err()
+        {
+            return Answer::Refused(Refusal::NoMemory);
+        }
+        let stripes = u64::from(self.limits.stripes());
+        let session = &mut self.sessions[caller as usize];
+        let answer = session.answer(step, stripes, self.counts, &mut self.table, &mut self.locks);
+        self.owed = add(
+            &mut session.seat,
+            &mut self.history,
+            self.owed,
+            entry_of(step, answer),
+        );
+        self.counts = self.counts.after(answer);
+        self.placed = placed_after(self.placed, step, answer);
+        answer
+    }
+
+    /// Takes a step that is no caller's, and notes whose cursor was placed.
+    fn serve(&mut self, step: Step) -> Answer
+        requires { is_served step ≡ true }
+        ensures { Move self.old step result self.new }
+    {
+        let answer = serve(step, &mut self.table);
+        self.placed = placed_after(self.placed, step, answer);
+        answer
     }
 
     /// Takes the steps one after another, and gives their answers. Room for all answers is made first.
@@ -146,7 +194,9 @@ impl Core {
         ensures replies { KeepsReplies self.now }
         ensures legal { IsLegal self.now.limits.stripes self.now.history }
         ensures callers { All (λ entry. caller_of entry < self.now.limits.callers) self.now.history }
+        ensures whole { IsWhole self.now }
     {
+        let _size = Table::size(&self.table);
         &self.history
     }
 
@@ -206,7 +256,7 @@ impl Core {
             return Some(Refusal::NoSuchCaller);
         }
         let session = &self.sessions[caller as usize];
-        let refusal = session.refusal(step);
+        let refusal = session.seat.refusal(step);
         if refusal.is_some() {
             return refusal;
         }

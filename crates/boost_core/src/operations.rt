@@ -1,151 +1,187 @@
-//! The steps by which callers work on the map.
-ghost use Rattle.std.specs.Prelude.{◌≡◌, ◌+◌, ◌%◌, ◌<◌, true, false, None, is_some};
-ghost use Rattle.txn_trace.specs.Map.{key_of};
+//! The steps by which a caller works on the map.
+ghost use Rattle.std.specs.Prelude.{◌≡◌, ◌+◌, ◌<◌, ◌≤◌, ◌++◌, ◌⊎◌, true, false, None, Ok, length, not, ◌&&◌, ◌||◌, is_some, option_to_list, IfOk, IfErr, OnOk, OnErr};
+ghost use Rattle.map_ops.specs.Changes.{OwnsIf, GivesBack};
+ghost use Rattle.map_ops.specs.TableAt.{turn_of};
+ghost use Rattle.boost_core.specs.Sessions.{KeepsPlaced};
 
-use crate::machine::Core;
-use crate::owner::Owner;
-use crate::session::owed_for;
-use crate::stage::Stage;
-use key_locks::LockAnswer;
-use txn_trace::{Answer, Entry, Op, Refusal, Step};
+use crate::session::Session;
+use key_locks::{KeyLocks, LockAnswer};
+use map_ops::{Act, MapJob, Pending, Table, Undo};
+use txn_trace::{Answer, Op, Phase, Refusal};
+use undo_log::UndoLog;
 
-impl Core {
-    ghost use Rattle.boost_core.specs.Machine.{Move};
-    ghost use Rattle.boost_core.specs.Refusals.{refusal_of, is_waiting, has_job};
-    ghost use Rattle.boost_core.specs.State.{seat_in, turn_in};
+impl Session {
+    ghost use Rattle.txn_trace.specs.Seats.{has_target, is_waiting, is_leaving};
+    ghost use Rattle.boost_core.specs.Sessions.{GoesWith, IsAsked, StaysIn, SeeksIn, ActsIn, Replies, Undoes, Arrives, CanAct, CanUndo, CanArrive};
+    ghost use Rattle.map_ops.specs.Changes.{Prepares, IsRefused};
 
-    pub(crate) fn ask(&mut self, caller: u64, op: Op) -> Answer
-        ensures { Move self.old (Step.Ask caller op) result self.new }
+    /// Asks for an operation: what it and its undoing want is reserved, and its stripe is locked.
+    pub(crate) fn ask(
+        &mut self,
+        caller: usize,
+        stripe: usize,
+        op: Op,
+        table: &mut Table,
+        locks: &mut KeyLocks,
+    ) -> Answer
+        requires caller { caller < 64 }
+        requires stripe { stripe < length locks.old }
+        ensures asked { IsAsked caller stripe op self.old table.old locks.old result self.new table.new locks.new }
+        ensures rises { turn_of table.old ≤ turn_of table.new }
+        ensures placed { KeepsPlaced table.old table.new }
     {
-        if let Some(refusal) = self.refusal(caller, Step::Ask(caller, op)) {
-            return Answer::Refused(refusal);
-        }
-        if self.history.reserve(self.owed + 1 + owed_for(op)).is_err() {
-            return Answer::Refused(Refusal::NoMemory);
-        }
-        let session = &mut self.sessions[caller as usize];
-        let before = session.owed();
-        if session.log.reserve_one().is_err() {
-            return Answer::Refused(Refusal::NoMemory);
-        }
-        let pending = match self.table.prepare(op) {
+        let pending = match self.reserve(op, table) {
             Ok(pending) => pending,
             Err(refusal) => return Answer::Refused(refusal),
         };
-        self.placed = None;
-        let stripe = op.key() % u64::from(self.limits.stripes());
-        match self.locks.lock(caller as usize, stripe as usize) {
-            LockAnswer::Granted => {
-                session.stage = Stage::Asked(pending);
-                self.owed = session.owed_after(self.owed, before);
-                self.history.push_reserved(Entry::Asked(caller, op));
-                Answer::Asked
-            }
-            LockAnswer::Busy(holder) => {
-                self.table.withdraw(pending);
-                session.stage = Stage::LeavingToEnd;
-                self.owed = session.owed_after(self.owed, before);
-                self.history
-                    .push_reserved(Entry::Busy(caller, op, holder as u64));
-                Answer::Busy(holder as u64)
-            }
+        match locks.lock(caller, stripe) {
+            LockAnswer::Granted => self.granted(pending),
+            LockAnswer::Busy(holder) => busy(pending, holder as u64, table),
         }
     }
 
-    pub(crate) fn seek(&mut self, caller: u64) -> Answer
-        ensures moves { Move self.old (Step.Seek caller) result self.new }
-        ensures cursor { result ≡ Answer.Placed → is_some (turn_in self.new.cursors caller) ≡ true }
+    /// Reserves what an operation and its undoing want.
+    fn reserve(&mut self, op: Op, table: &mut Table) -> Result<Pending, Refusal>
+        ensures stays { StaysIn self.old self.new }
+        ensures room { OnOk result (0 < self.new.log.room) }
+        ensures ok { IfOk result (Prepares table.old table.new op) }
+        ensures err { IfErr result (λ refusal. (refusal ≡ Refusal.NoMemory) ⊎ IsRefused table.old op refusal) }
+        ensures unchanged { OnErr result (table.new ≡ table.old) }
+        ensures placed { KeepsPlaced table.old table.new }
     {
-        if let Some(refusal) = self.refusal(caller, Step::Seek(caller)) {
-            return Answer::Refused(refusal);
+        if self.log.reserve_one().is_err() {
+            return Err(Refusal::NoMemory);
         }
-        let session = &mut self.sessions[caller as usize];
-        session.seek(&mut self.table);
-        self.placed = Some(Owner::Caller(caller));
+        table.prepare(op)
+    }
+
+    /// The stripe is the caller's: the operation waits.
+    fn granted(&mut self, pending: Pending) -> Answer
+        ensures answer { result ≡ Answer.Asked }
+        ensures becomes { self.new ≡ record self.old { pending = Some pending } }
+    {
+        self.pending = Some(pending);
+        Answer::Asked
+    }
+
+    /// Seeks the place of what it acts on next.
+    pub(crate) fn seek(&mut self, table: &mut Table) -> Answer
+        requires goes { GoesWith self.old table.old }
+        requires target { has_target self.old.seat.seat ≡ true }
+        ensures answer { result ≡ Answer.Placed }
+        ensures seeks { SeeksIn self.old table.old self.new table.new }
+        ensures rises { turn_of table.old ≤ turn_of table.new }
+        ensures placed { KeepsPlaced table.old table.new }
+    {
+        let cursor = match &self.pending {
+            Some(pending) => table.place(pending),
+            None => table.place_job(self.log.newest_above(self.level()).unwrap()),
+        };
+        self.cursor = Some(cursor);
         Answer::Placed
     }
 
-    pub(crate) fn act(&mut self, caller: u64) -> Answer
-        ensures { Move self.old (Step.Act caller) result self.new }
+    /// Acts: does the operation that waits, or takes the newest change back, or is where it leaves to.
+    pub(crate) fn act(&mut self, caller: usize, table: &mut Table, locks: &mut KeyLocks) -> Answer
+        requires caller { caller < 64 }
+        requires goes { GoesWith self.old table.old }
+        requires free { (is_leaving self.old.seat.seat.phase || is_waiting self.old.seat.seat.phase) ≡ true }
+        requires placed { (has_target self.old.seat.seat && not (is_some self.old.cursor)) ≡ false }
+        ensures acts { ActsIn caller self.old table.old locks.old result self.new table.new locks.new }
+        ensures rises { turn_of table.old ≤ turn_of table.new }
+        ensures placed { KeepsPlaced table.old table.new }
     {
-        if let Some(refusal) = self.refusal(caller, Step::Act(caller)) {
-            return Answer::Refused(refusal);
-        }
-        let session = &self.sessions[caller as usize];
-        if session.is_waiting() {
-            self.reply(caller)
-        } else if session.has_job() {
-            self.undo(caller)
+        if self.pending.is_some() {
+            self.reply(table)
+        } else if self.seat.has_job() {
+            self.undo(table)
         } else {
-            self.arrive(caller)
+            self.arrive(caller, locks)
         }
     }
 
-    /// Acts for the operation that waits.
-    fn reply(&mut self, caller: u64) -> Answer
-        requires free { refusal_of self.old (Step.Act caller) ≡ None }
-        requires waits { is_waiting (seat_in self.old.history caller).phase ≡ true }
-        ensures { Move self.old (Step.Act caller) result self.new }
+    /// Acts for the operation that waits, at its cursor.
+    fn reply(&mut self, table: &mut Table) -> Answer
+        requires { CanAct self.old table.old }
+        ensures acts { Replies self.old table.old result self.new table.new }
+        ensures rises { turn_of table.old ≤ turn_of table.new }
+        ensures placed { KeepsPlaced table.old table.new }
     {
-        self.placed = None;
-        let session = &mut self.sessions[caller as usize];
-        let before = session.owed();
-        match session.act(&mut self.table) {
-            Some(reply) => {
-                self.owed = session.owed_after(self.owed, before);
-                self.history.push_reserved(Entry::Did(caller, reply));
+        let pending = self.pending.take().unwrap();
+        let Some(cursor) = self.cursor else {
+            unreachable!();
+        };
+        self.cursor = None;
+        match table.act(pending, cursor) {
+            Act::Again(pending) => {
+                self.pending = Some(pending);
+                Answer::Again
+            }
+            Act::Acted(reply, job) => {
+                note(&mut self.log, job);
                 Answer::Done(reply)
             }
-            None => Answer::Again,
         }
     }
 
-    /// Takes the newest change back.
-    fn undo(&mut self, caller: u64) -> Answer
-        requires free { refusal_of self.old (Step.Act caller) ≡ None }
-        requires job { has_job (seat_in self.old.history caller) ≡ true }
-        ensures { Move self.old (Step.Act caller) result self.new }
+    /// Takes the newest change above the level back, at its cursor.
+    fn undo(&mut self, table: &mut Table) -> Answer
+        requires { CanUndo self.old table.old }
+        ensures undoes { Undoes self.old table.old result self.new table.new }
+        ensures rises { turn_of table.old ≤ turn_of table.new }
+        ensures placed { KeepsPlaced table.old table.new }
     {
-        self.placed = None;
-        let session = &mut self.sessions[caller as usize];
-        let before = session.owed();
-        if session.undo(&mut self.table) {
-            self.owed = session.owed_after(self.owed, before);
-            self.history.push_reserved(Entry::Undone(caller));
-            Answer::Undone
-        } else {
-            Answer::Again
+        let Some(cursor) = self.cursor else {
+            unreachable!();
+        };
+        self.cursor = None;
+        let level = self.level();
+        let job = self.log.pop_above(level).unwrap();
+        match table.undo(job, cursor) {
+            Undo::Undone => Answer::Undone,
+            Undo::Again(job) => {
+                self.log.push_reserved(job);
+                Answer::Again
+            }
         }
     }
 
     /// Ends the taking back, where no change above the level is left.
-    fn arrive(&mut self, caller: u64) -> Answer
-        requires free { refusal_of self.old (Step.Act caller) ≡ None }
-        requires rests { is_waiting (seat_in self.old.history caller).phase ≡ false }
-        requires no_job { has_job (seat_in self.old.history caller) ≡ false }
-        ensures { Move self.old (Step.Act caller) result self.new }
+    fn arrive(&mut self, caller: usize, locks: &mut KeyLocks) -> Answer
+        requires caller { caller < 64 }
+        requires arrives { CanArrive self.old }
+        ensures { Arrives caller self.old locks.old result self.new locks.new }
     {
-        self.placed = None;
-        let session = &mut self.sessions[caller as usize];
-        let before = session.owed();
-        match session.stage {
-            Stage::LeavingTo(level) => {
-                session.log.cut(level);
-                session.stage = Stage::Open;
-                self.owed = session.owed_after(self.owed, before);
-                self.history
-                    .push_reserved(Entry::Returned(caller, level as u64));
-                Answer::Returned(level as u64)
-            }
-            Stage::LeavingToEnd => {
-                session.log.cut(0);
-                session.stage = Stage::Closed;
-                self.owed = session.owed_after(self.owed, before);
-                self.locks.release_all(caller as usize);
-                self.history.push_reserved(Entry::Aborted(caller));
+        let level = self.level();
+        self.log.cut(level);
+        match self.seat.phase() {
+            Phase::LeavingTo(level) => Answer::Returned(level),
+            _ => {
+                locks.release_all(caller);
                 Answer::Aborted
             }
-            _ => unreachable!(),
         }
+    }
+}
+
+/// Another caller holds the stripe: gives up what was prepared.
+fn busy(pending: Pending, holder: u64, table: &mut Table) -> Answer
+    requires { OwnsIf table.old pending.spare }
+    ensures answer { result ≡ Answer.Busy holder }
+    ensures back { GivesBack table.old table.new pending.spare }
+    ensures placed { KeepsPlaced table.old table.new }
+{
+    table.withdraw(pending);
+    Answer::Busy(holder)
+}
+
+/// Notes a job as the newest, if there is one, in room that is there already.
+fn note(log: &mut UndoLog<MapJob>, job: Option<MapJob>)
+    requires { 0 < log.old.room }
+    ensures jobs { log.new.jobs ≡ log.old.jobs ++ option_to_list job }
+    ensures kept { log.new.kept ≡ log.old.kept }
+{
+    if let Some(job) = job {
+        log.push_reserved(job);
     }
 }

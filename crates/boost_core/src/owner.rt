@@ -1,3 +1,10 @@
+//! Owners of cursors.
+ghost use Rattle.std.specs.Prelude.{◌≡◌};
+ghost use Rattle.boost_core.specs.Answers.{placed_by};
+ghost use Rattle.boost_core.specs.Placed.{placed_then};
+
+use txn_trace::{Answer, Step};
+
 /// Whose a cursor is, as the state of the machine names the one that the last step placed.
 #[derive(Clone, Copy, Debug, PartialEq, Eq)]
 pub enum Owner {
@@ -5,4 +12,19 @@ pub enum Owner {
     Caller(u64),
     /// The helper of this number.
     Helper(u64),
+}
+
+/// Whose cursor was placed last, after a step and its answer: a refusal leaves what was before.
+pub(crate) fn placed_after(before: Option<Owner>, step: Step, answer: Answer) -> Option<Owner>
+    ensures { result ≡ placed_then before step answer }
+{
+    match answer {
+        Answer::Refused(_) => before,
+        Answer::Placed => match step {
+            Step::Seek(caller) => Some(Owner::Caller(caller)),
+            Step::InitSeek(helper, _) => Some(Owner::Helper(helper)),
+            _ => None,
+        },
+        _ => None,
+    }
 }

@@ -2,7 +2,7 @@
 ghost use Rattle.std.specs.Prelude.{◌≡◌, true, false, nat_le};
 
 use crate::machine::Core;
-use txn_trace::{Answer, Op};
+use txn_trace::{Answer, Op, Step};
 
 impl Core {
     ghost use Rattle.boost_core.specs.Answers.{end_of, is_at_end};
@@ -43,7 +43,7 @@ impl Core {
     pub fn back(&mut self, caller: u64, level: u64) -> Answer
         ensures { Returns self.old caller level result self.new }
     {
-        match self.leave_to(caller, level) {
+        match self.call(caller, Step::Back(caller, level)) {
             Answer::Leaving => self.take_back(caller),
             answer => answer,
         }
@@ -60,7 +60,7 @@ impl Core {
         if self.leaves_to_end(caller) {
             return self.take_back(caller);
         }
-        match self.leave(caller) {
+        match self.call(caller, Step::Abort(caller)) {
             Answer::Leaving => self.take_back(caller),
             answer => answer,
         }
@@ -70,10 +70,10 @@ impl Core {
     fn operate(&mut self, caller: u64, op: Op) -> Answer
         ensures { Operates self.old caller op result self.new }
     {
-        match self.ask(caller, op) {
+        match self.call(caller, Step::Ask(caller, op)) {
             Answer::Asked => {
-                self.seek(caller);
-                self.act(caller)
+                self.call(caller, Step::Seek(caller));
+                self.call(caller, Step::Act(caller))
             }
             answer => answer,
         }
@@ -87,10 +87,10 @@ impl Core {
         ensures answer { result ≡ end_of (seat_in self.old.history caller).phase }
     {
         while self.has_job(caller) {
-            self.seek(caller);
-            self.act(caller);
+            self.call(caller, Step::Seek(caller));
+            self.call(caller, Step::Act(caller));
         }
-        self.act(caller)
+        self.call(caller, Step::Act(caller))
     }
 
     /// Whether a caller has a change to take back.
@@ -98,7 +98,7 @@ impl Core {
         ensures { result ≡ has_job (seat_in self.now.history caller) }
     {
         match self.sessions.get(caller as usize) {
-            Some(session) => session.has_job(),
+            Some(session) => session.seat.has_job(),
             None => false,
         }
     }

@@ -1,17 +1,9 @@
 //! Refusals.
-ghost use Rattle.std.specs.Prelude.{◌≡◌, ◌^◌, nat_le};
-ghost use Rattle.txn_trace.specs.Map.{key_of};
+ghost use Rattle.std.specs.Prelude.{◌≡◌};
 ghost use Rattle.boost_core.specs.Refusals.{refusal_for};
 
-use map_ops::{InitRefusal, Key};
-use txn_trace::{Op, Refusal};
-
-/// Whether the key of an operation is none of the table's.
-pub(crate) fn has_bad_key(op: Op) -> bool
-    ensures { result ≡ nat_le (2 ^ 63) (key_of op) }
-{
-    Key::new(op.key()).is_err()
-}
+use map_ops::InitRefusal;
+use txn_trace::Refusal;
 
 /// The refusal of a helper's step, as the table tells it.
 pub(crate) fn refusal_for(refusal: InitRefusal) -> Refusal

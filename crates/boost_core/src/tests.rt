@@ -314,3 +314,34 @@ fn owed_entries(rt: HostRuntime) -> Result<(), Fail> {
     }
     Ok(())
 }
+
+/// Each marked node is swept by a sweep of its own. And an act is done at its cursor although the list has changed elsewhere
+/// since its seek, and although another caller has read.
+#[test]
+fn sweeps_and_cursors(rt: HostRuntime) -> Result<(), Fail> {
+    let alloc = rt.alloc();
+    let mut core = core_of(alloc, 2)?;
+    let lines = [
+        (Call::Run(Step::Begin(0)), Answer::Began(1)),
+        (Call::Put(0, 4, 40), Answer::Done(None)),
+        (Call::Put(0, 2, 20), Answer::Done(None)),
+        (Call::Put(0, 1, 10), Answer::Done(None)),
+        (Call::Take(0, 1), Answer::Done(Some(10))),
+        (Call::Take(0, 2), Answer::Done(Some(20))),
+        (Call::Run(Step::Commit(0)), Answer::Committed(1)),
+        (Call::Run(Step::Sweep), Answer::Swept),
+        (Call::Run(Step::Sweep), Answer::Swept),
+        (Call::Run(Step::Sweep), Answer::Clean),
+        (Call::Run(Step::Begin(0)), Answer::Began(2)),
+        (Call::Run(Step::Ask(0, Op::Put(2, 21))), Answer::Asked),
+        (Call::Run(Step::Seek(0)), Answer::Placed),
+        (Call::Run(Step::Begin(1)), Answer::Began(3)),
+        (Call::Put(1, 8, 80), Answer::Done(None)),
+        (Call::Get(1, 4), Answer::Done(Some(40))),
+        (Call::Run(Step::Act(0)), Answer::Done(None)),
+    ];
+    plays(&rt, alloc, &mut core, &lines)?;
+    let pairs = core.regular_list(alloc)?;
+    assert_eq!(rt; pairs.as_slice(), [(8, 80), (4, 40), (2, 21)].as_slice());
+    Ok(())
+}

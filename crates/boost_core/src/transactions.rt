@@ -1,101 +1,56 @@
-//! The steps that begin, part and end transactions.
-ghost use Rattle.std.specs.Prelude.{◌≡◌};
+//! The steps by which a caller parts and ends its transaction.
+ghost use Rattle.std.specs.Prelude.{◌≡◌, None};
 
-use crate::machine::Core;
-use crate::stage::Stage;
-use txn_trace::{Answer, Entry, Refusal, Step};
+use crate::session::Session;
+use map_ops::Table;
+use txn_trace::{Answer, Refusal};
 
-impl Core {
-    ghost use Rattle.boost_core.specs.Machine.{Move};
+impl Session {
+    ghost use Rattle.boost_core.specs.Sessions.{CanSettle, CanWithdraw, Saves, SettlesIn, WithdrawsIn};
 
-    pub(crate) fn begin(&mut self, caller: u64) -> Answer
-        ensures { Move self.old (Step.Begin caller) result self.new }
+    /// Sets a savepoint in the log, and makes room for it in the seat.
+    pub(crate) fn save(&mut self) -> Answer
+        ensures { Saves self.old result self.new }
     {
-        if let Some(refusal) = self.refusal(caller, Step::Begin(caller)) {
-            return Answer::Refused(refusal);
-        }
-        if self.history.reserve(self.owed + 3).is_err() {
+        if self.seat.reserve_level().is_err() {
             return Answer::Refused(Refusal::NoMemory);
         }
-        let txn = self.began + 1;
-        self.began = txn;
-        self.history.push_reserved(Entry::Began(caller, txn));
-        let session = &mut self.sessions[caller as usize];
-        let before = session.owed();
-        session.stage = Stage::Open;
-        self.owed = session.owed_after(self.owed, before);
-        self.placed = None;
-        Answer::Began(txn)
+        match self.log.save() {
+            Ok(level) => Answer::Saved(level as u64),
+            Err(_) => Answer::Refused(Refusal::NoMemory),
+        }
     }
 
-    pub(crate) fn save(&mut self, caller: u64) -> Answer
-        ensures { Move self.old (Step.Save caller) result self.new }
+    /// Leaves to a level: a cursor that it has is of no use any more.
+    pub(crate) fn drop_cursor(&mut self) -> Answer
+        ensures answer { result ≡ Answer.Leaving }
+        ensures becomes { self.new ≡ record self.old { cursor = None } }
     {
-        if let Some(refusal) = self.refusal(caller, Step::Save(caller)) {
-            return Answer::Refused(refusal);
-        }
-        if self.history.reserve(self.owed + 1).is_err() {
-            return Answer::Refused(Refusal::NoMemory);
-        }
-        let session = &mut self.sessions[caller as usize];
-        let Ok(level) = session.log.save() else {
-            return Answer::Refused(Refusal::NoMemory);
-        };
-        self.history.push_reserved(Entry::Saved(caller));
-        self.placed = None;
-        Answer::Saved(level as u64)
-    }
-
-    pub(crate) fn leave_to(&mut self, caller: u64, level: u64) -> Answer
-        ensures { Move self.old (Step.Back caller level) result self.new }
-    {
-        if let Some(refusal) = self.refusal(caller, Step::Back(caller, level)) {
-            return Answer::Refused(refusal);
-        }
-        if self.history.reserve(self.owed + 2).is_err() {
-            return Answer::Refused(Refusal::NoMemory);
-        }
-        let session = &mut self.sessions[caller as usize];
-        let before = session.owed();
-        session.stage = Stage::LeavingTo(level as usize);
-        session.cursor = None;
-        self.owed = session.owed_after(self.owed, before);
-        self.history
-            .push_reserved(Entry::Leave(caller, Some(level)));
-        self.placed = None;
+        self.cursor = None;
         Answer::Leaving
     }
 
-    pub(crate) fn commit(&mut self, caller: u64) -> Answer
-        ensures { Move self.old (Step.Commit caller) result self.new }
+    /// Gives up what waits, if anything does, to leave to the end.
+    pub(crate) fn withdraw(&mut self, table: &mut Table) -> Answer
+        requires { CanWithdraw self.old table.old }
+        ensures answer { result ≡ Answer.Leaving }
+        ensures withdraws { WithdrawsIn self.old table.old self.new table.new }
     {
-        if let Some(refusal) = self.refusal(caller, Step::Commit(caller)) {
-            return Answer::Refused(refusal);
+        self.cursor = None;
+        if let Some(pending) = self.pending.take() {
+            table.withdraw(pending);
         }
-        let place = self.committed + 1;
-        self.committed = place;
-        let session = &mut self.sessions[caller as usize];
-        let before = session.owed();
-        session.settle(&mut self.table);
-        self.owed = session.owed_after(self.owed, before);
-        self.locks.release_all(caller as usize);
-        self.history.push_reserved(Entry::Committed(caller, place));
-        self.placed = None;
-        Answer::Committed(place)
+        Answer::Leaving
     }
 
-    pub(crate) fn leave(&mut self, caller: u64) -> Answer
-        ensures { Move self.old (Step.Abort caller) result self.new }
+    /// Drops all its jobs and savepoints.
+    pub(crate) fn settle(&mut self, table: &mut Table)
+        requires { CanSettle self.old table.old }
+        ensures { SettlesIn self.old table.old self.new table.new }
     {
-        if let Some(refusal) = self.refusal(caller, Step::Abort(caller)) {
-            return Answer::Refused(refusal);
+        while let Some(job) = self.log.pop_above(0) {
+            table.discard(job);
         }
-        let session = &mut self.sessions[caller as usize];
-        let before = session.owed();
-        session.withdraw(&mut self.table);
-        self.owed = session.owed_after(self.owed, before);
-        self.history.push_reserved(Entry::Leave(caller, None));
-        self.placed = None;
-        Answer::Leaving
+        self.log.cut(0);
     }
 }

@@ -1,6 +1,6 @@
 -- What a history file says is in range.
-use Rattle.std.proofs.Common.{◌≡◌, ℕ, ◌<◌, Bool, true, false, ◌&&◌, ◌==◌, if◌then◌else◌, List, Result, Ok, Err, codes, refl, subst, arith}
-use Rattle.std.specs.Prelude.{nat_le, length}
+use Rattle.std.proofs.Common.{◌≡◌, ℕ, ◌<◌, Bool, true, false, ◌&&◌, if◌then◌else◌, List, [], ◌∷◌, Result, Ok, Err, refl, subst, arith}
+use Rattle.std.specs.Prelude.{nat_le}
 use Rattle.std.specs.List.{All, list_all}
 use Rattle.std.proofs.lemmas.Bool.{and_parts, leb-true}
 use Rattle.std.proofs.lemmas.List.Sums.{AllPass-from_list_all}
@@ -8,14 +8,11 @@ use Rattle.std.proofs.lemmas.List.Elements.{All-weaker}
 use Rattle.txn_trace.specs.declared.entry.Entry.{Entry}
 use Rattle.txn_trace.specs.declared.entry.Entry.TheVariants.{Began, Asked, Did, Saved, Leave, Undone, Returned, Committed, Busy, Aborted}
 use Rattle.txn_trace.specs.History.{caller_of}
-use Rattle.txn_files.specs.Part.TheVariants as parts
 use Rattle.txn_files.specs.FileFault.{FileFault}
-use Rattle.txn_files.specs.FileFault.TheVariants.{Member, Limit}
-use Rattle.txn_files.specs.Faults.{◌>>=◌, or_fault}
-use Rattle.txn_files.specs.Json.{json_of, number_named}
-use Rattle.txn_files.specs.Pieces.{pieces_member}
-use Rattle.txn_files.specs.Entries.{entry_of}
-use Rattle.txn_files.specs.HistoryFile.{is_in_range, is_history, entries_from, entries_of, history_of}
+use Rattle.txn_files.specs.FileFault.TheVariants.{Limit}
+use Rattle.txn_files.specs.Faults.{◌>>=◌}
+use Rattle.txn_files.specs.Files.{contents}
+use Rattle.txn_files.specs.HistoryFile.{history_file, is_in_range, is_history, entries_from, history_of}
 
 -- What came of both was made from what came of the first.
 gone_on : {A B : Type 0} (first : Result A FileFault) (next : A → Result B FileFault) (last : B) → (first >>= next) ≡ Ok last → (x : A) × (next x ≡ Ok last)
@@ -41,19 +38,20 @@ below_64 (Aborted c) h = omega (arith, leb-true c 63 h)
 
 is_history-parts : (stripes : ℕ) (h : List Entry) → is_history stripes h ≡ true → (0 < stripes) × All (λ e. caller_of e < 64) h
 is_history-parts stripes h e =
-    let all = and_parts (nat_le 1 stripes && nat_le stripes 4096 && nat_le (length h) 1000000) (list_all is_in_range h) e in
-    let numbers = and_parts (nat_le 1 stripes && nat_le stripes 4096) (nat_le (length h) 1000000) all.0 in
-    let some = and_parts (nat_le 1 stripes) (nat_le stripes 4096) numbers.0 in
+    let all = and_parts (nat_le 1 stripes && nat_le stripes 4096) (list_all is_in_range h) e in
+    let some = and_parts (nat_le 1 stripes) (nat_le stripes 4096) all.0 in
     (omega (arith, leb-true 1 stripes some.0), All-weaker (λ e. is_in_range e ≡ true) (λ e. caller_of e < 64) below_64 h (AllPass-from_list_all is_in_range h all.1))
+
+is_history-from : (numbers : List ℕ) (entries : List Entry) (stripes : ℕ) (h : List Entry) → entries_from numbers entries ≡ Ok (stripes, h) → is_history stripes h ≡ true
+unfolding entries_from
+is_history-from (s ∷ []) entries stripes h e =
+    let (right, same) = passed (is_history s entries) (s, entries) (stripes, h) e in
+    subst (λ (file : ℕ × List Entry). is_history file.0 file.1 ≡ true) same right
+is_history-from [] entries stripes h e = absurd (cc e)
+is_history-from (s ∷ t ∷ numbers) entries stripes h e = absurd (cc e)
 
 -- A history has stripes, and its callers are below 64.
 pub history_of-in_range : (bytes : List ℕ) (stripes : ℕ) (h : List Entry) → history_of bytes ≡ Ok (stripes, h) → (0 < stripes) × All (λ e. caller_of e < 64) h
-unfolding entries_of entries_from
 history_of-in_range bytes stripes h e =
-    let (d, e0) = gone_on (json_of bytes) entries_of (stripes, h) e in
-    let (version, e1) = gone_on (or_fault Member (number_named (codes "version") d)) _ _ e0 in
-    let (s, e2) = gone_on (or_fault Member (number_named (codes "stripes") d)) _ _ e1 in
-    let (entries, e3) = gone_on (pieces_member entry_of parts.Entry (codes "entries") d) _ _ e2 in
-    let (right, same) = passed ((version == 1) && is_history s entries) (s, entries) (stripes, h) e3 in
-    let whole : is_history stripes h ≡ true = subst (λ (file : ℕ × List Entry). is_history file.0 file.1 ≡ true) same (and_parts (version == 1) (is_history s entries) right).1 in
-    is_history-parts stripes h whole
+    let (file, made) = gone_on (contents history_file bytes) (λ file. entries_from file.0 file.1) (stripes, h) e in
+    is_history-parts stripes h (is_history-from file.0 file.1 stripes h made)

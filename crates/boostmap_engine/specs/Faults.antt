@@ -1,7 +1,9 @@
 -- The faults of the program.
-use Rattle.std.specs.Prelude.{ℕ}
+use Rattle.std.specs.Prelude.{ℕ, List, ◌++◌, codes}
+use Rattle.txn_files.specs.Faults.{words_of}
 use Rattle.txn_files.specs.FileFault.{FileFault}
 use Rattle.txn_files.specs.FileFault.TheVariants as files
+use Rattle.boostmap_engine.specs.declared.fault.TheConstants.{USAGE}
 use Rattle.boostmap_engine.specs.declared.fault.Fault.{Fault}
 use Rattle.boostmap_engine.specs.declared.fault.Fault.TheVariants.{Usage, Input, NoMemory, NoThread, Read, Write, OutOfStep}
 
@@ -14,6 +16,16 @@ status_of NoThread = 4
 status_of Read = 4
 status_of Write = 4
 status_of OutOfStep = 4
+
+-- What is printed of a fault.
+abbrev pub message_of : Fault → List ℕ
+message_of Usage = USAGE.now
+message_of (Input fault) = codes "refused " ++ words_of fault
+message_of NoMemory = codes "no memory"
+message_of NoThread = codes "no thread"
+message_of Read = codes "read failed"
+message_of Write = codes "write failed"
+message_of OutOfStep = codes "out of step"
 
 -- A fault of a file, where want of memory is none of the file's.
 abbrev pub of_file : FileFault → Fault

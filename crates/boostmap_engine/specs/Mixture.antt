@@ -7,7 +7,7 @@ use Rattle.txn_trace.specs.Plays.{PlayScripts}
 use Rattle.txn_files.specs.FileFault.{FileFault}
 use Rattle.txn_files.specs.HistoryText.{text_of_history}
 use Rattle.txn_files.specs.ScriptFile.{scripts_of}
-use Rattle.txn_files.specs.Work.{Work}
+use Rattle.txn_trace.specs.Work.{Work}
 use Rattle.boost_core.specs.State.{State}
 use Rattle.script_mix.specs.Crews.{IsMixed}
 use Rattle.boostmap_engine.specs.Report.{line}

@@ -1,38 +1,80 @@
 ghost use Rattle.std.specs.Prelude.{◌≡◌};
-ghost use Rattle.boostmap_engine.specs.Faults.{status_of, of_file};
+ghost use Rattle.boostmap_engine.specs.Faults.{status_of, message_of, of_file};
 ghost use Rattle.boostmap_engine.specs.declared.fault.Fault.TheVariants as faults;
 
 use std::alloc::AllocError;
+use std::fmt;
 use thiserror::Error;
 use txn_files::FileFault;
 
-/// Why the program gives up. Its text is what stands on standard error then: one line, but for `Usage`.
+/// What is printed of words that are none of the program's: its usage.
+const USAGE: &str = "usage: boostmap replay FILE | boostmap mix --seed N FILE | boostmap check FILE
+
+  replay FILE        runs the steps of a file, and prints answers, size, count and pairs
+  mix --seed N FILE  runs the scripts of a file, mixed as N says, and prints the history
+  check FILE         says whether a recorded history is legal, or which entry breaks which rule
+
+FILE is the path of a file, and may be /dev/stdin.
+N is a whole number from 0 to 18446744073709551615, in decimal digits.
+
+Exit status: 0 all is well, 1 the history is illegal, 2 a usage error, 3 the file is refused,
+4 no memory, or a read or a write failed. From 3 on one line on standard error says which.
+
+Example: boostmap check examples/checked.json";
+
+/// Why the program gives up.
 #[derive(Debug, Drop, Error)]
+#[error("{}", Message {fault: self})]
 pub enum Fault {
     /// The words of the call are none that the program has.
-    #[error("usage: boostmap replay FILE | boostmap mix --seed N FILE | boostmap check FILE\n\nreplay FILE  runs the steps of a file and prints their answers, the size, the count and the pairs\nmix --seed N FILE  runs the scripts of a file, their turns mixed as the seed says, and prints the history\ncheck FILE   says whether a recorded history is legal, or which entry breaks which rule\n\nexample: boostmap check examples/checked.json")]
     Usage,
     /// The input was refused, for a fault of the file.
-    #[error("refused {0}")]
     Input(FileFault),
     /// Memory was refused.
-    #[error("no memory")]
     NoMemory,
     /// A thread could not be started.
-    #[error("no thread")]
     NoThread,
     /// A read failed, or the file could not be opened.
-    #[error("read failed")]
     Read,
     /// A write failed, or took nothing of the bytes that there were.
-    #[error("write failed")]
     Write,
     /// A core answered what the state of a caller excludes.
-    #[error("out of step")]
     OutOfStep,
 }
 
+/// What standard error shows of a fault: one line without its line feed, but the whole usage for
+/// `Usage`.
+#[derive(Clone, Copy, Debug)]
+pub struct Message<'a> {
+    fault: &'a Fault,
+}
+
+impl fmt::Display for Message<'_> {
+    ghost use Rattle.std.specs.Prelude.{Some};
+
+    ghost output = { λ message. Some (message_of message.fault.now) };
+
+    fn fmt<W: fmt::Write>(&self, f: &mut fmt::Formatter<W>) -> fmt::Result {
+        match self.fault {
+            Fault::Usage => f.write_str(USAGE),
+            Fault::Input(fault) => write!(f, "refused {fault}"),
+            Fault::NoMemory => f.write_str("no memory"),
+            Fault::NoThread => f.write_str("no thread"),
+            Fault::Read => f.write_str("read failed"),
+            Fault::Write => f.write_str("write failed"),
+            Fault::OutOfStep => f.write_str("out of step"),
+        }
+    }
+}
+
 impl Fault {
+    /// What standard error shows of the fault. Constant time.
+    pub fn message(&self) -> Message<'_>
+        ensures { result.fault.now ≡ self.now }
+    {
+        Message { fault: self }
+    }
+
     /// The exit status of the program: 2 for `Usage`, 3 for `Input`, 4 for every other. Constant time.
     pub fn status(&self) -> u8
         ensures { result ≡ status_of self.now }

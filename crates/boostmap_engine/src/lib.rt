@@ -25,7 +25,7 @@ mod output;
 mod report;
 
 pub use engine::{check, mix, replay};
-pub use fault::Fault;
+pub use fault::{Fault, Message};
 pub use script_mix::draw;
 
 #[cfg(test)]

@@ -1,7 +1,6 @@
 -- The dummies of a list.
-use Rattle.std.proofs.Common.{◌≡◌, ◌≢◌, ℕ, ◌<◌, ◌^◌, ◌⊎◌, inl, inr, List, [], ◌∷◌, Some, Bool, true, false, ◌==◌, ◌&&◌, ◌||◌, not, nat_lt, refl, sym, ◌∙◌, ap, subst, arith}
+use Rattle.std.proofs.Common.{◌≡◌, ◌≢◌, ℕ, ◌<◌, ◌^◌, ◌⊎◌, inl, inr, List, [], ◌∷◌, Some, Bool, true, false, ◌==◌, ◌&&◌, ◌||◌, not, refl, sym, ◌∙◌, ap, subst, arith}
 use Rattle.std.specs.List.{AllByRecursion}
-use Rattle.std.proofs.lemmas.Bool.{cases_lt}
 use Rattle.std.proofs.lemmas.Bool.Decides.{eqb_tells}
 use Rattle.node_list.specs.declared.node.Kind.{Kind}
 use Rattle.node_list.specs.declared.node.Kind.TheVariants.{Dummy, Regular}
@@ -11,8 +10,11 @@ use Rattle.node_list.proofs.OrderLemmas.{some-injective, some-none}
 use Rattle.list_steps.specs.Seek.{cleaned, sought}
 use Rattle.list_steps.specs.Steps.{without_first_marked}
 use Rattle.list_steps.proofs.SeekLemmas.{cleaned_marked, cleaned_passed, cleaned_stopped}
+use Rattle.split_key.specs.declared.sort.SortKey.{SortKey}
 use Rattle.split_key.specs.Split.{reversed, split}
+use Rattle.split_key.specs.Sort.{dummy_at, is_before}
 use Rattle.split_key.proofs.SplitLemmas.{same_from_reversed, split_odd, reversed_even}
+use Rattle.split_key.proofs.SortLemmas.{cases_before, cases_same}
 use Rattle.bucket_table.specs.Dummies.{IsKeyedNode, dummy_node, has_dummy, is_dummy_of}
 
 either : (b : Bool) → (b ≡ true) ⊎ (b ≡ false)
@@ -20,37 +22,37 @@ either true = inl refl
 either false = inr refl
 
 -- A fact of all nodes after a seek.
-each_cleaned : (P : NodeAt → Type 0) (split : ℕ) (nodes : List NodeAt) → AllByRecursion P nodes → AllByRecursion P (cleaned split nodes)
+each_cleaned : (P : NodeAt → Type 0) (at : SortKey) (nodes : List NodeAt) → AllByRecursion P nodes → AllByRecursion P (cleaned at nodes)
 unfolding cleaned
-each_cleaned P split [] each = tt
-each_cleaned P split (n ∷ rest) each =
+each_cleaned P at [] each = tt
+each_cleaned P at (n ∷ rest) each =
     let Q : List NodeAt → Type 0 = AllByRecursion P in
-    let later = each_cleaned P split rest each.1 in
+    let later = each_cleaned P at rest each.1 in
     elim (either n.marked) [
-      | inl marked ↦ subst Q (sym (cleaned_marked n rest split marked)) later
-      | inr unmarked ↦ elim (cases_lt n.split split) [
-        | inl below ↦ subst Q (sym (cleaned_passed n rest split unmarked below)) (each.0, later)
-        | inr beyond ↦ subst Q (sym (cleaned_stopped n rest split unmarked beyond)) each
+      | inl marked ↦ subst Q (sym (cleaned_marked n rest at marked)) later
+      | inr unmarked ↦ elim (cases_before n.at at) [
+        | inl below ↦ subst Q (sym (cleaned_passed n rest at unmarked below)) (each.0, later)
+        | inr beyond ↦ subst Q (sym (cleaned_stopped n rest at unmarked beyond)) each
       ]
     ]
 
-pub each_sought : (P : NodeAt → Type 0) (nodes : List NodeAt) (from split : ℕ) → AllByRecursion P nodes → AllByRecursion P (sought nodes from split)
+pub each_sought : (P : NodeAt → Type 0) (nodes : List NodeAt) (from : ℕ) (at : SortKey) → AllByRecursion P nodes → AllByRecursion P (sought nodes from at)
 unfolding sought
-each_sought P [] from split each = tt
-each_sought P (n ∷ rest) from split each = elim (eqb_tells n.place from) [
-  | inl here ↦ rw here.0 (each.0, each_cleaned P split rest each.1)
-  | inr past ↦ rw past.0 (each.0, each_sought P rest from split each.1)
+each_sought P [] from at each = tt
+each_sought P (n ∷ rest) from at each = elim (eqb_tells n.place from) [
+  | inl here ↦ rw here.0 (each.0, each_cleaned P at rest each.1)
+  | inr past ↦ rw past.0 (each.0, each_sought P rest from at each.1)
 ]
 
 -- Which nodes are dummies of a bucket.
-pub is_dummy_true : (bucket : ℕ) (n : NodeAt) → n.kind ≡ Dummy → n.split ≡ reversed bucket → is_dummy_of bucket n ≡ true
-is_dummy_true bucket n dummy same = elim (eqb_tells n.split (reversed bucket)) [
+pub is_dummy_true : (bucket : ℕ) (n : NodeAt) → n.kind ≡ Dummy → n.at ≡ dummy_at bucket → is_dummy_of bucket n ≡ true
+is_dummy_true bucket n dummy same = elim (cases_same n.at (dummy_at bucket)) [
   | inl here ↦ rw (dummy, here.0) refl
   | inr apart ↦ absurd (apart.1 same)
 ]
 
-is_dummy_other : (bucket : ℕ) (n : NodeAt) → n.split ≢ reversed bucket → is_dummy_of bucket n ≡ false
-is_dummy_other bucket n other = elim (eqb_tells n.split (reversed bucket)) [
+is_dummy_other : (bucket : ℕ) (n : NodeAt) → n.at ≢ dummy_at bucket → is_dummy_of bucket n ≡ false
+is_dummy_other bucket n other = elim (cases_same n.at (dummy_at bucket)) [
   | inl here ↦ absurd (other here.1)
   | inr apart ↦ rw apart.0 (and_false (not (is_regular n.kind)))
 ]
@@ -64,16 +66,16 @@ is_dummy_regular bucket n regular = go n.kind refl
   where
     go : (kind : Kind) → n.kind ≡ kind → is_dummy_of bucket n ≡ false
     go Dummy is = absurd (regular is)
-    go (Regular key) is = rw is refl
+    go Regular is = rw is refl
 
 -- A linked dummy is had.
-pub dummy_had : (nodes : List NodeAt) (place bucket : ℕ) (n : NodeAt) → node_of nodes place ≡ Some n → n.kind ≡ Dummy → n.split ≡ reversed bucket → has_dummy nodes bucket ≡ true
+pub dummy_had : (nodes : List NodeAt) (place bucket : ℕ) (n : NodeAt) → node_of nodes place ≡ Some n → n.kind ≡ Dummy → n.at ≡ dummy_at bucket → has_dummy nodes bucket ≡ true
 unfolding has_dummy node_of
 dummy_had [] place bucket n is dummy same = absurd (some-none (sym is))
 dummy_had (m ∷ rest) place bucket n is dummy same = elim (eqb_tells m.place place) [
   | inl here ↦
       let m_is : m ≡ n = some-injective (rw here.0 at is) in
-      rw (is_dummy_true bucket m (ap (λ (v : NodeAt). v.kind) m_is ∙ dummy) (ap (λ (v : NodeAt). v.split) m_is ∙ same)) refl
+      rw (is_dummy_true bucket m (ap (λ (v : NodeAt). v.kind) m_is ∙ dummy) (ap (λ (v : NodeAt). v.at) m_is ∙ same)) refl
   | inr past ↦ rw (dummy_had rest place bucket n (rw past.0 at is) dummy same) (or_true (is_dummy_of bucket m))
 ]
   where
@@ -81,8 +83,8 @@ dummy_had (m ∷ rest) place bucket n is dummy same = elim (eqb_tells m.place pl
     or_true true = refl
     or_true false = refl
 
--- Where no node has its split key, a bucket has no dummy.
-pub no_dummy : (nodes : List NodeAt) (bucket : ℕ) → AllByRecursion (λ n. n.split ≢ reversed bucket) nodes → has_dummy nodes bucket ≡ false
+-- Where no node stands where its dummy would, a bucket has no dummy.
+pub no_dummy : (nodes : List NodeAt) (bucket : ℕ) → AllByRecursion (λ n. n.at ≢ dummy_at bucket) nodes → has_dummy nodes bucket ≡ false
 unfolding has_dummy
 no_dummy [] bucket each = refl
 no_dummy (n ∷ rest) bucket each = rw (is_dummy_other bucket n each.0) (no_dummy rest bucket each.1)
@@ -106,52 +108,52 @@ has_dummy-linked_after (n ∷ rest) pred x bucket linked = elim (eqb_tells n.pla
     swapped false false c = refl
 
 -- A seek unlinks no dummy.
-has_dummy-cleaned : (split : ℕ) (nodes : List NodeAt) (bucket : ℕ) → AllPlain nodes → has_dummy (cleaned split nodes) bucket ≡ has_dummy nodes bucket
+has_dummy-cleaned : (at : SortKey) (nodes : List NodeAt) (bucket : ℕ) → AllPlain nodes → has_dummy (cleaned at nodes) bucket ≡ has_dummy nodes bucket
 unfolding has_dummy cleaned
-has_dummy-cleaned split [] bucket plain = refl
-has_dummy-cleaned split (n ∷ rest) bucket plain =
-    let later = has_dummy-cleaned split rest bucket plain.1 in
+has_dummy-cleaned at [] bucket plain = refl
+has_dummy-cleaned at (n ∷ rest) bucket plain =
+    let later = has_dummy-cleaned at rest bucket plain.1 in
     elim (either n.marked) [
       | inl marked ↦
           let regular = is_dummy_regular bucket n (λ dummy. cc (plain.0 dummy)) in
           rw (marked, regular) later
-      | inr unmarked ↦ elim (either (nat_lt n.split split)) [
+      | inr unmarked ↦ elim (either (is_before n.at at)) [
         | inl below ↦ rw (unmarked, below) (ap (λ b. is_dummy_of bucket n || b) later)
         | inr beyond ↦ rw (unmarked, beyond) refl
       ]
     ]
 
-pub has_dummy-sought : (nodes : List NodeAt) (from split bucket : ℕ) → AllPlain nodes → has_dummy (sought nodes from split) bucket ≡ has_dummy nodes bucket
+pub has_dummy-sought : (nodes : List NodeAt) (from : ℕ) (at : SortKey) (bucket : ℕ) → AllPlain nodes → has_dummy (sought nodes from at) bucket ≡ has_dummy nodes bucket
 unfolding has_dummy sought
-has_dummy-sought [] from split bucket plain = refl
-has_dummy-sought (n ∷ rest) from split bucket plain = elim (eqb_tells n.place from) [
-  | inl here ↦ rw here.0 (ap (λ b. is_dummy_of bucket n || b) (has_dummy-cleaned split rest bucket plain.1))
-  | inr past ↦ rw past.0 (ap (λ b. is_dummy_of bucket n || b) (has_dummy-sought rest from split bucket plain.1))
+has_dummy-sought [] from at bucket plain = refl
+has_dummy-sought (n ∷ rest) from at bucket plain = elim (eqb_tells n.place from) [
+  | inl here ↦ rw here.0 (ap (λ b. is_dummy_of bucket n || b) (has_dummy-cleaned at rest bucket plain.1))
+  | inr past ↦ rw past.0 (ap (λ b. is_dummy_of bucket n || b) (has_dummy-sought rest from at bucket plain.1))
 ]
 
 -- A new dummy is that of its bucket alone.
 pub is_dummy_of-dummy_node : (place bucket stamp other : ℕ) → bucket < 2 ^ 32 → other < 2 ^ 32 → is_dummy_of other (dummy_node place bucket stamp) ≡ (bucket == other)
 is_dummy_of-dummy_node place bucket stamp other fits other_fits = elim (eqb_tells bucket other) [
-  | inl same ↦ rw same.0 (is_dummy_true other (dummy_node place bucket stamp) refl (ap reversed same.1))
-  | inr apart ↦ rw apart.0 (is_dummy_other other (dummy_node place bucket stamp) (λ same. apart.1 (same_from_reversed bucket other (omega arith) (omega arith) same)))
+  | inl same ↦ rw same.0 (is_dummy_true other (dummy_node place bucket stamp) refl (ap dummy_at same.1))
+  | inr apart ↦ rw apart.0 (is_dummy_other other (dummy_node place bucket stamp) (λ same. apart.1 (same_from_reversed bucket other (omega arith) (omega arith) (ap (λ (at : SortKey). at.split) same))))
 ]
 
--- Where each regular node stands where its key belongs, a node with a bucket's split key is its dummy.
-pub dummy_there : (n : NodeAt) (bucket : ℕ) → bucket < 2 ^ 32 → IsKeyedNode n → n.split ≡ reversed bucket → n.kind ≡ Dummy
+-- Where each regular node stands where its key belongs, a node that stands where a bucket's dummy would is it.
+pub dummy_there : (n : NodeAt) (bucket : ℕ) → bucket < 2 ^ 32 → IsKeyedNode n → n.at ≡ dummy_at bucket → n.kind ≡ Dummy
 dummy_there n bucket fits keyed same = go n.kind refl
   where
     go : (kind : Kind) → n.kind ≡ kind → n.kind ≡ Dummy
     go Dummy is = is
-    go (Regular key) is =
-        let own = keyed key is in
-        let odd = split_odd key own.0 in
+    go Regular is =
+        let own = keyed is in
+        let odd = split_odd n.at.key own.0 in
         let even = reversed_even bucket (omega arith) in
-        let parity : split key ≡ reversed bucket = sym own.1 ∙ same in
+        let parity : split n.at.key ≡ reversed bucket = ap (λ (at : SortKey). at.split) (sym own.1 ∙ same) in
         absurd (omega (arith, odd, even, parity))
 
 -- A dummy is no regular node.
 pub keyed_dummy : (n : NodeAt) → n.kind ≡ Dummy → IsKeyedNode n
-keyed_dummy n dummy key regular = absurd (cc (sym dummy ∙ regular))
+keyed_dummy n dummy regular = absurd (cc (sym dummy ∙ regular))
 
 -- Nor does a change that leaves kind and split key of a node.
 pub has_dummy-changed_at : (nodes : List NodeAt) (place : ℕ) (change : NodeAt → NodeAt) (bucket : ℕ) → ((n : NodeAt) → is_dummy_of bucket (change n) ≡ is_dummy_of bucket n) → has_dummy (changed_at nodes place change) bucket ≡ has_dummy nodes bucket

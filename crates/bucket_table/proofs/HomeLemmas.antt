@@ -1,5 +1,5 @@
 -- What keeps buckets at home.
-use Rattle.std.proofs.Common.{◌≡◌, ℕ, ◌<◌, inl, inr, Some, None, refl, sym, ◌∙◌}
+use Rattle.std.proofs.Common.{◌≡◌, ℕ, ◌<◌, inl, inr, Some, None, sym, ◌∙◌}
 use Rattle.std.proofs.lemmas.Bool.{cases_eq}
 use Rattle.std.proofs.lemmas.List.{get_or-set_same}
 use Rattle.std.proofs.lemmas.List.Elements.{All-set, All-weaker, All-replicate}
@@ -7,7 +7,6 @@ use Rattle.node_list.specs.Nodes.{Listing}
 use Rattle.node_list.specs.Follow.{Follows}
 use Rattle.node_list.proofs.OrderLemmas.{some-injective}
 use Rattle.list_steps.proofs.CursorLemmas.{still_placed}
-use Rattle.split_key.specs.Split.{reversed, reversed_low}
 use Rattle.node_list.specs.Sound.{IsFirst}
 use Rattle.bucket_table.specs.declared.helper.Helper.{Helper}
 use Rattle.bucket_table.specs.declared.helper.Helper.TheVariants.{Idle, Seeking, Holding}
@@ -25,7 +24,7 @@ module _ (old new : Listing) (follows : Follows old new) where
         node = there.0;
         is = there.1;
         kind = sym there.2.kind ∙ dummy.kind;
-        split = sym there.2.split ∙ dummy.split;
+        at = sym there.2.at ∙ dummy.at;
       }
 
   still_helper_home : (helper : Helper) → IsHelperHome old helper → IsHelperHome new helper
@@ -67,10 +66,6 @@ home_beginning limit helpers head l first = record {
   helpers = All-replicate (IsHelperHome l) helpers Idle tt;
 }
 
-reversed_zero : reversed 0 ≡ 0
-unfolding reversed reversed_low
-reversed_zero = refl
-
 -- The first node is the dummy of bucket 0.
 pub first_dummy_at : (l : Listing) → IsFirst l → IsDummyAt l.nodes l.head 0
-first_dummy_at l first = record { node = first.node; is = first.is; kind = first.kind; split = first.split ∙ sym reversed_zero }
+first_dummy_at l first = record { node = first.node; is = first.is; kind = first.kind; at = first.at }

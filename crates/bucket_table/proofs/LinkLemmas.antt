@@ -4,11 +4,12 @@ use Rattle.std.proofs.lemmas.Bool.{cases_eq}
 use Rattle.std.proofs.lemmas.Bool.Decides.{eqb_tells}
 use Rattle.node_list.specs.declared.spare.SpareFault.{SpareFault}
 use Rattle.node_list.specs.declared.spare.SpareFault.TheVariants.{Worn, NoMemory as SpareNoMemory}
-use Rattle.node_list.specs.Nodes.{NodeAt, Listing, SpareAt, GivesOut, IsLinked, out_at, turn_after, linked_after}
+use Rattle.node_list.specs.Nodes.{NodeAt, Listing, SpareAt, GivesOut, IsLinked, out_at, one_more, linked_after}
 use Rattle.list_steps.specs.declared.cursor.Cursor.{Cursor}
-use Rattle.list_steps.specs.Found.{fits, pred_of, split_of}
+use Rattle.list_steps.specs.Found.{at_of, fits, pred_of}
 use Rattle.list_steps.specs.Steps.{IsThere, IsAbsent, Links}
-use Rattle.split_key.specs.Split.{reversed}
+use Rattle.split_key.specs.declared.sort.SortKey.{SortKey}
+use Rattle.split_key.specs.Sort.{dummy_at}
 use Rattle.std.specs.List.{AllByRecursion}
 use Rattle.node_list.proofs.OrderLemmas.{each_found}
 use Rattle.bucket_table.specs.declared.answer.InitLink.{InitLink}
@@ -16,7 +17,7 @@ use Rattle.bucket_table.specs.declared.answer.InitLink.TheVariants.{Present, Lin
 use Rattle.bucket_table.specs.declared.answer.InitRefusal.{InitRefusal}
 use Rattle.bucket_table.specs.declared.answer.InitRefusal.TheVariants.{NoSuchBucket, ParentMissing, NoSuchHelper, HelperOutOfOrder, NoMemory, StampsUsedUp}
 use Rattle.bucket_table.specs.declared.helper.Helper.TheVariants.{Seeking}
-use Rattle.bucket_table.specs.Answers.{link_answer}
+use Rattle.bucket_table.specs.Answers.{link_answer_at}
 use Rattle.bucket_table.specs.Directory.{Directory, helper_of}
 use Rattle.bucket_table.specs.Dummies.{IsDummyAt, IsKeyed, IsKeyedNode, dummy_node, has_dummy, is_dummy_of}
 use Rattle.bucket_table.specs.Links.{IsUnlinked, LinksAt}
@@ -35,15 +36,16 @@ module _ (before middle after : Listing) (cursor : Cursor) (bucket place stamp :
   links_at given next last fits linked x is links =
       let at_place : x.place ≡ place = ap (λ (v : NodeAt). v.place) is in
       record {
+        linked = subst (λ ns. IsLinked ns (pred_of cursor)) given.nodes linked;
         nodes = links.takes.nodes ∙ ap (λ ns. linked_after ns (pred_of cursor) x) given.nodes ∙ ap (λ v. linked_after before.nodes (pred_of cursor) v) (is ∙ ap (λ s. dummy_node place bucket s) next);
         dummy = record {
           node = x;
           is = rw (← at_place) links.linked;
           kind = ap (λ (v : NodeAt). v.kind) is;
-          split = ap (λ (v : NodeAt). v.split) is;
+          at = ap (λ (v : NodeAt). v.at) is;
         };
         head = links.takes.head ∙ given.head;
-        turn = links.takes.turn ∙ ap turn_after given.turn;
+        changes = links.takes.changes ∙ ap one_more given.changes;
         last = links.takes.last ∙ given.last ∙ next;
         room = last;
         out = λ other. elim (cases_eq other place) [
@@ -57,43 +59,43 @@ module _ (before middle after : Listing) (cursor : Cursor) (bucket place stamp :
       }
 
 -- Where a cursor finds a node, it is the bucket's dummy.
-pub there_dummy : (l : Listing) (cursor : Cursor) (bucket place : ℕ) → bucket < 2 ^ 32 → IsKeyed l.nodes → split_of cursor ≡ reversed bucket → IsThere l cursor place → IsDummyAt l.nodes place bucket
+pub there_dummy : (l : Listing) (cursor : Cursor) (bucket place : ℕ) → bucket < 2 ^ 32 → IsKeyed l.nodes → at_of cursor ≡ dummy_at bucket → IsThere l cursor place → IsDummyAt l.nodes place bucket
 there_dummy l cursor bucket place fits keyed sought there =
-    let same = there.split ∙ sought in
+    let same = there.at ∙ sought in
     record {
       node = there.node;
       is = there.is;
       kind = dummy_there there.node bucket fits (each_found IsKeyedNode l.nodes place there.node keyed there.is) same;
-      split = same;
+      at = same;
     }
 
 pub there_had : (l : Listing) (bucket place : ℕ) → IsDummyAt l.nodes place bucket → has_dummy l.nodes bucket ≡ true
-there_had l bucket place dummy = dummy_had l.nodes place bucket dummy.node dummy.is dummy.kind dummy.split
+there_had l bucket place dummy = dummy_had l.nodes place bucket dummy.node dummy.is dummy.kind dummy.at
 
 -- And where it finds none, the dummy is not linked.
-pub absent_not_had : (l : Listing) (cursor : Cursor) (bucket : ℕ) → split_of cursor ≡ reversed bucket → IsAbsent l cursor → has_dummy l.nodes bucket ≡ false
+pub absent_not_had : (l : Listing) (cursor : Cursor) (bucket : ℕ) → at_of cursor ≡ dummy_at bucket → IsAbsent l cursor → has_dummy l.nodes bucket ≡ false
 absent_not_had l cursor bucket sought absent =
-    let P : ℕ → Type 0 = λ s. AllByRecursion (λ n. n.split ≢ s) l.nodes in
+    let P : SortKey → Type 0 = λ s. AllByRecursion (λ n. n.at ≢ s) l.nodes in
     no_dummy l.nodes bucket (subst P sought absent.others)
 
 -- What a link at a cursor that fits is answered.
 module _ (d : Directory) (l : Listing) (helper bucket : ℕ) (cursor : Cursor) (had : helper_of d helper ≡ Some (Seeking bucket cursor)) (fit : fits l cursor ≡ true) where
-  pub answer_present : has_dummy l.nodes bucket ≡ true → link_answer d l helper ≡ Ok Present
+  pub answer_present : has_dummy l.nodes bucket ≡ true → link_answer_at d l helper ≡ Ok Present
   answer_present has = rw (had, fit, has) refl
 
-  pub answer_linked : has_dummy l.nodes bucket ≡ false → l.last ≢ 2 ^ 64 - 2 → link_answer d l helper ≡ Ok Linked
+  pub answer_linked : has_dummy l.nodes bucket ≡ false → l.last ≢ 2 ^ 64 - 2 → link_answer_at d l helper ≡ Ok Linked
   answer_linked none room = elim (eqb_tells l.last (2 ^ 64 - 2)) [
     | inl worn ↦ absurd (room worn.1)
     | inr fresh ↦ rw (had, fit, none, fresh.0) refl
   ]
 
-  answer_worn : has_dummy l.nodes bucket ≡ false → l.last ≡ 2 ^ 64 - 2 → link_answer d l helper ≡ Err StampsUsedUp
+  answer_worn : has_dummy l.nodes bucket ≡ false → l.last ≡ 2 ^ 64 - 2 → link_answer_at d l helper ≡ Err StampsUsedUp
   answer_worn none last = elim (eqb_tells l.last (2 ^ 64 - 2)) [
     | inl worn ↦ rw (had, fit, none, worn.0) refl
     | inr fresh ↦ absurd (fresh.1 last)
   ]
 
-  pub answer_refused : (after : Listing) (refusal : InitRefusal) → has_dummy l.nodes bucket ≡ false → IsUnlinked l after refusal → ◌≢◌ {A = Result InitLink InitRefusal} (Err refusal) (Err NoMemory) → Err refusal ≡ link_answer d l helper
+  pub answer_refused : (after : Listing) (refusal : InitRefusal) → has_dummy l.nodes bucket ≡ false → IsUnlinked l after refusal → ◌≢◌ {A = Result InitLink InitRefusal} (Err refusal) (Err NoMemory) → Err refusal ≡ link_answer_at d l helper
   answer_refused after StampsUsedUp none why other = sym (answer_worn none why.1)
   answer_refused after NoMemory none why other = absurd (other refl)
   answer_refused after NoSuchBucket none why other = absurd why
@@ -101,7 +103,7 @@ module _ (d : Directory) (l : Listing) (helper bucket : ℕ) (cursor : Cursor) (
   answer_refused after NoSuchHelper none why other = absurd why
   answer_refused after HelperOutOfOrder none why other = absurd why
 
-  pub answer_no_memory : (after : Listing) (refusal : InitRefusal) → has_dummy l.nodes bucket ≡ false → IsUnlinked l after refusal → ◌≡◌ {A = Result InitLink InitRefusal} (Err refusal) (Err NoMemory) → link_answer d l helper ≡ Ok Linked
+  pub answer_no_memory : (after : Listing) (refusal : InitRefusal) → has_dummy l.nodes bucket ≡ false → IsUnlinked l after refusal → ◌≡◌ {A = Result InitLink InitRefusal} (Err refusal) (Err NoMemory) → link_answer_at d l helper ≡ Ok Linked
   answer_no_memory after NoMemory none why same = answer_linked none why.1
   answer_no_memory after StampsUsedUp none why same = absurd (cc same)
   answer_no_memory after NoSuchBucket none why same = absurd why

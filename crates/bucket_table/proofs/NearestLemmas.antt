@@ -1,10 +1,12 @@
 -- The nearest stored bucket.
 use Prim.Native.Nat.{suc}
-use Rattle.std.proofs.Common.{◌≡◌, ℕ, ◌%◌, ◌^◌, ◌<◌, inl, inr, Some, None, false, is_some, refl, sym, ◌∙◌, ap, arith}
+use Rattle.std.proofs.Common.{◌≡◌, ℕ, ◌%◌, ◌^◌, ◌<◌, inl, inr, Some, None, false, is_some, refl, sym, ◌∙◌, ap, subst, arith}
 use Rattle.std.proofs.lemmas.Bool.{cases_eq}
 use Rattle.node_list.specs.Nodes.{Listing}
 use Rattle.list_steps.specs.Seek.{IsStart}
-use Rattle.split_key.specs.Split.{reversed, split, parent_of, ancestor_of, IsAncestor, IsPowerOfTwo}
+use Rattle.split_key.specs.Split.{parent_of, ancestor_of, IsAncestor, IsPowerOfTwo}
+use Rattle.split_key.specs.Sort.{dummy_at, regular_at, IsBefore, IsNotBefore}
+use Rattle.split_key.proofs.SortLemmas.{before_by_split, before_irreflexive, before_once}
 use Rattle.split_key.proofs.AncestorLemmas.{ancestor_before, ancestor_before_key, exponent_below}
 use Rattle.bucket_table.specs.Directory.{Directory, dummy_of, is_stored, IsNearest}
 use Rattle.bucket_table.specs.Dummies.{IsDummyAt, IsBeforeBucket}
@@ -52,12 +54,14 @@ module _ (d : Directory) (l : Listing) (bucket place : ℕ) (home : IsHome d l) 
     is = near_dummy.is;
     kind = near_dummy.kind;
     at_most = elim (cases_eq (ancestor_of nearest.steps bucket) bucket) [
-      | inl same ↦ let split_is : near_dummy.node.split ≡ reversed bucket = near_dummy.split ∙ ap reversed same in omega arith
-      | inr other ↦ let below = ancestor_before (ancestor_of nearest.steps bucket) bucket fits near_ancestor other in omega (arith, below, near_dummy.split)
+      | inl same ↦ subst (λ at. IsNotBefore (dummy_at bucket) at) (sym (near_dummy.at ∙ ap dummy_at same)) (before_irreflexive (dummy_at bucket))
+      | inr other ↦
+          let below = ancestor_before (ancestor_of nearest.steps bucket) bucket fits near_ancestor other in
+          subst (λ at. IsNotBefore (dummy_at bucket) at) (sym near_dummy.at) (before_once (dummy_at (ancestor_of nearest.steps bucket)) (dummy_at bucket) (before_by_split _ _ below))
     ];
   }
 
-  pub nearest_start : IsPowerOfTwo d.size → d.size < 2 ^ 32 → (key : ℕ) → key < 2 ^ 63 → key % d.size ≡ bucket → IsStart l.nodes place (split key)
+  pub nearest_start : IsPowerOfTwo d.size → d.size < 2 ^ 32 → (key : ℕ) → key < 2 ^ 63 → key % d.size ≡ bucket → IsStart l.nodes place (regular_at key)
   nearest_start power fits key small in_bucket =
       let bits = power.exponent in
       let bucket_is : key % 2 ^ bits ≡ bucket = ap (λ n. key % n) (sym power.is) ∙ in_bucket in
@@ -68,5 +72,5 @@ module _ (d : Directory) (l : Listing) (bucket place : ℕ) (home : IsHome d l) 
         node = near_dummy.node;
         is = near_dummy.is;
         dummy = near_dummy.kind;
-        below = omega (arith, below, near_dummy.split);
+        below = subst (λ at. IsBefore at (regular_at key)) (sym near_dummy.at) (before_by_split (dummy_at (ancestor_of nearest.steps bucket)) (regular_at key) below);
       }

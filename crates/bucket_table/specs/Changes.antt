@@ -1,10 +1,11 @@
 -- What each call changes.
-use Rattle.std.specs.Prelude.{◌≡◌, ℕ, Some, Result, Ok, Err}
-use Rattle.node_list.specs.Nodes.{Listing}
+use Rattle.std.specs.Prelude.{◌≡◌, ℕ, ◌-◌, Some, Result, Ok, Err, length}
+use Rattle.node_list.specs.Nodes.{Listing, changes_after}
 use Rattle.list_steps.specs.declared.cursor.Cursor.{Cursor}
-use Rattle.list_steps.specs.Found.{IsFound, split_of}
+use Rattle.list_steps.specs.Found.{IsFound, at_of}
 use Rattle.list_steps.specs.Seek.{KeepsRest, sought}
-use Rattle.split_key.specs.Split.{parent_of, reversed}
+use Rattle.split_key.specs.Split.{parent_of}
+use Rattle.split_key.specs.Sort.{dummy_at}
 use Rattle.bucket_table.specs.declared.answer.InitSeek.{InitSeek}
 use Rattle.bucket_table.specs.declared.answer.InitSeek.TheVariants.{Ready, Placed}
 use Rattle.bucket_table.specs.declared.answer.InitLink.{InitLink}
@@ -17,20 +18,26 @@ use Rattle.bucket_table.specs.Directory.{Directory, dummy_of, helper_of, with_he
 use Rattle.bucket_table.specs.Dummies.{IsDummyAt}
 use Rattle.bucket_table.specs.Links.{LinksAt}
 
--- The helper has a cursor for the bucket's dummy, sought from the dummy of the bucket's parent.
+-- The helper has a cursor for the bucket's dummy, sought from the dummy of the bucket's parent: the
+-- marked nodes between there and the place are unlinked, and no others. The change number grows by
+-- one for each.
 pub record Seeks (old new : Directory) (before after : Listing) (helper bucket : ℕ) : Type 0 where
   pub cursor : Cursor
   pub now : new ≡ with_helper old helper (Seeking bucket cursor)
   pub found : IsFound after cursor
-  pub split : split_of cursor ≡ reversed bucket
+  pub at : at_of cursor ≡ dummy_at bucket
   pub from : ℕ
   pub parent : dummy_of old (parent_of bucket) ≡ Some from
-  pub nodes : after.nodes ≡ sought before.nodes from (reversed bucket)
+  pub nodes : after.nodes ≡ sought before.nodes from (dummy_at bucket)
+  pub changes : after.changes
+      ≡ changes_after before.changes (length before.nodes - length after.nodes)
   pub rest : KeepsRest before after
 
 -- What a seek for a bucket changes.
-abbrev pub SeekChanges : Directory → Directory → Listing → Listing → ℕ → ℕ → Result InitSeek InitRefusal → Type 0
-SeekChanges old new before after helper bucket (Ok Ready) = (new ≡ with_helper old helper Idle) × (after ≡ before)
+abbrev pub SeekChanges : Directory → Directory → Listing → Listing → ℕ → ℕ
+    → Result InitSeek InitRefusal → Type 0
+SeekChanges old new before after helper bucket (Ok Ready) = (new ≡ with_helper old helper Idle)
+    × (after ≡ before)
 SeekChanges old new before after helper bucket (Ok Placed) = Seeks old new before after helper bucket
 SeekChanges old new before after helper bucket (Err refusal) = (new ≡ old) × (after ≡ before)
 
@@ -53,8 +60,10 @@ pub record LinksDummy (old new : Directory) (before after : Listing) (helper : �
   pub links : LinksAt before after cursor bucket place
 
 -- What a link by a helper changes.
-abbrev pub LinkChanges : Directory → Directory → Listing → Listing → ℕ → Result InitLink InitRefusal → Type 0
-LinkChanges old new before after helper (Ok Again) = (new ≡ with_helper old helper Idle) × (after ≡ before)
+abbrev pub LinkChanges : Directory → Directory → Listing → Listing → ℕ
+    → Result InitLink InitRefusal → Type 0
+LinkChanges old new before after helper (Ok Again) = (new ≡ with_helper old helper Idle)
+    × (after ≡ before)
 LinkChanges old new before after helper (Ok Present) = Holds old new after helper × (after ≡ before)
 LinkChanges old new before after helper (Ok Linked) = LinksDummy old new before after helper
 LinkChanges old new before after helper (Err refusal) = (new ≡ old) × (after ≡ before)

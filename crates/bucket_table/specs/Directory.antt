@@ -5,8 +5,8 @@ use Rattle.split_key.specs.Split.{parent_of, ancestor_of, IsPowerOfTwo}
 use Rattle.bucket_table.specs.declared.helper.Helper.{Helper}
 use Rattle.bucket_table.specs.declared.helper.Helper.TheVariants.{Idle, Seeking, Holding}
 
--- The size, the place of the dummy of each stored bucket, and what each helper has; there are as many
--- entries as the largest size.
+-- The size, the place of the dummy of each stored bucket, and what each helper has; there are as
+-- many entries as the largest size.
 pub record Directory : Type 0 where
   pub size : ℕ
   pub entries : List (Option ℕ)
@@ -69,11 +69,12 @@ pub record IsSound (d : Directory) : Type 0 where
   pub fits : limit_of d < 2 ^ 32
   pub first : is_stored d 0 ≡ true
   pub within : (bucket : ℕ) → is_stored d bucket ≡ true → bucket < d.size
-  pub parents : (bucket : ℕ) → 0 < bucket → is_stored d bucket ≡ true → is_stored d (parent_of bucket) ≡ true
+  pub parents : (bucket : ℕ) → 0 < bucket → is_stored d bucket ≡ true
+      → is_stored d (parent_of bucket) ≡ true
   pub helpers : All (IsInOrder d) d.helpers
 
--- The place is that of the dummy of the nearest stored one among the bucket, its parent, the parent's
--- parent and so on.
+-- The place is that of the dummy of the nearest stored one among the bucket, its parent, the
+-- parent's parent and so on.
 pub record IsNearest (d : Directory) (bucket place : ℕ) : Type 0 where
   pub steps : ℕ
   pub stored : dummy_of d (ancestor_of steps bucket) ≡ Some place

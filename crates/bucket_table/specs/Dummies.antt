@@ -1,15 +1,15 @@
 -- The dummies of a list.
-use Rattle.std.specs.Prelude.{◌≡◌, ℕ, ◌<◌, ◌≤◌, ◌^◌, List, [], ◌∷◌, Some, Bool, false, ◌==◌, ◌&&◌, ◌||◌, not}
+use Rattle.std.specs.Prelude.{◌≡◌, ℕ, ◌<◌, ◌^◌, List, [], ◌∷◌, Some, Bool, false, ◌&&◌, ◌||◌, not}
 use Rattle.std.specs.List.{AllByRecursion}
 use Rattle.node_list.specs.declared.node.Kind.TheVariants.{Dummy, Regular}
 use Rattle.node_list.specs.Nodes.{NodeAt, node_of, is_regular}
-use Rattle.split_key.specs.Split.{reversed, split}
+use Rattle.split_key.specs.Sort.{IsNotBefore, dummy_at, is_same, regular_at}
 
 -- The dummy of a bucket, unmarked and with value 0.
 abbrev pub dummy_node : ℕ → ℕ → ℕ → NodeAt
 dummy_node place bucket stamp = record {
   place = place;
-  split = reversed bucket;
+  at = dummy_at bucket;
   kind = Dummy;
   value = 0;
   stamp = stamp;
@@ -18,7 +18,7 @@ dummy_node place bucket stamp = record {
 
 -- Whether a node is the dummy of a bucket.
 abbrev pub is_dummy_of : ℕ → NodeAt → Bool
-is_dummy_of bucket n = not (is_regular n.kind) && n.split == reversed bucket
+is_dummy_of bucket n = not (is_regular n.kind) && is_same n.at (dummy_at bucket)
 
 -- Whether the dummy of a bucket is linked.
 unfoldable pub has_dummy : List NodeAt → ℕ → Bool
@@ -30,18 +30,18 @@ pub record IsDummyAt (nodes : List NodeAt) (place bucket : ℕ) : Type 0 where
   pub node : NodeAt
   pub is : node_of nodes place ≡ Some node
   pub kind : node.kind ≡ Dummy
-  pub split : node.split ≡ reversed bucket
+  pub at : node.at ≡ dummy_at bucket
 
 -- A dummy that stands no later than a bucket's is linked at a place.
 pub record IsBeforeBucket (nodes : List NodeAt) (place bucket : ℕ) : Type 0 where
   pub node : NodeAt
   pub is : node_of nodes place ≡ Some node
   pub kind : node.kind ≡ Dummy
-  pub at_most : node.split ≤ reversed bucket
+  pub at_most : IsNotBefore (dummy_at bucket) node.at
 
 -- A regular node stands where its key belongs.
 abbrev pub IsKeyedNode : NodeAt → Type 0
-IsKeyedNode n = (key : ℕ) → n.kind ≡ Regular key → (key < 2 ^ 63) × (n.split ≡ split key)
+IsKeyedNode n = n.kind ≡ Regular → (n.at.key < 2 ^ 63) × (n.at ≡ regular_at n.at.key)
 
 -- Each regular node stands where its key belongs.
 abbrev pub IsKeyed : List NodeAt → Type 0

@@ -1,6 +1,10 @@
 -- What a helper has.
-use Rattle.std.specs.Prelude.{ℕ, Result, Ok, Err}
+use Rattle.std.specs.Prelude.{ℕ, Bool, false, Option, Some, None, Result, Ok, Err}
+use Rattle.std.specs.Option.{option_map}
+use Rattle.node_list.specs.Nodes.{Listing}
 use Rattle.list_steps.specs.declared.cursor.Cursor.{Cursor}
+use Rattle.list_steps.specs.Found.{changes_of, fits}
+use Rattle.bucket_table.specs.Directory.{Directory, helper_of}
 use Rattle.bucket_table.specs.declared.answer.InitRefusal.{InitRefusal}
 use Rattle.bucket_table.specs.declared.answer.InitRefusal.TheVariants.{HelperOutOfOrder}
 use Rattle.bucket_table.specs.declared.helper.Helper.{Helper}
@@ -17,3 +21,26 @@ abbrev pub holding_of : Helper → Result (ℕ × ℕ) InitRefusal
 holding_of Idle = Err HelperOutOfOrder
 holding_of (Seeking bucket cursor) = Err HelperOutOfOrder
 holding_of (Holding bucket dummy) = Ok (bucket, dummy)
+
+-- What a helper has, as answers speak of it: nothing, a cursor for the dummy of a bucket with the
+-- change number when it was placed, or the dummy of a bucket.
+pub data Help : Type 0 where
+  Nothing : Help
+  Sought : ℕ → ℕ → Help
+  Dummy : ℕ → Help
+
+abbrev pub help_of : Helper → Help
+help_of Idle = Nothing
+help_of (Seeking bucket cursor) = Sought bucket (changes_of cursor)
+help_of (Holding bucket dummy) = Dummy bucket
+
+-- What the helper of this number has, if there is one.
+abbrev pub help_at : Directory → ℕ → Option Help
+help_at d helper = option_map help_of (helper_of d helper)
+
+-- Whether a helper has a cursor, and it fits.
+abbrev pub cursor_fits : Listing → Option Helper → Bool
+cursor_fits l (Some (Seeking bucket cursor)) = fits l cursor
+cursor_fits l (Some Idle) = false
+cursor_fits l (Some (Holding bucket dummy)) = false
+cursor_fits l None = false

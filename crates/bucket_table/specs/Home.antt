@@ -1,8 +1,8 @@
 -- What ties buckets to their list.
 use Rattle.std.specs.Prelude.{◌≡◌, ℕ, Some, All}
 use Rattle.node_list.specs.Nodes.{Listing}
-use Rattle.list_steps.specs.Found.{IsPlaced, split_of}
-use Rattle.split_key.specs.Split.{reversed}
+use Rattle.list_steps.specs.Found.{IsPlaced, at_of}
+use Rattle.split_key.specs.Sort.{dummy_at}
 use Rattle.bucket_table.specs.declared.helper.Helper.{Helper}
 use Rattle.bucket_table.specs.declared.helper.Helper.TheVariants.{Idle, Seeking, Holding}
 use Rattle.bucket_table.specs.Directory.{Directory, dummy_of}
@@ -11,11 +11,11 @@ use Rattle.bucket_table.specs.Dummies.{IsDummyAt}
 -- A helper's cursor was placed on the list for its bucket's dummy, and a helper's dummy is linked.
 abbrev pub IsHelperHome : Listing → Helper → Type 0
 IsHelperHome l Idle = Unit {0}
-IsHelperHome l (Seeking bucket cursor) = IsPlaced l cursor × (split_of cursor ≡ reversed bucket)
+IsHelperHome l (Seeking bucket cursor) = IsPlaced l cursor × (at_of cursor ≡ dummy_at bucket)
 IsHelperHome l (Holding bucket dummy) = IsDummyAt l.nodes dummy bucket
 
--- The buckets are those of this list: each stored one names its linked dummy, and so do the helpers.
--- Each later list is as much their home.
+-- The buckets are those of this list: each stored one names its linked dummy, and so do the
+-- helpers. Each later list is as much their home.
 pub record IsHome (d : Directory) (l : Listing) : Type 0 where
   pub stored : (bucket place : ℕ) → dummy_of d bucket ≡ Some place → IsDummyAt l.nodes place bucket
   pub helpers : All (IsHelperHome l) d.helpers

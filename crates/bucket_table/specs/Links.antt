@@ -1,6 +1,6 @@
 -- What linking a dummy does to a list.
 use Rattle.std.specs.Prelude.{◌≡◌, ◌≢◌, ℕ, ◌+◌, ◌-◌, ◌<◌, ◌^◌, ◌==◌, ◌||◌}
-use Rattle.node_list.specs.Nodes.{Listing, out_at, linked_after, turn_after}
+use Rattle.node_list.specs.Nodes.{Listing, IsLinked, out_at, linked_after, one_more}
 use Rattle.list_steps.specs.declared.cursor.Cursor.{Cursor}
 use Rattle.list_steps.specs.Found.{pred_of}
 use Rattle.bucket_table.specs.declared.answer.InitRefusal.{InitRefusal}
@@ -9,16 +9,20 @@ use Rattle.bucket_table.specs.Dummies.{IsDummyAt, dummy_node, has_dummy}
 
 -- The dummy of a bucket is linked where a cursor is, at this place and with a new stamp.
 pub record LinksAt (before after : Listing) (cursor : Cursor) (bucket place : ℕ) : Type 0 where
-  pub nodes : after.nodes ≡ linked_after before.nodes (pred_of cursor) (dummy_node place bucket (before.last + 1))
+  pub linked : IsLinked before.nodes (pred_of cursor)
+  pub nodes : after.nodes
+      ≡ linked_after before.nodes (pred_of cursor) (dummy_node place bucket (before.last + 1))
   pub dummy : IsDummyAt after.nodes place bucket
   pub head : after.head ≡ before.head
-  pub turn : after.turn ≡ turn_after before.turn
+  pub changes : after.changes ≡ one_more before.changes
   pub last : after.last ≡ before.last + 1
   pub room : before.last ≢ 2 ^ 64 - 2
   pub out : (other : ℕ) → out_at after other ≡ out_at before other
-  pub dummies : (other : ℕ) → other < 2 ^ 32 → has_dummy after.nodes other ≡ ((bucket == other) || has_dummy before.nodes other)
+  pub dummies : (other : ℕ) → other < 2 ^ 32
+      → has_dummy after.nodes other ≡ ((bucket == other) || has_dummy before.nodes other)
 
--- Why no dummy is linked: the stamps are used up exactly where the last one is given, and else memory was refused.
+-- Why no dummy is linked: the stamps are used up exactly where the last one is given, and else
+-- memory was refused.
 abbrev pub IsUnlinked : Listing → Listing → InitRefusal → Type 0
 IsUnlinked before after StampsUsedUp = (after ≡ before) × (before.last ≡ 2 ^ 64 - 2)
 IsUnlinked before after NoMemory = (after ≡ before) × (before.last ≢ 2 ^ 64 - 2)

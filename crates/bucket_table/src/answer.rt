@@ -27,8 +27,8 @@ pub enum InitLink {
     Linked,
 }
 
-/// Why a step of a bucket's initialisation is refused. After each of these all is as it was. Each is
-/// printed as a sentence of its own.
+/// Why a step of a bucket's initialisation is refused. After each of these all is as it was. Each
+/// is printed as a sentence of its own.
 #[derive(Clone, Copy, Debug, PartialEq, Eq)]
 pub enum InitRefusal {
     /// The bucket is not below the size.

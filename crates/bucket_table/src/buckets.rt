@@ -3,9 +3,10 @@ ghost use Rattle.std.specs.Prelude.{◌≡◌, ◌≢◌, ℕ, ◌%◌, ◌<◌,
 ghost use Rattle.node_list.specs.Nodes.{Listing, live_count};
 ghost use Rattle.node_list.specs.Follow.{Follows};
 ghost use Rattle.list_steps.specs.Content.{pairs};
-ghost use Rattle.list_steps.specs.Found.{IsPlaced, fits, split_of, node_there};
+ghost use Rattle.list_steps.specs.Found.{IsPlaced, at_of, fits, node_there};
 ghost use Rattle.list_steps.specs.Seek.{IsStart};
-ghost use Rattle.split_key.specs.Split.{IsPowerOfTwo, reversed, split};
+ghost use Rattle.split_key.specs.Split.{IsPowerOfTwo};
+ghost use Rattle.split_key.specs.Sort.{dummy_at, regular_at};
 ghost use Rattle.bucket_table.specs.Links.{IsUnlinked, LinksAt};
 ghost use Rattle.bucket_table.specs.Dummies.{IsBeforeBucket, IsKeyed, has_dummy};
 
@@ -13,7 +14,7 @@ use crate::answer::{Double, InitLink, InitRefusal, InitSeek};
 use crate::helper::Helper;
 use list_steps::{Again, Cursor, link, look, seek};
 use node_list::{Kind, NodeList, NodeRef};
-use split_key::{dummy, parent};
+use split_key::{SortKey, parent};
 use std::alloc::{AllocError, Global};
 use std::marker::Model;
 
@@ -49,17 +50,18 @@ fn filled<T: Copy>(alloc: Global, count: u32, value: T) -> Result<Vec<T>, AllocE
 }
 
 impl Buckets {
-    ghost use Rattle.bucket_table.specs.Directory.{beginning, dummy_of, helper_of, with_helper, with_dummy, IsSound as IsSoundDirectory, IsInOrder, IsReady, IsNearest};
+    ghost use Rattle.bucket_table.specs.Directory.{beginning, dummy_of, helper_of, is_stored, limit_of, with_helper, with_dummy, IsSound as IsSoundDirectory, IsInOrder, IsReady, IsNearest};
     ghost use Rattle.bucket_table.specs.declared.helper.Helper.TheVariants.{Seeking};
+    ghost use Rattle.bucket_table.specs.Helpers.{help_at};
     ghost use Rattle.bucket_table.specs.Home.{IsHome};
-    ghost use Rattle.bucket_table.specs.Answers.{seek_answer, link_answer, store_answer, double_answer};
+    ghost use Rattle.bucket_table.specs.Answers.{seek_answer, link_answer_at, store_answer, double_answer};
     ghost use Rattle.bucket_table.specs.Changes.{SeekChanges, LinkChanges, StoreChanges, after_double};
 
-    /// Two buckets, of which bucket 0 is stored with the list's first node, and idle helpers. `max` is the
-    /// largest size, in buckets.
+    /// Two buckets, of which bucket 0 is stored with the list's first node, and idle helpers. `max`
+    /// is the largest size, in buckets.
     ///
-    /// `AllocError` where memory is refused. Takes memory for `max` entries and for the helpers, and time in
-    /// proportion.
+    /// `AllocError` where memory is refused. Takes memory for `max` entries and for the helpers,
+    /// and time in proportion.
     pub fn new(alloc: Global, max: u32, helpers: u32, list: &NodeList) -> Result<Self, AllocError>
         requires power { IsPowerOfTwo max }
         requires least { 2 ≤ max }
@@ -91,14 +93,16 @@ impl Buckets {
         self.entries.get(bucket as usize).copied().flatten()
     }
 
-    /// The dummy of a bucket, or that of its nearest stored ancestor: a seek for any key of the bucket may
-    /// begin there, since it stands before all of them.
+    /// The dummy of a bucket, or that of its nearest stored ancestor: a seek for any key of the
+    /// bucket may begin there, since it stands before all of them.
     ///
     /// Takes no memory, and one step for each ancestor that is passed.
     pub fn nearest(&self, bucket: u32) -> NodeRef
         ensures nearest { IsNearest self.now bucket result }
-        ensures before { (list : Listing) → IsHome self.now list → IsBeforeBucket list.nodes result bucket }
-        ensures start { (list : Listing) (key : ℕ) → IsHome self.now list → key < 2 ^ 63 → key % self.now.size ≡ bucket → IsStart list.nodes result (split key) }
+        ensures before { (list : Listing) → IsHome self.now list
+            → IsBeforeBucket list.nodes result bucket }
+        ensures start { (list : Listing) (key : ℕ) → IsHome self.now list → key < 2 ^ 63
+            → key % self.now.size ≡ bucket → IsStart list.nodes result (regular_at key) }
     {
         let mut at = bucket;
         loop {
@@ -112,7 +116,8 @@ impl Buckets {
     /// What a helper has, or `NoSuchHelper`.
     fn helper(&self, helper: u64) -> Result<&Helper, InitRefusal>
         ensures ok { IfOk result (λ had. helper_of self.now helper ≡ Some had.now) }
-        ensures err { IfErr result (λ refusal. (refusal ≡ InitRefusal.NoSuchHelper) × (helper_of self.now helper ≡ None)) }
+        ensures err { IfErr result (λ refusal. (refusal ≡ InitRefusal.NoSuchHelper)
+            × (helper_of self.now helper ≡ None)) }
         ensures sound { IsSoundDirectory self.now }
     {
         self.helpers
@@ -137,15 +142,15 @@ impl Buckets {
         self.helpers[helper as usize] = now;
     }
 
-    /// Seeks the place of a bucket's dummy, from the dummy of its parent, and gives the helper a cursor
-    /// there. Whatever the helper had is dropped. A bucket that is stored is `Ready`, and leaves the helper
-    /// idle.
+    /// Seeks the place of a bucket's dummy, from the dummy of its parent, and gives the helper a
+    /// cursor there. Whatever the helper had is dropped. A bucket that is stored is `Ready`, and
+    /// leaves the helper idle.
     ///
     /// Refused, in this order: `NoSuchHelper`, `NoSuchBucket`; then, unless the bucket is stored,
     /// `ParentMissing`. The helper, the buckets and the list are then as they were.
     ///
-    /// The seek unlinks the marked nodes that it passes, and leaves the content of the list. Takes no
-    /// memory. Visits each node between the parent's dummy and the place.
+    /// The seek unlinks the marked nodes that it passes, and leaves the content of the list. Takes
+    /// no memory. Visits each node between the parent's dummy and the place.
     pub fn init_seek(
         &mut self,
         list: &mut NodeList,
@@ -153,11 +158,13 @@ impl Buckets {
         bucket: u64,
     ) -> Result<InitSeek, InitRefusal>
         requires { IsHome self.old list.old }
-        ensures answer { result ≡ seek_answer self.old helper bucket }
+        ensures answer { result
+            ≡ seek_answer self.old.size (is_stored self.old) (help_at self.old helper) bucket }
         ensures changes { SeekChanges self.old self.new list.old list.new helper bucket result }
         ensures home { IsHome self.new list.new }
         ensures content { pairs list.new.nodes ≡ pairs list.old.nodes }
-        ensures dummies { (other : ℕ) → has_dummy list.new.nodes other ≡ has_dummy list.old.nodes other }
+        ensures dummies { (other : ℕ)
+            → has_dummy list.new.nodes other ≡ has_dummy list.old.nodes other }
         ensures keyed { IsKeyed list.old.nodes → IsKeyed list.new.nodes }
         ensures follows { Follows list.old list.new }
     {
@@ -175,8 +182,8 @@ impl Buckets {
             return Err(InitRefusal::ParentMissing);
         };
         // The list says here that no dummy is marked, so the seek unlinks none.
-        let _turn = list.turn();
-        let cursor = seek(list, from, dummy(bucket));
+        let _changes = list.changes();
+        let cursor = seek(list, from, SortKey::dummy(bucket));
         self.set_helper(helper, Helper::Seeking(bucket, cursor));
         Ok(InitSeek::Placed)
     }
@@ -193,8 +200,10 @@ impl Buckets {
         requires keyed { IsKeyed list.old.nodes }
         requires had { helper_of self.old helper ≡ Some (Seeking bucket cursor) }
         requires ready { IsReady self.old bucket }
-        ensures answer { result ≢ Err InitRefusal.NoMemory → result ≡ link_answer self.old list.old helper }
-        ensures no_memory { result ≡ Err InitRefusal.NoMemory → link_answer self.old list.old helper ≡ Ok InitLink.Linked }
+        ensures answer { result ≢ Err InitRefusal.NoMemory
+            → result ≡ link_answer_at self.old list.old helper }
+        ensures no_memory { result ≡ Err InitRefusal.NoMemory
+            → link_answer_at self.old list.old helper ≡ Ok InitLink.Linked }
         ensures changes { LinkChanges self.old self.new list.old list.new helper result }
         ensures home { IsHome self.new list.new }
         ensures content { pairs list.new.nodes ≡ pairs list.old.nodes }
@@ -218,19 +227,22 @@ impl Buckets {
         }
     }
 
-    /// Links the dummy of a helper's bucket where the helper's cursor is, unless it is linked there already,
-    /// and gives the helper that dummy. Where the cursor does not fit, it is dropped and the helper is idle.
+    /// Links the dummy of a helper's bucket where the helper's cursor is, unless it is linked there
+    /// already, and gives the helper that dummy. Where the cursor does not fit, it is dropped and
+    /// the helper is idle.
     ///
-    /// Refused, in this order: `NoSuchHelper`; `HelperOutOfOrder` where the helper has no cursor; and where
-    /// a dummy is to be linked, `StampsUsedUp`, then `NoMemory`. The helper keeps its cursor then, and the
-    /// buckets and the list are as they were.
+    /// Refused, in this order: `NoSuchHelper`; `HelperOutOfOrder` where the helper has no cursor;
+    /// and where a dummy is to be linked, `StampsUsedUp`, then `NoMemory`. The helper keeps its
+    /// cursor then, and the buckets and the list are as they were.
     ///
     /// The content of the list stays. May take memory for one node. Amortised constant time.
     pub fn init_link(&mut self, list: &mut NodeList, helper: u64) -> Result<InitLink, InitRefusal>
         requires home { IsHome self.old list.old }
         requires keyed { IsKeyed list.old.nodes }
-        ensures answer { result ≢ Err InitRefusal.NoMemory → result ≡ link_answer self.old list.old helper }
-        ensures no_memory { result ≡ Err InitRefusal.NoMemory → link_answer self.old list.old helper ≡ Ok InitLink.Linked }
+        ensures answer { result ≢ Err InitRefusal.NoMemory
+            → result ≡ link_answer_at self.old list.old helper }
+        ensures no_memory { result ≡ Err InitRefusal.NoMemory
+            → link_answer_at self.old list.old helper ≡ Ok InitLink.Linked }
         ensures changes { LinkChanges self.old self.new list.old list.new helper result }
         ensures home { IsHome self.new list.new }
         ensures content { pairs list.new.nodes ≡ pairs list.old.nodes }
@@ -241,13 +253,13 @@ impl Buckets {
         self.link_at(list, helper, bucket, cursor)
     }
 
-    /// Stores a helper's dummy as that of its bucket, also where the bucket was stored since; the helper is
-    /// idle then.
+    /// Stores a helper's dummy as that of its bucket, also where the bucket was stored since; the
+    /// helper is idle then.
     ///
-    /// Refused, in this order: `NoSuchHelper`; `HelperOutOfOrder` where the helper has no dummy. The helper
-    /// and the buckets are then as they were. Takes no memory. Constant time.
+    /// Refused, in this order: `NoSuchHelper`; `HelperOutOfOrder` where the helper has no dummy.
+    /// The helper and the buckets are then as they were. Takes no memory. Constant time.
     pub fn init_store(&mut self, helper: u64) -> Result<(), InitRefusal>
-        ensures answer { result ≡ store_answer self.old helper }
+        ensures answer { result ≡ store_answer (help_at self.old helper) }
         ensures changes { StoreChanges self.old self.new helper result }
         ensures home { (list : Listing) → IsHome self.old list → IsHome self.new list }
     {
@@ -257,13 +269,14 @@ impl Buckets {
         Ok(())
     }
 
-    /// Doubles the size, where it is the one that the caller saw, is not the largest, and the list has more
-    /// than twice as many keys as there are buckets; these are tested in this order.
+    /// Doubles the size, where it is the one that the caller saw, is not the largest, and the list
+    /// has more than twice as many keys as there are buckets; these are tested in this order.
     ///
-    /// Nothing else changes: no node moves, and the new buckets are not stored yet. Takes no memory.
-    /// Constant time.
+    /// Nothing else changes: no node moves, and the new buckets are not stored yet. Takes no
+    /// memory. Constant time.
     pub fn double(&mut self, list: &NodeList, seen: u64) -> Double
-        ensures answer { result ≡ double_answer self.old (live_count list.now.nodes) seen }
+        ensures answer { result
+            ≡ double_answer self.old.size (limit_of self.old) (live_count list.now.nodes) seen }
         ensures size { self.new ≡ after_double self.old result }
         ensures home { (other : Listing) → IsHome self.old other → IsHome self.new other }
     {
@@ -283,7 +296,7 @@ impl Buckets {
 
 /// Links the dummy of a bucket where a cursor is.
 fn link_dummy(list: &mut NodeList, cursor: Cursor, bucket: u32) -> Result<NodeRef, InitRefusal>
-    requires split { split_of cursor ≡ reversed bucket }
+    requires at { at_of cursor ≡ dummy_at bucket }
     requires placed { IsPlaced list.old cursor }
     requires fits { fits list.old cursor ≡ true }
     requires room { node_there list.old cursor ≡ None }
@@ -294,7 +307,7 @@ fn link_dummy(list: &mut NodeList, cursor: Cursor, bucket: u32) -> Result<NodeRe
     ensures err { IfErr result (λ refusal. IsUnlinked list.old list.new refusal) }
 {
     let mut spare = list.spare()?;
-    spare.fill(dummy(bucket), Kind::Dummy, 0);
+    spare.fill(SortKey::dummy(bucket), Kind::Dummy, 0);
     match link(list, cursor, spare) {
         Ok(dummy) => Ok(dummy),
         Err(_) => unreachable!(),

@@ -1,15 +1,17 @@
-//! The buckets of a hash table whose keys stand in one split-ordered list: the extensible table of Shalev
-//! and Shavit, "Split-Ordered Lists: Lock-Free Extensible Hash Tables" (Journal of the ACM 53, 2006),
-//! section 2, with its initialisation of a bucket cut into steps that other callers may come between.
+//! The buckets of a hash table whose keys stand in one split-ordered list: the extensible table of
+//! Shalev and Shavit, "Split-Ordered Lists: Lock-Free Extensible Hash Tables" (Journal of the ACM
+//! 53, 2006), section 2, with its initialisation of a bucket cut into steps that other callers may
+//! come between.
 //!
-//! A bucket is *stored* once the table knows its dummy, the node in the list that stands before all keys of
-//! the bucket; bucket 0 is stored from the beginning, and each other one only after its parent. A key is
-//! sought from the nearest stored ancestor of its bucket. A *helper* stores a bucket in three steps: it
-//! seeks the place of the dummy, links the dummy there unless it is linked already, and stores it.
+//! A bucket is *stored* once the table knows its dummy, the node in the list that stands before all
+//! keys of the bucket; bucket 0 is stored from the beginning, and each other one only after its
+//! parent. A key is sought from the nearest stored ancestor of its bucket. A *helper* stores a
+//! bucket in three steps: it seeks the place of the dummy, links the dummy there unless it is
+//! linked already, and stores it.
 //!
-//! The buckets are a flat array, beside the one list. In the test `nodes_after_initialisation` the size is 4,
-//! the keys are 1 to 5, and all buckets but bucket 2 are stored. The list is in the order that `split_key`
-//! draws:
+//! The buckets are a flat array, beside the one list. In the test `nodes_after_initialisation` the
+//! size is 4, the keys are 1 to 5, and all buckets but bucket 2 are stored. The list is in the
+//! order that `split_key` draws:
 //!
 //! ```text
 //!     buckets            list         bucket of the key
@@ -25,19 +27,20 @@
 //!     +---+---+
 //! ```
 //!
-//! Key 2 is sought from dummy 0, since bucket 0 is the parent of bucket 2. The dummy of bucket 2 will be linked
-//! between the keys 4 and 2.
+//! Key 2 is sought from dummy 0, since bucket 0 is the parent of bucket 2. The dummy of bucket 2
+//! will be linked between the keys 4 and 2.
 //!
-//! Contracts see a `Directory`: the size, the place of each stored bucket's dummy, and what each helper has.
-//! On every value the sizes are powers of two and no bucket is stored before its parent (`IsSound`). Buckets
-//! are *at home* on their list (`IsHome`) where each stored bucket and each helper names its linked dummy,
-//! and each cursor was placed; each call keeps that, and so does any change of the list (`still_home`). What
-//! a call answers is a function of what it finds (`Answers`), a refused call changes nothing, and no call
-//! changes the content of the list. Doubling changes the size alone: no node moves.
+//! Contracts see a `Directory`: the size, the place of each stored bucket's dummy, and what each
+//! helper has. On every value the sizes are powers of two and no bucket is stored before its parent
+//! (`IsSound`). Buckets are *at home* on their list (`IsHome`) where each stored bucket and each
+//! helper names its linked dummy, and each cursor was placed; each call keeps that, and so does any
+//! change of the list (`still_home`). What a call answers is a function of what it finds
+//! (`Answers`), a refused call changes nothing, and no call changes the content of the list.
+//! Doubling changes the size alone: no node moves.
 //!
-//! Memory is taken by `Buckets::new` and, for a new dummy, by `Buckets::init_link`. `nearest` walks up the
-//! ancestors of a bucket, of which there are as many as the bucket has 1 bits; `init_seek` walks the list
-//! from the parent's dummy; the other steps take constant time.
+//! Memory is taken by `Buckets::new` and, for a new dummy, by `Buckets::init_link`. `nearest` walks
+//! up the ancestors of a bucket, of which there are as many as the bucket has 1 bits; `init_seek`
+//! walks the list from the parent's dummy; the other steps take constant time.
 #![tactic(auto)]
 
 mod answer;

@@ -6,7 +6,7 @@ ghost use Rattle.bucket_table.specs.Dummies.{IsKeyed};
 use crate::{Buckets, Double, InitLink, InitRefusal, InitSeek};
 use list_steps::{link, look, seek};
 use node_list::{Kind, NodeList};
-use split_key::{Key, bucket_of, regular};
+use split_key::{Key, SortKey, bucket_of};
 use std::alloc::{AllocError, Global};
 use std::process::Abort;
 use std::test::Fail;
@@ -67,8 +67,8 @@ fn put(list: &mut NodeList, buckets: &Buckets, number: u64) -> Result<(), Fail>
     let key = Key::new(number)?;
     let from = buckets.nearest(bucket_of(key, buckets.size()));
     let mut spare = list.spare()?;
-    spare.fill(regular(key), Kind::Regular(number), 0);
-    let cursor = seek(list, from, regular(key));
+    spare.fill(SortKey::regular(key), Kind::Regular, 0);
+    let cursor = seek(list, from, SortKey::regular(key));
     let Ok(None) = look(list, &cursor) else {
         return Err("the key was there".into());
     };
@@ -148,12 +148,12 @@ fn initialised(rt: &impl Abort, alloc: Global) -> Result<(NodeList, Buckets), Fa
 }
 
 /// The first nodes of a list.
-fn kinds(list: &NodeList) -> [Option<(u64, Kind)>; 9] {
+fn kinds(list: &NodeList) -> [Option<(u64, Kind, u64)>; 9] {
     let mut kinds = [None; 9];
     let mut next = Some(list.head());
     for kind in kinds.iter_mut() {
         let node = next.and_then(|place| list.linked_node(place));
-        *kind = node.map(|node| (node.split, node.kind));
+        *kind = node.map(|node| (node.at.split(), node.kind, node.at.key()));
         next = node.and_then(|node| node.next);
     }
     kinds
@@ -172,20 +172,20 @@ fn nodes_after_initialisation(rt: HostRuntime) -> Result<(), Fail> {
     assert_eq!(rt;
         kinds(&list),
         [
-            Some((0x0000_0000_0000_0000, Kind::Dummy)),
-            Some((0x2000_0000_0000_0001, Kind::Regular(4))),
-            Some((0x4000_0000_0000_0001, Kind::Regular(2))),
-            Some((0x8000_0000_0000_0000, Kind::Dummy)),
-            Some((0x8000_0000_0000_0001, Kind::Regular(1))),
-            Some((0xa000_0000_0000_0001, Kind::Regular(5))),
-            Some((0xc000_0000_0000_0000, Kind::Dummy)),
-            Some((0xc000_0000_0000_0001, Kind::Regular(3))),
+            Some((0x0000_0000_0000_0000, Kind::Dummy, 0)),
+            Some((0x2000_0000_0000_0001, Kind::Regular, 4)),
+            Some((0x4000_0000_0000_0001, Kind::Regular, 2)),
+            Some((0x8000_0000_0000_0000, Kind::Dummy, 0)),
+            Some((0x8000_0000_0000_0001, Kind::Regular, 1)),
+            Some((0xa000_0000_0000_0001, Kind::Regular, 5)),
+            Some((0xc000_0000_0000_0000, Kind::Dummy, 0)),
+            Some((0xc000_0000_0000_0001, Kind::Regular, 3)),
             None
         ]
     );
     assert_eq!(rt; buckets.nearest(2), list.head());
     let three = list.linked_node(buckets.nearest(3)).ok_or("no dummy")?;
-    assert_eq!(rt; three.split, 0xc000_0000_0000_0000);
+    assert_eq!(rt; three.at.split(), 0xc000_0000_0000_0000);
     Ok(())
 }
 
@@ -231,8 +231,8 @@ fn with_spares(alloc: Global, spares: u32) -> Result<NodeList, Fail>
     Ok(list)
 }
 
-/// Also run with each allocation refused in turn: buckets and list are then as they were, and the call
-/// succeeds when it is made again.
+/// Also run with each allocation refused in turn: buckets and list are then as they were, and the
+/// call succeeds when it is made again.
 #[test]
 fn refused_allocations(rt: HostRuntime) -> Result<(), Fail> {
     for spares in 0..9 {
@@ -244,14 +244,14 @@ fn refused_allocations(rt: HostRuntime) -> Result<(), Fail> {
         assert_eq!(rt; buckets.init_seek(&mut list, 0, 1), Ok(InitSeek::Placed));
         let mut answer = buckets.init_link(&mut list, 0);
         if answer == Err(InitRefusal::NoMemory) {
-            assert_eq!(rt; (buckets.size(), list.turn()), (2, 0));
+            assert_eq!(rt; (buckets.size(), list.changes()), (2, 0));
             assert_eq!(rt; buckets.nearest(1), list.head());
             answer = buckets.init_link(&mut list, 0);
         }
         assert_eq!(rt; answer, Ok(InitLink::Linked));
         assert_eq!(rt; buckets.init_store(0), Ok(()));
         let dummy = list.linked_node(buckets.nearest(1)).ok_or("no dummy")?;
-        assert_eq!(rt; dummy.split, 0x8000_0000_0000_0000);
+        assert_eq!(rt; dummy.at.split(), 0x8000_0000_0000_0000);
     }
     Ok(())
 }

@@ -11,9 +11,10 @@ use std::rt::Runtime;
 use std::{fmt, fs, io};
 
 /// The commands, with the file that each runs.
-const CALLS: [(Command, &str); 5] = [
+const CALLS: [(Command, &str); 6] = [
     (Command::Replay, "first_commit.json"),
     (Command::Replay, "many_callers.json"),
+    (Command::Replay, "doubling.json"),
     (Command::Mix(7), "first_scripts.json"),
     (Command::Mix(7), "scripts.json"),
     (Command::Check, "checked.json"),

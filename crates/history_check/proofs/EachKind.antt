@@ -12,7 +12,9 @@ use Rattle.txn_trace.specs.History.{caller_of, is_began, is_commit}
 use Rattle.txn_trace.specs.Serial.{serial}
 use Rattle.txn_trace.specs.Now.{now, set_at}
 use Rattle.txn_trace.specs.Locks.{stripe_of, holder_of, is_locked}
-use Rattle.txn_trace.specs.Shape.{Phase, Closed, Opened, Waiting, LeavingTo, LeavingToEnd, Seat, closed_seat, changes, row, seat_after, own, how_many, is_numbered, is_shaped}
+use Rattle.txn_trace.specs.declared.seat.Phase.{Phase}
+use Rattle.txn_trace.specs.declared.seat.Phase.TheVariants.{Closed, Opened, Waiting, LeavingTo, LeavingToEnd}
+use Rattle.txn_trace.specs.Shape.{Seat, closed_seat, changes, row, seat_after, own, how_many, is_numbered, is_shaped}
 use Rattle.txn_trace.specs.Log.{log_of}
 use Rattle.txn_trace.specs.Legal.{IsLegal, replies_hold, broken}
 use Rattle.txn_trace.proofs.Breaking.{is_right_in, replies_hold-push}
@@ -107,7 +109,7 @@ module _ (stripes : ℕ) (g : List Entry) (legal : IsLegal stripes g) (c : ℕ) 
       let shape = in_row (Began c t) refl (breaks_none stripes g (Began c t) fine).0 in
       entries.began stripes g legal c t seat seat_is (only_closed seat seat.phase c t shape.0) (eqb-true t _ shape.1)
 
-  -- The number of a transaction that begins, and the place of one that commits.
+  -- The number of a transaction that begins, and the commit number of one that commits.
   pub number-began : (t : ℕ) → broken stripes g (Began c t) ≡ None → t ≡ how_many is_began g + 1
   number-began t fine = eqb-true t _ (in_row (Began c t) refl (breaks_none stripes g (Began c t) fine).0).1
 

@@ -19,20 +19,20 @@ use Rattle.history_check.specs.declared.state.State.{State}
 use Rattle.history_check.specs.declared.verdict.Rule.{Rule}
 use Rattle.history_check.specs.declared.verdict.Verdict.{Verdict}
 use Rattle.history_check.specs.declared.verdict.Verdict.TheVariants.{Legal, Illegal}
-use Rattle.history_check.specs.Callers.{phase_of}
+use Rattle.history_check.specs.Callers.{seat_of}
 use Rattle.history_check.specs.Verdicts.{number_of, meaning_of, SaysLegal}
 use Rattle.history_check.specs.States.{Sits, Tells}
 use Rattle.history_check.specs.Fed.{FedWith}
 
 -- The callers that are in a transaction, counted in the table and in the history.
 count_by-sits : (h : List Entry) (callers : List Caller) (start : ℕ) → ((k : ℕ) → IfSome (slice_get callers k) (Sits h (start + k)))
-    → count_by (λ (caller : Caller). runs (phase_of caller.phase)) callers ≡ count_by (λ c. is_running (seat_after (own c h))) (range_with_len start (length callers))
+    → count_by (λ (caller : Caller). runs (seat_of caller).phase) callers ≡ count_by (λ c. is_running (seat_after (own c h))) (range_with_len start (length callers))
 count_by-sits h [] start sits = refl
 count_by-sits h (x ∷ xs) start sits =
     let here : start + 0 ≡ start = omega arith in
     let head : Sits h start x = subst (λ c. Sits h c x) here (sits 0) in
     let rest = count_by-sits h xs (start + 1) (λ k. let next : start + suc k ≡ start + 1 + k = omega arith in subst (λ c. IfSome (slice_get xs k) (Sits h c)) next (sits (suc k))) in
-    sum_by-cons (λ (caller : Caller). cond (runs (phase_of caller.phase)) 1 0) x xs
+    sum_by-cons (λ (caller : Caller). cond (runs (seat_of caller).phase) 1 0) x xs
     ∙ (λ i. cond (is_running (sym head.seat i)) 1 0 + rest i)
     ∙ sym (sum_by-cons (λ c. cond (is_running (seat_after (own c h))) 1 0) start (range_with_len (start + 1) (length xs)))
 
@@ -43,7 +43,7 @@ callers_below n (e ∷ h) within all =
     callers_below (max n (caller_of e + 1)) h (omega arith) (All-tail (λ e. caller_of e < 64) e h all)
 
 -- The verdict on a legal history.
-pub verdict-tells : (stripes : ℕ) (h : List Entry) (state : State) (running : ℕ) → Tells stripes h state → running ≡ count_by (λ (caller : Caller). runs (phase_of caller.phase)) state.callers.items
+pub verdict-tells : (stripes : ℕ) (h : List Entry) (state : State) (running : ℕ) → Tells stripes h state → running ≡ count_by (λ (caller : Caller). runs (seat_of caller).phase) state.callers.items
     → legal.Legal state.committed running ≡ verdict stripes h
 verdict-tells stripes h state count t count_is =
     let all : length state.callers.items ≡ 64 = sym state.callers.ok.0 ∙ state.all_callers in

@@ -1,23 +1,26 @@
 -- The state after one more entry.
-use Rattle.std.proofs.Common.{get_or, vec_len, ◌≡◌, ◌≢◌, ℕ, zero, suc, ◌+◌, ◌<◌, cond, List, [], ◌∷◌, ◌++◌, ap, sym, subst, ◌∙◌, Some, None, Option, arith}
+use Rattle.std.proofs.Common.{get_or, vec_len, ◌≡◌, ◌≢◌, ℕ, zero, suc, ◌+◌, ◌<◌, cond, List, [], ◌∷◌, ◌++◌, ap, sym, subst, ◌∙◌, Some, None, Option, arith, true, is_some, refl}
 use Rattle.std.specs.Prelude.{slice_get}
-use Rattle.std.specs.Option.{IfSome}
+use Rattle.std.specs.Option.{IfSome, option_and_then}
 use Rattle.std.proofs.Math.ListN.{set}
 use Rattle.std.proofs.lemmas.List.Elements.{All-push}
 use Rattle.std.proofs.lemmas.Option.{slice_get_read}
 use Rattle.txn_trace.specs.declared.entry.Entry.{Entry}
 use Rattle.txn_trace.specs.Map.{Map}
 use Rattle.txn_trace.specs.History.{caller_of, is_began, is_commit}
-use Rattle.txn_trace.specs.Shape.{Seat}
+use Rattle.txn_trace.specs.Shape.{Seat, row}
 use Rattle.txn_trace.specs.Now.{now}
 use Rattle.txn_trace.proofs.Pushes.{how_many-push}
-use Rattle.txn_trace.proofs.Next.{Next}
+use Rattle.txn_trace.proofs.Next.{Next, seat-own}
 use Rattle.key_locks.specs.Locks as locks
 use Rattle.history_check.specs.declared.caller.Caller.{Caller}
 use Rattle.history_check.specs.declared.state.State.{State}
-use Rattle.history_check.specs.Callers.{seat_of, log_in}
+use Rattle.txn_trace.specs.Legal.{broken}
+use Rattle.history_check.specs.Callers.{seat_of, log_in, Enters}
+use Rattle.history_check.specs.Logs.{log_entered}
 use Rattle.history_check.specs.Values.{Has}
 use Rattle.history_check.specs.States.{Sits, Tells}
+use Rattle.history_check.proofs.EachKind.{breaks_none, in_row}
 
 -- What holds of each element, after one is written.
 each-set : {A : Type 0} (P : ℕ → A → Type 0) (xs : List A) (i : ℕ) (a : A) → P i a → ((k : ℕ) → k ≢ i → IfSome (slice_get xs k) (P k)) → (k : ℕ) → IfSome (slice_get (set xs i a) k) (P k)
@@ -46,11 +49,13 @@ pub none_more : (n : ℕ) → n ≡ n + 0
 none_more n = omega arith
 
 module _ (stripes : ℕ) (h : List Entry) (old new : State) (t : Tells stripes h old) where
-  -- One more entry, of which the law of its kind is known.
-  pub grown : (e : Entry) (after : Caller) (seat : Seat) (log : List (ℕ × Option ℕ)) (committed current : Map) (holder : ℕ → Option ℕ) → caller_of e < 64 → Next stripes h e seat log committed current holder
-      → seat_of after ≡ seat → log_in after ≡ log → new.callers.items ≡ set old.callers.items (caller_of e) after → new.stripes ≡ old.stripes → new.began ≡ old.began + cond (is_began e) 1 0 → new.committed ≡ old.committed + cond (is_commit e) 1 0
+  -- One more entry, of which the law of its kind is known, and by which its caller goes on.
+  pub grown : (e : Entry) (before after : Caller) (seat : Seat) (log : List (ℕ × Option ℕ)) (committed current : Map) (holder : ℕ → Option ℕ) → caller_of e < 64
+      → Next stripes h e seat log committed current holder → broken stripes h e ≡ None → Sits h (caller_of e) before
+      → (is_some (row (seat_of before) (seat_of before).phase e) ≡ true → Enters e before after) → log_entered (seat_of before).phase (log_in before) e ≡ log
+      → new.callers.items ≡ set old.callers.items (caller_of e) after → new.stripes ≡ old.stripes → new.began ≡ old.began + cond (is_began e) 1 0 → new.committed ≡ old.committed + cond (is_commit e) 1 0
       → Has current new.values → ((s : ℕ) → s < stripes → locks.holder_of new.locks s ≡ holder s) → Tells stripes (h ++ e ∷ []) new
-  grown e after seat log committed current holder below is seat_is log_is callers_are stripes_are begins commits has holds = record {
+  grown e before after seat log committed current holder below is fine sits enters log_is callers_are stripes_are begins commits has holds = record {
     stripes_are = stripes_are ∙ t.stripes_are;
     legal = is.legal;
     callers = All-push (λ f. caller_of f < 64) h e t.callers below;
@@ -58,11 +63,17 @@ module _ (stripes : ℕ) (h : List Entry) (old new : State) (t : Tells stripes h
     commits = commits ∙ ap (λ n. n + cond (is_commit e) 1 0) t.commits ∙ sym (how_many-push is_commit h e);
     values = subst (λ m. Has m new.values) (sym is.now_is) has;
     seats = λ c. subst (λ xs. IfSome (slice_get xs c) (Sits (h ++ e ∷ []) c)) (sym callers_are)
-        (each-set (Sits (h ++ e ∷ [])) old.callers.items (caller_of e) after (record { seat = is.seat_is ∙ ap Some (sym seat_is); log = is.log_is ∙ sym log_is })
+        (each-set (Sits (h ++ e ∷ [])) old.callers.items (caller_of e) after (record {
+          seat = seat-own h e ∙ ap (option_and_then (λ (s : Seat). row s s.phase e)) sits.seat ∙ goes.seat;
+          log = is.log_is ∙ sym (goes.log ∙ log_is);
+        })
         (λ d other. if_some (Sits h d) (Sits (h ++ e ∷ []) d) (slice_get old.callers.items d)
         (λ caller sits. record { seat = is.other_seats d other ∙ sits.seat; log = is.other_logs d other ∙ sits.log }) (t.seats d)) c);
     holders = λ s below_s. holds s below_s ∙ sym (is.holder_is s);
   }
+    where
+      goes : Enters e before after
+      goes = enters (in_row stripes h t.legal (caller_of e) (seat_of before) sits.seat e refl (breaks_none stripes h e fine).0).0
 
   -- No entry more, where a caller's fields say the same.
   pub stayed : (c : ℕ) (before after : Caller) → Sits h c before → seat_of after ≡ seat_of before → log_in after ≡ log_in before

@@ -5,31 +5,22 @@ use Rattle.txn_trace.specs.declared.op.Op.{Op}
 use Rattle.txn_trace.specs.declared.entry.Entry.{Entry}
 use Rattle.txn_trace.specs.declared.entry.Entry.TheVariants.{Did, Undone}
 use Rattle.txn_trace.specs.Locks.{is_locked}
-use Rattle.txn_trace.specs.Shape as shape
+use Rattle.txn_trace.specs.declared.seat.Phase.{Phase}
+use Rattle.txn_trace.specs.declared.seat.Phase.TheVariants.{Waiting}
 use Rattle.txn_trace.specs.Shape.{Seat, row, seat_after, own, is_numbered, is_shaped}
 use Rattle.txn_trace.specs.Legal.{IsLegal, replies_hold, broken}
 use Rattle.txn_trace.proofs.Breaking.{is_right, replies_hold-push}
 use Rattle.txn_trace.proofs.Entries.{length-log_of}
-use Rattle.history_check.specs.declared.caller.Phase.{Phase}
-use Rattle.history_check.specs.declared.caller.Phase.TheVariants as phases
 use Rattle.history_check.specs.declared.caller.Caller.{Caller}
-use Rattle.history_check.specs.Callers.{phase_of, seat_of, log_in}
+use Rattle.history_check.specs.Callers.{seat_of, log_in}
 use Rattle.history_check.specs.States.{Sits}
 use Rattle.history_check.proofs.EachKind.{breaks_none, broken_by, in_row, did_waits, undone_some}
 
--- The phase of the code, from that of the table.
-pub phase_asked : (p : Phase) (op : Op) → phase_of p ≡ shape.Waiting op → p ≡ phases.Asked op
-phase_asked phases.Closed op is = absurd (cc is)
-phase_asked phases.Open op is = absurd (cc is)
-phase_asked (phases.Asked other) op is = cc is
-phase_asked (phases.LeavingTo level) op is = absurd (cc is)
-phase_asked phases.LeavingToEnd op is = absurd (cc is)
-
 -- A Did stands only where an operation waits.
-pub did_asked : (stripes : ℕ) (h : List Entry) → IsLegal stripes h → (c : ℕ) (x : Option ℕ) (caller : Caller) → Sits h c caller → is_shaped h (Did c x) ≡ true → ((op : Op) → caller.phase ≡ phases.Asked op → ⊥) → ⊥
-did_asked stripes h legal c x caller sits shaped not_asked =
-    let waits = did_waits (seat_of caller) (phase_of caller.phase) c x (in_row stripes h legal c (seat_of caller) sits.seat (Did c x) refl shaped).0 in
-    not_asked waits.0 (phase_asked caller.phase waits.0 waits.1)
+pub did_asked : (stripes : ℕ) (h : List Entry) → IsLegal stripes h → (c : ℕ) (x : Option ℕ) (caller : Caller) → Sits h c caller → is_shaped h (Did c x) ≡ true → (q : Phase) → q ≡ (seat_of caller).phase → ((op : Op) → q ≡ Waiting op → ⊥) → ⊥
+did_asked stripes h legal c x caller sits shaped q q_is not_waiting =
+    let waits = did_waits (seat_of caller) (seat_of caller).phase c x (in_row stripes h legal c (seat_of caller) sits.seat (Did c x) refl shaped).0 in
+    not_waiting waits.0 (q_is ∙ waits.1)
 
 -- No other entry has a wrong reply.
 right_other : (g : List Entry) (e : Entry) → ((c : ℕ) (x : Option ℕ) → e ≡ Did c x → ⊥) → is_right g e ≡ true
@@ -54,6 +45,6 @@ first_then (y ∷ ys) x is = let same : y ≡ x = cc is in ap (λ z. z ∷ ys) s
 -- An Undone stands only where a change does.
 pub undone_newest : (stripes : ℕ) (h : List Entry) → IsLegal stripes h → (c : ℕ) (caller : Caller) → Sits h c caller → broken stripes h (Undone c) ≡ None → slice_get (log_in caller) 0 ≡ None → ⊥
 undone_newest stripes h legal c caller sits breaks none =
-    let some : 0 < (seat_of caller).standing = undone_some (seat_of caller) (phase_of caller.phase) c (in_row stripes h legal c (seat_of caller) sits.seat (Undone c) refl (breaks_none stripes h (Undone c) breaks).0).0 in
+    let some : 0 < (seat_of caller).standing = undone_some (seat_of caller) (seat_of caller).phase c (in_row stripes h legal c (seat_of caller) sits.seat (Undone c) refl (breaks_none stripes h (Undone c) breaks).0).0 in
     let empty : (seat_of caller).standing ≡ 0 = sym (length-log_of h c (seat_of caller) sits.seat) ∙ ap length (sits.log ∙ no_first (log_in caller) none) in
     omega arith

@@ -1,28 +1,26 @@
 -- What a caller of the checker says.
-use Rattle.std.specs.Prelude.{ℕ, Option, Some, None, List, ◌∷◌, length, reverse}
-use Rattle.txn_trace.specs.Shape as shape
-use Rattle.txn_trace.specs.Shape.{Seat}
+use Rattle.std.specs.Prelude.{◌≡◌, ℕ, Option, Some, None, List, reverse}
+use Rattle.txn_trace.specs.declared.entry.Entry.{Entry}
+use Rattle.txn_trace.specs.declared.seat.Phase.{Phase}
+use Rattle.txn_trace.specs.declared.seat.Phase.TheVariants.{LeavingTo, LeavingToEnd}
+use Rattle.txn_trace.specs.Shape.{Seat, row}
 use Rattle.history_check.specs.declared.caller.Caller.{Caller}
-use Rattle.history_check.specs.declared.caller.Phase.{Phase}
-use Rattle.history_check.specs.declared.caller.Phase.TheVariants.{Closed, Open, Asked, LeavingTo, LeavingToEnd}
-
--- The phase.
-abbrev pub phase_of : Phase → shape.Phase
-phase_of Closed = shape.Closed
-phase_of Open = shape.Opened
-phase_of (Asked op) = shape.Waiting op
-phase_of (LeavingTo level) = shape.LeavingTo level
-phase_of LeavingToEnd = shape.LeavingToEnd
+use Rattle.history_check.specs.Logs.{log_entered}
 
 -- The phase of a caller that goes back to a level, or to none.
-abbrev pub goal_of : Option ℕ → shape.Phase
-goal_of None = shape.LeavingToEnd
-goal_of (Some level) = shape.LeavingTo level
+abbrev pub goal_of : Option ℕ → Phase
+goal_of None = LeavingToEnd
+goal_of (Some level) = LeavingTo level
 
--- The seat: no change stood at level 0.
+-- The seat.
 abbrev pub seat_of : Caller → Seat
-seat_of caller = record { phase = phase_of caller.phase; standing = length caller.changes.items; kept = 0 ∷ caller.kept.items }
+seat_of caller = caller.seat.seat
 
 -- The changes that stand, newest first.
 abbrev pub log_in : Caller → List (ℕ × Option ℕ)
 log_in caller = reverse caller.changes.items
+
+-- The seat and the changes are those after the entry.
+pub record Enters (e : Entry) (old new : Caller) : Type 0 where
+  pub seat : row (seat_of old) (seat_of old).phase e ≡ Some (seat_of new)
+  pub log : log_in new ≡ log_entered (seat_of old).phase (log_in old) e

@@ -8,7 +8,8 @@ use Rattle.history_check.specs.declared.checker.Checker.{Checker}
 use Rattle.history_check.specs.Verdicts.{number_of}
 use Rattle.history_check.specs.States.{Tells}
 
--- The entries are those of which there are so many, and which the state tells; or the first bad one is this.
+-- The entries are those of which there are so many, and which the state tells; or the first bad one
+-- is this.
 abbrev pub FedWith : ℕ → List Entry → ℕ → State → Option (ℕ × Rule) → Type 0
 FedWith stripes h fed state None = Tells stripes h state × (fed ≡ length h)
 FedWith stripes h fed state (Some bad) = first_bad stripes [] h 0 ≡ Some (bad.0, number_of bad.1)

@@ -22,7 +22,8 @@ pub record Sits (h : List Entry) (c : ℕ) (caller : Caller) : Type 0 where
   pub seat : seat_after (own c h) ≡ Some (seat_of caller)
   pub log : log_of c h ≡ log_in caller
 
--- The entries are a legal history; the counts, the values, the callers and the holders of the stripes are what it says.
+-- The entries are a legal history; the counts, the values, the callers and the holders of the
+-- stripes are what it says.
 pub record Tells (stripes : ℕ) (h : List Entry) (state : State) : Type 0 where
   pub stripes_are : state.stripes ≡ stripes
   pub legal : IsLegal stripes h
@@ -33,23 +34,31 @@ pub record Tells (stripes : ℕ) (h : List Entry) (state : State) : Type 0 where
   pub seats : (c : ℕ) → IfSome (slice_get state.callers.items c) (Sits h c)
   pub holders : (s : ℕ) → s < stripes → locks.holder_of state.locks s ≡ holder_of stripes s h
 
--- After each history that the old state tells, and of which the entry breaks no rule, the new state tells one entry more.
+-- After each history that the old state tells, and of which the entry breaks no rule, the new state
+-- tells one entry more.
 abbrev pub Grows : Entry → State → State → Type 0
-Grows e old new = (stripes : ℕ) (h : List Entry) → Tells stripes h old → broken stripes h e ≡ None → Tells stripes (h ++ e ∷ []) new
+Grows e old new =
+    (stripes : ℕ) (h : List Entry)
+    → Tells stripes h old → broken stripes h e ≡ None → Tells stripes (h ++ e ∷ []) new
 
 -- The new state tells what the old one tells.
 abbrev pub Stays : State → State → Type 0
 Stays old new = (stripes : ℕ) (h : List Entry) → Tells stripes h old → Tells stripes h new
 
--- After a history the entry breaks the rule that is named; where none is, the state tells one entry more.
+-- After a history the entry breaks the rule that is named; where none is, the state tells one entry
+-- more.
 abbrev pub Judged : ℕ → List Entry → Entry → Option Rule → State → Type 0
 Judged stripes h e None new = Tells stripes (h ++ e ∷ []) new
 Judged stripes h e (Some rule) new = broken stripes h e ≡ Some (number_of rule)
 
 -- That holds after each history that the old state tells.
 abbrev pub Judges : Entry → State → Option Rule → State → Type 0
-Judges e old rule new = (stripes : ℕ) (h : List Entry) → Tells stripes h old → Judged stripes h e rule new
+Judges e old rule new =
+    (stripes : ℕ) (h : List Entry) → Tells stripes h old → Judged stripes h e rule new
 
 -- That holds where the entry has the right shape and the right reply.
 abbrev pub JudgesLocks : Entry → State → Option Rule → State → Type 0
-JudgesLocks e old rule new = (stripes : ℕ) (h : List Entry) → Tells stripes h old → IsTrue (is_shaped h e) → IsTrue (replies_hold (h ++ e ∷ [])) → Judged stripes h e rule new
+JudgesLocks e old rule new =
+    (stripes : ℕ) (h : List Entry)
+    → Tells stripes h old → IsTrue (is_shaped h e) → IsTrue (replies_hold (h ++ e ∷ []))
+    → Judged stripes h e rule new

@@ -1,3 +1,4 @@
+//! A checker that is fed the entries of a history one after another.
 ghost use Rattle.std.specs.Prelude.{◌≡◌, ℕ, ◌<◌, ◌++◌, [], ◌∷◌, List, IfOk, OnOk, OnErr};
 ghost use Rattle.txn_trace.specs.History.{caller_of};
 ghost use Rattle.txn_trace.specs.Legal.{verdict};
@@ -10,7 +11,8 @@ use txn_trace::Entry;
 
 /// A checker that is fed the entries of a history one after another, and keeps none of them.
 ///
-/// A contract sees which entries it was fed, of a map with how many stripes: `IsFed stripes h checker`.
+/// A contract sees which entries it was fed, of a map with how many stripes: `IsFed stripes h
+/// checker`.
 #[derive(Drop)]
 pub struct Checker {
     state: State,
@@ -44,17 +46,20 @@ impl Checker {
 
     /// Feeds it the next entry, whose caller is below 64.
     ///
-    /// Costs the logarithm of the number of keys. A Committed or an Aborted also takes a step for each stripe that it gives
-    /// back and each change that stood. After the first bad entry all further ones cost nothing and change nothing.
+    /// Costs the logarithm of the number of keys. A Committed or an Aborted also takes a step for
+    /// each stripe that it gives back and each change that stood. After the first bad entry all
+    /// further ones cost nothing and change nothing.
     ///
     /// # Errors
     ///
-    /// `AllocError` where memory is refused for a change or a savepoint, or where 2^64 - 1 entries were fed. Then it was
-    /// fed no entry more, and the same one may be fed again.
+    /// `AllocError` where memory is refused for a change or a savepoint, or where 2^64 - 1 entries
+    /// were fed. Then it was fed no entry more, and the same one may be fed again.
     pub fn feed(&mut self, entry: &Entry) -> Result<(), AllocError>
         requires { caller_of entry.now < 64 }
-        ensures ok { OnOk result ((stripes : ℕ) (h : List Entry) → IsFed stripes h self.old → IsFed stripes (h ++ entry.now ∷ []) self.new) }
-        ensures err { OnErr result ((stripes : ℕ) (h : List Entry) → IsFed stripes h self.old → IsFed stripes h self.new) }
+        ensures ok { OnOk result ((stripes : ℕ) (h : List Entry) →
+            IsFed stripes h self.old → IsFed stripes (h ++ entry.now ∷ []) self.new) }
+        ensures err { OnErr result ((stripes : ℕ) (h : List Entry) →
+            IsFed stripes h self.old → IsFed stripes h self.new) }
     {
         if self.bad.is_some() {
             return Ok(());
@@ -71,7 +76,8 @@ impl Checker {
     ///
     /// A fixed number of steps, one for each of 64 callers.
     pub fn verdict(&self) -> Verdict
-        ensures { (stripes : ℕ) (h : List Entry) → IsFed stripes h self.now → meaning_of result ≡ verdict stripes h }
+        ensures { (stripes : ℕ) (h : List Entry) →
+            IsFed stripes h self.now → meaning_of result ≡ verdict stripes h }
     {
         match self.bad {
             Some((entry, rule)) => Verdict::Illegal { entry, rule },

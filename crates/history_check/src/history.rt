@@ -1,3 +1,4 @@
+//! The check of a whole history.
 ghost use Rattle.std.specs.Prelude.{◌≡◌, ◌<◌, ◌↔◌, IfOk};
 ghost use Rattle.std.specs.List.{All};
 ghost use Rattle.txn_trace.specs.History.{caller_of};
@@ -11,13 +12,15 @@ use txn_trace::Entry;
 
 /// Judges a whole history of a map with so many stripes, whose callers are below 64.
 ///
-/// The verdict is `Legal`, with the number of commits and of callers that are in a transaction at the end, exactly where
-/// the history is legal. Otherwise it is `Illegal`, with the index of the first entry that breaks a rule, from 0, and the
-/// rule: shape, or of replies and locks the first that it breaks.
+/// The verdict is `Legal`, with the number of commits and of callers that are in a transaction at
+/// the end, exactly where the history is legal. Otherwise it is `Illegal`, with the index of the
+/// first entry that breaks a rule, from 0, and the rule: shape, or of replies and locks the first
+/// that it breaks.
 ///
-/// Each entry costs the logarithm of the number of keys; a Committed or an Aborted also takes a step for each stripe that
-/// it gives back and each change that stood. Memory is in proportion to the stripes, and to the most keys, changes that can
-/// be taken back and savepoints that there are at one time.
+/// Each entry costs the logarithm of the number of keys; a Committed or an Aborted also takes a
+/// step for each stripe that it gives back and each change that stood. Memory is in proportion to
+/// the stripes, and to the most keys, changes that can be taken back and savepoints that there are
+/// at one time.
 ///
 /// # Errors
 ///

@@ -1,14 +1,15 @@
+//! What a checker keeps of the history that it was fed.
 ghost use Rattle.std.specs.Prelude.{◌≡◌, ℕ, ◌+◌, ◌<◌, ◌==◌, ◌++◌, [], ◌∷◌, List, None, true, length, IsTrue, IfOk, OnOk, OnErr, vec_len, count_by};
 ghost use Rattle.txn_trace.specs.History.{caller_of, is_began, is_commit};
 ghost use Rattle.txn_trace.specs.Shape.{how_many, is_numbered};
 
-use crate::caller::{Caller, Phase};
+use crate::caller::Caller;
 use crate::values::{operate, restore};
 use crate::verdict::Rule;
 use key_locks::{CALLERS, KeyLocks, LockAnswer};
 use std::alloc::{AllocError, Global};
 use std::collections::BTreeMap;
-use txn_trace::{Entry, Op, Reply};
+use txn_trace::{Entry, Op, Phase, Reply};
 
 /// What a legal history says, as far as the next entry is judged by it.
 #[derive(Drop)]
@@ -34,7 +35,7 @@ impl State {
     ghost use Rattle.txn_trace.specs.Legal.{replies_hold, runs};
     ghost use Rattle.txn_trace.specs.Locks.{is_locked};
     ghost use Rattle.txn_trace.specs.Shape.{is_shaped};
-    ghost use Rattle.history_check.specs.Callers.{phase_of};
+    ghost use Rattle.history_check.specs.Callers.{seat_of};
     ghost use Rattle.history_check.specs.States.{Tells, Grows, Stays, Judges, JudgesLocks};
 
     /// The state before the first entry.
@@ -59,7 +60,7 @@ impl State {
 
     /// How many callers are in a transaction.
     pub(crate) fn running(&self) -> u64
-        ensures { result ≡ count_by (λ caller. runs (phase_of caller.phase)) self.now.callers.items }
+        ensures { result ≡ count_by (λ caller. runs (seat_of caller).phase) self.now.callers.items }
     {
         self.callers
             .iter()
@@ -88,7 +89,7 @@ impl State {
             Entry::Leave(caller, level) => self.leave(caller, level),
             Entry::Undone(caller) => self.undo(caller)?,
             Entry::Returned(caller, level) => self.return_to(caller, level),
-            Entry::Committed(caller, place) => self.commit(caller, place),
+            Entry::Committed(caller, number) => self.commit(caller, number),
             Entry::Aborted(caller) => self.end(caller),
         }
         Ok(None)
@@ -97,7 +98,8 @@ impl State {
     /// Whether the entry follows the state table, and has the right number.
     fn has_shape(&self, entry: &Entry) -> bool
         requires { caller_of entry.now < 64 }
-        ensures { (stripes : ℕ) (h : List Entry) → Tells stripes h self.now → result ≡ is_shaped h entry.now }
+        ensures { (stripes : ℕ) (h : List Entry) →
+            Tells stripes h self.now → result ≡ is_shaped h entry.now }
     {
         let caller = entry.caller();
         let is_numbered = has_next_number(self.began, self.committed, entry);
@@ -107,13 +109,15 @@ impl State {
     /// Whether a reply is that of the map as it is now.
     fn is_answered(&self, entry: &Entry) -> bool
         requires { caller_of entry.now < 64 }
-        ensures { (stripes : ℕ) (h : List Entry) → Tells stripes h self.now → IsTrue (is_shaped h entry.now) → result ≡ replies_hold (h ++ entry.now ∷ []) }
+        ensures { (stripes : ℕ) (h : List Entry) →
+            Tells stripes h self.now → IsTrue (is_shaped h entry.now) →
+            result ≡ replies_hold (h ++ entry.now ∷ []) }
     {
         let Entry::Did(caller, reply) = *entry else {
             return true;
         };
-        match self.callers[caller as usize].phase {
-            Phase::Asked(op) => reply == self.values.get(&op.key()).copied(),
+        match self.callers[caller as usize].phase() {
+            Phase::Waiting(op) => reply == self.values.get(&op.key()).copied(),
             _ => true,
         }
     }
@@ -123,7 +127,7 @@ impl State {
         requires { caller < 64 }
         ensures { Grows (Entry.Began caller txn) self.old self.new }
     {
-        self.callers[caller as usize].open();
+        self.callers[caller as usize].enter(Entry::Began(caller, txn));
         self.began = txn;
     }
 
@@ -136,7 +140,7 @@ impl State {
         match self.locks.lock(caller as usize, stripe as usize) {
             LockAnswer::Busy(_) => Some(Rule::Locks),
             LockAnswer::Granted => {
-                self.callers[caller as usize].ask(op);
+                self.callers[caller as usize].enter(Entry::Asked(caller, op));
                 None
             }
         }
@@ -154,7 +158,7 @@ impl State {
                 if other as u64 != holder {
                     return Some(Rule::Locks);
                 }
-                self.callers[caller as usize].leave(None);
+                self.callers[caller as usize].enter(Entry::Busy(caller, op, holder));
                 None
             }
         }
@@ -167,12 +171,12 @@ impl State {
         ensures err { OnErr result (Stays self.old self.new) }
     {
         let seat = &mut self.callers[caller as usize];
-        let Phase::Asked(op) = seat.phase else {
+        let Phase::Waiting(op) = seat.phase() else {
             return Ok(());
         };
-        seat.reserve()?;
+        seat.reserve_change()?;
         operate(&mut self.values, op)?;
-        seat.note(op, reply);
+        seat.enter(Entry::Did(caller, reply));
         Ok(())
     }
 
@@ -182,7 +186,10 @@ impl State {
         ensures ok { OnOk result (Grows (Entry.Saved caller) self.old self.new) }
         ensures err { OnErr result (Stays self.old self.new) }
     {
-        self.callers[caller as usize].save()
+        let seat = &mut self.callers[caller as usize];
+        seat.reserve_level()?;
+        seat.enter(Entry::Saved(caller));
+        Ok(())
     }
 
     /// The caller goes back to a level, or to none.
@@ -190,7 +197,7 @@ impl State {
         requires { caller < 64 }
         ensures { Grows (Entry.Leave caller level) self.old self.new }
     {
-        self.callers[caller as usize].leave(level);
+        self.callers[caller as usize].enter(Entry::Leave(caller, level));
     }
 
     /// The newest change is taken back: its key has what it had before.
@@ -203,7 +210,7 @@ impl State {
             return Ok(());
         };
         restore(&mut self.values, key, before)?;
-        self.callers[caller as usize].forget_newest();
+        self.callers[caller as usize].enter(Entry::Undone(caller));
         Ok(())
     }
 
@@ -212,17 +219,17 @@ impl State {
         requires { caller < 64 }
         ensures { Grows (Entry.Returned caller level) self.old self.new }
     {
-        self.callers[caller as usize].return_to(level);
+        self.callers[caller as usize].enter(Entry::Returned(caller, level));
     }
 
     /// The transaction commits, and gives its stripes back.
-    fn commit(&mut self, caller: u64, place: u64)
+    fn commit(&mut self, caller: u64, number: u64)
         requires { caller < 64 }
-        ensures { Grows (Entry.Committed caller place) self.old self.new }
+        ensures { Grows (Entry.Committed caller number) self.old self.new }
     {
-        self.callers[caller as usize].close();
+        self.callers[caller as usize].enter(Entry::Committed(caller, number));
         self.locks.release_all(caller as usize);
-        self.committed = place;
+        self.committed = number;
     }
 
     /// The transaction has taken all back, and gives its stripes back.
@@ -230,18 +237,20 @@ impl State {
         requires { caller < 64 }
         ensures { Grows (Entry.Aborted caller) self.old self.new }
     {
-        self.callers[caller as usize].close();
+        self.callers[caller as usize].enter(Entry::Aborted(caller));
         self.locks.release_all(caller as usize);
     }
 }
 
 /// Whether a transaction that begins or commits has the next number.
 fn has_next_number(began: u64, committed: u64, entry: &Entry) -> bool
-    ensures { (h : List Entry) → began ≡ how_many is_began h → committed ≡ how_many is_commit h → result ≡ is_numbered h entry.now }
+    ensures { (h : List Entry) →
+        began ≡ how_many is_began h → committed ≡ how_many is_commit h →
+        result ≡ is_numbered h entry.now }
 {
     match *entry {
         Entry::Began(_, txn) => is_next(began, txn),
-        Entry::Committed(_, place) => is_next(committed, place),
+        Entry::Committed(_, number) => is_next(committed, number),
         _ => true,
     }
 }

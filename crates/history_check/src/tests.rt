@@ -38,7 +38,8 @@ fn replies(last: u64) -> [Entry; 14] {
     ]
 }
 
-/// The verdict of the plain program, which `check` and a checker that is fed entry by entry must share.
+/// The verdict of the plain program, which `check` and a checker that is fed entry by entry must
+/// share.
 fn agreed<R: AllocGlobal + Abort>(
     rt: &R,
     entries: &[Entry],
@@ -157,7 +158,8 @@ fn fed(checker: &mut Checker, entry: &Entry, rt: &impl Abort) {
     }
 }
 
-/// Is to be run with each allocation refused in turn: a refused entry changes nothing, and is fed once more.
+/// Is to be run with each allocation refused in turn: a refused entry changes nothing, and is fed
+/// once more.
 #[test]
 fn fed_entry_by_entry(rt: HostRuntime) -> Result<(), Fail> {
     let mut checker = started(rt.alloc())?;
@@ -206,7 +208,8 @@ fn savepoints(rt: HostRuntime) -> Result<(), Fail> {
     Ok(())
 }
 
-/// Is to be run with each allocation refused in turn: a refused entry changes nothing, and is fed once more.
+/// Is to be run with each allocation refused in turn: a refused entry changes nothing, and is fed
+/// once more.
 #[test]
 fn fed_with_savepoints(rt: HostRuntime) -> Result<(), Fail> {
     let mut checker = started(rt.alloc())?;
@@ -251,7 +254,8 @@ impl Tally {
     }
 }
 
-/// Draws a legal history from the seed, which must be found so, and gives the verdict on it with one fault.
+/// Draws a legal history from the seed, which must be found so, and gives the verdict on it with
+/// one fault.
 fn spoiled<R: AllocGlobal + Abort>(rt: &R, seed: u64) -> Result<Verdict, AllocError> {
     let mut draws = Draws(seed);
     let stripes = draws.below(4) + 1;

@@ -1,3 +1,4 @@
+//! The map as it is now: an operation, and the taking back of one.
 ghost use Rattle.std.specs.Prelude.{OnOk, OnErr};
 ghost use Rattle.txn_trace.specs.Map.{Map, after};
 ghost use Rattle.txn_trace.specs.Now.{set_at};

@@ -1,14 +1,18 @@
+//! The verdict on a history, and the rules that an entry may break.
 ghost use Rattle.std.specs.Prelude.{◌≡◌};
 ghost use Rattle.history_check.specs.Verdicts.{number_of};
 
 /// A rule that an entry of a history may break, with its number.
 #[derive(Clone, Copy, Debug, PartialEq, Eq)]
 pub enum Rule {
-    /// Each open transaction has the replies of running alone on the map of the committed ones, those taken back too.
+    /// Each open transaction has the replies of running alone on the map of the committed ones,
+    /// those taken back too.
     Replies = 1,
-    /// A stripe of keys belongs to one open transaction at a time: an Asked finds no other holder, and a Busy names one.
+    /// A stripe of keys belongs to one open transaction at a time: an Asked finds no other holder,
+    /// and a Busy names one.
     Locks = 2,
-    /// Each caller's entries follow the state table, and transactions and commits are numbered from 1.
+    /// Each caller's entries follow the state table, and transactions and commits are numbered from
+    /// 1.
     Shape = 3,
 }
 

@@ -1,6 +1,7 @@
 -- What steps do to the content.
 use Rattle.std.proofs.Common.{◌≡◌, ℕ, inl, inr, List, [], ◌∷◌, ◌++◌, Bool, true, false, Some, arith, subst, refl, sym, ◌∙◌, ap, append_assoc}
-use Rattle.std.proofs.lemmas.Bool.{cases_lt}
+use Rattle.split_key.specs.declared.sort.SortKey.{SortKey}
+use Rattle.split_key.proofs.SortLemmas.{cases_before}
 use Rattle.std.specs.Prelude.{Contains}
 use Rattle.std.specs.List.{AllByRecursion}
 use Rattle.std.proofs.lemmas.List.Elements.{Contains-append_right}
@@ -21,17 +22,17 @@ unfolding pairs
 pairs-append [] rest = refl
 pairs-append (n ∷ front) rest = ap (λ ps. pair_of n ++ ps) (pairs-append front rest) ∙ sym (append_assoc (pair_of n) (pairs front) (pairs rest))
 
-no_pair : (k : Kind) (value : ℕ) → pair_if k true value ≡ []
-no_pair Dummy value = refl
-no_pair (Regular key) value = refl
+no_pair : (k : Kind) (key value : ℕ) → pair_if k true key value ≡ []
+no_pair Dummy key value = refl
+no_pair Regular key value = refl
 
 -- A marked node adds nothing.
 pub pair_marked : (n : NodeAt) → n.marked ≡ true → pair_of n ≡ []
-pair_marked n marked = ap (λ b. pair_if n.kind b n.value) marked ∙ no_pair n.kind n.value
+pair_marked n marked = ap (λ b. pair_if n.kind b n.at.key n.value) marked ∙ no_pair n.kind n.at.key n.value
 
 -- A regular, unmarked node adds its pair.
-pub pair_regular : (n : NodeAt) (key : ℕ) → n.kind ≡ Regular key → n.marked ≡ false → pair_of n ≡ (key, n.value) ∷ []
-pair_regular n key regular unmarked = rw (regular, unmarked) refl
+pub pair_regular : (n : NodeAt) → n.kind ≡ Regular → n.marked ≡ false → pair_of n ≡ (n.at.key, n.value) ∷ []
+pair_regular n regular unmarked = rw (regular, unmarked) refl
 
 pairs_one : (n : NodeAt) → pairs (n ∷ []) ≡ pair_of n
 unfolding pairs
@@ -88,27 +89,27 @@ module _ (nodes : List NodeAt) (place : ℕ) (n : NodeAt) (is : node_of nodes pl
       (pairs_one n) (pairs_one (change n))
       (replaced at.front (n ∷ []) (change n ∷ []) at.rest)
 
-  module _ (key : ℕ) (regular : n.kind ≡ Regular key) (unmarked : n.marked ≡ false) where
+  module _ (regular : n.kind ≡ Regular) (unmarked : n.marked ≡ false) where
     -- A node that is marked takes its pair away.
-    pub pairs_marked : Replaces (pairs nodes) (pairs (marked_at nodes place)) ((key, n.value) ∷ []) []
+    pub pairs_marked : Replaces (pairs nodes) (pairs (marked_at nodes place)) ((n.at.key, n.value) ∷ []) []
     pairs_marked = replaces_same _ _ _ _ _ _ _ _ refl refl
-        (pair_regular n key regular unmarked) (pair_marked (record n { marked = true }) refl)
+        (pair_regular n regular unmarked) (pair_marked (record n { marked = true }) refl)
         (changed (λ k. record k { marked = true }))
 
     -- A value that is written stands in the pair.
-    pub pairs_written : (value : ℕ) → Replaces (pairs nodes) (pairs (written_at nodes place value)) ((key, n.value) ∷ []) ((key, value) ∷ [])
+    pub pairs_written : (value : ℕ) → Replaces (pairs nodes) (pairs (written_at nodes place value)) ((n.at.key, n.value) ∷ []) ((n.at.key, value) ∷ [])
     pairs_written value = replaces_same _ _ _ _ _ _ _ _ refl refl
-        (pair_regular n key regular unmarked) (pair_regular (record n { value = value }) key regular unmarked)
+        (pair_regular n regular unmarked) (pair_regular (record n { value = value }) regular unmarked)
         (changed (λ k. record k { value = value }))
 
     -- Its pair is in the content.
-    pub pairs_contain : Contains (pairs nodes) (key, n.value)
+    pub pairs_contain : Contains (pairs nodes) (n.at.key, n.value)
     pairs_contain =
-        let parts : pairs nodes ≡ pairs at.front ++ ((key, n.value) ∷ pairs at.rest) =
+        let parts : pairs nodes ≡ pairs at.front ++ ((n.at.key, n.value) ∷ pairs at.rest) =
         ap pairs at.is ∙ pairs-append at.front (n ∷ at.rest)
-        ∙ ap (λ ps. pairs at.front ++ ps) (pairs_cons n at.rest ∙ ap (λ ps. ps ++ pairs at.rest) (pair_regular n key regular unmarked)) in
-        let P : List (ℕ × ℕ) → Type 0 = λ ps. Contains ps (key, n.value) in
-        subst P (sym parts) (Contains-append_right (pairs at.front) ((key, n.value) ∷ pairs at.rest) (key, n.value) (0, omega arith, refl))
+        ∙ ap (λ ps. pairs at.front ++ ps) (pairs_cons n at.rest ∙ ap (λ ps. ps ++ pairs at.rest) (pair_regular n regular unmarked)) in
+        let P : List (ℕ × ℕ) → Type 0 = λ ps. Contains ps (n.at.key, n.value) in
+        subst P (sym parts) (Contains-append_right (pairs at.front) ((n.at.key, n.value) ∷ pairs at.rest) (n.at.key, n.value) (0, omega arith, refl))
 
 -- A marked node that is unlinked takes nothing away.
 pub pairs_unlinked : (nodes : List NodeAt) (place : ℕ) → IsBeforeMarked nodes place → pairs (unlinked_after nodes place) ≡ pairs nodes
@@ -124,36 +125,36 @@ pairs_unlinked nodes place before =
     ap pairs (unlinked_at nodes place found.0 at) ∙ pairs_same_rest at.front found.0 (without_first at.rest) at.rest keeps ∙ sym (ap pairs at.is)
 
 -- Unlinking marked nodes keeps the content.
-pub pairs_cleaned : (split : ℕ) (nodes : List NodeAt) → pairs (cleaned split nodes) ≡ pairs nodes
+pub pairs_cleaned : (sort : SortKey) (nodes : List NodeAt) → pairs (cleaned sort nodes) ≡ pairs nodes
 unfolding cleaned
-pairs_cleaned split [] = refl
-pairs_cleaned split (n ∷ rest) = go n.marked refl (pairs_cleaned split rest)
+pairs_cleaned sort [] = refl
+pairs_cleaned sort (n ∷ rest) = go n.marked refl (pairs_cleaned sort rest)
   where
-    go : (b : Bool) → n.marked ≡ b → pairs (cleaned split rest) ≡ pairs rest → pairs (cleaned split (n ∷ rest)) ≡ pairs (n ∷ rest)
+    go : (b : Bool) → n.marked ≡ b → pairs (cleaned sort rest) ≡ pairs rest → pairs (cleaned sort (n ∷ rest)) ≡ pairs (n ∷ rest)
     go true marked later =
-        ap pairs (cleaned_marked n rest split marked) ∙ later
+        ap pairs (cleaned_marked n rest sort marked) ∙ later
         ∙ sym (pairs_cons n rest ∙ ap (λ ps. ps ++ pairs rest) (pair_marked n marked))
-    go false unmarked later = elim (cases_lt n.split split) [
+    go false unmarked later = elim (cases_before n.at sort) [
       | inl less ↦
-          ap pairs (cleaned_passed n rest split unmarked less)
-          ∙ pairs_cons n (cleaned split rest) ∙ ap (λ ps. pair_of n ++ ps) later ∙ sym (pairs_cons n rest)
-      | inr more ↦ ap pairs (cleaned_stopped n rest split unmarked more)
+          ap pairs (cleaned_passed n rest sort unmarked less)
+          ∙ pairs_cons n (cleaned sort rest) ∙ ap (λ ps. pair_of n ++ ps) later ∙ sym (pairs_cons n rest)
+      | inr more ↦ ap pairs (cleaned_stopped n rest sort unmarked more)
     ]
 
-pub pairs_sought : (nodes : List NodeAt) (from split : ℕ) → IsStart nodes from split → pairs (sought nodes from split) ≡ pairs nodes
-pairs_sought nodes from split start =
+pub pairs_sought : (nodes : List NodeAt) (from : ℕ) (sort : SortKey) → IsStart nodes from sort → pairs (sought nodes from sort) ≡ pairs nodes
+pairs_sought nodes from sort start =
     let at = found_at nodes from start.node start.is in
-    ap pairs (sought_at nodes from start.node at split)
-    ∙ pairs_same_rest at.front start.node (cleaned split at.rest) at.rest (pairs_cleaned split at.rest)
+    ap pairs (sought_at nodes from start.node at sort)
+    ∙ pairs_same_rest at.front start.node (cleaned sort at.rest) at.rest (pairs_cleaned sort at.rest)
     ∙ sym (ap pairs at.is)
 
 -- What holds of each regular, unmarked node holds of each pair.
-pub each_pair : (P : NodeAt → Type 0) (Q : ℕ → ℕ → Type 0) → ((n : NodeAt) (key : ℕ) → n.kind ≡ Regular key → n.marked ≡ false → P n → Q key n.value) → (nodes : List NodeAt) → AllByRecursion P nodes → AllByRecursion (λ pair. Q pair.0 pair.1) (pairs nodes)
+pub each_pair : (P : NodeAt → Type 0) (Q : ℕ → ℕ → Type 0) → ((n : NodeAt) → n.kind ≡ Regular → n.marked ≡ false → P n → Q n.at.key n.value) → (nodes : List NodeAt) → AllByRecursion P nodes → AllByRecursion (λ pair. Q pair.0 pair.1) (pairs nodes)
 unfolding pairs
 each_pair P Q holds [] each = tt
 each_pair P Q holds (n ∷ rest) each = go n.kind n.marked refl refl (each_pair P Q holds rest each.1)
   where
-    go : (k : Kind) (b : Bool) → n.kind ≡ k → n.marked ≡ b → AllByRecursion (λ pair. Q pair.0 pair.1) (pairs rest) → AllByRecursion (λ pair. Q pair.0 pair.1) (pair_if k b n.value ++ pairs rest)
+    go : (k : Kind) (b : Bool) → n.kind ≡ k → n.marked ≡ b → AllByRecursion (λ pair. Q pair.0 pair.1) (pairs rest) → AllByRecursion (λ pair. Q pair.0 pair.1) (pair_if k b n.at.key n.value ++ pairs rest)
     go Dummy b kind marked later = later
-    go (Regular key) true kind marked later = later
-    go (Regular key) false kind marked later = (holds n key kind marked each.0, later)
+    go Regular true kind marked later = later
+    go Regular false kind marked later = (holds n kind marked each.0, later)

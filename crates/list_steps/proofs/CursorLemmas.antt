@@ -1,15 +1,16 @@
 -- Cursors that fit, and cursors that were placed.
 use Rattle.std.proofs.Common.{◌≡◌, ℕ, ◌<◌, ◌≤◌, inl, inr, List, Option, Some, None, Bool, true, false, refl, sym, ◌∙◌, ap, subst, arith, ◌==◌, ◌&&◌, not}
 use Rattle.std.proofs.lemmas.Bool.Decides.{eqb_tells}
-use Rattle.std.proofs.lemmas.Bool.{cases_order}
+use Rattle.split_key.specs.Sort.{IsBefore, IsNotBefore}
+use Rattle.split_key.proofs.SortLemmas.{before_total, cases_before, cases_same}
 use Rattle.node_list.specs.Nodes.{NodeAt, Listing, IsLinked, node_of, next_of, place_of}
 use Rattle.node_list.specs.Order.{IsSpread}
 use Rattle.node_list.specs.Follow.{Follows}
 use Rattle.node_list.specs.Sound.{IsSound}
 use Rattle.list_steps.specs.declared.cursor.Cursor.{Cursor}
 use Rattle.list_steps.specs.declared.cursor.Noted.{Noted}
-use Rattle.list_steps.specs.Found.{behind, fits, is_noted, is_next_noted, noted, node_there, pred_of, split_of, turn_of, with_split, IsBeyond, IsFound, IsPlaced}
-use Rattle.list_steps.specs.Seek.{IsPred}
+use Rattle.list_steps.specs.Found.{behind, fits, is_noted, is_next_noted, noted, node_there, pred_of, at_of, changes_of, with_key, IsBeyond, IsFound, IsPlaced}
+use Rattle.list_steps.specs.Seek.{IsBelow, IsNotBelow, IsPred}
 use Rattle.node_list.proofs.OrderLemmas.{some-injective, some-none}
 use Rattle.node_list.proofs.NodesLemmas.{found_linked, linked_found, next_found}
 use Rattle.list_steps.proofs.NodeLemmas.{found_at, next_linked, next_node, same_test}
@@ -98,14 +99,14 @@ module _ (l : Listing) (c : Cursor) (fitting : fits l c ≡ true) where
 
 -- Where a cursor that was placed fits.
 module _ (l : Listing) (c : Cursor) (sound : IsSound l) (placed : IsPlaced l c) (fitting : fits l c ≡ true) where
-  pub low : (n : NodeAt) → node_of l.nodes (pred_of c) ≡ Some n → n.split < split_of c
+  pub low : (n : NodeAt) → node_of l.nodes (pred_of c) ≡ Some n → IsBelow n (at_of c)
   low n is =
       let pred = fits_pred l c fitting in
       let same : pred.0 ≡ n = some-injective (sym pred.1 ∙ is) in
       placed.below n is (sym (ap (λ (v : NodeAt). v.stamp) same) ∙ pred.2)
 
-  -- The node behind is not below the split key.
-  pub high : (m : NodeAt) → behind l c ≡ Some m → split_of c ≤ m.split
+  -- The node behind is not below the sort key.
+  pub high : (m : NodeAt) → behind l c ≡ Some m → IsNotBelow m (at_of c)
   high m is =
       let next = fits_next l c fitting m is in
       let there = next_found l.nodes (pred_of c) m sound.spread is in
@@ -113,35 +114,35 @@ module _ (l : Listing) (c : Cursor) (sound : IsSound l) (placed : IsPlaced l c) 
       placed.beyond m next.0 next.1 (subst P next.2.place there) next.2.stamp
 
   -- And is above it where it does not have it.
-  pub above : node_there l c ≡ None → (m : NodeAt) → behind l c ≡ Some m → split_of c < m.split
-  above none m is = elim (eqb_tells m.split (split_of c)) [
-    | inl same ↦ absurd (some-none (rw same.0 at (sym (ap (λ o. with_split o (split_of c)) is) ∙ none)))
-    | inr differs ↦ elim (cases_order (split_of c) m.split) [
-      | inl same ↦ absurd (differs.1 (sym same))
-      | inr either ↦ elim either [ inl less ↦ less | inr more ↦ absurd (omega (arith, high m is)) ]
+  pub above : node_there l c ≡ None → (m : NodeAt) → behind l c ≡ Some m → IsBefore (at_of c) m.at
+  above none m is = elim (cases_same m.at (at_of c)) [
+    | inl same ↦ absurd (some-none (rw same.0 at (sym (ap (λ o. with_key o (at_of c)) is) ∙ none)))
+    | inr differs ↦ elim (cases_before (at_of c) m.at) [
+      | inl before ↦ before
+      | inr not_before ↦ absurd (differs.1 (before_total m.at (at_of c) (high m is) not_before))
     ]
   ]
 
--- The node of the split key, where a cursor fits.
+-- The node of the sort key, where a cursor fits.
 pub record There (l : Listing) (c : Cursor) (n : NodeAt) : Type 0 where
   pub behind_is : behind l c ≡ Some n
   pub is : node_of l.nodes n.place ≡ Some n
-  pub split : n.split ≡ split_of c
+  pub at : n.at ≡ at_of c
   pub unmarked : n.marked ≡ false
 
 pub there : (l : Listing) (c : Cursor) (n : NodeAt) → IsSpread l.nodes → fits l c ≡ true → node_there l c ≡ Some n → There l c n
 there l c n spread fitting is = go (behind l c) refl is
   where
-    go : (o : Option NodeAt) → behind l c ≡ o → with_split o (split_of c) ≡ Some n → There l c n
+    go : (o : Option NodeAt) → behind l c ≡ o → with_key o (at_of c) ≡ Some n → There l c n
     go None o_is with_is = absurd (some-none (sym with_is))
-    go (Some m) o_is with_is = elim (eqb_tells m.split (split_of c)) [
+    go (Some m) o_is with_is = elim (cases_same m.at (at_of c)) [
       | inl same ↦
           let node_is : m ≡ n = some-injective (rw same.0 at with_is) in
           let is_behind : behind l c ≡ Some n = o_is ∙ ap (λ (v : NodeAt). Some v) node_is in
           record {
             behind_is = is_behind;
             is = next_found l.nodes (pred_of c) n spread is_behind;
-            split = sym (ap (λ (v : NodeAt). v.split) node_is) ∙ same.1;
+            at = sym (ap (λ (v : NodeAt). v.at) node_is) ∙ same.1;
             unmarked = (fits_next l c fitting n is_behind).2.unmarked;
           }
       | inr differs ↦ absurd (some-none (sym (rw differs.0 at with_is)))
@@ -158,7 +159,7 @@ module _ (l : Listing) (c : Cursor) (found : IsFound l c) where
       pred_noted : is_noted (Some found.pred) c.pred.stamp ≡ true
       pred_noted = rw (same_test found.pred.stamp c.pred.stamp found.pred_noted, found.unmarked) refl
 
-      go : (o : Option NodeAt) (cur : Option Noted) → noted o ≡ cur → IsBeyond o (split_of c) → is_next_noted o cur ≡ true
+      go : (o : Option NodeAt) (cur : Option Noted) → noted o ≡ cur → IsBeyond o (at_of c) → is_next_noted o cur ≡ true
       go None None is beyond = refl
       go None (Some cur) is beyond = absurd (some-none (sym is))
       go (Some m) None is beyond = absurd (some-none is)
@@ -174,19 +175,17 @@ module _ (l : Listing) (c : Cursor) (found : IsFound l c) where
     pred_known = omega (arith, sound.stamped.bound (pred_of c) found.pred found.pred_is, found.pred_noted);
     pred_apart = λ place is. sound.stamped.apart (pred_of c) place found.pred found.pred_is (is ∙ ap Some (sym found.pred_noted));
     below = λ n is stamp.
-        let same : found.pred.split ≡ n.split = ap (λ (v : NodeAt). v.split) (some-injective (sym found.pred_is ∙ is)) in
-        omega (arith, found.below);
+        subst (λ k. IsBelow k (at_of c)) (some-injective (sym found.pred_is ∙ is)) found.below;
     cur_known = λ cur cur_is. let k = cur_node cur cur_is in omega (arith, sound.stamped.bound cur.place k.0 k.1, k.2);
     cur_apart = λ cur place cur_is is. let k = cur_node cur cur_is in sound.stamped.apart cur.place place k.0 k.1 (is ∙ ap Some (sym k.2));
     beyond = λ m cur cur_is is stamp.
         let k = cur_node cur cur_is in
-        let same : k.0.split ≡ m.split = ap (λ (v : NodeAt). v.split) (some-injective (sym k.1 ∙ is)) in
-        omega (arith, k.3);
-    turn_known = omega (arith, found.turn);
+        subst (λ n. IsNotBelow n (at_of c)) (some-injective (sym k.1 ∙ is)) k.3;
+    changes_known = omega (arith, found.changes);
     held = λ same below. found_fits;
   }
     where
-      go : (o : Option NodeAt) (cur : Noted) → behind l c ≡ o → noted o ≡ Some cur → IsBeyond o (split_of c) → (k : NodeAt) × (node_of l.nodes cur.place ≡ Some k) × (k.stamp ≡ cur.stamp) × (split_of c ≤ k.split)
+      go : (o : Option NodeAt) (cur : Noted) → behind l c ≡ o → noted o ≡ Some cur → IsBeyond o (at_of c) → (k : NodeAt) × (node_of l.nodes cur.place ≡ Some k) × (k.stamp ≡ cur.stamp) × IsNotBelow k (at_of c)
       go None cur o_is noted_is beyond = absurd (some-none (sym noted_is))
       go (Some k) cur o_is noted_is beyond =
           let place : k.place ≡ cur.place = ap (λ (n : Noted). n.place) (some-injective noted_is) in
@@ -194,7 +193,7 @@ module _ (l : Listing) (c : Cursor) (found : IsFound l c) where
           let P : ℕ → Type 0 = λ p. node_of l.nodes p ≡ Some k in
           (k, subst P place (next_found l.nodes (pred_of c) k sound.spread o_is), stamp, beyond.1)
 
-      cur_node : (cur : Noted) → c.cur ≡ Some cur → (k : NodeAt) × (node_of l.nodes cur.place ≡ Some k) × (k.stamp ≡ cur.stamp) × (split_of c ≤ k.split)
+      cur_node : (cur : Noted) → c.cur ≡ Some cur → (k : NodeAt) × (node_of l.nodes cur.place ≡ Some k) × (k.stamp ≡ cur.stamp) × IsNotBelow k (at_of c)
       cur_node cur cur_is = go (behind l c) cur refl (found.cur_noted ∙ cur_is) found.beyond
 
 -- What is noted of the node behind a place.
@@ -203,9 +202,9 @@ noted_next nodes place next k spread is note =
     let found = linked_found nodes next (next_linked nodes place next spread is) in
     ap noted (next_node nodes place next spread is found.0 found.1 ∙ sym found.1) ∙ note
 
--- A cursor that notes the place of its split key is found.
-pub noted_found : (l : Listing) (place : ℕ) (c : Cursor) → IsPred l.nodes place (split_of c) → IsBeyond (next_of l.nodes place) (split_of c) → noted (node_of l.nodes place) ≡ Some c.pred → c.cur ≡ noted (next_of l.nodes place) → turn_of c ≡ l.turn → IsFound l c
-noted_found l place c before beyond pred_is cur_is turn_is = record {
+-- A cursor that notes the place of its sort key is found.
+pub noted_found : (l : Listing) (place : ℕ) (c : Cursor) → IsPred l.nodes place (at_of c) → IsBeyond (next_of l.nodes place) (at_of c) → noted (node_of l.nodes place) ≡ Some c.pred → c.cur ≡ noted (next_of l.nodes place) → changes_of c ≡ l.changes → IsFound l c
+noted_found l place c before beyond pred_is cur_is changes_are = record {
   pred = before.node;
   pred_is = subst At here before.is;
   pred_noted = ap (λ (n : Noted). n.stamp) same;
@@ -213,7 +212,7 @@ noted_found l place c before beyond pred_is cur_is turn_is = record {
   below = before.below;
   cur_noted = subst Behind here (sym cur_is);
   beyond = subst Beyond here beyond;
-  turn = turn_is;
+  changes = changes_are;
 }
   where
     same : record { place = before.node.place; stamp = before.node.stamp } ≡ c.pred
@@ -229,7 +228,7 @@ noted_found l place c before beyond pred_is cur_is turn_is = record {
     Behind p = noted (next_of l.nodes p) ≡ c.cur
 
     Beyond : ℕ → Type 0
-    Beyond p = IsBeyond (next_of l.nodes p) (split_of c)
+    Beyond p = IsBeyond (next_of l.nodes p) (at_of c)
 
 -- A cursor fits the same nodes alike.
 pub fits_same : (old new : Listing) (c : Cursor) → new.nodes ≡ old.nodes → fits new c ≡ fits old c
@@ -247,7 +246,7 @@ still_placed old new c placed follows = record {
   below = λ n is stamp. elim (follows.linked (pred_of c) n is) [
     | inl there ↦
         let low = placed.below there.0 there.1 (there.2.stamp ∙ stamp) in
-        omega (arith, there.2.split)
+        subst (λ k. IsBefore k (at_of c)) there.2.at low
     | inr fresh ↦ elim fresh [
       | inl was ↦ absurd (placed.pred_apart (pred_of c) (was ∙ ap Some stamp))
       | inr above ↦ absurd (omega (arith, placed.pred_known))
@@ -260,16 +259,16 @@ still_placed old new c placed follows = record {
   ];
   beyond = λ m cur cur_is is stamp. elim (follows.linked cur.place m is) [
     | inl there ↦
-        let low = placed.beyond there.0 cur cur_is there.1 (there.2.stamp ∙ stamp) in
-        omega (arith, there.2.split)
+        let high = placed.beyond there.0 cur cur_is there.1 (there.2.stamp ∙ stamp) in
+        subst (λ k. IsNotBefore k (at_of c)) there.2.at high
     | inr fresh ↦ elim fresh [
       | inl was ↦ absurd (placed.cur_apart cur cur.place cur_is (was ∙ ap Some stamp))
       | inr above ↦ absurd (omega (arith, placed.cur_known cur cur_is))
     ]
   ];
-  turn_known = omega (arith, placed.turn_known, follows.turn);
+  changes_known = omega (arith, placed.changes_known, follows.changes);
   held = λ same below.
-      let at_old : old.turn ≡ turn_of c = omega (arith, placed.turn_known, follows.turn) in
-      let unchanged : new.turn ≡ old.turn = omega arith in
+      let at_old : old.changes ≡ changes_of c = omega (arith, placed.changes_known, follows.changes) in
+      let unchanged : new.changes ≡ old.changes = omega arith in
       fits_same old new c (follows.still unchanged below) ∙ placed.held at_old (omega arith);
 }

@@ -1,15 +1,17 @@
 -- What is left of a seek at each node.
-use Rattle.std.proofs.Common.{◌≡◌, ℕ, ◌<◌, ◌≤◌, inl, inr, List, [], ◌∷◌, ◌++◌, Option, Some, None, Bool, true, false, length, refl, sym, ◌∙◌, ap, subst, arith, if◌then◌else◌, ◌==◌, nat_lt, append_assoc}
-use Rattle.std.proofs.lemmas.Bool.{cases_lt}
-use Rattle.std.proofs.lemmas.Bool.Decides.{eqb_tells, nat_tests}
+use Prim.Native.Nat.{suc}
+use Rattle.std.proofs.Common.{◌≡◌, ℕ, ◌+◌, ◌-◌, ◌<◌, ◌≤◌, inl, inr, List, [], ◌∷◌, ◌++◌, Option, Some, None, Bool, true, false, length, refl, sym, ◌∙◌, ap, subst, arith, if◌then◌else◌, ◌==◌, nat_lt, append_assoc}
+use Rattle.std.proofs.lemmas.Bool.Decides.{eqb_tells}
 use Rattle.std.specs.List.{AllByRecursion}
-use Rattle.node_list.specs.Nodes.{NodeAt, Listing, IsLinked, node_of, next_of, first, without_first, unlinked_after}
+use Rattle.split_key.specs.declared.sort.SortKey.{SortKey}
+use Rattle.split_key.proofs.SortLemmas.{cases_before}
+use Rattle.node_list.specs.Nodes.{NodeAt, Listing, IsLinked, node_of, next_of, first, without_first, unlinked_after, one_more, changes_after}
 use Rattle.node_list.specs.Order.{AbsentFrom, IsSpread}
 use Rattle.node_list.specs.Follow.{Follows}
 use Rattle.node_list.specs.declared.node.Kind.TheVariants.{Dummy}
 use Rattle.node_list.specs.Sound.{AllPlain}
 use Rattle.node_list.proofs.OrderLemmas.{each_found}
-use Rattle.list_steps.specs.Seek.{cleaned, sought, IsBelow, IsPred, IsStart, KeepsRest}
+use Rattle.list_steps.specs.Seek.{cleaned, sought, IsBelow, IsNotBelow, IsPred, IsStart, KeepsRest}
 use Rattle.list_steps.proofs.NodeLemmas.{IsAt, found_at, node_at, next_at, at_unlinked, at_next, first_is, first_none, same_test, apart_test}
 
 -- The nodes behind a place.
@@ -18,49 +20,45 @@ nodes_behind [] place = []
 nodes_behind (n ∷ rest) place = if n.place == place then rest else nodes_behind rest place
 
 -- The seek is at a node before the place sought, and the rest of it gives what the whole would.
-pub record IsSeeking (old now : Listing) (from place split : ℕ) : Type 0 where
+pub record IsSeeking (old now : Listing) (from place : ℕ) (sort : SortKey) : Type 0 where
   pub linked : IsLinked now.nodes place
-  pub pred : AllPlain now.nodes → IsPred now.nodes place split
-  pub rest : sought now.nodes place split ≡ sought old.nodes from split
+  pub pred : AllPlain now.nodes → IsPred now.nodes place sort
+  pub rest : sought now.nodes place sort ≡ sought old.nodes from sort
   pub kept : KeepsRest old now
+  pub fewer : length now.nodes ≤ length old.nodes
+  pub changes : now.changes ≡ changes_after old.changes (length old.nodes - length now.nodes)
   pub follows : Follows old now
 
 -- A seek begins at an unmarked node.
-pub pred_from_start : (nodes : List NodeAt) (place split : ℕ) → IsStart nodes place split → AllPlain nodes → IsPred nodes place split
-pred_from_start nodes place split start plain = record {
+pub pred_from_start : (nodes : List NodeAt) (place : ℕ) (sort : SortKey) → IsStart nodes place sort → AllPlain nodes → IsPred nodes place sort
+pred_from_start nodes place sort start plain = record {
   node = start.node;
   is = start.is;
   unmarked = each_found (λ n. n.kind ≡ Dummy → n.marked ≡ false) nodes place start.node plain start.is start.dummy;
   below = start.below;
 }
 
-below_is : (a b : ℕ) → a < b → nat_lt a b ≡ true
-below_is a b less = grind (arith, nat_tests)
-
-not_below : (a b : ℕ) → b ≤ a → nat_lt a b ≡ false
-not_below a b more = grind (arith, nat_tests)
-
-pub cleaned_marked : (n : NodeAt) (rest : List NodeAt) (split : ℕ) → n.marked ≡ true → cleaned split (n ∷ rest) ≡ cleaned split rest
+pub cleaned_marked : (n : NodeAt) (rest : List NodeAt) (sort : SortKey) → n.marked ≡ true → cleaned sort (n ∷ rest) ≡ cleaned sort rest
 unfolding cleaned
-cleaned_marked n rest split is = rw is refl
+cleaned_marked n rest sort is = rw is refl
 
-pub cleaned_passed : (n : NodeAt) (rest : List NodeAt) (split : ℕ) → n.marked ≡ false → IsBelow n split → cleaned split (n ∷ rest) ≡ n ∷ cleaned split rest
+pub cleaned_passed : (n : NodeAt) (rest : List NodeAt) (sort : SortKey) → n.marked ≡ false → IsBelow n sort → cleaned sort (n ∷ rest) ≡ n ∷ cleaned sort rest
 unfolding cleaned
-cleaned_passed n rest split is less = rw (is, below_is n.split split less) refl
+cleaned_passed n rest sort is less = rw (is, less) refl
 
-pub cleaned_stopped : (n : NodeAt) (rest : List NodeAt) (split : ℕ) → n.marked ≡ false → split ≤ n.split → cleaned split (n ∷ rest) ≡ n ∷ rest
+pub cleaned_stopped : (n : NodeAt) (rest : List NodeAt) (sort : SortKey) → n.marked ≡ false → IsNotBelow n sort → cleaned sort (n ∷ rest) ≡ n ∷ rest
 unfolding cleaned
-cleaned_stopped n rest split is more = rw (is, not_below n.split split more) refl
+cleaned_stopped n rest sort is more = rw (is, more) refl
 
-cleaned_nil : (split : ℕ) → cleaned split [] ≡ []
+cleaned_nil : (sort : SortKey) → cleaned sort [] ≡ []
 unfolding cleaned
-cleaned_nil split = refl
+cleaned_nil sort = refl
 
 module _ (place : ℕ) (n : NodeAt) (rest : List NodeAt) (here : n.place ≡ place) where
-  sought-append : (split : ℕ) (front : List NodeAt) → AbsentFrom place front → sought (front ++ n ∷ rest) place split ≡ front ++ n ∷ cleaned split rest
+  sought-append : (sort : SortKey) (front : List NodeAt) → AbsentFrom place front → sought (front ++ n ∷ rest) place sort ≡ front ++ n ∷ cleaned sort rest
   unfolding sought
-  sought-append split [] absent = rw (same_test n.place place here) refl
-  sought-append split (m ∷ front) absent = rw (apart_test m.place place absent.0) (ap (λ ns. m ∷ ns) (sought-append split front absent.1))
+  sought-append sort [] absent = rw (same_test n.place place here) refl
+  sought-append sort (m ∷ front) absent = rw (apart_test m.place place absent.0) (ap (λ ns. m ∷ ns) (sought-append sort front absent.1))
 
   nodes_behind-append : (front : List NodeAt) → AbsentFrom place front → nodes_behind (front ++ n ∷ rest) place ≡ rest
   unfolding nodes_behind
@@ -68,14 +66,14 @@ module _ (place : ℕ) (n : NodeAt) (rest : List NodeAt) (here : n.place ≡ pla
   nodes_behind-append (m ∷ front) absent = rw (apart_test m.place place absent.0) (nodes_behind-append front absent.1)
 
 module _ (nodes : List NodeAt) (place : ℕ) (n : NodeAt) (at : IsAt nodes place n) where
-  pub sought_at : (split : ℕ) → sought nodes place split ≡ at.front ++ n ∷ cleaned split at.rest
-  sought_at split = ap (λ ns. sought ns place split) at.is ∙ sought-append place n at.rest at.here split at.front at.absent
+  pub sought_at : (sort : SortKey) → sought nodes place sort ≡ at.front ++ n ∷ cleaned sort at.rest
+  sought_at sort = ap (λ ns. sought ns place sort) at.is ∙ sought-append place n at.rest at.here sort at.front at.absent
 
   pub behind_at : nodes_behind nodes place ≡ at.rest
   behind_at = ap (λ ns. nodes_behind ns place) at.is ∙ nodes_behind-append place n at.rest at.here at.front at.absent
 
 -- At a node before the place sought.
-module _ (nodes : List NodeAt) (place split : ℕ) (pred : IsPred nodes place split) where
+module _ (nodes : List NodeAt) (place : ℕ) (sort : SortKey) (pred : IsPred nodes place sort) where
   pred_at : IsAt nodes place pred.node
   pred_at = found_at nodes place pred.node pred.is
 
@@ -83,10 +81,10 @@ module _ (nodes : List NodeAt) (place split : ℕ) (pred : IsPred nodes place sp
   first_rest o is = sym (next_at nodes place pred.node pred_at) ∙ is
 
   -- Nothing is left where nothing is behind.
-  pub sought_at_end : next_of nodes place ≡ None → sought nodes place split ≡ nodes
+  pub sought_at_end : next_of nodes place ≡ None → sought nodes place sort ≡ nodes
   sought_at_end is =
-      sought_at nodes place pred.node pred_at split
-      ∙ ap (λ ns. pred_at.front ++ pred.node ∷ ns) (ap (cleaned split) nothing ∙ cleaned_nil split ∙ sym nothing)
+      sought_at nodes place pred.node pred_at sort
+      ∙ ap (λ ns. pred_at.front ++ pred.node ∷ ns) (ap (cleaned sort) nothing ∙ cleaned_nil sort ∙ sym nothing)
       ∙ sym pred_at.is
     where
       nothing : pred_at.rest ≡ []
@@ -96,38 +94,38 @@ module _ (nodes : List NodeAt) (place split : ℕ) (pred : IsPred nodes place sp
     rest_is : pred_at.rest ≡ m ∷ without_first pred_at.rest
     rest_is = first_is pred_at.rest m (first_rest (Some m) is)
 
-    -- Nor where an unmarked node that is not below the split key is behind.
-    pub sought_stopped : m.marked ≡ false → split ≤ m.split → sought nodes place split ≡ nodes
+    -- Nor where an unmarked node that is not below the sort key is behind.
+    pub sought_stopped : m.marked ≡ false → IsNotBelow m sort → sought nodes place sort ≡ nodes
     sought_stopped unmarked above =
-        sought_at nodes place pred.node pred_at split
+        sought_at nodes place pred.node pred_at sort
         ∙ ap (λ ns. pred_at.front ++ pred.node ∷ ns)
-        (ap (cleaned split) rest_is ∙ cleaned_stopped m (without_first pred_at.rest) split unmarked above ∙ sym rest_is)
+        (ap (cleaned sort) rest_is ∙ cleaned_stopped m (without_first pred_at.rest) sort unmarked above ∙ sym rest_is)
         ∙ sym pred_at.is
 
-    -- An unmarked node below the split key is passed.
-    pub sought_passed : IsSpread nodes → m.marked ≡ false → IsBelow m split → sought nodes m.place split ≡ sought nodes place split
+    -- An unmarked node below the sort key is passed.
+    pub sought_passed : IsSpread nodes → m.marked ≡ false → IsBelow m sort → sought nodes m.place sort ≡ sought nodes place sort
     sought_passed spread unmarked below =
-        sought_at nodes m.place m next split
-        ∙ append_assoc pred_at.front (pred.node ∷ []) (m ∷ cleaned split (without_first pred_at.rest))
+        sought_at nodes m.place m next sort
+        ∙ append_assoc pred_at.front (pred.node ∷ []) (m ∷ cleaned sort (without_first pred_at.rest))
         ∙ sym (
-        sought_at nodes place pred.node pred_at split
+        sought_at nodes place pred.node pred_at sort
         ∙ ap (λ ns. pred_at.front ++ pred.node ∷ ns)
-        (ap (cleaned split) rest_is ∙ cleaned_passed m (without_first pred_at.rest) split unmarked below)
+        (ap (cleaned sort) rest_is ∙ cleaned_passed m (without_first pred_at.rest) sort unmarked below)
         )
       where
         next : IsAt nodes m.place m
         next = at_next nodes place pred.node pred_at m spread (first_rest (Some m) is)
 
     -- A marked node is unlinked.
-    pub sought_unlinked : m.marked ≡ true → sought (unlinked_after nodes place) place split ≡ sought nodes place split
+    pub sought_unlinked : m.marked ≡ true → sought (unlinked_after nodes place) place sort ≡ sought nodes place sort
     sought_unlinked marked =
-        sought_at (unlinked_after nodes place) place pred.node (at_unlinked nodes place pred.node pred_at) split
+        sought_at (unlinked_after nodes place) place pred.node (at_unlinked nodes place pred.node pred_at) sort
         ∙ ap (λ ns. pred_at.front ++ pred.node ∷ ns)
-        (sym (ap (cleaned split) rest_is ∙ cleaned_marked m (without_first pred_at.rest) split marked))
-        ∙ sym (sought_at nodes place pred.node pred_at split)
+        (sym (ap (cleaned sort) rest_is ∙ cleaned_marked m (without_first pred_at.rest) sort marked))
+        ∙ sym (sought_at nodes place pred.node pred_at sort)
 
   -- The node at the place stays.
-  pub pred_unlinked : IsPred (unlinked_after nodes place) place split
+  pub pred_unlinked : IsPred (unlinked_after nodes place) place sort
   pred_unlinked = record {
     node = pred.node;
     is = node_at (unlinked_after nodes place) place pred.node (at_unlinked nodes place pred.node pred_at);
@@ -159,25 +157,38 @@ module _ (nodes : List NodeAt) (place : ℕ) (n m : NodeAt) (is : node_of nodes 
         ap length behind_first,
       )
 
+-- One node is unlinked by one change, so the change number has grown by the number of nodes unlinked.
+pub changes_unlinked : (first all changes unlinked before after : ℕ) → after + 1 ≡ before → before ≤ all → changes ≡ changes_after first (all - before) → unlinked ≡ one_more changes → unlinked ≡ changes_after first (all - after)
+unfolding changes_after
+changes_unlinked first all changes unlinked before after one fewer changes_are unlinked_is =
+    let more : all - after ≡ suc (all - before) = omega arith in
+    unlinked_is ∙ ap one_more changes_are ∙ ap (changes_after first) (sym more)
+
+pub changes_unchanged : (changes nodes : ℕ) → changes ≡ changes_after changes (nodes - nodes)
+unfolding changes_after
+changes_unchanged changes nodes =
+    let none : nodes - nodes ≡ 0 = omega arith in
+    ap (changes_after changes) (sym none)
+
 -- What holds of each node holds of each that a seek leaves.
-pub each_cleaned : (P : NodeAt → Type 0) (split : ℕ) (nodes : List NodeAt) → AllByRecursion P nodes → AllByRecursion P (cleaned split nodes)
-each_cleaned P split [] each = let Each : List NodeAt → Type 0 = λ ns. AllByRecursion P ns in subst Each (sym (cleaned_nil split)) tt
-each_cleaned P split (n ∷ rest) each = go n.marked refl (each_cleaned P split rest each.1)
+pub each_cleaned : (P : NodeAt → Type 0) (sort : SortKey) (nodes : List NodeAt) → AllByRecursion P nodes → AllByRecursion P (cleaned sort nodes)
+each_cleaned P sort [] each = let Each : List NodeAt → Type 0 = λ ns. AllByRecursion P ns in subst Each (sym (cleaned_nil sort)) tt
+each_cleaned P sort (n ∷ rest) each = go n.marked refl (each_cleaned P sort rest each.1)
   where
     Each : List NodeAt → Type 0
     Each ns = AllByRecursion P ns
 
-    go : (b : Bool) → n.marked ≡ b → AllByRecursion P (cleaned split rest) → AllByRecursion P (cleaned split (n ∷ rest))
-    go true marked later = subst Each (sym (cleaned_marked n rest split marked)) later
-    go false unmarked later = elim (cases_lt n.split split) [
-      | inl less ↦ subst Each (sym (cleaned_passed n rest split unmarked less)) (each.0, later)
-      | inr more ↦ subst Each (sym (cleaned_stopped n rest split unmarked more)) each
+    go : (b : Bool) → n.marked ≡ b → AllByRecursion P (cleaned sort rest) → AllByRecursion P (cleaned sort (n ∷ rest))
+    go true marked later = subst Each (sym (cleaned_marked n rest sort marked)) later
+    go false unmarked later = elim (cases_before n.at sort) [
+      | inl less ↦ subst Each (sym (cleaned_passed n rest sort unmarked less)) (each.0, later)
+      | inr more ↦ subst Each (sym (cleaned_stopped n rest sort unmarked more)) each
     ]
 
-pub each_sought : (P : NodeAt → Type 0) (nodes : List NodeAt) (from split : ℕ) → AllByRecursion P nodes → AllByRecursion P (sought nodes from split)
+pub each_sought : (P : NodeAt → Type 0) (nodes : List NodeAt) (from : ℕ) (sort : SortKey) → AllByRecursion P nodes → AllByRecursion P (sought nodes from sort)
 unfolding sought
-each_sought P [] from split each = tt
-each_sought P (n ∷ rest) from split each = elim (eqb_tells n.place from) [
-  | inl here ↦ rw here.0 (each.0, each_cleaned P split rest each.1)
-  | inr apart ↦ rw apart.0 (each.0, each_sought P rest from split each.1)
+each_sought P [] from sort each = tt
+each_sought P (n ∷ rest) from sort each = elim (eqb_tells n.place from) [
+  | inl here ↦ rw here.0 (each.0, each_cleaned P sort rest each.1)
+  | inr apart ↦ rw apart.0 (each.0, each_sought P rest from sort each.1)
 ]

@@ -4,13 +4,13 @@ use Rattle.std.specs.Prelude.{IsSomeAnd, IsTrue}
 use Rattle.node_list.specs.declared.node.Kind.{Kind}
 use Rattle.node_list.specs.declared.node.Kind.TheVariants.{Dummy, Regular}
 use Rattle.node_list.specs.Nodes.{NodeAt, Listing, Becomes, Takes, IsRegularAt, node_of, is_regular, place_of, linked_after, marked_at, written_at}
-use Rattle.node_list.specs.Order.{IsRising}
+use Rattle.node_list.specs.Order.{IsNodeBefore, IsRising}
 use Rattle.node_list.specs.Sound.{IsSound}
 use Rattle.list_steps.specs.declared.cursor.Cursor.{Cursor}
 use Rattle.list_steps.specs.Content.{pairs, pair_of, Replaces}
-use Rattle.list_steps.specs.Found.{fits, node_there, pred_of, split_of, IsPlaced, IsKeyThere}
+use Rattle.list_steps.specs.Found.{fits, node_there, pred_of, at_of, IsPlaced, IsKeyThere}
 use Rattle.list_steps.specs.Steps.{IsThere, Finds, Links, Marks, Swaps}
-use Rattle.node_list.proofs.OrderLemmas.{before-split, rising_linked, some-injective, some-none}
+use Rattle.node_list.proofs.OrderLemmas.{rising_linked, some-injective, some-none}
 use Rattle.list_steps.proofs.NodeLemmas.{found_at}
 use Rattle.list_steps.proofs.OrderLemmas.{none_between}
 use Rattle.list_steps.proofs.ContentLemmas.{pairs_linked, pairs_marked, pairs_written, pairs_contain}
@@ -27,7 +27,7 @@ module _ (l : Listing) (c : Cursor) (sound : IsSound l) (placed : IsPlaced l c) 
       go : (o : Option NodeAt) (place : Option ℕ) → node_there l c ≡ o → place ≡ place_of o → Finds l c place
       go None None is place_is = record {
         none = is;
-        others = none_between l.nodes (pred_of c) pred.0 (split_of c) sound.rising pred.1
+        others = none_between l.nodes (pred_of c) pred.0 (at_of c) sound.rising pred.1
             (low l c sound placed fitting pred.0 pred.1) (above l c sound placed fitting is);
       }
       go None (Some place) is place_is = absurd (some-none place_is)
@@ -39,18 +39,18 @@ module _ (l : Listing) (c : Cursor) (sound : IsSound l) (placed : IsPlaced l c) 
             node = n;
             there = is;
             is = here.is;
-            split = here.split;
+            at = here.at;
             unmarked = here.unmarked;
-            content = λ key regular. pairs_contain l.nodes n.place n here.is key regular here.unmarked;
+            content = λ regular. pairs_contain l.nodes n.place n here.is regular here.unmarked;
           })
 
-  -- Where there is room, a node of the split key keeps the order.
-  pub rising_where_fits : node_there l c ≡ None → (x : NodeAt) → x.split ≡ split_of c → IsRising (linked_after l.nodes (pred_of c) x)
-  rising_where_fits none x split_is =
+  -- Where there is room, a node of the sort key keeps the order.
+  pub rising_where_fits : node_there l c ≡ None → (x : NodeAt) → x.at ≡ at_of c → IsRising (linked_after l.nodes (pred_of c) x)
+  rising_where_fits none x at_is =
       let pred = fits_pred l c fitting in
-      let is_below : pred.0.split < x.split = omega (arith, low l c sound placed fitting pred.0 pred.1, split_is) in
-      rising_linked l.nodes (pred_of c) pred.0 x sound.rising pred.1 (before-split pred.0 x is_below)
-      (λ m is. before-split x m (omega (arith, above l c sound placed fitting none m is, split_is)))
+      let below : IsNodeBefore pred.0 x = rw at_is (low l c sound placed fitting pred.0 pred.1) in
+      rising_linked l.nodes (pred_of c) pred.0 x sound.rising pred.1 below
+      (λ m is. rw at_is (above l c sound placed fitting none m is))
 
   -- A node that is linked.
   pub links : (new : Listing) (x : NodeAt) → Takes l new (linked_after l.nodes (pred_of c) x) x.place → node_of new.nodes x.place ≡ Some x → Links l new c x
@@ -63,58 +63,56 @@ module _ (l : Listing) (c : Cursor) (sound : IsSound l) (placed : IsPlaced l c) 
         content = subst Content (sym takes.nodes) (pairs_linked l.nodes (pred_of c) pred.0 pred.1 x);
       }
 
-  -- The key of a regular node that is there.
-  key_of : (k : Kind) → is_regular k ≡ true → (key : ℕ) × (k ≡ Regular key)
-  key_of Dummy is = cc
-  key_of (Regular key) is = (key, refl)
-
-  pub regular_there : (n : NodeAt) → node_there l c ≡ Some n → IsKeyThere l c → (key : ℕ) × (n.kind ≡ Regular key)
+  -- A node that is there is regular, if it has to be.
+  pub regular_there : (n : NodeAt) → node_there l c ≡ Some n → IsKeyThere l c → n.kind ≡ Regular
   regular_there n is key_there =
       let P : Option NodeAt → Type 0 = λ o. IsSomeAnd o (λ m. IsTrue (is_regular m.kind)) in
       let regular : IsSomeAnd (Some n) (λ m. IsTrue (is_regular m.kind)) = subst P is (key_there fitting) in
-      key_of n.kind regular
+      go n.kind regular
+    where
+      go : (k : Kind) → is_regular k ≡ true → k ≡ Regular
+      go Dummy is = cc
+      go Regular is = refl
 
   pub regular_at : (place : ℕ) → IsThere l c place → IsKeyThere l c → IsRegularAt l.nodes place
   regular_at place here key_there =
-      let key = regular_there here.node here.there key_there in
-      record { node = here.node; key = key.0; is = here.is; regular = key.1; unmarked = here.unmarked }
+      let regular = regular_there here.node here.there key_there in
+      record { node = here.node; is = here.is; regular = regular; unmarked = here.unmarked }
 
   -- A node that is marked.
   pub marks : (new : Listing) (place : ℕ) → IsThere l c place → IsKeyThere l c → Becomes l new (marked_at l.nodes place) → (n : NodeAt) → node_of l.nodes place ≡ Some n → Marks l new c n.value
   marks new place here key_there becomes n is =
-      let key = regular_there here.node here.there key_there in
+      let regular = regular_there here.node here.there key_there in
       let same : here.node ≡ n = some-injective (sym here.is ∙ is) in
       let value : here.node.value ≡ n.value = ap (λ (v : NodeAt). v.value) same in
       let at_place : here.node.place ≡ place = (found_at l.nodes place here.node here.is).here in
       let After : ℕ → Type 0 = λ p. Becomes l new (marked_at l.nodes p) in
-      let Content : List NodeAt → Type 0 = λ ns. Replaces (pairs l.nodes) (pairs ns) ((key.0, n.value) ∷ []) [] in
-      let Value : ℕ → Type 0 = λ v. Replaces (pairs l.nodes) (pairs (marked_at l.nodes place)) ((key.0, v) ∷ []) [] in
+      let Content : List NodeAt → Type 0 = λ ns. Replaces (pairs l.nodes) (pairs ns) ((here.node.at.key, n.value) ∷ []) [] in
+      let Value : ℕ → Type 0 = λ v. Replaces (pairs l.nodes) (pairs (marked_at l.nodes place)) ((here.node.at.key, v) ∷ []) [] in
       record {
         node = here.node;
-        key = key.0;
         there = here.there;
-        regular = key.1;
+        regular = regular;
         value_is = value;
         becomes = subst After (sym at_place) becomes;
-        content = subst Content (sym becomes.nodes) (subst Value value (pairs_marked l.nodes place here.node here.is key.0 key.1 here.unmarked));
+        content = subst Content (sym becomes.nodes) (subst Value value (pairs_marked l.nodes place here.node here.is regular here.unmarked));
       }
 
   -- A value that is written.
   pub swaps : (new : Listing) (place now : ℕ) → IsThere l c place → IsKeyThere l c → Becomes l new (written_at l.nodes place now) → (n : NodeAt) → node_of l.nodes place ≡ Some n → Swaps l new c n.value now
   swaps new place now here key_there becomes n is =
-      let key = regular_there here.node here.there key_there in
+      let regular = regular_there here.node here.there key_there in
       let same : here.node ≡ n = some-injective (sym here.is ∙ is) in
       let value : here.node.value ≡ n.value = ap (λ (v : NodeAt). v.value) same in
       let at_place : here.node.place ≡ place = (found_at l.nodes place here.node here.is).here in
       let After : ℕ → Type 0 = λ p. Becomes l new (written_at l.nodes p now) in
-      let Content : List NodeAt → Type 0 = λ ns. Replaces (pairs l.nodes) (pairs ns) ((key.0, n.value) ∷ []) ((key.0, now) ∷ []) in
-      let Value : ℕ → Type 0 = λ v. Replaces (pairs l.nodes) (pairs (written_at l.nodes place now)) ((key.0, v) ∷ []) ((key.0, now) ∷ []) in
+      let Content : List NodeAt → Type 0 = λ ns. Replaces (pairs l.nodes) (pairs ns) ((here.node.at.key, n.value) ∷ []) ((here.node.at.key, now) ∷ []) in
+      let Value : ℕ → Type 0 = λ v. Replaces (pairs l.nodes) (pairs (written_at l.nodes place now)) ((here.node.at.key, v) ∷ []) ((here.node.at.key, now) ∷ []) in
       record {
         node = here.node;
-        key = key.0;
         there = here.there;
-        regular = key.1;
+        regular = regular;
         value_is = value;
         becomes = subst After (sym at_place) becomes;
-        content = subst Content (sym becomes.nodes) (subst Value value (pairs_written l.nodes place here.node here.is key.0 key.1 here.unmarked now));
+        content = subst Content (sym becomes.nodes) (subst Value value (pairs_written l.nodes place here.node here.is regular here.unmarked now));
       }

@@ -3,11 +3,11 @@ use Rattle.std.proofs.Common.{◌≡◌, ℕ, List, [], ◌∷◌, ◌++◌, Opt
 use Rattle.std.specs.List.{AllByRecursion}
 use Rattle.node_list.specs.declared.node.Kind.TheVariants.{Dummy}
 use Rattle.node_list.specs.Nodes.{NodeAt, Listing, next_of, first, without_first, unlinked_after}
-use Rattle.node_list.specs.Order.{IsBefore, IsRising, IsSpread}
+use Rattle.node_list.specs.Order.{IsSpread}
 use Rattle.node_list.specs.Sound.{AllPlain, IsSound}
+use Rattle.node_list.proofs.NodesLemmas.{place-found}
 use Rattle.list_steps.specs.Steps.{without_first_marked}
-use Rattle.list_steps.proofs.NodeLemmas.{IsAt, found_at, next_at, unlinked_at, at_next, first_is, first_none}
-use Rattle.list_steps.proofs.OrderLemmas.{before_later}
+use Rattle.list_steps.proofs.NodeLemmas.{IsAt, next_at, unlinked_at, at_next, first_is, first_none}
 
 -- None of these nodes is marked.
 abbrev pub IsClean : List NodeAt → Type 0
@@ -22,12 +22,6 @@ pub record IsSweeping (nodes : List NodeAt) (place : ℕ) : Type 0 where
 clean-append : (front rest : List NodeAt) → IsClean front → IsClean rest → IsClean (front ++ rest)
 clean-append [] rest before after = after
 clean-append (n ∷ front) rest before after = (before.0, clean-append front rest before.1 after)
-
--- Nothing is before the lowest node.
-nothing_before : (front : List NodeAt) (n : NodeAt) (rest : List NodeAt) → IsRising (front ++ n ∷ rest) → n.split ≡ 0 → front ≡ []
-unfolding IsRising IsBefore
-nothing_before [] n rest rising lowest = refl
-nothing_before (m ∷ front) n rest rising lowest = absurd (omega (arith, before_later m n front rest rising.0))
 
 plain-append : (front : List NodeAt) (n : NodeAt) (rest : List NodeAt) → AllPlain (front ++ n ∷ rest) → n.kind ≡ Dummy → n.marked ≡ false
 plain-append [] n rest plain = plain.0
@@ -48,13 +42,17 @@ without_first_marked-append (n ∷ front) m rest passed marked =
 pub sweeping_first : (l : Listing) → IsSound l → IsSweeping l.nodes l.head
 sweeping_first l sound =
     let node = sound.first.node in
-    let at = found_at l.nodes l.head node sound.first.is in
+    let nodes_are = first_is l.nodes node sound.first.first in
+    let at : IsAt l.nodes l.head node = record {
+      front = [];
+      rest = without_first l.nodes;
+      is = nodes_are;
+      absent = tt;
+      here = place-found l.nodes l.head node sound.first.is;
+    } in
     let P : List NodeAt → Type 0 = AllPlain in
-    let R : List NodeAt → Type 0 = IsRising in
-    let C : List NodeAt → Type 0 = λ front. IsClean (front ++ node ∷ []) in
-    let unmarked = plain-append at.front node at.rest (subst P at.is sound.plain) sound.first.kind in
-    let nothing = nothing_before at.front node at.rest (subst R at.is sound.rising) sound.first.split in
-    record { node = node; at = at; passed = subst C (sym nothing) (unmarked, tt) }
+    let unmarked = plain-append [] node (without_first l.nodes) (subst P nodes_are sound.plain) sound.first.kind in
+    record { node = node; at = at; passed = (unmarked, tt) }
 
 module _ (nodes : List NodeAt) (place : ℕ) (sweeping : IsSweeping nodes place) where
   first_rest : (o : Option NodeAt) → next_of nodes place ≡ o → first sweeping.at.rest ≡ o

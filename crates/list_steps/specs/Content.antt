@@ -4,15 +4,15 @@ use Rattle.node_list.specs.declared.node.Kind.{Kind}
 use Rattle.node_list.specs.declared.node.Kind.TheVariants.{Dummy, Regular}
 use Rattle.node_list.specs.Nodes.{NodeAt}
 
--- What a node of this kind, mark and value adds to the content: its pair, if it is regular and unmarked.
-abbrev pub pair_if : Kind → Bool → ℕ → List (ℕ × ℕ)
-pair_if Dummy marked value = []
-pair_if (Regular key) true value = []
-pair_if (Regular key) false value = (key, value) ∷ []
+-- What a node of this kind, mark, key and value adds to the content: its pair, if it is regular and unmarked.
+abbrev pub pair_if : Kind → Bool → ℕ → ℕ → List (ℕ × ℕ)
+pair_if Dummy marked key value = []
+pair_if Regular true key value = []
+pair_if Regular false key value = (key, value) ∷ []
 
 -- What a node adds to the content.
 abbrev pub pair_of : NodeAt → List (ℕ × ℕ)
-pair_of n = pair_if n.kind n.marked n.value
+pair_of n = pair_if n.kind n.marked n.at.key n.value
 
 -- Key and value of each regular, unmarked node.
 unfoldable pub pairs : List NodeAt → List (ℕ × ℕ)

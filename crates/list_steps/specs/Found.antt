@@ -1,17 +1,19 @@
 -- What a cursor says of a list.
 use Rattle.std.specs.Prelude.{◌≡◌, ◌≢◌, ℕ, ◌<◌, ◌≤◌, ◌-◌, ◌^◌, min, Option, Some, None, Bool, true, false, ◌==◌, ◌&&◌, not, if◌then◌else◌, IsSomeAnd, IsTrue}
+use Rattle.split_key.specs.declared.sort.SortKey.{SortKey}
+use Rattle.split_key.specs.Sort.{is_same}
 use Rattle.node_list.specs.Nodes.{NodeAt, Listing, node_of, next_of, out_at, is_regular}
 use Rattle.list_steps.specs.declared.cursor.Cursor.{Cursor}
 use Rattle.list_steps.specs.declared.cursor.Noted.{Noted}
 use Rattle.list_steps.specs.Seek.{IsBelow, IsNotBelow}
 
--- The split key that was sought.
-abbrev pub split_of : Cursor → ℕ
-split_of c = c.split
+-- The sort key that was sought.
+abbrev pub at_of : Cursor → SortKey
+at_of c = c.at
 
 -- The change number when the seek ended.
-abbrev pub turn_of : Cursor → ℕ
-turn_of c = c.turn
+abbrev pub changes_of : Cursor → ℕ
+changes_of c = c.changes
 
 -- The place of the node before the place sought.
 abbrev pub pred_of : Cursor → ℕ
@@ -26,22 +28,22 @@ abbrev pub noted : Option NodeAt → Option Noted
 noted None = None
 noted (Some n) = Some (record { place = n.place; stamp = n.stamp })
 
--- The node, if there is one, is unmarked and not below the split key.
-abbrev pub IsBeyond : Option NodeAt → ℕ → Type 0
-IsBeyond None split = Unit {0}
-IsBeyond (Some n) split = (n.marked ≡ false) × IsNotBelow n split
+-- The node, if there is one, is unmarked and not below the sort key.
+abbrev pub IsBeyond : Option NodeAt → SortKey → Type 0
+IsBeyond None at = Unit {0}
+IsBeyond (Some n) at = (n.marked ≡ false) × IsNotBelow n at
 
--- The cursor notes an unmarked node below its split key and the node behind that, which is
+-- The cursor notes an unmarked node below its sort key and the node behind that, which is
 -- unmarked and not below it.
 pub record IsFound (l : Listing) (c : Cursor) : Type 0 where
   pub pred : NodeAt
   pub pred_is : node_of l.nodes (pred_of c) ≡ Some pred
   pub pred_noted : pred.stamp ≡ c.pred.stamp
   pub unmarked : pred.marked ≡ false
-  pub below : IsBelow pred (split_of c)
+  pub below : IsBelow pred (at_of c)
   pub cur_noted : noted (behind l c) ≡ c.cur
-  pub beyond : IsBeyond (behind l c) (split_of c)
-  pub turn : turn_of c ≡ l.turn
+  pub beyond : IsBeyond (behind l c) (at_of c)
+  pub changes : changes_of c ≡ l.changes
 
 -- There is a node, with this stamp and unmarked.
 abbrev pub is_noted : Option NodeAt → ℕ → Bool
@@ -61,31 +63,31 @@ unfoldable pub fits : Listing → Cursor → Bool
 fits l c = is_noted (node_of l.nodes (pred_of c)) c.pred.stamp && is_next_noted (behind l c) c.cur
 
 -- A cursor that was placed on the list, at any time: a linked node with a noted stamp is the noted one, so
--- the first is below the split key and the second is not, and the cursor fits where nothing changed since.
+-- the first is below the sort key and the second is not, and the cursor fits where nothing changed since.
 -- Each step on the list keeps it.
 pub record IsPlaced (l : Listing) (c : Cursor) : Type 0 where
   pub pred_known : c.pred.stamp ≤ l.last
   pub pred_apart : (place : ℕ) → out_at l place ≢ Some c.pred.stamp
-  pub below : (n : NodeAt) → node_of l.nodes (pred_of c) ≡ Some n → n.stamp ≡ c.pred.stamp → IsBelow n (split_of c)
+  pub below : (n : NodeAt) → node_of l.nodes (pred_of c) ≡ Some n → n.stamp ≡ c.pred.stamp → IsBelow n (at_of c)
   pub cur_known : (cur : Noted) → c.cur ≡ Some cur → cur.stamp ≤ l.last
   pub cur_apart : (cur : Noted) (place : ℕ) → c.cur ≡ Some cur → out_at l place ≢ Some cur.stamp
-  pub beyond : (m : NodeAt) (cur : Noted) → c.cur ≡ Some cur → node_of l.nodes cur.place ≡ Some m → m.stamp ≡ cur.stamp → IsNotBelow m (split_of c)
-  pub turn_known : min (turn_of c) (2 ^ 64 - 1) ≤ l.turn
-  pub held : l.turn ≡ turn_of c → l.turn < 2 ^ 64 - 1 → fits l c ≡ true
+  pub beyond : (m : NodeAt) (cur : Noted) → c.cur ≡ Some cur → node_of l.nodes cur.place ≡ Some m → m.stamp ≡ cur.stamp → IsNotBelow m (at_of c)
+  pub changes_known : min (changes_of c) (2 ^ 64 - 1) ≤ l.changes
+  pub held : l.changes ≡ changes_of c → l.changes < 2 ^ 64 - 1 → fits l c ≡ true
 
--- The node, if it has the split key.
-abbrev pub with_split : Option NodeAt → ℕ → Option NodeAt
-with_split None split = None
-with_split (Some n) split = if n.split == split then Some n else None
+-- The node, if it has the sort key.
+abbrev pub with_key : Option NodeAt → SortKey → Option NodeAt
+with_key None at = None
+with_key (Some n) at = if is_same n.at at then Some n else None
 
--- The node of the split key sought, if it stands where the cursor is.
+-- The node of the sort key sought, if it stands where the cursor is.
 abbrev pub node_there : Listing → Cursor → Option NodeAt
-node_there l c = with_split (behind l c) (split_of c)
+node_there l c = with_key (behind l c) (at_of c)
 
--- Where the cursor fits, no node has its split key.
+-- Where the cursor fits, no node has its sort key.
 abbrev pub IsRoomFor : Listing → Cursor → Type 0
 IsRoomFor l c = fits l c ≡ true → node_there l c ≡ None
 
--- Where the cursor fits, a regular node has its split key.
+-- Where the cursor fits, a regular node has its sort key.
 abbrev pub IsKeyThere : Listing → Cursor → Type 0
 IsKeyThere l c = fits l c ≡ true → IsSomeAnd (node_there l c) (λ n. IsTrue (is_regular n.kind))

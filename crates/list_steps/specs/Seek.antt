@@ -1,44 +1,42 @@
 -- What a seek does to the nodes.
-use Rattle.std.specs.Prelude.{◌≡◌, ℕ, ◌<◌, ◌≤◌, List, [], ◌∷◌, Some, Bool, false, ◌==◌, nat_lt, if◌then◌else◌}
+use Rattle.std.specs.Prelude.{◌≡◌, ℕ, List, [], ◌∷◌, Some, false, ◌==◌, if◌then◌else◌}
+use Rattle.split_key.specs.declared.sort.SortKey.{SortKey}
+use Rattle.split_key.specs.Sort.{is_before, IsBefore, IsNotBefore}
 use Rattle.node_list.specs.declared.node.Kind.TheVariants.{Dummy}
 use Rattle.node_list.specs.Nodes.{NodeAt, Listing, node_of, out_at}
 
--- The node is before the place of the split key.
-abbrev pub IsBelow : NodeAt → ℕ → Type 0
-IsBelow n split = n.split < split
+-- The node is before the place of the sort key.
+abbrev pub IsBelow : NodeAt → SortKey → Type 0
+IsBelow n at = IsBefore n.at at
 
--- The node is at the place of the split key, or behind it.
-abbrev pub IsNotBelow : NodeAt → ℕ → Type 0
-IsNotBelow n split = split ≤ n.split
+-- The node is at the place of the sort key, or behind it.
+abbrev pub IsNotBelow : NodeAt → SortKey → Type 0
+IsNotBelow n at = IsNotBefore n.at at
 
--- Whether the node is before the place of the split key.
-abbrev pub is_below : NodeAt → ℕ → Bool
-is_below n split = nat_lt n.split split
+-- These nodes without the marked ones before the first unmarked one that is not below the sort key.
+unfoldable pub cleaned : SortKey → List NodeAt → List NodeAt
+cleaned at [] = []
+cleaned at (n ∷ rest) =
+    if n.marked then cleaned at rest else (if is_before n.at at then n ∷ cleaned at rest else n ∷ rest)
 
--- These nodes without the marked ones before the first unmarked one that is not below the split key.
-unfoldable pub cleaned : ℕ → List NodeAt → List NodeAt
-cleaned split [] = []
-cleaned split (n ∷ rest) =
-    if n.marked then cleaned split rest else (if is_below n split then n ∷ cleaned split rest else n ∷ rest)
+-- The nodes after a seek of the sort key from a place.
+unfoldable pub sought : List NodeAt → ℕ → SortKey → List NodeAt
+sought [] from at = []
+sought (n ∷ rest) from at = if n.place == from then n ∷ cleaned at rest else n ∷ sought rest from at
 
--- The nodes after a seek of the split key from a place.
-unfoldable pub sought : List NodeAt → ℕ → ℕ → List NodeAt
-sought [] from split = []
-sought (n ∷ rest) from split = if n.place == from then n ∷ cleaned split rest else n ∷ sought rest from split
-
--- A dummy before the place of the split key is linked here.
-pub record IsStart (nodes : List NodeAt) (place split : ℕ) : Type 0 where
+-- A dummy before the place of the sort key is linked here.
+pub record IsStart (nodes : List NodeAt) (place : ℕ) (at : SortKey) : Type 0 where
   pub node : NodeAt
   pub is : node_of nodes place ≡ Some node
   pub dummy : node.kind ≡ Dummy
-  pub below : IsBelow node split
+  pub below : IsBelow node at
 
--- An unmarked node before the place of the split key is linked here.
-pub record IsPred (nodes : List NodeAt) (place split : ℕ) : Type 0 where
+-- An unmarked node before the place of the sort key is linked here.
+pub record IsPred (nodes : List NodeAt) (place : ℕ) (at : SortKey) : Type 0 where
   pub node : NodeAt
   pub is : node_of nodes place ≡ Some node
   pub unmarked : node.marked ≡ false
-  pub below : IsBelow node split
+  pub below : IsBelow node at
 
 -- All but the nodes and the change number is as it was.
 pub record KeepsRest (old new : Listing) : Type 0 where

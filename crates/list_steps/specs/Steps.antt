@@ -7,21 +7,21 @@ use Rattle.list_steps.specs.declared.cursor.Cursor.{Cursor}
 use Rattle.list_steps.specs.declared.sweeps.SweepOutcome.{SweepOutcome}
 use Rattle.list_steps.specs.declared.sweeps.SweepOutcome.TheVariants.{Swept, Clean}
 use Rattle.list_steps.specs.Content.{pairs, pair_of, Replaces}
-use Rattle.list_steps.specs.Found.{split_of, pred_of, node_there}
+use Rattle.list_steps.specs.Found.{at_of, pred_of, node_there}
 
--- At the place is the node of the split key sought, unmarked, and its pair is in the content if it is regular.
+-- At the place is the node of the sort key sought, unmarked, and its pair is in the content if it is regular.
 pub record IsThere (l : Listing) (c : Cursor) (place : ℕ) : Type 0 where
   pub node : NodeAt
   pub there : node_there l c ≡ Some node
   pub is : node_of l.nodes place ≡ Some node
-  pub split : node.split ≡ split_of c
+  pub at : node.at ≡ at_of c
   pub unmarked : node.marked ≡ false
-  pub content : (key : ℕ) → node.kind ≡ Regular key → Contains (pairs l.nodes) (key, node.value)
+  pub content : node.kind ≡ Regular → Contains (pairs l.nodes) (node.at.key, node.value)
 
--- No linked node has the split key sought.
+-- No linked node has the sort key sought.
 pub record IsAbsent (l : Listing) (c : Cursor) : Type 0 where
   pub none : node_there l c ≡ None
-  pub others : AllByRecursion (λ n. n.split ≢ split_of c) l.nodes
+  pub others : AllByRecursion (λ n. n.at ≢ at_of c) l.nodes
 
 -- What a look finds.
 abbrev pub Finds : Listing → Cursor → Option ℕ → Type 0
@@ -34,25 +34,23 @@ pub record Links (old new : Listing) (c : Cursor) (node : NodeAt) : Type 0 where
   pub linked : node_of new.nodes node.place ≡ Some node
   pub content : Replaces (pairs old.nodes) (pairs new.nodes) [] (pair_of node)
 
--- The node of the split key sought, which had this value, is marked.
+-- The node of the sort key sought, which had this value, is marked.
 pub record Marks (old new : Listing) (c : Cursor) (value : ℕ) : Type 0 where
   pub node : NodeAt
-  pub key : ℕ
   pub there : node_there old c ≡ Some node
-  pub regular : node.kind ≡ Regular key
+  pub regular : node.kind ≡ Regular
   pub value_is : node.value ≡ value
   pub becomes : Becomes old new (marked_at old.nodes node.place)
-  pub content : Replaces (pairs old.nodes) (pairs new.nodes) ((key, value) ∷ []) []
+  pub content : Replaces (pairs old.nodes) (pairs new.nodes) ((node.at.key, value) ∷ []) []
 
--- The node of the split key sought, which had the first value, has the second.
+-- The node of the sort key sought, which had the first value, has the second.
 pub record Swaps (old new : Listing) (c : Cursor) (was now : ℕ) : Type 0 where
   pub node : NodeAt
-  pub key : ℕ
   pub there : node_there old c ≡ Some node
-  pub regular : node.kind ≡ Regular key
+  pub regular : node.kind ≡ Regular
   pub value_is : node.value ≡ was
   pub becomes : Becomes old new (written_at old.nodes node.place now)
-  pub content : Replaces (pairs old.nodes) (pairs new.nodes) ((key, was) ∷ []) ((key, now) ∷ [])
+  pub content : Replaces (pairs old.nodes) (pairs new.nodes) ((node.at.key, was) ∷ []) ((node.at.key, now) ∷ [])
 
 -- The nodes without the first marked one.
 unfoldable pub without_first_marked : List NodeAt → List NodeAt

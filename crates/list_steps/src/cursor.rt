@@ -5,6 +5,7 @@ ghost use Rattle.node_list.specs.Sound.{IsSound};
 ghost use Rattle.list_steps.specs.Text.{again_text};
 
 use node_list::{Node, NodeList, NodeRef};
+use split_key::SortKey;
 use std::fmt;
 use std::fmt::Display;
 
@@ -15,7 +16,7 @@ pub struct Noted {
     pub(crate) stamp: u64,
 }
 
-/// Where a split key belongs in a list, as a seek found it.
+/// Where a sort key belongs in a list, as a seek found it.
 ///
 /// It is plain data: the list may change while it is kept, and the step that is handed the cursor
 /// tests whether it still fits.
@@ -23,8 +24,8 @@ pub struct Noted {
 pub struct Cursor {
     pub(crate) pred: Noted,
     pub(crate) cur: Option<Noted>,
-    pub(crate) split: u64,
-    pub(crate) turn: u64,
+    pub(crate) at: SortKey,
+    pub(crate) changes: u64,
 }
 
 /// The cursor does not fit: the list is not as it noted it. Nothing was changed; seek again. It is
@@ -75,22 +76,22 @@ fn is_unmarked_with(node: &Node, stamp: u64) -> bool
 
 impl Cursor {
     ghost use Rattle.list_steps.specs.Seek.{IsPred};
-    ghost use Rattle.list_steps.specs.Found.{IsBeyond, IsFound, IsPlaced, behind, fits, is_next_noted, pred_of, split_of};
+    ghost use Rattle.list_steps.specs.Found.{IsBeyond, IsFound, IsPlaced, behind, fits, is_next_noted, pred_of, at_of};
 
-    /// The cursor of a split key, which belongs behind this place.
-    pub(crate) fn behind(list: &NodeList, place: NodeRef, split: u64) -> Cursor
-        requires pred { IsPred list.now.nodes place split }
-        requires beyond { IsBeyond (next_of list.now.nodes place) split }
+    /// The cursor of a sort key, which belongs behind this place.
+    pub(crate) fn behind(list: &NodeList, place: NodeRef, at: SortKey) -> Cursor
+        requires pred { IsPred list.now.nodes place at }
+        requires beyond { IsBeyond (next_of list.now.nodes place) at }
         ensures found { IsFound list.now result }
         ensures placed { IsPlaced list.now result }
         ensures fits { fits list.now result ≡ true }
-        ensures split { split_of result ≡ split }
+        ensures at { at_of result ≡ at }
     {
         Cursor {
             pred: Noted::of(list, place),
             cur: Noted::behind(list, place),
-            split,
-            turn: list.turn(),
+            at,
+            changes: list.changes(),
         }
     }
 

@@ -7,11 +7,11 @@
 //! itself sees.
 //!
 //! ```text
-//! dummy 0 -> key 4 -> key 2 -> end      a cursor of key 2's split key: pred is key 4, cur is key 2
+//! dummy 0 -> key 4 -> key 2 -> end      a cursor of key 2's sort key: pred is key 4, cur is key 2
 //! ```
 //!
-//! A `Cursor` notes `pred`, the last unmarked node below the split key sought; `cur`, the first
-//! unmarked one not below it, or the end; their stamps; the split key; and the list's change number.
+//! A `Cursor` notes `pred`, the last unmarked node below the sort key sought; `cur`, the first
+//! unmarked one not below it, or the end; their stamps; the sort key; and the list's change number.
 //! It *fits* where `pred` is a linked, unmarked node with its noted stamp, the node behind it is the
 //! noted `cur`, and that is unmarked with its noted stamp. A step at a cursor that does not fit
 //! answers `Again`, changes nothing and hands back what it was given; at one that fits it never

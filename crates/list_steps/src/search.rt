@@ -1,29 +1,32 @@
 //! The seek of a place.
-ghost use Rattle.std.specs.Prelude.{◌≡◌, true};
-ghost use Rattle.node_list.specs.Nodes.{Listing};
+ghost use Rattle.std.specs.Prelude.{◌≡◌, ◌-◌, length, true};
+ghost use Rattle.node_list.specs.Nodes.{changes_after};
 ghost use Rattle.node_list.specs.Follow.{Follows};
 ghost use Rattle.list_steps.specs.Content.{pairs};
-ghost use Rattle.list_steps.specs.Found.{IsFound, IsPlaced, fits, split_of};
+ghost use Rattle.list_steps.specs.Found.{IsFound, IsPlaced, fits, at_of};
 ghost use Rattle.list_steps.specs.Seek.{IsStart, KeepsRest, sought};
 
 use crate::cursor::Cursor;
 use node_list::{NodeList, NodeRef};
+use split_key::SortKey;
 
-/// Seeks the place of a split key from a dummy before it, and unlinks the marked nodes that it
-/// passes: all between its start and the first unmarked node that is not below the split key.
+/// Seeks the place of a sort key from a dummy before it, and unlinks the marked nodes that it
+/// passes: all between its start and the first unmarked node that is not below the sort key.
 ///
-/// The cursor fits the list as the seek leaves it. The content stays as it was, and so do the
-/// spares that are out. Takes no memory. Each node from the start to the place is visited once
+/// The cursor fits the list as the seek leaves it. The change number grows by the number of nodes
+/// that are unlinked. The content stays as it was, and so do the spares that are out. Takes no memory. Each node from the start to the place is visited once
 /// (the search of Harris, DISC 2001, which unlinks marked nodes).
-pub fn seek(list: &mut NodeList, from: NodeRef, split: u64) -> Cursor
-    requires { IsStart list.old.nodes from split }
-    ensures nodes { list.new.nodes ≡ sought list.old.nodes from split }
+pub fn seek(list: &mut NodeList, from: NodeRef, at: SortKey) -> Cursor
+    requires { IsStart list.old.nodes from at }
+    ensures nodes { list.new.nodes ≡ sought list.old.nodes from at }
+    ensures changes { list.new.changes ≡
+        changes_after list.old.changes (length list.old.nodes - length list.new.nodes) }
     ensures kept { KeepsRest list.old list.new }
     ensures content { pairs list.new.nodes ≡ pairs list.old.nodes }
     ensures found { IsFound list.new result }
     ensures placed { IsPlaced list.new result }
     ensures fits { fits list.new result ≡ true }
-    ensures split { split_of result ≡ split }
+    ensures at { at_of result ≡ at }
     ensures follows { Follows list.old list.new }
 {
     let mut place = from;
@@ -31,11 +34,11 @@ pub fn seek(list: &mut NodeList, from: NodeRef, split: u64) -> Cursor
         let node = list.node(next);
         if node.marked {
             list.unlink_after(place);
-        } else if node.split < split {
+        } else if node.at.is_before(at) {
             place = next;
         } else {
-            return Cursor::behind(list, place, split);
+            return Cursor::behind(list, place, at);
         }
     }
-    Cursor::behind(list, place, split)
+    Cursor::behind(list, place, at)
 }

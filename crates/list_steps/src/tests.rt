@@ -1,59 +1,64 @@
 //! Worked runs of steps.
-ghost use Rattle.std.specs.Prelude.{◌≡◌, ℕ, ◌<◌, IfOk, IsTrue};
+ghost use Rattle.std.specs.Prelude.{◌≡◌, ℕ, IfOk, IsTrue};
+ghost use Rattle.split_key.specs.Sort.{IsBefore, dummy_at};
 ghost use Rattle.node_list.specs.Nodes.{IsOut, out_at};
 ghost use Rattle.node_list.specs.Follow.{Follows};
-ghost use Rattle.list_steps.specs.Found.{IsKeyThere, IsPlaced, split_of};
+ghost use Rattle.list_steps.specs.Found.{IsKeyThere, IsPlaced, at_of};
 
 use crate::{Again, Cursor, SweepOutcome, link, look, mark, seek, swap, sweep};
 use node_list::{Kind, NodeList, Spare, SpareFault};
+use split_key::{BadKey, Key, SortKey};
 use std::test::Fail;
 
-/// The split keys of keys 2 and 4.
-const KEY_2: u64 = 0x4000_0000_0000_0001;
-
-const KEY_4: u64 = 0x2000_0000_0000_0001;
+/// Where the node of a key stands.
+fn at(number: u64) -> Result<SortKey, BadKey>
+    ensures { IfOk result (IsBefore (dummy_at 0)) }
+{
+    let key = Key::new(number)?;
+    Ok(SortKey::regular(key))
+}
 
 /// A spare that is filled as a regular node.
-fn regular_spare(list: &mut NodeList, split: u64, key: u64, value: u64) -> Result<Spare, SpareFault>
+fn regular_spare(list: &mut NodeList, at: SortKey, value: u64) -> Result<Spare, SpareFault>
     ensures out { IfOk result (IsOut list.new) }
-    ensures split { IfOk result (λ spare. spare.split ≡ split) }
+    ensures at { IfOk result (λ spare. spare.at ≡ at) }
     ensures follows { Follows list.old list.new }
 {
     let mut spare = list.spare()?;
-    spare.fill(split, Kind::Regular(key), value);
+    spare.fill(at, Kind::Regular, value);
     Ok(spare)
 }
 
 /// Seeks from the dummy of bucket 0.
-fn seek_from_head(list: &mut NodeList, split: u64) -> Cursor
-    requires { 0 < split }
+fn seek_from_head(list: &mut NodeList, at: SortKey) -> Cursor
+    requires { IsBefore (dummy_at 0) at }
     ensures placed { IsPlaced list.new result }
-    ensures split { split_of result ≡ split }
+    ensures at { at_of result ≡ at }
     ensures out { (place : ℕ) → out_at list.new place ≡ out_at list.old place }
     ensures follows { Follows list.old list.new }
 {
     let head = list.head();
-    seek(list, head, split)
+    seek(list, head, at)
 }
 
-/// Whether a regular node of the split key sought is there.
+/// Whether a regular node of the sort key sought is there.
 fn is_key_there(list: &NodeList, cursor: &Cursor) -> bool
     requires { IsPlaced list.now cursor.now }
     ensures { IsTrue result → IsKeyThere list.now cursor.now }
 {
     match look(list, cursor) {
-        Ok(Some(node)) => matches!(list.node(node).kind, Kind::Regular(_)),
+        Ok(Some(node)) => matches!(list.node(node).kind, Kind::Regular),
         _ => false,
     }
 }
 
-/// What the first four nodes stand for.
-fn kinds(list: &NodeList) -> [Option<Kind>; 4] {
+/// What the first four nodes stand for, each with its key.
+fn kinds(list: &NodeList) -> [Option<(Kind, u64)>; 4] {
     let mut kinds = [None; 4];
     let mut next = Some(list.head());
     for kind in kinds.iter_mut() {
         let node = next.and_then(|place| list.linked_node(place));
-        *kind = node.map(|node| node.kind);
+        *kind = node.map(|node| (node.kind, node.at.key()));
         next = node.and_then(|node| node.next);
     }
     kinds
@@ -61,15 +66,16 @@ fn kinds(list: &NodeList) -> [Option<Kind>; 4] {
 
 #[test]
 fn list_steps_in_order(rt: HostRuntime) -> Result<(), Fail> {
+    let (at_two, at_four) = (at(2)?, at(4)?);
     let mut list = NodeList::new(rt.alloc(), 0)?;
-    let early = seek_from_head(&mut list, KEY_2);
-    let late = seek_from_head(&mut list, KEY_4);
+    let early = seek_from_head(&mut list, at_two);
+    let late = seek_from_head(&mut list, at_four);
 
-    let spare = regular_spare(&mut list, KEY_4, 4, 40)?;
+    let spare = regular_spare(&mut list, at_four, 40)?;
     assert_eq!(rt; look(&list, &late), Ok(None));
     let four = link(&mut list, late, spare).map_err(|_| "key 4")?;
 
-    let spare = regular_spare(&mut list, KEY_2, 2, 20)?;
+    let spare = regular_spare(&mut list, at_two, 20)?;
     let stamp = spare.stamp();
     assert_eq!(rt; look(&list, &early), Err(Again));
     let Err((Again, spare)) = link(&mut list, early, spare) else {
@@ -77,7 +83,7 @@ fn list_steps_in_order(rt: HostRuntime) -> Result<(), Fail> {
     };
     assert_eq!(rt; spare.stamp(), stamp);
 
-    let cursor = seek_from_head(&mut list, KEY_2);
+    let cursor = seek_from_head(&mut list, at_two);
     assert_eq!(rt; cursor.pred.place, four);
     assert_eq!(rt; cursor.cur, None);
     assert_eq!(rt; look(&list, &cursor), Ok(None));
@@ -85,22 +91,22 @@ fn list_steps_in_order(rt: HostRuntime) -> Result<(), Fail> {
     assert_eq!(rt;
         kinds(&list),
         [
-            Some(Kind::Dummy),
-            Some(Kind::Regular(4)),
-            Some(Kind::Regular(2)),
+            Some((Kind::Dummy, 0)),
+            Some((Kind::Regular, 4)),
+            Some((Kind::Regular, 2)),
             None
         ]
     );
 
-    let cursor = seek_from_head(&mut list, KEY_4);
+    let cursor = seek_from_head(&mut list, at_four);
     assert!(rt; is_key_there(&list, &cursor));
     assert_eq!(rt; mark(&mut list, cursor), Ok(40));
     assert_eq!(rt;
         kinds(&list),
         [
-            Some(Kind::Dummy),
-            Some(Kind::Regular(4)),
-            Some(Kind::Regular(2)),
+            Some((Kind::Dummy, 0)),
+            Some((Kind::Regular, 4)),
+            Some((Kind::Regular, 2)),
             None
         ]
     );
@@ -108,21 +114,22 @@ fn list_steps_in_order(rt: HostRuntime) -> Result<(), Fail> {
     assert_eq!(rt; sweep(&mut list), SweepOutcome::Clean);
     assert_eq!(rt;
         kinds(&list),
-        [Some(Kind::Dummy), Some(Kind::Regular(2)), None, None]
+        [Some((Kind::Dummy, 0)), Some((Kind::Regular, 2)), None, None]
     );
-    assert_eq!(rt; list.turn(), 4);
+    assert_eq!(rt; list.changes(), 4);
     Ok(())
 }
 
 #[test]
 fn values_at_a_cursor(rt: HostRuntime) -> Result<(), Fail> {
+    let at_two = at(2)?;
     let mut list = NodeList::new(rt.alloc(), 0)?;
-    let cursor = seek_from_head(&mut list, KEY_2);
-    let spare = regular_spare(&mut list, KEY_2, 2, 20)?;
+    let cursor = seek_from_head(&mut list, at_two);
+    let spare = regular_spare(&mut list, at_two, 20)?;
     assert_eq!(rt; look(&list, &cursor), Ok(None));
     let two = link(&mut list, cursor, spare).map_err(|_| "key 2")?;
 
-    let cursor = seek_from_head(&mut list, KEY_2);
+    let cursor = seek_from_head(&mut list, at_two);
     assert!(rt; is_key_there(&list, &cursor));
     assert_eq!(rt; swap(&mut list, cursor, 21), Ok(20));
     let node = *list.linked_node(two).ok_or("no key 2")?;
@@ -133,11 +140,11 @@ fn values_at_a_cursor(rt: HostRuntime) -> Result<(), Fail> {
     );
     assert_eq!(rt; mark(&mut list, cursor), Ok(21));
     assert_eq!(rt; look(&list, &cursor), Err(Again));
-    let passing = seek_from_head(&mut list, u64::MAX);
+    let passing = seek_from_head(&mut list, at(0x7fff_ffff_ffff_ffff)?);
     assert_eq!(rt; passing.cur, None);
     assert_eq!(rt; passing.pred.place, list.head());
-    assert_eq!(rt; kinds(&list), [Some(Kind::Dummy), None, None, None]);
-    assert_eq!(rt; list.turn(), 4);
+    assert_eq!(rt; kinds(&list), [Some((Kind::Dummy, 0)), None, None, None]);
+    assert_eq!(rt; list.changes(), 4);
     Ok(())
 }
 

@@ -9,23 +9,24 @@ use Rattle.node_list.specs.Sound.{AllPlain}
 use Rattle.node_list.proofs.OrderLemmas.{each_linked, each_changed}
 use Rattle.list_steps.specs.Seek.{sought}
 use Rattle.list_steps.specs.Steps.{without_first_marked}
-use Rattle.split_key.specs.Split.{split}
+use Rattle.split_key.specs.declared.sort.SortKey.{SortKey}
+use Rattle.split_key.specs.Sort.{regular_at}
 use Rattle.bucket_table.specs.Directory.{Directory, limit_of}
 use Rattle.bucket_table.specs.Dummies.{IsKeyedNode, has_dummy, is_dummy_of}
 use Rattle.bucket_table.proofs.DummyLemmas.{each_sought, has_dummy-linked_after}
 use Rattle.map_ops.specs.TableAt.{linked_of, table_of}
 use Rattle.map_ops.specs.Sound.{Belong, IsEvenDummy}
 
-pub belong_sought : (nodes : List NodeAt) (from bound : ℕ) → Belong nodes → Belong (sought nodes from bound)
+pub belong_sought : (nodes : List NodeAt) (from : ℕ) (bound : SortKey) → Belong nodes → Belong (sought nodes from bound)
 belong_sought nodes from bound belong = record {
   keyed = each_sought IsKeyedNode nodes from bound belong.keyed;
   even = each_sought IsEvenDummy nodes from bound belong.even;
 }
 
-pub belong_linked : (nodes : List NodeAt) (pred : ℕ) (x : NodeAt) (key : ℕ) → Belong nodes → x.kind ≡ Regular key → key < 2 ^ 63 → x.split ≡ split key → Belong (linked_after nodes pred x)
+pub belong_linked : (nodes : List NodeAt) (pred : ℕ) (x : NodeAt) (key : ℕ) → Belong nodes → x.kind ≡ Regular → key < 2 ^ 63 → x.at ≡ regular_at key → Belong (linked_after nodes pred x)
 belong_linked nodes pred x key belong kind small place = record {
-  keyed = each_linked IsKeyedNode nodes pred x (λ other is. let same : Regular key ≡ Regular other = sym kind ∙ is in let equal : key ≡ other = cc in (subst (λ k. k < 2 ^ 63) equal small, place ∙ ap split equal)) belong.keyed;
-  even = each_linked IsEvenDummy nodes pred x (λ dummy. let both : Regular key ≡ Dummy = sym kind ∙ dummy in absurd (cc)) belong.even;
+  keyed = each_linked IsKeyedNode nodes pred x (λ is. let own : key ≡ x.at.key = sym (ap (λ (at : SortKey). at.key) place) in (subst (λ k. k < 2 ^ 63) own small, place ∙ ap regular_at own)) belong.keyed;
+  even = each_linked IsEvenDummy nodes pred x (λ dummy. let both : Regular ≡ Dummy = sym kind ∙ dummy in absurd (cc)) belong.even;
 }
 
 pub belong_marked : (nodes : List NodeAt) (place : ℕ) → Belong nodes → Belong (marked_at nodes place)
@@ -74,11 +75,11 @@ has_dummy-marked nodes place bucket = has_dummy-changed_at nodes place (λ n. re
 pub has_dummy-written : (nodes : List NodeAt) (place value bucket : ℕ) → has_dummy (written_at nodes place value) bucket ≡ has_dummy nodes bucket
 has_dummy-written nodes place value bucket = has_dummy-changed_at nodes place (λ n. record n { value = value }) bucket (λ n. refl)
 
-regular_no_dummy : (x : NodeAt) (key bucket : ℕ) → x.kind ≡ Regular key → is_dummy_of bucket x ≡ false
-regular_no_dummy x key bucket kind = rw kind refl
+regular_no_dummy : (x : NodeAt) (bucket : ℕ) → x.kind ≡ Regular → is_dummy_of bucket x ≡ false
+regular_no_dummy x bucket kind = rw kind refl
 
-pub has_dummy-regular : (nodes : List NodeAt) (pred : ℕ) (x : NodeAt) (key bucket : ℕ) → IsLinked nodes pred → x.kind ≡ Regular key → has_dummy (linked_after nodes pred x) bucket ≡ has_dummy nodes bucket
-has_dummy-regular nodes pred x key bucket linked kind = has_dummy-linked_after nodes pred x bucket linked ∙ ap (λ b. b || has_dummy nodes bucket) (regular_no_dummy x key bucket kind)
+pub has_dummy-regular : (nodes : List NodeAt) (pred : ℕ) (x : NodeAt) (bucket : ℕ) → IsLinked nodes pred → x.kind ≡ Regular → has_dummy (linked_after nodes pred x) bucket ≡ has_dummy nodes bucket
+has_dummy-regular nodes pred x bucket linked kind = has_dummy-linked_after nodes pred x bucket linked ∙ ap (λ b. b || has_dummy nodes bucket) (regular_no_dummy x bucket kind)
 
 pub has_dummy-swept : (nodes : List NodeAt) (bucket : ℕ) → AllPlain nodes → has_dummy (without_first_marked nodes) bucket ≡ has_dummy nodes bucket
 unfolding has_dummy without_first_marked
@@ -90,7 +91,7 @@ has_dummy-swept (n ∷ rest) bucket plain = elim (either n.marked) [
   where
     marked_no_dummy : (kind : Kind) → n.kind ≡ kind → n.marked ≡ true → is_dummy_of bucket n ≡ false
     marked_no_dummy Dummy is marked = absurd (cc (plain.0 is))
-    marked_no_dummy (Regular key) is marked = regular_no_dummy n key bucket is
+    marked_no_dummy Regular is marked = regular_no_dummy n bucket is
 
 -- Where the same dummies are linked, the buckets have the same linked dummies.
 pub linked_same : (old new : Listing) (buckets : Directory) → ((bucket : ℕ) → has_dummy new.nodes bucket ≡ has_dummy old.nodes bucket) → linked_of (table_of new buckets) ≡ linked_of (table_of old buckets)

@@ -1,32 +1,31 @@
 -- The buckets of a table, as the words of its contracts say them.
-use Prim.Native.Nat.{zero, suc}
-use Rattle.std.proofs.Common.{◌≡◌, ◌≢◌, ℕ, ◌+◌, ◌-◌, ◌<◌, ◌≤◌, ◌^◌, ◌==◌, ◌||◌, inl, inr, List, [], ◌∷◌, Option, Some, None, Bool, true, false, not, map, length, refl, sym, ◌∙◌, ap, subst, arith, get_or, slice_index_or, slice_set, replicate, if◌then◌else◌}
-use Rattle.std.specs.Prelude.{Result, Ok, Err, is_some, is_none, nat_le}
+use Rattle.std.proofs.Common.{◌≡◌, ◌≢◌, ℕ, ◌+◌, ◌-◌, ◌<◌, ◌≤◌, ◌^◌, ◌==◌, ◌||◌, inl, inr, List, Option, Some, None, Bool, true, false, not, map, length, refl, sym, ◌∙◌, ap, subst, arith, get_or, slice_index_or, slice_set, if◌then◌else◌}
+use Rattle.std.specs.Prelude.{Result, Ok, Err, is_some}
 use Rattle.std.specs.List.{slice_get, range_with_len}
 use Rattle.std.specs.Option.{option_map}
 use Rattle.std.proofs.lemmas.Bool.{cases_eq, eq-eqb, ne_eqb}
 use Rattle.std.proofs.lemmas.Option.{slice_get-map, slice_get_within, slice_get-get_or}
-use Rattle.std.proofs.lemmas.List.{map-set, length-set, length-replicate, ext_get_or, get_or-set_same, get_or-set_other}
+use Rattle.std.proofs.lemmas.List.{map-set, length-set, ext_get_or, get_or-set_same, get_or-set_other}
 use Rattle.std.proofs.lemmas.List.FromFn.{get_or-map-range_with_len, length-map-range_with_len}
 use Rattle.std.proofs.Math.ListN as lists
-use Rattle.node_list.specs.Nodes.{NodeAt, Listing, first_dummy, out_at}
+use Rattle.node_list.specs.Nodes.{NodeAt, Listing, out_at}
 use Rattle.node_list.specs.Sound.{IsSound}
 use Rattle.list_steps.specs.Content.{pairs}
-use Rattle.list_steps.specs.Found.{fits, pred_of, turn_of}
+use Rattle.list_steps.specs.Found.{changes_of, fits, pred_of}
 use Rattle.list_steps.proofs.CursorLemmas.{found_fits}
-use Rattle.split_key.specs.Split.{parent_of, reversed, reversed_low}
-use Rattle.split_key.proofs.SplitLemmas.{reversed_even, same_from_reversed}
+use Rattle.split_key.specs.Sort.{dummy_at}
+use Rattle.split_key.proofs.SplitLemmas.{reversed_even}
 use Rattle.bucket_table.specs.declared.answer.InitSeek.{InitSeek}
 use Rattle.bucket_table.specs.declared.answer.InitSeek.TheVariants.{Ready, Placed}
 use Rattle.bucket_table.specs.declared.answer.InitLink.{InitLink}
 use Rattle.bucket_table.specs.declared.answer.InitLink.TheVariants.{Again, Present, Linked}
 use Rattle.bucket_table.specs.declared.answer.InitRefusal.{InitRefusal}
-use Rattle.bucket_table.specs.declared.answer.InitRefusal.TheVariants.{NoSuchBucket, ParentMissing, NoSuchHelper, NoMemory, StampsUsedUp}
+use Rattle.bucket_table.specs.declared.answer.InitRefusal.TheVariants.{NoSuchHelper, NoMemory, StampsUsedUp}
 use Rattle.bucket_table.specs.declared.answer.Double.{Double}
 use Rattle.bucket_table.specs.declared.answer.Double.TheVariants.{Moved, AtLimit, Light, Doubled}
 use Rattle.bucket_table.specs.declared.helper.Helper.{Helper}
 use Rattle.bucket_table.specs.declared.helper.Helper.TheVariants.{Idle, Seeking, Holding}
-use Rattle.bucket_table.specs.Directory.{Directory, IsInOrder, limit_of, helper_of, with_helper, with_dummy, with_size}
+use Rattle.bucket_table.specs.Directory.{Directory, IsInOrder, limit_of, helper_of, with_helper}
 use Rattle.bucket_table.specs.Directory as directories
 use Rattle.bucket_table.specs.Answers as buckets
 use Rattle.bucket_table.specs.Changes as buckets_changes
@@ -40,7 +39,8 @@ use Rattle.list_steps.specs.declared.sweeps.SweepOutcome.{SweepOutcome}
 use Rattle.list_steps.specs.declared.sweeps.SweepOutcome.TheVariants.{Swept, Clean}
 use Rattle.list_steps.specs.Steps as steps
 use Rattle.map_ops.specs.Sound.{AllEven, Belong, IsEvenDummy}
-use Rattle.map_ops.specs.TableAt.{Help, Nothing, Sought, Dummy, help_of, linked_of, map_of, table_of, IsNew, Keeps, cursor_fits}
+use Rattle.bucket_table.specs.Helpers.{cursor_fits, help_at}
+use Rattle.map_ops.specs.TableAt.{Help, Nothing, Sought, Dummy, help_of, linked_of, table_of, Keeps}
 use Rattle.map_ops.specs.Buckets.{Doubles, Helps, Holds, Links, LinkChanges, SeekChanges, Seeks, Stores, StoreChanges, helper_fits, seek_answer, link_answer, store_answer}
 use Rattle.map_ops.proofs.BelongLemmas.{belong_swept, has_dummy-swept, linked_same}
 use Rattle.map_ops.proofs.KeepLemmas.{same_buckets}
@@ -49,30 +49,12 @@ stored_at : (entries : List (Option ℕ)) (bucket : ℕ) → slice_index_or (map
 stored_at entries bucket = lists.get_or-map is_some entries bucket None
 
 -- What a seek is answered.
-pub seek_answers : (d : Directory) (helper bucket : ℕ) → buckets.seek_answer d helper bucket ≡ seek_answer d.size (map is_some d.entries) (slice_get (map help_of d.helpers) helper) bucket
-seek_answers d helper bucket =
-    go (helper_of d helper) ∙ ap (λ (o : Option Help). seek_answer d.size (map is_some d.entries) o bucket) (sym (slice_get-map help_of d.helpers helper))
-  where
-    go : (o : Option Helper) → (if is_none o then Err NoSuchHelper
-        else (if nat_le d.size bucket then Err NoSuchBucket
-        else (if directories.is_stored d bucket then Ok Ready
-        else (if directories.is_stored d (parent_of bucket) then Ok Placed
-        else Err ParentMissing)))) ≡ seek_answer d.size (map is_some d.entries) (option_map help_of o) bucket
-    go None = refl
-    go (Some had) = λ i. if nat_le d.size bucket then Err NoSuchBucket
-        else (if sym (stored_at d.entries bucket) i then Ok Ready
-        else (if sym (stored_at d.entries (parent_of bucket)) i then Ok Placed
-        else Err ParentMissing))
+pub seek_answers : (d : Directory) (helper bucket : ℕ) → buckets.seek_answer d.size (directories.is_stored d) (help_at d helper) bucket ≡ seek_answer d.size (map is_some d.entries) (slice_get (map help_of d.helpers) helper) bucket
+seek_answers d helper bucket = λ i. buckets.seek_answer d.size (λ b. sym (stored_at d.entries b) i) (sym (slice_get-map help_of d.helpers helper) i) bucket
 
 -- What a store is answered.
-pub store_answers : (d : Directory) (helper : ℕ) → buckets.store_answer d helper ≡ store_answer (slice_get (map help_of d.helpers) helper)
-store_answers d helper = go (helper_of d helper) ∙ ap store_answer (sym (slice_get-map help_of d.helpers helper))
-  where
-    go : (o : Option Helper) → buckets.store_answer_of o ≡ store_answer (option_map help_of o)
-    go None = refl
-    go (Some Idle) = refl
-    go (Some (Seeking bucket cursor)) = refl
-    go (Some (Holding bucket dummy)) = refl
+pub store_answers : (d : Directory) (helper : ℕ) → store_answer (help_at d helper) ≡ store_answer (slice_get (map help_of d.helpers) helper)
+store_answers d helper = ap store_answer (sym (slice_get-map help_of d.helpers helper))
 
 linked_at : (nodes : List NodeAt) (limit bucket : ℕ) → bucket < limit → slice_index_or (map (has_dummy nodes) (range_with_len 0 limit)) bucket false ≡ has_dummy nodes bucket
 linked_at nodes limit bucket within = get_or-map-range_with_len (has_dummy nodes) 0 limit bucket bucket false within (omega arith)
@@ -81,21 +63,17 @@ within_limit : (d : Directory) (helper bucket : ℕ) (had : Helper) → director
 within_limit d helper bucket had sound is below = let order = helper_found (IsInOrder d) d.helpers helper had sound.helpers is in let small : bucket < d.size = below order in omega (arith, small, sound.most)
 
 -- What a link is answered.
-pub link_answers : (l : Listing) (d : Directory) (helper : ℕ) → directories.IsSound d → buckets.link_answer d l helper ≡ link_answer (helper_fits (table_of l d) helper) (linked_of (table_of l d)) l.last (slice_get (map help_of d.helpers) helper)
+pub link_answers : (l : Listing) (d : Directory) (helper : ℕ) → directories.IsSound d → buckets.link_answer_at d l helper ≡ link_answer (helper_fits (table_of l d) helper) (linked_of (table_of l d)) l.last (slice_get (map help_of d.helpers) helper)
 link_answers l d helper sound =
     go (helper_of d helper) refl ∙ ap (link_answer (helper_fits (table_of l d) helper) (linked_of (table_of l d)) l.last) (sym (slice_get-map help_of d.helpers helper))
   where
-    go : (o : Option Helper) → helper_of d helper ≡ o → buckets.link_answer_of l o ≡ link_answer (helper_fits (table_of l d) helper) (linked_of (table_of l d)) l.last (option_map help_of o)
+    go : (o : Option Helper) → helper_of d helper ≡ o → buckets.link_answer (cursor_fits l (helper_of d helper)) (has_dummy l.nodes) l.last (option_map help_of o) ≡ link_answer (helper_fits (table_of l d) helper) (linked_of (table_of l d)) l.last (option_map help_of o)
     go None is = refl
     go (Some Idle) is = refl
     go (Some (Holding bucket dummy)) is = refl
     go (Some (Seeking bucket cursor)) is =
         let within : bucket < limit_of d = within_limit d helper bucket (Seeking bucket cursor) sound is (λ order. order.within) in
-        let fitting : fits l cursor ≡ helper_fits (table_of l d) helper = sym (ap (cursor_fits (table_of l d)) is) in
-        λ i. if not (fitting i) then Ok Again
-        else (if sym (linked_at l.nodes (limit_of d) bucket within) i then Ok Present
-        else (if l.last == 2 ^ 64 - 2 then Err StampsUsedUp
-        else Ok Linked))
+        ap (λ (there : Bool). buckets.link_answer (cursor_fits l (helper_of d helper)) (λ b. there) l.last (Some (Sought bucket (changes_of cursor)))) (sym (linked_at l.nodes (limit_of d) bucket within))
 
 -- A helper has something else.
 pub helps_with : (old new : Listing) (d : Directory) (helper : ℕ) (now : Helper) → pairs new.nodes ≡ pairs old.nodes → ((place : ℕ) → out_at new place ≡ out_at old place) → new.last ≡ old.last → ((bucket : ℕ) → has_dummy new.nodes bucket ≡ has_dummy old.nodes bucket)
@@ -119,25 +97,21 @@ found_at helpers helper now within =
     slice_get-get_or (slice_set helpers helper now) helper Idle longer ∙ ap Some (get_or-set_same helpers helper now Idle within)
 
 -- What a seek changes.
-pub seek_changes : (before after : Listing) (old new : Directory) (helper bucket : ℕ) (result : Result InitSeek InitRefusal) → result ≡ buckets.seek_answer old helper bucket → buckets_changes.SeekChanges old new before after helper bucket result
+pub seek_changes : (before after : Listing) (old new : Directory) (helper bucket : ℕ) (result : Result InitSeek InitRefusal) → result ≡ buckets.seek_answer old.size (directories.is_stored old) (help_at old helper) bucket → buckets_changes.SeekChanges old new before after helper bucket result
     → pairs after.nodes ≡ pairs before.nodes → ((other : ℕ) → has_dummy after.nodes other ≡ has_dummy before.nodes other) → SeekChanges (table_of before old) (table_of after new) helper bucket result
 seek_changes before after old new helper bucket (Ok Ready) answer changes same dummies =
-    let Q : Listing → Directory → Type 0 = λ list d. Helps (table_of before old) (table_of list d) helper Nothing × (list.turn ≡ before.turn) in
+    let Q : Listing → Directory → Type 0 = λ list d. Helps (table_of before old) (table_of list d) helper Nothing × (list.changes ≡ before.changes) in
     subst (λ list. Q list new) (sym changes.1) (subst (λ d. Q before d) (sym changes.0) (helps_with before before old helper Idle refl (λ place. refl) refl (λ other. refl), refl))
 seek_changes before after old new helper bucket (Ok Placed) answer seeks same dummies =
     let Q : Directory → Type 0 = λ d. Seeks (table_of before old) (table_of after d) helper bucket in
     subst Q (sym seeks.now) (record {
-      helps = subst (λ (turn : ℕ). Helps (table_of before old) (table_of after (with_helper old helper (Seeking bucket seeks.cursor))) helper (Sought bucket turn)) seeks.found.turn
+      helps = subst (λ (turn : ℕ). Helps (table_of before old) (table_of after (with_helper old helper (Seeking bucket seeks.cursor))) helper (Sought bucket turn)) seeks.found.changes
           (helps_with before after old helper (Seeking bucket seeks.cursor) same seeks.rest.out seeks.rest.last dummies);
-      fits = ap (cursor_fits (table_of after (with_helper old helper (Seeking bucket seeks.cursor)))) (found_at old.helpers helper (Seeking bucket seeks.cursor) (there (helper_of old helper) refl answer)) ∙ found_fits after seeks.cursor seeks.found;
+      fits = ap (cursor_fits after) (found_at old.helpers helper (Seeking bucket seeks.cursor) (there (helper_of old helper) refl answer)) ∙ found_fits after seeks.cursor seeks.found;
     })
   where
-    there : (o : Option Helper) → helper_of old helper ≡ o → Ok Placed ≡ buckets.seek_answer old helper bucket → helper < length old.helpers
-    there None is answered = absurd (refused (answered ∙ ap (λ (o : Option Helper). if is_none o then Err NoSuchHelper
-        else (if nat_le old.size bucket then Err NoSuchBucket
-        else (if directories.is_stored old bucket then Ok Ready
-        else (if directories.is_stored old (parent_of bucket) then Ok Placed
-        else Err ParentMissing)))) is))
+    there : (o : Option Helper) → helper_of old helper ≡ o → Ok Placed ≡ buckets.seek_answer old.size (directories.is_stored old) (help_at old helper) bucket → helper < length old.helpers
+    there None is answered = absurd (refused (answered ∙ ap (λ (o : Option Helper). buckets.seek_answer old.size (directories.is_stored old) (option_map help_of o) bucket) is))
       where
         refused : ◌≡◌ {A = Result InitSeek InitRefusal} (Ok Placed) (Err NoSuchHelper) → ⊥
         refused is = cc
@@ -208,10 +182,10 @@ was_absent true true used is = absurd (cc)
 was_absent false there used is = absurd (cc)
 
 -- What a link changes.
-pub link_changes : (before after : Listing) (old new : Directory) (helper : ℕ) (result : Result InitLink InitRefusal) → directories.IsSound old → (result ≢ Err NoMemory → result ≡ buckets.link_answer old before helper) → buckets_changes.LinkChanges old new before after helper result
+pub link_changes : (before after : Listing) (old new : Directory) (helper : ℕ) (result : Result InitLink InitRefusal) → directories.IsSound old → (result ≢ Err NoMemory → result ≡ buckets.link_answer_at old before helper) → buckets_changes.LinkChanges old new before after helper result
     → pairs after.nodes ≡ pairs before.nodes → LinkChanges (table_of before old) (table_of after new) helper result
 link_changes before after old new helper (Ok Again) sound answer changes same =
-    let Q : Listing → Directory → Type 0 = λ list d. Helps (table_of before old) (table_of list d) helper Nothing × (list.turn ≡ before.turn) in
+    let Q : Listing → Directory → Type 0 = λ list d. Helps (table_of before old) (table_of list d) helper Nothing × (list.changes ≡ before.changes) in
     subst (λ list. Q list new) (sym changes.1) (subst (λ d. Q before d) (sym changes.0) (helps_with before before old helper Idle refl (λ place. refl) refl (λ other. refl), refl))
 link_changes before after old new helper (Ok Present) sound answer changes same =
     let held = changes.0 in
@@ -220,19 +194,19 @@ link_changes before after old new helper (Ok Present) sound answer changes same 
     let within : held.bucket < limit_of old = within_limit old helper held.bucket (Seeking held.bucket held.cursor) sound held.had (λ order. order.within) in
     subst (λ list. Q list new) (sym changes.1) (subst (λ d. Q before d) (sym held.now) (record {
       bucket = held.bucket;
-      turn = turn_of held.cursor;
+      turn = changes_of held.cursor;
       had = slice_get-map help_of old.helpers helper ∙ ap (option_map help_of) held.had;
-      there = linked_is before.nodes (limit_of old) held.bucket within ∙ ap Some (dummy_had before.nodes held.place held.bucket dummy.node dummy.is dummy.kind dummy.split);
+      there = linked_is before.nodes (limit_of old) held.bucket within ∙ ap Some (dummy_had before.nodes held.place held.bucket dummy.node dummy.is dummy.kind dummy.at);
       helps = helps_with before before old helper (Holding held.bucket held.place) refl (λ place. refl) refl (λ other. refl);
       kept = refl;
     }))
 link_changes before after old new helper (Ok Linked) sound answer links same =
     let Q : Directory → Type 0 = λ d. Links (table_of before old) (table_of after d) helper in
     let within : links.bucket < limit_of old = within_limit old helper links.bucket (Seeking links.bucket links.cursor) sound links.had (λ order. order.within) in
-    let answered : Ok Linked ≡ buckets.link_answer_of before (Some (Seeking links.bucket links.cursor)) = answer (λ is. cc) ∙ ap (buckets.link_answer_of before) links.had in
+    let answered = answer (λ is. cc) ∙ ap (λ (o : Option Helper). buckets.link_answer (cursor_fits before o) (has_dummy before.nodes) before.last (option_map help_of o)) links.had in
     subst Q (sym links.now) (record {
       bucket = links.bucket;
-      turn = turn_of links.cursor;
+      turn = changes_of links.cursor;
       had = slice_get-map help_of old.helpers helper ∙ ap (option_map help_of) links.had;
       absent = linked_is before.nodes (limit_of old) links.bucket within ∙ ap Some (was_absent (fits before links.cursor) (has_dummy before.nodes links.bucket) (before.last == 2 ^ 64 - 2) answered);
       becomes = record {
@@ -249,18 +223,18 @@ link_changes before after old new helper (Ok Linked) sound answer links same =
 link_changes before after old new helper (Err refusal) sound answer changes same = λ i. table_of (changes.1 i) (changes.0 i)
 
 -- A cursor that a helper has fits while the change number stays, below the last one.
-pub helper_in_turn : (l : Listing) (d : Directory) (helper bucket : ℕ) → IsHome d l → slice_get (map help_of d.helpers) helper ≡ Some (Sought bucket l.turn) → l.turn < 2 ^ 64 - 1 → helper_fits (table_of l d) helper ≡ true
+pub helper_in_turn : (l : Listing) (d : Directory) (helper bucket : ℕ) → IsHome d l → slice_get (map help_of d.helpers) helper ≡ Some (Sought bucket l.changes) → l.changes < 2 ^ 64 - 1 → helper_fits (table_of l d) helper ≡ true
 helper_in_turn l d helper bucket home had below = go (helper_of d helper) refl (sym (slice_get-map help_of d.helpers helper) ∙ had)
   where
-    go : (o : Option Helper) → helper_of d helper ≡ o → option_map help_of (helper_of d helper) ≡ Some (Sought bucket l.turn) → helper_fits (table_of l d) helper ≡ true
-    go None is sought = let clash : None ≡ Some (Sought bucket l.turn) = sym (ap (option_map help_of) is) ∙ sought in absurd (cc)
-    go (Some Idle) is sought = let clash : Some Nothing ≡ Some (Sought bucket l.turn) = sym (ap (option_map help_of) is) ∙ sought in absurd (cc)
-    go (Some (Holding other dummy)) is sought = let clash : Some (Dummy other) ≡ Some (Sought bucket l.turn) = sym (ap (option_map help_of) is) ∙ sought in absurd (cc)
+    go : (o : Option Helper) → helper_of d helper ≡ o → option_map help_of (helper_of d helper) ≡ Some (Sought bucket l.changes) → helper_fits (table_of l d) helper ≡ true
+    go None is sought = let clash : None ≡ Some (Sought bucket l.changes) = sym (ap (option_map help_of) is) ∙ sought in absurd (cc)
+    go (Some Idle) is sought = let clash : Some Nothing ≡ Some (Sought bucket l.changes) = sym (ap (option_map help_of) is) ∙ sought in absurd (cc)
+    go (Some (Holding other dummy)) is sought = let clash : Some (Dummy other) ≡ Some (Sought bucket l.changes) = sym (ap (option_map help_of) is) ∙ sought in absurd (cc)
     go (Some (Seeking other cursor)) is sought =
-        let both : Some (Sought other (turn_of cursor)) ≡ Some (Sought bucket l.turn) = sym (ap (option_map help_of) is) ∙ sought in
-        let same : l.turn ≡ turn_of cursor = cc in
+        let both : Some (Sought other (changes_of cursor)) ≡ Some (Sought bucket l.changes) = sym (ap (option_map help_of) is) ∙ sought in
+        let same : l.changes ≡ changes_of cursor = cc in
         let placed = helper_found (IsHelperHome l) d.helpers helper (Seeking other cursor) home.helpers is in
-        ap (cursor_fits (table_of l d)) is ∙ placed.0.held same below
+        ap (cursor_fits l) is ∙ placed.0.held same below
 
 not_again : (there used : Bool) → ◌≡◌ {A = Result InitLink InitRefusal} (if there then Ok Present else (if used then Err StampsUsedUp else Ok Linked)) (Ok Again) → ⊥
 not_again true used is = cc
@@ -276,7 +250,7 @@ fits_not_again fitting linked last bucket turn help is fit again =
 -- Each dummy's split key stays even.
 pub seek_even : (before after : Listing) (old new : Directory) (helper bucket : ℕ) (result : Result InitSeek InitRefusal) → buckets_changes.SeekChanges old new before after helper bucket result → AllEven before.nodes → AllEven after.nodes
 seek_even before after old new helper bucket (Ok Ready) changes even = subst (λ (l : Listing). AllEven l.nodes) (sym changes.1) even
-seek_even before after old new helper bucket (Ok Placed) seeks even = subst AllEven (sym seeks.nodes) (each_sought IsEvenDummy before.nodes seeks.from (reversed bucket) even)
+seek_even before after old new helper bucket (Ok Placed) seeks even = subst AllEven (sym seeks.nodes) (each_sought IsEvenDummy before.nodes seeks.from (dummy_at bucket) even)
 seek_even before after old new helper bucket (Err refusal) changes even = subst (λ (l : Listing). AllEven l.nodes) (sym changes.1) even
 
 pub link_even : (before after : Listing) (old new : Directory) (helper : ℕ) (result : Result InitLink InitRefusal) → directories.IsSound old → buckets_changes.LinkChanges old new before after helper result → AllEven before.nodes → AllEven after.nodes
@@ -300,52 +274,3 @@ sweep_keeps old new d Clean sound is same = subst (λ (l : Listing). Keeps (tabl
 pub sweep_belong : (old new : Listing) (outcome : SweepOutcome) → steps.Sweeps old new outcome → Belong old.nodes → Belong new.nodes
 sweep_belong old new Swept becomes belong = subst Belong (sym becomes.nodes) (belong_swept old.nodes belong)
 sweep_belong old new Clean is belong = subst (λ (l : Listing). Belong l.nodes) (sym is) belong
-
--- A new table.
-reversed_zero : reversed 0 ≡ 0
-unfolding reversed reversed_low
-reversed_zero = refl
-
-first_there : (head stamp : ℕ) → has_dummy (first_dummy head stamp ∷ []) 0 ≡ true
-unfolding has_dummy
-first_there head stamp = ap (λ (s : ℕ). (0 == s) || false) reversed_zero
-
-others_not : (head stamp bucket : ℕ) → 0 < bucket → bucket < 2 ^ 32 → has_dummy (first_dummy head stamp ∷ []) bucket ≡ false
-unfolding has_dummy
-others_not head stamp bucket above small =
-    ap (λ b. b || false) (ne_eqb 0 (reversed bucket) (λ same. let zero : bucket ≡ 0 = same_from_reversed bucket 0 (omega (arith, small)) (omega arith) (sym same ∙ sym reversed_zero) in omega (arith, zero, above)))
-
-no_others : (head stamp start n : ℕ) → 0 < start → start + n ≤ 2 ^ 32 → map (has_dummy (first_dummy head stamp ∷ [])) (range_with_len start n) ≡ replicate n false
-no_others head stamp start zero above small = refl
-no_others head stamp start (suc n) above small = λ i. others_not head stamp start above (omega (arith, small)) i ∷ no_others head stamp (start + 1) n (omega (arith, above)) (omega (arith, small)) i
-
-map-replicate : {A B : Type 0} (f : A → B) (n : ℕ) (x : A) → map f (replicate n x) ≡ replicate n (f x)
-map-replicate f zero x = refl
-map-replicate f (suc n) x = ap (λ rest. f x ∷ rest) (map-replicate f n x)
-
-pairs_first : (head stamp : ℕ) → pairs (first_dummy head stamp ∷ []) ≡ []
-unfolding pairs
-pairs_first head stamp = refl
-
-linked_first : (head stamp largest : ℕ) → 2 ≤ largest → largest < 2 ^ 32 → map (has_dummy (first_dummy head stamp ∷ [])) (range_with_len 0 largest) ≡ true ∷ replicate (largest - 1) false
-linked_first head stamp largest least most =
-    let some : largest ≡ suc (largest - 1) = omega (arith, least) in
-    ap (λ (n : ℕ). map (has_dummy (first_dummy head stamp ∷ [])) (range_with_len 0 n)) some
-    ∙ (λ i. first_there head stamp i ∷ no_others head stamp (0 + 1) (largest - 1) (omega arith) (omega (arith, least, most)) i)
-
-pub is_new : (l : Listing) (d : Directory) (largest helpers : ℕ) → l.nodes ≡ first_dummy l.head 0 ∷ [] → ((place : ℕ) → out_at l place ≡ None) → l.turn ≡ 0 → l.last ≡ 0 → d ≡ directories.beginning largest helpers l.head → 2 ≤ largest → largest < 2 ^ 32 → IsNew (table_of l d) largest helpers
-is_new l d largest helpers nodes_is none turn last d_is least most =
-    let same : pairs l.nodes ≡ [] = ap pairs nodes_is ∙ pairs_first l.head 0 in
-    let limit : length (Some l.head ∷ replicate (largest - 1) None) ≡ largest = let rest = length-replicate {A = Option ℕ} (largest - 1) None in omega (arith, rest, least) in
-    subst (λ (b : Directory). IsNew (table_of l b) largest helpers) (sym d_is) (record {
-      regular_is = same;
-      content_is = ap map_of same;
-      size_is = refl;
-      largest_is = limit;
-      stored_is = ap (λ (rest : List Bool). true ∷ rest) (map-replicate {A = Option ℕ} is_some (largest - 1) None);
-      linked_is = ap (λ (n : ℕ). map (has_dummy l.nodes) (range_with_len 0 n)) limit ∙ ap (λ (nodes : List NodeAt). map (has_dummy nodes) (range_with_len 0 largest)) nodes_is ∙ linked_first l.head 0 largest least most;
-      helps_is = map-replicate help_of helpers Idle;
-      turn_is = turn;
-      last_is = last;
-      none_out = none;
-    })

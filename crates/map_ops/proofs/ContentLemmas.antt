@@ -1,16 +1,20 @@
 -- The content of a list of nodes, and what a step at a node does to it.
-use Rattle.std.proofs.Common.{◌≡◌, ◌≢◌, ℕ, ◌<◌, ◌==◌, inl, inr, List, [], ◌∷◌, ◌++◌, Some, None, Bool, true, false, cond, not, ◌&&◌, ◌+◌, if◌then◌else◌, length, refl, sym, ◌∙◌, ap, subst, arith}
+use Rattle.std.proofs.Common.{◌≡◌, ◌≢◌, ℕ, ◌<◌, ◌^◌, ◌==◌, inl, inr, List, [], ◌∷◌, ◌++◌, Some, None, Bool, true, false, cond, not, ◌&&◌, ◌+◌, if◌then◌else◌, length, refl, sym, ◌∙◌, ap, subst, arith}
 use Rattle.std.specs.List.{fold, AllByRecursion}
-use Rattle.std.proofs.lemmas.Bool.{cases_eq, eq-eqb, ne_eqb}
+use Rattle.std.proofs.lemmas.Bool.{cases_eq, cases_lt, eq-eqb, ne_eqb}
 use Rattle.std.proofs.lemmas.Bool.Decides.{eqb_tells}
 use Rattle.node_list.specs.declared.node.Kind.{Kind}
 use Rattle.node_list.specs.declared.node.Kind.TheVariants.{Dummy, Regular}
 use Rattle.node_list.specs.Nodes.{NodeAt, node_of, count_where, is_regular, live_count}
-use Rattle.node_list.specs.Order.{IsBefore, IsRising}
+use Rattle.node_list.specs.Order.{IsNodeBefore, IsRising}
 use Rattle.node_list.proofs.OrderLemmas.{some-injective, some-none, each_found}
 use Rattle.list_steps.specs.Content.{pair_if, pairs, Replaces}
+use Rattle.split_key.specs.declared.sort.SortKey.{SortKey}
 use Rattle.split_key.specs.Split.{split}
-use Rattle.bucket_table.specs.Dummies.{IsKeyed, IsKeyedNode}
+use Rattle.split_key.specs.Sort.{IsBefore, regular_at}
+use Rattle.split_key.proofs.SplitLemmas.{same_from_split}
+use Rattle.split_key.proofs.SortLemmas.{before_apart, split_before}
+use Rattle.bucket_table.specs.Dummies.{IsKeyed}
 use Rattle.txn_trace.specs.Map.{Map, count_of, empty, get, insert, remove}
 use Rattle.txn_trace.specs.Ordered.{ordered}
 use Rattle.txn_trace.proofs.Maps.{get-insert, same_map}
@@ -69,82 +73,89 @@ module _ (old new : List (ℕ × ℕ)) (k : ℕ) (old_rises : Rises old) (new_ri
       map_of_is (remove (map_of old) k) new new_rises (r.new_is ∙ ordered-unlinked (map_of old) k v r.before r.after
       (sym r.old_is ∙ ordered-map_of old old_rises))
 
+-- Keys in the order of the list have rising split keys.
+split_rises : (j k : ℕ) → j < 2 ^ 63 → k < 2 ^ 63 → IsBefore (regular_at j) (regular_at k) → split j < split k
+split_rises j k small also before = elim (cases_lt (split j) (split k)) [
+  | inl less ↦ less
+  | inr more ↦
+      let least = split_before (regular_at j) (regular_at k) before in
+      let one : j ≡ k = same_from_split j k small also (omega (arith, least, more)) in
+      absurd (before_apart (regular_at j) (regular_at k) before (ap regular_at one))
+]
+
 -- Pairs of nodes that rise, each where its key belongs, rise.
-above_pair : (k : ℕ) (kind : Kind) (marked : Bool) (value : ℕ) (ps : List (ℕ × ℕ)) → ((key : ℕ) → kind ≡ Regular key → split k < split key) → AllByRecursion (λ (other : ℕ × ℕ). split k < split other.0) ps → AllByRecursion (λ (other : ℕ × ℕ). split k < split other.0) (pair_if kind marked value ++ ps)
-above_pair k Dummy marked value ps here all = all
-above_pair k (Regular key) true value ps here all = all
-above_pair k (Regular key) false value ps here all = (here key refl, all)
+above_pair : (k : ℕ) (kind : Kind) (marked : Bool) (key value : ℕ) (ps : List (ℕ × ℕ)) → (kind ≡ Regular → split k < split key) → AllByRecursion (λ (other : ℕ × ℕ). split k < split other.0) ps → AllByRecursion (λ (other : ℕ × ℕ). split k < split other.0) (pair_if kind marked key value ++ ps)
+above_pair k Dummy marked key value ps here all = all
+above_pair k Regular true key value ps here all = all
+above_pair k Regular false key value ps here all = (here refl, all)
 
-above_pairs : (k bound : ℕ) (rest : List NodeAt) → bound ≡ split k → AllByRecursion (λ (m : NodeAt). bound < m.split) rest → IsKeyed rest → AllByRecursion (λ (other : ℕ × ℕ). split k < split other.0) (pairs rest)
+above_pairs : (k : ℕ) (rest : List NodeAt) → k < 2 ^ 63 → AllByRecursion (λ (m : NodeAt). IsBefore (regular_at k) m.at) rest → IsKeyed rest → AllByRecursion (λ (other : ℕ × ℕ). split k < split other.0) (pairs rest)
 unfolding pairs
-above_pairs k bound [] is above keyed = tt
-above_pairs k bound (n ∷ rest) is above keyed =
-    above_pair k n.kind n.marked n.value (pairs rest)
-    (λ key kind_is. let own = keyed.0 key kind_is in let place : n.split ≡ split key = own.1 in omega (arith, is, place, above.0))
-    (above_pairs k bound rest is above.1 keyed.1)
+above_pairs k [] small above keyed = tt
+above_pairs k (n ∷ rest) small above keyed =
+    above_pair k n.kind n.marked n.at.key n.value (pairs rest)
+    (λ regular. let own = keyed.0 regular in split_rises k n.at.key small own.0 (subst (IsBefore (regular_at k)) own.1 above.0))
+    (above_pairs k rest small above.1 keyed.1)
 
-rises_pair : (kind : Kind) (marked : Bool) (value : ℕ) (ps : List (ℕ × ℕ)) → ((key : ℕ) → kind ≡ Regular key → AllByRecursion (λ (other : ℕ × ℕ). split key < split other.0) ps) → Rises ps → Rises (pair_if kind marked value ++ ps)
-rises_pair Dummy marked value ps here rises = rises
-rises_pair (Regular key) true value ps here rises = rises
-rises_pair (Regular key) false value ps here rises = (here key refl, rises)
+rises_pair : (kind : Kind) (marked : Bool) (key value : ℕ) (ps : List (ℕ × ℕ)) → (kind ≡ Regular → AllByRecursion (λ (other : ℕ × ℕ). split key < split other.0) ps) → Rises ps → Rises (pair_if kind marked key value ++ ps)
+rises_pair Dummy marked key value ps here rises = rises
+rises_pair Regular true key value ps here rises = rises
+rises_pair Regular false key value ps here rises = (here refl, rises)
 
+-- The pairs of a list rise by split keys.
 pub rises-pairs : (nodes : List NodeAt) → IsRising nodes → IsKeyed nodes → Rises (pairs nodes)
-unfolding pairs IsRising IsBefore
+unfolding pairs IsRising
 rises-pairs [] rising keyed = tt
 rises-pairs (n ∷ rest) rising keyed =
-    rises_pair n.kind n.marked n.value (pairs rest)
-    (λ key kind_is. above_pairs key n.split rest (keyed.0 key kind_is).1 rising.0 keyed.1)
+    rises_pair n.kind n.marked n.at.key n.value (pairs rest)
+    (λ regular. let own = keyed.0 regular in above_pairs n.at.key rest own.0 (subst (λ (at : SortKey). AllByRecursion (λ (m : NodeAt). IsBefore at m.at) rest) own.1 rising.0) keyed.1)
     (rises-pairs rest rising.1 keyed.1)
 
 -- The value at a key in the pairs of nodes.
-value_at-other : (key : ℕ) (kind : Kind) (marked : Bool) (value : ℕ) (ps : List (ℕ × ℕ)) → ((k : ℕ) → kind ≡ Regular k → k ≢ key) → value_at key (pair_if kind marked value ++ ps) ≡ value_at key ps
-value_at-other key Dummy marked value ps other = refl
-value_at-other key (Regular k) true value ps other = refl
-value_at-other key (Regular k) false value ps other = ap (λ b. cond b (Some value) (value_at key ps)) (split_cmp_tied key k ∙ ne_eqb key k (λ same. other k refl (sym same)))
+value_at-other : (key : ℕ) (kind : Kind) (marked : Bool) (k value : ℕ) (ps : List (ℕ × ℕ)) → (kind ≡ Regular → k ≢ key) → value_at key (pair_if kind marked k value ++ ps) ≡ value_at key ps
+value_at-other key Dummy marked k value ps other = refl
+value_at-other key Regular true k value ps other = refl
+value_at-other key Regular false k value ps other = ap (λ b. cond b (Some value) (value_at key ps)) (split_cmp_tied key k ∙ ne_eqb key k (λ same. other refl (sym same)))
 
-value_at-here : (key : ℕ) (kind : Kind) (marked : Bool) (value : ℕ) (ps : List (ℕ × ℕ)) → kind ≡ Regular key → marked ≡ false → value_at key (pair_if kind marked value ++ ps) ≡ Some value
-value_at-here key kind marked value ps is unmarked =
-    ap (λ k. value_at key (pair_if k marked value ++ ps)) is ∙ ap (λ b. value_at key (pair_if (Regular key) b value ++ ps)) unmarked
-    ∙ ap (λ b. cond b (Some value) (value_at key ps)) (split_cmp_tied key key ∙ eq-eqb key key refl)
+value_at-here : (key : ℕ) (kind : Kind) (marked : Bool) (k value : ℕ) (ps : List (ℕ × ℕ)) → kind ≡ Regular → marked ≡ false → k ≡ key → value_at key (pair_if kind marked k value ++ ps) ≡ Some value
+value_at-here key kind marked k value ps is unmarked own =
+    ap (λ kind. value_at key (pair_if kind marked k value ++ ps)) is ∙ ap (λ b. value_at key (pair_if Regular b k value ++ ps)) unmarked
+    ∙ ap (λ b. cond b (Some value) (value_at key ps)) (split_cmp_tied key k ∙ eq-eqb key k (sym own))
 
--- No node has the key's split key: the key is not there.
-pub value_at-absent : (key : ℕ) (nodes : List NodeAt) → IsKeyed nodes → AllByRecursion (λ (n : NodeAt). n.split ≢ split key) nodes → value_at key (pairs nodes) ≡ None
+-- No node stands where the key belongs: the key is not there.
+pub value_at-absent : (key : ℕ) (nodes : List NodeAt) → IsKeyed nodes → AllByRecursion (λ (n : NodeAt). n.at ≢ regular_at key) nodes → value_at key (pairs nodes) ≡ None
 unfolding pairs
 value_at-absent key [] keyed others = refl
 value_at-absent key (n ∷ rest) keyed others =
-    value_at-other key n.kind n.marked n.value (pairs rest) (λ k is same. others.0 ((keyed.0 k is).1 ∙ ap split same))
+    value_at-other key n.kind n.marked n.at.key n.value (pairs rest) (λ regular same. others.0 ((keyed.0 regular).1 ∙ ap regular_at same))
     ∙ value_at-absent key rest keyed.1 others.1
 
-apart : (m n : NodeAt) (key k : ℕ) → IsBefore m n → m.split ≡ split k → n.split ≡ split key → k ≢ key
-unfolding IsBefore
-apart m n key k below m_is n_is same = let equal : split k ≡ split key = ap split same in omega (arith, below, m_is, n_is, equal)
-
 -- A regular, unmarked node of the key is linked: the key has its value.
-pub value_at-there : (key : ℕ) (nodes : List NodeAt) (place : ℕ) (n : NodeAt) → IsRising nodes → IsKeyed nodes → node_of nodes place ≡ Some n → n.kind ≡ Regular key → n.marked ≡ false → value_at key (pairs nodes) ≡ Some n.value
+pub value_at-there : (key : ℕ) (nodes : List NodeAt) (place : ℕ) (n : NodeAt) → IsRising nodes → IsKeyed nodes → node_of nodes place ≡ Some n → n.kind ≡ Regular → n.at ≡ regular_at key → n.marked ≡ false → value_at key (pairs nodes) ≡ Some n.value
 unfolding pairs IsRising node_of
-value_at-there key [] place n rising keyed is kind unmarked = absurd (some-none (sym is))
-value_at-there key (m ∷ rest) place n rising keyed is kind unmarked = elim (eqb_tells m.place place) [
+value_at-there key [] place n rising keyed is kind at unmarked = absurd (some-none (sym is))
+value_at-there key (m ∷ rest) place n rising keyed is kind at unmarked = elim (eqb_tells m.place place) [
   | inl here ↦
       let m_is : m ≡ n = some-injective (rw here.0 at is) in
-      value_at-here key m.kind m.marked m.value (pairs rest) (ap (λ (v : NodeAt). v.kind) m_is ∙ kind) (ap (λ (v : NodeAt). v.marked) m_is ∙ unmarked)
+      value_at-here key m.kind m.marked m.at.key m.value (pairs rest) (ap (λ (v : NodeAt). v.kind) m_is ∙ kind) (ap (λ (v : NodeAt). v.marked) m_is ∙ unmarked) (ap (λ (v : NodeAt). v.at.key) m_is ∙ ap (λ (s : SortKey). s.key) at)
       ∙ ap (λ (v : NodeAt). Some v.value) m_is
   | inr past ↦
       let later : node_of rest place ≡ Some n = rw past.0 at is in
-      let below : IsBefore m n = each_found (IsBefore m) rest place n rising.0 later in
-      value_at-other key m.kind m.marked m.value (pairs rest) (λ k is_k same. apart m n key k below ((keyed.0 k is_k).1) (each_found IsKeyedNode rest place n keyed.1 later key kind).1 same)
-      ∙ value_at-there key rest place n rising.1 keyed.1 later kind unmarked
+      let below : IsNodeBefore m n = each_found (IsNodeBefore m) rest place n rising.0 later in
+      value_at-other key m.kind m.marked m.at.key m.value (pairs rest) (λ regular same. before_apart m.at n.at below ((keyed.0 regular).1 ∙ ap regular_at same ∙ sym at))
+      ∙ value_at-there key rest place n rising.1 keyed.1 later kind at unmarked
 ]
 
 -- There are as many pairs as live nodes, and as keys.
-length_pair : (kind : Kind) (marked : Bool) (value : ℕ) (ps : List (ℕ × ℕ)) (count : ℕ) → length ps ≡ count → length (pair_if kind marked value ++ ps) ≡ (if is_regular kind && not marked then 1 else 0) + count
-length_pair Dummy marked value ps count is = omega (arith, is)
-length_pair (Regular key) true value ps count is = omega (arith, is)
-length_pair (Regular key) false value ps count is = omega (arith, is)
+length_pair : (kind : Kind) (marked : Bool) (key value : ℕ) (ps : List (ℕ × ℕ)) (count : ℕ) → length ps ≡ count → length (pair_if kind marked key value ++ ps) ≡ (if is_regular kind && not marked then 1 else 0) + count
+length_pair Dummy marked key value ps count is = omega (arith, is)
+length_pair Regular true key value ps count is = omega (arith, is)
+length_pair Regular false key value ps count is = omega (arith, is)
 
 pub length-pairs : (nodes : List NodeAt) → length (pairs nodes) ≡ live_count nodes
 unfolding pairs count_where
 length-pairs [] = refl
-length-pairs (n ∷ rest) = length_pair n.kind n.marked n.value (pairs rest) (live_count rest) (length-pairs rest)
+length-pairs (n ∷ rest) = length_pair n.kind n.marked n.at.key n.value (pairs rest) (live_count rest) (length-pairs rest)
 
 pub count_of-map_of : (ps : List (ℕ × ℕ)) → Rises ps → count_of (map_of ps) ≡ length ps
 count_of-map_of ps rises = sym (ap (λ (es : List (ℕ × ℕ)). length es) (ordered-map_of ps rises) ∙ length-ordered (map_of ps))

@@ -4,9 +4,10 @@ use Rattle.node_list.specs.Nodes.{NodeAt, Listing, SpareAt}
 use Rattle.node_list.specs.Sound.{IsSound}
 use Rattle.list_steps.specs.declared.cursor.Cursor.{Cursor}
 use Rattle.list_steps.specs.Content.{pairs}
-use Rattle.list_steps.specs.Found.{IsFound, fits, split_of, IsPlaced}
+use Rattle.list_steps.specs.Found.{IsFound, at_of, fits, IsPlaced}
 use Rattle.list_steps.specs.Seek.{sought, KeepsRest}
-use Rattle.split_key.specs.Split.{split}
+use Rattle.split_key.specs.declared.sort.SortKey.{SortKey}
+use Rattle.split_key.specs.Sort.{regular_at}
 use Rattle.bucket_table.specs.Directory.{Directory}
 use Rattle.bucket_table.specs.Dummies.{has_dummy}
 use Rattle.bucket_table.proofs.DummyLemmas.{has_dummy-sought}
@@ -72,8 +73,8 @@ module _ (old mid new : Listing) (buckets : Directory) (k : ℕ) (before : Optio
   }
 
 -- A key is sought.
-pub places : (old new : Listing) (buckets : Directory) (key from bound : ℕ) (c : Cursor) → IsSound old → new.nodes ≡ sought old.nodes from bound → KeepsRest old new → pairs new.nodes ≡ pairs old.nodes
-    → IsFound new c → IsPlaced new c → fits new c ≡ true → split_of c ≡ split key → Places (table_of old buckets) (table_of new buckets) key c
+pub places : (old new : Listing) (buckets : Directory) (key from : ℕ) (bound : SortKey) (c : Cursor) → IsSound old → new.nodes ≡ sought old.nodes from bound → KeepsRest old new → pairs new.nodes ≡ pairs old.nodes
+    → IsFound new c → IsPlaced new c → fits new c ≡ true → at_of c ≡ regular_at key → Places (table_of old buckets) (table_of new buckets) key c
 places old new buckets key from bound c sound nodes_is kept same found placed fitting place = record {
   keeps = record {
     regular = same;
@@ -84,7 +85,7 @@ places old new buckets key from bound c sound nodes_is kept same found placed fi
   spares = kept.out;
   placed = placed_on new buckets c key placed place;
   fits = fitting;
-  turn = found.turn;
+  turn = found.changes;
 }
 
 -- A change is taken back where its key has what it had before.

@@ -8,7 +8,7 @@ use Rattle.list_steps.specs.declared.cursor.Cursor.{Cursor}
 use Rattle.list_steps.specs.Content.{pairs}
 use Rattle.list_steps.specs.Found as cursors
 use Rattle.list_steps.proofs.CursorLemmas.{still_placed}
-use Rattle.split_key.specs.Split.{split}
+use Rattle.split_key.specs.Sort.{regular_at}
 use Rattle.bucket_table.specs.Directory.{Directory, limit_of}
 use Rattle.bucket_table.specs.Dummies.{has_dummy}
 use Rattle.map_ops.specs.TableAt.{TableAt, table_of, Follows, IsPlaced, KeepsBuckets, KeepsNodes}
@@ -18,7 +18,7 @@ pub same_buckets : (old new : Listing) (d : Directory) → KeepsBuckets (table_o
 same_buckets old new d = record { all = refl; size = refl; largest = refl; stored = refl; helps = refl }
 
 -- The spares alone change.
-pub same_nodes : (old new : Listing) (d : Directory) → new.nodes ≡ old.nodes → new.turn ≡ old.turn → KeepsNodes (table_of old d) (table_of new d)
+pub same_nodes : (old new : Listing) (d : Directory) → new.nodes ≡ old.nodes → new.changes ≡ old.changes → KeepsNodes (table_of old d) (table_of new d)
 same_nodes old new d same turn = record {
   all = same;
   regular = ap pairs same;
@@ -28,15 +28,15 @@ same_nodes old new d same turn = record {
 }
 
 -- A cursor that was placed on the list was placed on the table.
-pub placed_on : (l : Listing) (d : Directory) (cursor : Cursor) (key : ℕ) → cursors.IsPlaced l cursor → cursors.split_of cursor ≡ split key → IsPlaced (table_of l d) cursor key
-placed_on l d cursor key placed is = record { list = placed; split_is = is; in_turn = placed.held }
+pub placed_on : (l : Listing) (d : Directory) (cursor : Cursor) (key : ℕ) → cursors.IsPlaced l cursor → cursors.at_of cursor ≡ regular_at key → IsPlaced (table_of l d) cursor key
+placed_on l d cursor key placed is = record { list = placed; at_is = is; in_turn = placed.held }
 
 -- A later list is a later table.
 pub follows : (old new : Listing) (d e : Directory) → lists.Follows old new → Follows (table_of old d) (table_of new e)
 follows old new d e later = record {
   list = later;
   last = later.last;
-  placed = λ cursor key is. placed_on new e cursor key (still_placed old new cursor is.list later) is.split_is;
+  placed = λ cursor key is. placed_on new e cursor key (still_placed old new cursor is.list later) is.at_is;
 }
 
 pub follows_twice : (one two three : TableAt) → Follows one two → Follows two three → Follows one three

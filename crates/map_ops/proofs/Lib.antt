@@ -8,6 +8,8 @@ pub mod DoesLemmas
 pub mod PlanLemmas
 pub mod SoundLemmas
 pub mod BucketLemmas
+pub mod NewLemmas
+pub mod WriteLemmas
 pub mod WalkLemmas
 pub mod MadeLemmas
 pub mod RemoveLemmas

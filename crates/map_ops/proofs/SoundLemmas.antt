@@ -15,5 +15,5 @@ pub sound_with_nodes : (old new : Listing) (buckets : Directory) → IsSound old
 sound_with_nodes old new buckets sound follows same = still_sound old new buckets sound follows (subst Belong (sym same) sound.belong)
 
 -- The change number, which fits its 64 bits, never falls.
-pub turn_rises : (old new : Listing) (turn : ℕ) → Follows old new → turn ≡ old.turn → turn < 2 ^ 64 → old.turn ≤ new.turn
-turn_rises old new turn follows is fits = let least = follows.turn in omega arith
+pub turn_rises : (old new : Listing) (turn : ℕ) → Follows old new → turn ≡ old.changes → turn < 2 ^ 64 → old.changes ≤ new.changes
+turn_rises old new turn follows is fits = let least = follows.changes in omega arith

@@ -1,13 +1,13 @@
 -- A walk along the list that gathers its pairs.
-use Rattle.std.proofs.Common.{◌≡◌, ℕ, List, [], ◌∷◌, ◌++◌, Some, None, refl, sym, ◌∙◌, ap, subst, arith, append_assoc}
+use Rattle.std.proofs.Common.{◌≡◌, ℕ, List, [], ◌∷◌, ◌++◌, Some, None, refl, sym, ◌∙◌, ap, append_assoc}
 use Rattle.std.proofs.lemmas.List.{append-nil}
 use Rattle.node_list.specs.declared.node.Kind.TheVariants.{Dummy}
 use Rattle.node_list.specs.Nodes.{NodeAt, Listing, next_of, without_first}
-use Rattle.node_list.specs.Order.{IsBefore, IsRising, IsSpread}
+use Rattle.node_list.specs.Order.{IsSpread}
 use Rattle.node_list.specs.Sound.{IsSound}
+use Rattle.node_list.proofs.NodesLemmas.{place-found}
 use Rattle.list_steps.specs.Content.{pair_if, pair_of, pairs}
-use Rattle.list_steps.proofs.NodeLemmas.{IsAt, found_at, next_at, at_next, first_is, first_none}
-use Rattle.list_steps.proofs.OrderLemmas.{before_later}
+use Rattle.list_steps.proofs.NodeLemmas.{IsAt, next_at, at_next, first_is, first_none}
 
 -- All pairs up to this place are found.
 pub record IsWalking (nodes : List NodeAt) (place : ℕ) (found : List (ℕ × ℕ)) : Type 0 where
@@ -15,14 +15,9 @@ pub record IsWalking (nodes : List NodeAt) (place : ℕ) (found : List (ℕ × �
   pub at : IsAt nodes place node
   pub rest : found ++ pairs at.rest ≡ pairs nodes
 
-none_before_first : (front : List NodeAt) (n : NodeAt) (rest : List NodeAt) → IsRising (front ++ n ∷ rest) → n.split ≡ 0 → front ≡ []
-unfolding IsRising IsBefore
-none_before_first [] n rest rising first = refl
-none_before_first (m ∷ front) n rest rising first = let before = before_later m n front rest rising.0 in absurd (omega (arith, before, first))
-
 pairs_behind_dummy : (n : NodeAt) (rest : List NodeAt) → n.kind ≡ Dummy → pairs (n ∷ rest) ≡ pairs rest
 unfolding pairs
-pairs_behind_dummy n rest dummy = ap (λ kind. pair_if kind n.marked n.value ++ pairs rest) dummy
+pairs_behind_dummy n rest dummy = ap (λ kind. pair_if kind n.marked n.at.key n.value ++ pairs rest) dummy
 
 pairs_next : (n : NodeAt) (rest : List NodeAt) → pairs (n ∷ rest) ≡ pair_of n ++ pairs rest
 unfolding pairs
@@ -35,12 +30,11 @@ pairs_none = refl
 -- It begins at the first node, a dummy.
 pub walk_first : (l : Listing) → IsSound l → IsWalking l.nodes l.head []
 walk_first l sound =
-    let at = found_at l.nodes l.head sound.first.node sound.first.is in
-    let nothing : at.front ≡ [] = none_before_first at.front sound.first.node at.rest (subst IsRising at.is sound.rising) sound.first.split in
+    let is = first_is l.nodes sound.first.node sound.first.first in
     record {
       node = sound.first.node;
-      at = at;
-      rest = sym (pairs_behind_dummy sound.first.node at.rest sound.first.kind) ∙ ap (λ (front : List NodeAt). pairs (front ++ sound.first.node ∷ at.rest)) (sym nothing) ∙ ap pairs (sym at.is);
+      at = record { front = []; rest = without_first l.nodes; is = is; absent = tt; here = place-found l.nodes l.head sound.first.node sound.first.is };
+      rest = sym (pairs_behind_dummy sound.first.node (without_first l.nodes) sound.first.kind) ∙ ap pairs (sym is);
     }
 
 module _ (nodes : List NodeAt) (place : ℕ) (found : List (ℕ × ℕ)) (walking : IsWalking nodes place found) where

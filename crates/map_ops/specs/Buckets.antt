@@ -1,61 +1,40 @@
 -- What each call on the buckets of a table answers and changes.
-use Rattle.std.specs.Prelude.{◌≡◌, ℕ, ◌*◌, ◌+◌, ◌-◌, ◌^◌, Bool, true, false, not, ◌==◌, nat_le, Option, Some, None, Result, Ok, Err, List, slice_set, slice_index_or, if◌then◌else◌}
+use Rattle.std.specs.Prelude.{◌≡◌, ℕ, ◌+◌, ◌-◌, Bool, true, false, Option, Some, Result, Ok, Err, List, slice_set, slice_index_or}
 use Rattle.std.specs.List.{slice_get}
 pub use Rattle.split_key.specs.Split.{parent_of}
+pub use Rattle.bucket_table.specs.Answers.{store_answer, double_answer}
+use Rattle.bucket_table.specs.Answers as buckets
+use Rattle.split_key.specs.Sort.{dummy_at}
+use Rattle.list_steps.specs.Seek.{sought}
+use Rattle.bucket_table.specs.Directory.{dummy_of}
+use Rattle.bucket_table.specs.Dummies.{dummy_node}
 use Rattle.bucket_table.specs.declared.answer.InitSeek.{InitSeek}
 use Rattle.bucket_table.specs.declared.answer.InitSeek.TheVariants.{Ready, Placed}
 use Rattle.bucket_table.specs.declared.answer.InitLink.{InitLink}
 use Rattle.bucket_table.specs.declared.answer.InitLink.TheVariants.{Again, Present, Linked}
 use Rattle.bucket_table.specs.declared.answer.InitRefusal.{InitRefusal}
-use Rattle.bucket_table.specs.declared.answer.InitRefusal.TheVariants.{NoSuchBucket, ParentMissing, NoSuchHelper, HelperOutOfOrder, StampsUsedUp}
 use Rattle.bucket_table.specs.declared.answer.Double.{Double}
 use Rattle.bucket_table.specs.declared.answer.Double.TheVariants.{Moved, AtLimit, Light, Doubled}
-use Rattle.map_ops.specs.TableAt.{TableAt, Help, Nothing, Sought, Dummy, regular, turn_of, last_of, largest_of, size_of, stored_of, linked_of, helps_of, KeepsSpares}
+use Rattle.map_ops.specs.TableAt.{TableAt, Help, Nothing, Sought, Dummy, regular, turn_of, last_of, largest_of, size_of, stored_of, linked_of, helps_of, nodes_of, KeepsList, KeepsSpares}
+use Rattle.map_ops.specs.Nodes.{IsUnlinking, LinksNode}
 pub use Rattle.map_ops.specs.TableAt.{helper_fits}
 
--- The bucket is stored.
+-- Whether the bucket is one of these.
 abbrev pub is_stored : List Bool → ℕ → Bool
 is_stored stored bucket = slice_index_or stored bucket false
 
--- What a seek for a bucket by a helper that has this is answered, at this size and with these buckets stored.
+-- What a seek for a bucket by a helper that has this is answered, at this size and with these
+-- buckets stored.
 abbrev pub seek_answer : ℕ → List Bool → Option Help → ℕ → Result InitSeek InitRefusal
-seek_answer size stored None bucket = Err NoSuchHelper
-seek_answer size stored (Some help) bucket =
-    if nat_le size bucket then Err NoSuchBucket
-    else (if is_stored stored bucket then Ok Ready
-    else (if is_stored stored (parent_of bucket) then Ok Placed
-    else Err ParentMissing))
+seek_answer size stored help bucket = buckets.seek_answer size (is_stored stored) help bucket
 
--- What a link by a helper that has this is answered, where memory lasts: by whether its cursor fits, by which dummies are
--- linked, and by the last stamp.
+-- What a link by a helper that has this is answered, where memory lasts.
 abbrev pub link_answer : Bool → List Bool → ℕ → Option Help → Result InitLink InitRefusal
-link_answer fitting linked last None = Err NoSuchHelper
-link_answer fitting linked last (Some Nothing) = Err HelperOutOfOrder
-link_answer fitting linked last (Some (Dummy bucket)) = Err HelperOutOfOrder
-link_answer fitting linked last (Some (Sought bucket turn)) =
-    if not fitting then Ok Again
-    else (if slice_index_or linked bucket false then Ok Present
-    else (if last == 2 ^ 64 - 2 then Err StampsUsedUp
-    else Ok Linked))
+link_answer fitting linked last help = buckets.link_answer fitting (is_stored linked) last help
 
 -- What a link by the helper of this number is answered by a table, where memory lasts.
 abbrev pub link_answer_of : TableAt → ℕ → Result InitLink InitRefusal
 link_answer_of t helper = link_answer (helper_fits t helper) (linked_of t) (last_of t) (slice_get (helps_of t) helper)
-
--- What a store by a helper that has this is answered.
-abbrev pub store_answer : Option Help → Result Unit InitRefusal
-store_answer None = Err NoSuchHelper
-store_answer (Some Nothing) = Err HelperOutOfOrder
-store_answer (Some (Sought bucket turn)) = Err HelperOutOfOrder
-store_answer (Some (Dummy bucket)) = Ok tt
-
--- What a doubling is answered, at this size, with a largest size, and with so many keys.
-abbrev pub double_answer : ℕ → ℕ → ℕ → ℕ → Double
-double_answer size largest count seen =
-    if not (size == seen) then Moved size
-    else (if size == largest then AtLimit
-    else (if nat_le count (2 * size) then Light
-    else Doubled (2 * size)))
 
 -- The size after a doubling that was answered so.
 abbrev pub size_after : ℕ → Double → ℕ
@@ -79,14 +58,30 @@ pub record Helps (old new : TableAt) (helper : ℕ) (help : Help) : Type 0 where
   pub becomes : Becomes old new (size_of old) (stored_of old) (linked_of old) (slice_set (helps_of old) helper help)
   pub last : last_of new ≡ last_of old
 
--- A seek placed a cursor for the bucket: the helper has it, with the change number that there is now, and it fits.
+-- A seek placed a cursor for the bucket: the helper has it, with the change number that there is
+-- now, and it fits.
 pub record Seeks (old new : TableAt) (helper bucket : ℕ) : Type 0 where
   pub helps : Helps old new helper (Sought bucket (turn_of new))
   pub fits : helper_fits new helper ≡ true
 
+-- The place of a bucket's dummy was sought from the dummy of the bucket's parent: the marked nodes
+-- between there and the place are unlinked, and no others. The change number grows by one for each.
+pub record SeeksBucket (old new : TableAt) (bucket : ℕ) : Type 0 where
+  pub start : ℕ
+  pub parent : dummy_of old.buckets (parent_of bucket) ≡ Some start
+  pub nodes : nodes_of new ≡ sought (nodes_of old) start (dummy_at bucket)
+  pub changes : IsUnlinking old.list new.list
+
+-- What a seek for a bucket writes.
+abbrev pub SeekWrites : TableAt → TableAt → ℕ → Result InitSeek InitRefusal → Type 0
+SeekWrites old new bucket (Ok Ready) = KeepsList old new
+SeekWrites old new bucket (Ok Placed) = SeeksBucket old new bucket
+SeekWrites old new bucket (Err refusal) = KeepsList old new
+
 -- What a seek for a bucket changes.
 abbrev pub SeekChanges : TableAt → TableAt → ℕ → ℕ → Result InitSeek InitRefusal → Type 0
-SeekChanges old new helper bucket (Ok Ready) = Helps old new helper Nothing × (turn_of new ≡ turn_of old)
+SeekChanges old new helper bucket (Ok Ready) = Helps old new helper Nothing
+    × (turn_of new ≡ turn_of old)
 SeekChanges old new helper bucket (Ok Placed) = Seeks old new helper bucket
 SeekChanges old new helper bucket (Err refusal) = new ≡ old
 
@@ -99,7 +94,8 @@ pub record Holds (old new : TableAt) (helper : ℕ) : Type 0 where
   pub helps : Helps old new helper (Dummy bucket)
   pub kept : turn_of new ≡ turn_of old
 
--- The helper that had a cursor for a bucket has its dummy, which is linked now, with the next stamp.
+-- The helper that had a cursor for a bucket has its dummy, which is linked now, with the next
+-- stamp.
 pub record Links (old new : TableAt) (helper : ℕ) : Type 0 where
   pub bucket : ℕ
   pub turn : ℕ
@@ -107,6 +103,18 @@ pub record Links (old new : TableAt) (helper : ℕ) : Type 0 where
   pub absent : slice_get (linked_of old) bucket ≡ Some false
   pub becomes : Becomes old new (size_of old) (stored_of old) (slice_set (linked_of old) bucket true) (slice_set (helps_of old) helper (Dummy bucket))
   pub last : last_of new ≡ last_of old + 1
+
+-- The bucket's dummy is linked, with the next stamp.
+pub record LinksDummy (old new : TableAt) (bucket : ℕ) : Type 0 where
+  pub place : ℕ
+  pub links : LinksNode old.list new.list (dummy_node place bucket (last_of old + 1))
+
+-- What a link by a helper writes, where it sought this bucket.
+abbrev pub LinkWrites : TableAt → TableAt → ℕ → Result InitLink InitRefusal → Type 0
+LinkWrites old new bucket (Ok Again) = KeepsList old new
+LinkWrites old new bucket (Ok Present) = KeepsList old new
+LinkWrites old new bucket (Ok Linked) = LinksDummy old new bucket
+LinkWrites old new bucket (Err refusal) = KeepsList old new
 
 -- What a link by a helper changes.
 abbrev pub LinkChanges : TableAt → TableAt → ℕ → Result InitLink InitRefusal → Type 0

@@ -11,8 +11,9 @@ use Rattle.map_ops.specs.declared.act.Undo.{Undo}
 use Rattle.map_ops.specs.declared.act.Undo.TheVariants.{Undone, Again as UndoAgain}
 use Rattle.map_ops.specs.declared.job.MapJob.{MapJob}
 use Rattle.map_ops.specs.declared.job.MapJob.TheVariants.{Unput, Restore, Relink}
-use Rattle.map_ops.specs.TableAt.{TableAt, Cursor, SpareAt, SweepOutcome, content, turn_of, last_of, linked_of, nodes_of, nodes_sought, spare_out, Owns, KeepsOthers, KeepsSpares, KeepsBuckets, KeepsNodes, Keeps, IsPlaced, IsStart, SweepsNodes, cursor_turn, fits}
+use Rattle.map_ops.specs.TableAt.{TableAt, Cursor, SpareAt, SweepOutcome, content, turn_of, last_of, linked_of, nodes_of, nodes_sought, spare_out, Owns, KeepsOthers, KeepsSpares, KeepsBuckets, KeepsNodes, Keeps, Follows, IsPlaced, IsStart, SweepsNodes, cursor_turn, fits}
 use Rattle.map_ops.specs.Jobs.{PendingAt, takes_node, key_of_job, value_before, spare_of_job, job_of, IsDue}
+use Rattle.map_ops.specs.Nodes.{IsUnlinking, JobWrites, OpWrites, WritesNothing}
 
 -- The spare, if there is one, is the table's.
 abbrev pub OwnsIf : TableAt → Option SpareAt → Type 0
@@ -47,12 +48,14 @@ pub record Prepares (old new : TableAt) (op : Op) (pending : PendingAt) : Type 0
   pub given : GivesFor old new (takes_node op) pending.spare
   pub nodes : KeepsNodes old new
 
--- Why an operation is not prepared: a bad key exactly where the key is 2^63 or more; then, where it takes a node, stamps
--- used up exactly where the last one is given; else memory was refused.
+-- Why an operation is not prepared: a bad key exactly where the key is 2^63 or more; then, where it
+-- takes a node, stamps used up exactly where the last one is given; else memory was refused.
 abbrev pub IsRefused : TableAt → Op → Refusal → Type 0
 IsRefused t op refusals.BadKey = 2 ^ 63 ≤ key_of op
-IsRefused t op refusals.StampsUsedUp = (key_of op < 2 ^ 63) × (takes_node op ≡ true) × (last_of t ≡ 2 ^ 64 - 2)
-IsRefused t op refusals.NoMemory = (key_of op < 2 ^ 63) × (takes_node op ≡ true) × (last_of t < 2 ^ 64 - 2)
+IsRefused t op refusals.StampsUsedUp = (key_of op < 2 ^ 63) × (takes_node op ≡ true)
+    × (last_of t ≡ 2 ^ 64 - 2)
+IsRefused t op refusals.NoMemory = (key_of op < 2 ^ 63) × (takes_node op ≡ true)
+    × (last_of t < 2 ^ 64 - 2)
 IsRefused t op refusal = ⊥
 
 -- A key was sought: marked nodes may be unlinked, and the cursor fits.
@@ -63,12 +66,14 @@ pub record Places (old new : TableAt) (key : ℕ) (cursor : Cursor) : Type 0 whe
   pub fits : fits new cursor ≡ true
   pub turn : cursor_turn cursor ≡ turn_of new
 
--- A key was sought from the dummy of its bucket, or of the nearest ancestor that is initialised: the marked nodes between
--- there and the key's place are unlinked, and no others.
+-- A key was sought from the dummy of its bucket, or of the nearest ancestor that is initialised:
+-- the marked nodes between there and the key's place are unlinked, and no others. The change number
+-- grows by one for each.
 pub record SeeksNear (old new : TableAt) (key : ℕ) : Type 0 where
   pub start : ℕ
   pub nearest : IsStart old key start
   pub nodes : nodes_of new ≡ nodes_sought old start key
+  pub changes : IsUnlinking old.list new.list
 
 -- The spare of an operation: with a job that owns it, it stays out; else it is out no more.
 abbrev pub SpendsFor : TableAt → TableAt → Option SpareAt → Option MapJob → Type 0
@@ -77,7 +82,8 @@ SpendsFor old new spare (Some (Unput k)) = Spends old new spare
 SpendsFor old new spare (Some (Restore k before)) = Spends old new spare
 SpendsFor old new spare None = Spends old new spare
 
--- The operation is done: its reply and what it leaves are the map's, and the job is there exactly where it is a change.
+-- The operation is done: its reply and what it leaves are the map's, and the job is there exactly
+-- where it is a change.
 pub record Does (old new : TableAt) (pending : PendingAt) (reply : Option ℕ) (job : Option MapJob) : Type 0 where
   pub reply_is : reply ≡ reply_of (content old) pending.op
   pub content_is : content new ≡ after (content old) pending.op
@@ -87,10 +93,19 @@ pub record Does (old new : TableAt) (pending : PendingAt) (reply : Option ℕ) (
   pub linked : linked_of new ≡ linked_of old
   pub last : last_of new ≡ last_of old
 
--- An act at a cursor: the operation is done where the cursor fits; else nothing has changed and it comes back.
+-- An act at a cursor: the operation is done where the cursor fits; else nothing has changed and it
+-- comes back.
 abbrev pub Acts : TableAt → TableAt → PendingAt → Cursor → Act → Type 0
-Acts old new pending cursor (Acted reply job) = (fits old cursor ≡ true) × Does old new pending reply job
-Acts old new pending cursor (ActAgain back) = (fits old cursor ≡ false) × (back ≡ pending) × (new ≡ old)
+Acts old new pending cursor (Acted reply job) = (fits old cursor ≡ true)
+    × Does old new pending reply job
+Acts old new pending cursor (ActAgain back) = (fits old cursor ≡ false) × (back ≡ pending)
+    × (new ≡ old)
+
+-- What an act writes.
+abbrev pub ActWrites : TableAt → TableAt → PendingAt → Act → Type 0
+ActWrites old new pending (Acted reply job) =
+    OpWrites old.list new.list pending.op pending.spare (get (content old) (key_of pending.op))
+ActWrites old new pending (ActAgain back) = WritesNothing old.list new.list
 
 -- The change is taken back: its key has what it had before, and every other key what it has now.
 pub record TakesBack (old new : TableAt) (job : MapJob) : Type 0 where
@@ -100,10 +115,22 @@ pub record TakesBack (old new : TableAt) (job : MapJob) : Type 0 where
   pub linked : linked_of new ≡ linked_of old
   pub last : last_of new ≡ last_of old
 
--- An undo at a cursor: the change is taken back where the cursor fits; else nothing has changed and the job comes back.
+-- An undo at a cursor: the change is taken back where the cursor fits; else nothing has changed and
+-- the job comes back.
 abbrev pub Undoes : TableAt → TableAt → MapJob → Cursor → Undo → Type 0
 Undoes old new job cursor Undone = (fits old cursor ≡ true) × TakesBack old new job
 Undoes old new job cursor (UndoAgain back) = (fits old cursor ≡ false) × (back ≡ job) × (new ≡ old)
+
+-- What an undo writes.
+abbrev pub UndoWrites : TableAt → TableAt → MapJob → Undo → Type 0
+UndoWrites old new job Undone = JobWrites old.list new.list job
+UndoWrites old new job (UndoAgain back) = WritesNothing old.list new.list
+
+-- The job's key is sought, and what takes its change back is written there.
+pub record SeeksAndUndoes (old new : TableAt) (job : MapJob) : Type 0 where
+  pub sought : TableAt
+  pub near : SeeksNear old sought (key_of_job job)
+  pub writes : JobWrites sought.list new.list job
 
 -- A spare, if there is one, is given back, and nothing else has changed.
 pub record GivesBack (old new : TableAt) (spare : Option SpareAt) : Type 0 where
@@ -111,14 +138,16 @@ pub record GivesBack (old new : TableAt) (spare : Option SpareAt) : Type 0 where
   pub last : last_of new ≡ last_of old
   pub spares : Spends old new spare
 
--- The spares after an operation that was done at once: that of its job is out, and all others are as they were.
+-- The spares after an operation that was done at once: that of its job is out, and all others are
+-- as they were.
 abbrev pub JobSpare : TableAt → TableAt → Option MapJob → Type 0
 JobSpare old new (Some (Relink k before spare)) = GivesSpare old new spare
 JobSpare old new (Some (Unput k)) = KeepsSpares old new
 JobSpare old new (Some (Restore k before)) = KeepsSpares old new
 JobSpare old new None = KeepsSpares old new
 
--- An operation is done at once: its reply and what it leaves are the map's, and the job is there exactly where it is a change.
+-- An operation is done at once: its reply and what it leaves are the map's, and the job is there
+-- exactly where it is a change. Its key is sought, and what it writes is written there.
 pub record Applies (old new : TableAt) (op : Op) (reply : Option ℕ) (job : Option MapJob) : Type 0 where
   pub spare : Option SpareAt
   pub reply_is : reply ≡ reply_of (content old) op
@@ -129,8 +158,12 @@ pub record Applies (old new : TableAt) (op : Op) (reply : Option ℕ) (job : Opt
   pub buckets : KeepsBuckets old new
   pub linked : linked_of new ≡ linked_of old
   pub last : last_of new ≡ last_of old + (if takes_node op then 1 else 0)
+  pub sought : TableAt
+  pub near : SeeksNear old sought (key_of op)
+  pub writes : OpWrites sought.list new.list op spare (get (content old) (key_of op))
 
--- A sweep: the first marked node is unlinked and nothing else has changed, or no node is marked and nothing has changed.
+-- A sweep: the first marked node is unlinked and nothing else has changed, or no node is marked and
+-- nothing has changed.
 abbrev pub Sweeps : TableAt → TableAt → SweepOutcome → Type 0
 Sweeps old new outcome = SweepsNodes old new outcome × KeepsBuckets old new
 
@@ -141,6 +174,13 @@ ShowsAfter job t = IsDue (content t) job × OwnsIf t (spare_of_job job)
 -- The table shows what the job names as before its change.
 abbrev pub ShowsBefore : MapJob → TableAt → Type 0
 ShowsBefore job t = get (content t) (key_of_job job) ≡ value_before job
+
+-- What the run of a job changes: its change is taken back and nothing else, and nothing older is
+-- disturbed.
+pub record Runs (old new : TableAt) (job : MapJob) : Type 0 where
+  pub back : TakesBack old new job
+  pub writes : SeeksAndUndoes old new job
+  pub follows : Follows old new
 
 -- The two spares, where there are two, are at different places.
 abbrev pub AreApart : Option SpareAt → Option SpareAt → Type 0

@@ -1,5 +1,6 @@
 pub mod TableAt
 pub mod Jobs
+pub mod Nodes
 pub mod Plans
 pub mod Changes
 pub mod Buckets

@@ -9,7 +9,7 @@ use Rattle.bucket_table.specs.Home.{IsHome}
 
 -- A dummy stands where no key belongs: its split key is even.
 abbrev pub IsEvenDummy : NodeAt → Type 0
-IsEvenDummy n = n.kind ≡ Dummy → n.split % 2 ≡ 0
+IsEvenDummy n = n.kind ≡ Dummy → n.at.split % 2 ≡ 0
 
 -- Each dummy stands where no key belongs.
 abbrev pub AllEven : List NodeAt → Type 0

@@ -2,7 +2,7 @@
 use Rattle.std.specs.Prelude.{◌≡◌, ◌≢◌, ℕ, ◌<◌, ◌≤◌, ◌-◌, ◌%◌, ◌^◌, Bool, true, false, Option, Some, None, List, [], ◌∷◌, map, is_some, replicate}
 use Rattle.std.specs.List.{AllByRecursion, fold, range_with_len}
 pub use Rattle.node_list.specs.Nodes.{NodeAt, SpareAt}
-use Rattle.node_list.specs.Nodes.{Listing, out_at}
+use Rattle.node_list.specs.Nodes.{Listing, first_dummy, out_at}
 use Rattle.node_list.specs.Order.{IsRising}
 use Rattle.node_list.specs.Follow as nodes
 pub use Rattle.list_steps.specs.declared.cursor.Cursor.{Cursor}
@@ -11,13 +11,13 @@ use Rattle.list_steps.specs.Seek.{sought}
 use Rattle.list_steps.specs.Steps as steps
 use Rattle.list_steps.specs.Content.{pairs}
 use Rattle.list_steps.specs.Found as cursors
-use Rattle.split_key.specs.Split.{split}
+use Rattle.split_key.specs.Sort.{regular_at}
 use Rattle.bucket_table.specs.Directory.{Directory, IsNearest, helper_of, limit_of}
 use Rattle.bucket_table.specs.Directory as directories
 use Rattle.bucket_table.specs.Dummies.{has_dummy}
 use Rattle.bucket_table.specs.Home.{IsHome}
-use Rattle.bucket_table.specs.declared.helper.Helper.{Helper}
-use Rattle.bucket_table.specs.declared.helper.Helper.TheVariants.{Idle, Seeking, Holding}
+pub use Rattle.bucket_table.specs.Helpers.{Help, Nothing, Sought, Dummy, help_of}
+use Rattle.bucket_table.specs.Helpers.{cursor_fits}
 use Rattle.txn_trace.specs.Map.{Map, empty, insert}
 
 -- The list of nodes and the buckets, of which contracts speak by the words below alone.
@@ -47,7 +47,7 @@ content t = map_of (regular t)
 
 -- The change number.
 abbrev pub turn_of : TableAt → ℕ
-turn_of t = t.list.turn
+turn_of t = t.list.changes
 
 -- The last stamp given.
 abbrev pub last_of : TableAt → ℕ
@@ -69,17 +69,6 @@ stored_of t = map is_some t.buckets.entries
 abbrev pub linked_of : TableAt → List Bool
 linked_of t = map (has_dummy t.list.nodes) (range_with_len 0 (limit_of t.buckets))
 
--- What a helper has: nothing, a cursor of this turn for the dummy of a bucket, or the dummy of a bucket.
-pub data Help : Type 0 where
-  Nothing : Help
-  Sought : ℕ → ℕ → Help
-  Dummy : ℕ → Help
-
-abbrev pub help_of : Helper → Help
-help_of Idle = Nothing
-help_of (Seeking bucket cursor) = Sought bucket (cursors.turn_of cursor)
-help_of (Holding bucket dummy) = Dummy bucket
-
 -- For each helper, what it has.
 abbrev pub helps_of : TableAt → List Help
 helps_of t = map help_of t.buckets.helpers
@@ -92,7 +81,12 @@ pub record KeepsBuckets (old new : TableAt) : Type 0 where
   pub stored : stored_of new ≡ stored_of old
   pub helps : helps_of new ≡ helps_of old
 
--- The nodes, the buckets and the change number are as they were: spares may come and go, and stamps be given.
+-- The list is as it was: its nodes, the spares that are out, the change number and the last stamp.
+abbrev pub KeepsList : TableAt → TableAt → Type 0
+KeepsList old new = new.list ≡ old.list
+
+-- The nodes, the buckets and the change number are as they were: spares may come and go, and stamps
+-- be given.
 pub record KeepsNodes (old new : TableAt) : Type 0 where
   pub all : nodes_of new ≡ nodes_of old
   pub regular : regular new ≡ regular old
@@ -100,16 +94,9 @@ pub record KeepsNodes (old new : TableAt) : Type 0 where
   pub linked : linked_of new ≡ linked_of old
   pub turn : turn_of new ≡ turn_of old
 
--- Whether a helper that has this has a cursor, and it fits.
-abbrev pub cursor_fits : TableAt → Option Helper → Bool
-cursor_fits t (Some (Seeking bucket cursor)) = cursors.fits t.list cursor
-cursor_fits t (Some Idle) = false
-cursor_fits t (Some (Holding bucket dummy)) = false
-cursor_fits t None = false
-
 -- Whether the cursor of the helper of this number fits.
 abbrev pub helper_fits : TableAt → ℕ → Bool
-helper_fits t helper = cursor_fits t (helper_of t.buckets helper)
+helper_fits t helper = cursor_fits t.list (helper_of t.buckets helper)
 
 -- The stamp of the spare that is out at a place, if one is.
 abbrev pub spare_out : TableAt → ℕ → Option ℕ
@@ -129,35 +116,39 @@ KeepsSpares old new = (place : ℕ) → spare_out new place ≡ spare_out old pl
 
 -- The change number when the cursor was placed.
 abbrev pub cursor_turn : Cursor → ℕ
-cursor_turn cursor = cursors.turn_of cursor
+cursor_turn cursor = cursors.changes_of cursor
 
 -- Whether the cursor fits: nothing has changed where it was placed.
 abbrev pub fits : TableAt → Cursor → Bool
 fits t cursor = cursors.fits t.list cursor
 
--- The cursor was placed on this table for this key, at any time: it fits while the change number stays, below the last one.
+-- The cursor was placed on this table for this key, at any time: it fits while the change number
+-- stays, below the last one.
 pub record IsPlaced (t : TableAt) (cursor : Cursor) (key : ℕ) : Type 0 where
   pub list : cursors.IsPlaced t.list cursor
-  pub split_is : cursors.split_of cursor ≡ split key
+  pub at_is : cursors.at_of cursor ≡ regular_at key
   pub in_turn : turn_of t ≡ cursor_turn cursor → turn_of t < 2 ^ 64 - 1 → fits t cursor ≡ true
 
--- The place is that of the dummy of the key's bucket, or of its nearest ancestor that is initialised.
+-- The place is that of the dummy of the key's bucket, or of its nearest ancestor that is
+-- initialised.
 abbrev pub IsStart : TableAt → ℕ → ℕ → Type 0
 IsStart t key place = IsNearest t.buckets (key % size_of t) place
 
--- The linked nodes after a seek of a key from a place: without the marked ones between there and the key's place.
+-- The linked nodes after a seek of a key from a place: without the marked ones between there and
+-- the key's place.
 abbrev pub nodes_sought : TableAt → ℕ → ℕ → List NodeAt
-nodes_sought t place key = sought t.list.nodes place (split key)
+nodes_sought t place key = sought t.list.nodes place (regular_at key)
 
 -- No linked node is marked.
 abbrev pub IsClean : TableAt → Type 0
 IsClean t = AllByRecursion (λ n. n.marked ≡ false) (nodes_of t)
 
--- The first marked node is unlinked and the spares are as they were, or none is marked and nothing has changed.
+-- The first marked node is unlinked and the spares are as they were, or none is marked and nothing
+-- has changed.
 abbrev pub SweepsNodes : TableAt → TableAt → SweepOutcome → Type 0
 SweepsNodes old new outcome = steps.Sweeps old.list new.list outcome
 
--- The split keys of the linked nodes rise strictly.
+-- The linked nodes rise strictly by split key and key.
 abbrev pub IsSplitOrdered : TableAt → Type 0
 IsSplitOrdered t = IsRising (nodes_of t)
 
@@ -175,8 +166,10 @@ pub record Follows (old new : TableAt) : Type 0 where
   pub last : last_of old ≤ last_of new
   pub placed : (cursor : Cursor) (key : ℕ) → IsPlaced old cursor key → IsPlaced new cursor key
 
--- An empty table of two buckets, of which bucket 0 is stored, and of idle helpers; no spare is out.
+-- An empty table of two buckets, of which bucket 0 is stored, and of idle helpers; its dummy alone
+-- is linked, and no spare is out.
 pub record IsNew (t : TableAt) (largest helpers : ℕ) : Type 0 where
+  pub nodes_are : nodes_of t ≡ first_dummy t.list.head 0 ∷ []
   pub regular_is : regular t ≡ []
   pub content_is : content t ≡ empty
   pub size_is : size_of t ≡ 2

@@ -4,8 +4,9 @@ ghost use Rattle.std.specs.Prelude.{◌≡◌};
 use node_list::Spare;
 use split_key::Key;
 
-/// What takes one change back, whatever the table has become since at other keys (an inverse method call in the sense of Herlihy
-/// and Koskinen 2008). A `Relink` owns a spare of the table, so that nothing is wanted to run it.
+/// What takes one change back, whatever the table has become since at other keys (an inverse method
+/// call in the sense of Herlihy and Koskinen 2008). A `Relink` owns a spare of the table, so that
+/// nothing is wanted to run it.
 #[derive(Debug, Drop)]
 pub enum MapJob {
     /// Takes out what was put at the key.

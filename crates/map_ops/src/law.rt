@@ -8,10 +8,12 @@ ghost use Rattle.map_ops.specs.Jobs.{key_of_job, spare_of_job};
 ghost use Rattle.map_ops.specs.Changes.{Applies, AreApart, ShowsAfter, TakesBack};
 ghost use Rattle.map_ops.specs.Laws.{GoesAndReturns, IsInOrder, TakesBackTwo};
 
-/// A change followed by its inverse leaves the content as it was, and with it the list of pairs, which has the pairs of the
-/// content in their order (`Table::size` says so of every table). An operation without a job leaves the content too.
+/// A change followed by its inverse leaves the content as it was, and with it the list of pairs,
+/// which has the pairs of the content in their order (`Table::size` says so of every table). An
+/// operation without a job leaves the content too.
 ///
-/// Does nothing when it runs: its contract is the law, of what `Table::apply` and `Table::take_back` promise.
+/// Does nothing when it runs: its contract is the law, of what `Table::apply` and
+/// `Table::take_back` promise.
 pub fn there_and_back()
     ensures content { (old new : TableAt) → GoesAndReturns old new → content new ≡ content old }
     ensures regular { (old new : TableAt) → GoesAndReturns old new
@@ -20,9 +22,10 @@ pub fn there_and_back()
         → Applies old new op reply None → content new ≡ content old }
 {}
 
-/// Two jobs of different keys may be taken back in either order: the one that is second may still be taken back after the first
-/// (clause `due`, where a spare that each owns is at a place of its own), and both orders leave the same content, with it the
-/// same list of pairs, and the same spares out.
+/// Two jobs of different keys may be taken back in either order: the one that is second may still
+/// be taken back after the first (clause `due`, where a spare that each owns is at a place of its
+/// own), and both orders leave the same content, with it the same list of pairs, and the same
+/// spares out.
 ///
 /// Does nothing when it runs: its contract is the law, of what `Table::take_back` promises.
 pub fn either_order()

@@ -10,15 +10,16 @@ use std::collections::BTreeMap;
 
 /// Adds what a node adds to the content.
 fn push_pair(found: &mut Vec<(u64, u64)>, node: &Node) -> Result<(), AllocError>
-    ensures { OnOk result (found.new.items ≡ found.old.items ++ pair_if node.now.kind node.now.marked node.now.value) }
+    ensures { OnOk result (found.new.items
+        ≡ found.old.items ++ pair_if node.now.kind node.now.marked node.now.at.key node.now.value) }
 {
     match node.kind {
         Kind::Dummy => Ok(()),
-        Kind::Regular(key) => {
+        Kind::Regular => {
             if node.marked {
                 Ok(())
             } else {
-                found.push((key, node.value))?;
+                found.push((node.at.key(), node.value))?;
                 Ok(())
             }
         }

@@ -49,7 +49,8 @@ impl Pending {
         self.plan
     }
 
-    /// The operation. Its key is below 2^63, and it has a spare exactly where it is a put or a take. Constant time.
+    /// The operation. Its key is below 2^63, and it has a spare exactly where it is a put or a
+    /// take. Constant time.
     pub fn op(&self) -> Op
         ensures op { result ≡ self.now.op }
         ensures key { key_of result < 2 ^ 63 }

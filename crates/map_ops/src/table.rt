@@ -1,6 +1,7 @@
 //! The table.
 //!
-//! A line `let _turn = self.list.turn();` has the prover know what is true of every list, which the contract of `turn` says.
+//! A line `let _changes = self.list.changes();` has the prover know what is true of every list,
+//! which the contract of `changes` says.
 ghost use Rattle.std.specs.Prelude.{◌≡◌, ◌≢◌, ℕ, ◌<◌, ◌≤◌, ◌-◌, ◌^◌, ◌↔◌, Ok, Err, Some, length, IfOk, IfErr, OnErr};
 ghost use Rattle.std.specs.List.{slice_get};
 ghost use Rattle.std.specs.BTreeMap.{get as value_at};
@@ -21,11 +22,12 @@ use std::collections::BTreeMap;
 use std::marker::Model;
 use txn_trace::{Op, Refusal, Reply};
 
-/// The table: the nodes of its keys in one split-ordered list, and the buckets through which they are found (Shalev and Shavit,
-/// "Split-Ordered Lists: Lock-Free Extensible Hash Tables", Journal of the ACM 53, 2006).
+/// The table: the nodes of its keys in one split-ordered list, and the buckets through which they
+/// are found (Shalev and Shavit, "Split-Ordered Lists: Lock-Free Extensible Hash Tables", Journal
+/// of the ACM 53, 2006).
 ///
-/// Contracts see the list and the buckets, by the words of `specs/TableAt.antt`: the `content` is a finite map, `regular` the list
-/// of its pairs in the order of their split keys.
+/// Contracts see the list and the buckets, by the words of `specs/TableAt.antt`: the `content` is a
+/// finite map, `regular` the list of its pairs in the order of their split keys.
 #[derive(Drop)]
 pub struct Table {
     list: NodeList,
@@ -44,15 +46,16 @@ impl Model for Table {
 }
 
 impl Table {
-    ghost use Rattle.map_ops.specs.TableAt.{HasParents, IsClean, IsNew, IsPlaced, IsSplitOrdered, Follows, Keeps, KeepsSpares, NamesDummies, Sought, content, helper_fits, regular, helps_of, last_of, largest_of, linked_of, size_of, stored_of, turn_of};
+    ghost use Rattle.map_ops.specs.TableAt.{HasParents, IsClean, IsNew, IsPlaced, IsSplitOrdered, Follows, Keeps, KeepsList, KeepsSpares, NamesDummies, Sought, content, helper_fits, regular, helps_of, last_of, largest_of, linked_of, size_of, stored_of, turn_of};
     ghost use Rattle.map_ops.specs.Jobs.{IsDue, key_of_job, spare_of_job};
-    ghost use Rattle.map_ops.specs.Changes.{Acts, Applies, GivesBack, IsRefused, OwnsIf, Places, Prepares, SeeksNear, Sweeps, TakesBack, Undoes};
-    ghost use Rattle.map_ops.specs.Buckets.{Doubles, LinkChanges, SeekChanges, StoreChanges, double_answer, link_answer_of, seek_answer, store_answer};
+    ghost use Rattle.map_ops.specs.Changes.{ActWrites, Acts, Applies, GivesBack, IsRefused, OwnsIf, Places, Prepares, SeeksAndUndoes, SeeksNear, Sweeps, TakesBack, UndoWrites, Undoes};
+    ghost use Rattle.map_ops.specs.Buckets.{Doubles, LinkChanges, LinkWrites, SeekChanges, SeekWrites, StoreChanges, double_answer, link_answer_of, seek_answer, store_answer};
 
-    /// An empty table of two buckets, of which bucket 0 is initialised, and of so many idle helpers. It can grow to `max`
-    /// buckets, a power of two.
+    /// An empty table of two buckets, of which bucket 0 is initialised, and of so many idle
+    /// helpers. It can grow to `max` buckets, a power of two.
     ///
-    /// Allocates an entry a bucket and one a helper, and takes time in proportion to `max` and `callers`.
+    /// Allocates an entry a bucket and one a helper, and takes time in proportion to `max` and
+    /// `callers`.
     ///
     /// # Errors
     ///
@@ -63,36 +66,38 @@ impl Table {
         ensures { IfOk result (λ table. IsNew table max callers) }
     {
         let list = NodeList::new(alloc, 0)?;
-        let _turn = list.turn();
+        let _changes = list.changes();
         let buckets = Buckets::new(alloc, max, callers, &list)?;
         Ok(Table { list, buckets })
     }
 
-    /// Prepares an operation: looks at its key, and takes the spare that a put or a take needs, so that no memory is wanted
-    /// from here on. Content and list stay.
+    /// Prepares an operation: looks at its key, and takes the spare that a put or a take needs, so
+    /// that no memory is wanted from here on. Content and list stay.
     ///
     /// May allocate a node. Amortised constant time.
     ///
     /// # Errors
     ///
-    /// `BadKey` where the key is 2^63 or more; then, for a put or a take, `StampsUsedUp` where the last stamp, 2^64 - 2, is
-    /// given, and `NoMemory` where memory is refused. Each leaves the table as it was.
+    /// `BadKey` where the key is 2^63 or more; then, for a put or a take, `StampsUsedUp` where the
+    /// last stamp, 2^64 - 2, is given, and `NoMemory` where memory is refused. Each leaves the
+    /// table as it was.
     pub fn prepare(&mut self, op: Op) -> Result<Pending, Refusal>
         ensures ok { IfOk result (Prepares self.old self.new op) }
         ensures err { IfErr result (IsRefused self.old op) }
         ensures unchanged { OnErr result (self.new ≡ self.old) }
         ensures follows { Follows self.old self.new }
     {
-        let _turn = self.list.turn();
+        let _changes = self.list.changes();
         let plan = plan(&mut self.list, op)?;
         Ok(Pending::new(plan))
     }
 
-    /// Seeks the key of an operation, from the dummy of its bucket or of the nearest ancestor that is initialised (Shalev and
-    /// Shavit 2006, section 3.2), and unlinks the marked nodes that it passes. Content and list of pairs stay.
+    /// Seeks the key of an operation, from the dummy of its bucket or of the nearest ancestor that
+    /// is initialised (Shalev and Shavit 2006, section 3.2), and unlinks the marked nodes that it
+    /// passes. Content and list of pairs stay.
     ///
-    /// The cursor fits until something changes where it is. Takes no memory. One step a node from that dummy to the key's place,
-    /// and one an ancestor up to there.
+    /// The cursor fits until something changes where it is. Takes no memory. One step a node from
+    /// that dummy to the key's place, and one an ancestor up to there.
     pub fn place(&mut self, pending: &Pending) -> Cursor
         ensures places { Places self.old self.new (key_of pending.now.op) result }
         ensures near { SeeksNear self.old self.new (key_of pending.now.op) }
@@ -102,14 +107,18 @@ impl Table {
         seek_key(&mut self.list, &self.buckets, pending.key())
     }
 
-    /// Does an operation at a cursor that was placed for its key, and gives the reply with what takes the change back.
+    /// Does an operation at a cursor that was placed for its key, and gives the reply with what
+    /// takes the change back. A put links one node or writes one value, a take marks one node, and
+    /// what is no change writes nothing. No node is unlinked.
     ///
-    /// `Again` comes exactly where the cursor no longer fits, so never while the change number is still the cursor's and below
-    /// 2^64 - 1: then nothing has changed, and the operation comes back. Takes no memory. Constant time.
+    /// `Again` comes exactly where the cursor no longer fits, so never while the change number is
+    /// still the cursor's and below 2^64 - 1: then nothing has changed, and the operation comes
+    /// back. Takes no memory. Constant time.
     pub fn act(&mut self, pending: Pending, cursor: Cursor) -> Act
         requires placed { IsPlaced self.old cursor (key_of pending.op) }
         requires owned { OwnsIf self.old pending.spare }
         ensures acts { Acts self.old self.new pending cursor result }
+        ensures writes { ActWrites self.old self.new pending result }
         ensures rises { turn_of self.old ≤ turn_of self.new }
         ensures follows { Follows self.old self.new }
     {
@@ -145,16 +154,18 @@ impl Table {
         seek_key(&mut self.list, &self.buckets, job.key())
     }
 
-    /// Takes a change back at a cursor that was placed for its key: the key has what it had before the change, and every other
-    /// key what it has now, whatever was changed there since.
+    /// Takes a change back at a cursor that was placed for its key: the key has what it had before
+    /// the change, and every other key what it has now, whatever was changed there since. One node is
+    /// marked, written or linked, and none is unlinked.
     ///
-    /// `Again` comes exactly where the cursor no longer fits: then nothing has changed, and the job comes back. Takes no memory.
-    /// Constant time.
+    /// `Again` comes exactly where the cursor no longer fits: then nothing has changed, and the job
+    /// comes back. Takes no memory. Constant time.
     pub fn undo(&mut self, job: MapJob, cursor: Cursor) -> Undo
         requires placed { IsPlaced self.old cursor (key_of_job job) }
         requires due { IsDue (content self.old) job }
         requires owned { OwnsIf self.old (spare_of_job job) }
         ensures undoes { Undoes self.old self.new job cursor result }
+        ensures writes { UndoWrites self.old self.new job result }
         ensures rises { turn_of self.old ≤ turn_of self.new }
         ensures follows { Follows self.old self.new }
     {
@@ -167,7 +178,8 @@ impl Table {
         }
     }
 
-    /// Gives up a job whose change is to stay: the spare of a `Relink` goes back to the list, and all else stays.
+    /// Gives up a job whose change is to stay: the spare of a `Relink` goes back to the list, and
+    /// all else stays.
     ///
     /// Takes no memory. Constant time.
     pub fn discard(&mut self, job: MapJob)
@@ -178,11 +190,11 @@ impl Table {
         give_up_job(&mut self.list, job);
     }
 
-    /// Does an operation at once: its reply and what it leaves are those of a plain map, and a job is given exactly where it is
-    /// a change.
+    /// Does an operation at once: its reply and what it leaves are those of a plain map, and a job
+    /// is given exactly where it is a change.
     ///
-    /// May allocate a node, as `prepare` does. Takes the time of `place`: one step a node from the nearest initialised dummy to
-    /// the key's place.
+    /// May allocate a node, as `prepare` does. Takes the time of `place`: one step a node from the
+    /// nearest initialised dummy to the key's place.
     ///
     /// # Errors
     ///
@@ -202,14 +214,17 @@ impl Table {
         }
     }
 
-    /// Takes a change back at once. So an operation and its job leave content and list of pairs as they were
-    /// (`law::there_and_back`), and jobs of different keys may run in either order (`law::either_order`).
+    /// Takes a change back at once. So an operation and its job leave content and list of pairs as
+    /// they were (`law::there_and_back`), and jobs of different keys may run in either order
+    /// (`law::either_order`).
     ///
-    /// Takes no memory. Takes the time of `place_job`: one step a node from the nearest initialised dummy to the key's place.
+    /// Takes no memory. Takes the time of `place_job`: one step a node from the nearest initialised
+    /// dummy to the key's place.
     pub fn take_back(&mut self, job: MapJob)
         requires due { IsDue (content self.old) job }
         requires owned { OwnsIf self.old (spare_of_job job) }
         ensures back { TakesBack self.old self.new job }
+        ensures writes { SeeksAndUndoes self.old self.new job }
         ensures rises { turn_of self.old ≤ turn_of self.new }
         ensures follows { Follows self.old self.new }
     {
@@ -220,21 +235,23 @@ impl Table {
         }
     }
 
-    /// The keys with their values, as a map. Takes a step a node and, with n keys, n log n for the map; memory for the pairs
-    /// twice while it runs, in a vector and in the map.
+    /// The keys with their values, as a map. Takes a step a node and, with n keys, n log n for the
+    /// map; memory for the pairs twice while it runs, in a vector and in the map.
     ///
     /// # Errors
     ///
     /// `AllocError` where memory is refused.
     pub fn content(&self, alloc: Global) -> Result<BTreeMap<u64, u64>, AllocError>
-        ensures { IfOk result (λ map. (key : ℕ) → value_at nat_cmp map key ≡ get (content self.now) key) }
+        ensures { IfOk result (λ map. (key : ℕ)
+            → value_at nat_cmp map key ≡ get (content self.now) key) }
     {
-        let _turn = self.list.turn();
+        let _changes = self.list.changes();
         let pairs = pairs_of(alloc, &self.list)?;
         map_of(alloc, &pairs)
     }
 
-    /// The keys with their values, in the order of the list, which is that of split keys. Takes a step a node.
+    /// The keys with their values, in the order of the list, which is that of split keys. Takes a
+    /// step a node.
     ///
     /// # Errors
     ///
@@ -243,14 +260,15 @@ impl Table {
         ensures regular { IfOk result (λ pairs. pairs.items ≡ regular self.now) }
         ensures ordered { IfOk result (λ pairs. pairs.items ≡ ordered (content self.now)) }
     {
-        let _turn = self.list.turn();
+        let _changes = self.list.changes();
         pairs_of(alloc, &self.list)
     }
 
     /// The size: how many buckets there are now. Constant time.
     ///
-    /// Its contract says also what is true of every table: the split keys of the linked nodes rise strictly, the list has the
-    /// pairs of the content in their order, and each initialised bucket names its linked dummy and has an initialised parent.
+    /// Its contract says also what is true of every table: the split keys of the linked nodes rise
+    /// strictly, the list has the pairs of the content in their order, and each initialised bucket
+    /// names its linked dummy and has an initialised parent.
     pub fn size(&self) -> u32
         ensures size { result ≡ size_of self.now }
         ensures ordered { regular self.now ≡ ordered (content self.now) }
@@ -258,16 +276,16 @@ impl Table {
         ensures stored { NamesDummies self.now }
         ensures parents { HasParents self.now }
     {
-        let _turn = self.list.turn();
+        let _changes = self.list.changes();
         self.buckets.size()
     }
 
-    /// The change number: how many links, marks, unlinks and writes there were, and 2^64 - 1 from there on. No call lowers it.
-    /// Constant time.
+    /// The change number: how many links, marks, unlinks and writes there were, and 2^64 - 1 from
+    /// there on. No call lowers it. Constant time.
     pub fn turn(&self) -> u64
         ensures { result ≡ turn_of self.now }
     {
-        self.list.turn()
+        self.list.changes()
     }
 
     /// How many keys there are. It is kept, so this takes constant time.
@@ -275,11 +293,12 @@ impl Table {
         ensures count { result ≡ count_of (content self.now) }
         ensures length { result ≡ length (regular self.now) }
     {
-        let _turn = self.list.turn();
+        let _changes = self.list.changes();
         self.list.count()
     }
 
-    /// Unlinks the first marked node, if one is marked, and nothing else. `Clean` comes exactly where none is.
+    /// Unlinks the first marked node, if one is marked, and nothing else. `Clean` comes exactly
+    /// where none is.
     ///
     /// Takes no memory. One step a node up to there.
     pub fn sweep(&mut self) -> SweepOutcome
@@ -291,78 +310,96 @@ impl Table {
         ensures rises { turn_of self.old ≤ turn_of self.new }
         ensures follows { Follows self.old self.new }
     {
-        let _turn = self.list.turn();
+        let _changes = self.list.changes();
         sweep(&mut self.list)
     }
 
-    /// Seeks the place of a bucket's dummy for a helper, from the dummy of the bucket's parent. Content and list of pairs stay.
+    /// Seeks the place of a bucket's dummy for a helper, from the dummy of the bucket's parent.
+    /// Content and list of pairs stay; the marked nodes that it passes are unlinked.
     ///
-    /// `Ready` where the bucket is initialised already: then the helper is idle. Else `Placed`, and the helper has a cursor that
-    /// fits, in place of whatever it had. Takes no memory. One step a node from the parent's dummy to the place.
+    /// `Ready` where the bucket is initialised already: then the helper is idle. Else `Placed`, and
+    /// the helper has a cursor that fits, in place of whatever it had. Takes no memory. One step a
+    /// node from the parent's dummy to the place.
     ///
     /// # Errors
     ///
-    /// In this order: `NoSuchHelper`, `NoSuchBucket` where the bucket is not below the size, `ParentMissing` where it is not
-    /// initialised and its parent is not either. Each leaves the table as it was.
+    /// In this order: `NoSuchHelper`, `NoSuchBucket` where the bucket is not below the size,
+    /// `ParentMissing` where it is not initialised and its parent is not either. Each leaves the
+    /// table as it was.
     pub fn init_seek(&mut self, helper: u64, bucket: u64) -> Result<InitSeek, InitRefusal>
-        ensures answer { result ≡ seek_answer (size_of self.old) (stored_of self.old) (slice_get (helps_of self.old) helper) bucket }
+        ensures answer { result
+            ≡ seek_answer (size_of self.old) (stored_of self.old) (slice_get (helps_of self.old) helper) bucket }
         ensures changes { SeekChanges self.old self.new helper bucket result }
+        ensures writes { SeekWrites self.old self.new bucket result }
         ensures rises { turn_of self.old ≤ turn_of self.new }
         ensures follows { Follows self.old self.new }
     {
-        let _turn = self.list.turn();
+        let _changes = self.list.changes();
         self.buckets.init_seek(&mut self.list, helper, bucket)
     }
 
     /// Links the dummy of a helper's bucket at the helper's cursor. Content and list of pairs stay.
     ///
-    /// `Again` where the cursor no longer fits: it is dropped. `Present` where that dummy is linked already, else `Linked`: the
-    /// helper has the dummy. May allocate a node. Amortised constant time.
+    /// `Again` where the cursor no longer fits: it is dropped. `Present` where that dummy is linked
+    /// already, else `Linked`: the helper has the dummy. May allocate a node. Amortised constant
+    /// time.
     ///
     /// # Errors
     ///
-    /// In this order: `NoSuchHelper`, `HelperOutOfOrder` where the helper has no cursor, `StampsUsedUp`, `NoMemory`. Each leaves
-    /// the table as it was.
+    /// In this order: `NoSuchHelper`, `HelperOutOfOrder` where the helper has no cursor,
+    /// `StampsUsedUp`, `NoMemory`. Each leaves the table as it was.
     pub fn init_link(&mut self, helper: u64) -> Result<InitLink, InitRefusal>
-        ensures answer { result ≢ Err InitRefusal.NoMemory → result ≡ link_answer_of self.old helper }
-        ensures no_memory { result ≡ Err InitRefusal.NoMemory → link_answer_of self.old helper ≡ Ok InitLink.Linked }
-        ensures in_turn { (bucket : ℕ) → slice_get (helps_of self.old) helper ≡ Some (Sought bucket (turn_of self.old))
+        ensures answer { result ≢ Err InitRefusal.NoMemory
+            → result ≡ link_answer_of self.old helper }
+        ensures no_memory { result ≡ Err InitRefusal.NoMemory
+            → link_answer_of self.old helper ≡ Ok InitLink.Linked }
+        ensures in_turn { (bucket : ℕ)
+            → slice_get (helps_of self.old) helper ≡ Some (Sought bucket (turn_of self.old))
             → turn_of self.old < 2 ^ 64 - 1 → result ≢ Ok InitLink.Again }
         ensures changes { LinkChanges self.old self.new helper result }
+        ensures writes { (bucket turn : ℕ)
+            → slice_get (helps_of self.old) helper ≡ Some (Sought bucket turn)
+            → LinkWrites self.old self.new bucket result }
         ensures rises { turn_of self.old ≤ turn_of self.new }
         ensures follows { Follows self.old self.new }
     {
-        let _turn = self.list.turn();
+        let _changes = self.list.changes();
         let _size = self.buckets.size();
         self.buckets.init_link(&mut self.list, helper)
     }
 
-    /// Stores a helper's dummy as its bucket's, which is initialised from then on, and leaves the helper idle.
+    /// Stores a helper's dummy as its bucket's, which is initialised from then on, and leaves the
+    /// helper idle.
     ///
     /// Takes no memory. Constant time.
     ///
     /// # Errors
     ///
-    /// In this order: `NoSuchHelper`, `HelperOutOfOrder` where the helper has no dummy. Each leaves the table as it was.
+    /// In this order: `NoSuchHelper`, `HelperOutOfOrder` where the helper has no dummy. Each leaves
+    /// the table as it was.
     pub fn init_store(&mut self, helper: u64) -> Result<(), InitRefusal>
         ensures answer { result ≡ store_answer (slice_get (helps_of self.old) helper) }
         ensures changes { StoreChanges self.old self.new helper result }
+        ensures list { KeepsList self.old self.new }
         ensures follows { Follows self.old self.new }
     {
-        let _turn = self.list.turn();
+        let _changes = self.list.changes();
         self.buckets.init_store(helper)
     }
 
     /// Doubles the size. No node moves.
     ///
-    /// Not so, in this order, where the size is not the one seen (`Moved`), where it is the largest (`AtLimit`), and where there
-    /// are at most twice as many keys as buckets (`Light`). Takes no memory. Constant time.
+    /// Not so, in this order, where the size is not the one seen (`Moved`), where it is the largest
+    /// (`AtLimit`), and where there are at most twice as many keys as buckets (`Light`). Takes no
+    /// memory. Constant time.
     pub fn double(&mut self, seen: u64) -> Double
-        ensures answer { result ≡ double_answer (size_of self.old) (largest_of self.old) (count_of (content self.old)) seen }
+        ensures answer { result
+            ≡ double_answer (size_of self.old) (largest_of self.old) (count_of (content self.old)) seen }
         ensures changes { Doubles self.old self.new result }
+        ensures list { KeepsList self.old self.new }
         ensures follows { Follows self.old self.new }
     {
-        let _turn = self.list.turn();
+        let _changes = self.list.changes();
         self.buckets.double(&self.list, seen)
     }
 }

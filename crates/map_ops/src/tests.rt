@@ -157,6 +157,23 @@ fn a_sweep_unlinks_what_was_taken(rt: HostRuntime) -> Result<(), Fail> {
     shows(&rt, rt.alloc(), &table, &[])
 }
 
+/// The nodes are in the order 2, 1, 3. No seek passes a marked one, since key 1 stands between.
+#[test]
+fn a_sweep_leaves_the_second_marked_node(rt: HostRuntime) -> Result<(), Fail> {
+    let mut table = table(rt.alloc())?;
+    let _ = table.apply(Op::Put(1, 10))?;
+    there_and_back(&mut table, Op::Put(3, 30))?;
+    there_and_back(&mut table, Op::Put(2, 20))?;
+    assert_eq!(rt; table.turn(), 5);
+    assert_eq!(rt; table.sweep(), SweepOutcome::Swept);
+    assert_eq!(rt; table.turn(), 6);
+    assert_eq!(rt; table.sweep(), SweepOutcome::Swept);
+    assert_eq!(rt; table.turn(), 7);
+    assert_eq!(rt; table.sweep(), SweepOutcome::Clean);
+    assert_eq!(rt; table.turn(), 7);
+    shows(&rt, rt.alloc(), &table, &[(1, 10)])
+}
+
 #[test]
 fn what_is_given_up_changes_nothing(rt: HostRuntime) -> Result<(), Fail> {
     let mut table = table(rt.alloc())?;
@@ -213,6 +230,14 @@ fn put(table: &mut Table, key: u64, value: u64) -> Result<(Reply, Option<MapJob>
     ensures follows { Follows table.old table.new }
 {
     table.apply(Op::Put(key, value))
+}
+
+/// Reads a key at once.
+fn read(table: &mut Table, key: u64) -> Result<(Reply, Option<MapJob>), Refusal>
+    ensures spares { KeepsSpares table.old table.new }
+    ensures follows { Follows table.old table.new }
+{
+    table.apply(Op::Get(key))
 }
 
 /// Does a prepared operation.
@@ -290,6 +315,26 @@ fn stale_pending(rt: HostRuntime) -> Result<(), Fail> {
     shows(&rt, rt.alloc(), &table, &[])
 }
 
+/// The cursor of key 3 stands behind key 1. Key 4 is put before key 1, and key 3 is read.
+#[test]
+fn a_cursor_lasts_while_its_place_stays(rt: HostRuntime) -> Result<(), Fail> {
+    let mut table = table(rt.alloc())?;
+    let _ = table.apply(Op::Put(1, 10))?;
+    let pending = table.prepare(Op::Put(3, 30))?;
+    let cursor = table.place(&pending);
+    let (reply, _) = put(&mut table, 4, 40)?;
+    assert_eq!(rt; reply, None);
+    let (reply, _) = read(&mut table, 3)?;
+    assert_eq!(rt; reply, None);
+    assert!(rt;
+        matches!(
+            table.act(pending, cursor),
+            Act::Acted(None, Some(MapJob::Unput(_)))
+        )
+    );
+    shows(&rt, rt.alloc(), &table, &[(4, 40), (1, 10), (3, 30)])
+}
+
 /// Keys with their values, in the order of the list.
 const PAIRS: [(u64, u64); 8] = [
     (4, 40),
@@ -315,7 +360,8 @@ fn figures(table: &Table) -> (u32, u64, u64) {
     (table.size(), table.count(), table.turn())
 }
 
-/// Puts a new key. Where memory is refused, the table is as it was, with these pairs, and the put is done when it is asked again.
+/// Puts a new key. Where memory is refused, the table is as it was, with these pairs, and the put
+/// is done when it is asked again.
 fn put_again(
     rt: &impl Abort,
     alloc: Global,

@@ -4,8 +4,7 @@ use crate::table::Table;
 use undo_log::UndoJob;
 
 impl UndoJob for MapJob {
-    ghost use Rattle.map_ops.specs.TableAt.{Follows};
-    ghost use Rattle.map_ops.specs.Changes.{ShowsAfter, ShowsBefore, TakesBack};
+    ghost use Rattle.map_ops.specs.Changes.{Runs, ShowsAfter, ShowsBefore};
 
     type World = Table;
 
@@ -13,7 +12,7 @@ impl UndoJob for MapJob {
 
     ghost shows_before = { ShowsBefore };
 
-    ghost takes_back = { λ job old new. TakesBack old new job × Follows old new };
+    ghost takes_back = { λ job old new. Runs old new job };
 
     fn run(self, world: Table) -> Table {
         let mut table = world;

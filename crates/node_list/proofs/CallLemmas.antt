@@ -5,7 +5,7 @@ use Rattle.node_list.specs.declared.node.Node.{Node}
 use Rattle.node_list.specs.declared.node.Kind.TheVariants.{Dummy, Regular}
 use Rattle.node_list.specs.declared.slots.Slot.{Slot}
 use Rattle.node_list.specs.declared.slots.Slot.TheVariants.{Linked, Out}
-use Rattle.node_list.specs.Nodes.{NodeAt, SpareAt, IsOut, filled, out_at, node_of, place_of, IsLinked, IsRegularAt, IsBeforeMarked, is_regular, is_live, is_marked, live_count, marked_count, linked_after, unlinked_after, changed_at, marked_at, written_at, turn_after, GivesOut, TakesBack, Becomes, Takes}
+use Rattle.node_list.specs.Nodes.{NodeAt, SpareAt, IsOut, filled, out_at, node_of, place_of, IsLinked, IsRegularAt, IsBeforeMarked, is_regular, is_live, is_marked, live_count, marked_count, linked_after, unlinked_after, changed_at, marked_at, written_at, one_more, GivesOut, TakesBack, Becomes, Takes}
 use Rattle.node_list.specs.Order.{IsRising}
 use Rattle.node_list.specs.Seen.{seen}
 use Rattle.node_list.specs.Follow.{IsSameNode, Follows}
@@ -31,17 +31,17 @@ slot_linked slab head last count marked place is linked = linked_node (get slab)
 pub behind_linked : (slab : Slab Slot) (head : ℕ) (pred : ℕ) → IsBeforeMarked (nodes_in slab head) pred → IsLinked (nodes_in slab head) pred
 behind_linked slab head pred behind = (next_linked (nodes_in slab head) pred behind.node.place (ap place_of behind.next)).0
 
-module _ (old : Slab Slot) (head turn last count marked : ℕ) (is : IsKept old head last count marked) where
+module _ (old : Slab Slot) (head changes last count marked : ℕ) (is : IsKept old head last count marked) where
   -- A spare is given out.
-  pub spared : (new : Slab Slot) (place : ℕ) → last + 1 < 2 ^ 64 - 1 → get old place ≡ None → Updates old new place (Some (Out (last + 1))) → IsKept new head (last + 1) count marked × GivesOut (listing_of old head turn last) (listing_of new head turn (last + 1)) place (last + 1) × Follows (listing_of old head turn last) (listing_of new head turn (last + 1))
+  pub spared : (new : Slab Slot) (place : ℕ) → last + 1 < 2 ^ 64 - 1 → get old place ≡ None → Updates old new place (Some (Out (last + 1))) → IsKept new head (last + 1) count marked × GivesOut (listing_of old head changes last) (listing_of new head changes (last + 1)) place (last + 1) × Follows (listing_of old head changes last) (listing_of new head changes (last + 1))
   spared new place below free updates =
       let nodes = nodes_in old head in
       let laid = spare_laid_out old new head place (last + 1) nodes free updates is.laid_out in
       let stamps = spare_stamps old new head place (last + 1) nodes free updates last refl is.stamps in
-      let gives : GivesOut (listing_of old head turn last) (listing_of new head turn (last + 1)) place (last + 1) = record {
+      let gives : GivesOut (listing_of old head changes last) (listing_of new head changes (last + 1)) place (last + 1) = record {
         nodes = nodes_in_is new head nodes laid;
         head = refl;
-        turn = refl;
+        changes = refl;
         last = refl;
         was_free = spare_was_free old new head place (last + 1) nodes free updates;
         is_out = spare_out old new head place (last + 1) nodes free updates;
@@ -53,15 +53,15 @@ module _ (old : Slab Slot) (head turn last count marked : ℕ) (is : IsKept old 
       )
 
   -- A spare is given back.
-  pub taken_back : (new : Slab Slot) (place stamp : ℕ) → out_at (listing_of old head turn last) place ≡ Some stamp → Updates old new place None → IsKept new head last count marked × TakesBack (listing_of old head turn last) (listing_of new head turn last) place × Follows (listing_of old head turn last) (listing_of new head turn last)
+  pub taken_back : (new : Slab Slot) (place stamp : ℕ) → out_at (listing_of old head changes last) place ≡ Some stamp → Updates old new place None → IsKept new head last count marked × TakesBack (listing_of old head changes last) (listing_of new head changes last) place × Follows (listing_of old head changes last) (listing_of new head changes last)
   taken_back new place stamp is_out freed =
       let nodes = nodes_in old head in
       let laid = back_laid_out old new head place stamp nodes is_out freed is.laid_out in
       let stamps = back_stamps old new head place stamp nodes is_out freed last is.stamps in
-      let back : TakesBack (listing_of old head turn last) (listing_of new head turn last) place = record {
+      let back : TakesBack (listing_of old head changes last) (listing_of new head changes last) place = record {
         nodes = nodes_in_is new head nodes laid;
         head = refl;
-        turn = refl;
+        changes = refl;
         last = refl;
         gone = back_gone old new head place stamp nodes is_out freed;
         others = back_others old new head place stamp nodes is_out freed;
@@ -74,7 +74,7 @@ module _ (old : Slab Slot) (head turn last count marked : ℕ) (is : IsKept old 
   -- A node is changed.
   module _ (new : Slab Slot) (place : ℕ) (change : NodeAt → NodeAt) (node written : Node)
       (same : (n : NodeAt) → IsSameNode n (change n))
-      (changes : (n : NodeAt) (next : Option ℕ) → node ≡ stored n next → written ≡ stored (change n) next)
+      (stores : (n : NodeAt) (next : Option ℕ) → node ≡ stored n next → written ≡ stored (change n) next)
       (stamp : written.stamp ≡ node.stamp)
       (linked : IsLinked (nodes_in old head) place)
       (is_node : get old place ≡ Some (Linked node))
@@ -89,17 +89,17 @@ module _ (old : Slab Slot) (head turn last count marked : ℕ) (is : IsKept old 
     marked_now : marked_count (changed_at (nodes_in old head) place change) + gain is_marked (seen place node) ≡ marked_count (nodes_in old head) + gain is_marked (change (seen place node))
     marked_now = count-changed is_marked (nodes_in old head) place change (seen place node) found
 
-    pub changed : (live marks : ℕ) → live + gain is_live (seen place node) ≡ count + gain is_live (change (seen place node)) → marks + gain is_marked (seen place node) ≡ marked + gain is_marked (change (seen place node)) → IsKept new head last live marks × Becomes (listing_of old head turn last) (listing_of new head (turn_after turn) last) (changed_at (nodes_in old head) place change) × Follows (listing_of old head turn last) (listing_of new head (turn_after turn) last)
+    pub changed : (live marks : ℕ) → live + gain is_live (seen place node) ≡ count + gain is_live (change (seen place node)) → marks + gain is_marked (seen place node) ≡ marked + gain is_marked (change (seen place node)) → IsKept new head last live marks × Becomes (listing_of old head changes last) (listing_of new head (one_more changes) last) (changed_at (nodes_in old head) place change) × Follows (listing_of old head changes last) (listing_of new head (one_more changes) last)
     changed live marks live_is marks_are =
         let nodes = nodes_in old head in
-        let laid = change_laid_out old new head last place nodes change node written is.laid_out is.stamps same changes stamp is_node new_is plain in
-        let stamps = change_stamps old new head last place nodes change node written is.laid_out is.stamps same changes stamp is_node new_is in
-        let becomes : Becomes (listing_of old head turn last) (listing_of new head (turn_after turn) last) (changed_at (nodes_in old head) place change) = record {
+        let laid = change_laid_out old new head last place nodes change node written is.laid_out is.stamps same stores stamp is_node new_is plain in
+        let stamps = change_stamps old new head last place nodes change node written is.laid_out is.stamps same stores stamp is_node new_is in
+        let becomes : Becomes (listing_of old head changes last) (listing_of new head (one_more changes) last) (changed_at (nodes_in old head) place change) = record {
           nodes = nodes_in_is new head (changed_at nodes place change) laid;
           head = refl;
-          turn = refl;
+          changes = refl;
           last = refl;
-          out = change_out old new head last place nodes change node written is.laid_out is.stamps same changes stamp is_node new_is;
+          out = change_out old new head last place nodes change node written is.laid_out is.stamps same stores stamp is_node new_is;
         } in (
           kept new head last live marks (changed_at nodes place change) laid stamps is.below
               (omega (arith, live_now, is.counted)) (omega (arith, marked_now, is.marks)),
@@ -108,20 +108,20 @@ module _ (old : Slab Slot) (head turn last count marked : ℕ) (is : IsKept old 
         )
 
   -- A value is written.
-  pub value_written : (new : Slab Slot) (place value : ℕ) (node : Node) → IsLinked (nodes_in old head) place → get old place ≡ Some (Linked node) → new ≡ with_value old place (Linked (record node { value = value })) → IsKept new head last count marked × Becomes (listing_of old head turn last) (listing_of new head (turn_after turn) last) (written_at (nodes_in old head) place value) × Follows (listing_of old head turn last) (listing_of new head (turn_after turn) last)
+  pub value_written : (new : Slab Slot) (place value : ℕ) (node : Node) → IsLinked (nodes_in old head) place → get old place ≡ Some (Linked node) → new ≡ with_value old place (Linked (record node { value = value })) → IsKept new head last count marked × Becomes (listing_of old head changes last) (listing_of new head (one_more changes) last) (written_at (nodes_in old head) place value) × Follows (listing_of old head changes last) (listing_of new head (one_more changes) last)
   value_written new place value node linked is_node new_is =
       changed new place (λ n. record n { value = value }) node (record node { value = value })
-      (λ n. record { place = refl; split = refl; kind = refl; stamp = refl })
+      (λ n. record { place = refl; at = refl; kind = refl; stamp = refl })
       (λ n next node_is. ap (λ (v : Node). record v { value = value }) node_is)
       refl linked is_node new_is (λ n there plain. plain) count marked refl refl
 
   -- The node at the place of an unmarked regular node.
-  regular_seen : (place : ℕ) (node : Node) → IsRegularAt (nodes_in old head) place → get old place ≡ Some (Linked node) → (key : ℕ) × (node.kind ≡ Regular key) × (node.marked ≡ false)
+  regular_seen : (place : ℕ) (node : Node) → IsRegularAt (nodes_in old head) place → get old place ≡ Some (Linked node) → (node.kind ≡ Regular) × (node.marked ≡ false)
   regular_seen place node regular is_node =
       let linked = found_linked (nodes_in old head) place regular.node regular.is in
       let there = node_found (get old) (nodes_in old head) place node is.laid_out.chain linked is_node in
       let same = some-injective (sym there ∙ regular.is) in
-      (regular.key, ap (λ (v : NodeAt). v.kind) same ∙ regular.regular, ap (λ (v : NodeAt). v.marked) same ∙ regular.unmarked)
+      (ap (λ (v : NodeAt). v.kind) same ∙ regular.regular, ap (λ (v : NodeAt). v.marked) same ∙ regular.unmarked)
 
   -- An unmarked regular node is counted.
   pub counts_one : (place : ℕ) → IsRegularAt (nodes_in old head) place → 1 ≤ count
@@ -129,24 +129,24 @@ module _ (old : Slab Slot) (head turn last count marked : ℕ) (is : IsKept old 
       let linked = found_linked (nodes_in old head) place regular.node regular.is in
       let slot = linked_node (get old) (nodes_in old head) place is.laid_out.chain linked in
       let marking = count-changed is_live (nodes_in old head) place (λ n. record n { marked = true }) regular.node regular.is in
-      let one = live-regular regular.node regular.key regular.regular regular.unmarked in
+      let one = live-regular regular.node regular.regular regular.unmarked in
       let none = live-marked (record regular.node { marked = true }) refl in
       omega (arith, marking, one, none, is.counted)
 
-  dummy-not-regular : {key : ℕ} → Dummy ≡ Regular key → ⊥
+  dummy-not-regular : Dummy ≡ Regular → ⊥
   dummy-not-regular e = cc
 
   -- A node is marked.
-  pub node_marked : (new : Slab Slot) (place : ℕ) (node : Node) → IsRegularAt (nodes_in old head) place → get old place ≡ Some (Linked node) → new ≡ with_value old place (Linked (record node { marked = true })) → IsKept new head last (count - 1) (marked + 1) × Becomes (listing_of old head turn last) (listing_of new head (turn_after turn) last) (marked_at (nodes_in old head) place) × Follows (listing_of old head turn last) (listing_of new head (turn_after turn) last)
+  pub node_marked : (new : Slab Slot) (place : ℕ) (node : Node) → IsRegularAt (nodes_in old head) place → get old place ≡ Some (Linked node) → new ≡ with_value old place (Linked (record node { marked = true })) → IsKept new head last (count - 1) (marked + 1) × Becomes (listing_of old head changes last) (listing_of new head (one_more changes) last) (marked_at (nodes_in old head) place) × Follows (listing_of old head changes last) (listing_of new head (one_more changes) last)
   node_marked new place node regular is_node new_is =
       let linked = found_linked (nodes_in old head) place regular.node regular.is in
       let seen_is = regular_seen place node regular is_node in
-      let one = live-regular (seen place node) seen_is.0 seen_is.1 seen_is.2 in
+      let one = live-regular (seen place node) seen_is.0 seen_is.1 in
       let none = live-marked (record (seen place node) { marked = true }) refl in
-      let unmarked : gain is_marked (seen place node) ≡ 0 = ap (λ (b : Bool). cond {A = ℕ} b 1 0) seen_is.2 in
+      let unmarked : gain is_marked (seen place node) ≡ 0 = ap (λ (b : Bool). cond {A = ℕ} b 1 0) seen_is.1 in
       let some = counts_one place regular in
       changed new place (λ n. record n { marked = true }) node (record node { marked = true })
-      (λ n. record { place = refl; split = refl; kind = refl; stamp = refl })
+      (λ n. record { place = refl; at = refl; kind = refl; stamp = refl })
       (λ n next node_is. ap (λ (v : Node). record v { marked = true }) node_is)
       refl linked is_node new_is
       (λ n there plain dummy.
@@ -176,16 +176,16 @@ module _ (old : Slab Slot) (head turn last count marked : ℕ) (is : IsKept old 
   marks_one pred behind = omega (arith, marks_behind pred behind, is.marks)
 
   -- A marked node is unlinked.
-  pub unlinked : (mid new : Slab Slot) (pred place : ℕ) (before behind : Node) → IsBeforeMarked (nodes_in old head) pred → get old pred ≡ Some (Linked before) → before.next ≡ Some place → get old place ≡ Some (Linked behind) → mid ≡ with_value old pred (Linked (record before { next = behind.next })) → Updates mid new place None → IsKept new head last count (marked - 1) × Becomes (listing_of old head turn last) (listing_of new head (turn_after turn) last) (unlinked_after (nodes_in old head) pred) × Follows (listing_of old head turn last) (listing_of new head (turn_after turn) last)
+  pub unlinked : (mid new : Slab Slot) (pred place : ℕ) (before behind : Node) → IsBeforeMarked (nodes_in old head) pred → get old pred ≡ Some (Linked before) → before.next ≡ Some place → get old place ≡ Some (Linked behind) → mid ≡ with_value old pred (Linked (record before { next = behind.next })) → Updates mid new place None → IsKept new head last count (marked - 1) × Becomes (listing_of old head changes last) (listing_of new head (one_more changes) last) (unlinked_after (nodes_in old head) pred) × Follows (listing_of old head changes last) (listing_of new head (one_more changes) last)
   unlinked mid new pred place before behind is_behind_marked is_before next is_behind mid_is freed =
       let nodes = nodes_in old head in
       let linked = behind_linked old head pred is_behind_marked in
       let laid = unlink_laid_out old mid new head last pred place nodes before behind is.laid_out is.stamps linked is_before next is_behind mid_is freed in
       let stamps = unlink_stamps old mid new head last pred place nodes before behind is.laid_out is.stamps linked is_before next is_behind mid_is freed in
-      let becomes : Becomes (listing_of old head turn last) (listing_of new head (turn_after turn) last) (unlinked_after (nodes_in old head) pred) = record {
+      let becomes : Becomes (listing_of old head changes last) (listing_of new head (one_more changes) last) (unlinked_after (nodes_in old head) pred) = record {
         nodes = nodes_in_is new head (unlinked_after nodes pred) laid;
         head = refl;
-        turn = refl;
+        changes = refl;
         last = refl;
         out = unlink_out old mid new head last pred place nodes before behind is.laid_out is.stamps linked is_before next is_behind mid_is freed;
       } in
@@ -200,24 +200,24 @@ module _ (old : Slab Slot) (head turn last count marked : ℕ) (is : IsKept old 
   -- The node of a spare is linked.
   module _ (mid new : Slab Slot) (pred : ℕ) (before : Node) (s : SpareAt) (next : Option ℕ)
       (is_before : get old pred ≡ Some (Linked before))
-      (is_out : IsOut (listing_of old head turn last) s)
+      (is_out : IsOut (listing_of old head changes last) s)
       (next_was : next ≡ before.next)
       (mid_is : mid ≡ with_value old pred (Linked (record before { next = Some s.place }))) where
     -- The spare's place is still in use once the node before has its place.
     pub filling_slot : get mid s.place ≡ Some (Out s.stamp)
     filling_slot = mid_spare old mid (with_value mid s.place (Linked (stored (filled s) before.next))) head last pred (nodes_in old head) (filled s) before is.laid_out is.stamps is_before is_out mid_is refl
 
-    pub filled_in : (gained : ℕ) → gained ≡ cond (is_regular s.kind) 1 0 → new ≡ with_value mid s.place (Linked (stored (filled s) next)) → IsLinked (nodes_in old head) pred → IsRising (linked_after (nodes_in old head) pred (filled s)) → IsKept new head last (count + gained) marked × Takes (listing_of old head turn last) (listing_of new head (turn_after turn) last) (linked_after (nodes_in old head) pred (filled s)) s.place × (node_of (nodes_in new head) s.place ≡ Some (filled s)) × Follows (listing_of old head turn last) (listing_of new head (turn_after turn) last)
+    pub filled_in : (gained : ℕ) → gained ≡ cond (is_regular s.kind) 1 0 → new ≡ with_value mid s.place (Linked (stored (filled s) next)) → IsLinked (nodes_in old head) pred → IsRising (linked_after (nodes_in old head) pred (filled s)) → IsKept new head last (count + gained) marked × Takes (listing_of old head changes last) (listing_of new head (one_more changes) last) (linked_after (nodes_in old head) pred (filled s)) s.place × (node_of (nodes_in new head) s.place ≡ Some (filled s)) × Follows (listing_of old head changes last) (listing_of new head (one_more changes) last)
     filled_in gained gained_is new_was linked rising =
         let nodes = nodes_in old head in
         let x : NodeAt = filled s in
         let new_is : new ≡ with_value mid s.place (Linked (stored (filled s) before.next)) = new_was ∙ ap (λ (k : Option ℕ). with_value mid s.place (Linked (stored (filled s) k))) next_was in
         let laid = link_laid_out old mid new head last pred nodes x before is.laid_out is.stamps is_before is_out mid_is new_is refl rising in
         let stamps = link_stamps old mid new head last pred nodes x before is.laid_out is.stamps is_before is_out mid_is new_is in
-        let takes : Takes (listing_of old head turn last) (listing_of new head (turn_after turn) last) (linked_after (nodes_in old head) pred (filled s)) s.place = record {
+        let takes : Takes (listing_of old head changes last) (listing_of new head (one_more changes) last) (linked_after (nodes_in old head) pred (filled s)) s.place = record {
           nodes = nodes_in_is new head (linked_after nodes pred x) laid;
           head = refl;
-          turn = refl;
+          changes = refl;
           last = refl;
           gone = link_gone old mid new head last pred nodes x before is.laid_out is.stamps is_before is_out mid_is new_is;
           others = link_others old mid new head last pred nodes x before is.laid_out is.stamps is_before is_out mid_is new_is;

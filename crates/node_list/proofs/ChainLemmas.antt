@@ -11,7 +11,7 @@ use Rattle.node_list.specs.declared.node.Node.{Node}
 use Rattle.node_list.specs.declared.slots.Slot.{Slot}
 use Rattle.node_list.specs.declared.slots.Slot.TheVariants.{Linked, Out}
 use Rattle.node_list.specs.Nodes.{NodeAt, IsLinked, linked_after, unlinked_after, changed_at, node_of, next_of, first, place_of}
-use Rattle.node_list.specs.Order.{IsBefore, IsRising, AbsentFrom, IsSpread}
+use Rattle.node_list.specs.Order.{IsNodeBefore, IsRising, AbsentFrom, IsSpread}
 use Rattle.node_list.specs.Follow.{IsSameNode}
 use Rattle.node_list.specs.Seen.{seen}
 use Rattle.node_list.specs.Layout.{stored, walk, first_place, IsChain, nodes_in, StartsAt, IsLaidOut, HasStamps, slot_stamp}
@@ -36,14 +36,14 @@ walk_is (suc fuel) at (n ∷ rest) chain room =
     rw chain.0 (ap (λ ns. n ∷ ns) (walk_is fuel at rest chain.1 (omega arith)))
 
 -- A node that is before those of a chain is not in it.
-absent_after : (at : ℕ → Option Slot) (n : NodeAt) (next : Option ℕ) (nodes : List NodeAt) → at n.place ≡ Some (Linked (stored n next)) → IsChain at nodes → AllByRecursion (IsBefore n) nodes → AbsentFrom n.place nodes
+absent_after : (at : ℕ → Option Slot) (n : NodeAt) (next : Option ℕ) (nodes : List NodeAt) → at n.place ≡ Some (Linked (stored n next)) → IsChain at nodes → AllByRecursion (IsNodeBefore n) nodes → AbsentFrom n.place nodes
 unfolding IsChain
 absent_after at n next [] is chain before = tt
 absent_after at n next (m ∷ rest) is chain before = (
   (λ same.
       let here : at n.place ≡ Some (Linked (stored m (first_place rest))) = rw (← same) chain.0 in
       let equal : stored m (first_place rest) ≡ stored n next = linked-injective (sym here ∙ is) in
-      before-irreflexive n (before-same n m n n refl refl (ap (λ (v : Node). v.split) equal) (ap (λ (v : Node). v.kind) equal) before.0)),
+      before-irreflexive n (before-same n m n n refl (ap (λ (v : Node). v.at) equal) before.0)),
   absent_after at n next rest is chain.1 before.1,
 )
 
@@ -195,11 +195,11 @@ first_place-changed (n ∷ rest) place change same = elim (eqb_tells n.place pla
 -- Each change keeps the dummy of bucket 0 first.
 pub starts_linked : (nodes : List NodeAt) (head pred : ℕ) (x : NodeAt) → StartsAt nodes head → StartsAt (linked_after nodes pred x) head
 starts_linked nodes head pred x starts =
-    record { node = starts.node; is = first_linked nodes pred x ∙ starts.is; place = starts.place; split = starts.split; kind = starts.kind }
+    record { node = starts.node; is = first_linked nodes pred x ∙ starts.is; place = starts.place; at = starts.at; kind = starts.kind }
 
 pub starts_unlinked : (nodes : List NodeAt) (head pred : ℕ) → StartsAt nodes head → StartsAt (unlinked_after nodes pred) head
 starts_unlinked nodes head pred starts =
-    record { node = starts.node; is = first_unlinked nodes pred ∙ starts.is; place = starts.place; split = starts.split; kind = starts.kind }
+    record { node = starts.node; is = first_unlinked nodes pred ∙ starts.is; place = starts.place; at = starts.at; kind = starts.kind }
 
 pub starts_changed : (nodes : List NodeAt) (head place : ℕ) (change : NodeAt → NodeAt) → ((n : NodeAt) → IsSameNode n (change n)) → StartsAt nodes head → StartsAt (changed_at nodes place change) head
 unfolding changed_at
@@ -211,11 +211,11 @@ starts_changed (n ∷ rest) head place change same starts = elim (eqb_tells n.pl
         node = change n;
         is = refl;
         place = sym (same n).place ∙ ap (λ (v : NodeAt). v.place) n_is ∙ starts.place;
-        split = sym (same n).split ∙ ap (λ (v : NodeAt). v.split) n_is ∙ starts.split;
+        at = sym (same n).at ∙ ap (λ (v : NodeAt). v.at) n_is ∙ starts.at;
         kind = sym (same n).kind ∙ ap (λ (v : NodeAt). v.kind) n_is ∙ starts.kind;
       })
   | inr apart ↦
-      rw apart.0 (record { node = starts.node; is = starts.is; place = starts.place; split = starts.split; kind = starts.kind })
+      rw apart.0 (record { node = starts.node; is = starts.is; place = starts.place; at = starts.at; kind = starts.kind })
 ]
 
 -- A node is linked behind another: the other's slot has its place, and its own has the other's next.
@@ -276,20 +276,20 @@ chain_unlinked at new (n ∷ (m ∷ rest)) pred place before behind chain apart 
 -- A node is changed in its slot.
 pub chain_changed : (at new : ℕ → Option Slot) (nodes : List NodeAt) (place : ℕ) (change : NodeAt → NodeAt) (node written : Node) → IsChain at nodes → IsSpread nodes → ((n : NodeAt) → IsSameNode n (change n)) → ((n : NodeAt) (next : Option ℕ) → node ≡ stored n next → written ≡ stored (change n) next) → at place ≡ Some (Linked node) → new place ≡ Some (Linked written) → ((other : ℕ) → other ≢ place → new other ≡ at other) → IsChain new (changed_at nodes place change)
 unfolding IsChain IsSpread changed_at
-chain_changed at new [] place change node written chain apart same changes is is_written others = tt
-chain_changed at new (n ∷ rest) place change node written chain apart same changes is is_written others = elim (eqb_tells n.place place) [
+chain_changed at new [] place change node written chain apart same stores is is_written others = tt
+chain_changed at new (n ∷ rest) place change node written chain apart same stores is is_written others = elim (eqb_tells n.place place) [
   | inl here ↦
       let node_is : node ≡ stored n (first_place rest) = linked-injective (sym is ∙ rw here.1 at chain.0) in
       let apart_here : AbsentFrom place rest = rw here.1 at apart.0 in
       let there : new (change n).place ≡ Some (Linked written) = ap new (sym (same n).place ∙ here.1) ∙ is_written in
       rw here.0 (
-        there ∙ ap (λ v. Some (Linked v)) (changes n (first_place rest) node_is),
+        there ∙ ap (λ v. Some (Linked v)) (stores n (first_place rest) node_is),
         chain_absent at new place rest chain.1 apart_here others,
       )
   | inr later ↦
       rw later.0 (
         rw (first_place-changed rest place change same) (others n.place later.1 ∙ chain.0),
-        chain_changed at new rest place change node written chain.1 apart.1 same changes is is_written others,
+        chain_changed at new rest place change node written chain.1 apart.1 same stores is is_written others,
       )
 ]
 

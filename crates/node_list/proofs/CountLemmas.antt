@@ -37,6 +37,21 @@ count-unlinked test (n ∷ (k ∷ rest)) pred m is = elim (eqb_tells n.place pre
       rw apart.0 (omega (arith, later))
 ]
 
+-- The list without the node behind another is one node shorter.
+pub length-unlinked : (nodes : List NodeAt) (pred : ℕ) (m : NodeAt) → next_of nodes pred ≡ Some m → length (unlinked_after nodes pred) + 1 ≡ length nodes
+unfolding next_of unlinked_after
+length-unlinked [] pred m is = absurd (some-none (sym is))
+length-unlinked (n ∷ []) pred m is = elim (eqb_tells n.place pred) [
+  | inl here ↦ absurd (some-none (sym (rw here.0 at is)))
+  | inr apart ↦ absurd (some-none (sym (rw apart.0 at is)))
+]
+length-unlinked (n ∷ (k ∷ rest)) pred m is = elim (eqb_tells n.place pred) [
+  | inl here ↦ rw here.0 (omega arith)
+  | inr apart ↦
+      let later = length-unlinked (k ∷ rest) pred m (rw apart.0 at is) in
+      rw apart.0 (omega (arith, later))
+]
+
 pub count-changed : (test : NodeAt → Bool) (nodes : List NodeAt) (place : ℕ) (change : NodeAt → NodeAt) (n : NodeAt) → node_of nodes place ≡ Some n → count_where test (changed_at nodes place change) + gain test n ≡ count_where test nodes + gain test (change n)
 unfolding node_of changed_at count_where
 count-changed test [] place change n is = absurd (some-none (sym is))
@@ -57,22 +72,22 @@ live-marked n marked = go n.kind
   where
     go : (k : Kind) → cond {A = ℕ} (is_live (record n { kind = k })) 1 0 ≡ 0
     go Dummy = refl
-    go (Regular key) = rw marked refl
+    go Regular = rw marked refl
 
 -- An unmarked regular node counts.
-pub live-regular : (n : NodeAt) (key : ℕ) → n.kind ≡ Regular key → n.marked ≡ false → gain is_live n ≡ 1
-live-regular n key regular unmarked = rw (regular, unmarked) refl
+pub live-regular : (n : NodeAt) → n.kind ≡ Regular → n.marked ≡ false → gain is_live n ≡ 1
+live-regular n regular unmarked = rw (regular, unmarked) refl
 
 -- A fresh node counts where it is regular.
 pub live-fresh : (k : Kind) → cond {A = ℕ} (is_regular k) 1 0 ≡ cond {A = ℕ} (is_regular k && not false) 1 0
 live-fresh Dummy = refl
-live-fresh (Regular key) = refl
+live-fresh Regular = refl
 
 gains : (k : Kind) (marked : Bool) → cond {A = ℕ} (is_regular k && not marked) 1 0 + cond {A = ℕ} marked 1 0 ≤ 1
 gains Dummy true = omega arith
 gains Dummy false = omega arith
-gains (Regular key) true = omega arith
-gains (Regular key) false = omega arith
+gains Regular true = omega arith
+gains Regular false = omega arith
 
 -- A node counts as live or as marked, or not at all.
 pub counts_fit : (nodes : List NodeAt) → live_count nodes + marked_count nodes ≤ length nodes

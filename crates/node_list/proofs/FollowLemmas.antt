@@ -20,7 +20,7 @@ use Rattle.node_list.proofs.SlabSteps.{out_in, slot_out}
 pub follows_self : (l : Listing) → Follows l l
 follows_self l = record {
   last = omega arith;
-  turn = omega arith;
+  changes = omega arith;
   still = λ same below. refl;
   linked = λ place n is. inl (n, is, same_node n);
   out = λ place stamp is. inl is;
@@ -31,11 +31,11 @@ follows_self l = record {
 pub follows_twice : (a b c : Listing) → Follows a b → Follows b c → Follows a c
 follows_twice a b c first second = record {
   last = omega (arith, first.last, second.last);
-  turn = omega (arith, first.turn, second.turn);
+  changes = omega (arith, first.changes, second.changes);
   still = λ same below.
-      let at_b : b.turn ≡ a.turn = omega (arith, first.turn, second.turn) in
-      let at_c : c.turn ≡ b.turn = omega arith in
-      let below_b : b.turn < 2 ^ 64 - 1 = omega arith in
+      let at_b : b.changes ≡ a.changes = omega (arith, first.changes, second.changes) in
+      let at_c : c.changes ≡ b.changes = omega arith in
+      let below_b : b.changes < 2 ^ 64 - 1 = omega arith in
       second.still at_c below ∙ first.still at_b below_b;
   linked = λ place n is. elim (second.linked place n is) [
     | inl there ↦ elim (first.linked place there.0 there.1) [
@@ -64,7 +64,7 @@ follows_twice a b c first second = record {
 pub gives_out_follows : (old new : Listing) (place stamp : ℕ) → stamp ≡ old.last + 1 → GivesOut old new place stamp → Follows old new
 gives_out_follows old new place stamp above given = record {
   last = omega (arith, given.last);
-  turn = omega (arith, given.turn);
+  changes = omega (arith, given.changes);
   still = λ same below. given.nodes;
   linked = λ at n is. inl (n, rw given.nodes at is, same_node n);
   out = λ at is_stamp is. elim (cases_eq at place) [
@@ -77,7 +77,7 @@ gives_out_follows old new place stamp above given = record {
 pub takes_back_follows : (old new : Listing) (place : ℕ) → TakesBack old new place → Follows old new
 takes_back_follows old new place back = record {
   last = omega (arith, back.last);
-  turn = omega (arith, back.turn);
+  changes = omega (arith, back.changes);
   still = λ same below. back.nodes;
   linked = λ at n is. inl (n, rw back.nodes at is, same_node n);
   out = λ at stamp is. elim (cases_eq at place) [
@@ -90,8 +90,8 @@ takes_back_follows old new place back = record {
 pub links_follow : (old new : Listing) (pred : ℕ) (x : NodeAt) → AbsentFrom x.place old.nodes → out_at old x.place ≡ Some x.stamp → Takes old new (linked_after old.nodes pred x) x.place → Follows old new
 links_follow old new pred x absent was_out takes = record {
   last = omega (arith, takes.last);
-  turn = omega (arith, takes.turn);
-  still = λ same below. absurd (omega (arith, takes.turn));
+  changes = omega (arith, takes.changes);
+  still = λ same below. absurd (omega (arith, takes.changes));
   linked = λ place n is. elim (found_linked_after old.nodes pred place x n (rw takes.nodes at is)) [
     | inl there ↦ inl (n, there, same_node n)
     | inr spare ↦ inr (inl (ap (out_at old) (sym spare.1) ∙ was_out ∙ ap (λ (v : NodeAt). Some v.stamp) spare.0))
@@ -106,8 +106,8 @@ links_follow old new pred x absent was_out takes = record {
 pub changes_follow : (old new : Listing) (changed : ℕ) (change : NodeAt → NodeAt) → ((n : NodeAt) → IsSameNode n (change n)) → Becomes old new (changed_at old.nodes changed change) → Follows old new
 changes_follow old new changed change same now = record {
   last = omega (arith, now.last);
-  turn = omega (arith, now.turn);
-  still = λ same_turn below. absurd (omega (arith, now.turn));
+  changes = omega (arith, now.changes);
+  still = λ same_changes below. absurd (omega (arith, now.changes));
   linked = λ place n is. inl (found_changed old.nodes changed place change n same (rw now.nodes at is));
   out = λ place stamp is. inl (sym (now.out place) ∙ is);
   dummies = λ place n is dummy. rw now.nodes (still_found_changed old.nodes changed place change n same is);
@@ -116,8 +116,8 @@ changes_follow old new changed change same now = record {
 pub unlinks_follow : (old new : Listing) (pred : ℕ) → IsSpread old.nodes → AllPlain old.nodes → IsBeforeMarked old.nodes pred → Becomes old new (unlinked_after old.nodes pred) → Follows old new
 unlinks_follow old new pred spread plain behind now = record {
   last = omega (arith, now.last);
-  turn = omega (arith, now.turn);
-  still = λ same below. absurd (omega (arith, now.turn));
+  changes = omega (arith, now.changes);
+  still = λ same below. absurd (omega (arith, now.changes));
   linked = λ place n is. inl (n, found_unlinked old.nodes pred place n spread (rw now.nodes at is), same_node n);
   out = λ place stamp is. inl (sym (now.out place) ∙ is);
   dummies = λ place n is dummy.
@@ -127,14 +127,14 @@ unlinks_follow old new pred spread plain behind now = record {
 }
 
 -- The stamps of linked nodes and of spares.
-stamped : (slab : Slab Slot) (head turn last : ℕ) → IsLaidOut slab head (nodes_in slab head) → HasStamps slab last → IsStamped (listing_of slab head turn last)
-stamped slab head turn last laid stamps =
+stamped : (slab : Slab Slot) (head changes last : ℕ) → IsLaidOut slab head (nodes_in slab head) → HasStamps slab last → IsStamped (listing_of slab head changes last)
+stamped slab head changes last laid stamps =
     let slot_of : (place : ℕ) (n : NodeAt) → node_of (nodes_in slab head) place ≡ Some n → (node : Node) × (get slab place ≡ Some (Linked node)) × (node.stamp ≡ n.stamp) = λ place n is.
     let linked = found_linked _ place n is in
     let there = linked_node (get slab) (nodes_in slab head) place laid.chain linked in
     let same = some-injective (sym (node_found (get slab) (nodes_in slab head) place there.0 laid.chain linked there.1) ∙ is) in
     (there.0, there.1, ap (λ (v : NodeAt). v.stamp) same) in
-    let spare_of : (place stamp : ℕ) → out_at (listing_of slab head turn last) place ≡ Some stamp → get slab place ≡ Some (Out stamp) = λ place stamp is.
+    let spare_of : (place stamp : ℕ) → out_at (listing_of slab head changes last) place ≡ Some stamp → get slab place ≡ Some (Out stamp) = λ place stamp is.
     slot_out (get slab place) stamp (sym (out_in slab place) ∙ is) in
     record {
       bound = λ place n is.
@@ -155,17 +155,18 @@ stamped slab head turn last laid stamps =
     }
 
 -- What callers may know of a list.
-pub sound : (slab : Slab Slot) (head turn last count marked : ℕ) → IsKept slab head last count marked → IsSound (listing_of slab head turn last)
-sound slab head turn last count marked kept = record {
+pub sound : (slab : Slab Slot) (head changes last count marked : ℕ) → IsKept slab head last count marked → IsSound (listing_of slab head changes last)
+sound slab head changes last count marked kept = record {
   first = record {
     node = kept.laid_out.starts.node;
+    first = kept.laid_out.starts.is;
     is = ap (node_of (nodes_in slab head)) (sym kept.laid_out.starts.place) ∙ first_found _ _ kept.laid_out.starts.is;
-    split = kept.laid_out.starts.split;
+    at = kept.laid_out.starts.at;
     kind = kept.laid_out.starts.kind;
   };
   rising = kept.laid_out.rising;
   spread = spread (get slab) (nodes_in slab head) kept.laid_out.chain kept.laid_out.rising;
   plain = kept.laid_out.plain;
-  stamped = stamped slab head turn last kept.laid_out kept.stamps;
+  stamped = stamped slab head changes last kept.laid_out kept.stamps;
   last = kept.below;
 }

@@ -7,12 +7,12 @@ use Rattle.node_list.specs.Follow.{IsSameNode}
 use Rattle.node_list.proofs.OrderLemmas.{some-injective, some-none}
 
 pub same_node : (n : NodeAt) → IsSameNode n n
-same_node n = record { place = refl; split = refl; kind = refl; stamp = refl }
+same_node n = record { place = refl; at = refl; kind = refl; stamp = refl }
 
 pub same_after : (n m k : NodeAt) → IsSameNode n m → IsSameNode m k → IsSameNode n k
 same_after n m k first second = record {
   place = first.place ∙ second.place;
-  split = first.split ∙ second.split;
+  at = first.at ∙ second.at;
   kind = first.kind ∙ second.kind;
   stamp = first.stamp ∙ second.stamp;
 }
@@ -172,11 +172,11 @@ changed_linked (n ∷ rest) place other change same is = elim (eqb_tells n.place
 
 pub marked_linked : (nodes : List NodeAt) (place other : ℕ) → IsLinked nodes other → IsLinked (marked_at nodes place) other
 marked_linked nodes place other =
-    changed_linked nodes place other (λ n. record n { marked = true }) (λ n. record { place = refl; split = refl; kind = refl; stamp = refl })
+    changed_linked nodes place other (λ n. record n { marked = true }) (λ n. record { place = refl; at = refl; kind = refl; stamp = refl })
 
 pub written_linked : (nodes : List NodeAt) (place value other : ℕ) → IsLinked nodes other → IsLinked (written_at nodes place value) other
 written_linked nodes place value other =
-    changed_linked nodes place other (λ n. record n { value = value }) (λ n. record { place = refl; split = refl; kind = refl; stamp = refl })
+    changed_linked nodes place other (λ n. record n { value = value }) (λ n. record { place = refl; at = refl; kind = refl; stamp = refl })
 
 pub others_linked : (nodes : List NodeAt) (pred gone place : ℕ) → place_of (next_of nodes pred) ≡ Some gone → place ≢ gone → IsLinked nodes place → IsLinked (unlinked_after nodes pred) place
 unfolding unlinked_after IsLinked next_of

@@ -2,8 +2,9 @@
 use Rattle.std.proofs.Common.{◌≡◌, ℕ, ◌<◌, ◌≤◌, inl, inr, List, [], ◌∷◌, Some, None, refl, sym, arith}
 use Rattle.std.proofs.lemmas.Bool.Decides.{eqb_tells}
 use Rattle.std.specs.List.{AllByRecursion}
+use Rattle.split_key.proofs.SortLemmas.{before_irreflexive, before_not_before, before_transitive}
 use Rattle.node_list.specs.Nodes.{NodeAt, node_of, next_of, first, linked_after, unlinked_after, changed_at}
-use Rattle.node_list.specs.Order.{IsBefore, IsRising}
+use Rattle.node_list.specs.Order.{IsNodeBefore, IsRising}
 use Rattle.node_list.specs.Follow.{IsSameNode}
 
 pub some-injective : {X : Type 0} {x y : X} → Some x ≡ Some y → x ≡ y
@@ -13,28 +14,15 @@ pub some-none : {X : Type 0} {x : X} → Some x ≡ None → ⊥
 some-none e = cc
 
 -- No node is before itself.
-pub before-irreflexive : (n : NodeAt) → IsBefore n n → ⊥
-unfolding IsBefore
-before-irreflexive n before = omega arith
+pub before-irreflexive : (n : NodeAt) → IsNodeBefore n n → ⊥
+before-irreflexive n before = before_not_before n.at n.at before (before_irreflexive n.at)
 
-pub before-transitive : (n m k : NodeAt) → IsBefore n m → IsBefore m k → IsBefore n k
-unfolding IsBefore
-before-transitive n m k first second = omega arith
+pub before-transitive : (n m k : NodeAt) → IsNodeBefore n m → IsNodeBefore m k → IsNodeBefore n k
+before-transitive n m k first second = before_transitive n.at m.at k.at first second
 
--- Only the split keys and the kinds matter.
-pub before-same : (n m k l : NodeAt) → n.split ≡ k.split → n.kind ≡ k.kind → m.split ≡ l.split → m.kind ≡ l.kind → IsBefore n m → IsBefore k l
-unfolding IsBefore
-before-same n m k l n_split n_kind m_split m_kind before = omega arith
-
--- A node with a lower split key is before.
-pub before-split : (n m : NodeAt) → n.split < m.split → IsBefore n m
-unfolding IsBefore
-before-split n m below = below
-
--- A node that is before has no higher split key.
-pub split-before : (n m : NodeAt) → IsBefore n m → n.split ≤ m.split
-unfolding IsBefore
-split-before n m before = omega arith
+-- Only the sort keys matter.
+pub before-same : (n m k l : NodeAt) → n.at ≡ k.at → m.at ≡ l.at → IsNodeBefore n m → IsNodeBefore k l
+before-same n m k l n_at m_at before = rw (← n_at, ← m_at) before
 
 -- What is true of each node, by what is.
 pub each_map : (P Q : NodeAt → Type 0) (nodes : List NodeAt) → ((n : NodeAt) → P n → Q n) → AllByRecursion P nodes → AllByRecursion Q nodes
@@ -84,7 +72,7 @@ each_changed P (n ∷ rest) place change kept each = elim (eqb_tells n.place pla
 ]
 
 -- Each change keeps the order.
-pub rising_linked : (nodes : List NodeAt) (pred : ℕ) (n x : NodeAt) → IsRising nodes → node_of nodes pred ≡ Some n → IsBefore n x → ((m : NodeAt) → next_of nodes pred ≡ Some m → IsBefore x m) → IsRising (linked_after nodes pred x)
+pub rising_linked : (nodes : List NodeAt) (pred : ℕ) (n x : NodeAt) → IsRising nodes → node_of nodes pred ≡ Some n → IsNodeBefore n x → ((m : NodeAt) → next_of nodes pred ≡ Some m → IsNodeBefore x m) → IsRising (linked_after nodes pred x)
 unfolding IsRising linked_after node_of next_of
 rising_linked [] pred n x rising is before next = tt
 rising_linked (k ∷ []) pred n x rising is before next = elim (eqb_tells k.place pred) [
@@ -96,14 +84,14 @@ rising_linked (k ∷ []) pred n x rising is before next = elim (eqb_tells k.plac
 rising_linked (k ∷ (m ∷ rest)) pred n x rising is before next = elim (eqb_tells k.place pred) [
   | inl here ↦
       let same : k ≡ n = some-injective (rw here.0 at is) in
-      let follows : IsBefore x m = next m (rw here.0 refl) in
-      let later = each_map (IsBefore m) (IsBefore x) rest (λ l after. before-transitive x m l follows after) rising.1.0 in
+      let follows : IsNodeBefore x m = next m (rw here.0 refl) in
+      let later = each_map (IsNodeBefore m) (IsNodeBefore x) rest (λ l after. before-transitive x m l follows after) rising.1.0 in
       rw here.0 ((rw same before, rising.0), ((follows, later), rising.1))
   | inr apart ↦
       let there : node_of (m ∷ rest) pred ≡ Some n = rw apart.0 at is in
-      let follows = before-transitive k n x (each_found (IsBefore k) (m ∷ rest) pred n rising.0 there) before in
+      let follows = before-transitive k n x (each_found (IsNodeBefore k) (m ∷ rest) pred n rising.0 there) before in
       rw apart.0 (
-        each_linked (IsBefore k) (m ∷ rest) pred x follows rising.0,
+        each_linked (IsNodeBefore k) (m ∷ rest) pred x follows rising.0,
         rising_linked (m ∷ rest) pred n x rising.1 there before (λ l behind. next l (rw apart.0 behind)),
       )
 ]
@@ -117,7 +105,7 @@ rising_unlinked (n ∷ []) pred rising = elim (eqb_tells n.place pred) [
 ]
 rising_unlinked (n ∷ (m ∷ rest)) pred rising = elim (eqb_tells n.place pred) [
   | inl here ↦ rw here.0 (rising.0.1, rising.1.1)
-  | inr apart ↦ rw apart.0 (each_unlinked (IsBefore n) (m ∷ rest) pred rising.0, rising_unlinked (m ∷ rest) pred rising.1)
+  | inr apart ↦ rw apart.0 (each_unlinked (IsNodeBefore n) (m ∷ rest) pred rising.0, rising_unlinked (m ∷ rest) pred rising.1)
 ]
 
 pub rising_changed : (nodes : List NodeAt) (place : ℕ) (change : NodeAt → NodeAt) → ((n : NodeAt) → IsSameNode n (change n)) → IsRising nodes → IsRising (changed_at nodes place change)
@@ -125,9 +113,9 @@ unfolding IsRising changed_at
 rising_changed [] place change same rising = tt
 rising_changed (n ∷ rest) place change same rising = elim (eqb_tells n.place place) [
   | inl here ↦
-      let before : (m : NodeAt) → IsBefore n m → IsBefore (change n) m = λ m. before-same n m (change n) m (same n).split (same n).kind refl refl in
-      rw here.0 (each_map (IsBefore n) (IsBefore (change n)) rest before rising.0, rising.1)
+      let before : (m : NodeAt) → IsNodeBefore n m → IsNodeBefore (change n) m = λ m. before-same n m (change n) m (same n).at refl in
+      rw here.0 (each_map (IsNodeBefore n) (IsNodeBefore (change n)) rest before rising.0, rising.1)
   | inr apart ↦
-      let before : (m : NodeAt) → node_of rest place ≡ Some m → IsBefore n m → IsBefore n (change m) = λ m is. before-same n m n (change m) refl refl (same m).split (same m).kind in
-      rw apart.0 (each_changed (IsBefore n) rest place change before rising.0, rising_changed rest place change same rising.1)
+      let before : (m : NodeAt) → node_of rest place ≡ Some m → IsNodeBefore n m → IsNodeBefore n (change m) = λ m is. before-same n m n (change m) refl (same m).at in
+      rw apart.0 (each_changed (IsNodeBefore n) rest place change before rising.0, rising_changed rest place change same rising.1)
 ]

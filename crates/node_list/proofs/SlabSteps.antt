@@ -40,7 +40,7 @@ module _ (old new : Slab Slot) (head stamp : ℕ) (empty : old.slots ≡ []) (up
   unfolding IsChain IsRising IsLinked
   new_laid_out = record {
     chain = (updates.changed, tt);
-    starts = record { node = first_dummy head stamp; is = refl; place = refl; split = refl; kind = refl };
+    starts = record { node = first_dummy head stamp; is = refl; place = refl; at = refl; kind = refl };
     rising = (tt, tt);
     plain = (λ dummy. refl, tt);
     all = λ place node is. elim (cases_eq place head) [
@@ -187,7 +187,7 @@ module _ (old mid new : Slab Slot) (head last pred : ℕ) (nodes : List NodeAt) 
 module _ (old new : Slab Slot) (head last place : ℕ) (nodes : List NodeAt) (change : NodeAt → NodeAt) (node written : Node)
     (laid : IsLaidOut old head nodes) (stamps : HasStamps old last)
     (same : (n : NodeAt) → IsSameNode n (change n))
-    (changes : (n : NodeAt) (next : Option ℕ) → node ≡ stored n next → written ≡ stored (change n) next)
+    (stores : (n : NodeAt) (next : Option ℕ) → node ≡ stored n next → written ≡ stored (change n) next)
     (stamp : written.stamp ≡ node.stamp)
     (is_node : get old place ≡ Some (Linked node))
     (new_is : new ≡ with_value old place (Linked written)) where
@@ -196,7 +196,7 @@ module _ (old new : Slab Slot) (head last place : ℕ) (nodes : List NodeAt) (ch
 
   pub change_laid_out : ((n : NodeAt) → node_of nodes place ≡ Some n → (n.kind ≡ Dummy → n.marked ≡ false) → (change n).kind ≡ Dummy → (change n).marked ≡ false) → IsLaidOut new head (changed_at nodes place change)
   change_laid_out plain = record {
-    chain = chain_changed (get old) (get new) nodes place change node written laid.chain (spread (get old) nodes laid.chain laid.rising) same changes is_node changed_in.changed changed_in.others;
+    chain = chain_changed (get old) (get new) nodes place change node written laid.chain (spread (get old) nodes laid.chain laid.rising) same stores is_node changed_in.changed changed_in.others;
     starts = starts_changed nodes head place change same laid.starts;
     rising = rising_changed nodes place change same laid.rising;
     plain = each_changed (λ n. n.kind ≡ Dummy → n.marked ≡ false) nodes place change plain laid.plain;
@@ -291,8 +291,8 @@ kept_grown slab room head last count marked is =
     } in
     kept _ head last count marked (nodes_in slab head) laid (record { bound = is.stamps.bound; one_place = is.stamps.one_place }) is.below is.counted is.marks
 
-pub listing_grown : (slab : Slab Slot) (room head turn last : ℕ) → listing_of (record slab { capacity = room }) head turn last ≡ listing_of slab head turn last
-listing_grown slab room head turn last = rw (grown slab room head) refl
+pub listing_grown : (slab : Slab Slot) (room head changes last : ℕ) → listing_of (record slab { capacity = room }) head changes last ≡ listing_of slab head changes last
+listing_grown slab room head changes last = rw (grown slab room head) refl
 
 -- The answer of which `ok` hands on a value, or none.
 pub ok_some : {T E : Type 0} (r : Result T E) (x : T) → result_ok r ≡ Some x → r ≡ Ok x

@@ -6,7 +6,7 @@ use Rattle.node_list.specs.Nodes.{NodeAt, Listing, node_of, out_at}
 -- One node at two times: only its value and its mark may differ.
 pub record IsSameNode (n m : NodeAt) : Type 0 where
   pub place : n.place ≡ m.place
-  pub split : n.split ≡ m.split
+  pub at : n.at ≡ m.at
   pub kind : n.kind ≡ m.kind
   pub stamp : n.stamp ≡ m.stamp
 
@@ -24,8 +24,8 @@ IsStillThere new place n = (m : NodeAt) × (node_of new.nodes place ≡ Some m) 
 -- stays the nodes do.
 pub record Follows (old new : Listing) : Type 0 where
   pub last : old.last ≤ new.last
-  pub turn : min old.turn (2 ^ 64 - 1) ≤ new.turn
-  pub still : new.turn ≡ old.turn → new.turn < 2 ^ 64 - 1 → new.nodes ≡ old.nodes
+  pub changes : min old.changes (2 ^ 64 - 1) ≤ new.changes
+  pub still : new.changes ≡ old.changes → new.changes < 2 ^ 64 - 1 → new.nodes ≡ old.nodes
   pub linked : (place : ℕ) (n : NodeAt) → node_of new.nodes place ≡ Some n → WasThere old place n
   pub out : (place stamp : ℕ) → out_at new place ≡ Some stamp → (out_at old place ≡ Some stamp) ⊎ (old.last < stamp)
   pub dummies : (place : ℕ) (n : NodeAt) → node_of old.nodes place ≡ Some n → n.kind ≡ Dummy → IsStillThere new place n

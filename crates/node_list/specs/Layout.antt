@@ -1,6 +1,7 @@
 -- How a list lies in its slab.
 use Rattle.std.specs.Prelude.{◌≡◌, ℕ, ◌<◌, ◌≤◌, ◌-◌, ◌^◌, List, [], ◌∷◌, Option, Some, None, map}
 use Prim.Native.Nat.{zero, suc}
+use Rattle.split_key.specs.Sort.{dummy_at}
 use Rattle.slab.specs.Slab.{Slab, get, slab_len}
 use Rattle.node_list.specs.declared.node.Node.{Node}
 use Rattle.node_list.specs.declared.node.Kind.TheVariants.{Dummy}
@@ -13,7 +14,7 @@ use Rattle.node_list.specs.Sound.{AllPlain}
 
 -- A node as it is stored, before a next one.
 abbrev pub stored : NodeAt → Option ℕ → Node
-stored n next = record { split = n.split; kind = n.kind; value = n.value; stamp = n.stamp; marked = n.marked; next = next }
+stored n next = record { at = n.at; kind = n.kind; value = n.value; stamp = n.stamp; marked = n.marked; next = next }
 
 -- The node in a slot, and then the nodes from its next one on.
 abbrev pub step : ℕ → Option Slot → (Option ℕ → List NodeAt) → List NodeAt
@@ -54,11 +55,11 @@ nodes_in slab head = walk (slab_len slab) (get slab) (Some head)
 
 -- What a contract sees of the fields.
 abbrev pub listing_of : Slab Slot → ℕ → ℕ → ℕ → Listing
-listing_of slab head turn last = record {
+listing_of slab head changes last = record {
   nodes = nodes_in slab head;
   head = head;
   out = map out_stamp slab.slots;
-  turn = turn;
+  changes = changes;
   last = last;
 }
 
@@ -67,7 +68,7 @@ pub record StartsAt (nodes : List NodeAt) (head : ℕ) : Type 0 where
   pub node : NodeAt
   pub is : first nodes ≡ Some node
   pub place : node.place ≡ head
-  pub split : node.split ≡ 0
+  pub at : node.at ≡ dummy_at 0
   pub kind : node.kind ≡ Dummy
 
 -- These are the linked nodes.

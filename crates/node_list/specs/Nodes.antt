@@ -1,12 +1,15 @@
 -- What a contract sees of a list and of a spare.
 use Rattle.std.specs.Prelude.{◌≡◌, ◌≢◌, ℕ, ◌+◌, ◌-◌, ◌^◌, min, List, [], ◌∷◌, Option, Some, None, Bool, true, false, ◌==◌, if◌then◌else◌, slice_index_or, ◌⊎◌, ◌&&◌, not}
+use Prim.Native.Nat.{zero, suc}
+use Rattle.split_key.specs.declared.sort.SortKey.{SortKey}
+use Rattle.split_key.specs.Sort.{dummy_at}
 use Rattle.node_list.specs.declared.node.Kind.{Kind}
 use Rattle.node_list.specs.declared.node.Kind.TheVariants.{Dummy, Regular}
 
 -- A linked node and its place.
 pub record NodeAt : Type 0 where
   pub place : ℕ
-  pub split : ℕ
+  pub at : SortKey
   pub kind : Kind
   pub value : ℕ
   pub stamp : ℕ
@@ -18,24 +21,24 @@ pub record Listing : Type 0 where
   pub nodes : List NodeAt
   pub head : ℕ
   pub out : List (Option ℕ)
-  pub turn : ℕ
+  pub changes : ℕ
   pub last : ℕ
 
 -- A place that is kept, its stamp, and what the node there will be.
 pub record SpareAt : Type 0 where
   pub place : ℕ
   pub stamp : ℕ
-  pub split : ℕ
+  pub at : SortKey
   pub kind : Kind
   pub value : ℕ
 
 -- The node that a spare becomes.
 abbrev pub filled : SpareAt → NodeAt
-filled s = record { place = s.place; split = s.split; kind = s.kind; value = s.value; stamp = s.stamp; marked = false }
+filled s = record { place = s.place; at = s.at; kind = s.kind; value = s.value; stamp = s.stamp; marked = false }
 
 -- The dummy of bucket 0.
 abbrev pub first_dummy : ℕ → ℕ → NodeAt
-first_dummy place stamp = record { place = place; split = 0; kind = Dummy; value = 0; stamp = stamp; marked = false }
+first_dummy place stamp = record { place = place; at = dummy_at 0; kind = Dummy; value = 0; stamp = stamp; marked = false }
 
 -- The stamp of the spare that is out at a place, if there is one.
 abbrev pub out_at : Listing → ℕ → Option ℕ
@@ -78,9 +81,8 @@ IsLinked (n ∷ rest) place = (n.place ≡ place) ⊎ IsLinked rest place
 -- An unmarked regular node is at the place.
 pub record IsRegularAt (nodes : List NodeAt) (place : ℕ) : Type 0 where
   pub node : NodeAt
-  pub key : ℕ
   pub is : node_of nodes place ≡ Some node
-  pub regular : node.kind ≡ Regular key
+  pub regular : node.kind ≡ Regular
   pub unmarked : node.marked ≡ false
 
 -- The node behind the one at a place is marked.
@@ -97,7 +99,7 @@ count_where test (n ∷ rest) = (if test n then 1 else 0) + count_where test res
 -- Whether a node of this kind is regular.
 abbrev pub is_regular : Kind → Bool
 is_regular Dummy = false
-is_regular (Regular key) = true
+is_regular Regular = true
 
 -- Whether a node counts.
 abbrev pub is_live : NodeAt → Bool
@@ -139,14 +141,19 @@ abbrev pub written_at : List NodeAt → ℕ → ℕ → List NodeAt
 written_at nodes place value = changed_at nodes place (λ n. record n { value = value })
 
 -- The change number one higher, if there is a higher one.
-abbrev pub turn_after : ℕ → ℕ
-turn_after turn = min (turn + 1) (2 ^ 64 - 1)
+abbrev pub one_more : ℕ → ℕ
+one_more changes = min (changes + 1) (2 ^ 64 - 1)
+
+-- The change number after so many changes.
+unfoldable pub changes_after : ℕ → ℕ → ℕ
+changes_after changes zero = changes
+changes_after changes (suc more) = one_more (changes_after changes more)
 
 -- The nodes are these now, by one change, and the same spares are out.
 pub record Becomes (old new : Listing) (after : List NodeAt) : Type 0 where
   pub nodes : new.nodes ≡ after
   pub head : new.head ≡ old.head
-  pub turn : new.turn ≡ turn_after old.turn
+  pub changes : new.changes ≡ one_more old.changes
   pub last : new.last ≡ old.last
   pub out : (place : ℕ) → out_at new place ≡ out_at old place
 
@@ -154,7 +161,7 @@ pub record Becomes (old new : Listing) (after : List NodeAt) : Type 0 where
 pub record Takes (old new : Listing) (after : List NodeAt) (place : ℕ) : Type 0 where
   pub nodes : new.nodes ≡ after
   pub head : new.head ≡ old.head
-  pub turn : new.turn ≡ turn_after old.turn
+  pub changes : new.changes ≡ one_more old.changes
   pub last : new.last ≡ old.last
   pub gone : out_at new place ≡ None
   pub others : (other : ℕ) → other ≢ place → out_at new other ≡ out_at old other
@@ -163,7 +170,7 @@ pub record Takes (old new : Listing) (after : List NodeAt) (place : ℕ) : Type 
 pub record GivesOut (old new : Listing) (place stamp : ℕ) : Type 0 where
   pub nodes : new.nodes ≡ old.nodes
   pub head : new.head ≡ old.head
-  pub turn : new.turn ≡ old.turn
+  pub changes : new.changes ≡ old.changes
   pub last : new.last ≡ stamp
   pub was_free : out_at old place ≡ None
   pub is_out : out_at new place ≡ Some stamp
@@ -173,7 +180,7 @@ pub record GivesOut (old new : Listing) (place stamp : ℕ) : Type 0 where
 pub record TakesBack (old new : Listing) (place : ℕ) : Type 0 where
   pub nodes : new.nodes ≡ old.nodes
   pub head : new.head ≡ old.head
-  pub turn : new.turn ≡ old.turn
+  pub changes : new.changes ≡ old.changes
   pub last : new.last ≡ old.last
   pub gone : out_at new place ≡ None
   pub others : (other : ℕ) → other ≢ place → out_at new other ≡ out_at old other

@@ -1,16 +1,17 @@
 -- The order of nodes, and their places.
-use Rattle.std.specs.Prelude.{◌≢◌, ℕ, ◌<◌, List, [], ◌∷◌}
+use Rattle.std.specs.Prelude.{◌≢◌, ℕ, List, [], ◌∷◌}
 use Rattle.std.specs.List.{AllByRecursion}
+use Rattle.split_key.specs.Sort.{IsBefore}
 use Rattle.node_list.specs.Nodes.{NodeAt}
 
 -- The first node belongs before the second.
-unfoldable pub IsBefore : NodeAt → NodeAt → Type 0
-IsBefore n m = n.split < m.split
+abbrev pub IsNodeBefore : NodeAt → NodeAt → Type 0
+IsNodeBefore n m = IsBefore n.at m.at
 
 -- Each node belongs before all that follow it.
 unfoldable pub IsRising : List NodeAt → Type 0
 IsRising [] = Unit {0}
-IsRising (n ∷ rest) = AllByRecursion (IsBefore n) rest × IsRising rest
+IsRising (n ∷ rest) = AllByRecursion (IsNodeBefore n) rest × IsRising rest
 
 -- None of these nodes is at the place.
 abbrev pub AbsentFrom : ℕ → List NodeAt → Type 0

@@ -1,8 +1,9 @@
 -- What is true of every list.
 use Rattle.std.specs.Prelude.{◌≡◌, ◌≢◌, ℕ, ◌<◌, ◌≤◌, ◌-◌, ◌^◌, List, Some, false}
 use Rattle.std.specs.List.{AllByRecursion}
+use Rattle.split_key.specs.Sort.{dummy_at}
 use Rattle.node_list.specs.declared.node.Kind.TheVariants.{Dummy}
-use Rattle.node_list.specs.Nodes.{NodeAt, Listing, node_of, out_at}
+use Rattle.node_list.specs.Nodes.{NodeAt, Listing, first, node_of, out_at}
 use Rattle.node_list.specs.Order.{IsRising, IsSpread}
 
 -- No dummy is marked.
@@ -12,8 +13,9 @@ AllPlain nodes = AllByRecursion (λ n. n.kind ≡ Dummy → n.marked ≡ false) 
 -- The first node is the dummy of bucket 0.
 pub record IsFirst (l : Listing) : Type 0 where
   pub node : NodeAt
+  pub first : first l.nodes ≡ Some node
   pub is : node_of l.nodes l.head ≡ Some node
-  pub split : node.split ≡ 0
+  pub at : node.at ≡ dummy_at 0
   pub kind : node.kind ≡ Dummy
 
 -- No stamp is above the last one, and no two places have one stamp.

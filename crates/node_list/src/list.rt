@@ -2,7 +2,7 @@
 ghost use Rattle.std.specs.Prelude.{◌≡◌, ◌≢◌, ℕ, ◌+◌, ◌-◌, ◌<◌, ◌≤◌, ◌^◌, ◌↔◌, Some, None, Err, [], ◌∷◌, IfOk, OnErr, IfSome, IfNone, false};
 ghost use Rattle.std.specs.List.{AllByRecursion};
 ghost use Rattle.node_list.specs.Follow.{Follows};
-ghost use Rattle.node_list.specs.Nodes.{out_at, IsOut, filled, first_dummy, IsLinked, IsRegularAt, IsBeforeMarked, node_of, next_of, place_of, live_count, marked_count, turn_after, linked_after, unlinked_after, marked_at, written_at, GivesOut, Becomes, Takes, TakesBack};
+ghost use Rattle.node_list.specs.Nodes.{out_at, IsOut, filled, first_dummy, IsLinked, IsRegularAt, IsBeforeMarked, node_of, next_of, place_of, live_count, marked_count, one_more, linked_after, unlinked_after, marked_at, written_at, GivesOut, Becomes, Takes, TakesBack};
 ghost use Rattle.node_list.specs.Order.{IsRising};
 ghost use Rattle.node_list.specs.Seen.{seen};
 ghost use Rattle.node_list.specs.Sound.{IsSound};
@@ -11,15 +11,16 @@ use crate::node::{Kind, Node, NodeRef};
 use crate::slots::{Slot, mark, node_at, replace_next, set_slot, set_value};
 use crate::spare::{Spare, SpareFault};
 use slab::Slab;
+use split_key::SortKey;
 use std::alloc::{AllocError, Global};
 use std::marker::Model;
 
-/// Linked nodes in the strict order of their split keys, and the spares that are out.
+/// Linked nodes in the strict order of their sort keys, and the spares that are out.
 #[derive(Drop)]
 pub struct NodeList {
     slab: Slab<Slot>,
     head: usize,
-    turn: u64,
+    changes: u64,
     last: u64,
     count: u64,
     marked: u64,
@@ -32,16 +33,16 @@ impl Model for NodeList {
 
     ghost use Rattle.node_list.specs.Layout.{listing_of, IsKept};
 
-    ghost view = { λ f. listing_of f.slab f.head f.turn f.last };
+    ghost view = { λ f. listing_of f.slab f.head f.changes f.last };
 
     ghost invariant = { λ f. IsKept f.slab f.head f.last f.count f.marked };
 }
 
 /// Counts one change more, up to 2^64 - 1.
-fn advance(turn: &mut u64)
-    ensures { turn.new ≡ turn_after turn.old }
+fn advance(changes: &mut u64)
+    ensures { changes.new ≡ one_more changes.old }
 {
-    *turn = turn.saturating_add(1);
+    *changes = changes.saturating_add(1);
 }
 
 impl NodeList {
@@ -52,16 +53,16 @@ impl NodeList {
         requires { first_stamp < 2 ^ 64 - 1 }
         ensures nodes { IfOk result (λ list. list.nodes ≡ first_dummy list.head first_stamp ∷ []) }
         ensures out { IfOk result (λ list. (place : ℕ) → out_at list place ≡ None) }
-        ensures turn { IfOk result (λ list. list.turn ≡ 0) }
+        ensures changes { IfOk result (λ list. list.changes ≡ 0) }
         ensures last { IfOk result (λ list. list.last ≡ first_stamp) }
     {
         let mut slab = Slab::new(alloc);
-        let node = Node::dummy(0, first_stamp);
+        let node = Node::dummy(SortKey::dummy(0), first_stamp);
         match slab.insert(Slot::Linked(node)) {
             Ok(head) => Ok(NodeList {
                 slab,
                 head,
-                turn: 0,
+                changes: 0,
                 last: first_stamp,
                 count: 0,
                 marked: 0,
@@ -71,13 +72,15 @@ impl NodeList {
     }
 
     /// A place that is kept for a node, with the stamp one above the last that was given. It is filled
-    /// as a dummy with split key 0.
+    /// as the dummy of bucket 0.
     ///
     /// `Worn` exactly where the last stamp was 2^64 - 2; then `NoMemory` where the slab could not grow.
     /// Either leaves the list as it was. May allocate. Amortised constant time.
     pub fn spare(&mut self) -> Result<Spare, SpareFault>
         ensures worn { (result ≡ Err SpareFault.Worn) ↔ (self.old.last ≡ 2 ^ 64 - 2) }
         ensures stamp { IfOk result (λ spare. spare.stamp ≡ self.old.last + 1) }
+        ensures filled { IfOk result (λ spare.
+            filled spare ≡ first_dummy spare.place spare.stamp) }
         ensures ok { IfOk result (λ spare. GivesOut self.old self.new spare.place spare.stamp) }
         ensures unchanged { OnErr result (self.new ≡ self.old) }
         ensures follows { Follows self.old self.new }
@@ -86,7 +89,7 @@ impl NodeList {
             return Err(SpareFault::Worn);
         }
         let stamp = self.last + 1;
-        let node = Node::dummy(0, stamp);
+        let node = Node::dummy(SortKey::dummy(0), stamp);
         match self.slab.insert(Slot::Out(stamp)).ok() {
             Some(place) => {
                 self.last = stamp;
@@ -127,7 +130,7 @@ impl NodeList {
         // No more nodes are counted than places are in use, so the counts fit.
         let _places = self.slab.len();
         self.count += weight;
-        advance(&mut self.turn);
+        advance(&mut self.changes);
     }
 
     /// Unlinks the marked node behind a linked node, and frees its place.
@@ -143,7 +146,7 @@ impl NodeList {
             let _ = replace_next(&mut self.slab, pred.place(), next);
             let _ = self.slab.try_remove(node.place());
             self.marked -= 1;
-            advance(&mut self.turn);
+            advance(&mut self.changes);
         }
     }
 
@@ -160,7 +163,7 @@ impl NodeList {
         let _places = self.slab.len();
         self.count -= 1;
         self.marked += 1;
-        advance(&mut self.turn);
+        advance(&mut self.changes);
     }
 
     /// Writes the value of a linked node.
@@ -172,7 +175,7 @@ impl NodeList {
         ensures follows { Follows self.old self.new }
     {
         set_value(&mut self.slab, node.place(), value);
-        advance(&mut self.turn);
+        advance(&mut self.changes);
     }
 
     /// A linked node. Constant time.
@@ -209,11 +212,11 @@ impl NodeList {
 
     /// The change number: how many links, marks, unlinks and writes there were, and 2^64 - 1 from there
     /// on. Constant time.
-    pub fn turn(&self) -> u64
-        ensures turn { result ≡ self.now.turn }
+    pub fn changes(&self) -> u64
+        ensures changes { result ≡ self.now.changes }
         ensures sound { IsSound self.now }
     {
-        self.turn
+        self.changes
     }
 
     /// How many regular nodes are linked and unmarked. It is kept, so this takes constant time.

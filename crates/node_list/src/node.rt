@@ -3,6 +3,7 @@ ghost use Rattle.std.specs.Prelude.{◌≡◌, if◌then◌else◌, None, false}
 ghost use Rattle.node_list.specs.Nodes.{is_regular};
 ghost use Rattle.node_list.specs.declared.node.Kind.TheVariants.{Dummy};
 
+use split_key::SortKey;
 use std::marker::Model;
 
 /// What a node stands for.
@@ -10,8 +11,8 @@ use std::marker::Model;
 pub enum Kind {
     /// The beginning of a bucket.
     Dummy,
-    /// An entry of the table, with its key.
-    Regular(u64),
+    /// An entry of the table.
+    Regular,
 }
 
 impl Kind {
@@ -21,7 +22,7 @@ impl Kind {
     {
         match self {
             Kind::Dummy => 0,
-            Kind::Regular(_) => 1,
+            Kind::Regular => 1,
         }
     }
 }
@@ -60,9 +61,9 @@ impl NodeRef {
 /// A linked node.
 #[derive(Clone, Copy, Debug)]
 pub struct Node {
-    /// The split key, by which the list is ordered.
-    pub split: u64,
-    /// A dummy, or a regular node with its key.
+    /// Where it stands in the order of the list. A regular node has its key there.
+    pub at: SortKey,
+    /// A dummy or a regular node.
     pub kind: Kind,
     /// The value of a regular node.
     pub value: u64,
@@ -76,9 +77,9 @@ pub struct Node {
 
 impl Node {
     /// A dummy with nothing behind it.
-    pub(crate) fn dummy(split: u64, stamp: u64) -> Self
+    pub(crate) fn dummy(at: SortKey, stamp: u64) -> Self
         ensures { result ≡ record {
-          split = split;
+          at = at;
           kind = Dummy;
           value = 0;
           stamp = stamp;
@@ -87,7 +88,7 @@ impl Node {
         } }
     {
         Node {
-            split,
+            at,
             kind: Kind::Dummy,
             value: 0,
             stamp,

@@ -5,6 +5,7 @@ ghost use Rattle.node_list.specs.Nodes.{filled};
 ghost use Rattle.node_list.specs.Text.{fault_text};
 
 use crate::node::{Kind, Node, NodeRef};
+use split_key::SortKey;
 use std::fmt;
 use std::fmt::Display;
 use std::marker::Model;
@@ -18,7 +19,7 @@ use std::marker::Model;
 pub struct Spare {
     place: NodeRef,
     stamp: u64,
-    split: u64,
+    at: SortKey,
     kind: Kind,
     value: u64,
 }
@@ -31,7 +32,7 @@ impl Model for Spare {
     ghost view = { λ s. record {
       place = s.place;
       stamp = s.stamp;
-      split = s.split;
+      at = s.at;
       kind = s.kind;
       value = s.value;
     } };
@@ -67,7 +68,7 @@ impl Spare {
         ensures { result ≡ record {
           place = place;
           stamp = node.stamp;
-          split = node.split;
+          at = node.at;
           kind = node.kind;
           value = node.value;
         } }
@@ -75,7 +76,7 @@ impl Spare {
         Spare {
             place,
             stamp: node.stamp,
-            split: node.split,
+            at: node.at,
             kind: node.kind,
             value: node.value,
         }
@@ -86,7 +87,7 @@ impl Spare {
         ensures { result ≡ stored (filled self) next }
     {
         Node {
-            split: self.split,
+            at: self.at,
             kind: self.kind,
             value: self.value,
             stamp: self.stamp,
@@ -95,11 +96,11 @@ impl Spare {
         }
     }
 
-    /// Sets the split key, the kind and the value that the node will have. Takes no memory.
-    pub fn fill(&mut self, split: u64, kind: Kind, value: u64)
-        ensures { self.new ≡ record self.old { split = split; kind = kind; value = value } }
+    /// Sets where the node will stand, its kind and its value. Takes no memory.
+    pub fn fill(&mut self, at: SortKey, kind: Kind, value: u64)
+        ensures { self.new ≡ record self.old { at = at; kind = kind; value = value } }
     {
-        self.split = split;
+        self.at = at;
         self.kind = kind;
         self.value = value;
     }

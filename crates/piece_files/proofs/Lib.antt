@@ -1,12 +1,11 @@
 pub mod ElementLists
-pub mod Found
 pub mod ItemLists
-pub mod Kept
 pub mod ValueKinds
 pub mod Loop
 pub mod Numerals
 pub mod PlainElements
 pub mod Read
-pub mod Taken
 pub mod Turns
+pub mod Taken
 pub mod Values
+pub mod Whole

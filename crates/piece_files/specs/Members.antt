@@ -1,12 +1,14 @@
 -- What is found of the members of an object.
-use Rattle.std.specs.Prelude.{◌≡◌, ℕ, List, cond, Option, Some, None, Result, Ok, Err}
+use Rattle.std.specs.Prelude.{◌≡◌, ℕ, List, map, Option, Some, None, option_and_then, Result, Err}
 use Rattle.serde_json.specs.Data.{Data, null, boolean, number, string, array, object, Members, no_members}
 use Rattle.serde_json.specs.Find.{get_member}
 use Rattle.piece_files.specs.declared.part.Part.{Part}
 use Rattle.piece_files.specs.declared.piece.Pieces.{Pieces}
 use Rattle.piece_files.specs.declared.file_fault.FileFault.{FileFault}
-use Rattle.piece_files.specs.declared.file_fault.FileFault.TheVariants.{Member, Piece}
+use Rattle.piece_files.specs.declared.file_fault.FileFault.TheVariants.{Member}
+use Rattle.piece_files.specs.declared.members.Names.{Names}
 use Rattle.piece_files.specs.Elements.{number_of, elements_of}
+use Rattle.piece_files.specs.Files.{FileKind, version}
 use Rattle.piece_files.specs.Pieces.{pieces_from}
 use Rattle.piece_files.specs.Tokens.{Finds}
 
@@ -19,25 +21,31 @@ members_within (string s) = no_members
 members_within (array ds) = no_members
 members_within (object ms) = ms
 
--- What is read of a member, where it is there.
-abbrev pub GivesMember : {M : Type 0} → (Option M → Data → Type 0) → Option M → Option Data → Type 0
-GivesMember gives found None = found ≡ None
-GivesMember gives found (Some d) = gives found d
-
--- A number that is read.
-abbrev pub IsNumberOf : Option ℕ → Data → Type 0
-IsNumberOf found d = found ≡ number_of d
+-- The number in the last member of this name.
+abbrev pub last_number : Members → List ℕ → Option ℕ
+last_number ms name = option_and_then number_of (get_member name ms)
 
 -- Pieces that are read, of an array.
 abbrev pub ArePiecesOf : {P : Type 0} → (List Data → Option P) → Part → ℕ → Option (Pieces P) → Data → Type 0
 ArePiecesOf of part most None d = elements_of d ≡ None
 ArePiecesOf of part most (Some p) d = (ds : List Data) × (elements_of d ≡ Some ds) × Finds part most p.pieces.items p.count p.are_all (pieces_from of part 0 ds)
 
--- What is read of the last member of a name.
-abbrev pub GivesLast : {M : Type 0} → (Option M → Data → Type 0) → Option M → List ℕ → Members → Type 0
-GivesLast gives found name ms = GivesMember gives found (get_member name ms)
+-- Pieces that are read of a member, where it is there.
+abbrev pub ArePiecesIn : {P : Type 0} → (List Data → Option P) → Part → ℕ → Option (Pieces P) → Option Data → Type 0
+ArePiecesIn of part most found None = found ≡ None
+ArePiecesIn of part most found (Some d) = ArePiecesOf of part most found d
 
--- The pieces in a member.
-abbrev pub pieces_found : {P : Type 0} → Part → Option (Pieces P) → Result (List P) FileFault
-pieces_found part None = Err Member
-pieces_found part (Some found) = cond found.are_all (Ok found.pieces.items) (Err (Piece part found.count))
+-- The kind of file that has members of these names.
+abbrev pub kind_named : {P : Type 0} → Names → (List Data → Option P) → Part → ℕ → FileKind P
+kind_named names of part most = record { numbers = map (λ name. name.now) names.numbers.now; pieces = names.pieces.now; of = of; part = part; most = most }
+
+-- What was found is what the last members of the kind's names hold.
+pub record AreFound {P : Type 0} (kind : FileKind P) (n : Option ℕ) (numbers : List (Option ℕ)) (pieces : Option (Pieces P)) (ms : Members) : Type 0 where
+  pub the_version : n ≡ last_number ms version
+  pub the_numbers : numbers ≡ map (last_number ms) kind.numbers
+  pub the_pieces : ArePiecesIn kind.of kind.part kind.most pieces (get_member kind.pieces ms)
+
+-- What was found of the member of pieces is of these pieces.
+abbrev pub FindsIn : {P : Type 0} → Part → ℕ → Option (Pieces P) → Result (List P) FileFault → Type 0
+FindsIn part most None wanted = wanted ≡ Err Member
+FindsIn part most (Some p) wanted = Finds part most p.pieces.items p.count p.are_all wanted

@@ -1,12 +1,11 @@
 -- What tokens begin with, in the words of `serde_json`, and the tokens after it.
-use Rattle.std.specs.Prelude.{◌≡◌, ℕ, zero, suc, List, [], ◌∷◌, length, take, map, Vec, Bool, true, false, ◌&&◌, Option, Some, None}
+use Rattle.std.specs.Prelude.{◌≡◌, ℕ, zero, suc, List, [], ◌∷◌, length, take, map, Bool, true, false, ◌&&◌, Option, Some, None}
 use Rattle.json.specs.Token.{Token}
 use Rattle.json.specs.Json.{value, items, members}
 use Rattle.serde_json.specs.Data.{Num, unsigned, negative, float, Data, null, boolean, number, string, array, object, Items, no_items, item, Members, no_members}
 use Rattle.serde_json.specs.Read.{of_json, of_items, of_members, converted}
-use Rattle.std.specs.declared.alloc.Global.{Global}
-use Rattle.serde_json.specs.View.{view}
-use Rattle.serde_json.specs.declared.value.Value.{Value}
+use Rattle.piece_files.specs.declared.plain.Plain.{Plain}
+use Rattle.piece_files.specs.Plain.{data_of}
 use Rattle.piece_files.specs.Faults.{◌>>=◌}
 use Rattle.piece_files.specs.declared.part.Part.{Part}
 use Rattle.std.specs.Prelude.{Result, Ok, Err}
@@ -46,13 +45,13 @@ are_plain zero (d ∷ ds) = false
 are_plain (suc n) (d ∷ ds) = is_plain d && are_plain n ds
 
 -- A value where it is plain.
-abbrev pub IsPlain : Option Value → Data → Type 0
-IsPlain (Some v) d = (view v ≡ d) × (is_plain d ≡ true)
+abbrev pub IsPlain : Option Plain → Data → Type 0
+IsPlain (Some v) d = (data_of v ≡ d) × (is_plain d ≡ true)
 IsPlain None d = is_plain d ≡ false
 
 -- The elements, where they are no more than the number and all plain.
-abbrev pub AreElements : ℕ → Option (Vec Value Global) → List Data → Type 0
-AreElements most (Some vs) ds = (map view vs.items ≡ ds) × (are_plain most ds ≡ true)
+abbrev pub AreElements : ℕ → Option (List Plain) → List Data → Type 0
+AreElements most (Some vs) ds = (map data_of vs ≡ ds) × (are_plain most ds ≡ true)
 AreElements most None ds = are_plain most ds ≡ false
 
 -- The items that a list is.
@@ -68,7 +67,3 @@ outcome part false pieces = Err (Piece part (length pieces))
 -- Of the pieces that are wanted, or those before the first that is wrong, the first are kept and all are counted.
 abbrev pub Finds : {P : Type 0} → Part → ℕ → List P → ℕ → Bool → Result (List P) FileFault → Type 0
 Finds {P} part most pieces count are_all wanted = (all : List P) × (wanted ≡ outcome part are_all all) × (count ≡ length all) × (pieces ≡ take most all)
-
--- The first pieces, where all are pieces.
-abbrev pub first_of : {P : Type 0} → ℕ → Result (List P) FileFault → Result (List P) FileFault
-first_of most wanted = wanted >>= λ pieces. Ok (take most pieces)

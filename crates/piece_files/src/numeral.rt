@@ -2,54 +2,60 @@
 
 ghost use Rattle.std.specs.Prelude.{◌≡◌, false, option_map};
 ghost use Rattle.std.specs.Prelude as prelude;
+ghost use Rattle.fast_float.specs.Text.{scan};
 ghost use Rattle.serde_json.specs.Find.{as_u64};
 ghost use Rattle.serde_json.specs.Read.{float_of, number_from, number_of};
 
 use fast_float::Numeral;
 
 /// A number that is no whole number below 2^64, where it is in range: no number within.
-fn float_in(is_negative: bool, numeral: &Numeral<'_>) -> Option<Option<u64>>
-    ensures { result ≡ option_map as_u64 (float_of is_negative numeral.now) }
+#[cold]
+#[inline(never)]
+fn float_in(is_negative: bool, bytes: &[u8]) -> Option<Option<u64>>
+    ensures { result ≡ option_map as_u64 (float_of is_negative (scan bytes.now)) }
 {
-    if numeral.to_float::<f64>(is_negative).is_finite() {
-        Some(None)
-    } else {
-        None
-    }
+    let float = Numeral::scan(bytes).to_float::<f64>(is_negative);
+    if float.is_finite() { Some(None) } else { None }
 }
 
-fn unsigned_in(numeral: &Numeral<'_>) -> Option<Option<u64>>
-    ensures { result ≡ option_map as_u64 (number_from prelude.false numeral.now) }
+/// The number of a text with no sign.
+#[inline(always)]
+fn unsigned_in(bytes: &[u8]) -> Option<Option<u64>>
+    ensures { result ≡ option_map as_u64 (number_from prelude.false (scan bytes.now)) }
 {
-    match numeral.to_u64() {
+    match Numeral::scan(bytes).to_u64() {
         Some(number) => Some(Some(number)),
-        None => float_in(false, numeral),
+        None => float_in(false, bytes),
     }
 }
 
-fn negative_in(numeral: &Numeral<'_>) -> Option<Option<u64>>
-    ensures { result ≡ option_map as_u64 (number_from prelude.true numeral.now) }
+/// The number of a text after a minus sign.
+#[cold]
+#[inline(never)]
+fn negative_in(bytes: &[u8]) -> Option<Option<u64>>
+    ensures { result ≡ option_map as_u64 (number_from prelude.true (scan bytes.now)) }
 {
-    if let Some(number) = numeral.to_i64(true)
+    if let Some(number) = Numeral::scan(bytes).to_i64(true)
         && number < 0
     {
         return Some(None);
     }
-    float_in(true, numeral)
+    float_in(true, bytes)
 }
 
 /// The number that a number's text is: none where no number in range, and none within where it has a
 /// sign, a fraction or an exponent, or is 2^64 or more.
+#[inline(always)]
 pub(crate) fn number_in_text(text: &str) -> Option<Option<u64>>
     ensures { result ≡ option_map as_u64 (number_of text.now) }
 {
     let bytes = text.as_bytes();
     let Some((first, digits)) = bytes.split_first() else {
-        return unsigned_in(&Numeral::scan(bytes));
+        return unsigned_in(bytes);
     };
     if *first == b'-' {
-        negative_in(&Numeral::scan(digits))
+        negative_in(digits)
     } else {
-        unsigned_in(&Numeral::scan(bytes))
+        unsigned_in(bytes)
     }
 }

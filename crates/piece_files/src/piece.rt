@@ -1,6 +1,6 @@
 //! The pieces of an array, read one after the other: one loop for all kinds of pieces.
 
-ghost use Rattle.std.specs.Prelude.{◌≡◌, ℕ, ◌+◌, ◌^◌, ◌∷◌, ◌<◌, ◌≤◌, List, length, Option, Some, None, Err, MatchResult, IfOk, OnOk, option_and_then};
+ghost use Rattle.std.specs.Prelude.{◌≡◌, ℕ, ◌+◌, ◌^◌, ◌∷◌, ◌<◌, ◌≤◌, List, length, Bool, true, Option, Some, None, Err, MatchResult, IfOk, OnOk, option_and_then};
 ghost use Rattle.json.specs.Token.{Token as SpecToken};
 ghost use Rattle.json.specs.Reads.{token_of};
 ghost use Rattle.serde_json.specs.Data.{Data};
@@ -28,15 +28,17 @@ pub trait PieceKind {
     /// What a fault calls a piece of this kind.
     ghost part: { Part };
 
-    /// How many pieces of an array are kept.
+    /// How many pieces a file may have.
     ghost most: { ℕ };
+
+    /// Whether memory may be taken to read a piece.
+    ghost takes_memory: { Bool };
 
     /// What a fault calls a piece of this kind. Constant time.
     fn part() -> Part
         ensures { result ≡ part };
 
-    /// How many pieces of an array are kept at most, where the others are only counted. Where a file may
-    /// have no more than so many, one more is kept, which shows that there are too many. Constant time.
+    /// How many pieces a file may have. No more are kept, the others only counted. Constant time.
     fn most() -> usize
         ensures { result ≡ most };
 
@@ -52,6 +54,7 @@ pub trait PieceKind {
     ) -> Result<Option<Self::Piece>, Stop>
         ensures ok { IfOk result (λ piece. (ds : List Data) × (items_at depth reader.old ≡ Some (items_from ds, reader.new)) × (piece ≡ of ds)) }
         ensures err { result ≡ Err NotJson → items_at depth reader.old ≡ None }
+        ensures memory { result ≡ Err NoMemory → takes_memory ≡ true }
         ensures shorter { OnOk result (length reader.new < length reader.old) };
 }
 
@@ -75,6 +78,7 @@ fn piece_in<K: PieceKind>(
 ) -> Result<Option<K::Piece>, Stop>
     ensures ok { IfOk result (λ piece. (d : Data) × (value_at depth (token_of token.entry ∷ reader.old) ≡ Some (d, reader.new)) × (piece ≡ option_and_then K.of (elements_of d))) }
     ensures err { result ≡ Err NotJson → value_at depth (token_of token.entry ∷ reader.old) ≡ None }
+    ensures memory { result ≡ Err NoMemory → K.takes_memory ≡ true }
     ensures shorter { OnOk result (length reader.new ≤ length reader.old) }
 {
     match token {

@@ -1,36 +1,45 @@
 //! Plain values, of which elements are kept: null, a text, or a whole number below 2^64.
 
-ghost use Rattle.std.specs.Prelude.{◌≡◌, ◌∷◌, ◌<◌, ◌≤◌, List, length, Some, None, Err, IfOk, OnOk};
+ghost use Rattle.std.specs.Prelude.{◌≡◌, ◌∷◌, ◌<◌, ◌≤◌, List, length, Some, None, option_map, IfOk, OnOk, OnErr};
 ghost use Rattle.json.specs.Reads.{token_of};
 ghost use Rattle.serde_json.specs.Data.{Data};
 ghost use Rattle.piece_files.specs.Tokens.{value_at, items_at, items_from, IsPlain, AreElements};
-ghost use Rattle.piece_files.specs.declared.stop.Stop.TheVariants.{NotJson};
 
 use crate::numeral::number_in_text;
 use crate::passing::pass_value;
-use crate::stop::Stop;
-use json::{Reader, Token};
-use serde_json::{Number, Value};
-use std::alloc::Global;
+use arrayvec::ArrayVec;
+use json::{Invalid, Reader, Token};
+
+/// A plain value. A text stays where it was read.
+#[derive(Clone, Copy, Debug, Drop, Default)]
+pub enum Plain<'a> {
+    /// Null.
+    #[default]
+    Null,
+    /// A text.
+    Text(&'a str),
+    /// A whole number.
+    Number(u64),
+}
 
 /// The value that begins with this token, which was taken: none where it is not plain.
-pub(crate) fn plain_value(
-    alloc: Global,
-    token: Token<'_>,
+#[inline(always)]
+pub(crate) fn plain_value<'a>(
+    token: Token<'a>,
     reader: &mut Reader<'_>,
     depth: usize,
-) -> Result<Option<Value>, Stop>
+) -> Result<Option<Plain<'a>>, Invalid>
     ensures ok { IfOk result (λ found. (d : Data) × (value_at depth (token_of token.entry ∷ reader.old) ≡ Some (d, reader.new)) × IsPlain found d) }
-    ensures err { result ≡ Err NotJson → value_at depth (token_of token.entry ∷ reader.old) ≡ None }
+    ensures err { OnErr result (value_at depth (token_of token.entry ∷ reader.old) ≡ None) }
     ensures shorter { OnOk result (length reader.new ≤ length reader.old) }
 {
     match token {
-        Token::Null => Ok(Some(Value::Null)),
-        Token::String(text) => Ok(Some(Value::String(String::from_str(alloc, text)?))),
+        Token::Null => Ok(Some(Plain::Null)),
+        Token::String(text) => Ok(Some(Plain::Text(text))),
         Token::Number(text) => match number_in_text(text) {
-            Some(Some(number)) => Ok(Some(Value::Number(Number::from(number)))),
+            Some(Some(number)) => Ok(Some(Plain::Number(number))),
             Some(None) => Ok(None),
-            None => Err(Stop::NotJson),
+            None => Err(Invalid),
         },
         Token::Bool(_)
         | Token::BeginArray
@@ -46,32 +55,35 @@ pub(crate) fn plain_value(
 }
 
 /// The elements of an array, whose bracket was taken from the reader: none where there are more than
-/// `most`, or one is neither null, nor a text, nor a whole number below 2^64. The reader is then behind
+/// `MOST`, or one is neither null, nor a text, nor a whole number below 2^64. The reader is then behind
 /// the bracket that closes the array.
 ///
-/// `NotJson` where what comes is not the rest of an array in which arrays and objects nest no deeper
-/// than `depth`, `NoMemory` where memory was refused. The reader is then anywhere in the text.
+/// # Errors
 ///
-/// Time is proportional to the tokens taken. Memory is taken for no more than `most` elements.
-pub fn plain_elements(
-    alloc: Global,
-    reader: &mut Reader<'_>,
+/// `Invalid` where what comes is not the rest of an array in which arrays and objects nest no deeper
+/// than `depth`, or a number is too large for a float. The reader is then anywhere in the text.
+///
+/// # Cost
+///
+/// Time is proportional to the tokens taken. No memory is taken: a text stays where it was read.
+#[inline(always)]
+pub fn plain_elements<'a, const MOST: usize>(
+    reader: &mut Reader<'a>,
     depth: usize,
-    most: usize,
-) -> Result<Option<Vec<Value>>, Stop>
-    ensures ok { IfOk result (λ found. (ds : List Data) × (items_at depth reader.old ≡ Some (items_from ds, reader.new)) × AreElements most found ds) }
-    ensures err { result ≡ Err NotJson → items_at depth reader.old ≡ None }
+) -> Result<Option<ArrayVec<Plain<'a>, MOST>>, Invalid>
+    ensures ok { IfOk result (λ found. (ds : List Data) × (items_at depth reader.old ≡ Some (items_from ds, reader.new)) × AreElements MOST (option_map (λ v. v.items) found) ds) }
+    ensures err { OnErr result (items_at depth reader.old ≡ None) }
     ensures shorter { OnOk result (length reader.new < length reader.old) }
 {
-    let mut elements = Vec::new(alloc);
+    let mut elements = ArrayVec::new();
     let mut are_plain = true;
     'elements: while !reader.take_end_array() {
-        let token = reader.next().ok_or(Stop::NotJson)?;
-        let element = plain_value(alloc, token, reader, depth)?;
+        let token = reader.next().ok_or(Invalid)?;
+        let element = plain_value(token, reader, depth)?;
         match element {
             Some(value) => {
-                if elements.len() < most {
-                    elements.push(value)?;
+                if elements.len() < MOST {
+                    elements.push(value);
                 } else {
                     are_plain = false;
                 }

@@ -1,15 +1,14 @@
-ghost use Rattle.std.specs.Prelude.{◌≡◌, codes};
+ghost use Rattle.std.specs.Prelude.{false};
 ghost use Rattle.piece_files.specs.Elements.{two_of};
-ghost use Rattle.piece_files.specs.Members.{GivesLast, IsNumberOf, ArePiecesOf};
 
 use super::*;
+use arrayvec::ArrayVec;
 use json::{Reader, Scratch, Token};
-use serde_json::Value;
 use std::alloc::Global;
 use std::process::Abort;
 use std::test::Fail;
 
-/// Points, each two numbers, of which three are kept.
+/// Points, each two numbers, of which a file may have three.
 struct PointKind;
 
 impl PieceKind for PointKind {
@@ -23,6 +22,8 @@ impl PieceKind for PointKind {
 
     ghost most = { 3 };
 
+    ghost takes_memory = { false };
+
     fn part() -> Part {
         Part::Entry
     }
@@ -33,11 +34,11 @@ impl PieceKind for PointKind {
 
     #[tactic(auto, using(crate::proofs::PlainElements::no_two))]
     fn read(
-        alloc: Global,
+        _alloc: Global,
         reader: &mut Reader<'_>,
         depth: usize,
     ) -> Result<Option<(u64, u64)>, Stop> {
-        let elements = plain_elements(alloc, reader, depth, 2)?;
+        let elements = plain_elements::<2>(reader, depth)?;
         match elements {
             Some(values) => Ok(two_in(&values)),
             None => Ok(None),
@@ -45,46 +46,14 @@ impl PieceKind for PointKind {
     }
 }
 
-/// The members of a drawing.
-#[derive(Drop)]
-struct Drawing {
-    width: Option<u64>,
-    points: Option<Pieces<(u64, u64)>>,
-}
-
-impl Wanted for Drawing {
-    ghost use Rattle.piece_files.specs.declared.part.Part.TheVariants as parts;
-
-    ghost found = { λ m ms. GivesLast IsNumberOf m.width (codes "width") ms × GivesLast (ArePiecesOf two_of parts.Entry 3) m.points (codes "points") ms };
-
-    fn take(
-        &mut self,
-        alloc: Global,
-        key: &str,
-        token: Token<'_>,
-        reader: &mut Reader<'_>,
-        depth: usize,
-    ) -> Result<(), Stop> {
-        if key == "width" {
-            put_number(&mut self.width, alloc, token, reader, depth)
-        } else if key == "points" {
-            put_pieces::<PointKind>(&mut self.points, alloc, token, reader, depth)
-        } else {
-            pass_value(token, reader, depth)?;
-            Ok(())
-        }
-    }
-}
-
 /// The width and the points of a drawing.
 fn drawing_in(alloc: Global, text: &str) -> Result<(u64, Vec<(u64, u64)>), FileFault> {
-    let nothing = Drawing {
-        width: None,
-        points: None,
-    };
-    let found = members_in(alloc, text.as_bytes(), nothing)?;
-    let width = number_found(found.width)?;
-    let points = pieces_kept::<PointKind>(found.points)?;
+    let ([width], points) = read_file::<PointKind, 1>(
+        alloc,
+        text.as_bytes(),
+        &["width"],
+        "points",
+    )?;
     Ok((width, points))
 }
 
@@ -93,18 +62,21 @@ fn drawings(rt: HostRuntime) -> Result<(), Fail> {
     let few = [(1, 2), (3, 4)];
     let three = [(1, 2), (3, 4), (5, 6)];
     let cases: [(&str, &[(u64, u64)]); 5] = [
-        ("{\"width\":7,\"points\":[]}", &[]),
-        (" {\"points\":[[1,2],[3,4]],\n\"width\":7} ", &few),
+        ("{\"version\":1,\"width\":7,\"points\":[]}", &[]),
         (
-            "{\"x\":[[1e5],{\"width\":8}],\"width\":7,\"points\":[[1,2],[3,4]],\"\":null}",
+            " {\"points\":[[1,2],[3,4]],\n\"width\":7,\"version\":1} ",
             &few,
         ),
         (
-            "{\"points\":0,\"width\":8,\"width\":7,\"points\":[[1,2],[3,4]]}",
+            "{\"x\":[[1e5],{\"width\":8}],\"width\":7,\"version\":1,\"points\":[[1,2],[3,4]],\"\":null}",
             &few,
         ),
         (
-            "{\"width\":7,\"points\":[[1,2],[3,4],[5,6],[7,8],[9,10]]}",
+            "{\"points\":0,\"width\":8,\"version\":2,\"width\":7,\"version\":1,\"points\":[[1,2],[3,4]]}",
+            &few,
+        ),
+        (
+            "{\"version\":1,\"width\":7,\"points\":[[1,2],[3,4],[5,6]]}",
             &three,
         ),
     ];
@@ -122,28 +94,46 @@ fn drawings(rt: HostRuntime) -> Result<(), Fail> {
 fn wrong_drawings(rt: HostRuntime) {
     let cases = [
         ("", FileFault::NotJson),
-        ("{\"width\":7,\"points\":[[1,2]}", FileFault::NotJson),
-        ("{\"width\":7,\"points\":[]} 7", FileFault::NotJson),
         (
-            "{\"width\":7,\"points\":[],\"x\":1e999}",
+            "{\"version\":1,\"width\":7,\"points\":[[1,2]}",
+            FileFault::NotJson,
+        ),
+        (
+            "{\"version\":1,\"width\":7,\"points\":[]} 7",
+            FileFault::NotJson,
+        ),
+        (
+            "{\"version\":1,\"width\":7,\"points\":[],\"x\":1e999}",
             FileFault::NotJson,
         ),
         ("7", FileFault::Member),
         ("[]", FileFault::Member),
-        ("{\"points\":[]}", FileFault::Member),
-        ("{\"width\":-7,\"points\":[]}", FileFault::Member),
-        ("{\"width\":7}", FileFault::Member),
+        ("{\"width\":7,\"points\":[]}", FileFault::Member),
+        ("{\"version\":1,\"points\":[]}", FileFault::Member),
         (
-            "{\"width\":7,\"points\":[],\"points\":{}}",
+            "{\"version\":1,\"width\":-7,\"points\":[]}",
+            FileFault::Member,
+        ),
+        ("{\"version\":1,\"width\":7}", FileFault::Member),
+        (
+            "{\"version\":1,\"width\":7,\"points\":[],\"points\":{}}",
             FileFault::Member,
         ),
         (
-            "{\"width\":7,\"points\":[0,[1,2]]}",
+            "{\"version\":2,\"width\":7,\"points\":[0,[1,2]]}",
             FileFault::Piece(Part::Entry, 0),
         ),
         (
-            "{\"width\":7,\"points\":[[1,2],[1,2],[1,2],[1,2],[1,2,3],[]]}",
+            "{\"version\":1,\"width\":7,\"points\":[[1,2],[1,2],[1,2],[1,2],[1,2,3],[]]}",
             FileFault::Piece(Part::Entry, 4),
+        ),
+        (
+            "{\"version\":1,\"width\":7,\"points\":[[1,2],[3,4],[5,6],[7,8]]}",
+            FileFault::Limit,
+        ),
+        (
+            "{\"version\":2,\"width\":7,\"points\":[]}",
+            FileFault::Limit,
         ),
     ];
     for (text, wanted) in cases {
@@ -151,21 +141,26 @@ fn wrong_drawings(rt: HostRuntime) {
     }
 }
 
-/// The elements of the array that a text is, where they are plain and no more than four.
-fn elements_of_text(rt: &(impl Abort + AllocGlobal), text: &str) -> Result<Vec<Value>, Fail> {
-    let mut scratch = Scratch::new(rt.alloc());
-    let mut reader = Reader::new(text, &mut scratch)?;
+/// The elements of the next array, where they are plain and no more than four.
+fn next_elements<'a>(
+    rt: &impl Abort,
+    reader: &mut Reader<'a>,
+) -> Result<ArrayVec<Plain<'a>, 4>, Fail> {
     assert!(rt; matches!(reader.next(), Some(Token::BeginArray)));
-    match plain_elements(rt.alloc(), &mut reader, 1, 4) {
+    match plain_elements::<4>(reader, 1) {
         Ok(Some(values)) => Ok(values),
         Ok(None) => Err("not plain")?,
-        Err(_) => Err("no JSON, or no memory")?,
+        Err(_) => Err("no JSON")?,
     }
 }
 
 #[test]
 fn elements(rt: HostRuntime) -> Result<(), Fail> {
-    let values = elements_of_text(&rt, "[\"put\",1,18446744073709551615,null]")?;
+    let text = "[[\"put\",1,18446744073709551615,null],[8,9],[9],[null],[]]";
+    let mut scratch = Scratch::new(rt.alloc());
+    let mut reader = Reader::new(text, &mut scratch)?;
+    assert!(rt; matches!(reader.next(), Some(Token::BeginArray)));
+    let values = next_elements(&rt, &mut reader)?;
     let Some((name, rest)) = word_in(&values) else {
         return Err("no text")?;
     };
@@ -175,17 +170,17 @@ fn elements(rt: HostRuntime) -> Result<(), Fail> {
     };
     assert_eq!(rt; (number, rest.len()), (1, 2));
     assert_eq!(rt; two_in(rest), None);
-    let values = elements_of_text(&rt, "[8,9]")?;
+    let values = next_elements(&rt, &mut reader)?;
     assert_eq!(rt; two_in(&values), Some((8, 9)));
     assert_eq!(rt; one_in(&values), None);
     assert_eq!(rt; end_in(&values), None);
-    let values = elements_of_text(&rt, "[9]")?;
+    let values = next_elements(&rt, &mut reader)?;
     assert_eq!(rt; one_in(&values), Some(9));
     assert_eq!(rt; optional_in(&values), Some(Some(9)));
-    let values = elements_of_text(&rt, "[null]")?;
+    let values = next_elements(&rt, &mut reader)?;
     assert_eq!(rt; optional_in(&values), Some(None));
     assert_eq!(rt; one_in(&values), None);
-    let values = elements_of_text(&rt, "[]")?;
+    let values = next_elements(&rt, &mut reader)?;
     assert_eq!(rt; end_in(&values), Some(()));
     Ok(())
 }

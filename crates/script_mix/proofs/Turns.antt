@@ -28,7 +28,7 @@ use Rattle.script_worker.specs.declared.task.Task.{Task}
 use Rattle.script_worker.specs.declared.worker.Worker.{Worker}
 use Rattle.script_worker.specs.Workers.{step_by}
 use Rattle.script_worker.specs.Keeps.{KeepsAt, Keeps}
-use Rattle.script_worker.proofs.Driving.{entries_callers}
+use Rattle.txn_drive.proofs.DriveLaws.{entries_callers}
 use Rattle.script_worker.proofs.Keeping.{keeps_played}
 use Rattle.script_mix.specs.Crews.{IsMember, IsCrew, Goes}
 

@@ -4,7 +4,7 @@ use Rattle.txn_trace.specs.declared.action.Action.{Action}
 use Rattle.txn_trace.specs.declared.entry.Entry.{Entry}
 use Rattle.txn_trace.specs.Shape.{own}
 use Rattle.txn_trace.specs.Plays.{PlayScripts}
-use Rattle.txn_files.specs.Work.{Work}
+use Rattle.txn_trace.specs.Work.{Work}
 use Rattle.boost_core.specs.Machine.{State}
 use Rattle.script_worker.specs.declared.worker.Worker.{Worker}
 use Rattle.script_worker.specs.Keeps.{Keeps}

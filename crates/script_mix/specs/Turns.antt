@@ -5,7 +5,7 @@ use Rattle.txn_trace.specs.declared.action.Action.{Action}
 use Rattle.txn_trace.specs.declared.answer.Answer.{Answer}
 use Rattle.txn_trace.specs.declared.answer.Answer.TheVariants as answers
 use Rattle.txn_trace.specs.declared.step.Step.{Step}
-use Rattle.txn_files.specs.Work.{Work}
+use Rattle.txn_trace.specs.Work.{Work}
 use Rattle.txn_drive.specs.declared.turn.Turn.{Turn}
 use Rattle.txn_drive.specs.declared.turn.Turn.TheVariants.{One, Two, Ended}
 use Rattle.boost_core.specs.Machine.{State, Move, start}

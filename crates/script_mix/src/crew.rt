@@ -7,7 +7,7 @@ use crate::drawing::draw;
 use rand_pcg::Pcg32;
 use script_worker::Worker;
 use std::alloc::{AllocError, Global};
-use txn_files::Script;
+use txn_trace::Script;
 
 /// The workers, by rising numbers, before their first steps.
 pub(crate) fn workers_of(

@@ -7,7 +7,7 @@ use boost_core::Core;
 use rand_core::SeedableRng;
 use rand_pcg::Pcg32;
 use std::alloc::{AllocError, Global};
-use txn_files::Scripts;
+use txn_trace::Scripts;
 
 /// Runs the scripts on a new core, the workers' turns mixed as the seed says, until no worker has a step left. The core
 /// then has the history. Before each turn a place among the live workers is drawn, also where there is one.

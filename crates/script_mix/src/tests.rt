@@ -5,8 +5,8 @@ use rand_core::utils::NextWord;
 use rand_pcg::Pcg32;
 use std::process::Abort;
 use std::test::Fail;
-use txn_files::{Script, read_scripts};
-use txn_trace::{Answer, Entry, Refusal};
+use txn_files::read_scripts;
+use txn_trace::{Answer, Entry, Refusal, Script};
 
 #[test]
 fn draw_is_the_next_word(rt: HostRuntime) {

@@ -10,8 +10,7 @@ ghost use Rattle.script_mix.specs.Turns.{Takes, TakesTurn};
 use boost_core::Core;
 use script_worker::Worker;
 use txn_drive::Turn;
-use txn_files::Script;
-use txn_trace::{Answer, Step};
+use txn_trace::{Answer, Script, Step};
 
 /// A worker that has a step to take takes its next turn, of one step or of two.
 pub(crate) fn take_turn(core: &mut Core, worker: &mut Worker, scripts: &[Script], tries: u64)
@@ -50,6 +49,6 @@ fn take_step(
     ensures second { (next : Step) → result ≡ answers.Placed → step_by (told_drive worker.old answers.Placed) ≡ Some next → step_by worker.new ≡ Some next }
 {
     let answer = core.step(step);
-    worker.told(scripts, tries, answer);
+    let _outcome = worker.told(scripts, tries, answer);
     answer
 }

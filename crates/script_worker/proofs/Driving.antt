@@ -1,5 +1,5 @@
--- What a drive's steps add to the entries of its caller, and how an ended drive ended.
-use Rattle.std.proofs.Common.{◌≡◌, ℕ, ◌^◌, nat_lt, true, false, if◌then◌else◌, List, [], ◌∷◌, ◌++◌, Option, Some, None, refl, sym, ap, subst, ◌∙◌, append_assoc}
+-- What a plain call's steps add to the parts of its caller's entries.
+use Rattle.std.proofs.Common.{◌≡◌, ℕ, false, List, [], ◌∷◌, ◌++◌, Option, Some, None, refl, sym, ap, subst, ◌∙◌, append_assoc}
 use Rattle.std.specs.List.{fold, AllByRecursion}
 use Rattle.std.proofs.lemmas.List.{append-nil}
 use Rattle.txn_trace.specs.declared.step.Step.{Step}
@@ -7,23 +7,19 @@ use Rattle.txn_trace.specs.declared.step.Step.TheVariants.{Begin, Ask, Act, Save
 use Rattle.txn_trace.specs.declared.answer.Answer.{Answer}
 use Rattle.txn_trace.specs.declared.answer.Answer.TheVariants as answers
 use Rattle.txn_trace.specs.declared.entry.Entry.{Entry}
-use Rattle.txn_trace.specs.declared.refusal.Refusal.TheVariants.{BadKey}
-use Rattle.txn_trace.specs.History.{caller_of, is_began, is_commit}
+use Rattle.txn_trace.specs.History.{is_began, is_commit}
 use Rattle.txn_trace.specs.Plays.{part_after, HavePlayed}
 use Rattle.txn_trace.specs.declared.action.Action.{Action}
 use Rattle.txn_trace.proofs.Playing.{part-goes, played_on}
 use Rattle.txn_drive.specs.declared.call.Call.{Call}
 use Rattle.txn_drive.specs.declared.call.Call.TheVariants as calls
 use Rattle.txn_drive.specs.declared.drive.Drive.{Drive}
-use Rattle.txn_drive.specs.declared.«end».End.{End}
 use Rattle.txn_drive.specs.declared.phase.Phase.{Phase}
-use Rattle.txn_drive.specs.declared.phase.Phase.TheVariants.{Fresh, Seeking, Acting, Doubling, Initialising, Linking, Storing, Refused}
-use Rattle.txn_drive.specs.declared.turn.Turn.{Turn}
-use Rattle.txn_drive.specs.declared.turn.Turn.TheVariants.{One, Two, Ended}
-use Rattle.txn_drive.specs.Drives.{first_step, step_in, step_of, paired, turn_in, turn_of, sized_in, ended_by, end_of, new_drive}
+use Rattle.txn_drive.specs.declared.phase.Phase.TheVariants.{Fresh}
+use Rattle.txn_drive.specs.Drives.{first_step, step_in, step_of}
 use Rattle.txn_trace.specs.Entries.{entries_of}
-use Rattle.txn_drive.specs.Made.{made_in, made, IsMade, HasMade}
-use Rattle.txn_drive.proofs.MadeLemmas.{ended-turn_of}
+-- The laws of drives, handed on.
+pub use Rattle.txn_drive.proofs.DriveLaws.{goes_on, made_at_end, made-sized, made-new, entries_callers}
 
 -- Neither a begin nor a commit.
 abbrev pub IsPlain : Step → Type 0
@@ -82,85 +78,3 @@ pub played_inner : (workers : ℕ) (scripts : List (List Action)) (w high : ℕ)
 played_inner workers scripts w high [] parts all played = played
 played_inner workers scripts w high (e ∷ es) parts all played =
     played_inner workers scripts w high es (part_after parts e) all.1 (played_on workers scripts w high parts e all.0.1 played)
-
--- A drive with a step to take has not ended.
-paired_on : (again : ℕ) (seeking acting : Step) → ended_by (paired again seeking acting) ≡ None
-paired_on again seeking acting = elim (nat_lt again 8) as (λ b. ended_by (if b then One seeking else Two seeking acting) ≡ None) [ true ↦ refl | false ↦ refl ]
-
-goes_on_in : (c : ℕ) (call : Call) (phase : Phase) (step : Step) → step_in c call phase ≡ Some step → ended_by (turn_in c call phase) ≡ None
-goes_on_in c call Fresh step is = refl
-goes_on_in c call (Seeking work again) step is = paired_on again _ _
-goes_on_in c call (Acting work again) step is = refl
-goes_on_in c call (Doubling size) step is = refl
-goes_on_in c call (Initialising way again) step is = paired_on again _ _
-goes_on_in c call (Linking way again) step is = refl
-goes_on_in c call (Storing way) step is = refl
-goes_on_in c call phase step is = absurd (cc is)
-
-pub goes_on : (drive : Drive) (step : Step) → step_of drive ≡ Some step → end_of drive ≡ None
-goes_on drive step is = goes_on_in drive.caller drive.call drive.phase step is
-
--- What an ended drive has made belongs to its end.
-made_by_end : (drive : Drive) (turn : Turn) (outcome : End) → HasMade drive turn → ended_by turn ≡ Some outcome → IsMade drive.caller drive.call outcome (made drive)
-made_by_end drive (Ended other) outcome has is = let same : other ≡ outcome = cc is in subst (λ o. IsMade drive.caller drive.call o (made drive)) same has
-made_by_end drive (One step) outcome has is = absurd (cc is)
-made_by_end drive (Two step next) outcome has is = absurd (cc is)
-
-pub made_at_end : (drive : Drive) (outcome : End) → end_of drive ≡ Some outcome → IsMade drive.caller drive.call outcome (made drive)
-made_at_end drive outcome is = made_by_end drive (turn_of drive) outcome (ended-turn_of drive (turn_of drive) refl) is
-
--- The size at this moment adds nothing.
-pub made-sized : (size c : ℕ) (call : Call) (phase : Phase) → made_in c call (sized_in size phase) ≡ made_in c call phase
-made-sized size c call (Doubling seen) = refl
-made-sized size c call phase = refl
-
--- A new drive has made nothing.
-pub made-new : (c : ℕ) (call : Call) → made (new_drive c call) ≡ []
-made-new c (calls.Help key) = elim (nat_lt key (2 ^ 63)) as (λ b. made_in c (calls.Help key) (if b then Doubling 0 else Refused BadKey) ≡ []) [ true ↦ refl | false ↦ refl ]
-made-new c call = refl
-
--- A drive's step adds entries of its caller alone.
-abbrev IsBy : ℕ → Step → Type 0
-IsBy c (Begin d) = d ≡ c
-IsBy c (Ask d op) = d ≡ c
-IsBy c (Act d) = d ≡ c
-IsBy c (Save d) = d ≡ c
-IsBy c (Back d n) = d ≡ c
-IsBy c (Commit d) = d ≡ c
-IsBy c (Abort d) = d ≡ c
-IsBy c step = Unit {0}
-
-abbrev IsByIfAny : ℕ → Option Step → Type 0
-IsByIfAny c None = Unit {0}
-IsByIfAny c (Some step) = IsBy c step
-
-by_first : (c : ℕ) (call : Call) → IsBy c (first_step c call)
-by_first c calls.Begin = refl
-by_first c (calls.Op op) = refl
-by_first c calls.Save = refl
-by_first c (calls.Back n) = refl
-by_first c calls.Commit = refl
-by_first c calls.Abort = refl
-by_first c (calls.Help key) = tt
-
-by_caller : (c : ℕ) (call : Call) (phase : Phase) → IsByIfAny c (step_in c call phase)
-by_caller c call Fresh = by_first c call
-by_caller c call (Acting work again) = refl
-by_caller c call phase = tt
-
-entries_by : (c : ℕ) (step : Step) (answer : Answer) → IsBy c step → AllByRecursion (λ e. caller_of e ≡ c) (entries_of step answer)
-entries_by c (Begin d) (answers.Began t) by = (by, tt)
-entries_by c (Ask d op) answers.Asked by = (by, tt)
-entries_by c (Ask d op) (answers.Busy x) by = (by, tt)
-entries_by c (Act d) (answers.Done reply) by = (by, tt)
-entries_by c (Act d) answers.Undone by = (by, tt)
-entries_by c (Act d) (answers.Returned n) by = (by, tt)
-entries_by c (Act d) answers.Aborted by = (by, tt)
-entries_by c (Save d) (answers.Saved n) by = (by, tt)
-entries_by c (Back d n) answers.Leaving by = (by, tt)
-entries_by c (Commit d) (answers.Committed p) by = (by, tt)
-entries_by c (Abort d) answers.Leaving by = (by, tt)
-entries_by c step answer by = tt
-
-pub entries_callers : (drive : Drive) (step : Step) (answer : Answer) → step_of drive ≡ Some step → AllByRecursion (λ e. caller_of e ≡ drive.caller) (entries_of step answer)
-entries_callers drive step answer is = entries_by drive.caller step answer (subst (IsByIfAny drive.caller) is (by_caller drive.caller drive.call drive.phase))

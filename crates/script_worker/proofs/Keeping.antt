@@ -42,7 +42,8 @@ use Rattle.script_worker.specs.declared.standing.Standing.{Standing}
 use Rattle.script_worker.specs.Attempts.{attempt_at, call_for, call_of, call_at, done_with, busy_at, refused_with, refused_at, progress_at, progress_of}
 use Rattle.script_worker.specs.Workers.{started, followed, progressed, settled_in, settled_at, settled, with_drive_in, told_drive, told_by, sized_by, step_by}
 use Rattle.script_worker.specs.Keeps.{IsFront, IsAsFar, IsBegun, IsCommitting, IsActing, IsAt, KeepsTask, KeepsAt, Keeps}
-use Rattle.script_worker.proofs.Driving.{IsPlainCall, IsInner, plain_step, plain_entries, part-inner, played_inner, goes_on, made_at_end, made-sized, made-new}
+use Rattle.txn_drive.proofs.DriveLaws.{goes_on, made_at_end, made-sized, made-new}
+use Rattle.script_worker.proofs.Driving.{IsPlainCall, IsInner, plain_step, plain_entries, part-inner, played_inner}
 
 without_undone-append : (es fs : List Entry) → without_undone (es ++ fs) ≡ without_undone es ++ without_undone fs
 without_undone-append es fs = filter-append (λ e. not (is_undone e)) es fs

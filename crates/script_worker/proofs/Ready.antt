@@ -27,7 +27,7 @@ use Rattle.script_worker.specs.declared.task.Task.{Task}
 use Rattle.script_worker.specs.declared.standing.Standing.{Standing}
 use Rattle.script_worker.specs.Attempts.{first_attempt, call_of, call_at, refused_with, progress_at, progress_of}
 use Rattle.script_worker.specs.Workers.{new_worker, started, with_drive_in, followed, progressed, settled_in, settled_at, settled, told_drive, told_by, sized_by, step_by, IsReady, IsTurnBy}
-use Rattle.script_worker.proofs.Driving.{goes_on}
+use Rattle.txn_drive.proofs.DriveLaws.{goes_on}
 use Rattle.script_worker.proofs.Keeping.{sized_is}
 
 -- A drive that has not ended has a step to take.

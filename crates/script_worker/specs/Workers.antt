@@ -1,6 +1,6 @@
 -- A worker: the script that it is at, its next step, and where it is once that was answered.
 use Rattle.std.specs.Prelude.{◌≡◌, ℕ, ◌+◌, nat_lt, if◌then◌else◌, List, length, Option, Some, None, is_some, slice_get}
-use Rattle.std.specs.Option.{option_map, option_and_then}
+use Rattle.std.specs.Option.{option_map, option_and_then, option_or}
 use Rattle.txn_trace.specs.declared.action.Action.{Action}
 use Rattle.txn_trace.specs.declared.answer.Answer.{Answer}
 use Rattle.txn_trace.specs.declared.answer.Answer.TheVariants as answers
@@ -11,6 +11,7 @@ use Rattle.txn_drive.specs.declared.«end».End.{End}
 use Rattle.txn_drive.specs.declared.turn.Turn.{Turn}
 use Rattle.txn_drive.specs.declared.turn.Turn.TheVariants.{One, Two, Ended}
 use Rattle.txn_drive.specs.Drives.{new_drive, sized_of, turn_of, told_of, step_of, end_of}
+use Rattle.script_worker.specs.declared.attempt.Outcome.{Outcome}
 use Rattle.script_worker.specs.declared.attempt.Progress.{Progress}
 use Rattle.script_worker.specs.declared.attempt.Progress.TheVariants.{Next, Over}
 use Rattle.script_worker.specs.declared.task.Task.{Task}
@@ -47,6 +48,23 @@ settled_at scripts tries worker (Some task) = settled_in scripts tries worker ta
 abbrev pub settled : List (List Action) → ℕ → Standing → Standing
 settled scripts tries worker = settled_at scripts tries worker worker.task
 
+-- How a script ended, where it is over.
+abbrev pub outcome_of : Progress → Option Outcome
+outcome_of (Next attempt) = None
+outcome_of (Over outcome) = Some outcome
+
+-- How the script of a task ended, where it is over once the call has ended so.
+abbrev pub outcome_at : List (List Action) → ℕ → Task → End → Option Outcome
+outcome_at scripts tries task outcome = option_and_then (λ script. outcome_of (progress_of script tries task.attempt outcome)) (slice_get scripts task.script)
+
+abbrev pub outcome_in : List (List Action) → ℕ → Option Task → Option Outcome
+outcome_in scripts tries None = None
+outcome_in scripts tries (Some task) = option_and_then (outcome_at scripts tries task) (end_of task.drive)
+
+-- How the worker's script ended, where its call has ended and the script is over with it.
+abbrev pub outcome_by : List (List Action) → ℕ → Standing → Option Outcome
+outcome_by scripts tries worker = outcome_in scripts tries worker.task
+
 -- The task with what became of its drive.
 abbrev pub with_drive_in : (Drive → Drive) → Option Task → Option Task
 with_drive_in f None = None
@@ -63,6 +81,11 @@ told_drive worker answer = with_drive (λ drive. told_of drive answer) worker
 -- The worker that was told an answer. A call may end before its first step, and then the next one follows.
 abbrev pub told_by : List (List Action) → ℕ → Standing → Answer → Standing
 told_by scripts tries worker answer = settled scripts tries (settled scripts tries (told_drive worker answer))
+
+-- How the worker's script ended, where it ended by this answer.
+abbrev pub outcome_told : List (List Action) → ℕ → Standing → Answer → Option Outcome
+outcome_told scripts tries worker answer =
+    option_or (outcome_by scripts tries (told_drive worker answer)) (outcome_by scripts tries (settled scripts tries (told_drive worker answer)))
 
 -- The worker once the table's size at this moment is known.
 abbrev pub sized_by : ℕ → Standing → Standing

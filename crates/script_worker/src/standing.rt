@@ -1,11 +1,10 @@
 ghost use Rattle.std.specs.Prelude.{◌≡◌};
-ghost use Rattle.script_worker.specs.Workers.{new_worker, started, progressed, settled, told_drive, told_by};
+ghost use Rattle.script_worker.specs.Workers.{new_worker, started, progressed, settled, told_drive, told_by, outcome_at, outcome_by, outcome_told};
 
-use crate::attempt::{Attempt, Progress};
+use crate::attempt::{Attempt, Outcome, Progress};
 use crate::task::Task;
 use txn_drive::{Call, Drive, End};
-use txn_files::Script;
-use txn_trace::Answer;
+use txn_trace::{Answer, Script};
 
 /// Which worker it is and what it is at. Its call may have ended.
 #[derive(Clone, Copy, Debug, PartialEq, Eq)]
@@ -30,13 +29,21 @@ impl Standing {
         }
     }
 
-    /// The worker that was told an answer to its step, and has its next step.
-    pub(crate) fn told(self, scripts: &[Script], tries: u64, answer: Answer) -> Standing
-        ensures { result ≡ told_by scripts.now tries self answer }
+    /// The worker that was told an answer to its step, and has its next step; and how its script ended, where it ended by
+    /// this answer.
+    pub(crate) fn told(
+        self,
+        scripts: &[Script],
+        tries: u64,
+        answer: Answer,
+    ) -> (Standing, Option<Outcome>)
+        ensures worker { result.0 ≡ told_by scripts.now tries self answer }
+        ensures outcome { result.1 ≡ outcome_told scripts.now tries self answer }
     {
-        let next = self.heard(answer).settled(scripts, tries);
+        let (next, first) = self.heard(answer).settled(scripts, tries);
         // A call of help may end before its first step, and then an abort follows at once, which takes a step.
-        next.settled(scripts, tries)
+        let (last, second) = next.settled(scripts, tries);
+        (last, first.or(second))
     }
 
     /// The worker whose call was told the answer.
@@ -54,39 +61,49 @@ impl Standing {
         }
     }
 
-    /// The worker with its next call, where its call has ended.
-    fn settled(self, scripts: &[Script], tries: u64) -> Standing
-        ensures { result ≡ settled scripts.now tries self }
+    /// The worker with its next call, where its call has ended; and how its script ended, where it is over.
+    fn settled(self, scripts: &[Script], tries: u64) -> (Standing, Option<Outcome>)
+        ensures worker { result.0 ≡ settled scripts.now tries self }
+        ensures outcome { result.1 ≡ outcome_by scripts.now tries self }
     {
         let Some(task) = self.task else {
-            return self;
+            return (self, None);
         };
         let Some(end) = task.drive.ended() else {
-            return self;
+            return (self, None);
         };
-        Standing {
-            task: self.next_task(task, scripts, tries, end),
-            ..self
-        }
+        let (next, outcome) = self.next_task(task, scripts, tries, end);
+        (Standing { task: next, ..self }, outcome)
     }
 
-    /// What the worker is at after its call has ended so.
-    fn next_task(self, task: Task, scripts: &[Script], tries: u64, end: End) -> Option<Task>
-        ensures { result ≡ progressed scripts.now tries self task end }
+    /// What the worker is at after its call has ended so; and how its script ended, where it is over.
+    fn next_task(
+        self,
+        task: Task,
+        scripts: &[Script],
+        tries: u64,
+        end: End,
+    ) -> (Option<Task>, Option<Outcome>)
+        ensures task { result.0 ≡ progressed scripts.now tries self task end }
+        ensures outcome { result.1 ≡ outcome_at scripts.now tries task end }
     {
-        let script = scripts.get(task.script)?;
+        let Some(script) = scripts.get(task.script) else {
+            return (None, None);
+        };
         match task.attempt.progress(script.actions(), tries, end) {
             Progress::Next(attempt) => {
                 let call = attempt.call(script.actions());
-                Some(Task {
-                    script: task.script,
+                let drive = Drive::new(self.number as u64, call);
+                let next = Task {
                     attempt,
-                    drive: Drive::new(self.number as u64, call),
-                })
+                    drive,
+                    ..task
+                };
+                (Some(next), None)
             }
-            Progress::Over(_) => {
+            Progress::Over(outcome) => {
                 let next = task.script.saturating_add(self.workers);
-                started(self.number, next, scripts)
+                (started(self.number, next, scripts), Some(outcome))
             }
         }
     }

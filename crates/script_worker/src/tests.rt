@@ -1,9 +1,8 @@
-use crate::{Stage, Worker};
+use crate::{Outcome, Stage, Worker};
 use std::process::Abort;
 use std::test::Fail;
 use txn_drive::Turn;
-use txn_files::Script;
-use txn_trace::{Action, Answer, Op, Refusal, Step};
+use txn_trace::{Action, Answer, Op, Refusal, Script, Step};
 
 /// One script of these actions.
 fn script_of(rt: &(impl Abort + AllocGlobal), actions: &[Action]) -> Result<Script, Fail> {
@@ -23,18 +22,29 @@ fn scripts_of(rt: &(impl Abort + AllocGlobal), scripts: &[&[Action]]) -> Result<
     Ok(all)
 }
 
-/// The worker takes this step and is told this answer, with one further try allowed.
+/// The worker takes this step and is told this answer, with one further try allowed. No script ends by it.
 fn takes(rt: &impl Abort, worker: &mut Worker, scripts: &[Script], step: Step, answer: Answer) {
-    assert_eq!(rt; worker.turn(2), Some(Turn::One(step)));
-    worker.told(scripts, 1, answer);
+    assert_eq!(rt; last_of(rt, worker, scripts, step, answer), None);
 }
 
-/// The worker gives its transaction up, in which nothing is changed.
-fn gives_up(rt: &impl Abort, worker: &mut Worker, scripts: &[Script]) {
+/// The same of a step by which a script may end: how it ended.
+fn last_of(
+    rt: &impl Abort,
+    worker: &mut Worker,
+    scripts: &[Script],
+    step: Step,
+    answer: Answer,
+) -> Option<Outcome> {
+    assert_eq!(rt; worker.turn(2), Some(Turn::One(step)));
+    worker.told(scripts, 1, answer)
+}
+
+/// The worker gives its transaction up, in which nothing is changed: how its script ended.
+fn gives_up(rt: &impl Abort, worker: &mut Worker, scripts: &[Script]) -> Option<Outcome> {
     let nothing = Answer::Refused(Refusal::NothingToSeek);
     takes(rt, worker, scripts, Step::Abort(0), Answer::Leaving);
     takes(rt, worker, scripts, Step::Seek(0), nothing);
-    takes(rt, worker, scripts, Step::Act(0), Answer::Aborted);
+    last_of(rt, worker, scripts, Step::Act(0), Answer::Aborted)
 }
 
 /// The worker of number 1 of 2 runs scripts 1 and 3.
@@ -43,23 +53,15 @@ fn every_second_script(rt: HostRuntime) -> Result<(), Fail> {
     let scripts = scripts_of(&rt, &[&[], &[], &[], &[Action::Save], &[]])?;
     let mut worker = Worker::new(1, 2, &scripts);
     takes(&rt, &mut worker, &scripts, Step::Begin(1), Answer::Began(1));
-    takes(
-        &rt,
-        &mut worker,
-        &scripts,
-        Step::Commit(1),
-        Answer::Committed(1),
-    );
+    let committed = Answer::Committed(1);
+    let outcome = last_of(&rt, &mut worker, &scripts, Step::Commit(1), committed);
+    assert_eq!(rt; outcome, Some(Outcome::Committed));
     assert!(rt; worker.is_live());
     takes(&rt, &mut worker, &scripts, Step::Begin(1), Answer::Began(2));
     takes(&rt, &mut worker, &scripts, Step::Save(1), Answer::Saved(1));
-    takes(
-        &rt,
-        &mut worker,
-        &scripts,
-        Step::Commit(1),
-        Answer::Committed(2),
-    );
+    let committed = Answer::Committed(2);
+    let outcome = last_of(&rt, &mut worker, &scripts, Step::Commit(1), committed);
+    assert_eq!(rt; outcome, Some(Outcome::Committed));
     assert!(rt; !worker.is_live());
     assert_eq!(rt; worker.turn(2), None);
     Ok(())
@@ -79,11 +81,8 @@ fn busy_is_tried_again(rt: HostRuntime) -> Result<(), Fail> {
     let op = Op::Get(1);
     let scripts = scripts_of(&rt, &[&[Action::Op(op)], &[]])?;
     let mut worker = Worker::new(0, 1, &scripts);
-    for script in [0, 0] {
-        assert_eq!(rt;
-            worker.standing().task.map(|task| task.script),
-            Some(script)
-        );
+    for wanted in [None, Some(Outcome::Busy)] {
+        assert_eq!(rt; worker.standing().task.map(|task| task.script), Some(0));
         takes(&rt, &mut worker, &scripts, Step::Begin(0), Answer::Began(1));
         takes(
             &rt,
@@ -99,7 +98,8 @@ fn busy_is_tried_again(rt: HostRuntime) -> Result<(), Fail> {
             Step::Seek(0),
             Answer::Refused(Refusal::NothingToSeek),
         );
-        takes(&rt, &mut worker, &scripts, Step::Act(0), Answer::Aborted);
+        let outcome = last_of(&rt, &mut worker, &scripts, Step::Act(0), Answer::Aborted);
+        assert_eq!(rt; outcome, wanted);
     }
     assert_eq!(rt; worker.standing().task.map(|task| task.script), Some(1));
     Ok(())
@@ -122,7 +122,8 @@ fn refusals_end_a_script(rt: HostRuntime) -> Result<(), Fail> {
         worker.standing().task.map(|task| task.attempt.stage),
         Some(Stage::Leaving(Refusal::BadKey))
     );
-    gives_up(&rt, &mut worker, &scripts);
+    let outcome = gives_up(&rt, &mut worker, &scripts);
+    assert_eq!(rt; outcome, Some(Outcome::Refused(Refusal::BadKey)));
     takes(&rt, &mut worker, &scripts, Step::Begin(0), Answer::Began(2));
     takes(
         &rt,
@@ -131,14 +132,11 @@ fn refusals_end_a_script(rt: HostRuntime) -> Result<(), Fail> {
         Step::Back(0, 1),
         Answer::Refused(Refusal::NoSuchLevel),
     );
-    gives_up(&rt, &mut worker, &scripts);
-    takes(
-        &rt,
-        &mut worker,
-        &scripts,
-        Step::Begin(0),
-        Answer::Refused(Refusal::NoMemory),
-    );
+    let outcome = gives_up(&rt, &mut worker, &scripts);
+    assert_eq!(rt; outcome, Some(Outcome::Refused(Refusal::NoSuchLevel)));
+    let refused = Answer::Refused(Refusal::NoMemory);
+    let outcome = last_of(&rt, &mut worker, &scripts, Step::Begin(0), refused);
+    assert_eq!(rt; outcome, Some(Outcome::Refused(Refusal::NoMemory)));
     assert!(rt; !worker.is_live());
     Ok(())
 }
@@ -156,13 +154,16 @@ fn bad_helps_in_a_row(rt: HostRuntime) -> Result<(), Fail> {
     )?;
     let mut worker = Worker::new(0, 1, &scripts);
     takes(&rt, &mut worker, &scripts, Step::Begin(0), Answer::Began(1));
-    gives_up(&rt, &mut worker, &scripts);
+    let outcome = gives_up(&rt, &mut worker, &scripts);
+    assert_eq!(rt; outcome, Some(Outcome::Refused(Refusal::BadKey)));
     takes(&rt, &mut worker, &scripts, Step::Begin(0), Answer::Began(2));
     takes(&rt, &mut worker, &scripts, Step::Save(0), Answer::Saved(1));
-    gives_up(&rt, &mut worker, &scripts);
+    let outcome = gives_up(&rt, &mut worker, &scripts);
+    assert_eq!(rt; outcome, Some(Outcome::Refused(Refusal::BadKey)));
     takes(&rt, &mut worker, &scripts, Step::Begin(0), Answer::Began(3));
     assert!(rt; worker.is_live());
-    gives_up(&rt, &mut worker, &scripts);
+    let outcome = gives_up(&rt, &mut worker, &scripts);
+    assert_eq!(rt; outcome, Some(Outcome::Refused(Refusal::BadKey)));
     assert!(rt; !worker.is_live());
     assert_eq!(rt; worker.turn(2), None);
     Ok(())
@@ -174,7 +175,8 @@ fn abort_ends_a_script(rt: HostRuntime) -> Result<(), Fail> {
     let scripts = scripts_of(&rt, &[&[Action::Abort, Action::Save]])?;
     let mut worker = Worker::new(0, 1, &scripts);
     takes(&rt, &mut worker, &scripts, Step::Begin(0), Answer::Began(1));
-    gives_up(&rt, &mut worker, &scripts);
+    let outcome = gives_up(&rt, &mut worker, &scripts);
+    assert_eq!(rt; outcome, Some(Outcome::Aborted));
     assert!(rt; !worker.is_live());
     Ok(())
 }

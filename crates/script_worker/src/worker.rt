@@ -3,15 +3,15 @@ ghost use Rattle.txn_trace.specs.declared.action.Action.{Action};
 ghost use Rattle.txn_trace.specs.declared.entry.Entry.{Entry};
 ghost use Rattle.txn_trace.specs.declared.step.Step.{Step};
 ghost use Rattle.txn_trace.specs.Entries.{entries_of};
-ghost use Rattle.script_worker.specs.Workers.{new_worker, told_by, told_drive, sized_by, turn_by, step_by, IsReady, IsTurnBy};
+ghost use Rattle.script_worker.specs.Workers.{new_worker, told_by, told_drive, outcome_told, sized_by, turn_by, step_by, IsReady, IsTurnBy};
 ghost use Rattle.script_worker.specs.Keeps.{Keeps};
 
+use crate::attempt::Outcome;
 use crate::standing::Standing;
 use crate::task::Task;
 use std::marker::Model;
 use txn_drive::Turn;
-use txn_files::Script;
-use txn_trace::Answer;
+use txn_trace::{Answer, Script};
 
 /// One of several workers, which share scripts out: worker `w` of `n` runs the scripts `w`, `w + n`, `w + 2 n` and so on,
 /// in this order. While it has a script left it has a step to take.
@@ -85,11 +85,13 @@ impl Worker {
     }
 
     /// Says how the step that the turn named was answered; of a turn of two steps, each step taken. The scripts and the
-    /// tries are the same in each call: a script that found a stripe held is attempted again up to `tries` times.
+    /// tries are the same in each call: a script that found a stripe held is attempted again up to `tries` times. Answers how
+    /// the worker's script ended, where it ended by this answer.
     ///
     /// What follows without a step has happened then: a call that ended is followed by the next one, of the same script or
     /// of the next. The cost is fixed, but for the search of a helper's next bucket, which takes up to 32 rounds.
-    pub fn told(&mut self, scripts: &[Script], tries: u64, answer: Answer)
+    pub fn told(&mut self, scripts: &[Script], tries: u64, answer: Answer) -> Option<Outcome>
+        ensures outcome { result ≡ outcome_told scripts.now tries self.old answer }
         ensures worker { self.new ≡ told_by scripts.now tries self.old answer }
         ensures number { self.new.number ≡ self.old.number }
         ensures workers { self.new.workers ≡ self.old.workers }
@@ -98,6 +100,8 @@ impl Worker {
         ensures keeps { (seen : List Entry) (step : Step) → step_by self.old ≡ Some step → Keeps scripts.now self.old seen
             → Keeps scripts.now self.new (seen ++ entries_of step answer) }
     {
-        self.standing = self.standing.told(scripts, tries, answer);
+        let heard = self.standing.told(scripts, tries, answer);
+        self.standing = heard.0;
+        heard.1
     }
 }

@@ -1,3 +1,4 @@
 pub mod SplitLemmas
 pub mod AncestorLemmas
 mod SwapLemmas
+pub mod SortLemmas

@@ -1,3 +1,4 @@
+pub mod Sort
 pub mod Split
 pub mod Swap
 pub mod Text

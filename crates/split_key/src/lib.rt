@@ -38,6 +38,7 @@
 mod bucket;
 mod key;
 mod reversal;
+mod sort;
 mod split;
 #[cfg(test)]
 mod tests;
@@ -45,4 +46,5 @@ mod tests;
 pub use bucket::{bucket_of, parent};
 pub use key::{BadKey, Key};
 pub use reversal::reverse;
+pub use sort::SortKey;
 pub use split::{dummy, regular};

@@ -1,2 +1,3 @@
+pub mod DriveLaws
 pub mod MadeLemmas
 pub mod WayLemmas

@@ -1,9 +1,9 @@
 -- A history as compact JSON.
 use Rattle.std.specs.Prelude.{ℕ, List, [], ◌∷◌, ◌++◌, map, Some, None, codes, decimal}
 use Rattle.std.specs.List.{join_with_byte}
-use Rattle.txn_trace.specs.declared.op.Op.TheVariants.{Put, Take, Get}
 use Rattle.txn_trace.specs.declared.entry.Entry.{Entry}
 use Rattle.txn_trace.specs.declared.entry.Entry.TheVariants.{Began, Asked, Did, Saved, Leave, Undone, Returned, Committed, Busy, Aborted}
+use Rattle.txn_files.specs.Operations.{elements_of_op}
 
 -- The byte of a comma.
 abbrev pub comma : ℕ
@@ -16,9 +16,7 @@ array_text elements = codes "[" ++ (join_with_byte comma elements ++ codes "]")
 -- The elements of an entry: its name, its caller and what is entered.
 abbrev pub elements_of_entry : Entry → List (List ℕ)
 elements_of_entry (Began c t) = codes "\"began\"" ∷ decimal c ∷ decimal t ∷ []
-elements_of_entry (Asked c (Put k v)) = codes "\"asked\"" ∷ decimal c ∷ codes "\"put\"" ∷ decimal k ∷ decimal v ∷ []
-elements_of_entry (Asked c (Take k)) = codes "\"asked\"" ∷ decimal c ∷ codes "\"take\"" ∷ decimal k ∷ []
-elements_of_entry (Asked c (Get k)) = codes "\"asked\"" ∷ decimal c ∷ codes "\"get\"" ∷ decimal k ∷ []
+elements_of_entry (Asked c op) = codes "\"asked\"" ∷ decimal c ∷ elements_of_op op
 elements_of_entry (Did c None) = codes "\"did\"" ∷ decimal c ∷ codes "null" ∷ []
 elements_of_entry (Did c (Some v)) = codes "\"did\"" ∷ decimal c ∷ decimal v ∷ []
 elements_of_entry (Saved c) = codes "\"saved\"" ∷ decimal c ∷ []
@@ -27,9 +25,7 @@ elements_of_entry (Leave c (Some n)) = codes "\"leave\"" ∷ decimal c ∷ decim
 elements_of_entry (Undone c) = codes "\"undone\"" ∷ decimal c ∷ []
 elements_of_entry (Returned c n) = codes "\"returned\"" ∷ decimal c ∷ decimal n ∷ []
 elements_of_entry (Committed c p) = codes "\"committed\"" ∷ decimal c ∷ decimal p ∷ []
-elements_of_entry (Busy c (Put k v) x) = codes "\"busy\"" ∷ decimal c ∷ codes "\"put\"" ∷ decimal k ∷ decimal v ∷ decimal x ∷ []
-elements_of_entry (Busy c (Take k) x) = codes "\"busy\"" ∷ decimal c ∷ codes "\"take\"" ∷ decimal k ∷ decimal x ∷ []
-elements_of_entry (Busy c (Get k) x) = codes "\"busy\"" ∷ decimal c ∷ codes "\"get\"" ∷ decimal k ∷ decimal x ∷ []
+elements_of_entry (Busy c op x) = codes "\"busy\"" ∷ decimal c ∷ elements_of_op op ++ decimal x ∷ []
 elements_of_entry (Aborted c) = codes "\"aborted\"" ∷ decimal c ∷ []
 
 -- An entry as an array.

@@ -4,7 +4,6 @@ pub mod StepFile
 pub mod Entries
 pub mod HistoryFile
 pub mod HistoryText
-pub mod Work
 pub mod Actions
 pub mod ScriptFile
 -- What a file is refused with, and the words by which these definitions are made.
@@ -14,3 +13,4 @@ pub use Rattle.piece_files.specs.Faults
 pub use Rattle.piece_files.specs.Elements
 pub use Rattle.piece_files.specs.Json
 pub use Rattle.piece_files.specs.Pieces
+pub use Rattle.piece_files.specs.Files

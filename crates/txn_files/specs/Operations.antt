@@ -1,5 +1,5 @@
--- The operation that elements in JSON are.
-use Rattle.std.specs.Prelude.{List, length, ◌==◌, Option, Some, None, if◌then◌else◌, codes}
+-- An operation as elements in JSON: how it is read, and how it is written.
+use Rattle.std.specs.Prelude.{ℕ, List, [], ◌∷◌, length, ◌==◌, decimal, Option, Some, None, if◌then◌else◌, codes}
 use Rattle.std.specs.Str.{bytes_eq}
 use Rattle.serde_json.specs.Data.{Data}
 use Rattle.txn_trace.specs.declared.op.Op.{Op}
@@ -21,3 +21,9 @@ unfoldable pub op_of : List Data → Option Op
 op_of ds = do
   op ← op_at ds
   if length op.1 == 0 then Some op.0 else None
+
+-- The elements of an operation, each as a text.
+abbrev pub elements_of_op : Op → List (List ℕ)
+elements_of_op (Put k v) = codes "\"put\"" ∷ decimal k ∷ decimal v ∷ []
+elements_of_op (Take k) = codes "\"take\"" ∷ decimal k ∷ []
+elements_of_op (Get k) = codes "\"get\"" ∷ decimal k ∷ []

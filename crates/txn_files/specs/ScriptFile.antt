@@ -1,17 +1,15 @@
 -- The script file that bytes are, or its first fault.
-use Rattle.std.specs.Prelude.{ℕ, List, length, Bool, ◌==◌, ◌&&◌, nat_le, Option, Result, Ok, Err, if◌then◌else◌, codes}
+use Rattle.std.specs.Prelude.{ℕ, List, [], ◌∷◌, length, Bool, ◌&&◌, nat_le, Result, Ok, Err, if◌then◌else◌, codes}
 use Rattle.std.specs.List.{list_all}
-use Rattle.serde_json.specs.Data.{Data}
 use Rattle.txn_trace.specs.declared.action.Action.{Action}
 use Rattle.piece_files.specs.declared.part.Part.TheVariants as parts
 use Rattle.piece_files.specs.declared.file_fault.FileFault.{FileFault}
 use Rattle.piece_files.specs.declared.file_fault.FileFault.TheVariants.{Member, Limit}
-use Rattle.piece_files.specs.Faults.{◌>>=◌, or_fault}
-use Rattle.piece_files.specs.Json.{json_of, number_named}
-use Rattle.piece_files.specs.Pieces.{pieces_member}
+use Rattle.piece_files.specs.Faults.{◌>>=◌}
+use Rattle.piece_files.specs.Files.{FileKind, contents}
 use Rattle.txn_files.specs.StepFile.{sizes_at}
 use Rattle.txn_files.specs.Actions.{script_of}
-use Rattle.txn_files.specs.Work.{Work}
+use Rattle.txn_trace.specs.Work.{Work}
 
 -- How many tries there may be after the first.
 abbrev pub max_tries : ℕ
@@ -25,32 +23,31 @@ max_scripts = 10000
 abbrev pub max_actions : ℕ
 max_actions = 10000
 
+-- Script files.
+abbrev pub script_file : FileKind (List Action)
+script_file = record {
+  numbers = codes "workers" ∷ codes "stripes" ∷ codes "buckets" ∷ codes "tries" ∷ [];
+  pieces = codes "scripts";
+  of = script_of;
+  part = parts.Script;
+  most = max_scripts;
+}
+
 -- Whether a script is no longer than it may be.
 abbrev pub is_short : List Action → Bool
 is_short script = nat_le (length script) max_actions
 
 -- Whether the tries and the scripts are in range.
 abbrev pub are_scripts : ℕ → List (List Action) → Bool
-are_scripts tries scripts = nat_le tries max_tries && nat_le (length scripts) max_scripts && list_all is_short scripts
+are_scripts tries scripts = nat_le tries max_tries && list_all is_short scripts
 
--- The work by the members, tested in this order, then the scripts, then the ranges; the workers are the callers.
-unfoldable pub work_from : Option ℕ → Option ℕ → Option ℕ → Option ℕ → Option ℕ → Result (List (List Action)) FileFault → Result Work FileFault
-work_from version workers stripes buckets tries pieces = do
-  version ← or_fault Member version
-  workers ← or_fault Member workers
-  stripes ← or_fault Member stripes
-  buckets ← or_fault Member buckets
-  tries ← or_fault Member tries
-  scripts ← pieces
+-- The work of a file's four numbers and its scripts; the workers are the callers.
+unfoldable pub work_from : List ℕ → List (List Action) → Result Work FileFault
+work_from (workers ∷ stripes ∷ buckets ∷ tries ∷ []) scripts = do
   sizes ← sizes_at workers stripes buckets
-  if (version == 1) && are_scripts tries scripts then Ok (record { sizes = sizes; tries = tries; scripts = scripts }) else Err Limit
-
--- The work that a value is.
-unfoldable pub work_of : Data → Result Work FileFault
-work_of d =
-    work_from (number_named (codes "version") d) (number_named (codes "workers") d) (number_named (codes "stripes") d) (number_named (codes "buckets") d) (number_named (codes "tries") d)
-    (pieces_member script_of parts.Script (codes "scripts") d)
+  if are_scripts tries scripts then Ok (record { sizes = sizes; tries = tries; scripts = scripts }) else Err Limit
+work_from other scripts = Err Member
 
 -- The script file that the bytes are.
 abbrev pub scripts_of : List ℕ → Result Work FileFault
-scripts_of bytes = json_of bytes >>= work_of
+scripts_of bytes = contents script_file bytes >>= λ file. work_from file.0 file.1

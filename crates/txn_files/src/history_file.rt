@@ -1,19 +1,16 @@
-ghost use Rattle.std.specs.Prelude.{◌≡◌, suc, map, None, codes};
+ghost use Rattle.std.specs.Prelude.{◌≡◌, map, true, false};
 ghost use Rattle.std.specs.List.{list_all};
-ghost use Rattle.serde_json.specs.View.{view};
+ghost use Rattle.piece_files.specs.Plain.{data_of};
 ghost use Rattle.piece_files.specs.Faults.{Gives};
 ghost use Rattle.txn_files.specs.Entries.{busy_of, entry_named, entry_of};
-ghost use Rattle.piece_files.specs.Members.{GivesLast, IsNumberOf, ArePiecesOf, pieces_found};
-ghost use Rattle.piece_files.specs.declared.part.Part.TheVariants.{Entry as entry_part};
-ghost use Rattle.txn_files.specs.HistoryFile.{max_entries, is_in_range, is_history, history_of, entries_from};
+ghost use Rattle.txn_files.specs.HistoryFile.{max_entries, is_in_range, is_history, entries_from, history_of};
 
 use crate::operation::{leading_op_in, op_in};
-use json::{Reader, Token};
+use json::Reader;
 use piece_files::{
-    FileFault, Part, PieceKind, Pieces, Stop, Wanted, end_in, members_in, number_found, number_in,
-    one_in, optional_in, pass_value, pieces_kept, plain_elements, put_number, put_pieces, word_in,
+    FileFault, Part, PieceKind, Plain, Stop, end_in, number_in, one_in, optional_in,
+    plain_elements, read_file, word_in,
 };
-use serde_json::Value;
 use std::alloc::Global;
 use txn_trace::{Entry, Limits};
 
@@ -27,8 +24,8 @@ const MAX_ENTRIES: usize = 1_000_000;
 const MAX_ELEMENTS: usize = 6;
 
 #[tactic(auto, unfolding(crate::specs::Entries::busy_of))]
-fn busy_in(caller: u64, values: &[Value]) -> Option<Entry>
-    ensures { result ≡ busy_of caller (map view values.now) }
+fn busy_in(caller: u64, values: &[Plain<'_>]) -> Option<Entry>
+    ensures { result ≡ busy_of caller (map data_of values.now) }
 {
     let (op, rest) = leading_op_in(values)?;
     let holder = one_in(rest)?;
@@ -37,8 +34,8 @@ fn busy_in(caller: u64, values: &[Value]) -> Option<Entry>
 
 /// The entry of this name and caller that has these further elements.
 #[tactic(auto, unfolding(crate::specs::Entries::entry_named))]
-fn entry_named_in(name: &str, caller: u64, values: &[Value]) -> Option<Entry>
-    ensures { result ≡ entry_named name.now caller (map view values.now) }
+fn entry_named_in(name: &str, caller: u64, values: &[Plain<'_>]) -> Option<Entry>
+    ensures { result ≡ entry_named name.now caller (map data_of values.now) }
 {
     if name == "began" {
         Some(Entry::Began(caller, one_in(values)?))
@@ -69,8 +66,8 @@ fn entry_named_in(name: &str, caller: u64, values: &[Value]) -> Option<Entry>
 }
 
 #[tactic(auto, unfolding(crate::specs::Entries::entry_of))]
-fn entry_in(values: &[Value]) -> Option<Entry>
-    ensures { result ≡ entry_of (map view values.now) }
+fn entry_in(values: &[Plain<'_>]) -> Option<Entry>
+    ensures { result ≡ entry_of (map data_of values.now) }
 {
     let (name, rest) = word_in(values)?;
     let (caller, rest) = number_in(rest)?;
@@ -89,19 +86,21 @@ impl PieceKind for EntryKind {
 
     ghost part = { parts.Entry };
 
-    ghost most = { suc max_entries };
+    ghost most = { max_entries };
+
+    ghost takes_memory = { false };
 
     fn part() -> Part {
         Part::Entry
     }
 
     fn most() -> usize {
-        MAX_ENTRIES + 1
+        MAX_ENTRIES
     }
 
     #[tactic(auto, using(crate::proofs::PlainPieces::no_entry))]
-    fn read(alloc: Global, reader: &mut Reader<'_>, depth: usize) -> Result<Option<Entry>, Stop> {
-        let elements = plain_elements(alloc, reader, depth, MAX_ELEMENTS)?;
+    fn read(_alloc: Global, reader: &mut Reader<'_>, depth: usize) -> Result<Option<Entry>, Stop> {
+        let elements = plain_elements::<MAX_ELEMENTS>(reader, depth)?;
         match elements {
             Some(values) => Ok(entry_in(&values)),
             None => Ok(None),
@@ -138,66 +137,16 @@ fn are_in_range(entries: &[Entry]) -> bool
 fn is_history(stripes: u64, entries: &[Entry]) -> bool
     ensures { result ≡ is_history stripes entries.now }
 {
-    1 <= stripes
-        && stripes <= Limits::MAX_STRIPES
-        && entries.len() <= MAX_ENTRIES
-        && are_in_range(entries)
+    1 <= stripes && stripes <= Limits::MAX_STRIPES && are_in_range(entries)
 }
 
-/// The members of a history file.
-#[derive(Drop)]
-struct HistoryMembers {
-    version: Option<u64>,
-    stripes: Option<u64>,
-    entries: Option<Pieces<Entry>>,
-}
-
-impl HistoryMembers {
-    fn new() -> HistoryMembers
-        ensures { (result.version ≡ None) × (result.stripes ≡ None) × (result.entries ≡ None) }
-    {
-        HistoryMembers {
-            version: None,
-            stripes: None,
-            entries: None,
-        }
-    }
-}
-
-impl Wanted for HistoryMembers {
-    ghost use Rattle.piece_files.specs.declared.part.Part.TheVariants as parts;
-
-    ghost found = { λ m ms. GivesLast IsNumberOf m.version (codes "version") ms × GivesLast IsNumberOf m.stripes (codes "stripes") ms × GivesLast (ArePiecesOf entry_of parts.Entry (suc max_entries)) m.entries (codes "entries") ms };
-
-    fn take(
-        &mut self,
-        alloc: Global,
-        key: &str,
-        token: Token<'_>,
-        reader: &mut Reader<'_>,
-        depth: usize,
-    ) -> Result<(), Stop> {
-        if key == "version" {
-            put_number(&mut self.version, alloc, token, reader, depth)
-        } else if key == "stripes" {
-            put_number(&mut self.stripes, alloc, token, reader, depth)
-        } else if key == "entries" {
-            put_pieces::<EntryKind>(&mut self.entries, alloc, token, reader, depth)
-        } else {
-            pass_value(token, reader, depth)?;
-            Ok(())
-        }
-    }
-}
-
+/// The number of stripes and the entries of a file's number and its entries.
 #[tactic(auto, unfolding(crate::specs::HistoryFile::entries_from))]
-fn entries_in(members: HistoryMembers) -> Result<(u32, Vec<Entry>), FileFault>
-    ensures { Gives (λ file. (file.0, file.1.items)) result (entries_from members.version members.stripes (pieces_found entry_part members.entries)) }
+fn entries_in(numbers: [u64; 1], entries: Vec<Entry>) -> Result<(u32, Vec<Entry>), FileFault>
+    ensures { Gives (λ file. (file.0, file.1.items)) result (entries_from numbers entries.items) }
 {
-    let version = number_found(members.version)?;
-    let stripes = number_found(members.stripes)?;
-    let entries = pieces_kept::<EntryKind>(members.entries)?;
-    if version == 1 && is_history(stripes, &entries) {
+    let [stripes] = numbers;
+    if is_history(stripes, &entries) {
         Ok((stripes as u32, entries))
     } else {
         Err(FileFault::Limit)
@@ -222,6 +171,6 @@ fn entries_in(members: HistoryMembers) -> Result<(u32, Vec<Entry>), FileFault>
 pub fn read_history(alloc: Global, bytes: &[u8]) -> Result<(u32, Vec<Entry>), FileFault>
     ensures { Gives (λ file. (file.0, file.1.items)) result (history_of bytes.now) }
 {
-    let members = members_in(alloc, bytes, HistoryMembers::new())?;
-    entries_in(members)
+    let (numbers, entries) = read_file::<EntryKind, 1>(alloc, bytes, &["stripes"], "entries")?;
+    entries_in(numbers, entries)
 }

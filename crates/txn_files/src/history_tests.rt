@@ -258,3 +258,19 @@ fn callers_out_of_range(rt: HostRuntime) -> Result<(), Fail> {
     }
     Ok(())
 }
+
+/// A number too large for a float makes the file no JSON, wherever it stands.
+#[test]
+fn large_numbers_in_a_history(rt: HostRuntime) {
+    for text in [
+        "{\"version\":1e999,\"stripes\":8,\"entries\":[]}",
+        "{\"version\":1,\"stripes\":1e999,\"entries\":[]}",
+        "{\"version\":1,\"stripes\":8,\"entries\":1e999}",
+        "{\"version\":1,\"stripes\":8,\"entries\":[1e999]}",
+        "{\"version\":1,\"stripes\":8,\"entries\":[[\"began\",0,1e999]]}",
+        "{\"version\":1,\"stripes\":8,\"entries\":[[\"began\",0,1]],\"x\":[-1e999]}",
+    ] {
+        let wanted = Some(FileFault::NotJson);
+        assert_eq!(rt; fault_of(&rt, text.as_bytes()), wanted, "{text}");
+    }
+}

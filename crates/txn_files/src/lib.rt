@@ -13,19 +13,16 @@
 
 mod history_file;
 mod operation;
-mod script;
 mod script_file;
-mod scripts;
 mod step_file;
 mod text;
 
 pub use history_file::read_history;
 pub use piece_files::{FileFault, Part};
-pub use script::Script;
 pub use script_file::read_scripts;
-pub use scripts::Scripts;
 pub use step_file::read_steps;
 pub use text::history_text;
+pub use txn_trace::{Script, Scripts};
 
 #[cfg(test)]
 mod history_tests;

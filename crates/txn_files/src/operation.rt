@@ -1,17 +1,19 @@
-//! The operation that elements are.
+//! An operation as elements in JSON: how it is read, and how it is written.
 
-ghost use Rattle.std.specs.Prelude.{◌≡◌, map, option_map};
-ghost use Rattle.serde_json.specs.View.{view};
-ghost use Rattle.txn_files.specs.Operations.{op_at, op_of};
+ghost use Rattle.std.specs.Prelude.{◌≡◌, ◌++◌, map, option_map, OnOk, string_bytes};
+ghost use Rattle.std.specs.List.{join_with_byte};
+ghost use Rattle.piece_files.specs.Plain.{data_of};
+ghost use Rattle.txn_files.specs.HistoryText.{comma};
+ghost use Rattle.txn_files.specs.Operations.{op_at, op_of, elements_of_op};
 
-use piece_files::{number_in, word_in};
-use serde_json::Value;
+use piece_files::{Plain, number_in, word_in};
+use std::alloc::AllocError;
 use txn_trace::Op;
 
 /// The operation that the elements begin with, and the elements after it.
 #[tactic(auto, unfolding(crate::specs::Operations::op_at))]
-pub fn leading_op_in(values: &[Value]) -> Option<(Op, &[Value])>
-    ensures { option_map (λ x. (x.0, map view x.1.now)) result ≡ op_at (map view values.now) }
+pub fn leading_op_in<'v, 'a>(values: &'v [Plain<'a>]) -> Option<(Op, &'v [Plain<'a>])>
+    ensures { option_map (λ x. (x.0, map data_of x.1.now)) result ≡ op_at (map data_of values.now) }
 {
     let (name, rest) = word_in(values)?;
     let (key, rest) = number_in(rest)?;
@@ -29,9 +31,20 @@ pub fn leading_op_in(values: &[Value]) -> Option<(Op, &[Value])>
 
 /// The operation that the elements are.
 #[tactic(auto, unfolding(crate::specs::Operations::op_of))]
-pub fn op_in(values: &[Value]) -> Option<Op>
-    ensures { result ≡ op_of (map view values.now) }
+pub fn op_in(values: &[Plain<'_>]) -> Option<Op>
+    ensures { result ≡ op_of (map data_of values.now) }
 {
     let (op, rest) = leading_op_in(values)?;
     if rest.is_empty() { Some(op) } else { None }
+}
+
+/// Adds the elements of an operation, with a comma between each two.
+pub fn put_op(text: &mut String, op: Op) -> Result<(), AllocError>
+    ensures { OnOk result (string_bytes text.new ≡ string_bytes text.old ++ join_with_byte comma (elements_of_op op)) }
+{
+    match op {
+        Op::Put(key, value) => write!(text, "\"put\",{key},{value}"),
+        Op::Take(key) => write!(text, "\"take\",{key}"),
+        Op::Get(key) => write!(text, "\"get\",{key}"),
+    }
 }

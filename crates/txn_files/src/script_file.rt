@@ -1,24 +1,19 @@
-ghost use Rattle.std.specs.Prelude.{◌≡◌, suc, map, None, codes};
+ghost use Rattle.std.specs.Prelude.{◌≡◌, map, true, false};
 ghost use Rattle.std.specs.List.{list_all};
-ghost use Rattle.serde_json.specs.View.{view};
+ghost use Rattle.piece_files.specs.Plain.{data_of};
 ghost use Rattle.piece_files.specs.Faults.{Gives};
 ghost use Rattle.txn_files.specs.Actions.{action_of, script_of};
-ghost use Rattle.piece_files.specs.Members.{GivesLast, IsNumberOf, ArePiecesOf, pieces_found};
-ghost use Rattle.piece_files.specs.declared.part.Part.TheVariants.{Script as script_part};
-ghost use Rattle.txn_files.specs.ScriptFile.{max_scripts, is_short, are_scripts, scripts_of, work_from};
+ghost use Rattle.txn_files.specs.ScriptFile.{max_scripts, is_short, are_scripts, work_from, scripts_of};
 
 use crate::operation::op_in;
-use crate::script::Script;
-use crate::scripts::Scripts;
 use crate::step_file::limits_in;
-use json::{Reader, Token};
+use json::Reader;
 use piece_files::{
-    FileFault, Part, PieceKind, Pieces, Stop, Wanted, end_in, members_in, number_found, one_in,
-    pass_value, pieces_in, pieces_kept, plain_elements, put_number, put_pieces, word_in,
+    FileFault, Part, PieceKind, Plain, Stop, end_in, one_in, pieces_in, plain_elements, read_file,
+    word_in,
 };
-use serde_json::Value;
 use std::alloc::Global;
-use txn_trace::Action;
+use txn_trace::{Action, Script, Scripts};
 
 /// How often a script may be tried again.
 const MAX_TRIES: u64 = 1000;
@@ -33,8 +28,8 @@ const MAX_ACTIONS: usize = 10_000;
 const MAX_ELEMENTS: usize = 3;
 
 #[tactic(auto, unfolding(crate::specs::Actions::action_of))]
-fn action_in(values: &[Value]) -> Option<Action>
-    ensures { result ≡ action_of (map view values.now) }
+fn action_in(values: &[Plain<'_>]) -> Option<Action>
+    ensures { result ≡ action_of (map data_of values.now) }
 {
     let (name, rest) = word_in(values)?;
     if name == "save" {
@@ -66,6 +61,8 @@ impl PieceKind for ActionKind {
 
     ghost most = { 18446744073709551615 };
 
+    ghost takes_memory = { false };
+
     fn part() -> Part {
         Part::Script
     }
@@ -75,8 +72,8 @@ impl PieceKind for ActionKind {
     }
 
     #[tactic(auto, using(crate::proofs::PlainPieces::no_action))]
-    fn read(alloc: Global, reader: &mut Reader<'_>, depth: usize) -> Result<Option<Action>, Stop> {
-        let elements = plain_elements(alloc, reader, depth, MAX_ELEMENTS)?;
+    fn read(_alloc: Global, reader: &mut Reader<'_>, depth: usize) -> Result<Option<Action>, Stop> {
+        let elements = plain_elements::<MAX_ELEMENTS>(reader, depth)?;
         match elements {
             Some(values) => Ok(action_in(&values)),
             None => Ok(None),
@@ -96,14 +93,16 @@ impl PieceKind for ScriptKind {
 
     ghost part = { parts.Script };
 
-    ghost most = { suc max_scripts };
+    ghost most = { max_scripts };
+
+    ghost takes_memory = { true };
 
     fn part() -> Part {
         Part::Script
     }
 
     fn most() -> usize {
-        MAX_SCRIPTS + 1
+        MAX_SCRIPTS
     }
 
     #[tactic(auto, unfolding(crate::specs::Actions::script_of))]
@@ -132,79 +131,17 @@ fn are_short(scripts: &[Script]) -> bool
 fn are_scripts(tries: u64, scripts: &[Script]) -> bool
     ensures { result ≡ are_scripts tries scripts.now }
 {
-    tries <= MAX_TRIES && scripts.len() <= MAX_SCRIPTS && are_short(scripts)
+    tries <= MAX_TRIES && are_short(scripts)
 }
 
-/// The members of a script file.
-#[derive(Drop)]
-struct ScriptMembers {
-    version: Option<u64>,
-    workers: Option<u64>,
-    stripes: Option<u64>,
-    buckets: Option<u64>,
-    tries: Option<u64>,
-    scripts: Option<Pieces<Script>>,
-}
-
-impl ScriptMembers {
-    fn new() -> ScriptMembers
-        ensures { (result.version ≡ None) × (result.workers ≡ None) × (result.stripes ≡ None) × (result.buckets ≡ None) × (result.tries ≡ None) × (result.scripts ≡ None) }
-    {
-        ScriptMembers {
-            version: None,
-            workers: None,
-            stripes: None,
-            buckets: None,
-            tries: None,
-            scripts: None,
-        }
-    }
-}
-
-impl Wanted for ScriptMembers {
-    ghost use Rattle.piece_files.specs.declared.part.Part.TheVariants as parts;
-
-    ghost found = { λ m ms. GivesLast IsNumberOf m.version (codes "version") ms × GivesLast IsNumberOf m.workers (codes "workers") ms × GivesLast IsNumberOf m.stripes (codes "stripes") ms × GivesLast IsNumberOf m.buckets (codes "buckets") ms × GivesLast IsNumberOf m.tries (codes "tries") ms × GivesLast (ArePiecesOf script_of parts.Script (suc max_scripts)) m.scripts (codes "scripts") ms };
-
-    fn take(
-        &mut self,
-        alloc: Global,
-        key: &str,
-        token: Token<'_>,
-        reader: &mut Reader<'_>,
-        depth: usize,
-    ) -> Result<(), Stop> {
-        if key == "version" {
-            put_number(&mut self.version, alloc, token, reader, depth)
-        } else if key == "workers" {
-            put_number(&mut self.workers, alloc, token, reader, depth)
-        } else if key == "stripes" {
-            put_number(&mut self.stripes, alloc, token, reader, depth)
-        } else if key == "buckets" {
-            put_number(&mut self.buckets, alloc, token, reader, depth)
-        } else if key == "tries" {
-            put_number(&mut self.tries, alloc, token, reader, depth)
-        } else if key == "scripts" {
-            put_pieces::<ScriptKind>(&mut self.scripts, alloc, token, reader, depth)
-        } else {
-            pass_value(token, reader, depth)?;
-            Ok(())
-        }
-    }
-}
-
+/// The work of a file's numbers and its scripts.
 #[tactic(auto, unfolding(crate::specs::ScriptFile::work_from))]
-fn work_in(members: ScriptMembers) -> Result<Scripts, FileFault>
-    ensures { Gives (λ work. work) result (work_from members.version members.workers members.stripes members.buckets members.tries (pieces_found script_part members.scripts)) }
+fn work_in(numbers: [u64; 4], scripts: Vec<Script>) -> Result<Scripts, FileFault>
+    ensures { Gives (λ work. work) result (work_from numbers scripts.items) }
 {
-    let version = number_found(members.version)?;
-    let workers = number_found(members.workers)?;
-    let stripes = number_found(members.stripes)?;
-    let buckets = number_found(members.buckets)?;
-    let tries = number_found(members.tries)?;
-    let scripts = pieces_kept::<ScriptKind>(members.scripts)?;
+    let [workers, stripes, buckets, tries] = numbers;
     let limits = limits_in(workers, stripes, buckets)?;
-    if version == 1 && are_scripts(tries, &scripts) {
+    if are_scripts(tries, &scripts) {
         Ok(Scripts::new(limits, tries, scripts))
     } else {
         Err(FileFault::Limit)
@@ -230,6 +167,7 @@ fn work_in(members: ScriptMembers) -> Result<Scripts, FileFault>
 pub fn read_scripts(alloc: Global, bytes: &[u8]) -> Result<Scripts, FileFault>
     ensures { Gives (λ work. work) result (scripts_of bytes.now) }
 {
-    let members = members_in(alloc, bytes, ScriptMembers::new())?;
-    work_in(members)
+    let names = ["workers", "stripes", "buckets", "tries"];
+    let (numbers, scripts) = read_file::<ScriptKind, 4>(alloc, bytes, &names, "scripts")?;
+    work_in(numbers, scripts)
 }

@@ -251,3 +251,18 @@ fn wrong_script_behind_the_limit(rt: HostRuntime) -> Result<(), Fail> {
     assert_eq!(rt; fault_of(&rt, text.as_bytes()), wanted);
     Ok(())
 }
+
+/// A number too large for a float makes the file no JSON, wherever it stands.
+#[test]
+fn large_numbers_in_scripts(rt: HostRuntime) {
+    for text in [
+        "{\"version\":1,\"workers\":1e999,\"stripes\":8,\"buckets\":8,\"tries\":0,\"scripts\":[]}",
+        "{\"version\":1,\"workers\":1,\"stripes\":8,\"buckets\":8,\"tries\":0,\"scripts\":1e999}",
+        "{\"version\":1,\"workers\":1,\"stripes\":8,\"buckets\":8,\"tries\":0,\"scripts\":[[1e999]]}",
+        "{\"version\":1,\"workers\":1,\"stripes\":8,\"buckets\":8,\"tries\":0,\"scripts\":[[[\"put\",1e999,1]]]}",
+        "{\"version\":1,\"workers\":1,\"stripes\":8,\"buckets\":8,\"tries\":0,\"scripts\":[[[\"save\"]]],\"x\":{\"y\":1e999}}",
+    ] {
+        let wanted = Some(FileFault::NotJson);
+        assert_eq!(rt; fault_of(&rt, text.as_bytes()), wanted, "{text}");
+    }
+}

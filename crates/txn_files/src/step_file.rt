@@ -1,18 +1,15 @@
-ghost use Rattle.std.specs.Prelude.{◌≡◌, suc, map, None, codes};
-ghost use Rattle.serde_json.specs.View.{view};
+ghost use Rattle.std.specs.Prelude.{◌≡◌, map, true, false};
+ghost use Rattle.piece_files.specs.Plain.{data_of};
 ghost use Rattle.piece_files.specs.Faults.{Gives};
 ghost use Rattle.txn_files.specs.Steps.{ask_of, numbered_of, step_of};
-ghost use Rattle.piece_files.specs.Members.{GivesLast, IsNumberOf, ArePiecesOf, pieces_found};
-ghost use Rattle.piece_files.specs.declared.part.Part.TheVariants.{Step as step_part};
-ghost use Rattle.txn_files.specs.StepFile.{max_steps, sizes_at, file_of, steps_from};
+ghost use Rattle.txn_files.specs.StepFile.{max_steps, sizes_at, steps_from, file_of};
 
 use crate::operation::op_in;
-use json::{Reader, Token};
+use json::Reader;
 use piece_files::{
-    FileFault, Part, PieceKind, Pieces, Stop, Wanted, members_in, number_found, number_in, one_in,
-    pass_value, pieces_kept, plain_elements, put_number, put_pieces, two_in, word_in,
+    FileFault, Part, PieceKind, Plain, Stop, number_in, one_in, plain_elements, read_file, two_in,
+    word_in,
 };
-use serde_json::Value;
 use std::alloc::Global;
 use txn_trace::{Limits, Step};
 
@@ -23,8 +20,8 @@ const MAX_STEPS: usize = 1_000_000;
 const MAX_ELEMENTS: usize = 5;
 
 #[tactic(auto, unfolding(crate::specs::Steps::ask_of))]
-fn ask_in(values: &[Value]) -> Option<Step>
-    ensures { result ≡ ask_of (map view values.now) }
+fn ask_in(values: &[Plain<'_>]) -> Option<Step>
+    ensures { result ≡ ask_of (map data_of values.now) }
 {
     let (caller, rest) = number_in(values)?;
     let op = op_in(rest)?;
@@ -59,8 +56,8 @@ fn numbered_step(name: &str, number: u64) -> Option<Step>
 }
 
 #[tactic(auto, unfolding(crate::specs::Steps::step_of))]
-fn step_in(values: &[Value]) -> Option<Step>
-    ensures { result ≡ step_of (map view values.now) }
+fn step_in(values: &[Plain<'_>]) -> Option<Step>
+    ensures { result ≡ step_of (map data_of values.now) }
 {
     let (name, rest) = word_in(values)?;
     if name == "ask" {
@@ -95,19 +92,21 @@ impl PieceKind for StepKind {
 
     ghost part = { parts.Step };
 
-    ghost most = { suc max_steps };
+    ghost most = { max_steps };
+
+    ghost takes_memory = { false };
 
     fn part() -> Part {
         Part::Step
     }
 
     fn most() -> usize {
-        MAX_STEPS + 1
+        MAX_STEPS
     }
 
     #[tactic(auto, using(crate::proofs::PlainPieces::no_step))]
-    fn read(alloc: Global, reader: &mut Reader<'_>, depth: usize) -> Result<Option<Step>, Stop> {
-        let elements = plain_elements(alloc, reader, depth, MAX_ELEMENTS)?;
+    fn read(_alloc: Global, reader: &mut Reader<'_>, depth: usize) -> Result<Option<Step>, Stop> {
+        let elements = plain_elements::<MAX_ELEMENTS>(reader, depth)?;
         match elements {
             Some(values) => Ok(step_in(&values)),
             None => Ok(None),
@@ -125,75 +124,14 @@ pub fn limits_in(callers: u64, stripes: u64, buckets: u64) -> Result<Limits, Fil
     }
 }
 
-/// The members of a step file.
-#[derive(Drop)]
-struct StepMembers {
-    version: Option<u64>,
-    callers: Option<u64>,
-    stripes: Option<u64>,
-    buckets: Option<u64>,
-    steps: Option<Pieces<Step>>,
-}
-
-impl StepMembers {
-    fn new() -> StepMembers
-        ensures { (result.version ≡ None) × (result.callers ≡ None) × (result.stripes ≡ None) × (result.buckets ≡ None) × (result.steps ≡ None) }
-    {
-        StepMembers {
-            version: None,
-            callers: None,
-            stripes: None,
-            buckets: None,
-            steps: None,
-        }
-    }
-}
-
-impl Wanted for StepMembers {
-    ghost use Rattle.piece_files.specs.declared.part.Part.TheVariants as parts;
-
-    ghost found = { λ m ms. GivesLast IsNumberOf m.version (codes "version") ms × GivesLast IsNumberOf m.callers (codes "callers") ms × GivesLast IsNumberOf m.stripes (codes "stripes") ms × GivesLast IsNumberOf m.buckets (codes "buckets") ms × GivesLast (ArePiecesOf step_of parts.Step (suc max_steps)) m.steps (codes "steps") ms };
-
-    fn take(
-        &mut self,
-        alloc: Global,
-        key: &str,
-        token: Token<'_>,
-        reader: &mut Reader<'_>,
-        depth: usize,
-    ) -> Result<(), Stop> {
-        if key == "version" {
-            put_number(&mut self.version, alloc, token, reader, depth)
-        } else if key == "callers" {
-            put_number(&mut self.callers, alloc, token, reader, depth)
-        } else if key == "stripes" {
-            put_number(&mut self.stripes, alloc, token, reader, depth)
-        } else if key == "buckets" {
-            put_number(&mut self.buckets, alloc, token, reader, depth)
-        } else if key == "steps" {
-            put_pieces::<StepKind>(&mut self.steps, alloc, token, reader, depth)
-        } else {
-            pass_value(token, reader, depth)?;
-            Ok(())
-        }
-    }
-}
-
+/// The limits and the steps of a file's numbers and its steps.
 #[tactic(auto, unfolding(crate::specs::StepFile::steps_from))]
-fn steps_in(members: StepMembers) -> Result<(Limits, Vec<Step>), FileFault>
-    ensures { Gives (λ file. (file.0, file.1.items)) result (steps_from members.version members.callers members.stripes members.buckets (pieces_found step_part members.steps)) }
+fn steps_in(numbers: [u64; 3], steps: Vec<Step>) -> Result<(Limits, Vec<Step>), FileFault>
+    ensures { Gives (λ file. (file.0, file.1.items)) result (steps_from numbers steps.items) }
 {
-    let version = number_found(members.version)?;
-    let callers = number_found(members.callers)?;
-    let stripes = number_found(members.stripes)?;
-    let buckets = number_found(members.buckets)?;
-    let steps = pieces_kept::<StepKind>(members.steps)?;
+    let [callers, stripes, buckets] = numbers;
     let limits = limits_in(callers, stripes, buckets)?;
-    if version == 1 && steps.len() <= MAX_STEPS {
-        Ok((limits, steps))
-    } else {
-        Err(FileFault::Limit)
-    }
+    Ok((limits, steps))
 }
 
 /// The limits and the steps of a step file: `{"version":1,"callers":C,"stripes":S,"buckets":B,"steps":[..]}`,
@@ -212,6 +150,7 @@ fn steps_in(members: StepMembers) -> Result<(Limits, Vec<Step>), FileFault>
 pub fn read_steps(alloc: Global, bytes: &[u8]) -> Result<(Limits, Vec<Step>), FileFault>
     ensures { Gives (λ file. (file.0, file.1.items)) result (file_of bytes.now) }
 {
-    let members = members_in(alloc, bytes, StepMembers::new())?;
-    steps_in(members)
+    let names = ["callers", "stripes", "buckets"];
+    let (numbers, steps) = read_file::<StepKind, 3>(alloc, bytes, &names, "steps")?;
+    steps_in(numbers, steps)
 }

@@ -469,3 +469,17 @@ fn elements_of_wrong_steps(rt: HostRuntime) -> Result<(), Fail> {
     assert_eq!(rt; fault_of(&rt, text.as_bytes()), Some(FileFault::NotJson));
     Ok(())
 }
+
+/// A number too large for a float makes the file no JSON, wherever it stands.
+#[test]
+fn large_numbers_in_steps(rt: HostRuntime) {
+    for text in [
+        "{\"version\":1,\"callers\":1,\"stripes\":8,\"buckets\":-1e999,\"steps\":[]}",
+        "{\"version\":1,\"callers\":1,\"stripes\":8,\"buckets\":8,\"steps\":1e999}",
+        "{\"version\":1,\"callers\":1,\"stripes\":8,\"buckets\":8,\"steps\":[1e999]}",
+        "{\"version\":1,\"callers\":1,\"stripes\":8,\"buckets\":8,\"steps\":[[\"begin\",0],[\"begin\",1e999]]}",
+    ] {
+        let wanted = Some(FileFault::NotJson);
+        assert_eq!(rt; fault_of(&rt, text.as_bytes()), wanted, "{text}");
+    }
+}

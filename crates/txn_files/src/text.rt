@@ -2,21 +2,20 @@ ghost use Rattle.std.specs.Prelude.{◌≡◌, ◌∷◌, ◌++◌, map, OnOk, I
 ghost use Rattle.std.specs.List.{flat_map, join_with_byte};
 ghost use Rattle.txn_files.specs.HistoryText.{comma, entry_text, text_of_history};
 
+use crate::operation::put_op;
 use std::alloc::{AllocError, Global};
-use txn_trace::{Entry, Op};
+use txn_trace::Entry;
 
 fn put_entry(text: &mut String, entry: &Entry) -> Result<(), AllocError>
     ensures { OnOk result (string_bytes text.new ≡ string_bytes text.old ++ entry_text entry.now) }
 {
     match *entry {
         Entry::Began(caller, txn) => write!(text, "[\"began\",{caller},{txn}]"),
-        Entry::Asked(caller, Op::Put(key, value)) => {
-            write!(text, "[\"asked\",{caller},\"put\",{key},{value}]")
+        Entry::Asked(caller, op) => {
+            write!(text, "[\"asked\",{caller},")?;
+            put_op(text, op)?;
+            text.push_str("]")
         }
-        Entry::Asked(caller, Op::Take(key)) => {
-            write!(text, "[\"asked\",{caller},\"take\",{key}]")
-        }
-        Entry::Asked(caller, Op::Get(key)) => write!(text, "[\"asked\",{caller},\"get\",{key}]"),
         Entry::Did(caller, None) => write!(text, "[\"did\",{caller},null]"),
         Entry::Did(caller, Some(value)) => write!(text, "[\"did\",{caller},{value}]"),
         Entry::Saved(caller) => write!(text, "[\"saved\",{caller}]"),
@@ -25,14 +24,10 @@ fn put_entry(text: &mut String, entry: &Entry) -> Result<(), AllocError>
         Entry::Undone(caller) => write!(text, "[\"undone\",{caller}]"),
         Entry::Returned(caller, level) => write!(text, "[\"returned\",{caller},{level}]"),
         Entry::Committed(caller, place) => write!(text, "[\"committed\",{caller},{place}]"),
-        Entry::Busy(caller, Op::Put(key, value), holder) => {
-            write!(text, "[\"busy\",{caller},\"put\",{key},{value},{holder}]")
-        }
-        Entry::Busy(caller, Op::Take(key), holder) => {
-            write!(text, "[\"busy\",{caller},\"take\",{key},{holder}]")
-        }
-        Entry::Busy(caller, Op::Get(key), holder) => {
-            write!(text, "[\"busy\",{caller},\"get\",{key},{holder}]")
+        Entry::Busy(caller, op, holder) => {
+            write!(text, "[\"busy\",{caller},")?;
+            put_op(text, op)?;
+            write!(text, ",{holder}]")
         }
         Entry::Aborted(caller) => write!(text, "[\"aborted\",{caller}]"),
     }

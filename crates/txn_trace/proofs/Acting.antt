@@ -13,7 +13,8 @@ use Rattle.txn_trace.specs.History.{of}
 use Rattle.txn_trace.specs.Alone.{Run, with_op, act_did, act, alone, last_map, map_after}
 use Rattle.txn_trace.specs.Serial.{serial}
 use Rattle.txn_trace.specs.Now.{now}
-use Rattle.txn_trace.specs.Shape.{Seat, Waiting, seat_after, own, is_shaped}
+use Rattle.txn_trace.specs.declared.seat.Phase.TheVariants.{Waiting}
+use Rattle.txn_trace.specs.Shape.{Seat, seat_after, own, is_shaped}
 use Rattle.txn_trace.specs.Legal.{IsLegal}
 use Rattle.txn_trace.proofs.Maps.{same_map, none_is, get-insert, get-remove}
 use Rattle.txn_trace.proofs.Pushes.{txn_in, alone-push}

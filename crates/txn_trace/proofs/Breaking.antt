@@ -15,7 +15,9 @@ use Rattle.txn_trace.specs.Serial.{serial}
 use Rattle.txn_trace.specs.Now.{now}
 use Rattle.txn_trace.specs.Replies.{RepliesHoldAt}
 use Rattle.txn_trace.specs.Locks.{is_locked}
-use Rattle.txn_trace.specs.Shape.{Phase, Closed, Waiting, Seat, row, seat_after, own, is_numbered, is_shaped, IsShaped}
+use Rattle.txn_trace.specs.declared.seat.Phase.{Phase}
+use Rattle.txn_trace.specs.declared.seat.Phase.TheVariants.{Closed, Waiting}
+use Rattle.txn_trace.specs.Shape.{Seat, row, seat_after, own, is_numbered, is_shaped, IsShaped}
 use Rattle.txn_trace.specs.Legal.{IsLegal, replies_hold, broken, runs}
 use Rattle.txn_trace.proofs.Pushes.{txn_at, of-push_in, alone-push}
 use Rattle.txn_trace.proofs.Callers.{callers_of, is_end, ended, ended_in, shaped_seat, shaped_number}

@@ -10,7 +10,9 @@ use mathlib.Core.Logic.{◌⊎◌, inl, inr}
 use Rattle.txn_trace.specs.declared.entry.Entry.{Entry}
 use Rattle.txn_trace.specs.declared.entry.Entry.TheVariants.{Began, Asked, Did, Saved, Leave, Undone, Returned, Committed, Busy, Aborted}
 use Rattle.txn_trace.specs.History.{Line, caller_of, is_began, is_commit, is_abort, txn_after, lines_of, of, ends_in, is_committed, is_aborted, is_open}
-use Rattle.txn_trace.specs.Shape.{Seat, Phase, Closed, Opened, Waiting, LeavingTo, LeavingToEnd, row, seat_after, closed_seat, own, how_many, is_shaped, is_numbered, IsShaped}
+use Rattle.txn_trace.specs.declared.seat.Phase.{Phase}
+use Rattle.txn_trace.specs.declared.seat.Phase.TheVariants.{Closed, Opened, Waiting, LeavingTo, LeavingToEnd}
+use Rattle.txn_trace.specs.Shape.{Seat, row, seat_after, closed_seat, own, how_many, is_shaped, is_numbered, IsShaped}
 use Rattle.txn_trace.specs.Legal.{runs, is_running}
 use Rattle.txn_trace.proofs.Pushes.{txn_in, txn_at, lines_of-push, txn_in-push, of-push_in, of-push_out, ends_in-push, seat_after-push, own-push_in, own-push_out, how_many-push}
 

@@ -15,7 +15,8 @@ use Rattle.txn_trace.specs.Alone.{alone}
 use Rattle.txn_trace.specs.Serial.{serial}
 use Rattle.txn_trace.specs.Now.{now, set_at}
 use Rattle.txn_trace.specs.Locks.{stripe_of, holder_of, is_locked}
-use Rattle.txn_trace.specs.Shape.{Seat, Closed, Opened, Waiting, LeavingTo, LeavingToEnd, closed_seat, changes, row, seat_after, own, how_many}
+use Rattle.txn_trace.specs.declared.seat.Phase.TheVariants.{Closed, Opened, Waiting, LeavingTo, LeavingToEnd}
+use Rattle.txn_trace.specs.Shape.{Seat, closed_seat, changes, row, seat_after, own, how_many}
 use Rattle.txn_trace.specs.Log.{Log, log_after, log_of, log_did}
 use Rattle.txn_trace.specs.Legal.{IsLegal, runs}
 use Rattle.txn_trace.proofs.Maps.{same_map}

@@ -9,7 +9,9 @@ use Rattle.txn_trace.specs.declared.entry.Entry.TheVariants.{Began, Asked, Did, 
 use Rattle.txn_trace.specs.Map.{Map, reply_of, after, is_change}
 use Rattle.txn_trace.specs.History.{is_began}
 use Rattle.txn_trace.specs.Alone.{Run, start, number_of_maps, with_op, act_did, act_undone, act_returned, act}
-use Rattle.txn_trace.specs.Shape.{Seat, Phase, Opened, Waiting, LeavingTo, LeavingToEnd, row, changes, closed_seat}
+use Rattle.txn_trace.specs.declared.seat.Phase.{Phase}
+use Rattle.txn_trace.specs.declared.seat.Phase.TheVariants.{Opened, Waiting, LeavingTo, LeavingToEnd}
+use Rattle.txn_trace.specs.Shape.{Seat, row, changes, closed_seat}
 use Rattle.txn_trace.proofs.Callers.{is_end}
 use Rattle.txn_trace.proofs.Now.{same_is}
 

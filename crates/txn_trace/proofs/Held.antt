@@ -14,7 +14,8 @@ use Rattle.txn_trace.specs.History.{is_open, is_commit, Line, caller_of, lines_o
 use Rattle.txn_trace.specs.Alone.{map_after, Run, alone}
 use Rattle.txn_trace.specs.Serial.{serial}
 use Rattle.txn_trace.specs.Locks.{stripe_of, asks_in, is_in_open, holders, holder_of, LocksHold}
-use Rattle.txn_trace.specs.Shape.{Waiting, Seat, seat_after, own, IsShaped, is_shaped}
+use Rattle.txn_trace.specs.declared.seat.Phase.TheVariants.{Waiting}
+use Rattle.txn_trace.specs.Shape.{Seat, seat_after, own, IsShaped, is_shaped}
 use Rattle.txn_trace.specs.Log.{log_after, log_of}
 use Rattle.txn_trace.specs.Legal.{IsLegal, runs, is_running}
 use Rattle.txn_trace.proofs.Pushes.{txn_in, txn_at, of_is}

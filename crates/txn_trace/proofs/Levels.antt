@@ -8,7 +8,9 @@ use Rattle.std.proofs.lemmas.List.{get_or_append_left, length_push, get_or_push,
 use mathlib.Core.Logic.{inl, inr}
 use Rattle.txn_trace.specs.declared.entry.Entry.{Entry}
 use Rattle.txn_trace.specs.declared.entry.Entry.TheVariants.{Began, Asked, Did, Saved, Leave, Undone, Returned, Committed, Busy, Aborted}
-use Rattle.txn_trace.specs.Shape.{Phase, Closed, Opened, Waiting, LeavingTo, LeavingToEnd, Seat, closed_seat, changes, row, seat_after}
+use Rattle.txn_trace.specs.declared.seat.Phase.{Phase}
+use Rattle.txn_trace.specs.declared.seat.Phase.TheVariants.{Closed, Opened, Waiting, LeavingTo, LeavingToEnd}
+use Rattle.txn_trace.specs.Shape.{Seat, closed_seat, changes, row, seat_after}
 
 -- Later levels keep at least as many changes.
 abbrev pub IsRisingList : List ℕ → Type 0

@@ -13,7 +13,9 @@ use Rattle.txn_trace.specs.Map.{Map, key_of, reply_of, after, is_change}
 use Rattle.txn_trace.specs.History.{caller_of, is_began, of}
 use Rattle.txn_trace.specs.Alone.{Run, start, number_of_maps, with_op, act_did, act_undone, act, alone}
 use Rattle.txn_trace.specs.Locks.{asks_in, stripe_of}
-use Rattle.txn_trace.specs.Shape.{Seat, Phase, Closed, Opened, Waiting, LeavingTo, LeavingToEnd, row, seat_after, closed_seat, changes, own, is_shaped, IsShaped}
+use Rattle.txn_trace.specs.declared.seat.Phase.{Phase}
+use Rattle.txn_trace.specs.declared.seat.Phase.TheVariants.{Closed, Opened, Waiting, LeavingTo, LeavingToEnd}
+use Rattle.txn_trace.specs.Shape.{Seat, row, seat_after, closed_seat, changes, own, is_shaped, IsShaped}
 use Rattle.txn_trace.specs.Log.{Log, no_log, log_did, log_step, log_after}
 use Rattle.txn_trace.proofs.Pushes.{txn_in, txn_at, of-push_in, of-push_out, own-push_in, own-push_out, alone-push}
 use Rattle.txn_trace.proofs.Callers.{Callers, is_end, ended, ended_in, not_ended_before, in_or_out, step, same, began_or_not, at_is, not_began_is, not_equal}

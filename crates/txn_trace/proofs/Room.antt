@@ -1,15 +1,23 @@
 -- The room that is kept for what callers still owe.
 use Rattle.std.proofs.Common.{◌≡◌, ℕ, ◌+◌, ◌-◌, ◌<◌, ◌≤◌, ◌==◌, ◌&&◌, Bool, true, false, cond, List, [], ◌∷◌, ◌++◌, length, take, slice_index, refl, ap, sym, subst, ◌∙◌, Some, None, Option, is_some, arith}
 use Rattle.std.specs.Prelude.{nat_lt}
+use Rattle.std.specs.List.{AllByRecursion}
 use Rattle.std.specs.Option.{option_and_then}
 use Rattle.std.proofs.lemmas.Bool.{ltb-true}
 use Rattle.txn_trace.specs.declared.op.Op.{Op}
 use Rattle.txn_trace.specs.declared.op.Op.TheVariants.{Put, Take, Get}
 use Rattle.txn_trace.specs.declared.entry.Entry.{Entry}
 use Rattle.txn_trace.specs.declared.entry.Entry.TheVariants.{Began, Asked, Did, Saved, Leave, Undone, Returned, Committed, Busy, Aborted}
+use Rattle.txn_trace.specs.declared.answer.Answer.{Answer}
+use Rattle.txn_trace.specs.declared.answer.Answer.TheVariants as answers
+use Rattle.txn_trace.specs.declared.step.Step.{Step}
+use Rattle.txn_trace.specs.declared.step.Step.TheVariants.{Begin, Ask, Act, Save, Back, Commit, Abort}
+use Rattle.txn_trace.specs.Entries.{entries_of}
 use Rattle.txn_trace.specs.History.{caller_of}
-use Rattle.txn_trace.specs.Shape.{Phase, Closed, Opened, Waiting, LeavingTo, LeavingToEnd, Seat, closed_seat, changes, row, seat_after, own, is_shaped, IsShaped}
-use Rattle.txn_trace.specs.Owed.{owed_for, owed_in, owed_by, owed}
+use Rattle.txn_trace.specs.declared.seat.Phase.{Phase}
+use Rattle.txn_trace.specs.declared.seat.Phase.TheVariants.{Closed, Opened, Waiting, LeavingTo, LeavingToEnd}
+use Rattle.txn_trace.specs.Shape.{Seat, closed_seat, changes, row, seat_after, own, is_shaped, IsShaped}
+use Rattle.txn_trace.specs.Owed.{owed_for, owed_in, owed_by, owed, reserved}
 use Rattle.txn_trace.proofs.Callers.{shaped_seat}
 use Rattle.txn_trace.proofs.Pushes.{own-push_in, seat_after-push}
 use Rattle.txn_trace.proofs.Next.{seat-other}
@@ -24,6 +32,21 @@ reserved_for (Asked c op) = 1 + owed_for op
 reserved_for (Saved c) = 1
 reserved_for (Leave c (Some n)) = 2
 reserved_for _ = 0
+
+-- What a step reserves is enough for its entry, whatever it is answered.
+pub reserved_enough : (step : Step) (answer : Answer) → AllByRecursion (λ e. reserved_for e ≤ reserved step) (entries_of step answer)
+reserved_enough (Begin c) (answers.Began t) = (omega arith, tt)
+reserved_enough (Ask c op) answers.Asked = (omega arith, tt)
+reserved_enough (Ask c op) (answers.Busy x) = (omega arith, tt)
+reserved_enough (Act c) (answers.Done reply) = (omega arith, tt)
+reserved_enough (Act c) answers.Undone = (omega arith, tt)
+reserved_enough (Act c) (answers.Returned n) = (omega arith, tt)
+reserved_enough (Act c) answers.Aborted = (omega arith, tt)
+reserved_enough (Save c) (answers.Saved n) = (omega arith, tt)
+reserved_enough (Back c n) answers.Leaving = (omega arith, tt)
+reserved_enough (Commit c) (answers.Committed p) = (omega arith, tt)
+reserved_enough (Abort c) answers.Leaving = (omega arith, tt)
+reserved_enough step answer = tt
 
 abbrev pub FitsIn : ℕ → Option Seat → Type 0
 FitsIn room None = Unit {0}

@@ -7,7 +7,9 @@ use Rattle.txn_trace.specs.Alone.{alone}
 use Rattle.txn_trace.specs.Serial.{serial}
 use Rattle.txn_trace.specs.Replies.{RepliesHold}
 use Rattle.txn_trace.specs.Locks.{is_locked, LocksHold}
-use Rattle.txn_trace.specs.Shape.{Phase, Closed, Seat, seat_after, own, how_many, is_shaped, IsShaped}
+use Rattle.txn_trace.specs.declared.seat.Phase.{Phase}
+use Rattle.txn_trace.specs.declared.seat.Phase.TheVariants.{Closed}
+use Rattle.txn_trace.specs.Shape.{Seat, seat_after, own, how_many, is_shaped, IsShaped}
 
 -- A history is legal where its replies and its locks hold and it has the right shape.
 pub record IsLegal (stripes : ℕ) (h : List Entry) : Type 0 where

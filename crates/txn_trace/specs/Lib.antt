@@ -1,6 +1,7 @@
 pub mod Refusals
 pub mod Text
 pub mod Sizes
+pub mod Work
 pub mod Map
 pub mod Ordered
 pub mod History
@@ -10,6 +11,7 @@ pub mod Now
 pub mod Replies
 pub mod Locks
 pub mod Shape
+pub mod Seats
 pub mod Log
 pub mod Legal
 pub mod Erase

@@ -1,10 +1,20 @@
 -- How many entries callers may still append without a new reservation.
-use Rattle.std.specs.Prelude.{ℕ, ◌+◌, Option, Some, None, List}
+use Rattle.std.specs.Prelude.{ℕ, ◌+◌, Bool, true, false, Option, Some, None, List}
 use Rattle.std.specs.List.{sum_by, range_with_len}
 use Rattle.txn_trace.specs.declared.op.Op.{Op}
 use Rattle.txn_trace.specs.declared.op.Op.TheVariants.{Put, Take, Get}
 use Rattle.txn_trace.specs.declared.entry.Entry.{Entry}
-use Rattle.txn_trace.specs.Shape.{Phase, Closed, Opened, Waiting, LeavingTo, LeavingToEnd, Seat, seat_after, own}
+use Rattle.txn_trace.specs.declared.step.Step.{Step}
+use Rattle.txn_trace.specs.declared.step.Step.TheVariants.{Begin, Ask, Save, Back}
+use Rattle.txn_trace.specs.declared.seat.Phase.{Phase}
+use Rattle.txn_trace.specs.declared.seat.Phase.TheVariants.{Closed, Opened, Waiting, LeavingTo, LeavingToEnd}
+use Rattle.txn_trace.specs.Shape.{Seat, seat_after, own}
+
+-- Whether an operation is a change on some map.
+abbrev pub may_change : Op → Bool
+may_change (Put k v) = true
+may_change (Take k) = true
+may_change (Get k) = false
 
 -- For an operation that waits: its reply, and for one that may change, the undoing of it.
 abbrev pub owed_for : Op → ℕ
@@ -28,3 +38,12 @@ owed_by (Some s) = owed_in s.standing s.phase
 -- The sum over all callers, numbered from 0.
 abbrev pub owed : ℕ → List Entry → ℕ
 owed callers h = sum_by (λ c. owed_by (seat_after (own c h))) (range_with_len 0 callers)
+
+-- What a step reserves in the history before it does anything: its entry, and what its caller owes more after it. The
+-- entries of all other steps are owed already.
+abbrev pub reserved : Step → ℕ
+reserved (Begin c) = 3
+reserved (Ask c op) = 1 + owed_for op
+reserved (Save c) = 1
+reserved (Back c n) = 2
+reserved _ = 0

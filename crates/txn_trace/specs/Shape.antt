@@ -1,4 +1,4 @@
--- The rule of shape: the phases of a caller, and which entry may stand in which.
+-- The rule of shape: which entry may stand in which phase of a caller, and the seat after it.
 use Rattle.std.specs.Prelude.{ℕ, ◌+◌, ◌-◌, ◌==◌, Bool, true, false, ◌&&◌, Option, Some, None, is_some, IsTrue, List, [], ◌∷◌, ◌++◌, length, take, slice_index, nat_lt, if◌then◌else◌}
 use Rattle.std.specs.Option.{option_and_then}
 use Rattle.std.specs.List.{fold, filter}
@@ -7,21 +7,20 @@ use Rattle.txn_trace.specs.declared.op.Op.{Op}
 use Rattle.txn_trace.specs.declared.op.Op.TheVariants.{Put, Take, Get}
 use Rattle.txn_trace.specs.declared.entry.Entry.{Entry}
 use Rattle.txn_trace.specs.declared.entry.Entry.TheVariants.{Began, Asked, Did, Saved, Leave, Undone, Returned, Committed, Busy, Aborted}
+use Rattle.txn_trace.specs.declared.seat.Phase.{Phase}
+use Rattle.txn_trace.specs.declared.seat.Phase.TheVariants.{Closed, Opened, Waiting, LeavingTo, LeavingToEnd}
 use Rattle.txn_trace.specs.History.{caller_of, is_began, is_commit}
-
--- A caller has no transaction, has an open one, waits for the reply of an operation, or takes changes back, to a level or to the end.
-pub data Phase : Type 0 where
-  Closed : Phase
-  Opened : Phase
-  Waiting : Op → Phase
-  LeavingTo : ℕ → Phase
-  LeavingToEnd : Phase
 
 -- A caller's phase, how many of its changes stand, and how many stood at each level, none at level 0.
 pub record Seat : Type 0 where
   pub phase : Phase
   pub standing : ℕ
   pub kept : List ℕ
+
+-- A seat in memory, and how many Saved entries more it has memory for.
+pub record RoomySeat : Type 0 where
+  pub seat : Seat
+  pub room : ℕ
 
 -- The seat of a caller without a transaction.
 abbrev pub closed_seat : Seat

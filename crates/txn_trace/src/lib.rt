@@ -21,6 +21,8 @@ pub mod laws;
 mod limits;
 mod op;
 mod refusal;
+mod script;
+mod seat;
 mod step;
 #[cfg(test)]
 mod tests;
@@ -31,4 +33,6 @@ pub use entry::Entry;
 pub use limits::Limits;
 pub use op::{Op, Reply};
 pub use refusal::Refusal;
-pub use step::Step;
+pub use script::{Script, Scripts};
+pub use seat::{Phase, Seat};
+pub use step::{Step, entry_of};

@@ -1,5 +1,7 @@
 ghost use Rattle.std.specs.Prelude.{◌≡◌};
 ghost use Rattle.txn_trace.specs.Map.{key_of};
+ghost use Rattle.txn_trace.specs.Shape.{changes};
+ghost use Rattle.txn_trace.specs.Owed.{may_change, owed_for};
 
 /// An operation on one key of a map.
 #[derive(Clone, Copy, Debug, PartialEq, Eq)]
@@ -19,6 +21,33 @@ impl Op {
     {
         let (Op::Put(key, _) | Op::Take(key) | Op::Get(key)) = self;
         key
+    }
+
+    /// Whether the operation is a change on some map: all but `Get`. Constant time.
+    pub fn may_change(self) -> bool
+        ensures { result ≡ may_change self }
+    {
+        !matches!(self, Op::Get(_))
+    }
+
+    /// Whether the operation was a change, if this is its reply: it put a value, or took a key out that
+    /// was there. Constant time.
+    pub fn changes(self, reply: Reply) -> bool
+        ensures { result ≡ changes self reply }
+    {
+        match self {
+            Op::Put(..) => true,
+            Op::Take(_) => reply.is_some(),
+            Op::Get(_) => false,
+        }
+    }
+
+    /// How many entries are owed for the operation while it waits: its reply, and where it may change
+    /// something the undoing of it. Constant time.
+    pub fn owed(self) -> u64
+        ensures { result ≡ owed_for self }
+    {
+        if self.may_change() { 2 } else { 1 }
     }
 }
 

@@ -1,3 +1,9 @@
+ghost use Rattle.std.specs.Prelude.{◌≡◌, option_to_list};
+ghost use Rattle.txn_trace.specs.Entries.{entries_of};
+ghost use Rattle.txn_trace.specs.Owed.{reserved};
+
+use crate::answer::Answer;
+use crate::entry::Entry;
 use crate::op::Op;
 
 /// One step: of a caller or a helper, which is named by its number, or of the table.
@@ -60,4 +66,60 @@ pub enum Step {
     ///
     /// Never refused.
     Double(u64),
+}
+
+impl Step {
+    /// How many entries a core reserves room for in its history before it takes the step. Constant time.
+    pub fn reserved(self) -> u64
+        ensures { result ≡ reserved self }
+    {
+        match self {
+            Step::Begin(_) => 3,
+            Step::Ask(_, op) => 1 + op.owed(),
+            Step::Save(_) => 1,
+            Step::Back(..) => 2,
+            _ => 0,
+        }
+    }
+}
+
+/// The entry that a step with its answer adds to the history, if it adds one. Constant time.
+pub fn entry_of(step: Step, answer: Answer) -> Option<Entry>
+    ensures { option_to_list result ≡ entries_of step answer }
+{
+    match step {
+        Step::Begin(caller) => match answer {
+            Answer::Began(txn) => Some(Entry::Began(caller, txn)),
+            _ => None,
+        },
+        Step::Ask(caller, op) => match answer {
+            Answer::Asked => Some(Entry::Asked(caller, op)),
+            Answer::Busy(holder) => Some(Entry::Busy(caller, op, holder)),
+            _ => None,
+        },
+        Step::Act(caller) => match answer {
+            Answer::Done(reply) => Some(Entry::Did(caller, reply)),
+            Answer::Undone => Some(Entry::Undone(caller)),
+            Answer::Returned(level) => Some(Entry::Returned(caller, level)),
+            Answer::Aborted => Some(Entry::Aborted(caller)),
+            _ => None,
+        },
+        Step::Save(caller) => match answer {
+            Answer::Saved(_) => Some(Entry::Saved(caller)),
+            _ => None,
+        },
+        Step::Back(caller, level) => match answer {
+            Answer::Leaving => Some(Entry::Leave(caller, Some(level))),
+            _ => None,
+        },
+        Step::Commit(caller) => match answer {
+            Answer::Committed(place) => Some(Entry::Committed(caller, place)),
+            _ => None,
+        },
+        Step::Abort(caller) => match answer {
+            Answer::Leaving => Some(Entry::Leave(caller, None)),
+            _ => None,
+        },
+        _ => None,
+    }
 }

@@ -1,6 +1,7 @@
 use Rattle.std.proofs.Common.{◌∙◌, ap, ℕ, false}
 use Rattle.std.proofs.lemmas.Result.{err_from_is_err_and}
 use Rattle.list_steps.proofs.CursorLemmas.{fits_same, fits_linked, still_placed}
+use Rattle.split_key.specs.declared.sort.SortKey.{SortKey}
 use Rattle.node_list.specs.declared.node.Kind.TheVariants.{Dummy}
 use Rattle.node_list.specs.Nodes.{NodeAt, SpareAt, filled}
 use Rattle.bucket_table.specs.Dummies.{IsKeyedNode}
@@ -9,9 +10,9 @@ use Rattle.node_list.proofs.OrderLemmas.{each_linked}
 use Rattle.bucket_table.proofs.LinkLemmas.{unlinked, links_at}
 use Rattle.bucket_table.proofs.buckets.link_dummy.Goals as goal
 
--- A dummy with this split key.
-abbrev dummy_with : ℕ → ℕ → ℕ → NodeAt
-dummy_with place split stamp = record { place = place; split = split; kind = Dummy; value = 0; stamp = stamp; marked = false }
+-- A dummy that stands here.
+abbrev dummy_with : ℕ → SortKey → ℕ → NodeAt
+dummy_with place at stamp = record { place = place; at = at; kind = Dummy; value = 0; stamp = stamp; marked = false }
 
 pub returns-in_err-spare-clause-err : goal.returns-in_err-spare-clause-err
 returns-in_err-spare-clause-err c =
@@ -31,7 +32,7 @@ returns-clause-ok c =
     let given = c.in_ok-spare.ensures.ok in
     let fit = fits_same c.args.list.now c.spare.new.self c.args.cursor given.nodes ∙ c.requires.fits in
     let at_place = c.in-Ok.ensures.place ∙ ap (λ (s : SpareAt). s.place) c.fill.ensures in
-    let filled_is = ap filled c.fill.ensures ∙ ap (λ split. dummy_with c.in_ok-spare.spare.place split c.in_ok-spare.spare.stamp) c.dummy.ensures.value in
+    let filled_is = ap filled c.fill.ensures ∙ ap (λ (at : SortKey). dummy_with c.in_ok-spare.spare.place at c.in_ok-spare.spare.stamp) c.dummy.ensures.value in
     rw at_place (links_at _ _ _ _ _ _ _ given c.in_ok-spare.ensures.stamp (λ last. cc (c.in_ok-spare.ensures.worn.1 last)) c.ranges.bucket.fits
     (fits_linked c.spare.new.self c.args.cursor fit) (filled c.fill.new.self) filled_is c.in-Ok.ensures.ok)
 

@@ -1,10 +1,11 @@
-use Rattle.std.proofs.Common.{refl, sym, ◌∙◌, ap}
+use Rattle.std.proofs.Common.{refl, sym, ◌∙◌, ap, arith}
 use Rattle.node_list.specs.Seen.{seen}
 use Rattle.node_list.proofs.FollowLemmas.{follows_self, follows_twice}
 use Rattle.list_steps.specs.Content.{pairs}
 use Rattle.list_steps.proofs.NodeLemmas.{next_linked, next_node, no_place}
 use Rattle.node_list.proofs.NodesLemmas.{found_linked}
-use Rattle.list_steps.proofs.SeekLemmas.{behind_fewer, behind_next, sought_at_end, sought_passed, sought_stopped, sought_unlinked, pred_from_start, pred_unlinked}
+use Rattle.node_list.proofs.CountLemmas.{length-unlinked}
+use Rattle.list_steps.proofs.SeekLemmas.{behind_fewer, behind_next, sought_at_end, sought_passed, sought_stopped, sought_unlinked, pred_from_start, pred_unlinked, changes_unchanged, changes_unlinked}
 use Rattle.list_steps.proofs.ContentLemmas.{pairs_sought}
 use Rattle.list_steps.proofs.search.seek.Goals as goal
 
@@ -42,6 +43,8 @@ search-preserved-then-node c =
         last = now.last ∙ before.kept.last;
         out = λ place. now.out place ∙ before.kept.out place;
       };
+      fewer = rw now.nodes (omega (arith, before.fewer, length-unlinked _ _ _ next));
+      changes = rw now.nodes (changes_unlinked _ _ _ _ _ _ (length-unlinked _ _ _ next) before.fewer before.changes now.changes);
       follows = follows_twice _ _ _ before.follows c.unlink_after.ensures.follows;
     }
 
@@ -55,30 +58,32 @@ search-preserved c =
     let before = c.search.invariant in
     let next = next_node _ _ _ c.node.ensures.sound.spread (c.node.ensures.next ∙ c.in-Some.is) _ c.node-node.ensures.node in
     record {
-      rest = sought_passed _ _ _ (before.pred c.node.ensures.sound.plain) _ next c.node.ensures.sound.spread c.if-node.false c.if-node-split.true ∙ before.rest;
+      rest = sought_passed _ _ _ (before.pred c.node.ensures.sound.plain) _ next c.node.ensures.sound.spread c.if-node.false (sym c.is_before.ensures ∙ c.if-is_before.true) ∙ before.rest;
       linked = found_linked _ _ _ c.node-node.ensures.node;
       pred = λ _. record {
         node = seen c.in-Some.next c.node-node.result.now;
         is = c.node-node.ensures.node;
         unmarked = c.if-node.false;
-        below = c.if-node-split.true;
+        below = sym c.is_before.ensures ∙ c.if-is_before.true;
       };
       kept = before.kept;
+      fewer = before.fewer;
+      changes = before.changes;
       follows = before.follows;
     }
 
 pub behind-requires-clause-beyond : goal.behind-requires-clause-beyond
 behind-requires-clause-beyond c =
     let next = next_node _ _ _ c.node.ensures.sound.spread (c.node.ensures.next ∙ c.in-Some.is) _ c.node-node.ensures.node in
-    rw next (c.if-node.false, c.if-node-split.false)
+    rw next (c.if-node.false, (sym c.is_before.ensures ∙ c.if-is_before.false))
 
-pub returns-else-node-split-clause-nodes : goal.returns-else-node-split-clause-nodes
-returns-else-node-split-clause-nodes c =
+pub returns-else-is_before-clause-nodes : goal.returns-else-is_before-clause-nodes
+returns-else-is_before-clause-nodes c =
     let next = next_node _ _ _ c.node.ensures.sound.spread (c.node.ensures.next ∙ c.in-Some.is) _ c.node-node.ensures.node in
-    sym (sought_stopped _ _ _ (c.search.invariant.pred c.node.ensures.sound.plain) _ next c.if-node.false c.if-node-split.false) ∙ c.search.invariant.rest
+    sym (sought_stopped _ _ _ (c.search.invariant.pred c.node.ensures.sound.plain) _ next c.if-node.false (sym c.is_before.ensures ∙ c.if-is_before.false)) ∙ c.search.invariant.rest
 
-pub returns-else-node-split-clause-content : goal.returns-else-node-split-clause-content
-returns-else-node-split-clause-content c = ap pairs (returns-else-node-split-clause-nodes c) ∙ pairs_sought _ _ _ c.requires
+pub returns-else-is_before-clause-content : goal.returns-else-is_before-clause-content
+returns-else-is_before-clause-content c = ap pairs (returns-else-is_before-clause-nodes c) ∙ pairs_sought _ _ _ c.requires
 
 pub returns-clause-nodes : goal.returns-clause-nodes
 returns-clause-nodes c =
@@ -94,5 +99,7 @@ search-init c = record {
   pred = pred_from_start _ _ _ c.requires;
   rest = refl;
   kept = record { head = refl; last = refl; out = λ place. refl };
+  fewer = omega arith;
+  changes = changes_unchanged _ _;
   follows = follows_self _;
 }

@@ -1,7 +1,8 @@
-use Rattle.std.proofs.Common.{◌∙◌, sym, subst}
+use Rattle.std.proofs.Common.{◌∙◌, refl, sym, subst}
 use Rattle.map_ops.specs.Sound.{Belong}
 use Rattle.map_ops.proofs.Laws.{no_buckets}
 use Rattle.map_ops.proofs.DoesLemmas.{does_put_new, does_put_over, does_take, does_take_none}
+use Rattle.map_ops.proofs.ChangeLemmas.{written_then_back}
 use Rattle.map_ops.proofs.change.change.Goals as goal
 
 pub link_key-requires-clause-owned : goal.link_key-requires-clause-owned
@@ -38,3 +39,22 @@ pub returns-in-Some-before-clause-does : goal.returns-in-Some-before-clause-does
 returns-in-Some-before-clause-does c = λ buckets.
     let before = rw c.in-Take.is at c.requires.before in
     rw c.in-Take.is (does_take c.args.list.now c.args.list.now c.mark_key.new.list buckets c.in-Take.key c.args.before before c.in-Take.spare c.in-Some-before.old c.in-Some-before.is (c.mark_key.ensures.sets buckets) (c.mark_key.ensures.spares buckets))
+
+pub returns-in-None-clause-writes : goal.returns-in-None-clause-writes
+returns-in-None-clause-writes c = rw (c.in-Put.is, c.in-None.is) c.link_key.ensures.writes
+
+pub returns-in-Some-clause-writes : goal.returns-in-Some-clause-writes
+returns-in-Some-clause-writes c =
+    let back = (c.give_back.ensures.back no_buckets).nodes in
+    rw (c.in-Put.is, c.in-Some.is) (written_then_back _ _ _ _ _ c.swap_key.ensures.writes back.all back.turn)
+
+pub returns-in-None-before-clause-writes : goal.returns-in-None-before-clause-writes
+returns-in-None-before-clause-writes c =
+    let back = (c.give_back-in-None-before.ensures.back no_buckets).nodes in
+    rw (c.in-Take.is, c.in-None-before.is) (record { nodes = back.all; changes = back.turn })
+
+pub returns-in-Some-before-clause-writes : goal.returns-in-Some-before-clause-writes
+returns-in-Some-before-clause-writes c = rw (c.in-Take.is, c.in-Some-before.is) c.mark_key.ensures.writes
+
+pub returns-in-Get-clause-writes : goal.returns-in-Get-clause-writes
+returns-in-Get-clause-writes c = rw c.in-Get.is (record { nodes = refl; changes = refl })

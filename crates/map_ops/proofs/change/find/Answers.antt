@@ -15,10 +15,10 @@ returns-in-Some-clause-value c =
     let small = subst (λ (k : ℕ). k < 2 ^ 63) c.number-number.ensures.same c.number-number.ensures.below in
     let here = rw c.in-Some.is at c.in_ok-node.ensures.ok in
     ap (λ (n : NodeAt). Some n.value) (some-injective (sym c.node.ensures.node ∙ here.is))
-    ∙ sym (get-there c.args.list.now c.args.cursor.now c.args.key c.turn-turn.ensures.sound c.requires.belong c.requires.placed (sym c.in_ok-node.ensures.again) c.requires.split small here.node here.there)
+    ∙ sym (get-there c.args.list.now c.args.cursor.now c.args.key c.changes-changes.ensures.sound c.requires.belong c.requires.placed (sym c.in_ok-node.ensures.again) c.requires.at small here.node here.there)
 
 pub returns-in-None-clause-value : goal.returns-in-None-clause-value
 returns-in-None-clause-value c =
     let small = subst (λ (k : ℕ). k < 2 ^ 63) c.number-number.ensures.same c.number-number.ensures.below in
     let absent = rw c.in-None.is at c.in_ok-node.ensures.ok in
-    sym (get-absent c.args.list.now c.args.cursor.now c.args.key c.turn-turn.ensures.sound c.requires.belong c.requires.placed (sym c.in_ok-node.ensures.again) c.requires.split small absent.none)
+    sym (get-absent c.args.list.now c.args.cursor.now c.args.key c.changes-changes.ensures.sound c.requires.belong c.requires.placed (sym c.in_ok-node.ensures.again) c.requires.at small absent.none)

@@ -13,3 +13,12 @@ returns-in-Restore-clause-back c = λ buckets. rw c.in-Restore.is (takes_back c.
 
 pub returns-in-Relink-clause-back : goal.returns-in-Relink-clause-back
 returns-in-Relink-clause-back c = λ buckets. rw c.in-Relink.is (takes_back c.args.list.now c.link_key.new.list buckets _ (c.link_key.ensures.sets buckets) (c.link_key.ensures.spares buckets))
+
+pub returns-in-Unput-clause-writes : goal.returns-in-Unput-clause-writes
+returns-in-Unput-clause-writes c = rw c.in-Unput.is c.mark_key.ensures.writes
+
+pub returns-in-Restore-clause-writes : goal.returns-in-Restore-clause-writes
+returns-in-Restore-clause-writes c = rw c.in-Restore.is c.swap_key.ensures.writes
+
+pub returns-in-Relink-clause-writes : goal.returns-in-Relink-clause-writes
+returns-in-Relink-clause-writes c = rw c.in-Relink.is c.link_key.ensures.writes

@@ -1,4 +1,5 @@
 use Rattle.std.proofs.Common.{ℕ, ◌%◌, ◌∙◌, ap, sym, subst}
+use Rattle.split_key.specs.declared.sort.SortKey.{SortKey}
 use Rattle.list_steps.specs.Seek.{sought}
 use Rattle.bucket_table.specs.Directory.{IsNearest}
 use Rattle.map_ops.specs.Sound.{Belong}
@@ -9,18 +10,19 @@ use Rattle.map_ops.proofs.change.seek_key.Goals as goal
 
 pub returns-clause-places : goal.returns-clause-places
 returns-clause-places c =
-    places c.args.list.now c.seek.new.list c.args.buckets.now c.args.key _ _ c.seek.result c.turn-turn.ensures.sound c.seek.ensures.nodes c.seek.ensures.kept c.seek.ensures.content
-    c.seek.ensures.found c.seek.ensures.placed c.seek.ensures.fits (c.seek.ensures.split ∙ c.regular.ensures.value)
+    places c.args.list.now c.seek.new.list c.args.buckets.now c.args.key _ _ c.seek.result c.changes-changes.ensures.sound c.seek.ensures.nodes c.seek.ensures.kept c.seek.ensures.content
+    c.seek.ensures.found c.seek.ensures.placed c.seek.ensures.fits (c.seek.ensures.at ∙ c.regular.ensures.value)
 
 pub returns-clause-near : goal.returns-clause-near
 returns-clause-near c = record {
   start = c.nearest-from.result;
   nearest = subst (λ (bucket : ℕ). IsNearest c.args.buckets.now bucket c.nearest-from.result) (c.bucket_of-bucket.ensures.value ∙ ap (λ (size : ℕ). c.args.key % size) c.size.ensures.size) c.nearest-from.ensures.nearest;
-  nodes = c.seek.ensures.nodes ∙ ap (λ (at : ℕ). sought c.args.list.now.nodes c.nearest-from.result at) c.regular.ensures.value;
+  nodes = c.seek.ensures.nodes ∙ ap (λ (at : SortKey). sought c.args.list.now.nodes c.nearest-from.result at) c.regular.ensures.value;
+  changes = c.seek.ensures.changes;
 }
 
 pub returns-clause-belong : goal.returns-clause-belong
 returns-clause-belong c = subst Belong (sym c.seek.ensures.nodes) (belong_sought _ _ _ c.requires.belong)
 
 pub returns-clause-rises : goal.returns-clause-rises
-returns-clause-rises c = turn_rises c.args.list.now c.seek.new.list c.turn-turn.result c.seek.ensures.follows c.turn-turn.ensures.turn c.turn-turn.type_inv
+returns-clause-rises c = turn_rises c.args.list.now c.seek.new.list c.changes-changes.result c.seek.ensures.follows c.changes-changes.ensures.changes c.changes-changes.type_inv

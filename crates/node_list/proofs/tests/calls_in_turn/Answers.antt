@@ -1,8 +1,8 @@
 use Rattle.std.proofs.Common.{◌≡◌, ◌<◌, Some, sym, ◌∙◌, ap, arith}
 use Rattle.node_list.specs.Nodes.{NodeAt, IsLinked, filled, next_of}
-use Rattle.node_list.specs.Order.{IsBefore}
+use Rattle.node_list.specs.Order.{IsNodeBefore}
 use Rattle.node_list.specs.Seen.{seen}
-use Rattle.node_list.proofs.OrderLemmas.{some-none, before-split, rising_linked}
+use Rattle.node_list.proofs.OrderLemmas.{some-none, rising_linked}
 use Rattle.node_list.proofs.NodesLemmas.{found_linked, linked_more, next_linked, next-found, next_of-single, still_linked, now_linked, marked_linked, written_linked}
 use Rattle.node_list.proofs.tests.calls_in_turn.Goals as goal
 
@@ -14,11 +14,11 @@ pub link_after-requires-clause-order : goal.link_after-requires-clause-order
 link_after-requires-clause-order g c =
     let sound = c.head-head.ensures.sound in
     let x : NodeAt = filled c.fill.new.self in
-    let above : sound.first.node.split < x.split = rw (sound.first.split, c.fill.ensures) (omega arith) in
-    let last : (m : NodeAt) → next_of c.in_ok-list.list.nodes c.in_ok-list.list.head ≡ Some m → IsBefore x m = λ m is.
+    let above : IsNodeBefore sound.first.node x = rw (sound.first.at, c.fill.ensures) c.regular-at.ensures.behind_first in
+    let last : (m : NodeAt) → next_of c.in_ok-list.list.nodes c.in_ok-list.list.head ≡ Some m → IsNodeBefore x m = λ m is.
     absurd (some-none (sym is ∙ ap (λ nodes. next_of nodes c.in_ok-list.list.head) c.in_ok-list.ensures.nodes ∙ next_of-single _ _)) in
     rw (c.in_ok-spare.ensures.ok.nodes, c.head-head.ensures.place)
-    (rising_linked _ _ sound.first.node x sound.rising sound.first.is (before-split _ _ above) last)
+    (rising_linked _ _ sound.first.node x sound.rising sound.first.is above last)
 
 pub write-requires : goal.write-requires
 write-requires g c =

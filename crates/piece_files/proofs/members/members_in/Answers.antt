@@ -1,13 +1,11 @@
-use Rattle.std.proofs.Common.{sym, ap, subst, ◌∙◌, arith}
-use Rattle.piece_files.specs.Faults.{Fails, or_fault}
-use Rattle.piece_files.specs.declared.file_fault.FileFault.TheVariants.{NotJson}
-use Rattle.piece_files.proofs.Read.{json_of-is, json_of-unread, match_weaker}
+use Rattle.std.proofs.Common.{◌≡◌, length, map, arith}
+use Rattle.std.proofs.lemmas.List.{length-map}
+use Rattle.piece_files.specs.Members.{kind_named}
+use Rattle.piece_files.proofs.Taken.{nothing_found}
 use Rattle.piece_files.proofs.members.members_in.Goals as goal
 
-pub returns-in_default : goal.returns-in_default
-returns-in_default g c = json_of-unread c.args.bytes.now (omega arith) (λ text. absurd (c.in_default.ensures.cases.0 text))
-
-pub returns : goal.returns
-returns g c =
-    let is = json_of-is c.args.bytes.now c.in-Ok.text.now (omega arith) c.in-Ok.ensures.cases.1 c.in-Ok.ensures.cases.0 in
-    match_weaker c.members_in_text.result (λ found h. (h.0, is ∙ ap (or_fault NotJson) h.1, h.2)) (λ fault h. subst (Fails fault) (sym is) h) c.members_in_text.ensures
+pub take_value-requires : goal.take_value-requires
+take_value-requires g c =
+    let kind = kind_named c.args.names g.K.PieceKind.of g.K.PieceKind.part g.K.PieceKind.most in
+    let same : length kind.numbers ≡ g.row.N = rw length-map c.requires.many in
+    (omega arith, (c.requires.many, (c.requires.apart, nothing_found kind g.row.N same)))

@@ -9,7 +9,7 @@ use Rattle.piece_files.proofs.Values.{value_at-none}
 use Rattle.piece_files.proofs.members.take_members.Goals as goal
 
 pub members-init : goal.members-init
-members-init g c = (length c.args.reader.now, no_members, omega arith, refl, c.requires)
+members-init g c = (length c.args.reader.now, no_members, omega arith, refl, c.requires.nothing)
 
 pub returns-in_err-key-clause-err : goal.returns-in_err-key-clause-err
 returns-in_err-key-clause-err g c refused =
@@ -35,8 +35,8 @@ members-preserved g c =
     let s = c.next_key.new.self in
     let named : read_key l.reader ≡ Some (Some k, s) = grind arith in
     let first : s ≡ token_of c.in_ok-token.token ∷ c.next.new.self = grind arith in
-    let done = c.in_ok-take.ensures in
-    let r = c.take.new.reader in
+    let done = c.in_ok-take_member.ensures in
+    let r = c.take_member.new.reader in
     let less = read_key-shorter l.reader (Some k) s named in
     let fewer = ap length first in
     let shorter = done.shorter in
@@ -48,14 +48,14 @@ members-preserved g c =
       done.ok.2 old l.invariant.4,
     )
 
-pub returns-in_err-take-clause-err : goal.returns-in_err-take-clause-err
-returns-in_err-take-clause-err g c refused =
+pub returns-in_err-take_member-clause-err : goal.returns-in_err-take_member-clause-err
+returns-in_err-take_member-clause-err g c refused =
     let l = c.members in
     let k = c.in-Some.key.now in
     let s = c.next_key.new.self in
     let named : read_key l.reader ≡ Some (Some k, s) = grind arith in
     let first : s ≡ token_of c.in_ok-token.token ∷ c.next.new.self = grind arith in
-    let none = ap (value_at c.args.depth) first ∙ c.in_err-take.ensures.err (grind arith) in
+    let none = ap (value_at c.args.depth) first ∙ c.in_err-take_member.ensures.err (grind arith) in
     l.invariant.3 ∙ member_refused (value c.args.depth) l.invariant.1 l.invariant.0 k l.reader s named none
 
 pub returns-clause-ok : goal.returns-clause-ok

@@ -5,6 +5,7 @@ use Rattle.json.specs.Reads.{token_of}
 use Rattle.serde_json.specs.Data.{object}
 use Rattle.serde_json.specs.Read.{max_depth}
 use Rattle.piece_files.specs.Tokens.{value_at, members_at}
+use Rattle.piece_files.specs.Members.{AreFound, kind_named}
 use Rattle.piece_files.proofs.ValueKinds.{is_not_object}
 use Rattle.piece_files.proofs.Values.{value_at-none, value_at-object}
 use Rattle.piece_files.proofs.members.take_value.Goals as goal
@@ -30,8 +31,9 @@ pub returns-in_ok-pass_value-in-BeginArray : goal.returns-in_ok-pass_value-in-Be
 returns-in_ok-pass_value-in-BeginArray g c =
     let first : c.args.reader.now ≡ token_of c.in_ok-token.token ∷ c.next.new.self = grind arith in
     let w = c.in_ok-pass_value-in-BeginArray.ensures.ok in
+    let f = c.args.found.now in
     let none = is_not_object max_depth (token_of c.in_ok-token.token) c.next.new.self c.pass_value.new.reader w.0 w.1 (grind arith) in
     record {
-      ok = (w.0, ap (value_at max_depth) first ∙ w.1, subst (g.W.Wanted.found c.args.wanted.now) (sym none) c.requires);
+      ok = (w.0, ap (value_at max_depth) first ∙ w.1, subst (AreFound (kind_named c.args.names g.K.PieceKind.of g.K.PieceKind.part g.K.PieceKind.most) f.version f.numbers f.pieces) (sym none) c.requires.nothing);
       err = λ e. absurd (grind (arith, e));
     }

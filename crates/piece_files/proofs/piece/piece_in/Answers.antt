@@ -29,5 +29,6 @@ returns-in_ok-pass_value-in-BeginObject g c =
     record {
       ok = (w.0, w.1, sym (ap (option_and_then g.K.PieceKind.of) (is_not_array c.args.depth (token_of c.args.token) c.args.reader.now c.pass_value.new.reader w.0 w.1 (grind arith))));
       err = λ e. absurd (grind (arith, e));
+      memory = λ e. absurd (grind (arith, e));
       shorter = c.in_ok-pass_value-in-BeginObject.ensures.shorter;
     }

@@ -4,31 +4,31 @@ use Rattle.json.specs.Reads.{token_of}
 use Rattle.piece_files.specs.Tokens.{value_at, items_at, IsPlain}
 use Rattle.piece_files.proofs.ElementLists.{AreKept, before, before-none, nothing_before, one_more, nothing_kept, keep_one, keep_no_more, keep_none}
 use Rattle.piece_files.proofs.Turns.{item_turn, item_refused, items_over}
-use Rattle.piece_files.proofs.Values.{value_at-none}
+use Rattle.piece_files.proofs.Values.{in_any_error, value_at-none}
 use Rattle.piece_files.proofs.plain.plain_elements.Goals as goal
 
 pub elements-init : goal.elements-init
-elements-init c =
-    (length c.args.reader.now, [], omega arith, nothing_before (items_at c.args.depth c.args.reader.now), omega arith, rw c.new-elements.ensures.items (nothing_kept c.args.most))
+elements-init g c =
+    (length c.args.reader.now, [], omega arith, nothing_before (items_at c.args.depth c.args.reader.now), omega arith, rw c.new-elements.ensures (nothing_kept g.row.MOST))
 
 pub returns-in_err-token-clause-err : goal.returns-in_err-token-clause-err
-returns-in_err-token-clause-err c refused =
+returns-in_err-token-clause-err g c =
     let l = c.elements in
     let going : (after_end_array l.reader ≡ None) × (c.take_end_array.new.self ≡ l.reader) = grind arith in
     let empty : c.take_end_array.new.self ≡ [] = grind arith in
     let none = ap (value_at c.args.depth) (sym going.1 ∙ empty) ∙ value_at-none c.args.depth in
-    l.invariant.3 ∙ ap (parse_map (before l.invariant.1)) (item_refused (value c.args.depth) l.invariant.0 l.reader going.0 none)
+    in_any_error c.from_residual.result (l.invariant.3 ∙ ap (parse_map (before l.invariant.1)) (item_refused (value c.args.depth) l.invariant.0 l.reader going.0 none))
 
 pub returns-in_err-element-clause-err : goal.returns-in_err-element-clause-err
-returns-in_err-element-clause-err c refused =
+returns-in_err-element-clause-err g c =
     let l = c.elements in
     let going : (after_end_array l.reader ≡ None) × (c.take_end_array.new.self ≡ l.reader) = grind arith in
     let first : c.take_end_array.new.self ≡ token_of c.in_ok-token.token ∷ c.next.new.self = grind arith in
-    let none = ap (value_at c.args.depth) (sym going.1 ∙ first) ∙ c.in_err-element.ensures.err (grind arith) in
-    l.invariant.3 ∙ ap (parse_map (before l.invariant.1)) (item_refused (value c.args.depth) l.invariant.0 l.reader going.0 none)
+    let none = ap (value_at c.args.depth) (sym going.1 ∙ first) ∙ c.in_err-element.ensures.err in
+    in_any_error c.from_residual-in_err-element.result (l.invariant.3 ∙ ap (parse_map (before l.invariant.1)) (item_refused (value c.args.depth) l.invariant.0 l.reader going.0 none))
 
-pub elements-preserved-in-Continue-branch-3 : goal.elements-preserved-in-Continue-branch-3
-elements-preserved-in-Continue-branch-3 c =
+pub elements-preserved-then-len : goal.elements-preserved-then-len
+elements-preserved-then-len g c =
     let l = c.elements in
     let n = l.invariant.0 in
     let ds = l.invariant.1 in
@@ -45,11 +45,11 @@ elements-preserved-in-Continue-branch-3 c =
       omega (arith, l.invariant.2, fewer, shorter),
       l.invariant.3 ∙ ap (parse_map (before ds)) turn ∙ one_more ds done.ok.0 _,
       omega (arith, l.invariant.4, fewer, shorter),
-      rw c.in_ok-push-in-Some.ensures.items (keep_one c.args.most l.are_plain l.elements.items ds c.in-Some.value done.ok.0 seen (omega (arith, c.if-len-most.true, c.len.ensures)) l.invariant.5),
+      rw c.push.ensures.items (keep_one g.row.MOST l.are_plain l.elements.items ds c.in-Some.value done.ok.0 seen (omega (arith, c.if-len.true, c.len.ensures)) l.invariant.5),
     )
 
-pub elements-preserved-else-len-most : goal.elements-preserved-else-len-most
-elements-preserved-else-len-most c =
+pub elements-preserved-else-len : goal.elements-preserved-else-len
+elements-preserved-else-len g c =
     let l = c.elements in
     let n = l.invariant.0 in
     let ds = l.invariant.1 in
@@ -66,74 +66,11 @@ elements-preserved-else-len-most c =
       omega (arith, l.invariant.2, fewer, shorter),
       l.invariant.3 ∙ ap (parse_map (before ds)) turn ∙ one_more ds done.ok.0 _,
       omega (arith, l.invariant.4, fewer, shorter),
-      keep_no_more c.args.most l.are_plain l.elements.items ds done.ok.0 (omega (arith, c.if-len-most.false, c.len.ensures)) l.invariant.5,
-    )
-
-pub elements-preserved-else-len-most-2 : goal.elements-preserved-else-len-most-2
-elements-preserved-else-len-most-2 c =
-    let l = c.elements in
-    let n = l.invariant.0 in
-    let ds = l.invariant.1 in
-    let going : (after_end_array l.reader ≡ None) × (c.take_end_array.new.self ≡ l.reader) = grind arith in
-    let first : c.take_end_array.new.self ≡ token_of c.in_ok-token.token ∷ c.next.new.self = grind arith in
-    let done = c.in_ok-element.ensures in
-    let r = c.plain_value.new.reader in
-    let fewer = ap length (sym going.1 ∙ first) in
-    let shorter = done.shorter in
-    let seen = subst (λ o. IsPlain o done.ok.0) c.in-Some.is done.ok.2 in
-    let turn = item_turn (value c.args.depth) n l.reader r done.ok.0 (omega (arith, l.invariant.2, fewer)) going.0 (ap (value_at c.args.depth) (sym going.1 ∙ first) ∙ done.ok.1) in (
-      n - 1,
-      ds ++ done.ok.0 ∷ [],
-      omega (arith, l.invariant.2, fewer, shorter),
-      l.invariant.3 ∙ ap (parse_map (before ds)) turn ∙ one_more ds done.ok.0 _,
-      omega (arith, l.invariant.4, fewer, shorter),
-      keep_no_more c.args.most l.are_plain l.elements.items ds done.ok.0 (omega (arith, c.if-len-most.false, c.len.ensures)) l.invariant.5,
-    )
-
-pub elements-preserved-else-len-most-3 : goal.elements-preserved-else-len-most-3
-elements-preserved-else-len-most-3 c =
-    let l = c.elements in
-    let n = l.invariant.0 in
-    let ds = l.invariant.1 in
-    let going : (after_end_array l.reader ≡ None) × (c.take_end_array.new.self ≡ l.reader) = grind arith in
-    let first : c.take_end_array.new.self ≡ token_of c.in_ok-token.token ∷ c.next.new.self = grind arith in
-    let done = c.in_ok-element.ensures in
-    let r = c.plain_value.new.reader in
-    let fewer = ap length (sym going.1 ∙ first) in
-    let shorter = done.shorter in
-    let seen = subst (λ o. IsPlain o done.ok.0) c.in-Some.is done.ok.2 in
-    let turn = item_turn (value c.args.depth) n l.reader r done.ok.0 (omega (arith, l.invariant.2, fewer)) going.0 (ap (value_at c.args.depth) (sym going.1 ∙ first) ∙ done.ok.1) in (
-      n - 1,
-      ds ++ done.ok.0 ∷ [],
-      omega (arith, l.invariant.2, fewer, shorter),
-      l.invariant.3 ∙ ap (parse_map (before ds)) turn ∙ one_more ds done.ok.0 _,
-      omega (arith, l.invariant.4, fewer, shorter),
-      keep_no_more c.args.most l.are_plain l.elements.items ds done.ok.0 (omega (arith, c.if-len-most.false, c.len.ensures)) l.invariant.5,
-    )
-
-pub elements-preserved-else-len-most-4 : goal.elements-preserved-else-len-most-4
-elements-preserved-else-len-most-4 c =
-    let l = c.elements in
-    let n = l.invariant.0 in
-    let ds = l.invariant.1 in
-    let going : (after_end_array l.reader ≡ None) × (c.take_end_array.new.self ≡ l.reader) = grind arith in
-    let first : c.take_end_array.new.self ≡ token_of c.in_ok-token.token ∷ c.next.new.self = grind arith in
-    let done = c.in_ok-element.ensures in
-    let r = c.plain_value.new.reader in
-    let fewer = ap length (sym going.1 ∙ first) in
-    let shorter = done.shorter in
-    let seen = subst (λ o. IsPlain o done.ok.0) c.in-Some.is done.ok.2 in
-    let turn = item_turn (value c.args.depth) n l.reader r done.ok.0 (omega (arith, l.invariant.2, fewer)) going.0 (ap (value_at c.args.depth) (sym going.1 ∙ first) ∙ done.ok.1) in (
-      n - 1,
-      ds ++ done.ok.0 ∷ [],
-      omega (arith, l.invariant.2, fewer, shorter),
-      l.invariant.3 ∙ ap (parse_map (before ds)) turn ∙ one_more ds done.ok.0 _,
-      omega (arith, l.invariant.4, fewer, shorter),
-      keep_no_more c.args.most l.are_plain l.elements.items ds done.ok.0 (omega (arith, c.if-len-most.false, c.len.ensures)) l.invariant.5,
+      keep_no_more g.row.MOST l.are_plain l.elements.items ds done.ok.0 (omega (arith, c.if-len.false, c.len.ensures)) l.invariant.5,
     )
 
 pub elements-preserved : goal.elements-preserved
-elements-preserved c =
+elements-preserved g c =
     let l = c.elements in
     let n = l.invariant.0 in
     let ds = l.invariant.1 in
@@ -150,19 +87,19 @@ elements-preserved c =
       omega (arith, l.invariant.2, fewer, shorter),
       l.invariant.3 ∙ ap (parse_map (before ds)) turn ∙ one_more ds done.ok.0 _,
       omega (arith, l.invariant.4, fewer, shorter),
-      keep_none c.args.most l.elements.items ds done.ok.0 seen,
+      keep_none g.row.MOST l.elements.items ds done.ok.0 seen,
     )
 
 pub returns-then-are_plain-clause-ok : goal.returns-then-are_plain-clause-ok
-returns-then-are_plain-clause-ok c =
+returns-then-are_plain-clause-ok g c =
     let l = c.elements in
     let ds = l.invariant.1 in
     let r = c.take_end_array.new.self in
-    (ds, l.invariant.3 ∙ ap (parse_map (before ds)) (items_over (value c.args.depth) l.invariant.0 l.reader r l.invariant.2 (grind arith)) ∙ ap (λ x. Some (x, r)) (before-none ds), subst (λ b. AreKept c.args.most b l.elements.items ds) c.if-are_plain.true l.invariant.5)
+    (ds, l.invariant.3 ∙ ap (parse_map (before ds)) (items_over (value c.args.depth) l.invariant.0 l.reader r l.invariant.2 (grind arith)) ∙ ap (λ x. Some (x, r)) (before-none ds), subst (λ b. AreKept g.row.MOST b l.elements.items ds) c.if-are_plain.true l.invariant.5)
 
 pub returns-else-are_plain-clause-ok : goal.returns-else-are_plain-clause-ok
-returns-else-are_plain-clause-ok c =
+returns-else-are_plain-clause-ok g c =
     let l = c.elements in
     let ds = l.invariant.1 in
     let r = c.take_end_array.new.self in
-    (ds, l.invariant.3 ∙ ap (parse_map (before ds)) (items_over (value c.args.depth) l.invariant.0 l.reader r l.invariant.2 (grind arith)) ∙ ap (λ x. Some (x, r)) (before-none ds), subst (λ b. AreKept c.args.most b l.elements.items ds) c.if-are_plain.false l.invariant.5)
+    (ds, l.invariant.3 ∙ ap (parse_map (before ds)) (items_over (value c.args.depth) l.invariant.0 l.reader r l.invariant.2 (grind arith)) ∙ ap (λ x. Some (x, r)) (before-none ds), subst (λ b. AreKept g.row.MOST b l.elements.items ds) c.if-are_plain.false l.invariant.5)

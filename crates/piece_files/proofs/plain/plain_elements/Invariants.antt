@@ -7,11 +7,11 @@ use Rattle.piece_files.proofs.ElementLists.{before, AreKept}
 use Rattle.piece_files.proofs.plain.plain_elements.Given as goal
 
 abbrev pub invariant-elements : goal.invariant-elements
-invariant-elements l =
+invariant-elements g l =
     (n : ℕ) × (ds : List Data) × (length l.reader ≤ n)
     × (items_at l.depth l.initial.reader ≡ parse_map (before ds) (converted of_items (items (value l.depth) n l.reader)))
     × (length l.reader ≤ length l.initial.reader)
-    × AreKept l.most l.are_plain l.elements.items ds
+    × AreKept g.row.MOST l.are_plain l.elements.items ds
 
 abbrev pub decreases-elements : goal.decreases-elements
-decreases-elements l = length l.reader
+decreases-elements g l = length l.reader

@@ -4,18 +4,13 @@ use Rattle.boost_core.specs.declared.session.Session.{Session}
 use Rattle.boost_core.specs.State.{State, seat_in}
 use Rattle.boost_core.specs.Refusals.{has_job}
 use Rattle.boost_core.proofs.Calls.{seat_past}
-use Rattle.boost_core.proofs.Refused.{index_at, level_here, seat_here}
+use Rattle.boost_core.proofs.Refused.{index_at, seat_here}
 use Rattle.boost_core.proofs.machine.Core.has_job.Goals as goal
-
-pub has_job-requires : goal.has_job-requires
-has_job-requires c =
-    let at = subst (λ (xs : List Session). slice_get xs c.args.caller ≡ Some c.in-Some.session.now) c.deref.ensures.value (index_at c.deref.result.now c.args.caller c.in-Some.session.now c.in-Some.ensures.lookup.3.0 c.in-Some.ensures.lookup.1) in
-    level_here _ _ _ _ _ _ _ _ c.self.invariant.tells c.args.caller c.in-Some.session.now at
 
 pub returns-in-Some : goal.returns-in-Some
 returns-in-Some c =
     let at = subst (λ (xs : List Session). slice_get xs c.args.caller ≡ Some c.in-Some.session.now) c.deref.ensures.value (index_at c.deref.result.now c.args.caller c.in-Some.session.now c.in-Some.ensures.lookup.3.0 c.in-Some.ensures.lookup.1) in
-    c.has_job.ensures ∙ ap has_job (sym (seat_here _ _ _ _ _ _ _ _ c.self.invariant.tells c.args.caller c.in-Some.session.now at)) ∙ ap (λ (s : State). has_job (seat_in s.history c.args.caller)) c.self.view_is
+    c.has_job.ensures ∙ ap has_job (sym (seat_here _ c.self.invariant.tells c.args.caller c.in-Some.session.now at)) ∙ ap (λ (s : State). has_job (seat_in s.history c.args.caller)) c.self.view_is
 
 pub returns-in-None : goal.returns-in-None
 returns-in-None c =

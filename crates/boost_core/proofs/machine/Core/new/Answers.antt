@@ -21,4 +21,4 @@ pub returns-clause-ok : goal.returns-clause-ok
 returns-clause-ok c =
     let new : IsNew c.in-Ok.table c.args.limits.buckets c.args.limits.callers = subst (λ n. IsNew c.in-Ok.table n c.args.limits.callers) c.buckets.ensures.value (subst (IsNew c.in-Ok.table c.buckets.result) c.callers.ensures.value c.in-Ok.ensures) in
     let count = c.in-Ok-idle_sessions.ensures.length ∙ c.callers-2.ensures.value in
-    rw c.new-3.ensures.items (start_is c.args.limits c.in-Ok.table new c.in-Ok-idle_sessions.sessions.items count c.in-Ok-idle_sessions.ensures.idle)
+    rw c.new-3.ensures.items (start_is c.args.limits c.in-Ok.table new c.in-Ok-idle_sessions.sessions.items count c.in-Ok-idle_sessions.ensures.idle c.in-Ok-new.locks)

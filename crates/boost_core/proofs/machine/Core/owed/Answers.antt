@@ -5,4 +5,4 @@ use Rattle.boost_core.proofs.Owing.{owed_is}
 use Rattle.boost_core.proofs.machine.Core.owed.Goals as goal
 
 pub returns : goal.returns
-returns c = c.self.invariant.owes ∙ sym (owed_is _ _ _ _ _ _ _ _ c.self.invariant.tells) ∙ ap (λ (s : State). owed s.limits.callers s.history) c.self.view_is
+returns c = c.self.invariant.owes ∙ sym (owed_is _ c.self.invariant.tells) ∙ ap (λ (s : State). owed s.limits.callers s.history) c.self.view_is

@@ -13,14 +13,14 @@ use Rattle.boost_core.proofs.machine.Core.take_back.Goals as goal
 pub loop-self-preserved : goal.loop-self-preserved
 loop-self-preserved c =
     let so_far = c.loop-self.invariant in
-    let back = took_back c.loop-self.self c.seek.new.self c.act.new.self c.args.caller c.seek.result c.act.result (ap (λ (l : Sizes). nat_le l.callers c.args.caller) so_far.limits ∙ c.requires.within) (ap is_leaving so_far.phase ∙ c.requires.leaves) (sym c.has_job.ensures ∙ c.loop-self-test.true)
-    c.seek.ensures.moves c.seek.ensures.cursor c.act.ensures in
+    let back = took_back c.loop-self.self c.call.new.self c.call-in-loop-self.new.self c.args.caller c.call.result c.call-in-loop-self.result (ap (λ (l : Sizes). nat_le l.callers c.args.caller) so_far.limits ∙ c.requires.within) (ap is_leaving so_far.phase ∙ c.requires.leaves) (sym c.has_job.ensures ∙ c.loop-self-test.true)
+    c.call.ensures.moves c.call.ensures.cursor c.call-in-loop-self.ensures.moves in
     record {
       changes = suc so_far.changes;
       moves = λ steps answers new moves. so_far.moves (Seek c.args.caller ∷ Act c.args.caller ∷ steps) (Placed ∷ Undone ∷ answers) new (
-        c.seek.new.self,
-        subst (λ (a : Answer). Move c.loop-self.self (Seek c.args.caller) a c.seek.new.self) back.placed c.seek.ensures.moves,
-        (c.act.new.self, subst (λ (a : Answer). Move c.seek.new.self (Act c.args.caller) a c.act.new.self) back.undone c.act.ensures, moves),
+        c.call.new.self,
+        subst (λ (a : Answer). Move c.loop-self.self (Seek c.args.caller) a c.call.new.self) back.placed c.call.ensures.moves,
+        (c.call-in-loop-self.new.self, subst (λ (a : Answer). Move c.call.new.self (Act c.args.caller) a c.call-in-loop-self.new.self) back.undone c.call-in-loop-self.ensures.moves, moves),
       );
       limits = back.limits ∙ so_far.limits;
       phase = back.phase ∙ so_far.phase;
@@ -29,17 +29,17 @@ loop-self-preserved c =
 pub loop-self-smaller : goal.loop-self-smaller
 loop-self-smaller c =
     let so_far = c.loop-self.invariant in
-    let back = took_back c.loop-self.self c.seek.new.self c.act.new.self c.args.caller c.seek.result c.act.result (ap (λ (l : Sizes). nat_le l.callers c.args.caller) so_far.limits ∙ c.requires.within) (ap is_leaving so_far.phase ∙ c.requires.leaves) (sym c.has_job.ensures ∙ c.loop-self-test.true)
-    c.seek.ensures.moves c.seek.ensures.cursor c.act.ensures in
+    let back = took_back c.loop-self.self c.call.new.self c.call-in-loop-self.new.self c.args.caller c.call.result c.call-in-loop-self.result (ap (λ (l : Sizes). nat_le l.callers c.args.caller) so_far.limits ∙ c.requires.within) (ap is_leaving so_far.phase ∙ c.requires.leaves) (sym c.has_job.ensures ∙ c.loop-self-test.true)
+    c.call.ensures.moves c.call.ensures.cursor c.call-in-loop-self.ensures.moves in
     back.fewer
 
 pub returns-clause-ends : goal.returns-clause-ends
 returns-clause-ends c =
     let so_far = c.loop-self.invariant in
-    (so_far.changes, so_far.moves (Act c.args.caller ∷ []) (c.act-2.result ∷ []) c.act-2.new.self (c.act-2.new.self, c.act-2.ensures, refl))
+    (so_far.changes, so_far.moves (Act c.args.caller ∷ []) (c.call-2.result ∷ []) c.call-2.new.self (c.call-2.new.self, c.call-2.ensures.moves, refl))
 
 pub returns-clause-answer : goal.returns-clause-answer
 returns-clause-answer c =
     let so_far = c.loop-self.invariant in
-    act_ends c.loop-self.self c.act-2.new.self c.args.caller c.act-2.result (ap (λ (l : Sizes). nat_le l.callers c.args.caller) so_far.limits ∙ c.requires.within) (ap is_leaving so_far.phase ∙ c.requires.leaves) (sym c.has_job.ensures ∙ c.loop-self-test.false) c.act-2.ensures
+    act_ends c.loop-self.self c.call-2.new.self c.args.caller c.call-2.result (ap (λ (l : Sizes). nat_le l.callers c.args.caller) so_far.limits ∙ c.requires.within) (ap is_leaving so_far.phase ∙ c.requires.leaves) (sym c.has_job.ensures ∙ c.loop-self-test.false) c.call-2.ensures.moves
     ∙ ap end_of so_far.phase

@@ -1,18 +1,21 @@
-use Rattle.std.proofs.Common.{refl, ◌≤◌, ◌+◌, length, arith, ◌∙◌}
+use Rattle.std.proofs.Common.{ap, List, ◌≡◌, ◌≤◌, ◌+◌, length, arith, ◌∙◌}
+use Rattle.map_ops.specs.declared.job.MapJob.{MapJob}
 use Rattle.boost_core.specs.Spares.{times_in, times_out}
-use Rattle.boost_core.proofs.Settling.{rests_more, newest_owned, popped_covered, popped_own, none_left, front_none}
+use Rattle.boost_core.proofs.Settling.{rests_more, newest_owned, popped_covered, no_jobs, none_left, front_none}
 use Rattle.boost_core.proofs.session.Session.settle.Goals as goal
 
 pub discard-requires : goal.discard-requires
-discard-requires c = newest_owned c.loop-job.table c.loop-job.self.log.jobs c.pop_above.new.self.jobs c.in-Some.job c.in-Some.ensures.jobs c.loop-job.invariant.own
+discard-requires c = newest_owned c.loop-job.table c.loop-job.self.log.jobs c.pop_above.new.self.jobs c.in-Some.job c.in-Some.ensures.jobs c.loop-job.invariant.own.0 c.loop-job.invariant.own.1
 
 pub loop-job-preserved : goal.loop-job-preserved
 loop-job-preserved c = record {
   rests = rests_more _ c.loop-job.table c.discard.new.self _ c.loop-job.invariant.rests c.discard.ensures.back c.discard.ensures.follows;
-  own = popped_own c.loop-job.table c.discard.new.self c.loop-job.self.log.jobs c.pop_above.new.self.jobs c.in-Some.job c.in-Some.ensures.jobs c.discard.ensures.back c.loop-job.invariant.own;
+  own = (c.loop-job.invariant.own.0, popped_covered c.loop-job.table c.discard.new.self c.loop-job.self.log.jobs c.pop_above.new.self.jobs c.in-Some.job c.in-Some.ensures.jobs c.discard.ensures.back c.loop-job.invariant.own.0 c.loop-job.invariant.own.1);
   spares = λ others covered. popped_covered c.loop-job.table c.discard.new.self c.loop-job.self.log.jobs c.pop_above.new.self.jobs c.in-Some.job c.in-Some.ensures.jobs c.discard.ensures.back others (c.loop-job.invariant.spares others covered);
   kept = c.in-Some.ensures.kept ∙ c.loop-job.invariant.kept;
   cursor = c.loop-job.invariant.cursor;
+  seat = c.loop-job.invariant.seat;
+  waits = c.loop-job.invariant.waits;
 }
 
 pub returns : goal.returns
@@ -21,9 +24,11 @@ returns c =
     record {
       rests = c.loop-job.invariant.rests;
       spares = λ others covered place stamp.
-          let most : others place stamp + times_in c.loop-job.self.log.jobs place stamp ≤ times_out c.loop-job.table place stamp = c.loop-job.invariant.spares others covered place stamp in
+          let none_kept : times_in c.loop-job.self.log.jobs place stamp ≡ 0 = ap (λ (jobs : List MapJob). times_in jobs place stamp) (no_jobs c.loop-job.self.log.jobs none) in
+          let exact : others place stamp + times_in c.loop-job.self.log.jobs place stamp ≡ times_out c.loop-job.table place stamp = c.loop-job.invariant.spares others covered place stamp in
           omega arith;
-      stage = refl;
+      seat = c.loop-job.invariant.seat;
+      waits = c.loop-job.invariant.waits;
       cursor = c.loop-job.invariant.cursor;
       jobs = c.cut.ensures.jobs ∙ front_none c.loop-job.self.log.jobs c.pop_above.new.self.jobs _ c.pop_above.ensures.jobs none;
       kept = c.cut.ensures.kept;

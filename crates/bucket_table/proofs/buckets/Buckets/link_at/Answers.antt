@@ -4,9 +4,9 @@ use Rattle.std.proofs.lemmas.Result.{err_from_is_err_and}
 use Rattle.std.proofs.lemmas.Option.{slice_get_within}
 use Rattle.node_list.specs.Nodes.{Listing}
 use Rattle.list_steps.specs.declared.cursor.Cursor.{Cursor}
-use Rattle.list_steps.specs.Found.{split_of}
+use Rattle.list_steps.specs.Found.{at_of}
 use Rattle.list_steps.specs.Steps.{Finds}
-use Rattle.split_key.specs.Split.{reversed}
+use Rattle.split_key.specs.Sort.{dummy_at}
 use Rattle.bucket_table.specs.declared.helper.Helper.{Helper}
 use Rattle.bucket_table.specs.declared.helper.Helper.TheVariants.{Seeking}
 use Rattle.bucket_table.specs.Dummies.{IsDummyAt, IsKeyed, has_dummy}
@@ -16,8 +16,8 @@ use Rattle.bucket_table.proofs.HomeLemmas.{still_home, home_with_helper}
 use Rattle.bucket_table.proofs.LinkLemmas.{there_dummy, there_had, absent_not_had, answer_present, answer_linked, answer_refused, answer_no_memory}
 use Rattle.bucket_table.proofs.buckets.Buckets.link_at.Goals as goal
 
-pub link_dummy-requires-clause-split : goal.link_dummy-requires-clause-split
-link_dummy-requires-clause-split c = (helper_found (IsHelperHome c.args.list.now) _ _ _ c.requires.home.helpers c.requires.had).1
+pub link_dummy-requires-clause-at : goal.link_dummy-requires-clause-at
+link_dummy-requires-clause-at c = (helper_found (IsHelperHome c.args.list.now) _ _ _ c.requires.home.helpers c.requires.had).1
 
 pub link_dummy-requires-clause-placed : goal.link_dummy-requires-clause-placed
 link_dummy-requires-clause-placed c = (helper_found (IsHelperHome c.args.list.now) _ _ _ c.requires.home.helpers c.requires.had).0
@@ -26,18 +26,18 @@ pub set_helper-requires-in-Ok-None-clause-there : goal.set_helper-requires-in-Ok
 set_helper-requires-in-Ok-None-clause-there c = slice_get_within _ _ _ c.requires.had
 
 -- The dummy that was there.
-there : (l : Listing) (cursor : Cursor) (bucket dummy : ℕ) (found : Option ℕ) → bucket < 2 ^ 32 → IsKeyed l.nodes → split_of cursor ≡ reversed bucket → found ≡ Some dummy → Finds l cursor found → IsDummyAt l.nodes dummy bucket
+there : (l : Listing) (cursor : Cursor) (bucket dummy : ℕ) (found : Option ℕ) → bucket < 2 ^ 32 → IsKeyed l.nodes → at_of cursor ≡ dummy_at bucket → found ≡ Some dummy → Finds l cursor found → IsDummyAt l.nodes dummy bucket
 there l cursor bucket dummy found fits keyed sought is finds =
     let P : Option ℕ → Type 0 = Finds l cursor in
     there_dummy l cursor bucket dummy fits keyed sought (subst P is finds)
 
 -- No dummy was there.
-none : (l : Listing) (cursor : Cursor) (bucket : ℕ) (found : Option ℕ) → split_of cursor ≡ reversed bucket → found ≡ None → Finds l cursor found → has_dummy l.nodes bucket ≡ false
+none : (l : Listing) (cursor : Cursor) (bucket : ℕ) (found : Option ℕ) → at_of cursor ≡ dummy_at bucket → found ≡ None → Finds l cursor found → has_dummy l.nodes bucket ≡ false
 none l cursor bucket found sought is finds =
     let P : Option ℕ → Type 0 = Finds l cursor in
     absent_not_had l cursor bucket sought (subst P is finds)
 
-own_split : (l : Listing) (helpers : List Helper) (helper bucket : ℕ) (cursor : Cursor) → All (IsHelperHome l) helpers → slice_get helpers helper ≡ Some (Seeking bucket cursor) → split_of cursor ≡ reversed bucket
+own_split : (l : Listing) (helpers : List Helper) (helper bucket : ℕ) (cursor : Cursor) → All (IsHelperHome l) helpers → slice_get helpers helper ≡ Some (Seeking bucket cursor) → at_of cursor ≡ dummy_at bucket
 own_split l helpers helper bucket cursor home had = (helper_found (IsHelperHome l) helpers helper (Seeking bucket cursor) home had).1
 
 pub returns-in-Ok-Some-clause-answer : goal.returns-in-Ok-Some-clause-answer

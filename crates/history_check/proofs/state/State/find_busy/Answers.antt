@@ -23,8 +23,9 @@ returns-else-other-holder c stripes h t shaped answered =
     let locked =
     busy-refused stripes h c.args.self.now t c.args.caller c.args.op c.key.result c.key.ensures c.args.holder c.in-Busy.other c.lock.new.self c.in-Busy.ensures ∙ eq-eqb c.in-Busy.other c.args.holder c.if-other-holder.false in
     let sits = sits_at stripes h c.args.self.now c.args.caller c.index_mut.result.now t c.requires c.index_mut.ensures.value in
-    grown stripes h c.args.self.now _ t (Busy c.args.caller c.args.op c.args.holder) c.leave.new.self _ _ _ _ _ c.requires
-    (next-busy stripes h t.legal c.args.caller (seat_of c.index_mut.result.now) sits.seat c.args.op c.args.holder (broken_by stripes h (Busy c.args.caller c.args.op c.args.holder) true true true shaped answered locked))
-    c.leave.ensures.seat (c.leave.ensures.log ∙ sym sits.log) refl refl
+    let fine = broken_by stripes h (Busy c.args.caller c.args.op c.args.holder) true true true shaped answered locked in
+    grown stripes h c.args.self.now _ t (Busy c.args.caller c.args.op c.args.holder) c.index_mut.result.now c.enter.new.self _ _ _ _ _ c.requires
+    (next-busy stripes h t.legal c.args.caller (seat_of c.index_mut.result.now) sits.seat c.args.op c.args.holder fine) fine sits
+    c.enter.ensures (sym sits.log) refl refl
     (none_more c.args.self.now.began) (none_more c.args.self.now.committed)
     t.values (λ s below. ap (λ l. locks.holder_of l s) c.in-Busy.ensures.same ∙ t.holders s below)

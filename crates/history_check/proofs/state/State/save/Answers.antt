@@ -1,20 +1,26 @@
-use Rattle.std.proofs.Common.{refl, sym, ◌∙◌}
-use Rattle.std.proofs.lemmas.Result.{on_ok_weaker, on_err_weaker}
+use Rattle.std.proofs.Common.{Some, refl, ap, sym, ◌∙◌}
+use Rattle.std.specs.Prelude.{Result, Ok, Err, OnErr}
 use Rattle.txn_trace.specs.declared.entry.Entry.TheVariants.{Saved}
 use Rattle.history_check.specs.Callers.{seat_of}
+use Rattle.history_check.specs.States.{Sits}
 use Rattle.history_check.proofs.EachKind.{next-saved}
 use Rattle.history_check.proofs.Growth.{sits_at, grown, stayed, none_more}
 use Rattle.history_check.proofs.state.State.save.Goals as goal
 
-pub returns-clause-ok : goal.returns-clause-ok
-returns-clause-ok c = on_ok_weaker c.save.result (λ saved stripes h t fine.
-    let sits = sits_at stripes h c.args.self.now c.args.caller c.index_mut.result.now t c.requires c.index_mut.ensures.value in
-    grown stripes h c.args.self.now _ t (Saved c.args.caller) c.save.new.self _ _ _ _ _ c.requires
-    (next-saved stripes h t.legal c.args.caller (seat_of c.index_mut.result.now) sits.seat fine)
-    saved (c.save.ensures.log ∙ sym sits.log) refl refl
-    (none_more c.args.self.now.began) (none_more c.args.self.now.committed) t.values t.holders) c.save.ensures.ok
+on_err : {A E P : Type 0} (r : Result A E) → P → OnErr r P
+on_err (Ok a) p = tt
+on_err (Err e) p = p
 
-pub returns-clause-err : goal.returns-clause-err
-returns-clause-err c = on_err_weaker c.save.result (λ same stripes h t.
-    let sits = sits_at stripes h c.args.self.now c.args.caller c.index_mut.result.now t c.requires c.index_mut.ensures.value in
-    stayed stripes h c.args.self.now _ t c.args.caller c.index_mut.result.now c.save.new.self sits same c.save.ensures.log refl refl refl refl (λ m has. has) refl) c.save.ensures.err
+pub returns-in_err-reserve_level-clause-err : goal.returns-in_err-reserve_level-clause-err
+returns-in_err-reserve_level-clause-err c = on_err c.from_residual.result (λ stripes h t.
+    let sits = sits_at stripes h c.args.self.now c.args.caller c.index_mut-seat.result.now t c.requires c.index_mut-seat.ensures.value in
+    stayed stripes h c.args.self.now _ t c.args.caller c.index_mut-seat.result.now c.reserve_level.new.self sits c.reserve_level.ensures.seat c.reserve_level.ensures.log refl refl refl refl (λ m has. has) refl)
+
+pub returns-clause-ok : goal.returns-clause-ok
+returns-clause-ok c stripes h t fine =
+    let was = sits_at stripes h c.args.self.now c.args.caller c.index_mut-seat.result.now t c.requires c.index_mut-seat.ensures.value in
+    let sits : Sits h c.args.caller c.reserve_level.new.self = record { seat = was.seat ∙ ap Some (sym c.reserve_level.ensures.seat); log = was.log ∙ sym c.reserve_level.ensures.log } in
+    grown stripes h c.args.self.now _ t (Saved c.args.caller) c.reserve_level.new.self c.enter.new.self _ _ _ _ _ c.requires
+    (next-saved stripes h t.legal c.args.caller (seat_of c.reserve_level.new.self) sits.seat fine) fine sits
+    c.enter.ensures (sym sits.log) refl refl
+    (none_more c.args.self.now.began) (none_more c.args.self.now.committed) t.values t.holders

@@ -18,8 +18,8 @@ returns-clause-ok c stripes h t fine =
     let sits = sits_at stripes h c.args.self.now c.args.caller c.index_mut.result.now t c.requires c.index_mut.ensures.value in
     let same : log_in c.index_mut.result.now ≡ log_in c.index.result.now = sym sits.log ∙ read.log in
     let log_is = read.log ∙ first_then (log_in c.index.result.now) (c.in-Some.key, c.in-Some.before) (sym c.newest.ensures ∙ c.in-Some.is) in
-    grown stripes h c.args.self.now _ t (Undone c.args.caller) c.forget_newest.new.self _ _ _ _ _ c.requires
-    (next-undone stripes h t.legal c.args.caller (seat_of c.index_mut.result.now) sits.seat (c.in-Some.key, c.in-Some.before) (drop 1 (log_in c.index.result.now)) log_is fine)
-    c.forget_newest.ensures.seat (c.forget_newest.ensures.log ∙ ap (drop 1) same)
+    grown stripes h c.args.self.now _ t (Undone c.args.caller) c.index_mut.result.now c.enter.new.self _ _ _ _ _ c.requires
+    (next-undone stripes h t.legal c.args.caller (seat_of c.index_mut.result.now) sits.seat (c.in-Some.key, c.in-Some.before) (drop 1 (log_in c.index.result.now)) log_is fine) fine sits
+    c.enter.ensures (ap (drop 1) same)
     refl refl (none_more c.args.self.now.began) (none_more c.args.self.now.committed)
     (c.in_ok-restore.ensures.ok (now h) t.values) t.holders

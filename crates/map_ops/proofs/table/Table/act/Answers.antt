@@ -12,7 +12,15 @@ returns-in-Ok-clause-acts c =
     rw (← c.self.view_is) (sym c.in-Ok.ensures.again, does)
 
 pub returns-in-Ok-clause-rises : goal.returns-in-Ok-clause-rises
-returns-in-Ok-clause-rises c = rw (← c.self.view_is) (turn_rises c.self.inside.list c.change-job.new.list _ c.change-job.ensures.follows refl c.find.ensures.turn)
+returns-in-Ok-clause-rises c = rw (← c.self.view_is) (turn_rises c.self.inside.list c.change-job.new.list _ c.change-job.ensures.follows refl c.find.ensures.changes)
 
 pub returns-in-Ok-clause-follows : goal.returns-in-Ok-clause-follows
 returns-in-Ok-clause-follows c = rw (← c.self.view_is) (follows c.self.inside.list c.change-job.new.list c.self.inside.buckets _ c.change-job.ensures.follows)
+
+pub returns-in-Ok-clause-writes : goal.returns-in-Ok-clause-writes
+returns-in-Ok-clause-writes c =
+    let writes = rw (c.into_plan.ensures, c.in-Ok.ensures.value, c.key.ensures) at c.change-job.ensures.writes in
+    rw (← c.self.view_is) writes
+
+pub returns-in-Err-clause-writes : goal.returns-in-Err-clause-writes
+returns-in-Err-clause-writes c = record { nodes = refl; changes = refl }

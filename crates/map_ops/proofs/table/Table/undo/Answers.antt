@@ -10,7 +10,13 @@ pub returns-in-Ok-clause-undoes : goal.returns-in-Ok-clause-undoes
 returns-in-Ok-clause-undoes c = rw (← c.self.view_is) (sym c.in-Ok.ensures.again, c.restore.ensures.back c.self.inside.buckets)
 
 pub returns-in-Ok-clause-rises : goal.returns-in-Ok-clause-rises
-returns-in-Ok-clause-rises c = rw (← c.self.view_is) (turn_rises c.self.inside.list c.restore.new.list _ c.restore.ensures.follows refl c.find.ensures.turn)
+returns-in-Ok-clause-rises c = rw (← c.self.view_is) (turn_rises c.self.inside.list c.restore.new.list _ c.restore.ensures.follows refl c.find.ensures.changes)
 
 pub returns-in-Ok-clause-follows : goal.returns-in-Ok-clause-follows
 returns-in-Ok-clause-follows c = rw (← c.self.view_is) (follows c.self.inside.list c.restore.new.list c.self.inside.buckets _ c.restore.ensures.follows)
+
+pub returns-in-Ok-clause-writes : goal.returns-in-Ok-clause-writes
+returns-in-Ok-clause-writes c = rw (← c.self.view_is) c.restore.ensures.writes
+
+pub returns-in-Err-clause-writes : goal.returns-in-Err-clause-writes
+returns-in-Err-clause-writes c = record { nodes = refl; changes = refl }

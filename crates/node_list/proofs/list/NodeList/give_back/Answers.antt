@@ -5,16 +5,16 @@ pub invariant_of-self : goal.invariant_of-self
 invariant_of-self c =
     let is_out = rw (← c.self.view_is) at c.requires in
     let freed = rw (c.place.ensures, c.node.ensures) at c.try_remove.ensures.updates in
-    (taken_back _ _ c.self.inside.turn _ _ _ c.self.invariant _ _ _ is_out freed).0
+    (taken_back _ _ c.self.inside.changes _ _ _ c.self.invariant _ _ _ is_out freed).0
 
 pub returns-clause-back : goal.returns-clause-back
 returns-clause-back c =
     let is_out = rw (← c.self.view_is) at c.requires in
     let freed = rw (c.place.ensures, c.node.ensures) at c.try_remove.ensures.updates in
-    rw (← c.self.view_is) ((taken_back _ _ c.self.inside.turn _ _ _ c.self.invariant _ _ _ is_out freed).1)
+    rw (← c.self.view_is) ((taken_back _ _ c.self.inside.changes _ _ _ c.self.invariant _ _ _ is_out freed).1)
 
 pub returns-clause-follows : goal.returns-clause-follows
 returns-clause-follows c =
     let is_out = rw (← c.self.view_is) at c.requires in
     let freed = rw (c.place.ensures, c.node.ensures) at c.try_remove.ensures.updates in
-    rw (← c.self.view_is) ((taken_back _ _ c.self.inside.turn _ _ _ c.self.invariant _ _ _ is_out freed).2)
+    rw (← c.self.view_is) ((taken_back _ _ c.self.inside.changes _ _ _ c.self.invariant _ _ _ is_out freed).2)

@@ -13,7 +13,7 @@ set_slot-requires c =
     let slot = slot_linked _ _ _ _ _ _ c.self.invariant linked in
     let next_was = rw c.place.ensures at c.replace_next-next.ensures.was slot.0 in
     let pointed = rw (c.place.ensures, c.node-place.ensures) at c.replace_next-next.ensures.now slot.0 in
-    let free = filling_slot _ _ c.self.inside.turn _ _ _ c.self.invariant _ c.replace_next-next.new.slab _ slot.0 c.args.spare _ slot.1 out (next_was slot.1) (pointed slot.1) in
+    let free = filling_slot _ _ c.self.inside.changes _ _ _ c.self.invariant _ c.replace_next-next.new.slab _ slot.0 c.args.spare _ slot.1 out (next_was slot.1) (pointed slot.1) in
     rw (c.place-2.ensures, c.node-place.ensures, free) refl
 
 pub overflow_add-self : goal.overflow_add-self
@@ -26,7 +26,7 @@ overflow_add-self c =
     let order = rw (← c.self.view_is) at c.requires.order in
     let weight = rw c.into_node-node.ensures at c.weight-weight.ensures in
     let filled = rw (c.place-2.ensures, c.node-place.ensures, c.into_node-node.ensures) at c.set_slot.ensures in
-    let now = filled_in _ _ c.self.inside.turn _ _ _ c.self.invariant _ _ _ slot.0 c.args.spare _ slot.1 out (next_was slot.1) (pointed slot.1) _ weight filled linked order in
+    let now = filled_in _ _ c.self.inside.changes _ _ _ c.self.invariant _ _ _ slot.0 c.args.spare _ slot.1 out (next_was slot.1) (pointed slot.1) _ weight filled linked order in
     let fits = counted_fit _ _ _ _ _ now.0 in
     omega (arith, fits, c.len-places.ensures, c.len-places.type_inv)
 
@@ -40,7 +40,7 @@ invariant_of-self c =
     let order = rw (← c.self.view_is) at c.requires.order in
     let weight = rw c.into_node-node.ensures at c.weight-weight.ensures in
     let filled = rw (c.place-2.ensures, c.node-place.ensures, c.into_node-node.ensures) at c.set_slot.ensures in
-    let now = filled_in _ _ c.self.inside.turn _ _ _ c.self.invariant _ _ _ slot.0 c.args.spare _ slot.1 out (next_was slot.1) (pointed slot.1) _ weight filled linked order in
+    let now = filled_in _ _ c.self.inside.changes _ _ _ c.self.invariant _ _ _ slot.0 c.args.spare _ slot.1 out (next_was slot.1) (pointed slot.1) _ weight filled linked order in
     now.0
 
 pub returns-clause-linked : goal.returns-clause-linked
@@ -53,7 +53,7 @@ returns-clause-linked c =
     let order = rw (← c.self.view_is) at c.requires.order in
     let weight = rw c.into_node-node.ensures at c.weight-weight.ensures in
     let filled = rw (c.place-2.ensures, c.node-place.ensures, c.into_node-node.ensures) at c.set_slot.ensures in
-    let now = filled_in _ _ c.self.inside.turn _ _ _ c.self.invariant _ _ _ slot.0 c.args.spare _ slot.1 out (next_was slot.1) (pointed slot.1) _ weight filled linked order in
+    let now = filled_in _ _ c.self.inside.changes _ _ _ c.self.invariant _ _ _ slot.0 c.args.spare _ slot.1 out (next_was slot.1) (pointed slot.1) _ weight filled linked order in
     rw (c.advance.ensures, ← c.self.view_is) now.1
 
 pub returns-clause-node : goal.returns-clause-node
@@ -66,7 +66,7 @@ returns-clause-node c =
     let order = rw (← c.self.view_is) at c.requires.order in
     let weight = rw c.into_node-node.ensures at c.weight-weight.ensures in
     let filled = rw (c.place-2.ensures, c.node-place.ensures, c.into_node-node.ensures) at c.set_slot.ensures in
-    let now = filled_in _ _ c.self.inside.turn _ _ _ c.self.invariant _ _ _ slot.0 c.args.spare _ slot.1 out (next_was slot.1) (pointed slot.1) _ weight filled linked order in
+    let now = filled_in _ _ c.self.inside.changes _ _ _ c.self.invariant _ _ _ slot.0 c.args.spare _ slot.1 out (next_was slot.1) (pointed slot.1) _ weight filled linked order in
     now.2
 
 pub returns-clause-follows : goal.returns-clause-follows
@@ -79,5 +79,5 @@ returns-clause-follows c =
     let order = rw (← c.self.view_is) at c.requires.order in
     let weight = rw c.into_node-node.ensures at c.weight-weight.ensures in
     let filled = rw (c.place-2.ensures, c.node-place.ensures, c.into_node-node.ensures) at c.set_slot.ensures in
-    let now = filled_in _ _ c.self.inside.turn _ _ _ c.self.invariant _ _ _ slot.0 c.args.spare _ slot.1 out (next_was slot.1) (pointed slot.1) _ weight filled linked order in
+    let now = filled_in _ _ c.self.inside.changes _ _ _ c.self.invariant _ _ _ slot.0 c.args.spare _ slot.1 out (next_was slot.1) (pointed slot.1) _ weight filled linked order in
     rw (c.advance.ensures, ← c.self.view_is) now.3

@@ -9,14 +9,14 @@ mark-requires c =
     rw c.place.ensures (slot_linked _ _ _ _ _ _ c.self.invariant (found_linked _ _ _ regular.is))
 
 pub overflow_sub-self : goal.overflow_sub-self
-overflow_sub-self c = counts_one _ _ c.self.inside.turn _ _ _ c.self.invariant _ (rw (← c.self.view_is) at c.requires)
+overflow_sub-self c = counts_one _ _ c.self.inside.changes _ _ _ c.self.invariant _ (rw (← c.self.view_is) at c.requires)
 
 pub overflow_add-self : goal.overflow_add-self
 overflow_add-self c =
     let regular = rw (← c.self.view_is) at c.requires in
     let slot = slot_linked _ _ _ _ _ _ c.self.invariant (found_linked _ _ _ regular.is) in
     let is_written = rw c.place.ensures at c.mark.ensures slot.0 in
-    let now = node_marked _ _ c.self.inside.turn _ _ _ c.self.invariant _ _ slot.0 regular slot.1 (is_written slot.1) in
+    let now = node_marked _ _ c.self.inside.changes _ _ _ c.self.invariant _ _ slot.0 regular slot.1 (is_written slot.1) in
     let fits = counted_fit _ _ _ _ _ now.0 in
     omega (arith, fits, c.len-places.ensures, c.len-places.type_inv)
 
@@ -25,7 +25,7 @@ invariant_of-self c =
     let regular = rw (← c.self.view_is) at c.requires in
     let slot = slot_linked _ _ _ _ _ _ c.self.invariant (found_linked _ _ _ regular.is) in
     let is_written = rw c.place.ensures at c.mark.ensures slot.0 in
-    (node_marked _ _ c.self.inside.turn _ _ _ c.self.invariant _ _ slot.0 regular slot.1 (is_written slot.1)).0
+    (node_marked _ _ c.self.inside.changes _ _ _ c.self.invariant _ _ slot.0 regular slot.1 (is_written slot.1)).0
 
 pub returns-clause-marked : goal.returns-clause-marked
 returns-clause-marked c =

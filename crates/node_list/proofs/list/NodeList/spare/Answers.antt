@@ -9,7 +9,7 @@ invariant_of-self c =
     let answer = ok_some _ _ (sym c.ok.ensures.value ∙ c.in-Some.is) in
     let free = rw answer at c.insert.ensures.was_vacant in
     let updates = rw answer at c.insert.ensures.updates in
-    (spared _ _ c.self.inside.turn _ _ _ c.self.invariant _ _ (omega arith) free updates).0
+    (spared _ _ c.self.inside.changes _ _ _ c.self.invariant _ _ (omega arith) free updates).0
 
 pub returns-in-Some-clause-ok : goal.returns-in-Some-clause-ok
 returns-in-Some-clause-ok c =
@@ -42,5 +42,5 @@ returns-in-None-clause-follows c =
     let f = c.self.inside in
     let answer = ok_none _ (sym c.ok.ensures.value ∙ c.in-None.is) in
     let grown = rw answer.1 at c.insert.ensures.err in
-    let same = listing_grown f.slab c.insert.new.self.capacity f.head f.turn f.last ∙ c.self.view_is in
+    let same = listing_grown f.slab c.insert.new.self.capacity f.head f.changes f.last ∙ c.self.view_is in
     rw (grown, same) (follows_self _)

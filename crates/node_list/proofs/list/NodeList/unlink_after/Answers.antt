@@ -10,7 +10,7 @@ pub node_at-requires-in-Some : goal.node_at-requires-in-Some
 node_at-requires-in-Some c =
     let behind = rw (← c.self.view_is) at c.requires in
     let is_before = rw c.place.ensures at c.node_at.ensures in
-    rw c.place-in-Some.ensures (behind_slot _ _ c.self.inside.turn _ _ _ c.self.invariant _ _ _ (behind_linked _ _ _ behind) is_before c.in-Some.is)
+    rw c.place-in-Some.ensures (behind_slot _ _ c.self.inside.changes _ _ _ c.self.invariant _ _ _ (behind_linked _ _ _ behind) is_before c.in-Some.is)
 
 pub replace_next-requires : goal.replace_next-requires
 replace_next-requires c =
@@ -18,7 +18,7 @@ replace_next-requires c =
     rw c.place-in-Some-2.ensures (slot_linked _ _ _ _ _ _ c.self.invariant (behind_linked _ _ _ behind))
 
 pub overflow_sub-self : goal.overflow_sub-self
-overflow_sub-self c = marks_one _ _ c.self.inside.turn _ _ _ c.self.invariant _ (rw (← c.self.view_is) at c.requires)
+overflow_sub-self c = marks_one _ _ c.self.inside.changes _ _ _ c.self.invariant _ (rw (← c.self.view_is) at c.requires)
 
 pub invariant_of-self : goal.invariant_of-self
 invariant_of-self c =
@@ -27,7 +27,7 @@ invariant_of-self c =
     let is_behind = rw c.place-in-Some.ensures at c.node_at-in-Some.ensures in
     let passed = rw c.place-in-Some-2.ensures at c.replace_next.ensures.now c.node_at.result.now in
     let freed = rw c.place-in-Some-3.ensures at c.try_remove.ensures.updates in
-    (unlinked _ _ c.self.inside.turn _ _ _ c.self.invariant _ _ _ _ _ _ behind is_before c.in-Some.is is_behind (passed is_before) freed).0
+    (unlinked _ _ c.self.inside.changes _ _ _ c.self.invariant _ _ _ _ _ _ behind is_before c.in-Some.is is_behind (passed is_before) freed).0
 
 pub returns-in-Some-clause-unlinked : goal.returns-in-Some-clause-unlinked
 returns-in-Some-clause-unlinked c =
@@ -51,4 +51,4 @@ pub returns-in_default-clause-unlinked : goal.returns-in_default-clause-unlinked
 returns-in_default-clause-unlinked c =
     let behind = rw (← c.self.view_is) at c.requires in
     let is_before = rw c.place.ensures at c.node_at.ensures in
-    absurd (c.in_default.not-Some _ (behind_place _ _ c.self.inside.turn _ _ _ c.self.invariant _ _ behind is_before))
+    absurd (c.in_default.not-Some _ (behind_place _ _ c.self.inside.changes _ _ _ c.self.invariant _ _ behind is_before))

@@ -9,7 +9,7 @@ invariant_of-self c =
     let linked = rw (← c.self.view_is) at c.requires in
     let slot = slot_linked _ _ _ _ _ _ c.self.invariant linked in
     let is_written = rw c.place.ensures at c.set_value.ensures slot.0 in
-    (value_written _ _ c.self.inside.turn _ _ _ c.self.invariant _ _ _ slot.0 linked slot.1 (is_written slot.1)).0
+    (value_written _ _ c.self.inside.changes _ _ _ c.self.invariant _ _ _ slot.0 linked slot.1 (is_written slot.1)).0
 
 pub returns-clause-written : goal.returns-clause-written
 returns-clause-written c =

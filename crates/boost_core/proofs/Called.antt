@@ -1,0 +1,161 @@
+-- What each step of a caller comes to, by what it does.
+use Rattle.std.proofs.Common.{◌≡◌, ℕ, ◌+◌, ◌-◌, ◌^◌, ◌<◌, ◌≤◌, true, List, Option, Some, None, is_some, refl, sym, ap, subst, ◌∙◌, arith}
+use Rattle.std.specs.Prelude.{slice_get, slice_set, map, reverse, unwrap_or}
+use Rattle.std.specs.Option.{option_map}
+use Rattle.std.proofs.lemmas.List.{length-set, get_or-set_same}
+use Rattle.std.proofs.lemmas.Option.{slice_get_within, slice_get-map}
+use Rattle.txn_trace.specs.declared.step.Step.{Step}
+use Rattle.txn_trace.specs.declared.step.Step.TheVariants as steps
+use Rattle.txn_trace.specs.declared.answer.Answer.{Answer}
+use Rattle.txn_trace.specs.declared.answer.Answer.TheVariants as answers
+use Rattle.map_ops.specs.TableAt.{TableAt, Cursor, cursor_turn, turn_of}
+use Rattle.boost_core.specs.declared.counts.Counts.{Counts}
+use Rattle.boost_core.specs.declared.session.Session.{Session}
+use Rattle.boost_core.specs.State.{Caller, turn_in}
+use Rattle.boost_core.specs.Refusals.{refusal_of}
+use Rattle.boost_core.specs.Spares.{times_of, times_in, times_out}
+use Rattle.boost_core.specs.Core.{World, Tells, state_of, turn_at, all_times}
+use Rattle.boost_core.proofs.Outcomes.{Called, same_world}
+use Rattle.txn_trace.specs.declared.refusal.Refusal.TheVariants as refusals
+use Rattle.txn_trace.specs.Map.{key_of}
+use Rattle.txn_trace.specs.declared.op.Op.{Op}
+use Rattle.txn_trace.specs.Locks.{stripe_of}
+use Rattle.boost_core.specs.Refusals.{owner_of}
+use Rattle.boost_core.specs.Sessions.{Does, ActsIn, ReturnsIn, Saves, IsAsked, KeepsPlaced, Takes, AreDue, spare_if, times_kept}
+use Rattle.boost_core.proofs.Spares.{owns_if}
+use Rattle.boost_core.proofs.Grow.{one_of_sum}
+use Rattle.boost_core.proofs.Refused.{index_at, free, seat_free, cursor_free, le_false_lt}
+use Rattle.boost_core.proofs.Parting.{begun_called, saved_called, left_called, committed, withdrawn, returned, ended}
+use Rattle.boost_core.proofs.Asking.{asked_called, busy_called, ask_refused, save_refused}
+use Rattle.boost_core.proofs.Working.{did_called, undone_called, sought_called, again_called}
+
+-- What is true of a step's own caller is true of the caller whose step it is.
+of_owner : (P : ℕ → Type 0) (d c : ℕ) → Some (Caller d) ≡ Some (Caller c) → P d → P c
+of_owner P d c same p = let is : d ≡ c = cc (same) in subst P is p
+
+module _ (w : World) (tells : Tells w) (x : Session) (y : Session) (t' : TableAt) (locks' : List (Option ℕ)) (keeps : KeepsPlaced w.table t') (rises : turn_of w.table ≤ turn_of t') where
+  asked : (c : ℕ) (op : Op) → slice_get w.sessions c ≡ Some x → refusal_of (state_of w) (steps.Ask c op) ≡ None → stripe_of w.limits.stripes (key_of op) < w.limits.stripes → (answer : Answer)
+      → IsAsked c (stripe_of w.limits.stripes (key_of op)) op x w.table w.locks answer y t' locks' → Called w c x (steps.Ask c op) answer y t' locks'
+  asked c op at none within answers.Asked does = asked_called w tells c x at op none y t' locks' does keeps within
+  asked c op at none within (answers.Busy holder) does = busy_called w tells c x at op none holder y t' locks' does keeps within
+  asked c op at none within (answers.Refused refusal) does = ask_refused w tells c x at op none refusal y t' locks' does.0 does.1 does.2 does.3
+  asked c op at none within _ does = absurd does
+
+  acted : (c : ℕ) → slice_get w.sessions c ≡ Some x → refusal_of (state_of w) (steps.Act c) ≡ None → (answer : Answer) → ActsIn c x w.table w.locks answer y t' locks' → Called w c x (steps.Act c) answer y t' locks'
+  acted c at none answers.Again does = subst (Called w c x (steps.Act c) answers.Again y t') (sym does.2) (again_called w tells c x at none does.0 y t' does.1)
+  acted c at none (answers.Done reply) does = subst (Called w c x (steps.Act c) (answers.Done reply) y t') (sym does.1) (did_called w tells c x at none reply y t' does.0 keeps rises)
+  acted c at none answers.Undone does = subst (Called w c x (steps.Act c) answers.Undone y t') (sym does.2) (undone_called w tells c x at none does.0 y t' does.1 keeps rises)
+  acted c at none (answers.Returned n) does = same_world (Called w c x (steps.Act c) (answers.Returned n) y) w.table t' w.locks locks' does.2 does.1.locks_stay (returned w tells c x at none does.0 n y (subst (λ l. ReturnsIn n x w.locks y l) does.1.locks_stay does.1))
+  acted c at none answers.Aborted does = subst (λ t. Called w c x (steps.Act c) answers.Aborted y t locks') (sym does.2) (ended w tells c x at none does.0 y locks' does.1)
+  acted c at none _ does = absurd does
+
+  saved_here : (c : ℕ) → slice_get w.sessions c ≡ Some x → refusal_of (state_of w) (steps.Save c) ≡ None → (answer : Answer) → Saves x answer y → t' ≡ w.table → locks' ≡ w.locks → Called w c x (steps.Save c) answer y t' locks'
+  saved_here c at none (answers.Saved n) does table same = saved_called w tells c x at none n y t' locks' does table same
+  saved_here c at none (answers.Refused refusals.NoMemory) does table same = save_refused w tells c x at none y t' locks' does table same
+  saved_here c at none _ does table same = absurd does
+
+  -- What each step comes to.
+  pub called : (c : ℕ) (step : Step) → owner_of step ≡ Some (Caller c) → slice_get w.sessions c ≡ Some x → refusal_of (state_of w) step ≡ None → 0 < w.limits.stripes → (answer : Answer)
+      → Does w.limits.stripes w.counts step x w.table w.locks answer y t' locks' → Called w c x step answer y t' locks'
+  called c (steps.Begin d) owner at none some answer does = of_owner (λ k. Called w k x (steps.Begin d) answer y t' locks') d c owner (begun answer does)
+    where
+      at_d : slice_get w.sessions d ≡ Some x
+      at_d = of_owner (λ k. slice_get w.sessions k ≡ Some x) c d (sym owner) at
+
+      begun : (answer : Answer) → Does w.limits.stripes w.counts (steps.Begin d) x w.table w.locks answer y t' locks' → Called w d x (steps.Begin d) answer y t' locks'
+      begun (answers.Began n) does = begun_called w tells d x at_d none n y t' locks' does.0 does.1 does.2 does.3
+      begun _ does = absurd does
+  called c (steps.Ask d op) owner at none some answer does = of_owner (λ k. Called w k x (steps.Ask d op) answer y t' locks') d c owner
+      (asked d op (of_owner (λ k. slice_get w.sessions k ≡ Some x) c d (sym owner) at) none (grind arith) answer does)
+  called c (steps.Seek d) owner at none some answer does = of_owner (λ k. Called w k x (steps.Seek d) answer y t' locks') d c owner (sought answer does)
+    where
+      sought : (answer : Answer) → Does w.limits.stripes w.counts (steps.Seek d) x w.table w.locks answer y t' locks' → Called w d x (steps.Seek d) answer y t' locks'
+      sought answers.Placed does = subst (Called w d x (steps.Seek d) answers.Placed y t') (sym does.1) (sought_called w tells d x (of_owner (λ k. slice_get w.sessions k ≡ Some x) c d (sym owner) at) none y t' does.0 keeps rises)
+      sought _ does = absurd does
+  called c (steps.Act d) owner at none some answer does = of_owner (λ k. Called w k x (steps.Act d) answer y t' locks') d c owner
+      (acted d (of_owner (λ k. slice_get w.sessions k ≡ Some x) c d (sym owner) at) none answer does)
+  called c (steps.Save d) owner at none some answer does = of_owner (λ k. Called w k x (steps.Save d) answer y t' locks') d c owner
+      (saved_here d (of_owner (λ k. slice_get w.sessions k ≡ Some x) c d (sym owner) at) none answer does.0 does.1 does.2)
+  called c (steps.Back d n) owner at none some answer does = of_owner (λ k. Called w k x (steps.Back d n) answer y t' locks') d c owner (gone answer does)
+    where
+      gone : (answer : Answer) → Does w.limits.stripes w.counts (steps.Back d n) x w.table w.locks answer y t' locks' → Called w d x (steps.Back d n) answer y t' locks'
+      gone answers.Leaving does = left_called w tells d x (of_owner (λ k. slice_get w.sessions k ≡ Some x) c d (sym owner) at) n none y t' locks' does.0 does.1 does.2
+      gone _ does = absurd does
+  called c (steps.Commit d) owner at none some answer does = of_owner (λ k. Called w k x (steps.Commit d) answer y t' locks') d c owner (done answer does)
+    where
+      done : (answer : Answer) → Does w.limits.stripes w.counts (steps.Commit d) x w.table w.locks answer y t' locks' → Called w d x (steps.Commit d) answer y t' locks'
+      done (answers.Committed p) does = committed w tells d x (of_owner (λ k. slice_get w.sessions k ≡ Some x) c d (sym owner) at) none p y t' locks' does.0 does.1 does.2
+      done _ does = absurd does
+  called c (steps.Abort d) owner at none some answer does = of_owner (λ k. Called w k x (steps.Abort d) answer y t' locks') d c owner (gone answer does)
+    where
+      gone : (answer : Answer) → Does w.limits.stripes w.counts (steps.Abort d) x w.table w.locks answer y t' locks' → Called w d x (steps.Abort d) answer y t' locks'
+      gone answers.Leaving does = subst (Called w d x (steps.Abort d) answers.Leaving y t') (sym does.1) (withdrawn w tells d x (of_owner (λ k. slice_get w.sessions k ≡ Some x) c d (sym owner) at) none y t' does.0)
+      gone _ does = absurd does
+  called c _ owner at none some answer does = absurd does
+
+-- What the side of a caller is asked for, where nothing refuses its step.
+pub takes : (w : World) → Tells w → (c : ℕ) (x : Session) → slice_get w.sessions c ≡ Some x → (step : Step) → owner_of step ≡ Some (Caller c) → refusal_of (state_of w) step ≡ None
+    → w.limits.callers ≤ 64 → 0 < w.limits.stripes → w.counts.began < 2 ^ 63 → w.counts.committed < 2 ^ 63 → Takes w.limits.stripes w.counts step x w.table w.locks
+takes w tells c x at step owner none callers some began done = record {
+  goes = record {
+    agrees = (tells.seated c x at).agrees;
+    sought = tells.sought c x at;
+    due = subst (λ m. AreDue m (reverse x.log.jobs)) (sym tells.content) (tells.seated c x at).due;
+    withdraws = owns_if w.table (spare_if x.pending) (all_times w.sessions) (λ place stamp.
+        let most : times_kept x place stamp ≤ all_times w.sessions place stamp = one_of_sum (λ s. times_kept s place stamp) w.sessions c x at in
+        fewer (times_in x.log.jobs place stamp) (times_of (spare_if x.pending) place stamp) (all_times w.sessions place stamp) most) tells.spares;
+    settles = (
+      λ place stamp. all_times w.sessions place stamp - times_in x.log.jobs place stamp,
+      λ place stamp.
+          let most : times_kept x place stamp ≤ all_times w.sessions place stamp = one_of_sum (λ s. times_kept s place stamp) w.sessions c x at in
+          rejoin (times_in x.log.jobs place stamp) (times_of (spare_if x.pending) place stamp) (all_times w.sessions place stamp) (times_out w.table place stamp) most (tells.spares place stamp),
+    );
+  };
+  free = seat_free w tells c x at step owner none;
+  placed = cursor_free w tells c x at step owner none;
+  owner = (c, owner);
+  caller = λ d is.
+      let same : d ≡ c = same_caller d c (sym is ∙ owner) in
+      let below : c < w.limits.callers = le_false_lt w.limits.callers c (free (state_of w) c step owner none).within in
+      omega arith;
+  many = tells.stripes;
+  some_stripe = some;
+  begins = began;
+  commits = done;
+}
+  where
+    same_caller : (d c : ℕ) → Some (Caller d) ≡ Some (Caller c) → d ≡ c
+    same_caller d c same = cc (same)
+
+    fewer : (a b n : ℕ) → b + a ≤ n → b ≤ n
+    fewer a b n most = omega arith
+
+    rejoin : (a b n out : ℕ) → b + a ≤ n → n ≡ out → n - a + a ≡ out
+    rejoin a b n out most exact = omega arith
+
+-- A step that is answered `Placed` leaves its caller a cursor.
+pub placed_cursor : (stripes : ℕ) (counts : Counts) (step : Step) (x : Session) (t : TableAt) (locks : List (Option ℕ)) (answer : Answer) (y : Session) (t' : TableAt) (locks' : List (Option ℕ)) → Does stripes counts step x t locks answer y t' locks' → answer ≡ answers.Placed → is_some y.cursor ≡ true
+placed_cursor stripes counts step x t locks answer y t' locks' does is = at step (subst (λ a. Does stripes counts step x t locks a y t' locks') is does)
+  where
+    at : (step : Step) → Does stripes counts step x t locks answers.Placed y t' locks' → is_some y.cursor ≡ true
+    at (steps.Seek c) does = ap (λ (s : Session). is_some s.cursor) does.0.becomes
+    at (steps.Begin c) does = absurd does
+    at (steps.Ask c op) does = absurd does
+    at (steps.Act c) does = absurd does
+    at (steps.Save c) does = absurd does.0
+    at (steps.Back c n) does = absurd does
+    at (steps.Commit c) does = absurd does
+    at (steps.Abort c) does = absurd does
+    at _ does = absurd does
+
+-- The turn of the cursor of a caller whose side has changed.
+pub turn_there : (sessions : List Session) (c : ℕ) (x z : Session) → slice_get sessions c ≡ Some x → is_some z.cursor ≡ true → is_some (turn_in (map turn_at (slice_set sessions c z)) c) ≡ true
+turn_there sessions c x z at some =
+    let within = slice_get_within sessions c x at in
+    let long = length-set sessions c z in
+    let there : slice_get (slice_set sessions c z) c ≡ Some z = index_at (slice_set sessions c z) c z (omega arith) (sym (get_or-set_same sessions c z z within)) in
+    ap (λ (o : Option (Option ℕ)). is_some (unwrap_or o None)) (slice_get-map turn_at (slice_set sessions c z) c ∙ ap (option_map turn_at) there) ∙ both z.cursor ∙ some
+  where
+    both : (o : Option Cursor) → is_some (option_map cursor_turn o) ≡ is_some o
+    both None = refl
+    both (Some cursor) = refl

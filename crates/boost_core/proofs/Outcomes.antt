@@ -1,0 +1,211 @@
+-- What a step of a caller comes to: what the core then tells, and the move.
+use Rattle.std.proofs.Common.{◌≡◌, ℕ, ◌+◌, ◌-◌, ◌<◌, ◌≤◌, ◌^◌, true, List, [], ◌∷◌, ◌++◌, length, Option, Some, None, sym, ap, subst, ◌∙◌, arith}
+use Rattle.std.specs.Prelude.{slice_get, slice_set, sum_by, option_to_list}
+use Rattle.std.proofs.lemmas.List.{append-nil}
+use Rattle.txn_trace.specs.declared.entry.Entry.{Entry}
+use Rattle.txn_trace.specs.declared.entry.Entry.TheVariants as entry
+use Rattle.txn_trace.specs.declared.step.Step.{Step}
+use Rattle.txn_trace.specs.declared.step.Step.TheVariants as steps
+use Rattle.txn_trace.specs.declared.answer.Answer.{Answer}
+use Rattle.txn_trace.specs.declared.answer.Answer.TheVariants as answers
+use Rattle.txn_trace.specs.Entries.{entries_of}
+use Rattle.txn_trace.specs.declared.seat.Phase.{Phase}
+use Rattle.txn_trace.specs.declared.seat.Phase.TheVariants.{Closed, Opened, Waiting, LeavingTo, LeavingToEnd}
+use Rattle.txn_trace.specs.Shape.{Seat, RoomySeat, row, own}
+use Rattle.txn_trace.specs.declared.op.Op.TheVariants.{Put, Take, Get}
+use Rattle.txn_trace.specs.declared.refusal.Refusal.TheVariants.{NoMemory}
+use Rattle.boost_core.specs.Refusals.{refusal_of}
+use Rattle.txn_trace.specs.Owed.{owed_in, owed_by, reserved}
+use Rattle.txn_trace.proofs.Levels.{IsLevelIn, seat_leveled}
+use Rattle.txn_trace.proofs.Room.{reserved_for, owed_by-row}
+use Rattle.map_ops.specs.TableAt.{TableAt, turn_of, last_of}
+use Rattle.boost_core.specs.declared.counts.Counts.{Counts}
+use Rattle.boost_core.specs.declared.session.Session.{Session}
+use Rattle.boost_core.specs.State.{State}
+use Rattle.boost_core.specs.Counts.{counts_after}
+use Rattle.boost_core.specs.Placed.{placed_then}
+use Rattle.boost_core.specs.Answers.{keeps_list, after}
+use Rattle.boost_core.specs.Machine.{Move, IsAllowed}
+use Rattle.boost_core.specs.Adding.{Enters, CanAdd}
+use Rattle.boost_core.specs.Spares.{times_of, times_in, IsCovered}
+use Rattle.boost_core.specs.Sessions.{owed_of, spare_if, times_kept}
+use Rattle.boost_core.specs.Core.{World, Tells, IsFresh, state_of}
+use Rattle.boost_core.proofs.Moves.{Runs, lacks}
+use Rattle.boost_core.proofs.Grow.{Grows, Stays, world_after, seated_as, row_there, grown, stayed, sum_changed, one_of_sum}
+
+-- One entry more, or none.
+abbrev pub Comes : World → ℕ → Session → Session → TableAt → List (Option ℕ) → Counts → List Entry → Type 0
+Comes w c x y t' locks' counts' [] = Stays w c x y t' locks' counts'
+Comes w c x y t' locks' counts' (e ∷ []) = Grows w c x y t' locks' counts' e
+Comes w c x y t' locks' counts' (e ∷ f ∷ es) = ⊥
+
+-- What a step of a caller comes to, whatever seat enters what is added.
+pub record Called (w : World) (c : ℕ) (x : Session) (step : Step) (answer : Answer) (y : Session) (t' : TableAt) (locks' : List (Option ℕ)) : Type 0 where
+  pub comes : Comes w c x y t' locks' (counts_after w.counts answer) (entries_of step answer)
+  pub move : (seat' : RoomySeat) → Move (state_of w) step answer (state_of (world_after w c (seated_as y seat') (w.history ++ entries_of step answer) (counts_after w.counts answer) t' locks' (placed_then w.placed step answer)))
+  pub fresh : (seat' : RoomySeat) → IsFresh t' (slice_set w.sessions c (seated_as y seat')) (placed_then w.placed step answer)
+
+-- A move from what it is answered, the state after it, and what happened to the table.
+pub move_is : (w w' : World) (step : Step) (answer : Answer) → IsAllowed (state_of w) step answer → state_of w' ≡ after (state_of w) step answer (turn_of w'.table) (last_of w'.table) → Runs w.table w'.table
+    → (keeps_list answer ≡ true → turn_of w'.table ≡ turn_of w.table) → Move (state_of w) step answer (state_of w')
+move_is w w' step answer allowed is runs kept = record {
+  allowed = allowed;
+  state = is;
+  changes = runs.turn;
+  list_kept = kept;
+  stamp = runs.last;
+  one_stamp = runs.one_last;
+}
+
+-- What is kept is the same where what waits and the jobs are.
+pub same_times : (t : TableAt) (x y : Session) → y.pending ≡ x.pending → y.log.jobs ≡ x.log.jobs → (others : ℕ → ℕ → ℕ) → IsCovered (λ place stamp. others place stamp + times_kept x place stamp) t → IsCovered (λ place stamp. others place stamp + times_kept y place stamp) t
+same_times t x y pending jobs others covered place stamp = (λ i. others place stamp + (times_of (spare_if (pending i)) place stamp + times_in (jobs i) place stamp)) ∙ covered place stamp
+
+-- What is as it was for the table and the locks.
+pub same_world : (P : TableAt → List (Option ℕ) → Type 0) (t t' : TableAt) (locks locks' : List (Option ℕ)) → t' ≡ t → locks' ≡ locks → P t locks → P t' locks'
+same_world P t t' locks locks' table same p = subst (λ u. P u locks') (sym table) (subst (λ l. P t l) (sym same) p)
+
+-- A step reserves three entries at most.
+pub reserved_few : (step : Step) → reserved step ≤ 3
+reserved_few (steps.Begin c) = omega arith
+reserved_few (steps.Ask c (Put k v)) = omega arith
+reserved_few (steps.Ask c (Take k)) = omega arith
+reserved_few (steps.Ask c (Get k)) = omega arith
+reserved_few (steps.Save c) = omega arith
+reserved_few (steps.Back c n) = omega arith
+reserved_few _ = omega arith
+
+-- Where a step that reserves nothing has its room, memory is not wanted.
+pub no_memory : (state : State) (step : Step) → refusal_of state step ≡ None → (0 < reserved step) → Move state step (answers.Refused NoMemory) state
+no_memory state (steps.Begin c) none some = lacks state (steps.Begin c) NoMemory none tt
+no_memory state (steps.Ask c op) none some = lacks state (steps.Ask c op) NoMemory none tt
+no_memory state (steps.Save c) none some = lacks state (steps.Save c) NoMemory none tt
+no_memory state (steps.Back c n) none some = lacks state (steps.Back c n) NoMemory none tt
+no_memory state _ none some = absurd (omega arith)
+
+-- No more than what a step reserves is reserved for its entry.
+reserved_within : (step : Step) (answer : Answer) (e : Entry) → e ∷ [] ≡ entries_of step answer → reserved_for e ≤ reserved step
+reserved_within (steps.Begin c) answer e is = began answer is
+  where
+    began : (answer : Answer) → e ∷ [] ≡ entries_of (steps.Begin c) answer → reserved_for e ≤ 3
+    began (answers.Began t) is = let same : e ≡ entry.Began c t = cc (is) in subst (λ f. reserved_for f ≤ 3) (sym same) (omega arith)
+    began _ is = absurd (cc (is))
+reserved_within (steps.Ask c op) answer e is = asked answer is
+  where
+    asked : (answer : Answer) → e ∷ [] ≡ entries_of (steps.Ask c op) answer → reserved_for e ≤ reserved (steps.Ask c op)
+    asked answers.Asked is = let same : e ≡ entry.Asked c op = cc (is) in subst (λ f. reserved_for f ≤ reserved (steps.Ask c op)) (sym same) (omega arith)
+    asked (answers.Busy x) is = let same : e ≡ entry.Busy c op x = cc (is) in subst (λ f. reserved_for f ≤ reserved (steps.Ask c op)) (sym same) (omega arith)
+    asked _ is = absurd (cc (is))
+reserved_within (steps.Act c) answer e is = acted answer is
+  where
+    acted : (answer : Answer) → e ∷ [] ≡ entries_of (steps.Act c) answer → reserved_for e ≤ 0
+    acted (answers.Done reply) is = let same : e ≡ entry.Did c reply = cc (is) in subst (λ f. reserved_for f ≤ 0) (sym same) (omega arith)
+    acted answers.Undone is = let same : e ≡ entry.Undone c = cc (is) in subst (λ f. reserved_for f ≤ 0) (sym same) (omega arith)
+    acted (answers.Returned n) is = let same : e ≡ entry.Returned c n = cc (is) in subst (λ f. reserved_for f ≤ 0) (sym same) (omega arith)
+    acted answers.Aborted is = let same : e ≡ entry.Aborted c = cc (is) in subst (λ f. reserved_for f ≤ 0) (sym same) (omega arith)
+    acted _ is = absurd (cc (is))
+reserved_within (steps.Save c) answer e is = saved answer is
+  where
+    saved : (answer : Answer) → e ∷ [] ≡ entries_of (steps.Save c) answer → reserved_for e ≤ 1
+    saved (answers.Saved n) is = let same : e ≡ entry.Saved c = cc (is) in subst (λ f. reserved_for f ≤ 1) (sym same) (omega arith)
+    saved _ is = absurd (cc (is))
+reserved_within (steps.Back c n) answer e is = left answer is
+  where
+    left : (answer : Answer) → e ∷ [] ≡ entries_of (steps.Back c n) answer → reserved_for e ≤ 2
+    left answers.Leaving is = let same : e ≡ entry.Leave c (Some n) = cc (is) in subst (λ f. reserved_for f ≤ 2) (sym same) (omega arith)
+    left _ is = absurd (cc (is))
+reserved_within (steps.Commit c) answer e is = committed answer is
+  where
+    committed : (answer : Answer) → e ∷ [] ≡ entries_of (steps.Commit c) answer → reserved_for e ≤ 0
+    committed (answers.Committed p) is = let same : e ≡ entry.Committed c p = cc (is) in subst (λ f. reserved_for f ≤ 0) (sym same) (omega arith)
+    committed _ is = absurd (cc (is))
+reserved_within (steps.Abort c) answer e is = left answer is
+  where
+    left : (answer : Answer) → e ∷ [] ≡ entries_of (steps.Abort c) answer → reserved_for e ≤ 0
+    left answers.Leaving is = let same : e ≡ entry.Leave c None = cc (is) in subst (λ f. reserved_for f ≤ 0) (sym same) (omega arith)
+    left _ is = absurd (cc (is))
+reserved_within _ answer e is = absurd (cc (is))
+
+-- No more changes stand than entries are owed.
+standing_owed : (q : Phase) (standing : ℕ) (kept : List ℕ) → IsLevelIn q standing kept → standing ≤ owed_in standing q
+standing_owed Closed standing kept is = let none : standing ≡ 0 = is.0 in omega arith
+standing_owed Opened standing kept is = omega arith
+standing_owed (Waiting op) standing kept is = omega arith
+standing_owed (LeavingTo n) standing kept is = omega arith
+standing_owed LeavingToEnd standing kept is = omega arith
+
+small_standing : (a b owed n : ℕ) → a ≡ b → b ≤ owed → owed < n → a < n
+small_standing a b owed n same most small = omega arith
+
+module _ (w : World) (tells : Tells w) (c : ℕ) (x y : Session) (at : slice_get w.sessions c ≡ Some x) (step : Step) (answer : Answer) (t' : TableAt) (locks' : List (Option ℕ)) (called : Called w c x step answer y t' locks') where
+  same_seat : (o : Option Entry) → option_to_list o ≡ entries_of step answer → y.seat.seat ≡ x.seat.seat
+  same_seat None is = let comes : Stays w c x y t' locks' (counts_after w.counts answer) = subst (Comes w c x y t' locks' (counts_after w.counts answer)) (sym is) called.comes in comes.same_seat
+  same_seat (Some e) is = let comes : Grows w c x y t' locks' (counts_after w.counts answer) e = subst (Comes w c x y t' locks' (counts_after w.counts answer)) (sym is) called.comes in comes.same_seat
+
+  -- The entry that the step adds may be added.
+  pub can_add : (o : Option Entry) → option_to_list o ≡ entries_of step answer → (len cap owed : ℕ) → owed ≡ sum_by owed_of w.sessions → len + (owed + reserved step) ≤ cap → cap < 2 ^ 63 → CanAdd y.seat len cap owed o
+  can_add None is len cap owed owes room small =
+      let most : owed_of x ≤ sum_by owed_of w.sessions = one_of_sum owed_of w.sessions c x at in
+      let same : owed_in y.seat.seat.standing y.seat.seat.phase ≡ owed_of x = ap (λ (s : Seat). owed_in s.standing s.phase) (same_seat None is) in
+      omega arith
+  can_add (Some e) is len cap owed owes room small =
+      let comes : Grows w c x y t' locks' (counts_after w.counts answer) e = subst (Comes w c x y t' locks' (counts_after w.counts answer)) (sym is) called.comes in
+      let goes : row x.seat.seat x.seat.seat.phase e ≡ Some comes.seat = row_there w tells c x y at t' locks' (counts_after w.counts answer) e comes in
+      let most : owed_of x ≤ sum_by owed_of w.sessions = one_of_sum owed_of w.sessions c x at in
+      let same : owed_in y.seat.seat.standing y.seat.seat.phase ≡ owed_of x = ap (λ (s : Seat). owed_in s.standing s.phase) comes.same_seat in
+      let takes : owed_by (Some comes.seat) + 1 ≤ owed_by (Some x.seat.seat) + reserved_for e = owed_by-row x.seat.seat comes.seat e goes in
+      let few = reserved_within step answer e is in
+      record {
+        next = comes.seat;
+        row_is = ap (λ (s : Seat). row s s.phase e) comes.same_seat ∙ goes;
+        standing = small_standing y.seat.seat.standing x.seat.seat.standing (owed_of x) (2 ^ 63) (ap (λ (s : Seat). s.standing) comes.same_seat) (standing_owed x.seat.seat.phase x.seat.seat.standing x.seat.seat.kept (seat_leveled (own c w.history) x.seat.seat (tells.seated c x at).seat).within) (omega arith);
+        saved = comes.saved;
+        room = omega arith;
+        before = omega arith;
+        owed_fits = omega arith;
+        fits = omega arith;
+      }
+
+  -- What the core then tells.
+  pub called_tells : (seat' : RoomySeat) (o : Option Entry) → option_to_list o ≡ entries_of step answer → Enters y.seat (option_to_list o) seat' → (h' : List Entry) → h' ≡ w.history ++ option_to_list o
+      → Tells (world_after w c (seated_as y seat') h' (counts_after w.counts answer) t' locks' (placed_then w.placed step answer))
+  called_tells seat' None is entered h' pushed =
+      let comes : Stays w c x y t' locks' (counts_after w.counts answer) = subst (Comes w c x y t' locks' (counts_after w.counts answer)) (sym is) called.comes in
+      subst (λ g. Tells (world_after w c (seated_as y seat') g (counts_after w.counts answer) t' locks' (placed_then w.placed step answer))) (sym (pushed ∙ append-nil w.history))
+      (subst (λ (s : RoomySeat). Tells (world_after w c (seated_as y s) w.history (counts_after w.counts answer) t' locks' (placed_then w.placed step answer))) (sym entered)
+      (stayed w tells c x y at t' locks' (counts_after w.counts answer) comes (placed_then w.placed step answer) (called.fresh y.seat)))
+  called_tells seat' (Some e) is entered h' pushed =
+      let comes : Grows w c x y t' locks' (counts_after w.counts answer) e = subst (Comes w c x y t' locks' (counts_after w.counts answer)) (sym is) called.comes in
+      let goes : row x.seat.seat x.seat.seat.phase e ≡ Some comes.seat = row_there w tells c x y at t' locks' (counts_after w.counts answer) e comes in
+      let both : Some seat'.seat ≡ Some comes.seat = sym entered ∙ ap (λ (s : Seat). row s s.phase e) comes.same_seat ∙ goes in
+      let same : seat'.seat ≡ comes.seat = cc (both) in
+      subst (λ g. Tells (world_after w c (seated_as y seat') g (counts_after w.counts answer) t' locks' (placed_then w.placed step answer))) (sym pushed)
+      (grown w tells c x y at t' locks' (counts_after w.counts answer) e comes seat' same (placed_then w.placed step answer) (called.fresh seat'))
+
+  -- What all callers then owe, and the room for it.
+  pub called_owes : (seat' : RoomySeat) (o : Option Entry) → option_to_list o ≡ entries_of step answer → (owed owed' : ℕ) → owed ≡ sum_by owed_of w.sessions
+      → owed' ≡ owed - owed_in y.seat.seat.standing y.seat.seat.phase + owed_in seat'.seat.standing seat'.seat.phase → owed' ≡ sum_by owed_of (slice_set w.sessions c (seated_as y seat'))
+  called_owes seat' o is owed owed' owes after =
+      let sums : sum_by owed_of (slice_set w.sessions c (seated_as y seat')) + owed_of x ≡ sum_by owed_of w.sessions + owed_of (seated_as y seat') = sum_changed owed_of w.sessions c x (seated_as y seat') at in
+      let most : owed_of x ≤ sum_by owed_of w.sessions = one_of_sum owed_of w.sessions c x at in
+      let same : owed_in y.seat.seat.standing y.seat.seat.phase ≡ owed_of x = ap (λ (s : Seat). owed_in s.standing s.phase) (same_seat o is) in
+      omega arith
+
+  pub called_room : (seat' : RoomySeat) (o : Option Entry) → option_to_list o ≡ entries_of step answer → Enters y.seat (option_to_list o) seat' → (len cap : ℕ) → len + (sum_by owed_of w.sessions + reserved step) ≤ cap
+      → len + length (option_to_list o) + sum_by owed_of (slice_set w.sessions c (seated_as y seat')) ≤ cap
+  called_room seat' None is entered len cap room =
+      let sums : sum_by owed_of (slice_set w.sessions c (seated_as y seat')) + owed_of x ≡ sum_by owed_of w.sessions + owed_of (seated_as y seat') = sum_changed owed_of w.sessions c x (seated_as y seat') at in
+      let same : owed_of (seated_as y seat') ≡ owed_of x = ap (λ (s : RoomySeat). owed_in s.seat.standing s.seat.phase) entered ∙ ap (λ (s : Seat). owed_in s.standing s.phase) (same_seat None is) in
+      omega arith
+  called_room seat' (Some e) is entered len cap room =
+      let sums : sum_by owed_of (slice_set w.sessions c (seated_as y seat')) + owed_of x ≡ sum_by owed_of w.sessions + owed_of (seated_as y seat') = sum_changed owed_of w.sessions c x (seated_as y seat') at in
+      let takes : owed_by (Some seat'.seat) + 1 ≤ owed_by (Some y.seat.seat) + reserved_for e = owed_by-row y.seat.seat seat'.seat e entered in
+      let same : owed_in y.seat.seat.standing y.seat.seat.phase ≡ owed_of x = ap (λ (s : Seat). owed_in s.standing s.phase) (same_seat (Some e) is) in
+      let few = reserved_within step answer e is in
+      omega arith
+
+  -- The move.
+  pub called_move : (seat' : RoomySeat) (o : Option Entry) → option_to_list o ≡ entries_of step answer → (h' : List Entry) → h' ≡ w.history ++ option_to_list o
+      → Move (state_of w) step answer (state_of (world_after w c (seated_as y seat') h' (counts_after w.counts answer) t' locks' (placed_then w.placed step answer)))
+  called_move seat' o is h' pushed =
+      subst (λ g. Move (state_of w) step answer (state_of (world_after w c (seated_as y seat') g (counts_after w.counts answer) t' locks' (placed_then w.placed step answer)))) (sym (pushed ∙ ap (λ es. w.history ++ es) is)) (called.move seat')

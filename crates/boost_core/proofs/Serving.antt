@@ -1,0 +1,154 @@
+-- What each step that is no caller's comes to.
+use Rattle.std.proofs.Common.{◌≡◌, ℕ, ◌*◌, ◌<◌, ◌≤◌, ◌==◌, ◌&&◌, Bool, true, false, cond, Some, None, Result, Ok, Err, refl, sym, ap, subst, ◌∙◌, arith}
+use Rattle.std.specs.Prelude.{nat_le, nat_lt, not}
+use Rattle.std.proofs.lemmas.Bool.{cases_Bool, cases_lt, lt-ltb, ltb-true, le-leb}
+use Rattle.std.proofs.lemmas.List.{length-set}
+use mathlib.Core.Logic.{inl, inr}
+use Rattle.txn_trace.specs.declared.step.Step.{Step}
+use Rattle.txn_trace.specs.declared.step.Step.TheVariants as steps
+use Rattle.txn_trace.specs.declared.answer.Answer.{Answer}
+use Rattle.txn_trace.specs.Map.{Map, count_of}
+use Rattle.txn_trace.specs.Now.{now}
+use Rattle.map_ops.specs.Double.{Double}
+use Rattle.map_ops.specs.Double.TheVariants as doubles
+use Rattle.map_ops.specs.InitSeek.{InitSeek}
+use Rattle.map_ops.specs.InitSeek.TheVariants as seeks
+use Rattle.map_ops.specs.InitLink.{InitLink}
+use Rattle.map_ops.specs.InitLink.TheVariants as links
+use Rattle.map_ops.specs.InitRefusal.{InitRefusal}
+use Rattle.map_ops.specs.SweepOutcome.{SweepOutcome}
+use Rattle.map_ops.specs.SweepOutcome.TheVariants as sweeps
+use Rattle.map_ops.specs.Buckets.{Doubles, SeekChanges, LinkChanges, StoreChanges, seek_answer, store_answer, double_answer}
+use Rattle.map_ops.specs.TableAt.{TableAt, Follows, content, size_of, stored_of, helps_of, turn_of, largest_of}
+use Rattle.boost_core.specs.State.{Helper}
+use Rattle.boost_core.specs.Refusals.{refusal_for}
+use Rattle.boost_core.specs.Answers.{IsAnswer}
+use Rattle.boost_core.specs.Placed.{placed_then}
+use Rattle.boost_core.specs.Machine.{Move}
+use Rattle.std.specs.List.{slice_get}
+use Rattle.boost_core.specs.Serves as said
+use Rattle.boost_core.specs.Serves.{Serves, Sweeping, Seeking, Linking, Storing, Doubling}
+use Rattle.boost_core.specs.Core.{World, Tells, state_of}
+use Rattle.boost_core.proofs.Refused.{le_false}
+use Rattle.boost_core.proofs.Helping.{served, sweep_tells, swept_move, clean_move, becomes_tells, becomes_state, double_tells, seek_refusal, refusal_in_result, seek_ready_move, seek_placed_move, helper_refused, store_refusal, stored_move, link_refused_move, link_again_move, link_present_move, link_linked_move}
+
+-- What the core then tells, and the move.
+pub record Served (w : World) (step : Step) (answer : Answer) (t' : TableAt) : Type 0 where
+  pub tells : Tells (served w t' (placed_then w.placed step answer))
+  pub move : Move (state_of w) step answer (state_of (served w t' (placed_then w.placed step answer)))
+
+lt_not_le : (a b : ℕ) → nat_lt a b ≡ not (nat_le b a)
+lt_not_le a b = elim (cases_lt a b) [
+  | inl less ↦ lt-ltb a b less ∙ sym (ap not (le_false b a less))
+  | inr most ↦ no_less most ∙ sym (ap not (le-leb b a most))
+]
+  where
+    no_less : b ≤ a → nat_lt a b ≡ false
+    no_less most = elim (cases_Bool (nat_lt a b)) [
+      | inl is ↦ absurd (let less : a < b = ltb-true a b is in omega arith)
+      | inr is ↦ is
+    ]
+
+module _ (w : World) (tells : Tells w) (t' : TableAt) (follows : Follows w.table t') (rises : turn_of w.table ≤ turn_of t') where
+  -- Nothing has changed.
+  same_tells : t' ≡ w.table → Tells (served w t' w.placed)
+  same_tells same = subst (λ u. Tells (served w u w.placed)) (sym same) tells
+
+  swept_by : (outcome : SweepOutcome) (answer : Answer) (is : Sweeping w.table t' answer) → is.outcome ≡ outcome → answer ≡ said.swept outcome → Served w steps.Sweep answer t'
+  swept_by sweeps.Swept answer is says answer_is = subst (λ a. Served w steps.Sweep a t') (sym answer_is) (record { tells = sweep_tells w tells t' is.keeps is.spares follows; move = swept_move w t' is.keeps rises })
+  swept_by sweeps.Clean answer is says answer_is = subst (λ a. Served w steps.Sweep a t') (sym answer_is) (record { tells = sweep_tells w tells t' is.keeps is.spares follows; move = clean_move w t' is.keeps (is.turn says) })
+
+  sought_by : (h b : ℕ) (outcome : Result InitSeek InitRefusal) (answer : Answer) → answer ≡ said.sought outcome → outcome ≡ seek_answer (size_of w.table) (stored_of w.table) (slice_get (helps_of w.table) h) b
+      → SeekChanges w.table t' h b outcome → Served w (steps.InitSeek h b) answer t'
+  sought_by h b (Ok seeks.Ready) answer answer_is says changes = subst (λ a. Served w (steps.InitSeek h b) a t') (sym answer_is) (record {
+    tells = becomes_tells w tells t' None _ _ _ _ changes.0.becomes (length-set _ _ _) follows tt;
+    move = seek_ready_move w t' h b tells.helpers (sym says) changes.0 changes.1;
+  })
+  sought_by h b (Ok seeks.Placed) answer answer_is says changes = subst (λ a. Served w (steps.InitSeek h b) a t') (sym answer_is) (record {
+    tells = becomes_tells w tells t' (Some (Helper h)) _ _ _ _ changes.helps.becomes (length-set _ _ _) follows changes.fits;
+    move = seek_placed_move w t' h b tells.helpers (sym says) changes rises;
+  })
+  sought_by h b (Err refusal) answer answer_is says changes = subst (λ a. Served w (steps.InitSeek h b) a t') (sym answer_is) (record {
+    tells = same_tells changes;
+    move = helper_refused w t' (steps.InitSeek h b) (refusal_for refusal) changes (seek_refusal w h b tells.helpers ∙ ap refusal_in_result (sym says));
+  })
+
+  linked_by : (h : ℕ) (outcome : Result InitLink InitRefusal) (answer : Answer) → answer ≡ said.linked outcome → (is : Linking w.table t' h answer) → is.outcome ≡ outcome → Served w (steps.InitLink h) answer t'
+  linked_by h (Ok links.Again) answer answer_is is says =
+      let changes = subst (LinkChanges w.table t' h) says is.changes in
+      let now_is = sym (is.says (λ e. let both = sym says ∙ e in cc)) ∙ says in
+      subst (λ a. Served w (steps.InitLink h) a t') (sym answer_is) (record {
+        tells = becomes_tells w tells t' None _ _ _ _ changes.0.becomes (length-set _ _ _) follows tt;
+        move = link_again_move w h tells.helpers now_is tells.fresh (λ bucket had below. is.in_turn bucket had below says) t' changes.0 changes.1;
+      })
+  linked_by h (Ok links.Present) answer answer_is is says =
+      let holds = subst (LinkChanges w.table t' h) says is.changes in
+      let now_is = sym (is.says (λ e. let both = sym says ∙ e in cc)) ∙ says in
+      subst (λ a. Served w (steps.InitLink h) a t') (sym answer_is) (record {
+        tells = becomes_tells w tells t' None _ _ _ _ holds.helps.becomes (length-set _ _ _) follows tt;
+        move = link_present_move w h tells.helpers now_is t' holds;
+      })
+  linked_by h (Ok links.Linked) answer answer_is is says =
+      let linked = subst (LinkChanges w.table t' h) says is.changes in
+      let now_is = sym (is.says (λ e. let both = sym says ∙ e in cc)) ∙ says in
+      subst (λ a. Served w (steps.InitLink h) a t') (sym answer_is) (record {
+        tells = becomes_tells w tells t' None _ _ _ _ linked.becomes (length-set _ _ _) follows tt;
+        move = link_linked_move w h tells.helpers now_is t' linked rises;
+      })
+  linked_by h (Err refusal) answer answer_is is says =
+      let same = subst (LinkChanges w.table t' h) says is.changes in
+      subst (λ a. Served w (steps.InitLink h) a t') (sym answer_is) (record {
+        tells = same_tells same;
+        move = link_refused_move w h tells.helpers is.outcome is.says is.no_memory refusal says t' same;
+      })
+
+  stored_by : (h : ℕ) (outcome : Result Unit InitRefusal) (answer : Answer) → answer ≡ said.stored outcome → outcome ≡ store_answer (slice_get (helps_of w.table) h) → StoreChanges w.table t' h outcome → Served w (steps.InitStore h) answer t'
+  stored_by h (Ok done) answer answer_is says stores = subst (λ a. Served w (steps.InitStore h) a t') (sym answer_is) (record {
+    tells = becomes_tells w tells t' None _ _ _ _ stores.becomes (length-set _ _ _) follows tt;
+    move = stored_move w t' h tells.helpers (sym says) stores;
+  })
+  stored_by h (Err refusal) answer answer_is says same = subst (λ a. Served w (steps.InitStore h) a t') (sym answer_is) (record {
+    tells = same_tells same;
+    move = helper_refused w t' (steps.InitStore h) (refusal_for refusal) same (store_refusal w h tells.helpers ∙ ap refusal_in_result (sym says));
+  })
+
+  -- What a doubling says of the size.
+  doubling : (seen : ℕ) (outcome : Double) (one two three : Bool) → (size_of w.table == seen) ≡ one → (size_of w.table == w.limits.buckets) ≡ two → nat_le (count_of (now w.history)) (2 * size_of w.table) ≡ three
+      → outcome ≡ cond (not one) (doubles.Moved (size_of w.table)) (cond two doubles.AtLimit (cond three doubles.Light (doubles.Doubled (2 * size_of w.table)))) → IsAnswer (state_of w) (steps.Double seen) (said.doubled outcome)
+  doubling seen outcome false two three at top few is = subst (λ o. IsAnswer (state_of w) (steps.Double seen) (said.doubled o)) (sym is) (refl, ap not at)
+  doubling seen outcome true true three at top few is = subst (λ o. IsAnswer (state_of w) (steps.Double seen) (said.doubled o)) (sym is) (λ i. at i && top i)
+  doubling seen outcome true false true at top few is = subst (λ o. IsAnswer (state_of w) (steps.Double seen) (said.doubled o)) (sym is)
+      ((λ i. (at i && not (top i)) && not (lt_not_le (2 * size_of w.table) (count_of (now w.history)) i)) ∙ ap (λ b. not (not b)) few)
+  doubling seen outcome true false false at top few is = subst (λ o. IsAnswer (state_of w) (steps.Double seen) (said.doubled o)) (sym is)
+      (refl, (λ i. (at i && not (top i)) && lt_not_le (2 * size_of w.table) (count_of (now w.history)) i) ∙ ap not few)
+
+  doubled_answer : (seen : ℕ) (outcome : Double) → outcome ≡ double_answer (size_of w.table) (largest_of w.table) (count_of (content w.table)) seen → IsAnswer (state_of w) (steps.Double seen) (said.doubled outcome)
+  doubled_answer seen outcome says = doubling seen outcome _ _ _ refl refl refl
+      (says ∙ ap (λ n. double_answer (size_of w.table) n (count_of (content w.table)) seen) tells.largest ∙ ap (λ (m : Map). double_answer (size_of w.table) w.limits.buckets (count_of m) seen) tells.content)
+
+  doubled_by : (seen : ℕ) (outcome : Double) (answer : Answer) → answer ≡ said.doubled outcome → outcome ≡ double_answer (size_of w.table) (largest_of w.table) (count_of (content w.table)) seen → Doubles w.table t' outcome → Served w (steps.Double seen) answer t'
+  doubled_by seen (doubles.Moved n) answer answer_is says changes = subst (λ a. Served w (steps.Double seen) a t') (sym answer_is) (record {
+    tells = double_tells w tells t' (doubles.Moved n) changes follows;
+    move = record { allowed = (refl, doubled_answer seen (doubles.Moved n) says); state = becomes_state w t' None _ _ _ _ changes.becomes; changes = rises; list_kept = λ kept. changes.kept; stamp = let same = changes.last in omega arith; one_stamp = let same = changes.last in omega arith };
+  })
+  doubled_by seen doubles.AtLimit answer answer_is says changes = subst (λ a. Served w (steps.Double seen) a t') (sym answer_is) (record {
+    tells = double_tells w tells t' doubles.AtLimit changes follows;
+    move = record { allowed = (refl, doubled_answer seen doubles.AtLimit says); state = becomes_state w t' None _ _ _ _ changes.becomes; changes = rises; list_kept = λ kept. changes.kept; stamp = let same = changes.last in omega arith; one_stamp = let same = changes.last in omega arith };
+  })
+  doubled_by seen doubles.Light answer answer_is says changes = subst (λ a. Served w (steps.Double seen) a t') (sym answer_is) (record {
+    tells = double_tells w tells t' doubles.Light changes follows;
+    move = record { allowed = (refl, doubled_answer seen doubles.Light says); state = becomes_state w t' None _ _ _ _ changes.becomes; changes = rises; list_kept = λ kept. changes.kept; stamp = let same = changes.last in omega arith; one_stamp = let same = changes.last in omega arith };
+  })
+  doubled_by seen (doubles.Doubled n) answer answer_is says changes = subst (λ a. Served w (steps.Double seen) a t') (sym answer_is) (record {
+    tells = double_tells w tells t' (doubles.Doubled n) changes follows;
+    move = record { allowed = (refl, doubled_answer seen (doubles.Doubled n) says); state = becomes_state w t' None _ _ _ _ changes.becomes; changes = rises; list_kept = λ kept. changes.kept; stamp = let same = changes.last in omega arith; one_stamp = let same = changes.last in omega arith };
+  })
+
+  -- What each step comes to.
+  pub serves : (step : Step) (answer : Answer) → Serves step w.table answer t' → Served w step answer t'
+  serves steps.Sweep answer is = swept_by is.outcome answer is refl is.answer_is
+  serves (steps.InitSeek h b) answer is = sought_by h b is.outcome answer is.answer_is is.says is.changes
+  serves (steps.InitLink h) answer is = linked_by h is.outcome answer is.answer_is is refl
+  serves (steps.InitStore h) answer is = stored_by h is.outcome answer is.answer_is is.says is.changes
+  serves (steps.Double seen) answer is = doubled_by seen is.outcome answer is.answer_is is.says is.changes
+  serves _ answer is = absurd is

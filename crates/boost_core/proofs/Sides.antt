@@ -1,0 +1,182 @@
+-- What a caller's side that goes with the table may do.
+use Rattle.std.proofs.Common.{◌≡◌, ℕ, ◌+◌, ◌-◌, ◌<◌, ◌≤◌, ◌&&◌, ◌||◌, Bool, true, false, cond, List, [], ◌∷◌, ◌++◌, length, Option, Some, None, is_some, refl, sym, ap, subst, ◌∙◌, arith}
+use Rattle.std.specs.Prelude.{slice_get, map, reverse, nat_lt, not}
+use Rattle.std.proofs.lemmas.Bool.{false≢true, cases_lt, ltb-true, lt-ltb}
+use Rattle.std.proofs.lemmas.List.{reverse-append, length_push, get_or_push}
+use Rattle.std.proofs.lemmas.Option.{slice_get-get_or}
+use mathlib.Core.Logic.{inl, inr}
+use Rattle.txn_trace.specs.declared.seat.Phase.{Phase}
+use Rattle.txn_trace.specs.declared.seat.Phase.TheVariants.{Closed, Opened, Waiting, LeavingTo, LeavingToEnd}
+use Rattle.txn_trace.specs.Seats.{is_waiting, is_leaving, has_job, has_target}
+use Rattle.txn_trace.proofs.Seated.{the_some}
+use Rattle.undo_log.specs.UndoLog.{Log, kept_at, newest_above}
+use Rattle.map_ops.specs.declared.job.MapJob.{MapJob}
+use Rattle.map_ops.specs.Jobs.{PendingAt}
+use Rattle.map_ops.specs.TableAt.{TableAt, Cursor, content}
+use Rattle.map_ops.specs.Changes.{OwnsIf}
+use Rattle.boost_core.specs.declared.session.Session.{Session}
+use Rattle.boost_core.specs.Sessions.{level_of, Waits, key_of_newest, target_in, target_of, spare_if, change_of, changes_of, AreDue, IsPlacedFor, IsSoughtAt, GoesWith, CanAct, CanUndo, CanArrive}
+use Rattle.boost_core.proofs.Refused.{not_is_false}
+use Rattle.boost_core.proofs.Settling.{newest_owned}
+
+pub record Last (jobs : List MapJob) : Type 0 where
+  pub front : List MapJob
+  pub job : MapJob
+  pub is : jobs ≡ front ++ job ∷ []
+
+pub last_job : (jobs : List MapJob) → 0 < length jobs → Last jobs
+last_job [] some = absurd (omega arith)
+last_job (job ∷ []) some = record { front = []; job = job; is = refl }
+last_job (job ∷ next ∷ rest) some =
+    let later = last_job (next ∷ rest) (omega arith) in
+    record { front = job ∷ later.front; job = later.job; is = ap (λ js. job ∷ js) later.is }
+
+at_last : (jobs front : List MapJob) (job : MapJob) → jobs ≡ front ++ job ∷ [] → slice_get jobs (length jobs - 1) ≡ Some job
+at_last jobs front job is =
+    let long : length (front ++ job ∷ []) ≡ length front + 1 = length_push front job in
+    ap (λ (js : List MapJob). slice_get js (length js - 1)) is
+    ∙ slice_get-get_or (front ++ job ∷ []) (length (front ++ job ∷ []) - 1) job (omega arith)
+    ∙ ap Some (get_or_push front job job (length (front ++ job ∷ []) - 1) (omega arith))
+
+pub changes_last : (jobs front : List MapJob) (job : MapJob) → jobs ≡ front ++ job ∷ [] → changes_of jobs ≡ change_of job ∷ changes_of front
+changes_last jobs front job is = ap changes_of is ∙ ap (map change_of) (reverse-append front (job ∷ []))
+
+-- What waits is the operation that the phase names.
+pub waiting_op : (q : Phase) (pending : PendingAt) (room : ℕ) → Waits q (Some pending) room → q ≡ Waiting pending.op
+waiting_op Closed pending room is = absurd is
+waiting_op Opened pending room is = absurd is
+waiting_op (Waiting op) pending room is = ap Waiting (sym is.0)
+waiting_op (LeavingTo n) pending room is = absurd is
+waiting_op LeavingToEnd pending room is = absurd is
+
+waiting_room : (q : Phase) (pending : PendingAt) (room : ℕ) → Waits q (Some pending) room → 0 < room
+waiting_room Closed pending room is = absurd is
+waiting_room Opened pending room is = absurd is
+waiting_room (Waiting op) pending room is = is.1
+waiting_room (LeavingTo n) pending room is = absurd is
+waiting_room LeavingToEnd pending room is = absurd is
+
+pub none_waits : (q : Phase) (room : ℕ) → Waits q None room → is_waiting q ≡ false
+none_waits Closed room is = refl
+none_waits Opened room is = refl
+none_waits (Waiting op) room is = absurd is
+none_waits (LeavingTo n) room is = refl
+none_waits LeavingToEnd room is = refl
+
+-- A caller that takes changes back, to a level or to the end.
+abbrev pub IsGoing : Phase → Type 0
+IsGoing (LeavingTo n) = Unit {0}
+IsGoing LeavingToEnd = Unit {0}
+IsGoing phase = ⊥
+
+pub going : (q : Phase) (standing : ℕ) (kept : List ℕ) → has_job (record { phase = q; standing = standing; kept = 0 ∷ kept }) ≡ true → IsGoing q × (nat_lt (kept_at kept (level_of q)) standing ≡ true)
+going Closed standing kept is = absurd (false≢true is)
+going Opened standing kept is = absurd (false≢true is)
+going (Waiting op) standing kept is = absurd (false≢true is)
+going (LeavingTo n) standing kept is = (tt, is)
+going LeavingToEnd standing kept is = (tt, is)
+
+going_target : (q : Phase) (log : Log MapJob) → IsGoing q → target_in q log ≡ key_of_newest (newest_above log (level_of q))
+going_target Closed log is = absurd is
+going_target Opened log is = absurd is
+going_target (Waiting op) log is = absurd is
+going_target (LeavingTo n) log is = refl
+going_target LeavingToEnd log is = refl
+
+none_above_if : (q : Phase) (standing : ℕ) (kept : List ℕ) → is_leaving q ≡ true → has_job (record { phase = q; standing = standing; kept = 0 ∷ kept }) ≡ false → nat_lt (kept_at kept (level_of q)) standing ≡ false
+none_above_if Closed standing kept leaves is = absurd (false≢true leaves)
+none_above_if Opened standing kept leaves is = absurd (false≢true leaves)
+none_above_if (Waiting op) standing kept leaves is = absurd (false≢true leaves)
+none_above_if (LeavingTo n) standing kept leaves is = is
+none_above_if LeavingToEnd standing kept leaves is = is
+
+pub at_most : (a b : ℕ) → nat_lt a b ≡ false → b ≤ a
+at_most a b is = elim (cases_lt a b) [
+  | inl less ↦ absurd (false≢true (sym is ∙ lt-ltb a b less))
+  | inr most ↦ most
+]
+
+pub either : (a b : Bool) → b ≡ true → (a || b) ≡ true
+either true b is = refl
+either false b is = is
+
+pub or_left : (a b : Bool) → (a || b) ≡ true → b ≡ false → a ≡ true
+or_left true b is none = refl
+or_left false b is none = absurd (false≢true (sym none ∙ is))
+
+and_true : (a b : Bool) → (a && not b) ≡ false → a ≡ true → b ≡ true
+and_true a b is both = not_is_false b (ap (λ v. v && not b) (sym both) ∙ is)
+
+module _ (x : Session) (t : TableAt) (goes : GoesWith x t) where
+  -- The seat is that of the log.
+  pub seat_is : x.seat.seat ≡ record { phase = x.seat.seat.phase; standing = length x.log.jobs; kept = 0 ∷ x.log.kept }
+  seat_is = λ i. record { phase = x.seat.seat.phase; standing = goes.agrees.standing i; kept = goes.agrees.kept i }
+
+  module _ (placed : (has_target x.seat.seat && not (is_some x.cursor)) ≡ false) where
+    cursor_there : has_target x.seat.seat ≡ true → (cursor : Cursor) × (x.cursor ≡ Some cursor)
+    cursor_there target = the_some x.cursor (and_true (has_target x.seat.seat) (is_some x.cursor) placed target)
+
+    -- The operation that waits may be done.
+    pub can_act : is_some x.pending ≡ true → CanAct x t
+    can_act some =
+        let pending = the_some x.pending some in
+        let waits : Waits x.seat.seat.phase (Some pending.0) x.log.room = subst (λ (o : Option PendingAt). Waits x.seat.seat.phase o x.log.room) pending.1 goes.agrees.waits in
+        let phase = waiting_op x.seat.seat.phase pending.0 x.log.room waits in
+        let cursor = cursor_there (ap (λ q. is_waiting q || has_job (record { phase = q; standing = x.seat.seat.standing; kept = x.seat.seat.kept })) phase) in
+        record {
+          pending = pending.0;
+          cursor = cursor.0;
+          waits = pending.1;
+          had = cursor.1;
+          placed = subst (IsPlacedFor t cursor.0) (ap (λ q. target_in q x.log) phase) (subst (λ (o : Option Cursor). IsSoughtAt t o (target_of x)) cursor.1 goes.sought);
+          owned = subst (λ (o : Option PendingAt). OwnsIf t (spare_if o)) pending.1 goes.withdraws;
+          room = waiting_room x.seat.seat.phase pending.0 x.log.room waits;
+        }
+
+    -- The newest change may be taken back.
+    pub can_undo : has_job x.seat.seat ≡ true → CanUndo x t
+    can_undo has =
+        let gone = going x.seat.seat.phase (length x.log.jobs) x.log.kept (ap has_job (sym seat_is) ∙ has) in
+        let more = ltb-true (kept_at x.log.kept (level_of x.seat.seat.phase)) (length x.log.jobs) gone.1 in
+        let last = last_job x.log.jobs (omega arith) in
+        let newest : newest_above x.log (level_of x.seat.seat.phase) ≡ Some last.job = ap (λ (b : Bool). cond b (slice_get x.log.jobs (length x.log.jobs - 1)) None) gone.1 ∙ at_last x.log.jobs last.front last.job last.is in
+        let cursor = cursor_there (either (is_waiting x.seat.seat.phase) (has_job x.seat.seat) has) in
+        record {
+          level = goes.agrees.level;
+          job = last.job;
+          cursor = cursor.0;
+          newest = newest;
+          had = cursor.1;
+          placed = subst (IsPlacedFor t cursor.0) (going_target x.seat.seat.phase x.log gone.0 ∙ ap key_of_newest newest) (subst (λ (o : Option Cursor). IsSoughtAt t o (target_of x)) cursor.1 goes.sought);
+          due = (subst (λ (js : List MapJob). AreDue (content t) js) (ap reverse last.is ∙ reverse-append last.front (last.job ∷ [])) goes.due).0;
+          owned = newest_owned t x.log.jobs last.front last.job last.is goes.settles.0 goes.settles.1;
+        }
+
+  -- A caller that takes changes back and has none left may end that.
+  pub can_arrive : (is_leaving x.seat.seat.phase || is_waiting x.seat.seat.phase) ≡ true → is_some x.pending ≡ false → has_job x.seat.seat ≡ false → CanArrive x
+  can_arrive free none no_job =
+      let rests = none_waits x.seat.seat.phase x.log.room (subst (λ (o : Option PendingAt). Waits x.seat.seat.phase o x.log.room) (no_pending x.pending none) goes.agrees.waits) in
+      let leaves = or_left (is_leaving x.seat.seat.phase) (is_waiting x.seat.seat.phase) free rests in
+      record {
+        leaves = leaves;
+        level = goes.agrees.level;
+        none_above = at_most (kept_at x.log.kept (level_of x.seat.seat.phase)) (length x.log.jobs) (none_above_if x.seat.seat.phase (length x.log.jobs) x.log.kept leaves (ap has_job (sym seat_is) ∙ no_job));
+      }
+    where
+      no_pending : (o : Option PendingAt) → is_some o ≡ false → o ≡ None
+      no_pending None is = refl
+      no_pending (Some pending) is = absurd (false≢true (sym is))
+
+  -- What a seek goes for: the operation that waits, or else the newest change above the level.
+  pub waiting_target : (pending : PendingAt) → x.pending ≡ Some pending → target_of x ≡ target_in (Waiting pending.op) x.log
+  waiting_target pending is = ap (λ q. target_in q x.log) (waiting_op x.seat.seat.phase pending x.log.room (subst (λ (o : Option PendingAt). Waits x.seat.seat.phase o x.log.room) is goes.agrees.waits))
+
+  pub newest_there : has_target x.seat.seat ≡ true → x.pending ≡ None → IsGoing x.seat.seat.phase × (kept_at x.log.kept (level_of x.seat.seat.phase) < length x.log.jobs)
+  newest_there target is =
+      let rests = none_waits x.seat.seat.phase x.log.room (subst (λ (o : Option PendingAt). Waits x.seat.seat.phase o x.log.room) is goes.agrees.waits) in
+      let has : has_job x.seat.seat ≡ true = ap (λ b. b || has_job x.seat.seat) (sym rests) ∙ target in
+      let gone = going x.seat.seat.phase (length x.log.jobs) x.log.kept (ap has_job (sym seat_is) ∙ has) in
+      (gone.0, ltb-true (kept_at x.log.kept (level_of x.seat.seat.phase)) (length x.log.jobs) gone.1)
+
+  pub newest_target : IsGoing x.seat.seat.phase → (job : MapJob) → newest_above x.log (level_of x.seat.seat.phase) ≡ Some job → target_of x ≡ key_of_newest (Some job)
+  newest_target gone job is = going_target x.seat.seat.phase x.log gone ∙ ap key_of_newest is

@@ -1,0 +1,23 @@
+use Rattle.std.proofs.Common.{Option, sym, subst}
+use Rattle.boost_core.specs.State.{Owner}
+use Rattle.boost_core.specs.Machine.{Move}
+use Rattle.boost_core.specs.Core.{Tells, world_of, state_of}
+use Rattle.boost_core.proofs.Moves.{move_of}
+use Rattle.boost_core.proofs.Helping.{served}
+use Rattle.boost_core.proofs.Serving.{serves}
+use Rattle.boost_core.proofs.machine.Core.serve.Goals as goal
+
+pub invariant_of-self : goal.invariant_of-self
+invariant_of-self c =
+    let is = serves _ c.self.invariant.tells c.serve-answer.new.table c.serve-answer.ensures.follows c.serve-answer.ensures.rises c.args.step c.serve-answer.result c.serve-answer.ensures.serves in
+    record {
+      tells = subst (λ (o : Option Owner). Tells (served (world_of c.self.inside.limits c.self.inside.history c.self.inside.counts c.self.inside.table c.self.inside.sessions c.self.inside.locks c.self.inside.placed) c.serve-answer.new.table o)) (sym c.placed_after-self-inside.ensures) is.tells;
+      owes = c.self.invariant.owes;
+      room = c.self.invariant.room;
+    }
+
+pub returns : goal.returns
+returns c =
+    let is = serves _ c.self.invariant.tells c.serve-answer.new.table c.serve-answer.ensures.follows c.serve-answer.ensures.rises c.args.step c.serve-answer.result c.serve-answer.ensures.serves in
+    subst (λ (o : Option Owner). Move c.args.self.now c.args.step c.serve-answer.result (state_of (served (world_of c.self.inside.limits c.self.inside.history c.self.inside.counts c.self.inside.table c.self.inside.sessions c.self.inside.locks c.self.inside.placed) c.serve-answer.new.table o))) (sym c.placed_after-self-inside.ensures)
+    (move_of _ _ _ _ _ c.self.view_is is.move)

@@ -1,0 +1,28 @@
+-- What adding the entry of a step asks for, and what it does to the seat.
+use Rattle.std.specs.Prelude.{◌≡◌, ℕ, ◌+◌, ◌-◌, ◌<◌, ◌≤◌, ◌^◌, true, Option, Some, None, List, [], ◌∷◌}
+use Rattle.txn_trace.specs.declared.entry.Entry.{Entry}
+use Rattle.txn_trace.specs.Shape.{Seat, RoomySeat, row}
+use Rattle.txn_trace.specs.Seats.{is_saved}
+use Rattle.txn_trace.specs.Owed.{owed_in}
+
+-- The seat enters what is added: one entry, or none.
+abbrev pub Enters : RoomySeat → List Entry → RoomySeat → Type 0
+Enters s [] s' = s' ≡ s
+Enters s (e ∷ []) s' = row s.seat s.seat.phase e ≡ Some s'.seat
+Enters s (e ∷ f ∷ es) s' = ⊥
+
+-- An entry may come next, there is room for it, and what is then owed fits.
+pub record CanEnter (s : RoomySeat) (len cap owed : ℕ) (e : Entry) : Type 0 where
+  pub next : Seat
+  pub row_is : row s.seat s.seat.phase e ≡ Some next
+  pub standing : s.seat.standing < 2 ^ 63
+  pub saved : is_saved e ≡ true → 0 < s.room
+  pub room : len < cap
+  pub before : owed_in s.seat.standing s.seat.phase ≤ owed
+  pub owed_fits : owed < 2 ^ 63
+  pub fits : owed - owed_in s.seat.standing s.seat.phase + owed_in next.standing next.phase < 2 ^ 63
+
+-- The same of what is owed where nothing is added.
+abbrev pub CanAdd : RoomySeat → ℕ → ℕ → ℕ → Option Entry → Type 0
+CanAdd s len cap owed None = owed_in s.seat.standing s.seat.phase ≤ owed
+CanAdd s len cap owed (Some e) = CanEnter s len cap owed e

@@ -1,0 +1,12 @@
+-- Whose cursor was placed last.
+use Rattle.std.specs.Prelude.{Option}
+use Rattle.txn_trace.specs.declared.step.Step.{Step}
+use Rattle.txn_trace.specs.declared.answer.Answer.{Answer}
+use Rattle.txn_trace.specs.declared.answer.Answer.TheVariants as answers
+use Rattle.boost_core.specs.State.{Owner}
+use Rattle.boost_core.specs.Answers.{placed_by}
+
+-- After a step and its answer: a refusal leaves what was before.
+abbrev pub placed_then : Option Owner → Step → Answer → Option Owner
+placed_then before step (answers.Refused refusal) = before
+placed_then before step answer = placed_by step answer

@@ -1,0 +1,31 @@
+//! What a step adds to the history.
+ghost use Rattle.std.specs.Prelude.{◌≡◌, ◌-◌, ◌+◌, ◌++◌, option_to_list, vec_len, vec_capacity, length};
+ghost use Rattle.txn_trace.specs.Owed.{owed_in};
+ghost use Rattle.boost_core.specs.Adding.{CanAdd, Enters};
+
+use txn_trace::{Entry, Seat};
+
+/// Adds the entry of a step, if it has one, to its caller's seat and to the history, in room that is there. Gives what all
+/// callers then owe.
+#[inline(always)]
+pub(crate) fn add(
+    seat: &mut Seat,
+    history: &mut Vec<Entry>,
+    owed: usize,
+    entry: Option<Entry>,
+) -> usize
+    requires { CanAdd seat.old (vec_len history.old) (vec_capacity history.old) owed entry }
+    ensures seat { Enters seat.old (option_to_list entry) seat.new }
+    ensures items { history.new.items ≡ history.old.items ++ option_to_list entry }
+    ensures len { vec_len history.new ≡ vec_len history.old + length (option_to_list entry) }
+    ensures capacity { vec_capacity history.new ≡ vec_capacity history.old }
+    ensures owed { result ≡ owed - owed_in seat.old.seat.standing seat.old.seat.phase + owed_in seat.new.seat.standing seat.new.seat.phase }
+{
+    let Some(entry) = entry else {
+        return owed;
+    };
+    let before = seat.owed() as usize;
+    seat.enter(entry);
+    history.push_reserved(entry);
+    owed - before + seat.owed() as usize
+}

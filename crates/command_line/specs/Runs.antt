@@ -1,0 +1,58 @@
+-- What the program does with the words of a call, and how it ends.
+use Rattle.std.specs.Prelude.{◌≡◌, ◌⊎◌, ℕ, Bool, true, false, List, [], ◌∷◌, ◌++◌, Option, Result, Ok, Err}
+use Rattle.std.specs.Io.KnownBytes.{Appends, Keeps}
+use Rattle.boostmap_engine.specs.declared.fault.Fault.{Fault}
+use Rattle.boostmap_engine.specs.declared.fault.Fault.TheVariants as faults
+use Rattle.boostmap_engine.specs.Faults.{status_of, message_of}
+use Rattle.boostmap_engine.specs.Written.{Writes, Leaves}
+use Rattle.boostmap_engine.specs.Report.{line, IsReportOf, IsNoStepFile}
+use Rattle.boostmap_engine.specs.Mixture.{IsMixtureOf, IsNoScriptFile}
+use Rattle.boostmap_engine.specs.Judgement.{IsJudgement, IsJudgementOf, IsNoHistoryFile}
+use Rattle.command_line.specs.declared.words.Call.{Call}
+use Rattle.command_line.specs.declared.words.Call.TheVariants.{Replay, Mix, Check}
+
+-- What a run comes to: whether all is well, or a fault.
+abbrev pub Outcome : Type 0
+Outcome = Result Bool Fault
+
+-- The name of a call's file.
+abbrev pub file_of : Call → List ℕ
+file_of (Replay file) = file.now
+file_of (Mix seed file) = file.now
+file_of (Check file) = file.now
+
+-- What standard output gets where the command of a call runs on a file of these bytes.
+abbrev pub Does : Call → Option (List ℕ) → Option (List ℕ) → Option (List ℕ) → Outcome → Type 0
+Does (Replay file) bytes old new (Ok well) = Writes IsReportOf bytes old new × (well ≡ true)
+Does (Replay file) bytes old new (Err fault) = Leaves IsReportOf IsNoStepFile bytes old new fault
+Does (Mix seed file) bytes old new (Ok well) = Writes (IsMixtureOf seed) bytes old new × (well ≡ true)
+Does (Mix seed file) bytes old new (Err fault) = Leaves (IsMixtureOf seed) IsNoScriptFile bytes old new fault
+Does (Check file) bytes old new (Ok well) = Writes (IsJudgement well) bytes old new
+Does (Check file) bytes old new (Err fault) = Leaves IsJudgementOf IsNoHistoryFile bytes old new fault
+
+-- No command ran: the words are no call, the file was not opened, or memory was refused.
+abbrev pub RunsNone : Option (List ℕ) → Option (List ℕ) → Outcome → Type 0
+RunsNone old new (Err faults.Usage) = Keeps old new
+RunsNone old new (Err faults.Read) = Keeps old new
+RunsNone old new (Err faults.NoMemory) = Keeps old new
+RunsNone old new (Err (faults.Input fault)) = ⊥
+RunsNone old new (Err faults.NoThread) = ⊥
+RunsNone old new (Err faults.Write) = ⊥
+RunsNone old new (Err faults.OutOfStep) = ⊥
+RunsNone old new (Ok well) = ⊥
+
+-- A call's command ran on the bytes of its own file, or none did.
+abbrev pub Runs : (List ℕ → Option (List ℕ)) → Option (List ℕ) → Option (List ℕ) → Outcome → Type 0
+Runs bytes_of old new outcome =
+    ((call : Call) × Does call (bytes_of (file_of call)) old new outcome) ⊎ RunsNone old new outcome
+
+-- The exit status.
+abbrev pub status_after : Outcome → ℕ
+status_after (Ok true) = 0
+status_after (Ok false) = 1
+status_after (Err fault) = status_of fault
+
+-- What standard error gets: the line of a fault, unless it did not take all of it, and else nothing.
+abbrev pub Tells : Option (List ℕ) → Option (List ℕ) → Bool → Outcome → Type 0
+Tells old new is_told (Ok well) = Keeps old new × (is_told ≡ true)
+Tells old new is_told (Err fault) = is_told ≡ true → Appends old new (line (message_of fault))

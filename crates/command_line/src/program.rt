@@ -1,0 +1,110 @@
+ghost use Rattle.std.specs.Prelude.{◌≡◌, ◌⊎◌, Bool, Result};
+ghost use Rattle.boostmap_engine.specs.declared.fault.Fault.{Fault};
+ghost use Rattle.boostmap_engine.specs.declared.fault.Fault.TheVariants.{NoMemory};
+ghost use Rattle.command_line.specs.Runs.{Does, Runs, Tells, status_after};
+
+use crate::system::System;
+use crate::words::{Call, call_in};
+use boostmap_engine::{Fault, check, mix, replay};
+use std::alloc::Global;
+use std::io;
+use std::io::{Read, Write};
+
+/// How a run of the program ended.
+#[derive(Clone, Copy, Debug, PartialEq, Eq)]
+pub struct Ending {
+    /// The exit status: 0 where all is well, 1 for an illegal history, else that of the fault.
+    pub status: u8,
+    /// Whether standard error took all that there was to say.
+    pub is_told: bool,
+}
+
+/// Want of memory where the error is that, else the other fault.
+fn memory_or(error: &io::Error, other: Fault) -> Fault
+    ensures { (result ≡ NoMemory) ⊎ (result ≡ other) }
+{
+    if error.kind() == io::ErrorKind::OutOfMemory {
+        Fault::NoMemory
+    } else {
+        other
+    }
+}
+
+/// Runs the engine of the call's command on its file, which is open. The answer is whether all is
+/// well: only of an illegal history it is not.
+fn run_engine<R: Read, W: Write>(
+    alloc: Global,
+    call: Call<'_>,
+    input: &mut R,
+    output: &mut W,
+) -> Result<bool, Fault>
+    ensures { Does call.entry (R.remaining input.old) (W.contents output.old) (W.contents output.new) result }
+{
+    match call {
+        Call::Replay { .. } => {
+            replay(alloc, input, output)?;
+            Ok(true)
+        }
+        Call::Mix { seed, .. } => {
+            mix(alloc, seed, input, output)?;
+            Ok(true)
+        }
+        Call::Check { .. } => check(alloc, input, output),
+    }
+}
+
+/// Reads the words, opens the file that they name, and runs the engine that they ask for.
+fn run_words<S: System, W: Write>(alloc: Global, system: &S, output: &mut W) -> Result<bool, Fault>
+    ensures { Runs (S.bytes system.now) (W.contents output.old) (W.contents output.new) result }
+{
+    let words = match system.words(alloc) {
+        Ok(words) => words,
+        Err(error) => return Err(memory_or(&error, Fault::Usage)),
+    };
+    let call = call_in(alloc, &words)?;
+    let mut input = match system.open(call.file()) {
+        Ok(input) => input,
+        Err(error) => return Err(memory_or(&error, Fault::Read)),
+    };
+    run_engine(alloc, call, &mut input, output)
+}
+
+/// The exit status after a run that came to this. Constant time.
+fn status_of(outcome: &Result<bool, Fault>) -> u8
+    ensures { result ≡ status_after outcome.now }
+{
+    match outcome {
+        Ok(true) => 0,
+        Ok(false) => 1,
+        Err(fault) => fault.status(),
+    }
+}
+
+/// Does all that the program does: reads the words of the call, opens the file that they name, runs
+/// the engine of the command on it, which writes to `output`, and writes the line of a fault to
+/// `errors`. A line that `errors` does not take changes nothing else.
+///
+/// # Cost
+///
+/// That of the engine, and time and memory in proportion to the words.
+pub fn run<S: System, W: Write, E: Write>(
+    alloc: Global,
+    system: &S,
+    output: &mut W,
+    errors: &mut E,
+) -> Ending
+    ensures { (outcome : Result Bool Fault)
+        × Runs (S.bytes system.now) (W.contents output.old) (W.contents output.new) outcome
+        × (result.status ≡ status_after outcome)
+        × Tells (E.contents errors.old) (E.contents errors.new) result.is_told outcome }
+{
+    let outcome = run_words(alloc, system, output);
+    let is_told = match &outcome {
+        Ok(_) => true,
+        Err(fault) => errors.writeln(fault.message()).is_ok(),
+    };
+    Ending {
+        status: status_of(&outcome),
+        is_told,
+    }
+}

@@ -1,0 +1,57 @@
+ghost use Rattle.std.specs.Prelude.{◌≡◌, ℕ, List, Option, Some, None, IfOk, IfSome};
+
+use std::alloc::{AllocError, Global};
+use std::env::Env;
+use std::fs::Files;
+use std::io::Read;
+use std::{env, fs, io};
+
+/// What the program asks of the system that it runs on: the words of its call, and files.
+pub trait System {
+    /// A file that is open for reading.
+    type Input: Read + Drop;
+
+    /// The bytes of the file of a name, where they are known.
+    ghost bytes: { Self → List ℕ → Option (List ℕ) } = { λ _ _. None };
+
+    /// The words of the call, of which the first is the program's name.
+    ///
+    /// # Errors
+    ///
+    /// `OutOfMemory` where memory is refused; another kind where a word is no text.
+    fn words(&self, alloc: Global) -> io::Result<Vec<String>>;
+
+    /// Opens the file of this name for reading.
+    ///
+    /// # Errors
+    ///
+    /// `OutOfMemory` where memory is refused; another kind where the file cannot be opened.
+    fn open(&self, name: &str) -> io::Result<Self::Input>
+        ensures { IfOk result (λ input. IfSome (bytes self.now name.now) (λ known. Self.Input.remaining input ≡ Some known)) };
+}
+
+/// The system that a process runs on.
+#[derive(Clone, Copy, Debug)]
+pub struct Host<'a, R> {
+    rt: &'a R,
+}
+
+impl<'a, R> Host<'a, R> {
+    /// The system behind this runtime. Constant time.
+    pub fn new(rt: &'a R) -> Host<'a, R> {
+        Host { rt }
+    }
+}
+
+impl<R: Env + Files + AllocGlobal> System for Host<'_, R> {
+    type Input = R::File;
+
+    fn words(&self, alloc: Global) -> io::Result<Vec<String>> {
+        let words: Result<Vec<String>, AllocError> = env::args(self.rt)?.collect(alloc);
+        Ok(words?)
+    }
+
+    fn open(&self, name: &str) -> io::Result<R::File> {
+        fs::open(self.rt, name)
+    }
+}

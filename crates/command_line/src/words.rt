@@ -1,0 +1,111 @@
+ghost use Rattle.std.specs.Prelude.{◌≡◌, ◌⊎◌, IfErr};
+ghost use Rattle.command_line.specs.Runs.{file_of};
+ghost use Rattle.boostmap_engine.specs.declared.fault.Fault.TheVariants as faults;
+
+use boostmap_engine::Fault;
+use clap::error::ErrorKind;
+use clap::{Arg, ArgAction, Command};
+use std::alloc::{AllocError, Global};
+
+/// What the words of a call ask for.
+#[derive(Clone, Copy, Debug, PartialEq, Eq)]
+pub enum Call<'a> {
+    /// To run the steps of a file.
+    Replay {
+        /// The file's name.
+        file: &'a str,
+    },
+    /// To run the scripts of a file, the workers' turns mixed as a seed says.
+    Mix {
+        /// What starts the generator that draws the turns.
+        seed: u64,
+        /// The file's name.
+        file: &'a str,
+    },
+    /// To judge the history of a file.
+    Check {
+        /// The file's name.
+        file: &'a str,
+    },
+}
+
+impl<'a> Call<'a> {
+    /// The name of the call's file. Constant time.
+    pub fn file(self) -> &'a str
+        ensures { result.now ≡ file_of self.entry }
+    {
+        let (Call::Replay { file } | Call::Mix { file, .. } | Call::Check { file }) = self;
+        file
+    }
+}
+
+/// A command of this name over one file.
+fn command_on_file<'a>(alloc: Global, name: &'a str) -> Result<Command<'a>, AllocError> {
+    let file = Arg::new(alloc, "FILE")
+        .required(true)
+        .action(ArgAction::Set);
+    Command::new(alloc, name).arg(file)
+}
+
+/// The command line of the program.
+fn command<'a>(alloc: Global) -> Result<Command<'a>, AllocError> {
+    let replay = command_on_file(alloc, "replay")?;
+    let seed = Arg::new(alloc, "seed")
+        .long("seed")
+        .required(true)
+        .action(ArgAction::Set);
+    let mix = command_on_file(alloc, "mix")?.arg(seed)?;
+    let check = command_on_file(alloc, "check")?;
+    Command::new(alloc, "boostmap")
+        .subcommand_required(true)
+        .subcommand(replay)?
+        .subcommand(mix)?
+        .subcommand(check)
+}
+
+/// The seed that a word spells: one or more decimal digits, of a number below 2^64.
+fn seed_in(word: &str) -> Option<u64> {
+    if word.bytes().all(|byte| byte.is_ascii_digit()) {
+        word.parse::<u64>().ok()
+    } else {
+        None
+    }
+}
+
+/// What the words ask for, of which the first is the program's name. Costs time in proportion to the
+/// words.
+///
+/// # Errors
+///
+/// - `Usage` for words that are no call of the program, a call for help among them.
+/// - `NoMemory` where memory is refused.
+pub fn call_in<'a>(alloc: Global, words: &'a [String]) -> Result<Call<'a>, Fault>
+    ensures { IfErr result (λ fault. (fault ≡ faults.Usage) ⊎ (fault ≡ faults.NoMemory)) }
+{
+    let command = command(alloc)?;
+    let matches = match command.try_get_matches_from(words) {
+        Ok(matches) => matches,
+        Err(error) => {
+            return Err(if error.kind() == ErrorKind::OutOfMemory {
+                Fault::NoMemory
+            } else {
+                Fault::Usage
+            });
+        }
+    };
+    let Some((name, found)) = matches.subcommand() else {
+        return Err(Fault::Usage);
+    };
+    let Some(file) = found.get_str("FILE") else {
+        return Err(Fault::Usage);
+    };
+    match name {
+        "replay" => Ok(Call::Replay { file }),
+        "mix" => match found.get_str("seed").and_then(|word| seed_in(word)) {
+            Some(seed) => Ok(Call::Mix { seed, file }),
+            None => Err(Fault::Usage),
+        },
+        "check" => Ok(Call::Check { file }),
+        _ => Err(Fault::Usage),
+    }
+}

@@ -1,0 +1,32 @@
+use Rattle.std.proofs.Common.{◌≡◌, ℕ, List, true, false, refl, sym, ap, subst, ◌∙◌}
+use Rattle.locked_map.proofs.Going.{ins_sized, goes_on_sized, no_room_run, broken_ends, held_took, held_in_step, goes_held}
+use Rattle.locked_map.proofs.caller.Caller.hold.Goals as goal
+
+pub returns-then-not-take_turn-clause-in_step : goal.returns-then-not-take_turn-clause-in_step
+returns-then-not-take_turn-clause-in_step g c = λ ins.
+    let sized = ins_sized _ _ _ _ _ _ c.self.view_is c.size.ensures c.turn-turn.ensures.drive ins in
+    ((c.if-self.false, c.take_turn.ensures.in_step c.self.inside.limits c.self.inside.number sized.1 sized.0), λ is. absurd (cc is))
+
+pub returns-then-not-take_turn-clause-goes : goal.returns-then-not-take_turn-clause-goes
+returns-then-not-take_turn-clause-goes g c = λ base goes.
+    let on = goes_on_sized base _ _ _ _ _ c.self.view_is c.turn-turn.ensures.drive goes in
+    let none = c.take_turn.ensures.no_room c.if-not-take_turn.true in
+    no_room_run base _ _ _ _ none.1 none.2 (c.take_turn.ensures.starts c.if-not-take_turn.true base on) on
+
+pub returns-clause-held : goal.returns-clause-held
+returns-clause-held g c =
+    held_took _ _ _ _ _ _ _ _ _ _ _ _ _ c.self.view_is c.if-self.false c.size.ensures c.turn-turn.ensures.drive c.turn-turn.ensures.turn (c.take_turn.ensures.took c.if-not-take_turn.false) c.is_whole.ensures c.ended-end.ensures.drive
+    c.breaks-self-inside.ensures c.end_in.ensures refl refl refl
+
+pub returns-clause-in_step : goal.returns-clause-in_step
+returns-clause-in_step g c = λ ins.
+    let sized = ins_sized _ _ _ _ _ _ c.self.view_is c.size.ensures c.turn-turn.ensures.drive ins in
+    held_in_step _ _ _ _ _ _ _ _ _ (c.take_turn.ensures.in_step c.self.inside.limits c.self.inside.number sized.1 sized.0) c.trace-core.ensures.shape c.is_whole.ensures c.ended-end.ensures.drive c.breaks-self-inside.ensures c.end_in.ensures
+
+pub returns-clause-goes : goal.returns-clause-goes
+returns-clause-goes g c = λ base goes.
+    let on = goes_on_sized base _ _ _ _ _ c.self.view_is c.turn-turn.ensures.drive goes in
+    goes_held base _ _ _ _ _ _ c.ended-end.ensures.drive c.breaks-self-inside.ensures c.end_in.ensures (c.take_turn.ensures.goes base on)
+
+pub returns-clause-broken : goal.returns-clause-broken
+returns-clause-broken g c = broken_ends _ _ _ _ _ c.breaks-self-inside.ensures c.end_in.ensures

@@ -1,0 +1,92 @@
+-- What a shared call leaves of its caller.
+use Rattle.std.specs.Prelude.{ℕ, ◌≡◌, ◌⊎◌, Bool, true, false, List, [], ◌∷◌, ◌++◌, Option, Some, None}
+use Rattle.txn_trace.specs.declared.entry.Entry.{Entry}
+use Rattle.txn_trace.specs.declared.refusal.Refusal.{Refusal}
+use Rattle.txn_trace.specs.declared.refusal.Refusal.TheVariants.{NoMemory, OutOfStep}
+use Rattle.txn_trace.specs.Seats.{refusal_in}
+use Rattle.txn_trace.specs.Shape.{Seat, seat_after}
+use Rattle.txn_drive.specs.declared.call.Call.{Call}
+use Rattle.txn_drive.specs.declared.«end».End.{End}
+use Rattle.txn_drive.specs.declared.«end».End.TheVariants as ends
+use Rattle.txn_drive.specs.Drives.{first_step}
+use Rattle.txn_drive.specs.Made.{IsMade}
+use Rattle.locked_map.specs.Sides.{IsSameSide, Follows}
+use Rattle.locked_map.specs.Suits.{may_refuse}
+use Rattle.locked_map.specs.Tokens.{Token, IsSameCaller}
+use Rattle.locked_map.specs.declared.stop.Stop.{Stop}
+use Rattle.locked_map.specs.declared.stop.Stop.TheVariants as stops
+
+-- The refusal of a call by the token alone: out of step where it is broken, else that of the seat
+-- that its entries give it.
+abbrev pub refused_at : Bool → Option Seat → Call → Option Refusal
+refused_at true seat call = Some OutOfStep
+refused_at false None call = Some OutOfStep
+refused_at false (Some s) call = refusal_in s (first_step 0 call)
+
+abbrev pub refused_by : {S : Type 0} → Token S → Call → Option Refusal
+refused_by k call = refused_at k.broken (seat_after k.seen) call
+
+-- A call that its token let pass, and that did what it was asked, or found a stripe held and took
+-- all back: it added what belongs to its end, and the side value followed.
+pub record Ran {S : Type 0} (words : S → List ℕ) (k : Token S) (call : Call) (outcome : End) (l : Token S) : Type 0 where
+  pub free : refused_by k call ≡ None
+  pub whose : IsSameCaller k l
+  pub sound : l.broken ≡ false
+  pub added : List Entry
+  pub entries : l.seen ≡ k.seen ++ added
+  pub made : IsMade k.number call outcome added
+  pub side : Follows words outcome k.side l.side
+
+-- A call that its token let pass, and that found no memory or no stamp: it added nothing.
+pub record FoundNone {S : Type 0} (k : Token S) (call : Call) (refusal : Refusal) (l : Token S) : Type 0 where
+  pub may : may_refuse call refusal ≡ true
+  pub whose : IsSameCaller k l
+  pub sound : l.broken ≡ false
+  pub seen : l.seen ≡ k.seen
+  pub side : IsSameSide k.side l.side
+
+-- A call that its token let pass, and that fell out of step: it added the entries of its moves,
+-- and the token is broken.
+pub record FellOut {S : Type 0} (k l : Token S) : Type 0 where
+  pub whose : IsSameCaller k l
+  pub broken : l.broken ≡ true
+  pub added : List Entry
+  pub entries : l.seen ≡ k.seen ++ added
+  pub side : IsSameSide k.side l.side
+
+abbrev pub Failed : {S : Type 0} → Token S → Call → Refusal → Token S → Type 0
+Failed k call OutOfStep l = FellOut k l
+Failed k call refusal l = FoundNone k call refusal l
+
+-- A call that was refused: by its token, which is as it was, or else later.
+abbrev pub WasRefused : {S : Type 0} → Token S → Call → Refusal → Token S → Type 0
+WasRefused k call refusal l =
+    ((refused_by k call ≡ Some refusal) × (l ≡ k))
+    ⊎ ((refused_by k call ≡ None) × Failed k call refusal l)
+
+-- What a call that has ended so leaves.
+abbrev pub Ended : {S : Type 0} → (S → List ℕ) → Token S → Call → End → Token S → Type 0
+Ended words k call (ends.Refused refusal) l = WasRefused k call refusal l
+Ended words k call outcome l = Ran words k call outcome l
+
+-- An end that says that the call did what it was asked.
+abbrev pub IsDone : End → Type 0
+IsDone (ends.Answered answer) = Unit {0}
+IsDone ends.Helped = Unit {0}
+IsDone outcome = ⊥
+
+-- What a call that did not do what it was asked leaves.
+abbrev pub Stopped : {S : Type 0} → (S → List ℕ) → Token S → Call → Stop → Token S → Type 0
+Stopped words k call (stops.Busy holder) l = Ran words k call (ends.Busy holder) l
+Stopped words k call (stops.Refused refusal) l = WasRefused k call refusal l
+
+-- What a call that did what it was asked leaves, beside its entries and its side value.
+pub record Passed {S : Type 0} (k : Token S) (call : Call) (l : Token S) : Type 0 where
+  pub free : refused_by k call ≡ None
+  pub whose : IsSameCaller k l
+  pub sound : l.broken ≡ false
+
+-- Why a change of the side value is refused: the token is broken, or else there is no memory.
+abbrev pub refused_side : Bool → Refusal
+refused_side true = OutOfStep
+refused_side false = NoMemory

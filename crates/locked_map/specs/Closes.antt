@@ -1,0 +1,43 @@
+-- What closing a map says.
+use Rattle.std.specs.Prelude.{ℕ, ◌≡◌, ◌==◌, ◌<◌, List, length, IsTrue, All}
+use Rattle.std.specs.List.{list_any, sum_by}
+use Rattle.txn_trace.specs.declared.entry.Entry.{Entry}
+use Rattle.txn_trace.specs.Shape.{own}
+use Rattle.txn_trace.specs.Sizes.{Sizes}
+use Rattle.locked_map.specs.Tokens.{Token}
+use Rattle.locked_map.specs.declared.unclosed.Unclosed.{Unclosed}
+use Rattle.locked_map.specs.declared.unclosed.Unclosed.TheVariants.{Missing, Differs}
+
+-- A caller's entries in the history are what it saw.
+abbrev pub IsOwn : {S : Type 0} → List Entry → Token S → Type 0
+IsOwn h k = own k.number h ≡ k.seen
+
+-- One caller of each number below `count`: as many as that, and each number is there.
+abbrev pub IsAllHere : {S : Type 0} → ℕ → List (Token S) → Type 0
+IsAllHere count ks =
+    (length ks ≡ count) × ((c : ℕ) → c < count → IsTrue (list_any (λ k. k.number == c) ks))
+
+-- The history has as many entries as all callers have seen.
+abbrev pub AreCounted : {S : Type 0} → List Entry → List (Token S) → Type 0
+AreCounted h ks = length h ≡ sum_by (λ k. length k.seen) ks
+
+-- The callers that a map which was not closed hands back.
+abbrev pub back_of : {L S J : Type 0} → Unclosed L S J → List (Token S)
+back_of (Missing map callers) = callers.items
+back_of (Differs core callers) = callers.items
+
+-- Why it was not closed: a caller is missing; or the entries of some caller in the history are not
+-- those that it saw.
+abbrev pub IsWhy : {L S J : Type 0} → ℕ → List (Token S) → Unclosed L S J → Type 0
+IsWhy count ks (Missing map callers) = IsAllHere count ks → ⊥
+IsWhy count ks (Differs core callers) = All (λ k. IsOwn core.history k) ks → ⊥
+
+-- What holds beside: the map that is handed back has its limits; no caller is missing.
+abbrev pub IsBeside : {L S J : Type 0} → Sizes → List (Token S) → Unclosed L S J → Type 0
+IsBeside limits ks (Missing map callers) = map.limits ≡ limits
+IsBeside limits ks (Differs core callers) = IsAllHere limits.callers ks
+
+-- The core that it hands back has as many entries as the callers saw.
+abbrev pub IsCounted : {L S J : Type 0} → List (Token S) → Unclosed L S J → Type 0
+IsCounted ks (Missing map callers) = Unit {0}
+IsCounted ks (Differs core callers) = AreCounted core.history ks

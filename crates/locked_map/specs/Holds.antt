@@ -1,0 +1,125 @@
+-- What a hold of the lock does to core, token and drive, and what a call has done by its end.
+use Rattle.std.specs.Prelude.{ℕ, ◌≡◌, ◌≢◌, Bool, true, false, not, ◌||◌, List, ◌++◌, Option, Some, None, is_some}
+use Rattle.txn_trace.specs.declared.answer.Answer.{Answer}
+use Rattle.txn_trace.specs.declared.answer.Answer.TheVariants as answers
+use Rattle.txn_trace.specs.declared.entry.Entry.{Entry}
+use Rattle.txn_trace.specs.declared.refusal.Refusal.TheVariants.{NoMemory, OutOfStep}
+use Rattle.txn_trace.specs.declared.step.Step.{Step}
+use Rattle.txn_trace.specs.Entries.{entries_of}
+use Rattle.txn_trace.specs.Shape.{Seat, seat_after}
+use Rattle.txn_drive.specs.declared.call.Call.{Call}
+use Rattle.txn_drive.specs.declared.drive.Drive.{Drive}
+use Rattle.txn_drive.specs.declared.«end».End.{End}
+use Rattle.txn_drive.specs.declared.«end».End.TheVariants as ends
+use Rattle.txn_drive.specs.declared.turn.Turn.{Turn}
+use Rattle.txn_drive.specs.declared.turn.Turn.TheVariants.{One, Two, Ended}
+use Rattle.txn_drive.specs.declared.phase.Phase.{Phase}
+use Rattle.txn_drive.specs.Made.{made, IsMade}
+use Rattle.txn_drive.specs.Drives.{sized_of, turn_of, told_of, end_of}
+use Rattle.boost_core.specs.Machine.{State, Move}
+use Rattle.locked_map.specs.Tokens.{Token}
+use Rattle.locked_map.specs.Suits.{is_odd, Fits, IsInStep}
+
+-- How a hold went: the token was broken; there was no room for what the turn may add; or the turn
+-- was taken.
+pub data How : Type 0 where
+  WasBroken : How
+  HadNoRoom : How
+  TookTurn : How
+
+-- Whether a call that has ended so may not end so.
+abbrev pub odd_if : Call → Option End → Bool
+odd_if call None = false
+odd_if call (Some outcome) = is_odd call outcome
+
+-- What a hold gives after its turn.
+abbrev pub end_in : Bool → Option End → Option End
+end_in true outcome = Some (ends.Refused OutOfStep)
+end_in false outcome = outcome
+
+-- Whether an end says that the call is out of step.
+abbrev pub is_out : End → Bool
+is_out (ends.Refused OutOfStep) = true
+is_out outcome = false
+
+abbrev pub out_if : Option End → Bool
+out_if None = false
+out_if (Some outcome) = is_out outcome
+
+-- A step is taken: the core makes its move, the drive is told the answer, and the step's entries
+-- are seen.
+pub record Takes (m : State) (seen : List Entry) (d : Drive) (step : Step) (answer : Answer) (n : State) (seen' : List Entry) (e : Drive) : Type 0 where
+  pub move : Move m step answer n
+  pub told : e ≡ told_of d answer
+  pub entries : seen' ≡ seen ++ entries_of step answer
+
+-- After the first step of two the second is taken where the answer was `placed`.
+abbrev pub TakesSecond : State → List Entry → Drive → Step → Answer → State → List Entry → Drive → Type 0
+TakesSecond m seen d step answers.Placed n seen' e =
+    (answer : Answer) × Takes m seen d step answer n seen' e
+TakesSecond m seen d step answer n seen' e = (n ≡ m) × (seen' ≡ seen) × (e ≡ d)
+
+-- A turn is taken: its steps and no other.
+abbrev pub TakesTurn : State → List Entry → Drive → Turn → State → List Entry → Drive → Type 0
+TakesTurn m seen d (One step) n seen' e =
+    (answer : Answer) × Takes m seen d step answer n seen' e
+TakesTurn m seen d (Two step next) n seen' e =
+    (answer : Answer) × (between : State) × (middle : List Entry) × (half : Drive)
+    × Takes m seen d step answer between middle half
+    × TakesSecond between middle half next answer n seen' e
+TakesTurn m seen d (Ended outcome) n seen' e = (n ≡ m) × (seen' ≡ seen) × (e ≡ d)
+
+-- A hold that took the drive's turn: the core made the moves of the turn and no other, their
+-- entries are seen and no other, and the drive was told their answers. The token breaks where an
+-- entry has no row, or where the call may not end so.
+pub record TurnHeld {S : Type 0} (m : State) (k : Token S) (d : Drive) (outcome : Option End) (n : State) (l : Token S) (e : Drive) : Type 0 where
+  pub sound : k.broken ≡ false
+  pub turn : TakesTurn m k.seen d (turn_of d) n l.seen e
+  pub broken : l.broken ≡ (not (is_some (seat_after l.seen)) || odd_if e.call (end_of e))
+  pub ends : outcome ≡ end_in l.broken (end_of e)
+  pub number : l.number ≡ k.number
+  pub limits : l.limits ≡ k.limits
+  pub side : l.side ≡ k.side
+
+abbrev pub HeldBy : {S : Type 0} → How → State → Token S → Drive → Option End → State → Token S → Drive → Type 0
+HeldBy WasBroken m k d outcome n l e =
+    (k.broken ≡ true) × (outcome ≡ Some (ends.Refused OutOfStep)) × (n ≡ m) × (l ≡ k) × (e ≡ d)
+HeldBy HadNoRoom m k d outcome n l e =
+    (k.broken ≡ false) × (outcome ≡ Some (ends.Refused NoMemory)) × (n ≡ m) × (l ≡ k) × (e ≡ d)
+HeldBy TookTurn m k d outcome n l e = TurnHeld m k d outcome n l e
+
+-- What a hold does: the drive is told the size, and its turn is taken, where the token is sound
+-- and has room.
+abbrev pub Held : {S : Type 0} → State → Token S → Drive → Option End → State → Token S → Drive → Type 0
+Held m k d outcome n l e = (how : How) × HeldBy how m k (sized_of m.size d) outcome n l e
+
+-- Core and token are in step.
+abbrev pub InStep : {S : Type 0} → State → Token S → Drive → Type 0
+InStep m k d = (k.broken ≡ false) × IsInStep m k.limits k.number k.seen d
+
+-- While the caller's entries have rows, its seat fits the drive.
+abbrev pub FitsIf : Option Seat → Call → Phase → Type 0
+FitsIf None call phase = Unit {0}
+FitsIf (Some s) call phase = Fits s call phase
+
+-- A call on its way: `base` was seen before it.
+pub record GoesOn (base seen : List Entry) (d : Drive) : Type 0 where
+  pub entries : seen ≡ base ++ made d
+  pub fits : FitsIf (seat_after seen) d.call d.phase
+
+-- How a call may end.
+abbrev pub MayEnd : Call → End → Type 0
+MayEnd call (ends.Refused OutOfStep) = Unit {0}
+MayEnd call outcome = is_odd call outcome ≡ false
+
+-- A call that has ended so: `base` was seen before it.
+pub record HasRun (base seen : List Entry) (c : ℕ) (call : Call) (outcome : End) : Type 0 where
+  pub added : List Entry
+  pub entries : seen ≡ base ++ added
+  pub made : IsMade c call outcome added
+  pub may : MayEnd call outcome
+
+-- What a hold leaves of a call.
+abbrev pub GoesTo : List Entry → List Entry → Drive → Option End → Type 0
+GoesTo base seen d None = GoesOn base seen d
+GoesTo base seen d (Some outcome) = HasRun base seen d.caller d.call outcome

@@ -1,0 +1,7 @@
+pub mod Calls
+pub mod Closes
+pub mod Holds
+pub mod Noted
+pub mod Sides
+pub mod Suits
+pub mod Tokens

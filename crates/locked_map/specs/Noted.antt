@@ -1,0 +1,56 @@
+-- What a caller has seen, and the room for more.
+use Rattle.std.specs.Prelude.{ℕ, ◌≡◌, ◌+◌, ◌<◌, ◌≤◌, Bool, true, false, List, length, Option, Some, None, is_some, vec_capacity}
+use Rattle.std.specs.Global.{Vec}
+use Rattle.std.specs.List.{fold}
+use Rattle.txn_trace.specs.declared.entry.Entry.{Entry}
+use Rattle.txn_trace.specs.declared.entry.Entry.TheVariants.{Began}
+use Rattle.txn_trace.specs.declared.step.Step.{Step}
+use Rattle.txn_trace.specs.declared.step.Step.TheVariants.{Begin, Ask, Act, Save, Back, Commit, Abort}
+use Rattle.txn_trace.specs.Shape.{RoomySeat, seat_after}
+use Rattle.txn_trace.specs.Owed.{owed_by, reserved}
+
+-- The number of the last transaction that the entries begin; 0 where they begin none.
+abbrev pub began_by : ℕ → Entry → ℕ
+began_by before (Began c txn) = txn
+began_by before entry = before
+
+abbrev pub last_txn : List Entry → ℕ
+last_txn entries = fold began_by 0 entries
+
+-- The entries, and for how many more entries and savepoints there is room.
+pub record Noted : Type 0 where
+  pub entries : List Entry
+  pub room : ℕ
+  pub save_room : ℕ
+
+-- The seat is that of the entries, where each had a row; the transaction is the last one; there is
+-- room for all that the caller owes; and the share, of one part, counts the entries.
+pub record IsNoted (entries : Vec Entry) (seat : RoomySeat) (whole : Bool) (txn parts amount : ℕ) : Type 0 where
+  pub fits : whole ≡ is_some (seat_after entries.items)
+  pub seated : whole ≡ true → seat_after entries.items ≡ Some seat.seat
+  pub last : txn ≡ last_txn entries.items
+  pub room : length entries.items + owed_by (seat_after entries.items) ≤ vec_capacity entries
+  pub one_part : parts ≡ 1
+  pub counts : amount ≡ length entries.items
+
+-- Whether a step may add an entry.
+abbrev pub adds_entry : Step → Bool
+adds_entry (Begin c) = true
+adds_entry (Ask c op) = true
+adds_entry (Act c) = true
+adds_entry (Save c) = true
+adds_entry (Back c n) = true
+adds_entry (Commit c) = true
+adds_entry (Abort c) = true
+adds_entry step = false
+
+-- Whether a step sets a savepoint.
+abbrev pub is_save : Step → Bool
+is_save (Save c) = true
+is_save step = false
+
+-- There is room for what a step may add, and for all that is owed then.
+pub record HasRoomFor (seen : Noted) (step : Step) : Type 0 where
+  pub all : owed_by (seat_after seen.entries) + reserved step ≤ seen.room
+  pub one : adds_entry step ≡ true → 0 < seen.room
+  pub save : is_save step ≡ true → 0 < seen.save_room

@@ -1,0 +1,110 @@
+-- Which phases of a drive suit a caller's seat, and the core.
+use Rattle.std.specs.Prelude.{ℕ, ◌≡◌, ◌<◌, ◌≤◌, Bool, true, false, not, List, length, Option, Some, None, is_some}
+use Rattle.split_key.specs.Split.{parent_of, IsAncestor}
+use Rattle.txn_trace.specs.declared.entry.Entry.{Entry}
+use Rattle.txn_trace.specs.declared.refusal.Refusal.{Refusal}
+use Rattle.txn_trace.specs.declared.refusal.Refusal.TheVariants.{BadKey, NoMemory, StampsUsedUp, OutOfStep}
+use Rattle.txn_trace.specs.declared.step.Step.TheVariants.{Act}
+use Rattle.txn_trace.specs.Sizes.{Sizes}
+use Rattle.txn_trace.specs.declared.seat.Phase.{Phase as Standing}
+use Rattle.txn_trace.specs.declared.seat.Phase.TheVariants as seats
+use Rattle.txn_trace.specs.Shape.{Seat, seat_after, own}
+use Rattle.txn_drive.specs.declared.call.Call.{Call}
+use Rattle.txn_drive.specs.declared.call.Call.TheVariants as calls
+use Rattle.txn_drive.specs.declared.drive.Drive.{Drive}
+use Rattle.txn_drive.specs.declared.«end».End.{End}
+use Rattle.txn_drive.specs.declared.«end».End.TheVariants as ends
+use Rattle.txn_drive.specs.declared.phase.Phase.{Phase}
+use Rattle.txn_drive.specs.declared.phase.Phase.TheVariants.{Fresh, Seeking, Acting, Doubling, Initialising, Linking, Storing, First, Last, Lost, Helped, Refused}
+use Rattle.txn_drive.specs.declared.phase.Work.{Work}
+use Rattle.txn_drive.specs.declared.phase.Work.TheVariants.{Operation, Busy, Leaving}
+use Rattle.txn_drive.specs.declared.way.Way.{Way}
+use Rattle.txn_drive.specs.Drives.{first_step, end_first, end_last}
+use Rattle.txn_drive.specs.Made.{undone_in}
+use Rattle.boost_core.specs.State.{State, seat_in, turn_in, help_in, is_set, bucket_at}
+use Rattle.boost_core.specs.Refusals.{refusal_in, lacks_in, has_cursor, has_dummy}
+
+-- The phase of a caller whose call does a work.
+abbrev pub work_phase : Call → Work → Option Standing
+work_phase (calls.Op op) Operation = Some (seats.Waiting op)
+work_phase (calls.Op op) (Busy x k) = Some seats.LeavingToEnd
+work_phase (calls.Back n) (Leaving k) = Some (seats.LeavingTo n)
+work_phase calls.Abort (Leaving k) = Some seats.LeavingToEnd
+work_phase call work = None
+
+abbrev pub is_help : Call → Bool
+is_help (calls.Help key) = true
+is_help call = false
+
+-- With which refusals a call may end whose first test, by the caller's seat, nothing refuses.
+abbrev pub may_refuse : Call → Refusal → Bool
+may_refuse calls.Begin NoMemory = true
+may_refuse (calls.Op op) NoMemory = true
+may_refuse (calls.Op op) StampsUsedUp = true
+may_refuse calls.Save NoMemory = true
+may_refuse (calls.Back n) NoMemory = true
+may_refuse (calls.Help key) BadKey = true
+may_refuse (calls.Help key) NoMemory = true
+may_refuse (calls.Help key) StampsUsedUp = true
+may_refuse call refusal = false
+
+-- Whether a call may not end so.
+abbrev pub is_odd : Call → End → Bool
+is_odd call (ends.Refused refusal) = not (may_refuse call refusal)
+is_odd call outcome = false
+
+-- A drive has begun where the seat refuses nothing; while it works, the seat has the work's phase.
+abbrev pub Fits : Seat → Call → Phase → Type 0
+Fits s call Fresh = refusal_in s (first_step 0 call) ≡ None
+Fits s call (Seeking work again) = work_phase call work ≡ Some s.phase
+Fits s call (Acting work again) = work_phase call work ≡ Some s.phase
+Fits s call phase = Unit {0}
+
+-- How many changes a drive has taken back.
+abbrev pub undone_of : Phase → ℕ
+undone_of (Seeking work again) = undone_in work
+undone_of (Acting work again) = undone_in work
+undone_of phase = 0
+
+-- The size that a drive was told before a doubling.
+abbrev pub IsSized : ℕ → Phase → Type 0
+IsSized size (Doubling seen) = seen ≡ size
+IsSized size phase = Unit {0}
+
+-- The bucket on the way may be initialised.
+pub record IsOnWay (m : State) (way : Way) : Type 0 where
+  pub ancestor : IsAncestor way.bucket way.target
+  pub target : way.target < m.size
+  pub bucket : way.bucket < m.size
+  pub parent : is_set m.stored (parent_of way.bucket) ≡ true
+
+-- Its caller's seat, cursor and helper are as the drive was last told.
+abbrev pub Suits : State → Seat → ℕ → Call → Phase → Type 0
+Suits m s c call Fresh = (refusal_in s (first_step c call) ≡ None) × (is_help call ≡ false)
+Suits m s c call (Seeking work again) = work_phase call work ≡ Some s.phase
+Suits m s c call (Acting work again) =
+    (work_phase call work ≡ Some s.phase)
+    × (lacks_in s (is_some (turn_in m.cursors c)) (Act c) ≡ false)
+Suits m s c call (Doubling size) = is_help call ≡ true
+Suits m s c call (Initialising way again) = (is_help call ≡ true) × IsOnWay m way
+Suits m s c call (Linking way again) =
+    (is_help call ≡ true) × IsOnWay m way × (has_cursor (help_in m.helpers c) ≡ true)
+    × (bucket_at (help_in m.helpers c) ≡ way.bucket)
+Suits m s c call (Storing way) =
+    (is_help call ≡ true) × IsOnWay m way × (has_dummy (help_in m.helpers c) ≡ true)
+    × (bucket_at (help_in m.helpers c) ≡ way.bucket)
+Suits m s c call (First answer) = is_odd call (end_first call answer) ≡ false
+Suits m s c call (Last work answer) = is_odd call (end_last call work answer) ≡ false
+Suits m s c call (Lost work) = ⊥
+Suits m s c call Helped = is_help call ≡ true
+Suits m s c call (Refused refusal) = is_odd call (ends.Refused refusal) ≡ false
+
+-- The core has the limits, the caller's entries are what was seen, and the drive is as it was last
+-- told.
+pub record IsInStep (m : State) (limits : Sizes) (c : ℕ) (seen : List Entry) (d : Drive) : Type 0 where
+  pub same_limits : m.limits ≡ limits
+  pub within : c < limits.callers
+  pub same : own c m.history ≡ seen
+  pub mine : d.caller ≡ c
+  pub suits : Suits m (seat_in m.history c) c d.call d.phase
+  pub few : undone_of d.phase ≤ length seen

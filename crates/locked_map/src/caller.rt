@@ -1,0 +1,254 @@
+ghost use Rattle.std.specs.Prelude.{◌≡◌, ◌≢◌, ◌<◌, false, [], ◌∷◌, List, length, IfSome, IfErr, OnOk, OnErr};
+ghost use Rattle.txn_trace.specs.declared.entry.Entry.{Entry};
+ghost use Rattle.txn_trace.specs.declared.refusal.Refusal.{Refusal};
+ghost use Rattle.txn_drive.specs.declared.«end».End.{End};
+ghost use Rattle.txn_drive.specs.Drives.{first_step};
+ghost use Rattle.locked_map.specs.Calls.{refused_by, refused_side};
+ghost use Rattle.locked_map.specs.Holds.{Held, InStep, GoesOn, GoesTo, out_if};
+ghost use Rattle.locked_map.specs.Noted.{last_txn};
+ghost use Rattle.locked_map.specs.Sides.{Follows, HasRoomAt, HasRoomIn, IsSameSide, WentBack};
+ghost use Rattle.locked_map.specs.Tokens.{IsSameCaller, IsSameButSide};
+
+use crate::booked::Booked;
+use crate::ends::{breaks, end_in};
+use crate::seen::Seen;
+use crate::turns::take_turn;
+use boost_core::{Call, Drive, End};
+use std::alloc::{AllocError, Global};
+use std::marker::Model;
+use std::sync::ledger::{Ledger, Share};
+use txn_trace::{Answer, Entry, Limits, Refusal, Step};
+use undo_log::{Side, SideJob, SideValue};
+
+/// One caller of a shared map: its token. It is not cloned, so each number is in one place.
+///
+/// A contract sees its number, the limits of its map, its side value, in `seen` the entries that
+/// its calls have added, and whether it is `broken`: a call that falls out of step breaks it, and
+/// from then on each call answers `Refusal::OutOfStep`.
+#[derive(Drop)]
+pub struct Caller<L: Ledger, S: Side> {
+    number: u64,
+    limits: Limits,
+    side: SideValue<S>,
+    pub(crate) seen: Seen<L>,
+    is_broken: bool,
+}
+
+impl<L: Ledger, S: Side> Model for Caller<L, S> {
+    ghost use Rattle.std.specs.Prelude.{◌≡◌, true, false, is_some};
+    ghost use Rattle.txn_trace.specs.Shape.{seat_after};
+    ghost use Rattle.locked_map.specs.Tokens.{Token};
+
+    ghost Value = { Token S };
+
+    ghost view = { λ c. record {
+      number = c.number;
+      limits = c.limits;
+      side = c.side;
+      seen = c.seen.entries;
+      broken = c.is_broken;
+    } };
+
+    ghost invariant = { λ c. c.is_broken ≡ false → is_some (seat_after c.seen.entries) ≡ true };
+}
+
+impl<L: Ledger, S: Side> Caller<L, S> {
+    /// A caller that has seen nothing.
+    pub(crate) fn new(
+        alloc: Global,
+        number: u64,
+        limits: Limits,
+        share: Share<L>,
+        side: S,
+    ) -> Caller<L, S>
+        requires parts { share.parts ≡ 1 }
+        requires amount { share.amount ≡ 0 }
+        ensures number { result.number ≡ number }
+        ensures limits { result.limits ≡ limits }
+        ensures seen { result.seen ≡ [] }
+        ensures broken { result.broken ≡ false }
+        ensures value { result.side.value ≡ side }
+        ensures levels { result.side.levels ≡ S.words_of side ∷ [] }
+    {
+        Caller {
+            number,
+            limits,
+            side: SideValue::new(alloc, side),
+            seen: Seen::new(alloc, share),
+            is_broken: false,
+        }
+    }
+
+    /// The caller's number. Constant time.
+    pub fn number(&self) -> u64
+        ensures { result ≡ self.now.number }
+    {
+        self.number
+    }
+
+    /// The entries that its calls have added, in order. Constant time.
+    pub fn seen(&self) -> &[Entry]
+        ensures { result.now ≡ self.now.seen }
+    {
+        self.seen.entries()
+    }
+
+    /// The four words of the side value: one call of the side type's `words`.
+    pub fn words(&self) -> [u64; 4]
+        ensures { result ≡ S.words_of self.now.side.value }
+    {
+        self.side.words()
+    }
+
+    /// Takes the drive's next turn on the core, under a lock that the caller holds, and gives the
+    /// end, if the drive has ended with it or before.
+    ///
+    /// The core makes the moves of the turn and no other, and `seen` gains their entries and no
+    /// other. The side value stays: a shared call returns it once its drive has ended.
+    ///
+    /// # Errors
+    ///
+    /// The end is `Refused` with
+    /// - `OutOfStep` where the token is broken, and then nothing is done; and where the core
+    ///   answers what the token's state excludes, which breaks it;
+    /// - `NoMemory` where room in `seen` is refused, and then no step is taken.
+    ///
+    /// Core and token that are in step stay so, and then `OutOfStep` is not answered.
+    ///
+    /// # Cost
+    ///
+    /// That of the one or two steps; amortized constant time beside it.
+    pub fn hold(&mut self, booked: &mut Booked<L>, drive: &mut Drive) -> Option<End>
+        requires { drive.old.caller ≡ self.old.number }
+        ensures held { Held booked.old.core self.old drive.old result
+            booked.new.core self.new drive.new }
+        ensures same { self.new.side ≡ self.old.side }
+        ensures caller { IsSameCaller self.old self.new }
+        ensures drive { (drive.new.caller ≡ drive.old.caller) × (drive.new.call ≡ drive.old.call) }
+        ensures broken { self.new.broken ≡ out_if result }
+        ensures in_step { InStep booked.old.core self.old drive.old
+            → InStep booked.new.core self.new drive.new
+            × IfSome result (λ e. e ≢ End.Refused Refusal.OutOfStep) }
+        ensures goes { (base : List Entry) → GoesOn base self.old.seen drive.old
+            → GoesTo base self.new.seen drive.new result }
+    {
+        let turn = drive.turn(booked.core.size());
+        if self.is_broken {
+            return Some(End::Refused(Refusal::OutOfStep));
+        }
+        if !take_turn(&mut self.seen, booked, drive, turn) {
+            return Some(End::Refused(Refusal::NoMemory));
+        }
+        let _core = booked.core.trace();
+        let end = drive.ended();
+        self.is_broken = breaks(self.seen.is_whole(), drive.call, end);
+        end_in(self.is_broken, end)
+    }
+
+    /// The refusal of a call by the token alone.
+    pub(crate) fn refusal(&self, call: Call) -> Option<Refusal>
+        ensures { result ≡ refused_by self.now call }
+    {
+        if self.is_broken {
+            return Some(Refusal::OutOfStep);
+        }
+        self.seen.refusal(first_step(call))
+    }
+
+    /// The number of the last transaction that it began.
+    pub(crate) fn txn(&self) -> u64
+        ensures { result ≡ last_txn self.now.seen }
+    {
+        self.seen.txn()
+    }
+
+    /// Makes room in the side value for what a call may ask at its end: for a level, where it
+    /// saves.
+    ///
+    /// # Errors
+    ///
+    /// `AllocError` where memory is refused; the caller is then as it was.
+    pub(crate) fn make_room(&mut self, call: Call) -> Result<(), AllocError>
+        ensures same { IsSameButSide self.old self.new }
+        ensures side { IsSameSide self.old.side self.new.side }
+        ensures ok { OnOk result (HasRoomIn call self.new.side.save_room) }
+        ensures err { OnErr result (call ≡ Call.Save) }
+    {
+        match call {
+            Call::Save => self.side.save_room(),
+            _ => Ok(()),
+        }
+    }
+
+    /// Returns the side value as the end of a call asks.
+    pub(crate) fn follow(&mut self, end: End)
+        requires { HasRoomAt end self.old.side.save_room }
+        ensures same { IsSameButSide self.old self.new }
+        ensures side { Follows S.words_of end self.old.side self.new.side }
+    {
+        match end {
+            End::Answered(Answer::Began(_) | Answer::Committed(_)) => self.side.settle(),
+            End::Answered(Answer::Saved(_)) => {
+                let _ = self.side.save();
+            }
+            End::Answered(Answer::Returned(level)) => go_back(&mut self.side, level),
+            End::Answered(Answer::Aborted) | End::Busy(_) => go_back(&mut self.side, 0),
+            _ => {}
+        }
+    }
+
+    /// Changes the side value, where the token is not broken.
+    pub(crate) fn change<F: FnOnce(S) -> S>(
+        &mut self,
+        change: F,
+        job: SideJob<S>,
+    ) -> Result<(), (Refusal, F, SideJob<S>)>
+        requires before { S.words_of self.old.side.value ≡ S.before job.job }
+        requires callable { F.pre change self.old.side.value }
+        requires after { (value : S) → F.post change self.old.side.value value
+            → S.words_of value ≡ S.after job.job }
+        ensures same { IsSameButSide self.old self.new }
+        ensures sound { OnOk result (self.old.broken ≡ false) }
+        ensures changed { OnOk result (F.post change self.old.side.value self.new.side.value) }
+        ensures levels { self.new.side.levels ≡ self.old.side.levels }
+        ensures err { IfErr result (λ e. (e.0 ≡ refused_side self.old.broken)
+            × (e.1 ≡ change) × (e.2 ≡ job) × (self.new ≡ self.old)) }
+    {
+        if self.is_broken {
+            return Err((Refusal::OutOfStep, change, job));
+        }
+        match self.side.change(change, job) {
+            Ok(()) => Ok(()),
+            Err(refused) => {
+                let (change, job) = refused.value;
+                Err((Refusal::NoMemory, change, job))
+            }
+        }
+    }
+}
+
+/// The first step of a call, by which its caller's seat refuses it.
+fn first_step(call: Call) -> Step
+    ensures { result ≡ first_step 0 call }
+{
+    match call {
+        Call::Begin => Step::Begin(0),
+        Call::Op(op) => Step::Ask(0, op),
+        Call::Save => Step::Save(0),
+        Call::Back(level) => Step::Back(0, level),
+        Call::Commit => Step::Commit(0),
+        Call::Abort => Step::Abort(0),
+        Call::Help(_) => Step::Double(0),
+    }
+}
+
+/// Takes the side value back to a level, if there is such a level.
+fn go_back<S: Side>(side: &mut SideValue<S>, level: u64)
+    ensures back { WentBack S.words_of level side.old side.new }
+    ensures some { 0 < length side.old.levels }
+{
+    let level = level as usize;
+    if level <= side.level() {
+        side.back(level);
+    }
+}

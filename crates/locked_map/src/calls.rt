@@ -1,0 +1,367 @@
+//! The shared calls: what a caller of a shared map asks for.
+//!
+//! Each takes the turns of its call, each turn under a hold of the lock, and adds to the token's
+//! `seen` the entries that it tells of and no other. Before it takes the lock its token tests it:
+//! `refused_by` is the refusal that the token's entries say, in the order that each call lists.
+//! A call that the token refuses leaves the token as it was. Each call has the clauses
+//! - `ok`: what it has added, where it did what it was asked; `passed`: then the token let it pass;
+//! - `side`: what it makes of the side value;
+//! - `err`: why it did not, and what it leaves then (`Stopped` in `specs/Calls.antt`);
+//! - `broken`: after `OutOfStep` every call answers that, and nothing changes any more.
+ghost use Rattle.std.specs.Prelude.{◌≡◌, ℕ, [], ◌∷◌, ◌++◌, None, Some, true, false, Err, IfOk, IfErr, OnOk, OnErr};
+ghost use Rattle.txn_trace.specs.declared.entry.Entry.TheVariants as entries;
+ghost use Rattle.txn_drive.specs.Made.{undone_by};
+ghost use Rattle.locked_map.specs.Calls.{Passed, Stopped, refused_by, refused_side};
+ghost use Rattle.locked_map.specs.Noted.{last_txn};
+ghost use Rattle.locked_map.specs.Sides.{HasLevel, IsBackAt, IsSameSide, IsSettled, WentBack};
+ghost use Rattle.locked_map.specs.Tokens.{IsSameButSide};
+
+use crate::caller::Caller;
+use crate::receipt::Receipt;
+use crate::shared_map::SharedMap;
+use crate::stop::Stop;
+use boost_core::{Call, End};
+use std::sync::Wait;
+use std::sync::ledger::Ledger;
+use txn_trace::{Answer, Op, Refusal, Reply};
+use undo_log::{Side, SideJob};
+
+impl<L: Ledger> SharedMap<L> {
+    /// Begins a transaction, and answers its number. Level 0 of the side value is then here: what
+    /// was changed before is not taken back by a later abort.
+    ///
+    /// # Errors
+    ///
+    /// `Refused`, and the transaction, if there is one, is as it was:
+    /// - `OutOfStep` of a token that is broken.
+    /// - `Leaving` of a caller that takes changes back, `AlreadyOpen` of one with a transaction.
+    /// - Then `NoMemory` where a growth was refused, and `OutOfStep` where the core answers what
+    ///   the token excludes.
+    ///
+    /// # Cost
+    ///
+    /// One hold of the lock, of constant time.
+    pub fn begin<S: Side, R: Wait>(&self, rt: &R, me: &mut Caller<L, S>) -> Result<u64, Stop>
+        ensures ok { IfOk result (λ txn. me.new.seen
+            ≡ me.old.seen ++ entries.Began me.old.number txn ∷ []) }
+        ensures passed { OnOk result (Passed me.old Call.Begin me.new) }
+        ensures side { OnOk result (IsSettled S.words_of me.old.side me.new.side) }
+        ensures err { IfErr result (λ stop. Stopped S.words_of me.old Call.Begin stop me.new) }
+        ensures broken { me.old.broken ≡ true
+            → (result ≡ Err (Stop.Refused Refusal.OutOfStep)) × (me.new ≡ me.old) }
+    {
+        match self.call(rt, me, Call::Begin)? {
+            End::Answered(Answer::Began(txn)) => Ok(txn),
+            _ => Err(Stop::Refused(Refusal::OutOfStep)),
+        }
+    }
+
+    /// Puts a value at a key, and answers the value before, if there was one.
+    ///
+    /// # Errors
+    ///
+    /// - `Refused`, and the transaction is as it was: `OutOfStep` of a token that is broken;
+    ///   `NotOpen`, `Leaving`, `OperationUnfinished` and `BadKey` (a key of 2^63 or more), the
+    ///   first that holds; then `NoMemory` and `StampsUsedUp` where one is wanted, and `OutOfStep`.
+    /// - `Busy` where another caller holds the key's stripe: the transaction is aborted, with all
+    ///   its changes taken back, and the side value has the words that it had when the transaction
+    ///   began.
+    ///
+    /// # Cost
+    ///
+    /// Three holds of the lock, and two more for each time that the place found no longer fits.
+    pub fn put<S: Side, R: Wait>(
+        &self,
+        rt: &R,
+        me: &mut Caller<L, S>,
+        key: u64,
+        value: u64,
+    ) -> Result<Reply, Stop>
+        ensures ok { IfOk result (λ reply. me.new.seen ≡ me.old.seen
+            ++ entries.Asked me.old.number (Op.Put key value)
+            ∷ entries.Did me.old.number reply ∷ []) }
+        ensures passed { OnOk result (Passed me.old (Call.Op (Op.Put key value)) me.new) }
+        ensures side { OnOk result (IsSameSide me.old.side me.new.side) }
+        ensures err { IfErr result (λ stop.
+            Stopped S.words_of me.old (Call.Op (Op.Put key value)) stop me.new) }
+        ensures broken { me.old.broken ≡ true
+            → (result ≡ Err (Stop.Refused Refusal.OutOfStep)) × (me.new ≡ me.old) }
+    {
+        self.operate(rt, me, Op::Put(key, value))
+    }
+
+    /// Takes a key out, and answers its value, if it was there.
+    ///
+    /// # Errors
+    ///
+    /// - `Refused`, and the transaction is as it was: `OutOfStep` of a token that is broken;
+    ///   `NotOpen`, `Leaving`, `OperationUnfinished` and `BadKey` (a key of 2^63 or more), the
+    ///   first that holds; then `NoMemory` and `StampsUsedUp` where one is wanted, and `OutOfStep`.
+    /// - `Busy` where another caller holds the key's stripe: the transaction is aborted, with all
+    ///   its changes taken back, and the side value has the words that it had when the transaction
+    ///   began.
+    ///
+    /// # Cost
+    ///
+    /// Three holds of the lock, and two more for each time that the place found no longer fits.
+    pub fn take<S: Side, R: Wait>(
+        &self,
+        rt: &R,
+        me: &mut Caller<L, S>,
+        key: u64,
+    ) -> Result<Reply, Stop>
+        ensures ok { IfOk result (λ reply. me.new.seen ≡ me.old.seen
+            ++ entries.Asked me.old.number (Op.Take key) ∷ entries.Did me.old.number reply ∷ []) }
+        ensures passed { OnOk result (Passed me.old (Call.Op (Op.Take key)) me.new) }
+        ensures side { OnOk result (IsSameSide me.old.side me.new.side) }
+        ensures err { IfErr result (λ stop.
+            Stopped S.words_of me.old (Call.Op (Op.Take key)) stop me.new) }
+        ensures broken { me.old.broken ≡ true
+            → (result ≡ Err (Stop.Refused Refusal.OutOfStep)) × (me.new ≡ me.old) }
+    {
+        self.operate(rt, me, Op::Take(key))
+    }
+
+    /// Answers the value of a key, if it is there.
+    ///
+    /// # Errors
+    ///
+    /// - `Refused`, and the transaction is as it was: `OutOfStep` of a token that is broken;
+    ///   `NotOpen`, `Leaving`, `OperationUnfinished` and `BadKey` (a key of 2^63 or more), the
+    ///   first that holds; then `NoMemory` and `StampsUsedUp` where one is wanted, and `OutOfStep`.
+    /// - `Busy` where another caller holds the key's stripe: the transaction is aborted, with all
+    ///   its changes taken back, and the side value has the words that it had when the transaction
+    ///   began.
+    ///
+    /// # Cost
+    ///
+    /// Three holds of the lock, and two more for each time that the place found no longer fits.
+    pub fn get<S: Side, R: Wait>(
+        &self,
+        rt: &R,
+        me: &mut Caller<L, S>,
+        key: u64,
+    ) -> Result<Reply, Stop>
+        ensures ok { IfOk result (λ reply. me.new.seen ≡ me.old.seen
+            ++ entries.Asked me.old.number (Op.Get key) ∷ entries.Did me.old.number reply ∷ []) }
+        ensures passed { OnOk result (Passed me.old (Call.Op (Op.Get key)) me.new) }
+        ensures side { OnOk result (IsSameSide me.old.side me.new.side) }
+        ensures err { IfErr result (λ stop.
+            Stopped S.words_of me.old (Call.Op (Op.Get key)) stop me.new) }
+        ensures broken { me.old.broken ≡ true
+            → (result ≡ Err (Stop.Refused Refusal.OutOfStep)) × (me.new ≡ me.old) }
+    {
+        self.operate(rt, me, Op::Get(key))
+    }
+
+    /// Sets a savepoint, and answers its number. The side value has a level more, which is here.
+    ///
+    /// # Errors
+    ///
+    /// `Refused`, and the transaction is as it was:
+    /// - `OutOfStep` of a token that is broken.
+    /// - `NotOpen`, `Leaving` and `OperationUnfinished`, the first that holds.
+    /// - Then `NoMemory` where a growth was refused, and `OutOfStep`.
+    ///
+    /// # Cost
+    ///
+    /// One hold of the lock, of constant time.
+    pub fn save<S: Side, R: Wait>(&self, rt: &R, me: &mut Caller<L, S>) -> Result<u64, Stop>
+        ensures ok { OnOk result (me.new.seen ≡ me.old.seen ++ entries.Saved me.old.number ∷ []) }
+        ensures passed { OnOk result (Passed me.old Call.Save me.new) }
+        ensures side { OnOk result (HasLevel S.words_of me.old.side me.new.side) }
+        ensures err { IfErr result (λ stop. Stopped S.words_of me.old Call.Save stop me.new) }
+        ensures broken { me.old.broken ≡ true
+            → (result ≡ Err (Stop.Refused Refusal.OutOfStep)) × (me.new ≡ me.old) }
+    {
+        match self.call(rt, me, Call::Save)? {
+            End::Answered(Answer::Saved(level)) => Ok(level),
+            _ => Err(Stop::Refused(Refusal::OutOfStep)),
+        }
+    }
+
+    /// Goes back to a level, 0 or the number of a savepoint: takes back all later changes, and
+    /// drops the savepoints above it. The side value has the words that it had there.
+    ///
+    /// # Errors
+    ///
+    /// `Refused`, and the transaction is as it was:
+    /// - `OutOfStep` of a token that is broken.
+    /// - `NotOpen`, `Leaving`, `OperationUnfinished` and `NoSuchLevel`, the first that holds.
+    /// - Then `NoMemory` where a growth was refused, which is before anything is taken back, and
+    ///   `OutOfStep`.
+    ///
+    /// # Cost
+    ///
+    /// Two holds of the lock, and two for each change that is taken back; then its side jobs are
+    /// run.
+    pub fn back<S: Side, R: Wait>(
+        &self,
+        rt: &R,
+        me: &mut Caller<L, S>,
+        level: u64,
+    ) -> Result<(), Stop>
+        ensures ok { OnOk result ((undone : ℕ) × (me.new.seen ≡ me.old.seen
+            ++ (entries.Leave me.old.number (Some level) ∷ undone_by me.old.number undone
+            ++ entries.Returned me.old.number level ∷ []))) }
+        ensures passed { OnOk result (Passed me.old (Call.Back level) me.new) }
+        ensures side { OnOk result (WentBack S.words_of level me.old.side me.new.side) }
+        ensures err { IfErr result (λ stop.
+            Stopped S.words_of me.old (Call.Back level) stop me.new) }
+        ensures broken { me.old.broken ≡ true
+            → (result ≡ Err (Stop.Refused Refusal.OutOfStep)) × (me.new ≡ me.old) }
+    {
+        match self.call(rt, me, Call::Back(level))? {
+            End::Answered(Answer::Returned(_)) => Ok(()),
+            _ => Err(Stop::Refused(Refusal::OutOfStep)),
+        }
+    }
+
+    /// Commits the transaction, and answers its number and its place in the commit order. Level 0
+    /// of the side value is then here.
+    ///
+    /// # Errors
+    ///
+    /// `Refused`, and the transaction is as it was:
+    /// - `OutOfStep` of a token that is broken.
+    /// - `NotOpen`, `Leaving` and `OperationUnfinished`, the first that holds.
+    /// - Then `OutOfStep`. It wants no memory.
+    ///
+    /// # Cost
+    ///
+    /// One hold of the lock, with time in proportion to the changes and the stripes.
+    pub fn commit<S: Side, R: Wait>(&self, rt: &R, me: &mut Caller<L, S>) -> Result<Receipt, Stop>
+        ensures ok { IfOk result (λ receipt. (receipt.txn ≡ last_txn me.old.seen) × (me.new.seen
+            ≡ me.old.seen ++ entries.Committed me.old.number receipt.place ∷ [])) }
+        ensures passed { OnOk result (Passed me.old Call.Commit me.new) }
+        ensures side { OnOk result (IsSettled S.words_of me.old.side me.new.side) }
+        ensures err { IfErr result (λ stop. Stopped S.words_of me.old Call.Commit stop me.new) }
+        ensures broken { me.old.broken ≡ true
+            → (result ≡ Err (Stop.Refused Refusal.OutOfStep)) × (me.new ≡ me.old) }
+    {
+        let txn = me.txn();
+        match self.call(rt, me, Call::Commit)? {
+            End::Answered(Answer::Committed(place)) => Ok(Receipt { txn, place }),
+            _ => Err(Stop::Refused(Refusal::OutOfStep)),
+        }
+    }
+
+    /// Aborts the transaction: takes back all its changes, and withdraws an operation that waits.
+    /// The side value has the words that it had when the transaction began.
+    ///
+    /// # Errors
+    ///
+    /// `Refused`, and the transaction is as it was:
+    /// - `OutOfStep` of a token that is broken.
+    /// - `NotOpen` and `Leaving`, the first that holds.
+    /// - Then `OutOfStep`. It wants no memory.
+    ///
+    /// # Cost
+    ///
+    /// Two holds of the lock, and two for each change that is taken back; then its side jobs are
+    /// run.
+    pub fn abort<S: Side, R: Wait>(&self, rt: &R, me: &mut Caller<L, S>) -> Result<(), Stop>
+        ensures ok { OnOk result ((undone : ℕ) × (me.new.seen ≡ me.old.seen
+            ++ (entries.Leave me.old.number None ∷ undone_by me.old.number undone
+            ++ entries.Aborted me.old.number ∷ []))) }
+        ensures passed { OnOk result (Passed me.old Call.Abort me.new) }
+        ensures side { OnOk result (IsBackAt S.words_of 0 me.old.side me.new.side) }
+        ensures err { IfErr result (λ stop. Stopped S.words_of me.old Call.Abort stop me.new) }
+        ensures broken { me.old.broken ≡ true
+            → (result ≡ Err (Stop.Refused Refusal.OutOfStep)) × (me.new ≡ me.old) }
+    {
+        match self.call(rt, me, Call::Abort)? {
+            End::Answered(Answer::Aborted) => Ok(()),
+            _ => Err(Stop::Refused(Refusal::OutOfStep)),
+        }
+    }
+
+    /// Helps the table to grow: doubles it where it is full, and then initialises the bucket of a
+    /// key, its ancestors first. It needs no transaction, and content and history stay.
+    ///
+    /// # Errors
+    ///
+    /// `Refused`, and the transaction, if there is one, is as it was; buckets that are initialised
+    /// stay so:
+    /// - `OutOfStep` of a token that is broken.
+    /// - `BadKey` of a key of 2^63 or more.
+    /// - Then `NoMemory` where a growth was refused, `StampsUsedUp` where none is left, and
+    ///   `OutOfStep`.
+    ///
+    /// # Cost
+    ///
+    /// One hold of the lock to double, and three for each bucket that is initialised.
+    pub fn help<S: Side, R: Wait>(
+        &self,
+        rt: &R,
+        me: &mut Caller<L, S>,
+        key: u64,
+    ) -> Result<(), Stop>
+        ensures ok { OnOk result (me.new.seen ≡ me.old.seen) }
+        ensures passed { OnOk result (Passed me.old (Call.Help key) me.new) }
+        ensures side { OnOk result (IsSameSide me.old.side me.new.side) }
+        ensures err { IfErr result (λ stop. Stopped S.words_of me.old (Call.Help key) stop me.new) }
+        ensures broken { me.old.broken ≡ true
+            → (result ≡ Err (Stop.Refused Refusal.OutOfStep)) × (me.new ≡ me.old) }
+    {
+        match self.call(rt, me, Call::Help(key))? {
+            End::Helped => Ok(()),
+            _ => Err(Stop::Refused(Refusal::OutOfStep)),
+        }
+    }
+
+    /// Changes the side value, and logs the job that takes the change back.
+    ///
+    /// The job names the words now as before, and those that `change` gives as after. It needs no
+    /// transaction: a change that is made outside of one stays. Nothing is added to `seen`.
+    ///
+    /// # Errors
+    ///
+    /// The change was not called, nothing has changed, and change and job are handed back:
+    /// - `OutOfStep` of a token that is broken;
+    /// - `NoMemory` where a growth was refused.
+    ///
+    /// # Cost
+    ///
+    /// One call of `change`, and amortized constant time. The lock is not taken.
+    pub fn side<S: Side, F: FnOnce(S) -> S>(
+        &self,
+        me: &mut Caller<L, S>,
+        change: F,
+        job: SideJob<S>,
+    ) -> Result<(), (Refusal, F, SideJob<S>)>
+        requires before { S.words_of me.old.side.value ≡ S.before job.job }
+        requires callable { F.pre change me.old.side.value }
+        requires after { (value : S) → F.post change me.old.side.value value
+            → S.words_of value ≡ S.after job.job }
+        ensures same { IsSameButSide me.old me.new }
+        ensures sound { OnOk result (me.old.broken ≡ false) }
+        ensures changed { OnOk result (F.post change me.old.side.value me.new.side.value) }
+        ensures levels { me.new.side.levels ≡ me.old.side.levels }
+        ensures err { IfErr result (λ e. (e.0 ≡ refused_side me.old.broken)
+            × (e.1 ≡ change) × (e.2 ≡ job) × (me.new ≡ me.old)) }
+    {
+        me.change(change, job)
+    }
+
+    /// Does an operation.
+    fn operate<S: Side, R: Wait>(
+        &self,
+        rt: &R,
+        me: &mut Caller<L, S>,
+        op: Op,
+    ) -> Result<Reply, Stop>
+        ensures ok { IfOk result (λ reply. me.new.seen ≡ me.old.seen
+            ++ entries.Asked me.old.number op ∷ entries.Did me.old.number reply ∷ []) }
+        ensures passed { OnOk result (Passed me.old (Call.Op op) me.new) }
+        ensures side { OnOk result (IsSameSide me.old.side me.new.side) }
+        ensures err { IfErr result (λ stop. Stopped S.words_of me.old (Call.Op op) stop me.new) }
+        ensures broken { me.old.broken ≡ true
+            → (result ≡ Err (Stop.Refused Refusal.OutOfStep)) × (me.new ≡ me.old) }
+    {
+        match self.call(rt, me, Call::Op(op))? {
+            End::Answered(Answer::Done(reply)) => Ok(reply),
+            _ => Err(Stop::Refused(Refusal::OutOfStep)),
+        }
+    }
+}

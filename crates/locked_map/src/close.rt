@@ -1,0 +1,155 @@
+//! Closing a map: its history is compared with what the callers saw.
+ghost use Rattle.std.specs.Prelude.{◌≡◌, ◌+◌, ◌==◌, ◌↔◌, All, IsTrue, IfOk, IfErr, length};
+ghost use Rattle.std.specs.List.{list_any, sum_by};
+ghost use Rattle.txn_trace.specs.Legal.{IsLegal};
+ghost use Rattle.txn_trace.specs.Shape.{own};
+ghost use Rattle.locked_map.specs.Closes.{AreCounted, IsAllHere, IsBeside, IsCounted, IsOwn, IsWhy, back_of};
+
+use crate::booked::Booked;
+use crate::caller::Caller;
+use crate::closed::Closed;
+use crate::shared_map::SharedMap;
+use crate::unclosed::Unclosed;
+use boost_core::Core;
+use std::sync::ledger::{Book, Ledger, Share};
+use txn_trace::Entry;
+use undo_log::Side;
+
+impl<L: Ledger> SharedMap<L> {
+    /// Takes the core out, once the callers of all numbers are back, and compares its history with
+    /// what they saw.
+    ///
+    /// With `Ok` the history is legal, each caller's own entries in it are just those that it saw,
+    /// and it has no other entries. The callers come back as they were, in their order, with each
+    /// answer.
+    ///
+    /// # Errors
+    ///
+    /// - `Missing` exactly where a number is missing or was handed in twice.
+    /// - Then `Differs` exactly where some caller's entries in the history are not those that it
+    ///   saw. The history has as many entries as all callers saw, all the same.
+    ///
+    /// # Cost
+    ///
+    /// Time in proportion to the history for each caller; no memory.
+    pub fn close<S: Side>(self, callers: Vec<Caller<L, S>>) -> Result<Closed<L, S>, Unclosed<L, S>>
+        requires { self.limits.callers ≡ L.parts }
+        ensures callers { IfOk result (λ c. c.callers.items ≡ callers.items) }
+        ensures legal { IfOk result (λ c. IsLegal c.core.limits.stripes c.core.history) }
+        ensures own { IfOk result (λ c. All (λ k. IsOwn c.core.history k) callers.items) }
+        ensures here { IfOk result (λ c. IsAllHere self.limits.callers callers.items) }
+        ensures counted { IfOk result (λ c. AreCounted c.core.history callers.items) }
+        ensures back { IfErr result (λ why. back_of why ≡ callers.items) }
+        ensures why { IfErr result (λ why. IsWhy self.limits.callers callers.items why) }
+        ensures beside { IfErr result (λ why. IsBeside self.limits callers.items why) }
+        ensures counted_too { IfErr result (λ why. IsCounted callers.items why) }
+    {
+        let count = u64::from(self.limits().callers());
+        if !has_all(callers.as_slice(), count) {
+            return Err(Unclosed::Missing(self, callers));
+        }
+        let booked = self.into_booked();
+        let same = is_all_own(&booked.core, callers.as_slice());
+        let _legal = booked.core.trace();
+        let mut callers = callers;
+        let core = counted(booked, callers.as_mut_slice());
+        if same {
+            Ok(Closed { core, callers })
+        } else {
+            Err(Unclosed::Differs(core, callers))
+        }
+    }
+}
+
+/// Whether one caller of each number below `count` is there.
+fn has_all<L: Ledger, S: Side>(callers: &[Caller<L, S>], count: u64) -> bool
+    ensures { IsTrue result ↔ IsAllHere count callers.now }
+{
+    if callers.len() as u64 != count {
+        return false;
+    }
+    for number in 0..count {
+        if !has(callers, number) {
+            return false;
+        }
+    }
+    true
+}
+
+/// Whether a caller of the number is there.
+fn has<L: Ledger, S: Side>(callers: &[Caller<L, S>], number: u64) -> bool
+    ensures { result ≡ list_any (λ k. k.number == number) callers.now }
+{
+    callers.iter().any(|k| k.number() == number)
+}
+
+/// Whether each caller's entries in the history are what it saw.
+fn is_all_own<L: Ledger, S: Side>(core: &Core, callers: &[Caller<L, S>]) -> bool
+    ensures { IsTrue result ↔ All (λ k. IsOwn core.now.history k) callers.now }
+{
+    callers
+        .iter()
+        .all(|k| is_own(core.trace(), k.number(), k.seen()))
+}
+
+/// Whether a caller's entries in the history are these.
+fn is_own(trace: &[Entry], caller: u64, seen: &[Entry]) -> bool
+    ensures { IsTrue result ↔ (own caller trace.now ≡ seen.now) }
+{
+    let mut rest = seen;
+    for entry in trace {
+        if entry.caller() == caller {
+            let Some((first, more)) = rest.split_first() else {
+                return false;
+            };
+            if !is_same(first, entry) {
+                return false;
+            }
+            rest = more;
+        }
+    }
+    rest.is_empty()
+}
+
+/// Whether two entries are the same.
+fn is_same(one: &Entry, other: &Entry) -> bool
+    ensures { IsTrue result ↔ (one.now ≡ other.now) }
+{
+    *one == *other
+}
+
+/// The core of a map whose callers are all there. Its history has as many entries as they saw.
+fn counted<L: Ledger, S: Side>(booked: Booked<L>, callers: &mut [Caller<L, S>]) -> Core
+    requires { length callers.old ≡ L.parts }
+    ensures core { result ≡ booked.core }
+    ensures callers { callers.new ≡ callers.old }
+    ensures counted { AreCounted result.history callers.old }
+{
+    let Booked {
+        core,
+        mut book,
+        mut none,
+    } = booked;
+    gather(callers, &mut none, &mut book);
+    core
+}
+
+/// Lends the shares of all callers to one, which then counts what the book has, and gives them
+/// back.
+fn gather<L: Ledger, S: Side>(callers: &mut [Caller<L, S>], all: &mut Share<L>, book: &mut Book<L>)
+    requires { all.old.parts + length callers.old ≡ L.parts }
+    ensures total { all.old.amount + sum_by (λ k. length k.seen) callers.old ≡ book.old.total }
+    ensures callers { callers.new ≡ callers.old }
+    ensures parts { all.new.parts ≡ all.old.parts }
+    ensures amount { all.new.amount ≡ all.old.amount }
+    ensures book { book.new.total ≡ book.old.total }
+{
+    book.audit(all);
+    let Some((first, rest)) = callers.split_first_mut() else {
+        return;
+    };
+    let count = first.seen.entries().len() as u64;
+    first.seen.share.give(all, 1, count);
+    gather(rest, all, book);
+    all.give(&mut first.seen.share, 1, count);
+}

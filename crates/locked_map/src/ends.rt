@@ -1,0 +1,60 @@
+//! How a call may end, and when its token breaks.
+ghost use Rattle.std.specs.Prelude.{◌≡◌, ◌||◌, not};
+ghost use Rattle.locked_map.specs.Suits.{is_odd, may_refuse};
+ghost use Rattle.locked_map.specs.Holds.{end_in, odd_if};
+
+use boost_core::{Call, End};
+use txn_trace::Refusal;
+
+/// Whether a token breaks after a turn: an entry that it saw has no row, or its call may not end
+/// so.
+pub(crate) fn breaks(is_whole: bool, call: Call, end: Option<End>) -> bool
+    ensures { result ≡ (not is_whole || odd_if call end) }
+{
+    !is_whole || odd_if(call, end)
+}
+
+/// What a hold gives after its turn: that the call is out of step, where the token is broken.
+pub(crate) fn end_in(is_broken: bool, end: Option<End>) -> Option<End>
+    ensures { result ≡ end_in is_broken end }
+{
+    if is_broken {
+        return Some(End::Refused(Refusal::OutOfStep));
+    }
+    end
+}
+
+/// Whether a call that has ended so may not end so.
+fn odd_if(call: Call, end: Option<End>) -> bool
+    ensures { result ≡ odd_if call end }
+{
+    match end {
+        Some(end) => is_odd(call, end),
+        None => false,
+    }
+}
+
+/// Whether a call may not end so.
+fn is_odd(call: Call, end: End) -> bool
+    ensures { result ≡ is_odd call end }
+{
+    match end {
+        End::Refused(refusal) => !may_refuse(call, refusal),
+        _ => false,
+    }
+}
+
+/// With which refusals a call may end that its caller's seat lets pass.
+fn may_refuse(call: Call, refusal: Refusal) -> bool
+    ensures { result ≡ may_refuse call refusal }
+{
+    match call {
+        Call::Begin | Call::Save | Call::Back(_) => matches!(refusal, Refusal::NoMemory),
+        Call::Op(_) => matches!(refusal, Refusal::NoMemory | Refusal::StampsUsedUp),
+        Call::Help(_) => matches!(
+            refusal,
+            Refusal::BadKey | Refusal::NoMemory | Refusal::StampsUsedUp
+        ),
+        Call::Commit | Call::Abort => false,
+    }
+}

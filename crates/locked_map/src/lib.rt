@@ -1,0 +1,60 @@
+//! A transactional map that callers in several threads share: one core under one lock.
+//!
+//! - A *token*, `Caller`, is one caller. `SharedMap::new` gives a `Pass` for each number, and a
+//!   pass makes the token of its number, once. The calls are made on a `&SharedMap` with a `&mut
+//!   Caller`: `begin`, `put`, `take`, `get`, `save`, `back`, `commit`, `abort`, `help` and `side`.
+//!   A token keeps in `seen` the entries that its calls have added to the history, and a side value
+//!   of the caller's own, whose changes a transaction takes back with its others.
+//! - A *hold* of the lock is one turn of a call, one step of the core or two. So the steps of other
+//!   callers come between any two turns, also while changes are taken back. What is done under the
+//!   lock is `Caller::hold`: the core makes the moves of the turn, and `seen` gains their entries.
+//! - What a token knows of the core at its next hold is what its type says: where it stands after
+//!   its own entries. If the core answers what that excludes, the call ends with `OutOfStep`.
+//! - `SharedMap::close` takes all tokens back and compares: the history is legal, each caller's own
+//!   entries in it are its `seen`, and there are no others, since a ledger counts them. The ledger
+//!   is `std`'s `sync::ledger`: the lock's value, `Booked`, holds the book, each token a share. Its
+//!   name `L` is the first parameter of each type, and is picked as `sync::ledger` says.
+//!
+//! No clause speaks of time: not that a call returns, nor that two threads ran at once.
+//!
+//! A first example, of one caller that counts in the map; `R` is the runtime's type:
+//!
+//! ```text
+//! fn count<L: Ledger, S: Side, R: Wait>(rt: &R, map: &SharedMap<L>, me: &mut Caller<L, S>)
+//!     -> Result<Receipt, Stop>
+//! {
+//!     map.begin(rt, me)?;
+//!     let before = map.get(rt, me, 7)?;
+//!     map.put(rt, me, 7, before.unwrap_or(0).saturating_add(1))?;
+//!     map.commit(rt, me)
+//! }
+//! ```
+//!
+//! Where a call answers `Busy`, another caller held the key's stripe; the transaction is aborted,
+//! and may be begun anew.
+#![tactic(auto)]
+
+mod booked;
+mod caller;
+mod calls;
+mod close;
+mod closed;
+mod ends;
+mod no_side;
+mod pass;
+mod receipt;
+mod seen;
+mod shared_map;
+mod stop;
+mod turns;
+mod unclosed;
+
+pub use booked::Booked;
+pub use caller::Caller;
+pub use closed::Closed;
+pub use no_side::{NoJob, NoSide};
+pub use pass::Pass;
+pub use receipt::Receipt;
+pub use shared_map::SharedMap;
+pub use stop::Stop;
+pub use unclosed::Unclosed;

@@ -1,0 +1,29 @@
+use undo_log::Side;
+
+/// No side value: its words never change. For callers that keep nothing beside the map.
+#[derive(Drop)]
+pub struct NoSide;
+
+/// The job of a change that changes no words.
+#[derive(Drop)]
+pub struct NoJob;
+
+impl Side for NoSide {
+    type Job = NoJob;
+
+    ghost use Rattle.std.specs.Prelude.{[], ◌∷◌};
+
+    ghost words_of = { λ s. 0 ∷ 0 ∷ 0 ∷ 0 ∷ [] };
+
+    ghost before = { λ j. 0 ∷ 0 ∷ 0 ∷ 0 ∷ [] };
+
+    ghost after = { λ j. 0 ∷ 0 ∷ 0 ∷ 0 ∷ [] };
+
+    fn words(&self) -> [u64; 4] {
+        [0, 0, 0, 0]
+    }
+
+    fn undo(self, _job: NoJob) -> NoSide {
+        self
+    }
+}

@@ -1,0 +1,72 @@
+ghost use Rattle.std.specs.Prelude.{◌≡◌, false, [], ◌∷◌};
+
+use crate::caller::Caller;
+use std::alloc::Global;
+use std::marker::Model;
+use std::sync::ledger::{Ledger, Share};
+use txn_trace::Limits;
+use undo_log::Side;
+
+/// The right to be the caller of a number. It is not cloned.
+///
+/// A contract sees its number and the limits of its map. It carries one part of the map's ledger.
+#[derive(Drop)]
+pub struct Pass<L: Ledger> {
+    number: u64,
+    limits: Limits,
+    share: Share<L>,
+}
+
+impl<L: Ledger> Model for Pass<L> {
+    ghost use Rattle.std.specs.Prelude.{◌≡◌};
+    ghost use Rattle.locked_map.specs.Tokens.{Ticket};
+
+    ghost Value = { Ticket };
+
+    ghost view = { λ p. record { number = p.number; limits = p.limits } };
+
+    ghost invariant = { λ p. (p.share.parts ≡ 1) × (p.share.amount ≡ 0) };
+}
+
+impl<L: Ledger> Pass<L> {
+    /// The pass of a number, with a share of one part that has counted nothing.
+    pub(crate) fn new(number: u64, limits: Limits, share: Share<L>) -> Pass<L>
+        requires parts { share.parts ≡ 1 }
+        requires amount { share.amount ≡ 0 }
+        ensures { result ≡ record { number = number; limits = limits } }
+    {
+        Pass {
+            number,
+            limits,
+            share,
+        }
+    }
+
+    /// The number. Constant time.
+    pub fn number(&self) -> u64
+        ensures { result ≡ self.now.number }
+    {
+        self.number
+    }
+
+    /// The caller of this number, which has seen nothing, with a side value of its own as level 0.
+    ///
+    /// # Cost
+    ///
+    /// Constant time; no memory.
+    pub fn caller<S: Side>(self, alloc: Global, side: S) -> Caller<L, S>
+        ensures number { result.number ≡ self.number }
+        ensures limits { result.limits ≡ self.limits }
+        ensures seen { result.seen ≡ [] }
+        ensures broken { result.broken ≡ false }
+        ensures value { result.side.value ≡ side }
+        ensures levels { result.side.levels ≡ S.words_of side ∷ [] }
+    {
+        let Pass {
+            number,
+            limits,
+            share,
+        } = self;
+        Caller::new(alloc, number, limits, share, side)
+    }
+}

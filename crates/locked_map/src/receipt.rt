@@ -1,0 +1,8 @@
+/// What a commit gives.
+#[derive(Clone, Copy, Debug, PartialEq, Eq)]
+pub struct Receipt {
+    /// The number of the transaction, as `begin` answered it.
+    pub txn: u64,
+    /// Its number in the commit order, from 1.
+    pub place: u64,
+}

@@ -1,0 +1,153 @@
+//! What a caller has seen.
+ghost use Rattle.std.specs.Prelude.{◌≡◌, ◌+◌, ◌<◌, ◌≤◌, ◌^◌, ℕ, true, [], ◌++◌, is_some, length, Some, OnOk, OnErr};
+ghost use Rattle.txn_trace.specs.Entries.{entries_of};
+ghost use Rattle.txn_trace.specs.Owed.{owed_by};
+ghost use Rattle.txn_trace.specs.Shape.{Seat as Standing, seat_after};
+ghost use Rattle.txn_trace.specs.Seats.{refusal_in};
+ghost use Rattle.locked_map.specs.Noted.{HasRoomFor, adds_entry, began_by, last_txn};
+
+use std::alloc::{AllocError, Global};
+use std::marker::Model;
+use std::sync::ledger::{Book, Ledger, Share};
+use txn_trace::{Answer, Entry, Refusal, Seat, Step, entry_of};
+
+/// The entries that a caller's calls have added, in order, and the seat that they give it.
+///
+/// Its type keeps room for all that the caller owes, and a share of the map's ledger that counts
+/// the entries.
+#[derive(Drop)]
+pub(crate) struct Seen<L: Ledger> {
+    entries: Vec<Entry>,
+    seat: Seat,
+    is_whole: bool,
+    txn: u64,
+    pub(crate) share: Share<L>,
+}
+
+impl<L: Ledger> Model for Seen<L> {
+    ghost use Rattle.std.specs.Prelude.{◌-◌, vec_len, vec_capacity};
+    ghost use Rattle.locked_map.specs.Noted.{Noted, IsNoted};
+
+    ghost Value = { Noted };
+
+    ghost view = { λ s. record {
+      entries = s.entries.items;
+      room = vec_capacity s.entries - vec_len s.entries;
+      save_room = s.seat.room;
+    } };
+
+    ghost invariant = { λ s.
+        IsNoted s.entries s.seat s.is_whole s.txn s.share.parts s.share.amount };
+}
+
+impl<L: Ledger> Seen<L> {
+    /// Nothing yet. Takes no memory.
+    pub(crate) fn new(alloc: Global, share: Share<L>) -> Seen<L>
+        requires parts { share.parts ≡ 1 }
+        requires amount { share.amount ≡ 0 }
+        ensures { result.entries ≡ [] }
+    {
+        Seen {
+            entries: Vec::new(alloc),
+            seat: Seat::new(alloc),
+            is_whole: true,
+            txn: 0,
+            share,
+        }
+    }
+
+    /// The entries.
+    pub(crate) fn entries(&self) -> &[Entry]
+        ensures value { result.now ≡ self.now.entries }
+        ensures room { owed_by (seat_after self.now.entries) ≤ self.now.room }
+        ensures small { length self.now.entries < 2 ^ 63 }
+    {
+        &self.entries
+    }
+
+    /// Whether the rule of shape has a row for each entry.
+    pub(crate) fn is_whole(&self) -> bool
+        ensures { result ≡ is_some (seat_after self.now.entries) }
+    {
+        self.is_whole
+    }
+
+    /// The number of the last transaction that began.
+    pub(crate) fn txn(&self) -> u64
+        ensures { result ≡ last_txn self.now.entries }
+    {
+        self.txn
+    }
+
+    /// The refusal of a step by the caller's seat alone.
+    pub(crate) fn refusal(&self, step: Step) -> Option<Refusal>
+        ensures { (s : Standing) → seat_after self.now.entries ≡ Some s
+            → result ≡ refusal_in s step }
+    {
+        self.seat.refusal(step)
+    }
+
+    /// Makes room for what a step may add, and for all that is owed then.
+    ///
+    /// # Errors
+    ///
+    /// `AllocError` where memory is refused, and only where there was no such room.
+    pub(crate) fn reserve(&mut self, step: Step) -> Result<(), AllocError>
+        requires { is_some (seat_after self.old.entries) ≡ true }
+        ensures entries { self.new.entries ≡ self.old.entries }
+        ensures ok { OnOk result (HasRoomFor self.new step) }
+        ensures full { OnErr result (HasRoomFor self.old step → ⊥) }
+    {
+        let least = u64::from(adds_entry(step));
+        let wanted = (self.seat.owed() + step.reserved()).max(least);
+        self.entries.reserve(wanted as usize)?;
+        if let Step::Save(_) = step {
+            self.seat.reserve_level()?;
+        }
+        Ok(())
+    }
+
+    /// Notes the entries of a step that was answered so, and counts them in the book.
+    pub(crate) fn note(&mut self, book: &mut Book<L>, step: Step, answer: Answer)
+        requires whole { is_some (seat_after self.old.entries) ≡ true }
+        requires room { HasRoomFor self.old step }
+        ensures entries { self.new.entries ≡ self.old.entries ++ entries_of step answer }
+        ensures book { book.new.total ≡ book.old.total + length (entries_of step answer) }
+        ensures same { entries_of step answer ≡ [] → self.new ≡ self.old }
+    {
+        let _seen = self.entries();
+        let Some(entry) = entry_of(step, answer) else {
+            return;
+        };
+        self.entries.push_reserved(entry);
+        self.is_whole = self.seat.enter(entry);
+        self.txn = began_by(self.txn, entry);
+        book.add(&mut self.share, 1);
+    }
+}
+
+/// The number of the last transaction after an entry.
+fn began_by(before: u64, entry: Entry) -> u64
+    ensures { result ≡ began_by before entry }
+{
+    match entry {
+        Entry::Began(_, txn) => txn,
+        _ => before,
+    }
+}
+
+/// Whether a step may add an entry.
+fn adds_entry(step: Step) -> bool
+    ensures { result ≡ adds_entry step }
+{
+    matches!(
+        step,
+        Step::Begin(_)
+            | Step::Ask(..)
+            | Step::Act(_)
+            | Step::Save(_)
+            | Step::Back(..)
+            | Step::Commit(_)
+            | Step::Abort(_)
+    )
+}

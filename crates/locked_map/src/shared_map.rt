@@ -1,0 +1,176 @@
+ghost use Rattle.std.specs.Prelude.{◌≡◌, true, None, Some, Ok, Err, IfOk, IfErr, OnOk, map};
+ghost use Rattle.std.specs.List.{range_with_len};
+ghost use Rattle.txn_trace.specs.Shape.{seat_after};
+ghost use Rattle.txn_drive.specs.Drives.{first_phase};
+ghost use Rattle.locked_map.specs.Calls.{Ended, IsDone, Ran, Stopped, refused_by};
+ghost use Rattle.locked_map.specs.Holds.{FitsIf, HasRun, is_out};
+ghost use Rattle.locked_map.specs.Tokens.{IsSameCaller, new_ticket};
+
+use crate::booked::Booked;
+use crate::caller::Caller;
+use crate::pass::Pass;
+use crate::stop::Stop;
+use boost_core::{Call, Core, Drive, End};
+use std::alloc::{AllocError, Global};
+use std::sync::ledger::{Blank, Ledger, Share};
+use std::sync::{Mutex, Wait};
+use txn_trace::{Limits, Refusal};
+use undo_log::Side;
+
+/// A map that callers in several threads share: a core under a lock.
+///
+/// A contract sees its limits. The lock is taken for one turn of a call at a time, of one step or
+/// two, so that the steps of other callers come between any two turns.
+#[derive(Drop)]
+pub struct SharedMap<L: Ledger> {
+    booked: Mutex<Booked<L>>,
+    limits: Limits,
+}
+
+/// What a worker does each time that it has let go of the lock.
+pub(crate) trait Released {
+    /// Called after each hold of the lock, which the worker then has no more.
+    fn released(&self);
+}
+
+/// Nothing is done.
+pub(crate) struct Unheard;
+
+impl Released for Unheard {
+    fn released(&self) {}
+}
+
+impl<L: Ledger> SharedMap<L> {
+    /// A new map, and a pass for each caller's number, rising. The blank ledger is to be named `L`
+    /// and to have one part for each caller.
+    ///
+    /// # Errors
+    ///
+    /// `NoMemory` where memory is refused.
+    ///
+    /// # Cost
+    ///
+    /// Memory and time in proportion to callers, stripes and buckets.
+    pub fn new(
+        alloc: Global,
+        blank: Blank,
+        limits: Limits,
+    ) -> Result<(SharedMap<L>, Vec<Pass<L>>), Refusal>
+        requires name { blank.name ≡ L.name }
+        requires parts { blank.parts ≡ L.parts }
+        requires one_each { blank.parts ≡ limits.callers }
+        ensures map { IfOk result (λ r. r.0.limits ≡ limits) }
+        ensures passes { IfOk result (λ r. r.1.items
+            ≡ map (new_ticket limits) (range_with_len 0 limits.callers)) }
+        ensures err { IfErr result (λ refusal. refusal ≡ Refusal.NoMemory) }
+    {
+        let (book, mut all) = blank.open::<L>();
+        let none = all.empty();
+        let core = Core::new(alloc, limits)?;
+        let booked = Mutex::new(Booked { core, book, none });
+        match passes_of(alloc, limits, &mut all) {
+            Ok(passes) => Ok((SharedMap { booked, limits }, passes)),
+            Err(AllocError) => Err(Refusal::NoMemory),
+        }
+    }
+
+    /// The map's limits. Constant time.
+    pub fn limits(&self) -> Limits
+        ensures { result ≡ self.now.limits }
+    {
+        self.limits
+    }
+
+    /// What lies under the lock.
+    pub(crate) fn into_booked(self) -> Booked<L> {
+        let SharedMap { booked, limits: _ } = self;
+        booked.into_inner()
+    }
+
+    /// Takes the turns of a call, each under a hold of its own, until the call has ended.
+    fn drive<S: Side, H: Released, R: Wait>(
+        &self,
+        rt: &R,
+        me: &mut Caller<L, S>,
+        call: Call,
+        hears: &H,
+    ) -> End
+        requires fits { FitsIf (seat_after me.old.seen) call (first_phase call) }
+        ensures side { me.new.side ≡ me.old.side }
+        ensures caller { IsSameCaller me.old me.new }
+        ensures broken { me.new.broken ≡ is_out result }
+        ensures run { HasRun me.old.seen me.new.seen me.old.number call result }
+    {
+        let mut drive = Drive::new(me.number(), call);
+        for _ in rt.forever() {
+            let end = me.hold(&mut *self.booked.lock(rt), &mut drive);
+            hears.released();
+            if let Some(end) = end {
+                return end;
+            }
+        }
+        unreachable!()
+    }
+
+    /// Takes a call, unless the token refuses it, and then returns the side value. The end says how
+    /// the call went.
+    pub(crate) fn run<S: Side, H: Released, R: Wait>(
+        &self,
+        rt: &R,
+        me: &mut Caller<L, S>,
+        call: Call,
+        hears: &H,
+    ) -> End
+        ensures { Ended S.words_of me.old call result me.new }
+    {
+        if let Some(refusal) = me.refusal(call) {
+            return End::Refused(refusal);
+        }
+        if me.make_room(call).is_err() {
+            return End::Refused(Refusal::NoMemory);
+        }
+        let end = self.drive(rt, me, call, hears);
+        me.follow(end);
+        end
+    }
+
+    /// The same, as a public call gives it.
+    pub(crate) fn call<S: Side, R: Wait>(
+        &self,
+        rt: &R,
+        me: &mut Caller<L, S>,
+        call: Call,
+    ) -> Result<End, Stop>
+        ensures done { IfOk result IsDone }
+        ensures ok { IfOk result (λ outcome. Ran S.words_of me.old call outcome me.new) }
+        ensures err { IfErr result (λ stop. Stopped S.words_of me.old call stop me.new) }
+        ensures broken { me.old.broken ≡ true
+            → (result ≡ Err (Stop.Refused Refusal.OutOfStep)) × (me.new ≡ me.old) }
+    {
+        match self.run(rt, me, call, &Unheard) {
+            End::Busy(holder) => Err(Stop::Busy { holder }),
+            End::Refused(refusal) => Err(Stop::Refused(refusal)),
+            end => Ok(end),
+        }
+    }
+}
+
+/// A pass for each caller, with one part of the share each.
+fn passes_of<L: Ledger>(
+    alloc: Global,
+    limits: Limits,
+    all: &mut Share<L>,
+) -> Result<Vec<Pass<L>>, AllocError>
+    requires parts { all.old.parts ≡ limits.callers }
+    requires amount { all.old.amount ≡ 0 }
+    ensures { IfOk result (λ passes. passes.items
+        ≡ map (new_ticket limits) (range_with_len 0 limits.callers)) }
+{
+    let callers = u64::from(limits.callers());
+    let mut passes = Vec::new(alloc);
+    for number in 0..callers {
+        let share = all.split_off(1, 0);
+        passes.push(Pass::new(number, limits, share))?;
+    }
+    Ok(passes)
+}

@@ -1,0 +1,98 @@
+//! The steps of a turn, taken on the core with their entries seen.
+ghost use Rattle.std.specs.Prelude.{◌≡◌, ℕ, true, false, Some, List, [], is_some};
+ghost use Rattle.txn_trace.specs.declared.entry.Entry.{Entry};
+ghost use Rattle.txn_trace.specs.declared.refusal.Refusal.{Refusal};
+ghost use Rattle.txn_trace.specs.Entries.{entries_of};
+ghost use Rattle.txn_trace.specs.Shape.{seat_after};
+ghost use Rattle.txn_trace.specs.Sizes.{Sizes};
+ghost use Rattle.txn_drive.specs.Drives.{step_of, turn_of};
+ghost use Rattle.txn_drive.specs.Made.{made};
+ghost use Rattle.locked_map.specs.Noted.{HasRoomFor};
+ghost use Rattle.locked_map.specs.Suits.{may_refuse, IsSized, IsInStep};
+ghost use Rattle.locked_map.specs.Holds.{Takes, TakesTurn, GoesOn};
+
+use crate::booked::Booked;
+use crate::seen::Seen;
+use boost_core::{Drive, Turn};
+use std::sync::ledger::Ledger;
+use txn_trace::{Answer, Step};
+
+/// Takes a turn if there is room for what it may add, and says whether there was.
+pub(crate) fn take_turn<L: Ledger>(
+    seen: &mut Seen<L>,
+    booked: &mut Booked<L>,
+    drive: &mut Drive,
+    turn: Turn,
+) -> bool
+    requires turn { turn ≡ turn_of drive.old }
+    requires whole { is_some (seat_after seen.old.entries) ≡ true }
+    ensures took { result ≡ true
+        → TakesTurn booked.old.core seen.old.entries drive.old turn
+        booked.new.core seen.new.entries drive.new }
+    ensures whose { (drive.new.caller ≡ drive.old.caller) × (drive.new.call ≡ drive.old.call) }
+    ensures no_room { result ≡ false
+        → (booked.new.core ≡ booked.old.core) × (seen.new.entries ≡ seen.old.entries)
+        × (drive.new ≡ drive.old) }
+    ensures in_step { (limits : Sizes) (c : ℕ) → IsSized booked.old.core.size drive.old.phase
+        → IsInStep booked.old.core limits c seen.old.entries drive.old
+        → IsInStep booked.new.core limits c seen.new.entries drive.new }
+    ensures goes { (base : List Entry) → GoesOn base seen.old.entries drive.old
+        → GoesOn base seen.new.entries drive.new }
+    ensures starts { result ≡ false → (base : List Entry) → GoesOn base seen.old.entries drive.old
+        → (made drive.old ≡ []) × (may_refuse drive.old.call Refusal.NoMemory ≡ true) }
+{
+    let _seen = seen.entries();
+    match turn {
+        Turn::One(step) => {
+            if seen.reserve(step).is_err() {
+                return false;
+            }
+            take(seen, booked, drive, step);
+        }
+        Turn::Two(first, second) => {
+            if seen.reserve(second).is_err() {
+                return false;
+            }
+            if let Answer::Placed = take(seen, booked, drive, first) {
+                take(seen, booked, drive, second);
+            }
+        }
+        Turn::Ended(_) => {}
+    }
+    true
+}
+
+/// Takes a step, for which there is room: on the core, in the book, in what is seen, and in the
+/// drive.
+fn take<L: Ledger>(
+    seen: &mut Seen<L>,
+    booked: &mut Booked<L>,
+    drive: &mut Drive,
+    step: Step,
+) -> Answer
+    requires step { step_of drive.old ≡ Some step }
+    requires whole { is_some (seat_after seen.old.entries) ≡ true }
+    requires room { HasRoomFor seen.old step }
+    ensures takes { Takes booked.old.core seen.old.entries drive.old step result
+        booked.new.core seen.new.entries drive.new }
+    ensures whose { (drive.new.caller ≡ drive.old.caller) × (drive.new.call ≡ drive.old.call) }
+    ensures same { entries_of step result ≡ [] → seen.new ≡ seen.old }
+    ensures in_step { (limits : Sizes) (c : ℕ) → IsSized booked.old.core.size drive.old.phase
+        → IsInStep booked.old.core limits c seen.old.entries drive.old
+        → IsInStep booked.new.core limits c seen.new.entries drive.new }
+    ensures goes { (base : List Entry) → GoesOn base seen.old.entries drive.old
+        → GoesOn base seen.new.entries drive.new }
+{
+    let Booked {
+        core,
+        book,
+        none: _,
+    } = booked;
+    let _before = core.trace();
+    let answer = core.step(step);
+    let _after = core.trace();
+    seen.note(book, step, answer);
+    let _seen = seen.entries();
+    drive.told(answer);
+    answer
+}

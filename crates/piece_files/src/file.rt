@@ -1,0 +1,102 @@
+//! A file as a whole: its numbers and its pieces, by the names of its members.
+
+ghost use Rattle.std.specs.Prelude.{◌≡◌, ◌∷◌, ◌≤◌, List, length, take, map, true, Option, Some, Result, Ok, Err, MatchResult};
+ghost use Rattle.std.specs.Str.{IsUtf8};
+ghost use Rattle.piece_files.specs.Faults.{Fails, Gives, or_fault};
+ghost use Rattle.piece_files.specs.Files.{FileKind, version, are_apart, all_of, contents_from, contents};
+ghost use Rattle.piece_files.specs.Json.{max_bytes};
+ghost use Rattle.piece_files.specs.Members.{FindsIn};
+ghost use Rattle.piece_files.specs.declared.file_fault.FileFault.{FileFault};
+ghost use Rattle.piece_files.specs.declared.file_fault.FileFault.TheVariants.{NoMemory};
+
+use crate::file_fault::FileFault;
+use crate::members::{Found, Names, members_in};
+use crate::piece::{PieceKind, Pieces};
+use std::alloc::Global;
+
+/// The length that a file may have, in bytes.
+const MAX_BYTES: usize = 16_777_216;
+
+/// The numbers, where each is there.
+fn all_numbers<const N: usize>(found: [Option<u64>; N]) -> Option<[u64; N]>
+    ensures { result ≡ all_of found.entry }
+{
+    let mut numbers = [0; N];
+    'numbers: for i in 0..N {
+        numbers[i] = found[i]?;
+    }
+    Some(numbers)
+}
+
+/// The pieces in a member, where all its elements are pieces.
+fn pieces_found<K: PieceKind>(
+    found: Option<Pieces<K::Piece>>,
+) -> Result<Pieces<K::Piece>, FileFault>
+    ensures { (wanted : Result (List K.Piece) FileFault) → FindsIn K.part K.most found wanted → MatchResult result
+        (λ p. (all : List K.Piece) × (wanted ≡ Ok all) × (p.count ≡ length all) × (p.pieces.items ≡ take K.most all))
+        (λ fault. Fails fault wanted) }
+{
+    let pieces = found.ok_or(FileFault::Member)?;
+    if pieces.are_all {
+        Ok(pieces)
+    } else {
+        Err(FileFault::Piece(K::part(), pieces.count))
+    }
+}
+
+/// The numbers and the pieces by what was found of the members.
+fn contents_found<K: PieceKind, const N: usize>(
+    found: Found<K::Piece, N>,
+) -> Result<([u64; N], Vec<K::Piece>), FileFault>
+    ensures { (wanted : Result (List K.Piece) FileFault) → FindsIn K.part K.most found.pieces wanted → Gives (λ file. (file.0, file.1.items)) result (contents_from K.most found.version (all_of found.numbers) wanted) }
+{
+    let version = found.version.ok_or(FileFault::Member)?;
+    let numbers = all_numbers(found.numbers).ok_or(FileFault::Member)?;
+    let found = pieces_found::<K>(found.pieces)?;
+    if version == 1 && found.count <= K::most() {
+        Ok((numbers, found.pieces))
+    } else {
+        Err(FileFault::Limit)
+    }
+}
+
+/// The numbers and the pieces of a file of version 1: an object in JSON with the member `version`,
+/// a number in each member of `numbers`, and an array of pieces in the member `pieces`.
+///
+/// # Errors
+///
+/// The first of these, in this order: `Limit` where there are more than 16,777,216 bytes; `NotJson`
+/// where they are not UTF-8, or no JSON in which arrays and objects nest no deeper than 127 and each
+/// number is in range of a float; `Member` where the value is no object, or a member is missing or of
+/// the wrong kind; `Piece` for the first element of `pieces` that is none; `Limit` where the version
+/// is not 1 or there are more pieces than there may be. `NoMemory` where memory was refused: not for the
+/// length, nor where the bytes are not UTF-8.
+///
+/// Other members of the object are passed over, and of a member that is given twice the last counts.
+/// A number is written without a sign, a fraction or an exponent, and is below 2^64.
+///
+/// # Cost
+///
+/// Time is proportional to the number of bytes, as far as `K::read` is. Besides the pieces, memory is
+/// taken for the longest text in the file that is written with escapes.
+pub fn read_file<'n, K: PieceKind, const N: usize>(
+    alloc: Global,
+    bytes: &[u8],
+    numbers: &'n [&'n str],
+    pieces: &'n str,
+) -> Result<([u64; N], Vec<K::Piece>), FileFault>
+    requires few { N ≤ 64 }
+    requires many { length numbers.now ≡ N }
+    requires apart { are_apart (version ∷ pieces.now ∷ map (λ name. name.now) numbers.now) ≡ true }
+    ensures memory { result ≡ Err NoMemory → (length bytes.now ≤ max_bytes) × IsUtf8 bytes.now }
+    ensures contents { let kind : FileKind K.Piece = record { numbers = map (λ name. name.now) numbers.now; pieces = pieces.now; of = K.of; part = K.part; most = K.most } in Gives (λ file. (file.0, file.1.items)) result (contents kind bytes.now) }
+{
+    if bytes.len() > MAX_BYTES {
+        return Err(FileFault::Limit);
+    }
+    let Ok(text) = std::str::from_utf8(bytes) else {
+        return Err(FileFault::NotJson);
+    };
+    let found = members_in::<K, N>(alloc, text, Names { numbers, pieces })?;
+    contents_found::<K, N>(found)
+}

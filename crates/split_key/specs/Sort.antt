@@ -1,0 +1,28 @@
+-- The order of the list, by sort keys.
+use Rattle.std.specs.Prelude.{ℕ, ◌≡◌, Bool, true, false, ◌==◌, ◌&&◌, nat_lt, if◌then◌else◌}
+use Rattle.split_key.specs.declared.sort.SortKey.{SortKey}
+use Rattle.split_key.specs.Split.{reversed, split}
+
+-- Whether the first stands before the second: by the split key, and where that is one by the key.
+unfoldable pub is_before : SortKey → SortKey → Bool
+is_before a b = if a.split == b.split then nat_lt a.key b.key else nat_lt a.split b.split
+
+-- The first stands before the second.
+abbrev pub IsBefore : SortKey → SortKey → Type 0
+IsBefore a b = is_before a b ≡ true
+
+-- The first does not stand before the second: it stands behind it, or they are one.
+abbrev pub IsNotBefore : SortKey → SortKey → Type 0
+IsNotBefore a b = is_before a b ≡ false
+
+-- Whether they are one.
+abbrev pub is_same : SortKey → SortKey → Bool
+is_same a b = a.split == b.split && a.key == b.key
+
+-- Where the node of a key stands.
+abbrev pub regular_at : ℕ → SortKey
+regular_at key = record { split = split key; key = key }
+
+-- Where the dummy of a bucket stands.
+abbrev pub dummy_at : ℕ → SortKey
+dummy_at bucket = record { split = reversed bucket; key = 0 }

@@ -1,0 +1,35 @@
+#!/usr/bin/env python3
+"""Says in words why a file is refused, and where: where it is no JSON, and where it breaks its schema.
+
+    docs/schemas/why.py FILE
+
+The schema is that of the kind that the file's members name: steps, scripts or entries. It needs
+python3 with jsonschema, of version 4 or later. It prints nothing for a file without such a fault; a
+number written as 1.0, which a schema takes for 1, and a file that is too long it does not see.
+"""
+import json
+import pathlib
+import sys
+
+import jsonschema
+
+KINDS = {"scripts": "script", "entries": "history"}
+
+
+def main():
+    with open(sys.argv[1], encoding="utf-8") as file:
+        try:
+            value = json.load(file)
+        except ValueError as error:
+            sys.exit(f"no JSON: {error}")
+    members = value if isinstance(value, dict) else {}
+    kind = next((kind for member, kind in KINDS.items() if member in members), "step")
+    path = pathlib.Path(__file__).resolve().parent / f"{kind}.schema.json"
+    schema = jsonschema.Draft202012Validator(json.loads(path.read_text()))
+    errors = [f"{error.json_path}: {error.message}" for error in schema.iter_errors(value)]
+    if errors:
+        sys.exit("\n".join(errors))
+
+
+if __name__ == "__main__":
+    main()
