@@ -31,21 +31,30 @@ fn calls_in_turn(rt: HostRuntime) -> Result<(), Fail> {
     spare.fill(at, Kind::Regular, 30);
     let three = spare.node();
     list.link_after(head, spare);
-    assert_eq!(rt; (list.count(), list.marked_count(), list.changes()), (1, 0, 1));
+    assert_eq!(rt;
+        (list.count(), list.marked_count(), list.changes()),
+        (1, 0, 1)
+    );
     list.write(three, 31);
     let node = *list.node(three);
     assert_eq!(rt; (node.at.key(), node.value, node.stamp), (3, 31, 7));
     assert_eq!(rt; node.kind, Kind::Regular);
     assert!(rt; !node.marked);
     list.set_mark(three);
-    assert_eq!(rt; (list.count(), list.marked_count(), list.changes()), (0, 1, 3));
+    assert_eq!(rt;
+        (list.count(), list.marked_count(), list.changes()),
+        (0, 1, 3)
+    );
     if let Some(next) = list.node(head).next {
         assert_eq!(rt; next, three);
         if list.node(next).marked {
             list.unlink_after(head);
         }
     }
-    assert_eq!(rt; (list.count(), list.marked_count(), list.changes()), (0, 0, 4));
+    assert_eq!(rt;
+        (list.count(), list.marked_count(), list.changes()),
+        (0, 0, 4)
+    );
     assert!(rt; list.linked_node(three).is_none());
     let spare = list.spare()?;
     assert_eq!(rt; spare.stamp(), 8);
@@ -67,7 +76,10 @@ fn refused_allocations(rt: HostRuntime) -> Result<(), Fail> {
             Ok(spare) => spare,
             Err(fault) => {
                 assert_eq!(rt; fault, SpareFault::NoMemory);
-                assert_eq!(rt; (list.count(), list.marked_count(), list.changes()), (0, 0, 0));
+                assert_eq!(rt;
+                    (list.count(), list.marked_count(), list.changes()),
+                    (0, 0, 0)
+                );
                 list.spare()?
             }
         };
