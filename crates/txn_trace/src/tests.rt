@@ -1,4 +1,4 @@
-use crate::{Answer, Entry, Limits, Op, Refusal, Seat, answer_text};
+use crate::{Answer, Entry, Limits, Op, Refusal, answer_text};
 use std::test::Fail;
 
 #[test]
@@ -141,21 +141,4 @@ fn callers_of_entries(rt: HostRuntime) {
     for entry in entries {
         assert_eq!(rt; entry.caller(), 7, "{entry:?}");
     }
-}
-
-/// Is to be run with each allocation refused in turn: the seat stays, and is given room when asked once more.
-#[test]
-fn savepoints_without_memory(rt: HostRuntime) -> Result<(), Fail> {
-    let mut seat = Seat::new(rt.alloc());
-    assert!(rt; seat.enter(Entry::Began(0, 1)));
-    for level in 1..=9 {
-        if seat.reserve_level().is_err() {
-            assert_eq!(rt; seat.levels() + 1, level, "no memory, no savepoint");
-            seat.reserve_level()?;
-        }
-        assert!(rt; seat.standing() == 0);
-        assert!(rt; seat.enter(Entry::Saved(0)));
-        assert_eq!(rt; seat.levels(), level);
-    }
-    Ok(())
 }
