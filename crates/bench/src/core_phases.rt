@@ -46,7 +46,8 @@ fn sum_of(alloc: Global, answers: &[Answer]) -> Result<u64, AllocError> {
     Ok(sum)
 }
 
-/// Runs the steps on a new core, which is made before the clock starts, and gives the time and the answers.
+/// Runs the steps on a new core, which is made before the clock starts, and gives the time and the
+/// answers.
 fn run_timed<R: AllocGlobal + Clock>(
     rt: &R,
     limits: Limits,
@@ -70,7 +71,8 @@ fn report<R: AllocGlobal + Eprint>(
     Ok(())
 }
 
-/// Runs the steps twice: the first run has to take its memory from the system, and the second one finds it there.
+/// Runs the steps twice: the first run has to take its memory from the system, and the second one
+/// finds it there.
 fn time_runs<R: AllocGlobal + Clock + Eprint>(
     rt: &R,
     limits: Limits,

@@ -4,8 +4,9 @@ use split_key::Key;
 /// The numbers of keys are below 2^63.
 const LOW_BITS: u64 = 0x7fff_ffff_ffff_ffff;
 
-/// The key at a position of the order. No key comes twice: a product with an odd number modulo a power of two can be
-/// undone, and so can the exclusive or of a number's lower half with its upper half.
+/// The key at a position of the order. No key comes twice: a product with an odd number modulo a
+/// power of two can be undone, and so can the exclusive or of a number's lower half with its upper
+/// half.
 pub(crate) fn key_at(position: u64) -> Option<Key> {
     let spread = position.wrapping_mul(0x9e37_79b9_7f4a_7c15) & LOW_BITS;
     let folded = spread ^ (spread >> 32);

@@ -1,10 +1,11 @@
-//! Times the nodes and cursors of the split-ordered list, as a table of 65,536 buckets uses them, the table itself beside
-//! other maps, and the core.
+//! Times the nodes and cursors of the split-ordered list, as a table of 65,536 buckets uses them,
+//! the table itself beside other maps, and the core.
 //!
-//! Each phase writes one line on standard error: what it did, how many operations, how long, and the sum of what they
-//! answered, by which another program that does the same can be compared. Nothing is written on standard output. The
-//! first argument is how many keys there are; without one there are few. The second is `nodes`, `maps` or `core`, for that
-//! part alone. The third is a step file, whose steps the core then takes in place of puts at few keys.
+//! Each phase writes one line on standard error: what it did, how many operations, how long, and
+//! the sum of what they answered, by which another program that does the same can be compared.
+//! Nothing is written on standard output. The first argument is how many keys there are; without
+//! one there are few. The second is `nodes`, `maps` or `core`, for that part alone. The third is a
+//! step file, whose steps the core then takes in place of puts at few keys.
 #![tactic(auto)]
 
 mod any_map;

@@ -51,8 +51,9 @@ fn sweep_some(table: &mut NodeTable, sweeps: u64) -> u64 {
     sum
 }
 
-/// Times each phase: half of the keys are swapped, and a quarter of all marked. Few of the marked nodes are swept, since each sweep walks
-/// to the first one that is left; the last look-ups unlink the others.
+/// Times each phase: half of the keys are swapped, and a quarter of all marked. Few of the marked
+/// nodes are swept, since each sweep walks to the first one that is left; the last look-ups unlink
+/// the others.
 pub(crate) fn time_nodes<R: AllocGlobal + Clock + Eprint>(rt: &R, keys: u64) -> Result<()> {
     let watch = Stopwatch::start(rt)?;
     let mut table = NodeTable::new(rt.alloc()).map_err(|fault| anyhow!("{fault:?}"))?;

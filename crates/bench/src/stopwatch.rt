@@ -42,8 +42,9 @@ pub(crate) struct Lap {
 }
 
 impl Lap {
-    /// Writes one line on standard error: what was timed, its phase, how many operations that had, its time in milliseconds, the time of
-    /// one in nanoseconds, and the sum of what the operations answered.
+    /// Writes one line on standard error: what was timed, its phase, how many operations that had,
+    /// its time in milliseconds, the time of one in nanoseconds, and the sum of what the operations
+    /// answered.
     pub(crate) fn report(
         self,
         rt: &impl Eprint,

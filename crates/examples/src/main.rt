@@ -1,5 +1,5 @@
-//! Runs the files of the folder `examples`, each by the engine of its command, and prints for each the
-//! words of the call and then what the engine wrote.
+//! Runs the files of the folder `examples`, each by the engine of its command, and prints for each
+//! the words of the call and then what the engine wrote.
 //!
 //! The gate compares all of it with the file `stdout`, which was written by hand, so that what the
 //! documents say of their examples stays true. Nothing is promised of this program.
@@ -20,7 +20,8 @@ const CALLS: [(Command, &str); 6] = [
     (Command::Check, "checked.json"),
 ];
 
-/// A command of the program `boostmap`, with the seed where it has one. It is printed as the words that a user types.
+/// A command of the program `boostmap`, with the seed where it has one. It is printed as the words
+/// that a user types.
 #[derive(Clone, Copy, Debug)]
 enum Command {
     /// Runs the steps of a file.

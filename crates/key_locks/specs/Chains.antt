@@ -10,10 +10,13 @@ is_in chain stripe = list_any (λ other. other == stripe) chain
 -- From this stripe on the older ones are this chain, each once.
 abbrev pub Leads : List (Option ℕ) → Option ℕ → List ℕ → Type 0
 Leads older first [] = first ≡ None
-Leads older first (stripe ∷ rest) = (first ≡ Some stripe) × (is_in rest stripe ≡ false) × Leads older (slice_index_or older stripe None) rest
+Leads older first (stripe ∷ rest) =
+    (first ≡ Some stripe) × (is_in rest stripe ≡ false)
+    × Leads older (slice_index_or older stripe None) rest
 
 -- The chain has just the stripes that the caller holds.
-pub record IsChain (holders older : List (Option ℕ)) (caller : ℕ) (first : Option ℕ) (chain : List ℕ) : Type 0 where
+pub record IsChain (holders older : List (Option ℕ)) (caller : ℕ) (first : Option ℕ)
+    (chain : List ℕ) : Type 0 where
   pub leads : Leads older first chain
   pub held : (stripe : ℕ) → is_in chain stripe ≡ is_caller caller (holder_of holders stripe)
 
@@ -21,4 +24,5 @@ pub record IsChain (holders older : List (Option ℕ)) (caller : ℕ) (first : O
 pub record AreChained (holders older newest : List (Option ℕ)) : Type 0 where
   pub as_many : length older ≡ length holders
   pub callers : length newest ≡ 64
-  pub chain_of : (caller : ℕ) → caller < 64 → (chain : List ℕ) × IsChain holders older caller (slice_index_or newest caller None) chain
+  pub chain_of : (caller : ℕ) → caller < 64 → (chain : List ℕ)
+      × IsChain holders older caller (slice_index_or newest caller None) chain

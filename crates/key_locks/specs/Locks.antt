@@ -12,10 +12,12 @@ abbrev pub is_caller : ℕ → Option ℕ → Bool
 is_caller caller None = false
 is_caller caller (Some holder) = holder == caller
 
--- The stripe was free or the caller's, and is the caller's now; each other one has the holder that it had.
+-- The stripe was free or the caller's, and is the caller's now; each other one has the holder that
+-- it had.
 pub record Grants (caller stripe : ℕ) (old new : List (Option ℕ)) : Type 0 where
   pub open_to_caller : (holder_of old stripe ≡ None) ⊎ (holder_of old stripe ≡ Some caller)
-  pub each : (other : ℕ) → holder_of new other ≡ (if other == stripe then Some caller else holder_of old other)
+  pub each : (other : ℕ) → holder_of new other
+      ≡ (if other == stripe then Some caller else holder_of old other)
   pub as_many : length new ≡ length old
 
 -- Another caller, this one, holds the stripe, and nothing changes.

@@ -8,8 +8,8 @@ use std::marker::Model;
 /// The numbers of callers are below this.
 pub const CALLERS: usize = 64;
 
-/// Abstract locks: stripes of keys, each with one holder or none. A caller is a number below `CALLERS`, and a stripe
-/// its place from 0. A contract sees the list of the stripes' holders.
+/// Abstract locks: stripes of keys, each with one holder or none. A caller is a number below
+/// `CALLERS`, and a stripe its place from 0. A contract sees the list of the stripes' holders.
 #[derive(Drop)]
 pub struct KeyLocks {
     // The caller that holds the stripe.
@@ -41,8 +41,8 @@ fn nones(alloc: Global, count: usize) -> Result<Vec<Option<usize>>, AllocError>
 impl KeyLocks {
     ghost use Rattle.key_locks.specs.Locks.{Locks, Releases};
 
-    /// So many stripes that no caller holds. This takes all the memory that the locks will ever need. Time and memory in
-    /// proportion to the stripes.
+    /// So many stripes that no caller holds. This takes all the memory that the locks will ever
+    /// need. Time and memory in proportion to the stripes.
     ///
     /// # Errors
     ///
@@ -60,9 +60,9 @@ impl KeyLocks {
         })
     }
 
-    /// Makes the caller the holder of the stripe, unless another caller holds it: then nothing changes, and the answer
-    /// names that one. A stripe that the caller holds is granted again. No other stripe changes. Takes no memory, constant
-    /// time.
+    /// Makes the caller the holder of the stripe, unless another caller holds it: then nothing
+    /// changes, and the answer names that one. A stripe that the caller holds is granted again. No
+    /// other stripe changes. Takes no memory, constant time.
     pub fn lock(&mut self, caller: usize, stripe: usize) -> LockAnswer
         requires caller { caller < CALLERS }
         requires stripe { stripe < length self.old }
@@ -80,8 +80,8 @@ impl KeyLocks {
         }
     }
 
-    /// Frees all stripes that the caller holds, and no other. Takes no memory, and time in proportion to the stripes that
-    /// it frees.
+    /// Frees all stripes that the caller holds, and no other. Takes no memory, and time in
+    /// proportion to the stripes that it frees.
     pub fn release_all(&mut self, caller: usize)
         requires { caller < CALLERS }
         ensures { Releases caller self.old self.new }

@@ -1,13 +1,14 @@
-//! Key locks: the abstract locks of boosted transactions, one for each group of keys, as in Herlihy and Koskinen,
-//! "Transactional Boosting: A Methodology for Highly-Concurrent Transactional Objects" (PPoPP 2008), rule 2,
-//! commutativity isolation.
+//! Key locks: the abstract locks of boosted transactions, one for each group of keys, as in Herlihy
+//! and Koskinen, "Transactional Boosting: A Methodology for Highly-Concurrent Transactional
+//! Objects" (PPoPP 2008), rule 2, commutativity isolation.
 //!
-//! Keys are put into a fixed number of stripes, and a transaction takes the stripe of each key that it works on, and
-//! keeps it to its end. Two operations on one key may not commute, so its stripe has one holder at most: a caller,
-//! whose number is below 64. A caller that finds a stripe held by another is told by whom, and never waits.
+//! Keys are put into a fixed number of stripes, and a transaction takes the stripe of each key that
+//! it works on, and keeps it to its end. Two operations on one key may not commute, so its stripe
+//! has one holder at most: a caller, whose number is below 64. A caller that finds a stripe held by
+//! another is told by whom, and never waits.
 //!
-//! The model is the list of the stripes' holders. Each caller's stripes are chained through the stripes themselves,
-//! from the one that it took last to its first:
+//! The model is the list of the stripes' holders. Each caller's stripes are chained through the
+//! stripes themselves, from the one that it took last to its first:
 //!
 //! ```text
 //!  newest   caller 0: 6      caller 1: 2      others: none
@@ -17,13 +18,15 @@
 //!  older     -     -     -     -     1     -     4     -       caller 0 holds 6, then 4, then 1
 //! ```
 //!
-//! So a lock takes constant time, and giving a caller's stripes back takes time in proportion to those, however many
-//! stripes there are. All memory is taken when the stripes are made.
+//! So a lock takes constant time, and giving a caller's stripes back takes time in proportion to
+//! those, however many stripes there are. All memory is taken when the stripes are made.
 //!
-//! `StripeRight` is for stripes that callers take elsewhere, each by its own right, of which there is one.
+//! `StripeRight` is for stripes that callers take elsewhere, each by its own right, of which there
+//! is one.
 //!
-//! Proved: a stripe has one holder at most; a lock is granted exactly where no other caller holds the stripe, and
-//! otherwise names that holder; each call says of every stripe who holds it afterwards.
+//! Proved: a stripe has one holder at most; a lock is granted exactly where no other caller holds
+//! the stripe, and otherwise names that holder; each call says of every stripe who holds it
+//! afterwards.
 #![tactic(auto)]
 
 mod key_locks;

@@ -4,7 +4,8 @@ ghost use Rattle.key_locks.specs.Rights.{AreAll};
 use std::alloc::{AllocError, Global};
 use std::marker::Model;
 
-/// The right to one stripe: whoever has it holds the stripe. It is not copied, and contracts see the stripe's number.
+/// The right to one stripe: whoever has it holds the stripe. It is not copied, and contracts see
+/// the stripe's number.
 #[derive(Debug, Drop)]
 pub struct StripeRight {
     stripe: usize,

@@ -24,7 +24,8 @@ once_for number word = cond (word == number + 1) 1 0
 
 -- The word is 0, or one more than the number of a seat.
 abbrev pub IsNamed : List View → ℕ → Type 0
-IsNamed views word = (word ≡ 0) ⊎ ((seat : ℕ) × (v : View) × (get_elem? views seat ≡ some v) × (word ≡ v.number + 1))
+IsNamed views word =
+    (word ≡ 0) ⊎ ((seat : ℕ) × (v : View) × (get_elem? views seat ≡ some v) × (word ≡ v.number + 1))
 
 -- The seat that the word names has at some time taken the stripe, when it saw the word 0.
 abbrev pub WasTaken : List View → ℕ → ℕ → Type 0

@@ -46,7 +46,8 @@ emptied (stripe ∷ others) = (stripe, None) ∷ emptied others
 -- word, which is its own exactly where it held the stripe before.
 abbrev pub took : Told
 took st m found n = (found ≡ 0 → n ≡ (gained m.0 st.word, (st.word, Some st.word) ∷ m.1))
-    × (found ≢ 0 → (n ≡ (noted m.0 st.word found, m.1)) × (Holds m.0 st.word ↔ (found ≡ m.0.number + 1)))
+    × (found ≢ 0 → (n ≡ (noted m.0 st.word found, m.1))
+    × (Holds m.0 st.word ↔ (found ≡ m.0.number + 1)))
 
 -- The stripe's slot is the first of the seat's.
 abbrev pub brought : Told

@@ -107,11 +107,13 @@ fn churned_by_four<R: Threads + Sync>(
     join(
         rt,
         move || -> (KeySeat, KeySeat)
-            requires { IsSync R.row × IsOf some.0 words.now × IsOf some.1 words.now × (stripes_of words.now ≡ 64) × (first < 64) }
+            requires { IsSync R.row × IsOf some.0 words.now × IsOf some.1 words.now
+                × (stripes_of words.now ≡ 64) × (first < 64) }
             ensures { IsOf result.0 words.entry.now × IsOf result.1 words.entry.now }
         { churned_by_two(rt, words, some, first) },
         move || -> (KeySeat, KeySeat)
-            requires { IsSync R.row × IsOf others.0 words.now × IsOf others.1 words.now × (stripes_of words.now ≡ 64) × (first < 64) }
+            requires { IsSync R.row × IsOf others.0 words.now × IsOf others.1 words.now
+                × (stripes_of words.now ≡ 64) × (first < 64) }
             ensures { IsOf result.0 words.entry.now × IsOf result.1 words.entry.now }
         { churned_by_two(rt, words, others, first) },
     )
@@ -124,19 +126,24 @@ fn churned_by_eight<R: Threads + Sync>(
     low: ((KeySeat, KeySeat), (KeySeat, KeySeat)),
     high: ((KeySeat, KeySeat), (KeySeat, KeySeat)),
 ) -> KeySeat
-    requires low { IsOf low.0.0 words.now × IsOf low.0.1 words.now × IsOf low.1.0 words.now × IsOf low.1.1 words.now }
-    requires high { IsOf high.0.0 words.now × IsOf high.0.1 words.now × IsOf high.1.0 words.now × IsOf high.1.1 words.now }
+    requires low { IsOf low.0.0 words.now × IsOf low.0.1 words.now × IsOf low.1.0 words.now
+        × IsOf low.1.1 words.now }
+    requires high { IsOf high.0.0 words.now × IsOf high.0.1 words.now × IsOf high.1.0 words.now
+        × IsOf high.1.1 words.now }
     requires stripes { stripes_of words.now ≡ 64 }
     ensures { IsOf result words.now }
 {
     let (low, _) = join(
         rt,
         move || -> ((KeySeat, KeySeat), (KeySeat, KeySeat))
-            requires { IsSync R.row × (IsOf low.0.0 words.now × IsOf low.0.1 words.now) × (IsOf low.1.0 words.now × IsOf low.1.1 words.now) × (stripes_of words.now ≡ 64) }
+            requires { IsSync R.row × (IsOf low.0.0 words.now × IsOf low.0.1 words.now)
+                × (IsOf low.1.0 words.now × IsOf low.1.1 words.now) × (stripes_of words.now ≡ 64) }
             ensures { IsOf result.0.0 words.entry.now }
         { churned_by_four(rt, words, low, 0) },
         move || -> ((KeySeat, KeySeat), (KeySeat, KeySeat))
-            requires { IsSync R.row × (IsOf high.0.0 words.now × IsOf high.0.1 words.now) × (IsOf high.1.0 words.now × IsOf high.1.1 words.now) × (stripes_of words.now ≡ 64) }
+            requires { IsSync R.row × (IsOf high.0.0 words.now × IsOf high.0.1 words.now)
+                × (IsOf high.1.0 words.now × IsOf high.1.1 words.now)
+                × (stripes_of words.now ≡ 64) }
             ensures { IsOf result.0.0 words.entry.now }
         { churned_by_four(rt, words, high, 0) },
     );
