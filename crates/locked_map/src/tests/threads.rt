@@ -79,8 +79,10 @@ fn two_threads<L: Ledger + Send + Sync, R: Threads + Wait + Abort + Sync>(
     let Ok(closed) = map.close(callers) else {
         return Err("closes".into());
     };
-    let (before, after) = closed.core.trace().split_at(4);
-    assert!(rt; before == of_first.as_slice() && after == of_second.as_slice());
+    let mut wanted = Vec::new(alloc);
+    wanted.extend_from_slice(of_first.as_slice())?;
+    wanted.extend_from_slice(of_second.as_slice())?;
+    assert!(rt; closed.core.trace() == wanted.as_slice());
     Ok(())
 }
 
