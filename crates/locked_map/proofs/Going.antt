@@ -34,7 +34,7 @@ use Rattle.txn_drive.specs.declared.way.Way.{Way}
 use Rattle.txn_drive.specs.Drives.{first_step, step_in, step_of, sized_in, sized_of, told_in, told_of, turn_in, turn_of, end_of, ended_by, end_helped, paired}
 use Rattle.txn_drive.specs.Made.{made, made_in, IsMade}
 use Rattle.txn_drive.proofs.MadeLemmas.{made-told_of}
-use Rattle.script_worker.proofs.Driving.{made_at_end, made-sized}
+use Rattle.txn_drive.proofs.DriveLaws.{made_at_end, made-sized}
 use Rattle.boost_core.specs.State.{State, seat_in}
 use Rattle.boost_core.specs.Refusals.{refusal_in, is_closed, is_leaving}
 use Rattle.boost_core.proofs.Refused.{commit_open, abort_runs}

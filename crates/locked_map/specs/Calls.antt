@@ -1,5 +1,5 @@
 -- What a shared call leaves of its caller.
-use Rattle.std.specs.Prelude.{ℕ, ◌≡◌, ◌⊎◌, Bool, true, false, List, [], ◌∷◌, ◌++◌, Option, Some, None}
+use Rattle.std.specs.Prelude.{ℕ, ◌≡◌, ◌⊎◌, Bool, true, false, List, [], ◌∷◌, ◌++◌, Option, Some, None, Result, Ok, Err}
 use Rattle.txn_trace.specs.declared.entry.Entry.{Entry}
 use Rattle.txn_trace.specs.declared.refusal.Refusal.{Refusal}
 use Rattle.txn_trace.specs.declared.refusal.Refusal.TheVariants.{NoMemory, OutOfStep}
@@ -80,11 +80,22 @@ abbrev pub Stopped : {S : Type 0} → (S → List ℕ) → Token S → Call → 
 Stopped words k call (stops.Busy holder) l = Ran words k call (ends.Busy holder) l
 Stopped words k call (stops.Refused refusal) l = WasRefused k call refusal l
 
--- What a call that did what it was asked leaves, beside its entries and its side value.
+-- A call that did what it was asked: its token let it pass. Its entries and what becomes of the side
+-- value are said by each call.
 pub record Passed {S : Type 0} (k : Token S) (call : Call) (l : Token S) : Type 0 where
   pub free : refused_by k call ≡ None
   pub whose : IsSameCaller k l
   pub sound : l.broken ≡ false
+
+-- What a call leaves by its result: what it was asked for, or why not.
+abbrev pub LeavesBy : {S T : Type 0} → (S → List ℕ) → Token S → Call → Result T Stop → Token S → Type 0
+LeavesBy words k call (Ok reply) l = Passed k call l
+LeavesBy words k call (Err stop) l = Stopped words k call stop l
+
+-- What each call leaves. After `OutOfStep` every call answers that, and nothing changes any more.
+pub record Leaves {S T : Type 0} (words : S → List ℕ) (k : Token S) (call : Call) (result : Result T Stop) (l : Token S) : Type 0 where
+  pub by_result : LeavesBy words k call result l
+  pub stays : k.broken ≡ true → (result ≡ Err (stops.Refused OutOfStep)) × (l ≡ k)
 
 -- Why a change of the side value is refused: the token is broken, or else there is no memory.
 abbrev pub refused_side : Bool → Refusal

@@ -7,46 +7,54 @@ use Rattle.txn_drive.specs.declared.«end».End.{End}
 use Rattle.txn_drive.specs.declared.«end».End.TheVariants as ends
 use Rattle.undo_log.specs.SideValue.{Leveled}
 
--- The value and the words at each level are as they were.
+-- The value is as it was, with the same levels, and the same changes can be taken back.
 pub record IsSameSide {S : Type 0} (a b : Leveled S) : Type 0 where
   pub value : b.value ≡ a.value
   pub levels : b.levels ≡ a.levels
+  pub changes : b.changes ≡ a.changes
+  pub kept : b.kept ≡ a.kept
 
--- The value is as it was, and level 0 is here.
+-- The value is as it was, level 0 is here, and no change can be taken back.
 pub record IsSettled {S : Type 0} (words : S → List ℕ) (a b : Leveled S) : Type 0 where
   pub value : b.value ≡ a.value
   pub levels : b.levels ≡ words a.value ∷ []
+  pub changes : b.changes ≡ 0
+  pub kept : b.kept ≡ 0 ∷ []
 
--- The value is as it was, and there is one level more, which is here.
+-- The value is as it was, and there is one level more, which is here and keeps all changes.
 pub record HasLevel {S : Type 0} (words : S → List ℕ) (a b : Leveled S) : Type 0 where
   pub value : b.value ≡ a.value
   pub levels : b.levels ≡ a.levels ++ words a.value ∷ []
+  pub changes : b.changes ≡ a.changes
+  pub kept : b.kept ≡ a.kept ++ a.changes ∷ []
 
--- The value has the words of a level again, and there is no level above it.
+-- The value has the words of a level again, with the changes that the level keeps, and there is no
+-- level above it.
 pub record IsBackAt {S : Type 0} (words : S → List ℕ) (level : ℕ) (a b : Leveled S) : Type 0 where
   pub value : slice_get a.levels level ≡ Some (words b.value)
   pub levels : b.levels ≡ take (level + 1) a.levels
-
--- The same, if there is such a level.
-abbrev pub WentBack : {S : Type 0} → (S → List ℕ) → ℕ → Leveled S → Leveled S → Type 0
-WentBack words level a b = level < length a.levels → IsBackAt words level a b
+  pub changes : slice_get a.kept level ≡ Some b.changes
+  pub kept : b.kept ≡ take (level + 1) a.kept
 
 -- What the end of a call makes of the side value.
 abbrev pub Follows : {S : Type 0} → (S → List ℕ) → End → Leveled S → Leveled S → Type 0
 Follows words (ends.Answered (answers.Began t)) a b = IsSettled words a b
 Follows words (ends.Answered (answers.Committed p)) a b = IsSettled words a b
 Follows words (ends.Answered (answers.Saved n)) a b = HasLevel words a b
-Follows words (ends.Answered (answers.Returned n)) a b = WentBack words n a b
+Follows words (ends.Answered (answers.Returned n)) a b = IsBackAt words n a b
 Follows words (ends.Answered answers.Aborted) a b = IsBackAt words 0 a b
 Follows words (ends.Busy holder) a b = IsBackAt words 0 a b
 Follows words outcome a b = IsSameSide a b
 
--- There is room for the level that an end asks for.
-abbrev pub HasRoomAt : End → ℕ → Type 0
-HasRoomAt (ends.Answered (answers.Saved n)) room = 0 < room
-HasRoomAt outcome room = Unit {0}
+-- The side value can follow an end: a level to be made has its room, a level to be gone back to is
+-- there.
+abbrev pub CanFollow : {S : Type 0} → End → Leveled S → Type 0
+CanFollow (ends.Answered (answers.Saved n)) side = 0 < side.save_room
+CanFollow (ends.Answered (answers.Returned n)) side = n < length side.levels
+CanFollow outcome side = Unit {0}
 
--- There is room for a level, where the call saves.
-abbrev pub HasRoomIn : Call → ℕ → Type 0
-HasRoomIn calls.Save room = 0 < room
-HasRoomIn call room = Unit {0}
+-- It can follow each end of a call.
+abbrev pub IsReadyFor : {S : Type 0} → Call → Leveled S → Type 0
+IsReadyFor calls.Save side = 0 < side.save_room
+IsReadyFor (calls.Back n) side = n < length side.levels
+IsReadyFor call side = Unit {0}

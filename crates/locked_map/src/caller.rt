@@ -1,12 +1,12 @@
-ghost use Rattle.std.specs.Prelude.{◌≡◌, ◌≢◌, ◌<◌, false, [], ◌∷◌, List, length, IfSome, IfErr, OnOk, OnErr};
+ghost use Rattle.std.specs.Prelude.{◌≡◌, ◌≢◌, ◌<◌, false, [], ◌∷◌, List, ◌+◌, IfSome, IfNone, IfErr, OnOk, OnErr};
 ghost use Rattle.txn_trace.specs.declared.entry.Entry.{Entry};
 ghost use Rattle.txn_trace.specs.declared.refusal.Refusal.{Refusal};
 ghost use Rattle.txn_drive.specs.declared.«end».End.{End};
 ghost use Rattle.txn_drive.specs.Drives.{first_step};
-ghost use Rattle.locked_map.specs.Calls.{refused_by, refused_side};
+ghost use Rattle.locked_map.specs.Calls.{Failed, refused_by, refused_side};
 ghost use Rattle.locked_map.specs.Holds.{Held, InStep, GoesOn, GoesTo, out_if};
 ghost use Rattle.locked_map.specs.Noted.{last_txn};
-ghost use Rattle.locked_map.specs.Sides.{Follows, HasRoomAt, HasRoomIn, IsSameSide, WentBack};
+ghost use Rattle.locked_map.specs.Sides.{CanFollow, Follows, IsReadyFor, IsSameSide};
 ghost use Rattle.locked_map.specs.Tokens.{IsSameCaller, IsSameButSide};
 
 use crate::booked::Booked;
@@ -69,6 +69,8 @@ impl<L: Ledger, S: Side> Caller<L, S> {
         ensures broken { result.broken ≡ false }
         ensures value { result.side.value ≡ side }
         ensures levels { result.side.levels ≡ S.words_of side ∷ [] }
+        ensures changes { result.side.changes ≡ 0 }
+        ensures kept { result.side.kept ≡ 0 ∷ [] }
     {
         Caller {
             number,
@@ -147,7 +149,8 @@ impl<L: Ledger, S: Side> Caller<L, S> {
 
     /// The refusal of a call by the token alone.
     pub(crate) fn refusal(&self, call: Call) -> Option<Refusal>
-        ensures { result ≡ refused_by self.now call }
+        ensures refusal { result ≡ refused_by self.now call }
+        ensures sound { IfNone result (self.now.broken ≡ false) }
     {
         if self.is_broken {
             return Some(Refusal::OutOfStep);
@@ -162,37 +165,50 @@ impl<L: Ledger, S: Side> Caller<L, S> {
         self.seen.txn()
     }
 
-    /// Makes room in the side value for what a call may ask at its end: for a level, where it
-    /// saves.
+    /// Makes the side value ready for what a call may ask at its end: a save wants room for a level,
+    /// a return the level.
     ///
     /// # Errors
     ///
-    /// `AllocError` where memory is refused; the caller is then as it was.
-    pub(crate) fn make_room(&mut self, call: Call) -> Result<(), AllocError>
-        ensures same { IsSameButSide self.old self.new }
-        ensures side { IsSameSide self.old.side self.new.side }
-        ensures ok { OnOk result (HasRoomIn call self.new.side.save_room) }
-        ensures err { OnErr result (call ≡ Call.Save) }
+    /// - `NoMemory` where memory is refused; the caller is then as it was.
+    /// - `OutOfStep` where there is no such level, which breaks the token.
+    pub(crate) fn make_ready(&mut self, call: Call) -> Result<(), Refusal>
+        requires { self.old.broken ≡ false }
+        ensures same { OnOk result (IsSameButSide self.old self.new) }
+        ensures side { OnOk result (IsSameSide self.old.side self.new.side) }
+        ensures ready { OnOk result (IsReadyFor call self.new.side) }
+        ensures err { IfErr result (λ refusal. Failed self.old call refusal self.new) }
     {
         match call {
-            Call::Save => self.side.save_room(),
+            Call::Save => match self.side.save_room() {
+                Ok(()) => Ok(()),
+                Err(AllocError) => Err(Refusal::NoMemory),
+            },
+            Call::Back(level) => {
+                if self.side.level() < level as usize {
+                    self.is_broken = true;
+                    return Err(Refusal::OutOfStep);
+                }
+                Ok(())
+            }
             _ => Ok(()),
         }
     }
 
-    /// Returns the side value as the end of a call asks.
+    /// Makes of the side value what the end of a call asks.
     pub(crate) fn follow(&mut self, end: End)
-        requires { HasRoomAt end self.old.side.save_room }
+        requires { CanFollow end self.old.side }
         ensures same { IsSameButSide self.old self.new }
         ensures side { Follows S.words_of end self.old.side self.new.side }
     {
+        let _levels = self.side.level();
         match end {
             End::Answered(Answer::Began(_) | Answer::Committed(_)) => self.side.settle(),
             End::Answered(Answer::Saved(_)) => {
                 let _ = self.side.save();
             }
-            End::Answered(Answer::Returned(level)) => go_back(&mut self.side, level),
-            End::Answered(Answer::Aborted) | End::Busy(_) => go_back(&mut self.side, 0),
+            End::Answered(Answer::Returned(level)) => self.side.back(level as usize),
+            End::Answered(Answer::Aborted) | End::Busy(_) => self.side.back(0),
             _ => {}
         }
     }
@@ -211,6 +227,8 @@ impl<L: Ledger, S: Side> Caller<L, S> {
         ensures sound { OnOk result (self.old.broken ≡ false) }
         ensures changed { OnOk result (F.post change self.old.side.value self.new.side.value) }
         ensures levels { self.new.side.levels ≡ self.old.side.levels }
+        ensures changes { OnOk result (self.new.side.changes ≡ self.old.side.changes + 1) }
+        ensures kept { self.new.side.kept ≡ self.old.side.kept }
         ensures err { IfErr result (λ e. (e.0 ≡ refused_side self.old.broken)
             × (e.1 ≡ change) × (e.2 ≡ job) × (self.new ≡ self.old)) }
     {
@@ -239,16 +257,5 @@ fn first_step(call: Call) -> Step
         Call::Commit => Step::Commit(0),
         Call::Abort => Step::Abort(0),
         Call::Help(_) => Step::Double(0),
-    }
-}
-
-/// Takes the side value back to a level, if there is such a level.
-fn go_back<S: Side>(side: &mut SideValue<S>, level: u64)
-    ensures back { WentBack S.words_of level side.old side.new }
-    ensures some { 0 < length side.old.levels }
-{
-    let level = level as usize;
-    if level <= side.level() {
-        side.back(level);
     }
 }

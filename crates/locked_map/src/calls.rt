@@ -3,17 +3,20 @@
 //! Each takes the turns of its call, each turn under a hold of the lock, and adds to the token's
 //! `seen` the entries that it tells of and no other. Before it takes the lock its token tests it:
 //! `refused_by` is the refusal that the token's entries say, in the order that each call lists.
-//! A call that the token refuses leaves the token as it was. Each call has the clauses
-//! - `ok`: what it has added, where it did what it was asked; `passed`: then the token let it pass;
-//! - `side`: what it makes of the side value;
-//! - `err`: why it did not, and what it leaves then (`Stopped` in `specs/Calls.antt`);
-//! - `broken`: after `OutOfStep` every call answers that, and nothing changes any more.
-ghost use Rattle.std.specs.Prelude.{◌≡◌, ℕ, [], ◌∷◌, ◌++◌, None, Some, true, false, Err, IfOk, IfErr, OnOk, OnErr};
+//! A call that the token refuses leaves the token as it was. Where the core answers what the token
+//! excludes, the call ends with `OutOfStep`: the token is broken, `seen` keeps what it had added, and
+//! `close` compares. Each call has the clauses
+//! - `ok`: what it has added, where it did what it was asked;
+//! - `side`: what it has then made of the side value;
+//! - `leaves`: that its token let it pass, or why it did not do it and what it leaves then; and that
+//!   after `OutOfStep` every call answers that and nothing changes any more (`Leaves` in
+//!   `specs/Calls.antt`).
+ghost use Rattle.std.specs.Prelude.{◌≡◌, ℕ, ◌+◌, [], ◌∷◌, ◌++◌, None, Some, false, IfOk, IfErr, OnOk};
 ghost use Rattle.txn_trace.specs.declared.entry.Entry.TheVariants as entries;
 ghost use Rattle.txn_drive.specs.Made.{undone_by};
-ghost use Rattle.locked_map.specs.Calls.{Passed, Stopped, refused_by, refused_side};
+ghost use Rattle.locked_map.specs.Calls.{Leaves, refused_side};
 ghost use Rattle.locked_map.specs.Noted.{last_txn};
-ghost use Rattle.locked_map.specs.Sides.{HasLevel, IsBackAt, IsSameSide, IsSettled, WentBack};
+ghost use Rattle.locked_map.specs.Sides.{HasLevel, IsBackAt, IsSameSide, IsSettled};
 ghost use Rattle.locked_map.specs.Tokens.{IsSameButSide};
 
 use crate::caller::Caller;
@@ -35,8 +38,7 @@ impl<L: Ledger> SharedMap<L> {
     /// `Refused`, and the transaction, if there is one, is as it was:
     /// - `OutOfStep` of a token that is broken.
     /// - `Leaving` of a caller that takes changes back, `AlreadyOpen` of one with a transaction.
-    /// - Then `NoMemory` where a growth was refused, and `OutOfStep` where the core answers what
-    ///   the token excludes.
+    /// - Then `NoMemory` where a growth was refused, and `OutOfStep`, which breaks the token.
     ///
     /// # Cost
     ///
@@ -44,11 +46,8 @@ impl<L: Ledger> SharedMap<L> {
     pub fn begin<S: Side, R: Wait>(&self, rt: &R, me: &mut Caller<L, S>) -> Result<u64, Stop>
         ensures ok { IfOk result (λ txn. me.new.seen
             ≡ me.old.seen ++ entries.Began me.old.number txn ∷ []) }
-        ensures passed { OnOk result (Passed me.old Call.Begin me.new) }
         ensures side { OnOk result (IsSettled S.words_of me.old.side me.new.side) }
-        ensures err { IfErr result (λ stop. Stopped S.words_of me.old Call.Begin stop me.new) }
-        ensures broken { me.old.broken ≡ true
-            → (result ≡ Err (Stop.Refused Refusal.OutOfStep)) × (me.new ≡ me.old) }
+        ensures leaves { Leaves S.words_of me.old Call.Begin result me.new }
     {
         match self.call(rt, me, Call::Begin)? {
             End::Answered(Answer::Began(txn)) => Ok(txn),
@@ -60,9 +59,12 @@ impl<L: Ledger> SharedMap<L> {
     ///
     /// # Errors
     ///
-    /// - `Refused`, and the transaction is as it was: `OutOfStep` of a token that is broken;
-    ///   `NotOpen`, `Leaving`, `OperationUnfinished` and `BadKey` (a key of 2^63 or more), the
-    ///   first that holds; then `NoMemory` and `StampsUsedUp` where one is wanted, and `OutOfStep`.
+    /// - `Refused`, and the transaction is as it was:
+    ///   - `OutOfStep` of a token that is broken.
+    ///   - `NotOpen`, `Leaving`, `OperationUnfinished` and `BadKey` (a key of 2^63 or more), the
+    ///     first that holds.
+    ///   - Then `NoMemory` where a growth was refused, `StampsUsedUp` where none is left, and
+    ///     `OutOfStep`, which breaks the token.
     /// - `Busy` where another caller holds the key's stripe: the transaction is aborted, with all
     ///   its changes taken back, and the side value has the words that it had when the transaction
     ///   began.
@@ -80,12 +82,8 @@ impl<L: Ledger> SharedMap<L> {
         ensures ok { IfOk result (λ reply. me.new.seen ≡ me.old.seen
             ++ entries.Asked me.old.number (Op.Put key value)
             ∷ entries.Did me.old.number reply ∷ []) }
-        ensures passed { OnOk result (Passed me.old (Call.Op (Op.Put key value)) me.new) }
         ensures side { OnOk result (IsSameSide me.old.side me.new.side) }
-        ensures err { IfErr result (λ stop.
-            Stopped S.words_of me.old (Call.Op (Op.Put key value)) stop me.new) }
-        ensures broken { me.old.broken ≡ true
-            → (result ≡ Err (Stop.Refused Refusal.OutOfStep)) × (me.new ≡ me.old) }
+        ensures leaves { Leaves S.words_of me.old (Call.Op (Op.Put key value)) result me.new }
     {
         self.operate(rt, me, Op::Put(key, value))
     }
@@ -94,9 +92,12 @@ impl<L: Ledger> SharedMap<L> {
     ///
     /// # Errors
     ///
-    /// - `Refused`, and the transaction is as it was: `OutOfStep` of a token that is broken;
-    ///   `NotOpen`, `Leaving`, `OperationUnfinished` and `BadKey` (a key of 2^63 or more), the
-    ///   first that holds; then `NoMemory` and `StampsUsedUp` where one is wanted, and `OutOfStep`.
+    /// - `Refused`, and the transaction is as it was:
+    ///   - `OutOfStep` of a token that is broken.
+    ///   - `NotOpen`, `Leaving`, `OperationUnfinished` and `BadKey` (a key of 2^63 or more), the
+    ///     first that holds.
+    ///   - Then `NoMemory` where a growth was refused, `StampsUsedUp` where none is left, and
+    ///     `OutOfStep`, which breaks the token.
     /// - `Busy` where another caller holds the key's stripe: the transaction is aborted, with all
     ///   its changes taken back, and the side value has the words that it had when the transaction
     ///   began.
@@ -112,12 +113,8 @@ impl<L: Ledger> SharedMap<L> {
     ) -> Result<Reply, Stop>
         ensures ok { IfOk result (λ reply. me.new.seen ≡ me.old.seen
             ++ entries.Asked me.old.number (Op.Take key) ∷ entries.Did me.old.number reply ∷ []) }
-        ensures passed { OnOk result (Passed me.old (Call.Op (Op.Take key)) me.new) }
         ensures side { OnOk result (IsSameSide me.old.side me.new.side) }
-        ensures err { IfErr result (λ stop.
-            Stopped S.words_of me.old (Call.Op (Op.Take key)) stop me.new) }
-        ensures broken { me.old.broken ≡ true
-            → (result ≡ Err (Stop.Refused Refusal.OutOfStep)) × (me.new ≡ me.old) }
+        ensures leaves { Leaves S.words_of me.old (Call.Op (Op.Take key)) result me.new }
     {
         self.operate(rt, me, Op::Take(key))
     }
@@ -126,9 +123,12 @@ impl<L: Ledger> SharedMap<L> {
     ///
     /// # Errors
     ///
-    /// - `Refused`, and the transaction is as it was: `OutOfStep` of a token that is broken;
-    ///   `NotOpen`, `Leaving`, `OperationUnfinished` and `BadKey` (a key of 2^63 or more), the
-    ///   first that holds; then `NoMemory` and `StampsUsedUp` where one is wanted, and `OutOfStep`.
+    /// - `Refused`, and the transaction is as it was:
+    ///   - `OutOfStep` of a token that is broken.
+    ///   - `NotOpen`, `Leaving`, `OperationUnfinished` and `BadKey` (a key of 2^63 or more), the
+    ///     first that holds.
+    ///   - Then `NoMemory` where a growth was refused, `StampsUsedUp` where none is left, and
+    ///     `OutOfStep`, which breaks the token.
     /// - `Busy` where another caller holds the key's stripe: the transaction is aborted, with all
     ///   its changes taken back, and the side value has the words that it had when the transaction
     ///   began.
@@ -144,12 +144,8 @@ impl<L: Ledger> SharedMap<L> {
     ) -> Result<Reply, Stop>
         ensures ok { IfOk result (λ reply. me.new.seen ≡ me.old.seen
             ++ entries.Asked me.old.number (Op.Get key) ∷ entries.Did me.old.number reply ∷ []) }
-        ensures passed { OnOk result (Passed me.old (Call.Op (Op.Get key)) me.new) }
         ensures side { OnOk result (IsSameSide me.old.side me.new.side) }
-        ensures err { IfErr result (λ stop.
-            Stopped S.words_of me.old (Call.Op (Op.Get key)) stop me.new) }
-        ensures broken { me.old.broken ≡ true
-            → (result ≡ Err (Stop.Refused Refusal.OutOfStep)) × (me.new ≡ me.old) }
+        ensures leaves { Leaves S.words_of me.old (Call.Op (Op.Get key)) result me.new }
     {
         self.operate(rt, me, Op::Get(key))
     }
@@ -161,18 +157,15 @@ impl<L: Ledger> SharedMap<L> {
     /// `Refused`, and the transaction is as it was:
     /// - `OutOfStep` of a token that is broken.
     /// - `NotOpen`, `Leaving` and `OperationUnfinished`, the first that holds.
-    /// - Then `NoMemory` where a growth was refused, and `OutOfStep`.
+    /// - Then `NoMemory` where a growth was refused, and `OutOfStep`, which breaks the token.
     ///
     /// # Cost
     ///
     /// One hold of the lock, of constant time.
     pub fn save<S: Side, R: Wait>(&self, rt: &R, me: &mut Caller<L, S>) -> Result<u64, Stop>
         ensures ok { OnOk result (me.new.seen ≡ me.old.seen ++ entries.Saved me.old.number ∷ []) }
-        ensures passed { OnOk result (Passed me.old Call.Save me.new) }
         ensures side { OnOk result (HasLevel S.words_of me.old.side me.new.side) }
-        ensures err { IfErr result (λ stop. Stopped S.words_of me.old Call.Save stop me.new) }
-        ensures broken { me.old.broken ≡ true
-            → (result ≡ Err (Stop.Refused Refusal.OutOfStep)) × (me.new ≡ me.old) }
+        ensures leaves { Leaves S.words_of me.old Call.Save result me.new }
     {
         match self.call(rt, me, Call::Save)? {
             End::Answered(Answer::Saved(level)) => Ok(level),
@@ -189,7 +182,8 @@ impl<L: Ledger> SharedMap<L> {
     /// - `OutOfStep` of a token that is broken.
     /// - `NotOpen`, `Leaving`, `OperationUnfinished` and `NoSuchLevel`, the first that holds.
     /// - Then `NoMemory` where a growth was refused, which is before anything is taken back, and
-    ///   `OutOfStep`.
+    ///   `OutOfStep`, which breaks the token. That comes too where the side value has no such level,
+    ///   since a save was made by `hold` alone.
     ///
     /// # Cost
     ///
@@ -204,12 +198,8 @@ impl<L: Ledger> SharedMap<L> {
         ensures ok { OnOk result ((undone : ℕ) × (me.new.seen ≡ me.old.seen
             ++ (entries.Leave me.old.number (Some level) ∷ undone_by me.old.number undone
             ++ entries.Returned me.old.number level ∷ []))) }
-        ensures passed { OnOk result (Passed me.old (Call.Back level) me.new) }
-        ensures side { OnOk result (WentBack S.words_of level me.old.side me.new.side) }
-        ensures err { IfErr result (λ stop.
-            Stopped S.words_of me.old (Call.Back level) stop me.new) }
-        ensures broken { me.old.broken ≡ true
-            → (result ≡ Err (Stop.Refused Refusal.OutOfStep)) × (me.new ≡ me.old) }
+        ensures side { OnOk result (IsBackAt S.words_of level me.old.side me.new.side) }
+        ensures leaves { Leaves S.words_of me.old (Call.Back level) result me.new }
     {
         match self.call(rt, me, Call::Back(level))? {
             End::Answered(Answer::Returned(_)) => Ok(()),
@@ -225,7 +215,7 @@ impl<L: Ledger> SharedMap<L> {
     /// `Refused`, and the transaction is as it was:
     /// - `OutOfStep` of a token that is broken.
     /// - `NotOpen`, `Leaving` and `OperationUnfinished`, the first that holds.
-    /// - Then `OutOfStep`. It wants no memory.
+    /// - Then `OutOfStep`, which breaks the token. It wants no memory.
     ///
     /// # Cost
     ///
@@ -233,11 +223,8 @@ impl<L: Ledger> SharedMap<L> {
     pub fn commit<S: Side, R: Wait>(&self, rt: &R, me: &mut Caller<L, S>) -> Result<Receipt, Stop>
         ensures ok { IfOk result (λ receipt. (receipt.txn ≡ last_txn me.old.seen) × (me.new.seen
             ≡ me.old.seen ++ entries.Committed me.old.number receipt.place ∷ [])) }
-        ensures passed { OnOk result (Passed me.old Call.Commit me.new) }
         ensures side { OnOk result (IsSettled S.words_of me.old.side me.new.side) }
-        ensures err { IfErr result (λ stop. Stopped S.words_of me.old Call.Commit stop me.new) }
-        ensures broken { me.old.broken ≡ true
-            → (result ≡ Err (Stop.Refused Refusal.OutOfStep)) × (me.new ≡ me.old) }
+        ensures leaves { Leaves S.words_of me.old Call.Commit result me.new }
     {
         let txn = me.txn();
         match self.call(rt, me, Call::Commit)? {
@@ -254,7 +241,7 @@ impl<L: Ledger> SharedMap<L> {
     /// `Refused`, and the transaction is as it was:
     /// - `OutOfStep` of a token that is broken.
     /// - `NotOpen` and `Leaving`, the first that holds.
-    /// - Then `OutOfStep`. It wants no memory.
+    /// - Then `OutOfStep`, which breaks the token. It wants no memory.
     ///
     /// # Cost
     ///
@@ -264,11 +251,8 @@ impl<L: Ledger> SharedMap<L> {
         ensures ok { OnOk result ((undone : ℕ) × (me.new.seen ≡ me.old.seen
             ++ (entries.Leave me.old.number None ∷ undone_by me.old.number undone
             ++ entries.Aborted me.old.number ∷ []))) }
-        ensures passed { OnOk result (Passed me.old Call.Abort me.new) }
         ensures side { OnOk result (IsBackAt S.words_of 0 me.old.side me.new.side) }
-        ensures err { IfErr result (λ stop. Stopped S.words_of me.old Call.Abort stop me.new) }
-        ensures broken { me.old.broken ≡ true
-            → (result ≡ Err (Stop.Refused Refusal.OutOfStep)) × (me.new ≡ me.old) }
+        ensures leaves { Leaves S.words_of me.old Call.Abort result me.new }
     {
         match self.call(rt, me, Call::Abort)? {
             End::Answered(Answer::Aborted) => Ok(()),
@@ -286,7 +270,7 @@ impl<L: Ledger> SharedMap<L> {
     /// - `OutOfStep` of a token that is broken.
     /// - `BadKey` of a key of 2^63 or more.
     /// - Then `NoMemory` where a growth was refused, `StampsUsedUp` where none is left, and
-    ///   `OutOfStep`.
+    ///   `OutOfStep`, which breaks the token.
     ///
     /// # Cost
     ///
@@ -298,11 +282,8 @@ impl<L: Ledger> SharedMap<L> {
         key: u64,
     ) -> Result<(), Stop>
         ensures ok { OnOk result (me.new.seen ≡ me.old.seen) }
-        ensures passed { OnOk result (Passed me.old (Call.Help key) me.new) }
         ensures side { OnOk result (IsSameSide me.old.side me.new.side) }
-        ensures err { IfErr result (λ stop. Stopped S.words_of me.old (Call.Help key) stop me.new) }
-        ensures broken { me.old.broken ≡ true
-            → (result ≡ Err (Stop.Refused Refusal.OutOfStep)) × (me.new ≡ me.old) }
+        ensures leaves { Leaves S.words_of me.old (Call.Help key) result me.new }
     {
         match self.call(rt, me, Call::Help(key))? {
             End::Helped => Ok(()),
@@ -338,6 +319,8 @@ impl<L: Ledger> SharedMap<L> {
         ensures sound { OnOk result (me.old.broken ≡ false) }
         ensures changed { OnOk result (F.post change me.old.side.value me.new.side.value) }
         ensures levels { me.new.side.levels ≡ me.old.side.levels }
+        ensures changes { OnOk result (me.new.side.changes ≡ me.old.side.changes + 1) }
+        ensures kept { me.new.side.kept ≡ me.old.side.kept }
         ensures err { IfErr result (λ e. (e.0 ≡ refused_side me.old.broken)
             × (e.1 ≡ change) × (e.2 ≡ job) × (me.new ≡ me.old)) }
     {
@@ -353,11 +336,8 @@ impl<L: Ledger> SharedMap<L> {
     ) -> Result<Reply, Stop>
         ensures ok { IfOk result (λ reply. me.new.seen ≡ me.old.seen
             ++ entries.Asked me.old.number op ∷ entries.Did me.old.number reply ∷ []) }
-        ensures passed { OnOk result (Passed me.old (Call.Op op) me.new) }
         ensures side { OnOk result (IsSameSide me.old.side me.new.side) }
-        ensures err { IfErr result (λ stop. Stopped S.words_of me.old (Call.Op op) stop me.new) }
-        ensures broken { me.old.broken ≡ true
-            → (result ≡ Err (Stop.Refused Refusal.OutOfStep)) × (me.new ≡ me.old) }
+        ensures leaves { Leaves S.words_of me.old (Call.Op op) result me.new }
     {
         match self.call(rt, me, Call::Op(op))? {
             End::Answered(Answer::Done(reply)) => Ok(reply),

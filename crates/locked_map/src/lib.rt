@@ -46,6 +46,8 @@ mod receipt;
 mod seen;
 mod shared_map;
 mod stop;
+#[cfg(test)]
+mod tests;
 mod turns;
 mod unclosed;
 

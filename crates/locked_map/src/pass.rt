@@ -61,6 +61,8 @@ impl<L: Ledger> Pass<L> {
         ensures broken { result.broken ≡ false }
         ensures value { result.side.value ≡ side }
         ensures levels { result.side.levels ≡ S.words_of side ∷ [] }
+        ensures changes { result.side.changes ≡ 0 }
+        ensures kept { result.side.kept ≡ 0 ∷ [] }
     {
         let Pass {
             number,

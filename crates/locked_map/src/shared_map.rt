@@ -1,8 +1,8 @@
-ghost use Rattle.std.specs.Prelude.{◌≡◌, true, None, Some, Ok, Err, IfOk, IfErr, OnOk, map};
+ghost use Rattle.std.specs.Prelude.{◌≡◌, IfOk, IfErr, map};
 ghost use Rattle.std.specs.List.{range_with_len};
 ghost use Rattle.txn_trace.specs.Shape.{seat_after};
 ghost use Rattle.txn_drive.specs.Drives.{first_phase};
-ghost use Rattle.locked_map.specs.Calls.{Ended, IsDone, Ran, Stopped, refused_by};
+ghost use Rattle.locked_map.specs.Calls.{Ended, IsDone, Leaves, Ran};
 ghost use Rattle.locked_map.specs.Holds.{FitsIf, HasRun, is_out};
 ghost use Rattle.locked_map.specs.Tokens.{IsSameCaller, new_ticket};
 
@@ -126,8 +126,8 @@ impl<L: Ledger> SharedMap<L> {
         if let Some(refusal) = me.refusal(call) {
             return End::Refused(refusal);
         }
-        if me.make_room(call).is_err() {
-            return End::Refused(Refusal::NoMemory);
+        if let Err(refusal) = me.make_ready(call) {
+            return End::Refused(refusal);
         }
         let end = self.drive(rt, me, call, hears);
         me.follow(end);
@@ -143,9 +143,7 @@ impl<L: Ledger> SharedMap<L> {
     ) -> Result<End, Stop>
         ensures done { IfOk result IsDone }
         ensures ok { IfOk result (λ outcome. Ran S.words_of me.old call outcome me.new) }
-        ensures err { IfErr result (λ stop. Stopped S.words_of me.old call stop me.new) }
-        ensures broken { me.old.broken ≡ true
-            → (result ≡ Err (Stop.Refused Refusal.OutOfStep)) × (me.new ≡ me.old) }
+        ensures leaves { Leaves S.words_of me.old call result me.new }
     {
         match self.run(rt, me, call, &Unheard) {
             End::Busy(holder) => Err(Stop::Busy { holder }),

@@ -1,0 +1,173 @@
+//! Worked runs of two callers.
+use super::map_of::{Play, callers_of, play_with};
+use crate::{Caller, Closed, NoSide, Pass, Receipt, SharedMap, Stop, Unclosed};
+use std::alloc::Global;
+use std::process::Abort;
+use std::sync::Wait;
+use std::sync::ledger::Ledger;
+use std::test::Fail;
+use txn_trace::{Answer, Entry, Op, Step};
+
+/// Caller 1 finds caller 0's stripe held, begins anew and commits first.
+fn busy_between<L: Ledger, R: Wait + Abort>(
+    rt: &R,
+    map: &SharedMap<L>,
+    first: &mut Caller<L, NoSide>,
+    second: &mut Caller<L, NoSide>,
+) {
+    assert_eq!(rt; map.begin(rt, first), Ok(1));
+    assert_eq!(rt; map.put(rt, first, 1, 10), Ok(None));
+    assert_eq!(rt; map.begin(rt, second), Ok(2));
+    assert_eq!(rt; map.get(rt, second, 9), Err(Stop::Busy { holder: 0 }));
+    let seen = [
+        Entry::Began(1, 2),
+        Entry::Busy(1, Op::Get(9), 0),
+        Entry::Aborted(1),
+    ];
+    assert!(rt; second.seen() == seen.as_slice());
+    assert_eq!(rt; map.begin(rt, second), Ok(3));
+    assert_eq!(rt; map.commit(rt, second), Ok(Receipt { txn: 3, place: 1 }));
+    assert_eq!(rt; map.commit(rt, first), Ok(Receipt { txn: 1, place: 2 }));
+}
+
+/// Both, in order.
+fn both<T: Drop>(alloc: Global, first: T, second: T) -> Result<Vec<T>, Fail> {
+    let mut both = Vec::new(alloc);
+    both.push(first)?;
+    both.push(second)?;
+    Ok(both)
+}
+
+/// The callers after that.
+fn callers_after<L: Ledger, R: Wait + Abort>(
+    rt: &R,
+    alloc: Global,
+    map: &SharedMap<L>,
+    passes: Vec<Pass<L>>,
+) -> Result<(Caller<L, NoSide>, Caller<L, NoSide>), Fail> {
+    let mut callers = callers_of(alloc, passes)?;
+    let mut second = callers.pop().ok_or("caller 1")?;
+    let mut first = callers.pop().ok_or("caller 0")?;
+    busy_between(rt, map, &mut first, &mut second);
+    Ok((first, second))
+}
+
+struct BusyBetween;
+
+impl Play for BusyBetween {
+    fn play<L: Ledger, R: Wait + Abort>(
+        &self,
+        rt: &R,
+        alloc: Global,
+        map: SharedMap<L>,
+        passes: Vec<Pass<L>>,
+    ) -> Result<(), Fail> {
+        let (first, second) = callers_after(rt, alloc, &map, passes)?;
+        assert_eq!(rt; (first.seen().len(), second.seen().len()), (4, 5));
+        let Ok(closed) = map.close(both(alloc, first, second)?) else {
+            return Err("closes".into());
+        };
+        let wanted = [
+            Entry::Began(0, 1),
+            Entry::Asked(0, Op::Put(1, 10)),
+            Entry::Did(0, None),
+            Entry::Began(1, 2),
+            Entry::Busy(1, Op::Get(9), 0),
+            Entry::Aborted(1),
+            Entry::Began(1, 3),
+            Entry::Committed(1, 1),
+            Entry::Committed(0, 2),
+        ];
+        assert!(rt; closed.core.trace() == wanted.as_slice());
+        Ok(())
+    }
+}
+
+/// Also `counted_entries`: the nine entries are four of caller 0 and five of caller 1.
+#[test]
+fn busy_between_callers(rt: HostRuntime) -> Result<(), Fail> {
+    play_with(&rt, rt.alloc(), 2, &BusyBetween)
+}
+
+struct Missing;
+
+impl Play for Missing {
+    fn play<L: Ledger, R: Wait + Abort>(
+        &self,
+        rt: &R,
+        alloc: Global,
+        map: SharedMap<L>,
+        passes: Vec<Pass<L>>,
+    ) -> Result<(), Fail> {
+        let (first, second) = callers_after(rt, alloc, &map, passes)?;
+        let mut alone = Vec::new(alloc);
+        alone.push(second)?;
+        let Err(Unclosed::Missing(map, mut alone)) = map.close(alone) else {
+            return Err("caller 0 is missing".into());
+        };
+        let second = alone.pop().ok_or("caller 1 comes back")?;
+        assert_eq!(rt; second.number(), 1);
+        let Ok(closed) = map.close(both(alloc, first, second)?) else {
+            return Err("closes".into());
+        };
+        assert!(rt;
+            closed
+                .callers
+                .iter()
+                .map(|caller| caller.number())
+                .eq([0, 1])
+        );
+        Ok(())
+    }
+}
+
+#[test]
+fn close_missing_caller(rt: HostRuntime) -> Result<(), Fail> {
+    play_with(&rt, rt.alloc(), 2, &Missing)
+}
+
+/// Caller 0 puts five keys, helps and commits.
+fn put_and_help<L: Ledger, R: Wait + Abort>(
+    rt: &R,
+    map: &SharedMap<L>,
+    me: &mut Caller<L, NoSide>,
+) {
+    assert_eq!(rt; map.begin(rt, me), Ok(1));
+    for key in 1..6 {
+        assert_eq!(rt; map.put(rt, me, key, key), Ok(None));
+    }
+    assert_eq!(rt; map.help(rt, me, 3), Ok(()));
+    assert_eq!(rt; map.commit(rt, me), Ok(Receipt { txn: 1, place: 1 }));
+}
+
+struct HelpGrows;
+
+impl Play for HelpGrows {
+    fn play<L: Ledger, R: Wait + Abort>(
+        &self,
+        rt: &R,
+        alloc: Global,
+        map: SharedMap<L>,
+        passes: Vec<Pass<L>>,
+    ) -> Result<(), Fail> {
+        let mut callers = callers_of(alloc, passes)?;
+        let me = callers.first_mut().ok_or("caller 0")?;
+        put_and_help(rt, &map, me);
+        let Ok(closed) = map.close(callers) else {
+            return Err("closes".into());
+        };
+        let Closed {
+            mut core,
+            callers: _,
+        } = closed;
+        assert_eq!(rt; core.size(), 4);
+        assert_eq!(rt; core.step(Step::InitSeek(0, 3)), Answer::Ready);
+        assert_eq!(rt; core.step(Step::InitSeek(0, 2)), Answer::Placed);
+        Ok(())
+    }
+}
+
+#[test]
+fn help_grows(rt: HostRuntime) -> Result<(), Fail> {
+    play_with(&rt, rt.alloc(), 2, &HelpGrows)
+}
