@@ -18,6 +18,8 @@ pub mod Asking
 pub mod NodeLists
 pub mod NodeSteps
 pub mod NodeServes
+pub mod GapLists
+pub mod Neighbours
 pub mod Called
 pub mod Helping
 pub mod Serving

@@ -222,7 +222,7 @@ sweeps (n ∷ rest) some = elim (cases_Bool n.marked) [
 ]
 
 -- The order of the nodes.
-order_behind : (n : NodeAt) (rest : List NodeAt) → AllByRecursion (IsNodeBefore n) rest → AllByRecursion (λ (m : Node). IsBefore n.at m.at) (seen rest)
+pub order_behind : (n : NodeAt) (rest : List NodeAt) → AllByRecursion (IsNodeBefore n) rest → AllByRecursion (λ (m : Node). IsBefore n.at m.at) (seen rest)
 order_behind n [] each = tt
 order_behind n (m ∷ rest) each = (each.0, order_behind n rest each.1)
 
