@@ -37,9 +37,9 @@ use Rattle.boost_core.specs.declared.session.Session.{Session}
 use Rattle.boost_core.specs.State.{Owner, Caller, Helper}
 use Rattle.boost_core.specs.Refusals.{refusal_of}
 use Rattle.boost_core.specs.Spares.{times_of, times_in, times_out, IsCovered}
-use Rattle.boost_core.specs.Core.{World, Tells, IsFresh, state_of, turn_at}
+use Rattle.boost_core.specs.Core.{World, Tells, IsFresh, state_of, turn_at, gap_if}
 use Rattle.boost_core.proofs.Numbers.{no_more}
-use Rattle.boost_core.proofs.Moves.{Runs, state_is, turns_same}
+use Rattle.boost_core.proofs.Moves.{Runs, state_is, turns_same, gaps_same}
 use Rattle.boost_core.proofs.Grow.{Stays, world_after, seated_as, set_cases}
 use Rattle.boost_core.proofs.Outcomes.{Comes, Called, move_is, same_times, same_world}
 use Rattle.boost_core.specs.Refusals.{has_stamp_for, MayLack}
@@ -122,7 +122,10 @@ module _ (w : World) (tells : Tells w) (c : ℕ) (x : Session) (at : slice_get w
     }
 
     lacking_move : (seat' : RoomySeat) → Move (state_of w) step (answers.Refused refusal) (state_of (world_after w c (seated_as y seat') w.history w.counts w.table w.locks w.placed))
-    lacking_move seat' = subst (λ cursors. Move (state_of w) step (answers.Refused refusal) (record (state_of w) { cursors = cursors })) (sym (turns_same w.sessions c x (seated_as y seat') at (ap (option_map cursor_turn) stays.cursor))) (lacks (state_of w) step refusal none lack)
+    lacking_move seat' =
+        let turns = sym (turns_same w.sessions c x (seated_as y seat') at (ap (option_map cursor_turn) stays.cursor)) in
+        let gaps = sym (gaps_same w.table w.sessions c x (seated_as y seat') at (ap (gap_if w.table) stays.cursor)) in
+        subst (Move (state_of w) step (answers.Refused refusal)) (λ i. record (state_of w) { cursors = turns i; gaps = gaps i }) (lacks (state_of w) step refusal none lack)
 
     pub lacking_called : entries_of step (answers.Refused refusal) ≡ [] → Called w c x step (answers.Refused refusal) y w.table w.locks
     lacking_called no_entry = record {

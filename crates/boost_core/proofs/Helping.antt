@@ -24,7 +24,7 @@ use Rattle.boost_core.specs.State.{State, Owner, Caller, Helper, is_set, help_in
 use Rattle.boost_core.specs.Refusals.{refusal_of, refusal_for, has_dummy, has_cursor, has_stamp, lacks_dummy}
 use Rattle.boost_core.specs.Answers.{is_just_placed, may_be_stale}
 use Rattle.boost_core.specs.Machine.{Move}
-use Rattle.boost_core.specs.Core.{World, Tells, IsFresh, state_of, turn_at, all_times}
+use Rattle.boost_core.specs.Core.{World, Tells, IsFresh, state_of, turn_at, nodes_at, gap_by, all_times}
 use Rattle.boost_core.proofs.Spares.{still_covered}
 use Rattle.boost_core.proofs.Refused.{le_false}
 use Rattle.boost_core.proofs.Grow.{table_stayed}
@@ -92,8 +92,8 @@ becomes_tells w tells t' placed' size stored linked helps becomes many follows f
 
 -- The state then.
 pub becomes_state : (w : World) (t' : TableAt) (placed' : Option Owner) (size : ℕ) (stored linked : List Bool) (helps : List Help) → Becomes w.table t' size stored linked helps
-    → state_of (served w t' placed') ≡ record { limits = w.limits; history = w.history ++ []; size = size; stored = stored; linked = linked; changes = turn_of t'; stamp = last_of t'; cursors = map turn_at w.sessions; helpers = helps; placed = placed' }
-becomes_state w t' placed' size stored linked helps becomes = λ i. record { limits = w.limits; history = append_none w.history i; size = becomes.size_is i; stored = becomes.stored_is i; linked = becomes.linked_is i; changes = turn_of t'; stamp = last_of t'; cursors = map turn_at w.sessions; helpers = becomes.helps_is i; placed = placed' }
+    → state_of (served w t' placed') ≡ record { limits = w.limits; history = w.history ++ []; size = size; stored = stored; linked = linked; nodes = nodes_at t'; changes = turn_of t'; stamp = last_of t'; cursors = map turn_at w.sessions; gaps = map (gap_by t') w.sessions; helpers = helps; placed = placed' }
+becomes_state w t' placed' size stored linked helps becomes = λ i. record { limits = w.limits; history = append_none w.history i; size = becomes.size_is i; stored = becomes.stored_is i; linked = becomes.linked_is i; nodes = nodes_at t'; changes = turn_of t'; stamp = last_of t'; cursors = map turn_at w.sessions; gaps = map (gap_by t') w.sessions; helpers = becomes.helps_is i; placed = placed' }
 
 -- Double.
 pub double_tells : (w : World) → Tells w
@@ -211,7 +211,7 @@ pub stored_move : (w : World) (t' : TableAt) (helper : ℕ) → length (helps_of
 stored_move w t' helper many is stores = record {
   allowed = (store_refusal w helper many ∙ ap refusal_in_result is, tt);
   state = becomes_state w t' None (size_of w.table) (slice_set (stored_of w.table) stores.bucket true) (linked_of w.table) (slice_set (helps_of w.table) helper Nothing) stores.becomes
-      ∙ ap (λ n. record { limits = w.limits; history = w.history ++ []; size = size_of w.table; stored = slice_set (stored_of w.table) n true; linked = linked_of w.table; changes = turn_of t'; stamp = last_of t'; cursors = map turn_at w.sessions; helpers = slice_set (helps_of w.table) helper Nothing; placed = None })
+      ∙ ap (λ n. record { limits = w.limits; history = w.history ++ []; size = size_of w.table; stored = slice_set (stored_of w.table) n true; linked = linked_of w.table; nodes = nodes_at t'; changes = turn_of t'; stamp = last_of t'; cursors = map turn_at w.sessions; gaps = map (gap_by t') w.sessions; helpers = slice_set (helps_of w.table) helper Nothing; placed = None })
       (ap (λ (o : Option Help). bucket_at (unwrap_or o Nothing)) (sym stores.had));
   changes = let same = stores.kept in omega arith;
   list_kept = λ kept. stores.kept;
@@ -255,13 +255,13 @@ linking_used true false true is = (refl, refl)
 linking_used true false false is = absurd (cc (is))
 
 -- A helper that no test refuses has a cursor for a bucket.
-record HasSought (o : Option Help) (fitting : Bool) (linked : List Bool) (last : ℕ) (result : Result InitLink InitRefusal) : Type 0 where
-  bucket : ℕ
-  turn : ℕ
-  had : o ≡ Some (Sought bucket turn)
-  answer : linking fitting (is_stored linked bucket) (last == 2 ^ 64 - 2) ≡ result
+pub record HasSought (o : Option Help) (fitting : Bool) (linked : List Bool) (last : ℕ) (result : Result InitLink InitRefusal) : Type 0 where
+  pub bucket : ℕ
+  pub turn : ℕ
+  pub had : o ≡ Some (Sought bucket turn)
+  pub answer : linking fitting (is_stored linked bucket) (last == 2 ^ 64 - 2) ≡ result
 
-has_sought : (fitting : Bool) (linked : List Bool) (last : ℕ) (o : Option Help) (result : Result InitLink InitRefusal) → link_answer fitting linked last o ≡ result → refusal_by_test result ≡ None → HasSought o fitting linked last result
+pub has_sought : (fitting : Bool) (linked : List Bool) (last : ℕ) (o : Option Help) (result : Result InitLink InitRefusal) → link_answer fitting linked last o ≡ result → refusal_by_test result ≡ None → HasSought o fitting linked last result
 has_sought fitting linked last None result is free = absurd (let e : Some refusals.NoSuchHelper ≡ None = ap refusal_by_test is ∙ free in cc)
 has_sought fitting linked last (Some Nothing) result is free = absurd (let e : Some refusals.HelperOutOfOrder ≡ None = ap refusal_by_test is ∙ free in cc)
 has_sought fitting linked last (Some (Dummy bucket)) result is free = absurd (let e : Some refusals.HelperOutOfOrder ≡ None = ap refusal_by_test is ∙ free in cc)
@@ -363,7 +363,7 @@ module _ (w : World) (helper : ℕ) (many : length (helps_of w.table) ≡ w.limi
   link_present_move is t' holds = record {
     allowed = (link_refusal ∙ ap refusal_by_test is, ap not (lacks_when holds.bucket holds.turn true holds.had (ap (λ (o : Option Bool). unwrap_or o false) holds.there)));
     state = becomes_state w t' None (size_of w.table) (stored_of w.table) (linked_of w.table) (slice_set (helps_of w.table) helper (Dummy holds.bucket)) holds.helps.becomes
-        ∙ ap (λ n. record { limits = w.limits; history = w.history ++ []; size = size_of w.table; stored = stored_of w.table; linked = linked_of w.table; changes = turn_of t'; stamp = last_of t'; cursors = map turn_at w.sessions; helpers = slice_set (helps_of w.table) helper (Dummy n); placed = None })
+        ∙ ap (λ n. record { limits = w.limits; history = w.history ++ []; size = size_of w.table; stored = stored_of w.table; linked = linked_of w.table; nodes = nodes_at t'; changes = turn_of t'; stamp = last_of t'; cursors = map turn_at w.sessions; gaps = map (gap_by t') w.sessions; helpers = slice_set (helps_of w.table) helper (Dummy n); placed = None })
         (sym (bucket_had (Sought holds.bucket holds.turn) holds.had));
     changes = let same = holds.kept in omega arith;
     list_kept = λ kept. holds.kept;
@@ -379,7 +379,7 @@ module _ (w : World) (helper : ℕ) (many : length (helps_of w.table) ≡ w.limi
       record {
         allowed = (link_refusal ∙ ap refusal_by_test is, and_from (lacks_dummy before helper) (has_stamp before) (lacks_when linked.bucket linked.turn false linked.had (ap (λ (o : Option Bool). unwrap_or o false) linked.absent)) (ap not parts.1));
         state = becomes_state w t' None (size_of w.table) (stored_of w.table) (slice_set (linked_of w.table) linked.bucket true) (slice_set (helps_of w.table) helper (Dummy linked.bucket)) linked.becomes
-            ∙ ap (λ n. record { limits = w.limits; history = w.history ++ []; size = size_of w.table; stored = stored_of w.table; linked = slice_set (linked_of w.table) n true; changes = turn_of t'; stamp = last_of t'; cursors = map turn_at w.sessions; helpers = slice_set (helps_of w.table) helper (Dummy n); placed = None })
+            ∙ ap (λ n. record { limits = w.limits; history = w.history ++ []; size = size_of w.table; stored = stored_of w.table; linked = slice_set (linked_of w.table) n true; nodes = nodes_at t'; changes = turn_of t'; stamp = last_of t'; cursors = map turn_at w.sessions; gaps = map (gap_by t') w.sessions; helpers = slice_set (helps_of w.table) helper (Dummy n); placed = None })
             (sym (bucket_had (Sought linked.bucket linked.turn) linked.had));
         changes = turn;
         list_kept = λ kept. absurd (false≢true kept);

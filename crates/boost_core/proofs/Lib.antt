@@ -15,6 +15,11 @@ pub mod Outcomes
 pub mod Parting
 pub mod Working
 pub mod Asking
+pub mod NodeLists
+pub mod NodeSteps
+pub mod NodeServes
+pub mod GapLists
+pub mod Neighbours
 pub mod Called
 pub mod Helping
 pub mod Serving

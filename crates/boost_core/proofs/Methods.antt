@@ -11,7 +11,7 @@ use Rattle.key_locks.specs.Locks.{Grants, Refuses}
 use Rattle.map_ops.specs.declared.job.MapJob.{MapJob}
 use Rattle.map_ops.specs.Jobs.{PendingAt, key_of_job}
 use Rattle.map_ops.specs.TableAt.{TableAt, Cursor}
-use Rattle.map_ops.specs.Changes.{Prepares, GivesBack, Places}
+use Rattle.map_ops.specs.Changes.{Prepares, GivesBack, Places, SeeksNear}
 use Rattle.txn_trace.specs.Map.{key_of}
 use Rattle.undo_log.specs.UndoLog.{newest_above}
 use Rattle.boost_core.specs.declared.session.Session.{Session}
@@ -74,8 +74,8 @@ leaves_to_end (LeavingTo n) is other = absurd (other n refl)
 leaves_to_end LeavingToEnd is other = refl
 
 -- The operation that waits is sought, or the newest change.
-pub seeks_waiting : (s : Session) (t t' : TableAt) → GoesWith s t → (pending : PendingAt) (cursor : Cursor) → s.pending ≡ Some pending → Places t t' (key_of pending.op) cursor → SeeksIn s t (record s { cursor = Some cursor }) t'
-seeks_waiting s t t' goes pending cursor is places = record { key = key_of pending.op; cursor = cursor; target = waiting_target s t goes pending is; becomes = refl; places = places }
+pub seeks_waiting : (s : Session) (t t' : TableAt) → GoesWith s t → (pending : PendingAt) (cursor : Cursor) → s.pending ≡ Some pending → Places t t' (key_of pending.op) cursor → SeeksNear t t' (key_of pending.op) → SeeksIn s t (record s { cursor = Some cursor }) t'
+seeks_waiting s t t' goes pending cursor is places near = record { key = key_of pending.op; cursor = cursor; target = waiting_target s t goes pending is; becomes = refl; places = places; near = near }
 
-pub seeks_newest : (s : Session) (t t' : TableAt) → GoesWith s t → has_target s.seat.seat ≡ true → (job : MapJob) (cursor : Cursor) → s.pending ≡ None → newest_above s.log (level_of s.seat.seat.phase) ≡ Some job → Places t t' (key_of_job job) cursor → SeeksIn s t (record s { cursor = Some cursor }) t'
-seeks_newest s t t' goes target job cursor none newest places = record { key = key_of_job job; cursor = cursor; target = newest_target s t goes (newest_there s t goes target none).0 job newest; becomes = refl; places = places }
+pub seeks_newest : (s : Session) (t t' : TableAt) → GoesWith s t → has_target s.seat.seat ≡ true → (job : MapJob) (cursor : Cursor) → s.pending ≡ None → newest_above s.log (level_of s.seat.seat.phase) ≡ Some job → Places t t' (key_of_job job) cursor → SeeksNear t t' (key_of_job job) → SeeksIn s t (record s { cursor = Some cursor }) t'
+seeks_newest s t t' goes target job cursor none newest places near = record { key = key_of_job job; cursor = cursor; target = newest_target s t goes (newest_there s t goes target none).0 job newest; becomes = refl; places = places; near = near }

@@ -31,7 +31,7 @@ last_job (job ∷ next ∷ rest) some =
     let later = last_job (next ∷ rest) (omega arith) in
     record { front = job ∷ later.front; job = later.job; is = ap (λ js. job ∷ js) later.is }
 
-at_last : (jobs front : List MapJob) (job : MapJob) → jobs ≡ front ++ job ∷ [] → slice_get jobs (length jobs - 1) ≡ Some job
+pub at_last : (jobs front : List MapJob) (job : MapJob) → jobs ≡ front ++ job ∷ [] → slice_get jobs (length jobs - 1) ≡ Some job
 at_last jobs front job is =
     let long : length (front ++ job ∷ []) ≡ length front + 1 = length_push front job in
     ap (λ (js : List MapJob). slice_get js (length js - 1)) is

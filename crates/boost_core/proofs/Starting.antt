@@ -25,7 +25,7 @@ use Rattle.boost_core.specs.declared.session.Session.{Session}
 use Rattle.boost_core.specs.State.{start}
 use Rattle.boost_core.specs.Spares.{times_of, times_in}
 use Rattle.boost_core.specs.Sessions.{IsIdle, Agrees, Waits, IsSoughtAt, AreDue, level_of, owed_of, target_of, times_kept, spare_if, changes_of}
-use Rattle.boost_core.specs.Core.{World, Tells, state_of, turn_at, all_times}
+use Rattle.boost_core.specs.Core.{World, Tells, state_of, turn_at, node_at, gap_if, gap_by, all_times}
 use Rattle.boost_core.proofs.Spares.{none_covered}
 use Rattle.boost_core.proofs.Powers.{IsPower, power_from_test}
 
@@ -108,9 +108,11 @@ module _ (limits : Sizes) (t : TableAt) (new : IsNew t limits.buckets limits.cal
     size = new.size_is i;
     stored = new.stored_is i;
     linked = new.linked_is i;
+    nodes = map node_at (new.nodes_are i);
     changes = new.turn_is i;
     stamp = new.last_is i;
     cursors = (image_is turn_at None sessions (λ s c at. ap (option_map cursor_turn) (is_idle s c at).cursor) ∙ ap (λ n. replicate n None) count) i;
+    gaps = (image_is (gap_by t) None sessions (λ s c at. ap (gap_if t) (is_idle s c at).cursor) ∙ ap (λ n. replicate n None) count) i;
     helpers = new.helps_is i;
     placed = None;
   }

@@ -1,5 +1,5 @@
 -- What is true of every core.
-use Rattle.std.specs.Prelude.{◌≡◌, ℕ, ◌+◌, ◌<◌, ◌≤◌, true, Option, Some, None, List, length, map, reverse, slice_get, vec_len, vec_capacity, sum_by}
+use Rattle.std.specs.Prelude.{◌≡◌, ℕ, ◌+◌, ◌<◌, ◌≤◌, true, Option, Some, None, List, length, map, reverse, slice_get, vec_len, vec_capacity, sum_by, if◌then◌else◌}
 use Rattle.std.specs.Option.{option_map}
 use Rattle.std.specs.Global.{Vec}
 use Rattle.std.specs.List.{All}
@@ -12,11 +12,13 @@ use Rattle.txn_trace.specs.Log.{log_of}
 use Rattle.txn_trace.specs.Locks.{holder_of}
 use Rattle.txn_trace.specs.Legal.{IsLegal}
 use Rattle.key_locks.specs.Locks.{holder_of as held_by}
-use Rattle.map_ops.specs.TableAt.{TableAt, Cursor, content, cursor_turn, fits, size_of, stored_of, linked_of, helps_of, turn_of, last_of, largest_of}
+use Rattle.node_list.specs.Nodes.{node_of}
+use Rattle.list_steps.specs.Found.{pred_of, behind}
+use Rattle.map_ops.specs.TableAt.{TableAt, Cursor, NodeAt, nodes_of, content, cursor_turn, fits, size_of, stored_of, linked_of, helps_of, turn_of, last_of, largest_of}
 use Rattle.map_ops.specs.Buckets.{helper_fits}
 use Rattle.boost_core.specs.declared.counts.Counts.{Counts}
 use Rattle.boost_core.specs.declared.session.Session.{Session}
-use Rattle.boost_core.specs.State.{State, Owner, Caller, Helper}
+use Rattle.boost_core.specs.State.{State, Node, Gap, Owner, Caller, Helper}
 use Rattle.boost_core.specs.Spares.{IsCovered}
 use Rattle.boost_core.specs.Sessions.{owed_of, Agrees, IsSought, times_kept, changes_of, AreDue}
 
@@ -46,6 +48,30 @@ world_of limits history counts table sessions locks placed = record {
 abbrev pub turn_at : Session → Option ℕ
 turn_at s = option_map cursor_turn s.cursor
 
+-- The linked nodes.
+abbrev pub node_at : NodeAt → Node
+node_at n = record { at = n.at; marked = n.marked }
+
+abbrev pub nodes_at : TableAt → List Node
+nodes_at t = map node_at (nodes_of t)
+
+-- The two nodes between which a cursor stands, if it fits.
+abbrev pub gap_at : Option NodeAt → Option NodeAt → Option Gap
+gap_at None behind = None
+gap_at (Some n) behind = Some (record { before = n.at; behind = option_map (λ m. m.at) behind })
+
+abbrev pub gap_of : TableAt → Cursor → Option Gap
+gap_of t cursor =
+    if fits t cursor then gap_at (node_of (nodes_of t) (pred_of cursor)) (behind t.list cursor) else None
+
+abbrev pub gap_if : TableAt → Option Cursor → Option Gap
+gap_if t None = None
+gap_if t (Some cursor) = gap_of t cursor
+
+-- Those of each caller's cursor.
+abbrev pub gap_by : TableAt → Session → Option Gap
+gap_by t s = gap_if t s.cursor
+
 -- The state of the machine.
 abbrev pub state_of : World → State
 state_of w = record {
@@ -54,9 +80,11 @@ state_of w = record {
   size = size_of w.table;
   stored = stored_of w.table;
   linked = linked_of w.table;
+  nodes = nodes_at w.table;
   changes = turn_of w.table;
   stamp = last_of w.table;
   cursors = map turn_at w.sessions;
+  gaps = map (gap_by w.table) w.sessions;
   helpers = helps_of w.table;
   placed = w.placed;
 }

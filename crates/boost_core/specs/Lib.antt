@@ -6,6 +6,7 @@ pub mod Locks
 pub mod Replies
 pub mod Content
 pub mod Machine
+pub mod Nodes
 pub mod Plain
 pub mod Counts
 pub mod Placed

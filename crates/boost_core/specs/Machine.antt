@@ -14,11 +14,11 @@ abbrev pub IsAllowed : State → Step → Answer → Type 0
 IsAllowed state step (answers.Refused refusal) = (refusal_of state step ≡ Some refusal) ⊎ ((refusal_of state step ≡ None) × MayLack state step refusal)
 IsAllowed state step answer = (refusal_of state step ≡ None) × IsAnswer state step answer
 
--- A step, its answer and the state after it. The change number never falls, and stays where the list does; the last stamp
--- rises by at most one.
+-- A step, its answer and the state after it, of whose nodes and cursors `Nodes` says what becomes.
+-- The change number never falls, and stays where the list does; the last stamp rises by at most one.
 pub record Move (old : State) (step : Step) (answer : Answer) (new : State) : Type 0 where
   pub allowed : IsAllowed old step answer
-  pub state : new ≡ after old step answer new.changes new.stamp
+  pub state : new ≡ record (after old step answer new.changes new.stamp) { nodes = new.nodes; gaps = new.gaps }
   pub changes : old.changes ≤ new.changes
   pub list_kept : keeps_list answer ≡ true → new.changes ≡ old.changes
   pub stamp : old.stamp ≤ new.stamp

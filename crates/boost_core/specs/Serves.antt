@@ -14,11 +14,11 @@ use Rattle.map_ops.specs.InitLink.{InitLink as Linked}
 use Rattle.map_ops.specs.InitLink.TheVariants as links
 use Rattle.map_ops.specs.InitRefusal.{InitRefusal}
 use Rattle.map_ops.specs.InitRefusal.TheVariants as inits
-use Rattle.map_ops.specs.TableAt.{TableAt, SweepOutcome, Keeps, KeepsSpares, IsClean, content, turn_of, size_of, largest_of, stored_of, helps_of}
+use Rattle.map_ops.specs.TableAt.{TableAt, SweepOutcome, Keeps, KeepsList, KeepsSpares, IsClean, content, turn_of, size_of, largest_of, stored_of, helps_of}
 use Rattle.map_ops.specs.TableAt as tables
 use Rattle.map_ops.specs.SweepOutcome.TheVariants as outcomes
 use Rattle.map_ops.specs.Changes.{Sweeps}
-use Rattle.map_ops.specs.Buckets.{SeekChanges, LinkChanges, StoreChanges, Doubles, seek_answer, link_answer_of, store_answer, double_answer}
+use Rattle.map_ops.specs.Buckets.{SeekChanges, SeekWrites, LinkChanges, LinkWrites, StoreChanges, Doubles, seek_answer, link_answer_of, store_answer, double_answer}
 use Rattle.boost_core.specs.Refusals.{refusal_for}
 
 -- Whether a step is no caller's.
@@ -72,6 +72,7 @@ pub record Seeking (t t' : TableAt) (h b : ℕ) (answer : Answer) : Type 0 where
   pub answer_is : answer ≡ sought outcome
   pub says : outcome ≡ seek_answer (size_of t) (stored_of t) (slice_get (helps_of t) h) b
   pub changes : SeekChanges t t' h b outcome
+  pub writes : SeekWrites t t' b outcome
 
 -- A helper links the dummy that it sought.
 pub record Linking (t t' : TableAt) (h : ℕ) (answer : Answer) : Type 0 where
@@ -81,6 +82,7 @@ pub record Linking (t t' : TableAt) (h : ℕ) (answer : Answer) : Type 0 where
   pub no_memory : outcome ≡ Err inits.NoMemory → link_answer_of t h ≡ Ok links.Linked
   pub in_turn : (bucket : ℕ) → slice_get (helps_of t) h ≡ Some (tables.Sought bucket (turn_of t)) → turn_of t < 2 ^ 64 - 1 → outcome ≢ Ok links.Again
   pub changes : LinkChanges t t' h outcome
+  pub writes : (bucket turn : ℕ) → slice_get (helps_of t) h ≡ Some (tables.Sought bucket turn) → LinkWrites t t' bucket outcome
 
 -- A helper stores the dummy that it has.
 pub record Storing (t t' : TableAt) (h : ℕ) (answer : Answer) : Type 0 where
@@ -88,6 +90,7 @@ pub record Storing (t t' : TableAt) (h : ℕ) (answer : Answer) : Type 0 where
   pub answer_is : answer ≡ stored outcome
   pub says : outcome ≡ store_answer (slice_get (helps_of t) h)
   pub changes : StoreChanges t t' h outcome
+  pub list : KeepsList t t'
 
 -- The size is doubled, or not.
 pub record Doubling (t t' : TableAt) (seen : ℕ) (answer : Answer) : Type 0 where
@@ -95,6 +98,7 @@ pub record Doubling (t t' : TableAt) (seen : ℕ) (answer : Answer) : Type 0 whe
   pub answer_is : answer ≡ doubled outcome
   pub says : outcome ≡ double_answer (size_of t) (largest_of t) (count_of (content t)) seen
   pub changes : Doubles t t' outcome
+  pub list : KeepsList t t'
 
 -- What each step does, by its answer.
 abbrev pub Serves : Step → TableAt → Answer → TableAt → Type 0

@@ -6,7 +6,7 @@ use Rattle.txn_trace.specs.declared.step.Step.TheVariants.{Begin, Ask, Seek, Act
 use Rattle.txn_trace.specs.declared.answer.Answer.{Answer}
 use Rattle.txn_trace.specs.declared.answer.Answer.TheVariants as answers
 use Rattle.txn_trace.specs.declared.refusal.Refusal.TheVariants.{NoMemory}
-use Rattle.txn_trace.specs.Map.{Map, key_of}
+use Rattle.txn_trace.specs.Map.{Map, get, key_of}
 use Rattle.txn_trace.specs.Now.{set_at}
 use Rattle.txn_trace.specs.Owed.{owed_in}
 use Rattle.txn_trace.specs.Locks.{stripe_of}
@@ -20,7 +20,8 @@ use Rattle.map_ops.specs.declared.job.MapJob.{MapJob}
 use Rattle.map_ops.specs.Jobs.{PendingAt, takes_node, key_of_job, value_before, spare_of_job, IsDue}
 use Rattle.map_ops.specs.TableAt.{TableAt, Cursor, SpareAt, KeepsNodes, content, IsPlaced, fits, last_of}
 use Rattle.map_ops.specs.Changes as changes
-use Rattle.map_ops.specs.Changes.{OwnsIf, Places, Prepares, IsRefused, GivesBack, TakesBack}
+use Rattle.map_ops.specs.Changes.{OwnsIf, Places, SeeksNear, Prepares, IsRefused, GivesBack, TakesBack}
+use Rattle.map_ops.specs.Nodes.{OpWrites, JobWrites}
 use Rattle.boost_core.specs.declared.counts.Counts.{Counts}
 use Rattle.boost_core.specs.declared.session.Session.{Session}
 use Rattle.boost_core.specs.State.{Caller}
@@ -179,6 +180,7 @@ pub record SeeksIn (s : Session) (t : TableAt) (s' : Session) (t' : TableAt) : T
   pub target : target_of s ≡ Some key
   pub becomes : s' ≡ record s { cursor = Some cursor }
   pub places : Places t t' key cursor
+  pub near : SeeksNear t t' key
 
 -- An operation waits that may be done: its cursor was placed for it, its spare is the table's, and there is room for its job.
 pub record CanAct (s : Session) (t : TableAt) : Type 0 where
@@ -207,8 +209,12 @@ pub record Drops (s : Session) (t : TableAt) (s' : Session) (t' : TableAt) : Typ
 pub record DoesIn (s : Session) (t : TableAt) (reply : Option ℕ) (s' : Session) (t' : TableAt) : Type 0 where
   pub pending : PendingAt
   pub job : Option MapJob
+  pub at : Cursor
   pub had : s.pending ≡ Some pending
+  pub stood : s.cursor ≡ Some at
+  pub fitting : fits t at ≡ true
   pub does : changes.Does t t' pending reply job
+  pub writes : OpWrites t.list t'.list pending.op pending.spare (get (content t) (key_of pending.op))
   pub seat : s'.seat.seat ≡ s.seat.seat
   pub waits : s'.pending ≡ None
   pub cursor : s'.cursor ≡ None
@@ -229,7 +235,11 @@ pub record CanUndo (s : Session) (t : TableAt) : Type 0 where
 -- The newest change is taken back.
 pub record TakesBackIn (s : Session) (t : TableAt) (s' : Session) (t' : TableAt) : Type 0 where
   pub job : MapJob
+  pub at : Cursor
+  pub stood : s.cursor ≡ Some at
+  pub fitting : fits t at ≡ true
   pub back : TakesBack t t' job
+  pub writes : JobWrites t.list t'.list job
   pub seat : s'.seat.seat ≡ s.seat.seat
   pub waits : s'.pending ≡ s.pending
   pub cursor : s'.cursor ≡ None

@@ -2,27 +2,51 @@
 pub use Rattle.map_ops.specs.TableAt.{Help, Nothing, Sought, Dummy}
 pub use Rattle.boost_core.specs.declared.owner.Owner.{Owner}
 pub use Rattle.boost_core.specs.declared.owner.Owner.TheVariants.{Caller, Helper}
+pub use Rattle.split_key.specs.declared.sort.SortKey.{SortKey}
+use Rattle.split_key.specs.Sort.{dummy_at}
 use Rattle.std.specs.Prelude.{ℕ, ◌-◌, Bool, true, false, List, [], ◌∷◌, Option, Some, None, replicate, slice_get, slice_set, unwrap_or}
 use Rattle.txn_trace.specs.declared.entry.Entry.{Entry}
 use Rattle.txn_trace.specs.Sizes.{Sizes}
 use Rattle.txn_trace.specs.Shape.{Seat, closed_seat, seat_after, own}
 
--- The limits, the history, the size, for each bucket whether it is stored and whether its dummy is linked, the list's
--- change number, the last stamp given, for each caller the turn of its cursor, what each helper has, and whose cursor the
--- last move placed.
+-- A linked node: where it stands in the list's order, and whether it is marked.
+pub record Node : Type 0 where
+  pub at : SortKey
+  pub marked : Bool
+
+-- An unmarked node that stands here, and a marked one.
+abbrev pub plain_node : SortKey → Node
+plain_node at = record { at = at; marked = false }
+
+abbrev pub marked_node : SortKey → Node
+marked_node at = record { at = at; marked = true }
+
+-- The two nodes between which a cursor stands, by where they stand: the second is none at the end
+-- of the list.
+pub record Gap : Type 0 where
+  pub before : SortKey
+  pub behind : Option SortKey
+
+-- The limits, the history, the size, for each bucket whether it is stored and whether its dummy is
+-- linked, the linked nodes in order, the list's change number, the last stamp given, for each
+-- caller the turn of its cursor and, where that fits, the nodes between which it stands, what each
+-- helper has, and whose cursor the last move placed.
 pub record State : Type 0 where
   pub limits : Sizes
   pub history : List Entry
   pub size : ℕ
   pub stored : List Bool
   pub linked : List Bool
+  pub nodes : List Node
   pub changes : ℕ
   pub stamp : ℕ
   pub cursors : List (Option ℕ)
+  pub gaps : List (Option Gap)
   pub helpers : List Help
   pub placed : Option Owner
 
--- At the beginning nothing has happened, and the table has two buckets, of which the first is stored.
+-- At the beginning nothing has happened, and the table has two buckets, of which the first is stored:
+-- its dummy alone is linked.
 abbrev pub start : Sizes → State
 start limits = record {
   limits = limits;
@@ -30,9 +54,11 @@ start limits = record {
   size = 2;
   stored = true ∷ replicate (limits.buckets - 1) false;
   linked = true ∷ replicate (limits.buckets - 1) false;
+  nodes = plain_node (dummy_at 0) ∷ [];
   changes = 0;
   stamp = 0;
   cursors = replicate limits.callers None;
+  gaps = replicate limits.callers None;
   helpers = replicate limits.callers Nothing;
   placed = None;
 }
@@ -44,6 +70,10 @@ seat_in history c = unwrap_or (seat_after (own c history)) closed_seat
 -- The turn of a caller's cursor, if it has one.
 abbrev pub turn_in : List (Option ℕ) → ℕ → Option ℕ
 turn_in cursors c = unwrap_or (slice_get cursors c) None
+
+-- The nodes between which a caller's cursor stands, if it has one that fits.
+abbrev pub gap_in : List (Option Gap) → ℕ → Option Gap
+gap_in gaps c = unwrap_or (slice_get gaps c) None
 
 -- What a helper has, if there is one of this number.
 abbrev pub help_in : List Help → ℕ → Help

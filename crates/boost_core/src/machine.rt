@@ -60,6 +60,7 @@ impl Core {
     ghost use Rattle.boost_core.specs.Content.{IsContent, IsRegular};
     ghost use Rattle.boost_core.specs.Whole.{IsWhole};
     ghost use Rattle.boost_core.specs.Machine.{Move, Moves};
+    ghost use Rattle.boost_core.specs.Nodes.{IsInOrder, Lists};
     ghost use Rattle.boost_core.specs.Refusals.{owner_of, refusal_of};
     ghost use Rattle.boost_core.specs.Serves.{is_served};
     ghost use Rattle.boost_core.specs.State.{turn_in};
@@ -108,7 +109,8 @@ impl Core {
     /// A seek walks from the nearest initialised bucket on, a commit and the end of an abort take a step for each job and each
     /// stripe of the transaction, a sweep walks up to the first marked node; each other step takes amortized constant time.
     pub fn step(&mut self, step: Step) -> Answer
-        ensures { Move self.old step result self.new }
+        ensures moves { Move self.old step result self.new }
+        ensures lists { Lists self.old step result self.new }
     {
         match step {
             Step::Begin(caller)
@@ -132,6 +134,7 @@ impl Core {
     pub(crate) fn call(&mut self, caller: u64, step: Step) -> Answer
         requires { owner_of step ≡ Some (Owner.Caller caller) }
         ensures moves { Move self.old step result self.new }
+        ensures lists { Lists self.old step result self.new }
         ensures cursor { result ≡ Answer.Placed → is_some (turn_in self.new.cursors caller) ≡ true }
     {
         if let Some(refusal) = self.refusal(caller, step) {
@@ -145,6 +148,7 @@ impl Core {
             return Answer::Refused(Refusal::NoMemory);
         }
         let stripes = u64::from(self.limits.stripes());
+        let _size = Table::size(&self.table);
         let session = &mut self.sessions[caller as usize];
         let answer = session.answer(step, stripes, self.counts, &mut self.table, &mut self.locks);
         self.owed = add(
@@ -161,8 +165,10 @@ impl Core {
     /// Takes a step that is no caller's, and notes whose cursor was placed.
     fn serve(&mut self, step: Step) -> Answer
         requires { is_served step ≡ true }
-        ensures { Move self.old step result self.new }
+        ensures moves { Move self.old step result self.new }
+        ensures lists { Lists self.old step result self.new }
     {
+        let _size = Table::size(&self.table);
         let answer = serve(step, &mut self.table);
         self.placed = placed_after(self.placed, step, answer);
         answer
@@ -195,6 +201,7 @@ impl Core {
         ensures legal { IsLegal self.now.limits.stripes self.now.history }
         ensures callers { All (λ entry. caller_of entry < self.now.limits.callers) self.now.history }
         ensures whole { IsWhole self.now }
+        ensures order { IsInOrder self.now.nodes }
     {
         let _size = Table::size(&self.table);
         &self.history

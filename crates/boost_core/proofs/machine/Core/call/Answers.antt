@@ -12,6 +12,7 @@ use Rattle.boost_core.proofs.Refused.{at_free}
 use Rattle.boost_core.proofs.Moves.{move_of, none_of}
 use Rattle.boost_core.proofs.Starting.{some_stripe, few_callers}
 use Rattle.boost_core.proofs.Grow.{world_after, seated_as}
+use Rattle.boost_core.proofs.NodeSteps.{lists_of, does}
 use Rattle.boost_core.proofs.Called.{called, takes, placed_cursor, turn_there}
 use Rattle.boost_core.proofs.Outcomes.{Called, reserved_few, no_memory, can_add, called_tells, called_owes, called_room, called_move}
 use Rattle.txn_trace.specs.declared.answer.Answer.TheVariants as answers
@@ -69,6 +70,14 @@ returns-clause-moves c =
     subst (λ (n : Counts). Move c.args.self.now c.args.step c.answer-answer.result (state_of (world_after (world_of c.self.inside.limits c.self.inside.history c.self.inside.counts c.self.inside.table c.self.inside.sessions c.self.inside.locks c.self.inside.placed) c.args.caller (seated_as c.answer-answer.new.self c.add-self-inside.new.seat) c.add-self-inside.new.history.items n c.answer-answer.new.table c.answer-answer.new.locks c.placed_after-self-inside.result))) (sym c.after-self-inside.ensures)
     (subst (λ (o : Option Owner). Move c.args.self.now c.args.step c.answer-answer.result (state_of (world_after (world_of c.self.inside.limits c.self.inside.history c.self.inside.counts c.self.inside.table c.self.inside.sessions c.self.inside.locks c.self.inside.placed) c.args.caller (seated_as c.answer-answer.new.self c.add-self-inside.new.seat) c.add-self-inside.new.history.items (counts_after c.self.inside.counts c.answer-answer.result) c.answer-answer.new.table c.answer-answer.new.locks o))) (sym c.placed_after-self-inside.ensures)
     (move_of _ _ _ _ _ c.self.view_is (called_move _ c.self.invariant.tells c.args.caller c.index_mut-session.result.now c.answer-answer.new.self at c.args.step c.answer-answer.result c.answer-answer.new.table c.answer-answer.new.locks is c.add-self-inside.new.seat c.entry_of.result c.entry_of.ensures c.add-self-inside.new.history.items (c.add-self-inside.ensures.items ∙ ap (λ (es : List Entry). es ++ option_to_list c.entry_of.result) c.reserve.ensures.items))))
+
+pub returns-clause-lists : goal.returns-clause-lists
+returns-clause-lists c =
+    let none = none_of _ _ c.args.step _ c.self.view_is c.refusal.ensures c.in_default.is in
+    let at = at_free _ c.self.invariant.tells c.args.caller c.args.step c.requires none c.index_mut-session.result.now c.index_mut-session.ensures.value in
+    let w : World = world_of c.self.inside.limits c.self.inside.history c.self.inside.counts c.self.inside.table c.self.inside.sessions c.self.inside.locks c.self.inside.placed in
+    let now : World = world_after w c.args.caller (seated_as c.answer-answer.new.self c.add-self-inside.new.seat) c.add-self-inside.new.history.items c.after-self-inside.result c.answer-answer.new.table c.answer-answer.new.locks c.placed_after-self-inside.result in
+    lists_of _ _ _ _ _ c.self.view_is (does w c.self.invariant.tells c.args.caller c.index_mut-session.result.now at now c.answer-answer.new.self c.answer-answer.new.locks c.size-size.ensures.stored c.from-stripes.result c.args.step c.requires c.answer-answer.result c.answer-answer.ensures.does)
 
 pub returns-clause-cursor : goal.returns-clause-cursor
 returns-clause-cursor c = λ is_placed.

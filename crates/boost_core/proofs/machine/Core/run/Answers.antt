@@ -17,7 +17,7 @@ pub loop-step-preserved : goal.loop-step-preserved
 loop-step-preserved c =
     let items = rw c.unwrap.ensures at c.push.ensures.items in
     record {
-      moves = rw items (Moves-more c.args.self.now c.loop-step.self c.step-answer.new.self c.args.steps.now c.loop-step.step-index _ c.loop-step.answers.items c.step-answer.result c.loop-step-test.true c.loop-step.invariant.moves c.step-answer.ensures);
+      moves = rw items (Moves-more c.args.self.now c.loop-step.self c.step-answer.new.self c.args.steps.now c.loop-step.step-index _ c.loop-step.answers.items c.step-answer.result c.loop-step-test.true c.loop-step.invariant.moves c.step-answer.ensures.moves);
       count = let len = rw c.unwrap.ensures at c.push.ensures.len in omega (arith, len, c.loop-step.invariant.count);
       room = omega (arith, c.push.ensures.capacity, c.loop-step.invariant.room);
     }

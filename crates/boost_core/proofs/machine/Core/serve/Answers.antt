@@ -5,6 +5,8 @@ use Rattle.boost_core.specs.Core.{Tells, world_of, state_of}
 use Rattle.boost_core.proofs.Moves.{move_of}
 use Rattle.boost_core.proofs.Helping.{served}
 use Rattle.boost_core.proofs.Serving.{serves}
+use Rattle.boost_core.proofs.NodeSteps.{lists_of}
+use Rattle.boost_core.proofs.NodeServes.{serves as listed}
 use Rattle.boost_core.proofs.machine.Core.serve.Goals as goal
 
 pub invariant_of-self : goal.invariant_of-self
@@ -16,8 +18,13 @@ invariant_of-self c =
       room = c.self.invariant.room;
     }
 
-pub returns : goal.returns
-returns c =
+pub returns-clause-moves : goal.returns-clause-moves
+returns-clause-moves c =
     let is = serves _ c.self.invariant.tells c.serve-answer.new.table c.serve-answer.ensures.follows c.serve-answer.ensures.rises c.args.step c.serve-answer.result c.serve-answer.ensures.serves in
     subst (λ (o : Option Owner). Move c.args.self.now c.args.step c.serve-answer.result (state_of (served (world_of c.self.inside.limits c.self.inside.history c.self.inside.counts c.self.inside.table c.self.inside.sessions c.self.inside.locks c.self.inside.placed) c.serve-answer.new.table o))) (sym c.placed_after-self-inside.ensures)
     (move_of _ _ _ _ _ c.self.view_is is.move)
+
+pub returns-clause-lists : goal.returns-clause-lists
+returns-clause-lists c =
+    let w = world_of c.self.inside.limits c.self.inside.history c.self.inside.counts c.self.inside.table c.self.inside.sessions c.self.inside.locks c.self.inside.placed in
+    lists_of _ _ _ _ _ c.self.view_is (listed w (served w c.serve-answer.new.table c.placed_after-self-inside.result) c.size-size.ensures.stored c.args.step c.serve-answer.result c.serve-answer.ensures.serves)

@@ -1,0 +1,249 @@
+-- What each step does to the nodes, to the change number and to the last stamp.
+use Rattle.std.proofs.Common.{◌≡◌, ℕ, ◌+◌, ◌-◌, ◌%◌, ◌<◌, Bool, true, false, cond, List, [], ◌∷◌, ◌++◌, length, Option, Some, None, Result, Ok, Err, is_some, inl, inr, refl, sym, ap, subst, ◌∙◌, arith}
+use Rattle.std.specs.Prelude.{map, reverse, slice_get, slice_index_or, unwrap_or, nat_lt, IsSome}
+use Rattle.std.specs.Option.{option_map}
+use Rattle.std.proofs.lemmas.Bool.{false≢true, cases_Bool, ltb-true}
+use Rattle.std.proofs.lemmas.List.{length-map, reverse-append}
+use Rattle.std.proofs.lemmas.Option.{slice_get-map, unwrap_or-slice_get}
+use Rattle.split_key.specs.Split.{ancestor_of}
+use Rattle.split_key.specs.Sort.{regular_at, dummy_at}
+use Rattle.node_list.specs.Nodes.{NodeAt, changes_after}
+use Rattle.list_steps.specs.Seek.{sought}
+use Rattle.bucket_table.specs.Directory as directories
+use Rattle.bucket_table.specs.Dummies.{IsDummyAt, dummy_node}
+use Rattle.txn_trace.specs.declared.op.Op.{Op}
+use Rattle.txn_trace.specs.declared.op.Op.TheVariants.{Put, Take, Get}
+use Rattle.txn_trace.specs.declared.step.Step.{Step}
+use Rattle.txn_trace.specs.declared.step.Step.TheVariants as steps
+use Rattle.txn_trace.specs.declared.answer.Answer.{Answer}
+use Rattle.txn_trace.specs.declared.answer.Answer.TheVariants as answers
+use Rattle.txn_trace.specs.declared.seat.Phase.{Phase}
+use Rattle.txn_trace.specs.declared.seat.Phase.TheVariants.{Closed, Opened, Waiting, LeavingTo, LeavingToEnd}
+use Rattle.txn_trace.specs.Map.{Map, get, key_of}
+use Rattle.txn_trace.specs.Now.{now}
+use Rattle.txn_trace.specs.Log.{log_of}
+use Rattle.txn_trace.specs.Locks.{stripe_of}
+use Rattle.txn_trace.specs.Shape.{Seat}
+use Rattle.undo_log.specs.UndoLog.{Log, kept_at, newest_above}
+use Rattle.map_ops.specs.declared.job.MapJob.{MapJob}
+use Rattle.map_ops.specs.declared.job.MapJob.TheVariants.{Unput, Restore, Relink}
+use Rattle.map_ops.specs.Jobs.{PendingAt, key_of_job, value_before, takes_node, IsDue}
+use Rattle.map_ops.specs.TableAt.{TableAt, SpareAt, KeepsNodes, KeepsList, NamesDummies, content, nodes_of, size_of, stored_of, helps_of, turn_of, last_of}
+use Rattle.map_ops.specs.Changes.{GivesFor, SeeksNear}
+use Rattle.map_ops.specs.Nodes as writes
+use Rattle.boost_core.specs.declared.session.Session.{Session}
+use Rattle.boost_core.specs.State.{State, Caller, is_set, seat_in, plain_node, marked_node}
+use Rattle.boost_core.specs.Refusals.{owner_of}
+use Rattle.boost_core.specs.Nodes.{Keeps, Writes, Links, Marks, SeeksFrom, SeeksKey, IsNearest, Changes, Operates, OperatesIn, TakesBack, Touches, Lists, key_in, next_key, newest_key, stamp_after}
+use Rattle.boost_core.specs.Sessions.{Does, ActsIn, DoesIn, TakesBackIn, SeeksIn, IsAsked, Rests, Waits, AreDue, key_of_newest, target_in, target_of, changes_of, change_of}
+use Rattle.boost_core.specs.Core.{World, Tells, state_of, node_at, nodes_at}
+use Rattle.boost_core.proofs.NodeLists.{seen, inserted, replaced, written_seen, seeks_from}
+use Rattle.boost_core.proofs.Refused.{seat_here}
+use Rattle.boost_core.proofs.Sides.{last_job, at_last, changes_last, waiting_op}
+
+-- A state that is seen another way.
+pub lists_of : (state old new : State) (step : Step) (answer : Answer) → state ≡ old → Lists state step answer new → Lists old step answer new
+lists_of state old new step answer is lists = subst (λ s. Lists s step answer new) is lists
+
+-- Nothing is done where the list is as it was, or its nodes are.
+pub kept : (w w' : World) → KeepsList w.table w'.table → Keeps (state_of w) (state_of w')
+kept w w' same = record { nodes = ap (λ l. seen l.nodes) same; changes = ap (λ l. l.changes) same }
+
+pub rested : (w w' : World) → KeepsNodes w.table w'.table → Keeps (state_of w) (state_of w')
+rested w w' keeps = record { nodes = ap seen keeps.all; changes = keeps.turn }
+
+-- A node is linked, or marked, or written.
+pub links : (w w' : World) (node : NodeAt) → node.marked ≡ false → writes.LinksNode w.table.list w'.table.list node → Links (state_of w) (state_of w') node.at
+links w w' node live is =
+    let more = inserted (nodes_of w.table) is.before node is.linked in
+    record {
+      front = more.front;
+      back = more.back;
+      old_is = more.old_is;
+      new_is = ap seen is.writes.nodes ∙ more.new_is ∙ (λ i. more.front ++ record { at = node.at; marked = live i } ∷ more.back);
+      changes = is.writes.changes;
+    }
+
+pub marks : (w w' : World) (key : ℕ) → writes.MarksNode w.table.list w'.table.list key → Marks (state_of w) (state_of w') (regular_at key)
+marks w w' key is =
+    let more = replaced (nodes_of w.table) is.node.place (λ n. record n { marked = true }) is.node is.its.is in
+    record {
+      front = more.front;
+      back = more.back;
+      old_is = more.old_is ∙ (λ i. more.front ++ record { at = is.its.at i; marked = is.its.unmarked i } ∷ more.back);
+      new_is = ap seen is.writes.nodes ∙ more.new_is ∙ (λ i. more.front ++ record { at = is.its.at i; marked = true } ∷ more.back);
+      changes = is.writes.changes;
+    }
+
+pub written : (w w' : World) (key value : ℕ) → writes.WritesNode w.table.list w'.table.list key value → Writes (state_of w) (state_of w')
+written w w' key value is = record { nodes = ap seen is.writes.nodes ∙ written_seen (nodes_of w.table) is.node.place value; changes = is.writes.changes }
+
+pub nothing : (w w' : World) → writes.WritesNothing w.table.list w'.table.list → Keeps (state_of w) (state_of w')
+nothing w w' is = record { nodes = ap seen is.nodes; changes = is.changes }
+
+-- A place is sought from a bucket's dummy.
+pub seeks : (w w' : World) (place bucket : ℕ) (dummy : IsDummyAt (nodes_of w.table) place bucket) (sort : _) → nodes_of w'.table ≡ sought (nodes_of w.table) place sort → writes.IsUnlinking w.table.list w'.table.list
+    → SeeksFrom (state_of w) (state_of w') bucket sort
+seeks w w' place bucket dummy sort nodes changes =
+    let is = seeks_from sort (nodes_of w.table) place dummy.node dummy.is in
+    record {
+      front = is.front;
+      start = node_at dummy.node;
+      passed = is.passed;
+      back = is.back;
+      from = dummy.at;
+      old_is = is.old_is;
+      new_is = ap seen nodes ∙ is.new_is;
+      passes = is.passes;
+      stops = is.stops;
+      changes = changes ∙ (λ i. changes_after (turn_of w.table) (sym (length-map (nodes_of w.table) node_at) i - sym (length-map (nodes_of w'.table) node_at) i));
+    }
+
+-- The nearest stored bucket.
+stored_is : (t : TableAt) (bucket : ℕ) → is_set (stored_of t) bucket ≡ directories.is_stored t.buckets bucket
+stored_is t bucket =
+    ap (λ (o : Option Bool). unwrap_or o false) (slice_get-map is_some t.buckets.entries bucket)
+    ∙ both (slice_get t.buckets.entries bucket) ∙ ap is_some (unwrap_or-slice_get t.buckets.entries bucket None)
+  where
+    both : (o : Option (Option ℕ)) → unwrap_or (option_map is_some o) false ≡ is_some (unwrap_or o None)
+    both None = refl
+    both (Some dummy) = refl
+
+nearest : (t : TableAt) (bucket place : ℕ) (near : directories.IsNearest t.buckets bucket place) → IsNearest (stored_of t) bucket (ancestor_of near.steps bucket)
+nearest t bucket place near = record {
+  steps = near.steps;
+  is = refl;
+  there = stored_is t (ancestor_of near.steps bucket) ∙ ap is_some near.stored;
+  nearer = λ fewer less. stored_is t (ancestor_of fewer bucket) ∙ near.nearer fewer less;
+}
+
+pub seeks_key : (w w' : World) → NamesDummies w.table → (key : ℕ) → SeeksNear w.table w'.table key → SeeksKey (state_of w) (state_of w') key
+seeks_key w w' home key near = record {
+  bucket = ancestor_of near.nearest.steps (key % size_of w.table);
+  nearest = nearest w.table (key % size_of w.table) near.start near.nearest;
+  seeks = seeks w w' near.start (ancestor_of near.nearest.steps (key % size_of w.table)) (home.stored (ancestor_of near.nearest.steps (key % size_of w.table)) near.start near.nearest.stored) (regular_at key) near.nodes near.changes;
+}
+
+-- What an operation does, and what taking a change back does.
+put_changes : (w w' : World) (key value : ℕ) (spare : Option SpareAt) (before : Option ℕ) → writes.PutWrites w.table.list w'.table.list key value spare before → Changes (state_of w) (state_of w') key before (Some value)
+put_changes w w' key value None before is = absurd is
+put_changes w w' key value (Some spare) None is = links w w' (writes.node_for key value spare) refl is
+put_changes w w' key value (Some spare) (Some was) is = written w w' key value is
+
+take_changes : (w w' : World) (key : ℕ) (before : Option ℕ) → writes.TakeWrites w.table.list w'.table.list key before → Changes (state_of w) (state_of w') key before None
+take_changes w w' key None is = nothing w w' is
+take_changes w w' key (Some was) is = marks w w' key is
+
+operates : (w w' : World) → content w.table ≡ now w.history → (op : Op) (spare : Option SpareAt) → writes.OpWrites w.table.list w'.table.list op spare (get (content w.table) (key_of op)) → Operates (state_of w) (state_of w') op
+operates w w' same (Put key value) spare is = subst (λ (m : Map). Changes (state_of w) (state_of w') key (get m key) (Some value)) same (put_changes w w' key value spare (get (content w.table) key) is)
+operates w w' same (Take key) spare is = subst (λ (m : Map). Changes (state_of w) (state_of w') key (get m key) None) same (take_changes w w' key (get (content w.table) key) is)
+operates w w' same (Get key) spare is = nothing w w' is
+
+unput : (w w' : World) (key : ℕ) (o : Option ℕ) → IsSome o → writes.MarksNode w.table.list w'.table.list key → Changes (state_of w) (state_of w') key o None
+unput w w' key None due is = absurd (false≢true due)
+unput w w' key (Some was) due is = marks w w' key is
+
+restored : (w w' : World) (key before : ℕ) (o : Option ℕ) → IsSome o → writes.WritesNode w.table.list w'.table.list key before → Changes (state_of w) (state_of w') key o (Some before)
+restored w w' key before None due is = absurd (false≢true due)
+restored w w' key before (Some was) due is = written w w' key before is
+
+taken_back : (w w' : World) (job : MapJob) → IsDue (now w.history) job → writes.JobWrites w.table.list w'.table.list job → Changes (state_of w) (state_of w') (key_of_job job) (get (now w.history) (key_of_job job)) (value_before job)
+taken_back w w' (Unput key) due is = unput w w' key (get (now w.history) key) due is
+taken_back w w' (Restore key was) due is = restored w w' key was (get (now w.history) key) due is
+taken_back w w' (Relink key was spare) due is = subst (λ (o : Option ℕ). Changes (state_of w) (state_of w') key o (Some was)) (sym due) (links w w' (writes.node_for key was spare) refl is)
+
+-- The stamp of a spare that is given.
+given_last : (t t' : TableAt) (node : Bool) (spare : Option SpareAt) → GivesFor t t' node spare → last_of t' ≡ cond node (last_of t + 1) (last_of t)
+given_last t t' true None is = absurd is
+given_last t t' true (Some spare) is = is.last
+given_last t t' false None is = ap last_of is
+given_last t t' false (Some spare) is = absurd is
+
+module _ (w : World) (tells : Tells w) (c : ℕ) (x : Session) (at : slice_get w.sessions c ≡ Some x) where
+  here : seat_in w.history c ≡ x.seat.seat
+  here = seat_here w tells c x at
+
+  log_is : log_of c w.history ≡ changes_of x.log.jobs
+  log_is = (tells.seated c x at).log
+
+  newest_first : (level : ℕ) (key : ℕ) → key_of_newest (newest_above x.log level) ≡ Some key → newest_key (changes_of x.log.jobs) ≡ key
+  newest_first level key is = elim (cases_Bool (nat_lt (kept_at x.log.kept level) (length x.log.jobs))) [
+    | inl more ↦
+        let above : kept_at x.log.kept level < length x.log.jobs = ltb-true (kept_at x.log.kept level) (length x.log.jobs) more in
+        let last = last_job x.log.jobs (omega arith) in
+        let newest : newest_above x.log level ≡ Some last.job = ap (λ (b : Bool). cond b (slice_get x.log.jobs (length x.log.jobs - 1)) None) more ∙ at_last x.log.jobs last.front last.job last.is in
+        let both : Some (key_of_job last.job) ≡ Some key = sym (ap key_of_newest newest) ∙ is in
+        ap newest_key (changes_last x.log.jobs last.front last.job last.is) ∙ cc (both)
+    | inr none ↦ absurd (let both : None ≡ Some key = sym (ap key_of_newest (ap (λ (b : Bool). cond b (slice_get x.log.jobs (length x.log.jobs - 1)) None) none)) ∙ is in cc (both))
+  ]
+
+  key_is : (q : Phase) (key : ℕ) → target_in q x.log ≡ Some key → key_in q (changes_of x.log.jobs) ≡ key
+  key_is Closed key is = absurd (cc (is))
+  key_is Opened key is = absurd (cc (is))
+  key_is (Waiting op) key is = cc (is)
+  key_is (LeavingTo level) key is = newest_first level key is
+  key_is LeavingToEnd key is = newest_first 0 key is
+
+  pub next_is : (key : ℕ) → target_of x ≡ Some key → next_key (state_of w) c ≡ key
+  next_is key is = (λ i. key_in (here i).phase (log_is i)) ∙ key_is x.seat.seat.phase key is
+
+  pub sought_key : (w' : World) (y : Session) → NamesDummies w.table → SeeksIn x w.table y w'.table → SeeksKey (state_of w) (state_of w') (next_key (state_of w) c)
+  sought_key w' y home is = subst (SeeksKey (state_of w) (state_of w')) (sym (next_is is.key is.target)) (seeks_key w w' home is.key is.near)
+
+  pub done : (w' : World) (reply : Option ℕ) (y : Session) → DoesIn x w.table reply y w'.table → OperatesIn (state_of w) (state_of w') (seat_in w.history c).phase
+  done w' reply y is =
+      let waits : Waits x.seat.seat.phase (Some is.pending) x.log.room = subst (λ (o : Option PendingAt). Waits x.seat.seat.phase o x.log.room) is.had (tells.seated c x at).agrees.waits in
+      subst (OperatesIn (state_of w) (state_of w')) (sym (ap (λ (s : Seat). s.phase) here ∙ waiting_op x.seat.seat.phase is.pending x.log.room waits))
+      (operates w w' tells.content is.pending.op is.pending.spare is.writes)
+
+  pub undone : (w' : World) (y : Session) → TakesBackIn x w.table y w'.table → TakesBack (state_of w) (state_of w') (log_of c w.history)
+  undone w' y is =
+      let due : AreDue (now w.history) (is.job ∷ reverse y.log.jobs) = subst (AreDue (now w.history)) (ap reverse is.jobs ∙ reverse-append y.log.jobs (is.job ∷ [])) (tells.seated c x at).due in
+      subst (TakesBack (state_of w) (state_of w')) (sym (log_is ∙ changes_last x.log.jobs y.log.jobs is.job is.jobs))
+      (taken_back w w' is.job due.0 is.writes)
+
+  module _ (w' : World) (y : Session) (locks' : List (Option ℕ)) where
+    -- The table is as it was, or its nodes and its last stamp are.
+    same : w'.table ≡ w.table → Keeps (state_of w) (state_of w')
+    same is = kept w w' (ap (λ t. t.list) is)
+
+    asked : (op : Op) (stripe : ℕ) (answer : Answer) → IsAsked c stripe op x w.table w.locks answer y w'.table locks' → Lists (state_of w) (steps.Ask c op) answer (state_of w')
+    asked op stripe answers.Asked is = record { nodes = rested w w' is.prepares.nodes; stamp = given_last w.table w'.table (takes_node op) is.pending.spare is.prepares.given }
+    asked op stripe (answers.Busy holder) is = record {
+      nodes = record { nodes = ap seen is.back.nodes.all ∙ ap seen is.prepares.nodes.all; changes = is.back.nodes.turn ∙ is.prepares.nodes.turn };
+      stamp = is.back.last ∙ given_last w.table is.between (takes_node op) is.pending.spare is.prepares.given;
+    }
+    asked op stripe (answers.Refused refusal) is = record { nodes = same is.2; stamp = ap last_of is.2 }
+    asked op stripe _ is = absurd is
+
+    acted : (answer : Answer) → ActsIn c x w.table w.locks answer y w'.table locks' → Lists (state_of w) (steps.Act c) answer (state_of w')
+    acted answers.Again is = record { nodes = same is.1.table; stamp = ap last_of is.1.table }
+    acted (answers.Done reply) is = record { nodes = done w' reply y is.0; stamp = is.0.does.last }
+    acted answers.Undone is = record { nodes = undone w' y is.1; stamp = is.1.back.last }
+    acted (answers.Returned n) is = record { nodes = same is.2; stamp = ap last_of is.2 }
+    acted answers.Aborted is = record { nodes = same is.2; stamp = ap last_of is.2 }
+    acted _ is = absurd is
+
+    -- What each step of a caller does to the list.
+    pub does : NamesDummies w.table → (stripes : ℕ) (step : Step) → owner_of step ≡ Some (Caller c) → (answer : Answer) → Does stripes w.counts step x w.table w.locks answer y w'.table locks' → Lists (state_of w) step answer (state_of w')
+    does home stripes (steps.Begin d) owner (answers.Began n) is = record { nodes = same is.2; stamp = ap last_of is.2 }
+    does home stripes (steps.Begin d) owner _ is = absurd is
+    does home stripes (steps.Ask d op) owner answer is =
+        let own : d ≡ c = cc (owner) in
+        subst (λ k. Lists (state_of w) (steps.Ask k op) answer (state_of w')) (sym own)
+        (asked op (stripe_of stripes (key_of op)) answer (subst (λ k. IsAsked k (stripe_of stripes (key_of op)) op x w.table w.locks answer y w'.table locks') own is))
+    does home stripes (steps.Seek d) owner answers.Placed is =
+        let own : d ≡ c = cc (owner) in
+        subst (λ k. Lists (state_of w) (steps.Seek k) answers.Placed (state_of w')) (sym own) (record { nodes = sought_key w' y home is.0; stamp = is.0.places.keeps.last })
+    does home stripes (steps.Seek d) owner _ is = absurd is
+    does home stripes (steps.Act d) owner answer is =
+        let own : d ≡ c = cc (owner) in
+        subst (λ k. Lists (state_of w) (steps.Act k) answer (state_of w')) (sym own) (acted answer (subst (λ k. ActsIn k x w.table w.locks answer y w'.table locks') own is))
+    does home stripes (steps.Save d) owner answer is = record { nodes = same is.1; stamp = ap last_of is.1 }
+    does home stripes (steps.Back d n) owner answers.Leaving is = record { nodes = same is.1; stamp = ap last_of is.1 }
+    does home stripes (steps.Back d n) owner _ is = absurd is
+    does home stripes (steps.Commit d) owner (answers.Committed p) is = record { nodes = rested w w' is.1.rests.nodes; stamp = is.1.rests.last }
+    does home stripes (steps.Commit d) owner _ is = absurd is
+    does home stripes (steps.Abort d) owner answers.Leaving is = record { nodes = rested w w' is.0.rests.nodes; stamp = is.0.rests.last }
+    does home stripes (steps.Abort d) owner _ is = absurd is
+    does home stripes _ owner answer is = absurd is

@@ -1,0 +1,206 @@
+-- What each step does to the linked nodes, to the change number and to the last stamp, and whose
+-- cursors fit.
+use Rattle.std.specs.Prelude.{◌≡◌, ◌≢◌, ℕ, ◌+◌, ◌-◌, ◌%◌, ◌<◌, Bool, true, false, not, List, [], ◌∷◌, ◌++◌, Option, Some, None, is_some, length, filter, if◌then◌else◌}
+use Rattle.std.specs.List.{AllByRecursion}
+use Rattle.split_key.specs.Split.{ancestor_of}
+use Rattle.split_key.specs.Sort.{IsBefore, IsNotBefore, regular_at, dummy_at}
+use Rattle.node_list.specs.Nodes.{one_more, changes_after}
+use Rattle.txn_trace.specs.declared.op.Op.{Op}
+use Rattle.txn_trace.specs.declared.op.Op.TheVariants.{Put, Take, Get}
+use Rattle.txn_trace.specs.declared.step.Step.{Step}
+use Rattle.txn_trace.specs.declared.step.Step.TheVariants.{Ask, Seek, Act, Sweep, InitSeek, InitLink}
+use Rattle.txn_trace.specs.declared.answer.Answer.{Answer}
+use Rattle.txn_trace.specs.declared.answer.Answer.TheVariants as answers
+use Rattle.txn_trace.specs.declared.seat.Phase.{Phase}
+use Rattle.txn_trace.specs.declared.seat.Phase.TheVariants.{Waiting}
+use Rattle.txn_trace.specs.Map.{get, key_of}
+use Rattle.txn_trace.specs.Now.{now}
+use Rattle.txn_trace.specs.Log.{log_of}
+use Rattle.map_ops.specs.Jobs.{takes_node}
+use Rattle.map_ops.specs.Buckets.{parent_of}
+use Rattle.boost_core.specs.State.{State, Node, Gap, SortKey, Caller, plain_node, marked_node, seat_in, gap_in, help_in, is_set, bucket_at}
+use Rattle.boost_core.specs.Refusals.{owner_of}
+
+-- Each node stands before all that follow it.
+unfoldable pub IsInOrder : List Node → Type 0
+IsInOrder [] = Unit {0}
+IsInOrder (n ∷ rest) = AllByRecursion (λ m. IsBefore n.at m.at) rest × IsInOrder rest
+
+-- No node is marked.
+abbrev pub IsClean : List Node → Type 0
+IsClean nodes = AllByRecursion (λ n. n.marked ≡ false) nodes
+
+-- The nodes and the change number are as they were.
+pub record Keeps (old new : State) : Type 0 where
+  pub nodes : new.nodes ≡ old.nodes
+  pub changes : new.changes ≡ old.changes
+
+-- One thing is written, and no node is linked, marked or unlinked.
+pub record Writes (old new : State) : Type 0 where
+  pub nodes : new.nodes ≡ old.nodes
+  pub changes : new.changes ≡ one_more old.changes
+
+-- An unmarked node is linked here, and nothing else is done.
+pub record Links (old new : State) (at : SortKey) : Type 0 where
+  pub front : List Node
+  pub back : List Node
+  pub old_is : old.nodes ≡ front ++ back
+  pub new_is : new.nodes ≡ front ++ plain_node at ∷ back
+  pub changes : new.changes ≡ one_more old.changes
+
+-- The unmarked node that stands here is marked, and nothing else is done.
+pub record Marks (old new : State) (at : SortKey) : Type 0 where
+  pub front : List Node
+  pub back : List Node
+  pub old_is : old.nodes ≡ front ++ plain_node at ∷ back
+  pub new_is : new.nodes ≡ front ++ marked_node at ∷ back
+  pub changes : new.changes ≡ one_more old.changes
+
+-- The first marked node is unlinked, and nothing else is done.
+pub record Sweeps (old new : State) : Type 0 where
+  pub front : List Node
+  pub at : SortKey
+  pub back : List Node
+  pub old_is : old.nodes ≡ front ++ marked_node at ∷ back
+  pub new_is : new.nodes ≡ front ++ back
+  pub first : IsClean front
+  pub changes : new.changes ≡ one_more old.changes
+
+-- There is no node, or the first is unmarked and does not stand before this.
+abbrev pub StopsAt : SortKey → List Node → Type 0
+StopsAt at [] = Unit {0}
+StopsAt at (n ∷ rest) = (n.marked ≡ false) × IsNotBefore n.at at
+
+-- Whether a node is unmarked.
+abbrev pub is_unmarked : Node → Bool
+is_unmarked n = not n.marked
+
+-- A seek from the dummy of a bucket: it passes the nodes up to the first unmarked one that does not
+-- stand before the place sought. Of those that it passes the marked ones are unlinked, and nothing
+-- else is done. The change number grows by one for each.
+pub record SeeksFrom (old new : State) (bucket : ℕ) (at : SortKey) : Type 0 where
+  pub front : List Node
+  pub start : Node
+  pub passed : List Node
+  pub back : List Node
+  pub from : start.at ≡ dummy_at bucket
+  pub old_is : old.nodes ≡ front ++ start ∷ (passed ++ back)
+  pub new_is : new.nodes ≡ front ++ start ∷ (filter is_unmarked passed ++ back)
+  pub passes : AllByRecursion (λ n. n.marked ≡ false → IsBefore n.at at) passed
+  pub stops : StopsAt at back
+  pub changes : new.changes ≡ changes_after old.changes (length old.nodes - length new.nodes)
+
+-- Of a bucket, its parent, the parent's parent and so on this is the nearest one that is stored.
+pub record IsNearest (stored : List Bool) (bucket nearest : ℕ) : Type 0 where
+  pub steps : ℕ
+  pub is : nearest ≡ ancestor_of steps bucket
+  pub there : is_set stored nearest ≡ true
+  pub nearer : (fewer : ℕ) → fewer < steps → is_set stored (ancestor_of fewer bucket) ≡ false
+
+-- The key of the newest change, of those of a log.
+abbrev pub newest_key : List (ℕ × Option ℕ) → ℕ
+newest_key [] = 0
+newest_key (change ∷ older) = change.0
+
+-- The key that a caller acts on next: that of the operation that waits, or of the newest change.
+abbrev pub key_in : Phase → List (ℕ × Option ℕ) → ℕ
+key_in (Waiting op) log = key_of op
+key_in phase log = newest_key log
+
+abbrev pub next_key : State → ℕ → ℕ
+next_key state c = key_in (seat_in state.history c).phase (log_of c state.history)
+
+-- A key is sought from the dummy of its bucket, or of the nearest ancestor that is stored.
+pub record SeeksKey (old new : State) (key : ℕ) : Type 0 where
+  pub bucket : ℕ
+  pub nearest : IsNearest old.stored (key % old.size) bucket
+  pub seeks : SeeksFrom old new bucket (regular_at key)
+
+-- What is done where a key's value changes from the first to the second: a node is linked, or the
+-- key's node is marked, or a value is written there, and no other node is touched.
+abbrev pub Changes : State → State → ℕ → Option ℕ → Option ℕ → Type 0
+Changes old new key None None = Keeps old new
+Changes old new key None (Some value) = Links old new (regular_at key)
+Changes old new key (Some was) None = Marks old new (regular_at key)
+Changes old new key (Some was) (Some value) = Writes old new
+
+-- What an operation does. A get does nothing.
+abbrev pub Operates : State → State → Op → Type 0
+Operates old new (Put key value) = Changes old new key (get (now old.history) key) (Some value)
+Operates old new (Take key) = Changes old new key (get (now old.history) key) None
+Operates old new (Get key) = Keeps old new
+
+-- What the operation that waits does.
+abbrev pub OperatesIn : State → State → Phase → Type 0
+OperatesIn old new (Waiting op) = Operates old new op
+OperatesIn old new phase = ⊥
+
+-- What taking the newest change back does.
+abbrev pub TakesBack : State → State → List (ℕ × Option ℕ) → Type 0
+TakesBack old new [] = ⊥
+TakesBack old new (change ∷ older) =
+    Changes old new change.0 (get (now old.history) change.0) change.1
+
+-- What a step and its answer do to the nodes and to the change number.
+abbrev pub Touches : State → Step → Answer → State → Type 0
+Touches old (Seek c) answers.Placed new = SeeksKey old new (next_key old c)
+Touches old (Act c) (answers.Done reply) new = OperatesIn old new (seat_in old.history c).phase
+Touches old (Act c) answers.Undone new = TakesBack old new (log_of c old.history)
+Touches old Sweep answers.Swept new = Sweeps old new
+Touches old Sweep answers.Clean new = IsClean old.nodes × Keeps old new
+Touches old (InitSeek h b) answers.Placed new = SeeksFrom old new (parent_of b) (dummy_at b)
+Touches old (InitLink h) answers.Linked new =
+    Links old new (dummy_at (bucket_at (help_in old.helpers h)))
+Touches old step answer new = Keeps old new
+
+-- The last stamp after a step and its answer: one is given for each node that is taken.
+abbrev pub stamp_after : ℕ → Step → Answer → ℕ
+stamp_after stamp (Ask c op) answers.Asked = if takes_node op then stamp + 1 else stamp
+stamp_after stamp (Ask c op) (answers.Busy holder) = if takes_node op then stamp + 1 else stamp
+stamp_after stamp (InitLink h) answers.Linked = stamp + 1
+stamp_after stamp step answer = stamp
+
+-- What a step and its answer do to the list.
+pub record Lists (old : State) (step : Step) (answer : Answer) (new : State) : Type 0 where
+  pub nodes : Touches old step answer new
+  pub stamp : new.stamp ≡ stamp_after old.stamp step answer
+
+-- The first of these nodes is unmarked and stands here, or there is none.
+abbrev pub StartsAt : List Node → Option SortKey → Type 0
+StartsAt [] None = Unit {0}
+StartsAt [] (Some at) = ⊥
+StartsAt (n ∷ rest) None = ⊥
+StartsAt (n ∷ rest) (Some at) = n ≡ plain_node at
+
+-- The two nodes stand side by side, unmarked.
+pub record AreNeighbours (nodes : List Node) (gap : Gap) : Type 0 where
+  pub front : List Node
+  pub back : List Node
+  pub nodes_are : nodes ≡ front ++ plain_node gap.before ∷ back
+  pub next : StartsAt back gap.behind
+
+-- The key's place is between the two.
+pub record IsBetween (gap : Gap) (key : ℕ) : Type 0 where
+  pub before : IsBefore gap.before (regular_at key)
+  pub behind : (at : SortKey) → gap.behind ≡ Some at → IsNotBefore at (regular_at key)
+
+-- A caller has a cursor that fits, between the two nodes beside the key's place.
+pub record StandsAt (state : State) (c key : ℕ) : Type 0 where
+  pub gap : Gap
+  pub has : gap_in state.gaps c ≡ Some gap
+  pub neighbours : AreNeighbours state.nodes gap
+  pub between : IsBetween gap key
+
+-- A seek gives a cursor that fits, and an act is answered `again` exactly where it fits no longer.
+abbrev pub Fits : State → Step → Answer → State → Type 0
+Fits old (Seek c) answers.Placed new = StandsAt new c (next_key old c)
+Fits old (Act c) answers.Again new = gap_in old.gaps c ≡ None
+Fits old (Act c) (answers.Done reply) new = is_some (gap_in old.gaps c) ≡ true
+Fits old (Act c) answers.Undone new = is_some (gap_in old.gaps c) ≡ true
+Fits old step answer new = Unit {0}
+
+-- The cursor of each caller whose step it is not fits still, where its two nodes are still side by
+-- side: what is done at a distance costs it nothing.
+abbrev pub KeepsGaps : State → Step → State → Type 0
+KeepsGaps old step new = (c : ℕ) (gap : Gap) → owner_of step ≢ Some (Caller c)
+    → gap_in old.gaps c ≡ Some gap → AreNeighbours new.nodes gap → gap_in new.gaps c ≡ Some gap
