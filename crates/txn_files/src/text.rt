@@ -55,17 +55,22 @@ fn put_entries(text: &mut String, entries: &[Entry]) -> Result<(), AllocError>
     put_further_entries(text, rest)
 }
 
-/// A history as compact JSON: an object with its entries, its stripes and version 1, in this order,
-/// as `{"entries":[["began",0,1]],"stripes":8,"version":1}`, with no line feed. `read_history` reads
-/// it where it is in range.
+/// A history as compact JSON: an object with its entries, its stripes and the version of the file, in
+/// this order, as `{"entries":[["began",0,1]],"stripes":8,"version":1}`, with no line feed.
+/// `read_history` reads it where it is in range, in version 1 where it has no `put_if`.
 ///
 /// `AllocError` where memory is refused. Time and memory are proportional to the number of entries.
-pub fn history_text(alloc: Global, stripes: u32, entries: &[Entry]) -> Result<String, AllocError>
-    ensures { IfOk result (λ text. string_bytes text ≡ text_of_history stripes entries.now) }
+pub fn history_text(
+    alloc: Global,
+    version: u64,
+    stripes: u32,
+    entries: &[Entry],
+) -> Result<String, AllocError>
+    ensures { IfOk result (λ text. string_bytes text ≡ text_of_history version stripes entries.now) }
 {
     let mut text = String::new(alloc);
     text.push_str("{\"entries\":[")?;
     put_entries(&mut text, entries)?;
-    write!(text, "],\"stripes\":{stripes},\"version\":1}}")?;
+    write!(text, "],\"stripes\":{stripes},\"version\":{version}}}")?;
     Ok(text)
 }
