@@ -2,7 +2,8 @@
 
 ghost use Rattle.std.specs.Prelude.{◌≡◌, map, option_map};
 ghost use Rattle.piece_files.specs.Plain.{data_of};
-ghost use Rattle.piece_files.specs.Elements.{number_at, word_at, one_of, two_of, end_of, optional_of};
+ghost use Rattle.piece_files.specs.Elements.{number_at, word_at, optional_at, one_of, two_of, end_of};
+ghost use Rattle.piece_files.specs.Elements.{optional_of};
 
 use crate::plain::Plain;
 
@@ -50,21 +51,30 @@ pub fn end_in(values: &[Plain<'_>]) -> Option<()>
     if values.is_empty() { Some(()) } else { None }
 }
 
+/// The first element, which is a whole number below 2^64, or `null`, which is none within; and the
+/// elements after it. None where there is no element, or the first is another.
+#[tactic(auto, unfolding(crate::specs::Elements::optional_at))]
+pub fn leading_optional_in<'v, 'a>(
+    values: &'v [Plain<'a>],
+) -> Option<(Option<u64>, &'v [Plain<'a>])>
+    ensures { option_map (λ x. (x.0, map data_of x.1.now)) result ≡ optional_at (map data_of values.now) }
+{
+    let (first, rest) = values.split_first()?;
+    match *first {
+        Plain::Null => Some((None, rest)),
+        Plain::Number(number) => Some((Some(number), rest)),
+        Plain::Text(_) => None,
+    }
+}
+
 /// The one element, which is a whole number below 2^64, or `null`, which is none within. None where
 /// there is no element, another one, or more than one.
 #[tactic(auto, unfolding(crate::specs::Elements::optional_of))]
 pub fn optional_in(values: &[Plain<'_>]) -> Option<Option<u64>>
     ensures { result ≡ optional_of (map data_of values.now) }
 {
-    let (first, rest) = values.split_first()?;
-    if !rest.is_empty() {
-        return None;
-    }
-    match *first {
-        Plain::Null => Some(None),
-        Plain::Number(number) => Some(Some(number)),
-        Plain::Text(_) => None,
-    }
+    let (value, rest) = leading_optional_in(values)?;
+    if rest.is_empty() { Some(value) } else { None }
 }
 
 /// The two elements, which are whole numbers below 2^64, in their order. None where there are not two

@@ -25,7 +25,9 @@ mod stop;
 #[cfg(test)]
 mod tests;
 
-pub use elements::{end_in, number_in, one_in, optional_in, two_in, word_in};
+pub use elements::{
+    end_in, leading_optional_in, number_in, one_in, optional_in, two_in, word_in,
+};
 pub use file::read_file;
 pub use file_fault::FileFault;
 pub use part::Part;
