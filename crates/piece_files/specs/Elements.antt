@@ -9,7 +9,8 @@ abbrev pub ◌>>=◌ : {A B : Type 0} → Option A → (A → Option B) → Opti
 (Some x) >>= f = f x
 None >>= f = None
 
--- A whole number below 2^64 with no sign, fraction or exponent: 2.0, 1e2, -0 and 2^64 are read as floats.
+-- A whole number below 2^64 with no sign, fraction or exponent: 2.0, 1e2, -0 and 2^64 are read as
+-- floats.
 abbrev pub number_of : Data → Option ℕ
 number_of d = option_and_then as_u64 (as_number d)
 

@@ -49,7 +49,9 @@ is_version v = nat_le 1 v && nat_le v max_version
 -- The version, the numbers and the pieces by the members, tested in this order, the pieces as
 -- version 1 has them and as all others have; and then whether the version is read, and how many
 -- pieces there are.
-unfoldable pub contents_from : {P : Type 0} → ℕ → Option ℕ → Option (List ℕ) → Result (List P) FileFault → Result (List P) FileFault → Result (ℕ × List ℕ × List P) FileFault
+unfoldable pub contents_from : {P : Type 0} → ℕ → Option ℕ → Option (List ℕ)
+    → Result (List P) FileFault → Result (List P) FileFault
+    → Result (ℕ × List ℕ × List P) FileFault
 contents_from most version numbers old new = do
   v ← or_fault Member version
   ns ← or_fault Member numbers
@@ -57,7 +59,8 @@ contents_from most version numbers old new = do
   if is_version v && nat_le (length ps) most then Ok (v, ns, ps) else Err Limit
 
 -- The version, the numbers and the pieces that a value has as a file of this kind.
-unfoldable pub contents_of : {P : Type 0} → FileKind P → Data → Result (ℕ × List ℕ × List P) FileFault
+unfoldable pub contents_of : {P : Type 0}
+    → FileKind P → Data → Result (ℕ × List ℕ × List P) FileFault
 contents_of kind d =
     contents_from kind.most (number_named version d)
     (all_of (map (λ name. number_named name d) kind.numbers))

@@ -26,19 +26,22 @@ abbrev pub last_number : Members → List ℕ → Option ℕ
 last_number ms name = option_and_then number_of (get_member name ms)
 
 -- Pieces that are read, of an array.
-abbrev pub ArePiecesOf : {P : Type 0} → (List Data → Option P) → (P → Bool) → Part → ℕ → Option (Pieces P) → Data → Type 0
+abbrev pub ArePiecesOf : {P : Type 0} → (List Data → Option P) → (P → Bool) → Part → ℕ
+    → Option (Pieces P) → Data → Type 0
 ArePiecesOf of is_old part most None d = elements_of d ≡ None
 ArePiecesOf of is_old part most (Some p) d =
     (ds : List Data) × (elements_of d ≡ Some ds)
     × FindsBoth part most p (pieces_from (old_of is_old of) part 0 ds) (pieces_from of part 0 ds)
 
 -- Pieces that are read of a member, where it is there.
-abbrev pub ArePiecesIn : {P : Type 0} → (List Data → Option P) → (P → Bool) → Part → ℕ → Option (Pieces P) → Option Data → Type 0
+abbrev pub ArePiecesIn : {P : Type 0} → (List Data → Option P) → (P → Bool) → Part → ℕ
+    → Option (Pieces P) → Option Data → Type 0
 ArePiecesIn of is_old part most found None = found ≡ None
 ArePiecesIn of is_old part most found (Some d) = ArePiecesOf of is_old part most found d
 
 -- The kind of file that has members of these names.
-abbrev pub kind_named : {P : Type 0} → Names → (List Data → Option P) → (P → Bool) → Part → ℕ → FileKind P
+abbrev pub kind_named : {P : Type 0}
+    → Names → (List Data → Option P) → (P → Bool) → Part → ℕ → FileKind P
 kind_named names of is_old part most = record {
   numbers = map (λ name. name.now) names.numbers.now;
   pieces = names.pieces.now;
@@ -49,13 +52,16 @@ kind_named names of is_old part most = record {
 }
 
 -- What was found is what the last members of the kind's names hold.
-pub record AreFound {P : Type 0} (kind : FileKind P) (n : Option ℕ) (numbers : List (Option ℕ)) (pieces : Option (Pieces P)) (ms : Members) : Type 0 where
+pub record AreFound {P : Type 0} (kind : FileKind P) (n : Option ℕ) (numbers : List (Option ℕ))
+    (pieces : Option (Pieces P)) (ms : Members) : Type 0 where
   pub the_version : n ≡ last_number ms version
   pub the_numbers : numbers ≡ map (last_number ms) kind.numbers
-  pub the_pieces : ArePiecesIn kind.of kind.is_old kind.part kind.most pieces (get_member kind.pieces ms)
+  pub the_pieces :
+      ArePiecesIn kind.of kind.is_old kind.part kind.most pieces (get_member kind.pieces ms)
 
 -- What was found of the member of pieces is of these pieces, as version 1 wants them and as version
 -- 2 does.
-abbrev pub FindsIn : {P : Type 0} → Part → ℕ → Option (Pieces P) → Result (List P) FileFault → Result (List P) FileFault → Type 0
+abbrev pub FindsIn : {P : Type 0} → Part → ℕ → Option (Pieces P)
+    → Result (List P) FileFault → Result (List P) FileFault → Type 0
 FindsIn part most None old new = (old ≡ Err Member) × (new ≡ Err Member)
 FindsIn part most (Some p) old new = FindsBoth part most p old new

@@ -13,7 +13,8 @@ abbrev pub piece_at : {P : Type 0} → (List Data → Option P) → Part → ℕ
 piece_at of part i d = or_fault (Piece part i) (option_and_then of (elements_of d))
 
 -- The pieces from an index on.
-unfoldable pub pieces_from : {P : Type 0} → (List Data → Option P) → Part → ℕ → List Data → Result (List P) FileFault
+unfoldable pub pieces_from : {P : Type 0} → (List Data → Option P) → Part → ℕ
+    → List Data → Result (List P) FileFault
 pieces_from of part i [] = Ok []
 pieces_from of part i (d ∷ ds) = do
   first ← piece_at of part i d
@@ -29,5 +30,6 @@ abbrev pub in_version : {A : Type 0} → ℕ → A → A → A
 in_version version old new = if version == 1 then old else new
 
 -- The pieces in the member of this name.
-abbrev pub pieces_member : {P : Type 0} → (List Data → Option P) → Part → List ℕ → Data → Result (List P) FileFault
+abbrev pub pieces_member : {P : Type 0} → (List Data → Option P) → Part → List ℕ
+    → Data → Result (List P) FileFault
 pieces_member of part name d = array_member name d >>= pieces_from of part 0

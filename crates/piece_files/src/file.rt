@@ -44,8 +44,10 @@ fn pieces_found<K: PieceKind>(
     found: Option<Pieces<K::Piece>>,
     version: u64,
 ) -> Result<Pieces<K::Piece>, FileFault>
-    ensures { (old new : Result (List K.Piece) FileFault) → FindsIn K.part K.most found old new → MatchResult result
-        (λ p. (all : List K.Piece) × (in_version version old new ≡ Ok all) × (p.count ≡ length all) × (p.pieces.items ≡ take K.most all))
+    ensures { (old new : Result (List K.Piece) FileFault)
+        → FindsIn K.part K.most found old new → MatchResult result
+        (λ p. (all : List K.Piece) × (in_version version old new ≡ Ok all)
+        × (p.count ≡ length all) × (p.pieces.items ≡ take K.most all))
         (λ fault. Fails fault (in_version version old new)) }
 {
     let pieces = found.ok_or(FileFault::Member)?;
@@ -65,8 +67,10 @@ fn pieces_found<K: PieceKind>(
 fn contents_found<K: PieceKind, const N: usize>(
     found: Found<K::Piece, N>,
 ) -> Result<(u64, [u64; N], Vec<K::Piece>), FileFault>
-    ensures { (old new : Result (List K.Piece) FileFault) → FindsIn K.part K.most found.pieces old new
-        → Gives (λ file. (file.0, file.1, file.2.items)) result (contents_from K.most found.version (all_of found.numbers) old new) }
+    ensures { (old new : Result (List K.Piece) FileFault)
+        → FindsIn K.part K.most found.pieces old new
+        → Gives (λ file. (file.0, file.1, file.2.items)) result
+        (contents_from K.most found.version (all_of found.numbers) old new) }
 {
     let version = found.version.ok_or(FileFault::Member)?;
     let numbers = all_numbers(found.numbers).ok_or(FileFault::Member)?;
@@ -85,20 +89,20 @@ fn contents_found<K: PieceKind, const N: usize>(
 /// # Errors
 ///
 /// The first of these, in this order: `Limit` where there are more than 16,777,216 bytes; `NotJson`
-/// where they are not UTF-8, or no JSON in which arrays and objects nest no deeper than 127 and each
-/// number is in range of a float; `Member` where the value is no object, or a member is missing or of
-/// the wrong kind; `Piece` for the first element of `pieces` that is none, or where the version is 1
-/// none that version 1 has; `Limit` where the version is not 1 or 2 or there are more pieces than
-/// there may be. `NoMemory` where memory was refused: not for the
-/// length, nor where the bytes are not UTF-8.
+/// where they are not UTF-8, or no JSON in which arrays and objects nest no deeper than 127 and
+/// each number is in range of a float; `Member` where the value is no object, or a member is
+/// missing or of the wrong kind; `Piece` for the first element of `pieces` that is none, or where
+/// the version is 1 none that version 1 has; `Limit` where the version is not 1 or 2 or there are
+/// more pieces than there may be. `NoMemory` where memory was refused: not for the length, nor
+/// where the bytes are not UTF-8.
 ///
-/// Other members of the object are passed over, and of a member that is given twice the last counts.
-/// A number is written without a sign, a fraction or an exponent, and is below 2^64.
+/// Other members of the object are passed over, and of a member that is given twice the last
+/// counts. A number is written without a sign, a fraction or an exponent, and is below 2^64.
 ///
 /// # Cost
 ///
-/// Time is proportional to the number of bytes, as far as `K::read` is. Besides the pieces, memory is
-/// taken for the longest text in the file that is written with escapes.
+/// Time is proportional to the number of bytes, as far as `K::read` is. Besides the pieces, memory
+/// is taken for the longest text in the file that is written with escapes.
 pub fn read_file<'n, K: PieceKind, const N: usize>(
     alloc: Global,
     bytes: &[u8],
@@ -109,7 +113,15 @@ pub fn read_file<'n, K: PieceKind, const N: usize>(
     requires many { length numbers.now ≡ N }
     requires apart { are_apart (version ∷ pieces.now ∷ map (λ name. name.now) numbers.now) ≡ true }
     ensures memory { result ≡ Err NoMemory → (length bytes.now ≤ max_bytes) × IsUtf8 bytes.now }
-    ensures contents { let kind : FileKind K.Piece = record { numbers = map (λ name. name.now) numbers.now; pieces = pieces.now; of = K.of; is_old = K.is_old; part = K.part; most = K.most } in Gives (λ file. (file.0, file.1, file.2.items)) result (contents kind bytes.now) }
+    ensures contents { let kind : FileKind K.Piece = record {
+      numbers = map (λ name. name.now) numbers.now;
+      pieces = pieces.now;
+      of = K.of;
+      is_old = K.is_old;
+      part = K.part;
+      most = K.most;
+    } in
+        Gives (λ file. (file.0, file.1, file.2.items)) result (contents kind bytes.now) }
 {
     if bytes.len() > MAX_BYTES {
         return Err(FileFault::Limit);

@@ -16,8 +16,8 @@ use crate::stop::Stop;
 use json::{Reader, Token};
 use std::alloc::Global;
 
-/// A kind of pieces, of which a file has an array. Each piece is an array itself, and its elements say
-/// what it is. A kind has no value; it is named where pieces are read.
+/// A kind of pieces, of which a file has an array. Each piece is an array itself, and its elements
+/// say what it is. A kind has no value; it is named where pieces are read.
 pub trait PieceKind {
     /// A piece of this kind.
     type Piece: Drop;
@@ -49,17 +49,20 @@ pub trait PieceKind {
     fn most() -> usize
         ensures { result ≡ most };
 
-    /// The piece whose elements come next, after the bracket that opens it, or none where no piece of
-    /// this kind has them in version 2. The reader is then behind the bracket that closes it.
+    /// The piece whose elements come next, after the bracket that opens it, or none where no piece
+    /// of this kind has them in version 2. The reader is then behind the bracket that closes it.
     ///
     /// `NotJson` where what comes is not the rest of an array in which arrays and objects nest no
-    /// deeper than `depth`, `NoMemory` where memory was refused. The reader is then anywhere in the text.
+    /// deeper than `depth`, `NoMemory` where memory was refused. The reader is then anywhere in the
+    /// text.
     fn read(
         alloc: Global,
         reader: &mut Reader<'_>,
         depth: usize,
     ) -> Result<Option<Self::Piece>, Stop>
-        ensures ok { IfOk result (λ piece. (ds : List Data) × (items_at depth reader.old ≡ Some (items_from ds, reader.new)) × (piece ≡ of ds)) }
+        ensures ok { IfOk result (λ piece. (ds : List Data)
+            × (items_at depth reader.old ≡ Some (items_from ds, reader.new))
+            × (piece ≡ of ds)) }
         ensures err { result ≡ Err NotJson → items_at depth reader.old ≡ None }
         ensures memory { result ≡ Err NoMemory → takes_memory ≡ true }
         ensures shorter { OnOk result (length reader.new < length reader.old) };
@@ -85,7 +88,9 @@ fn piece_in<K: PieceKind>(
     reader: &mut Reader<'_>,
     depth: usize,
 ) -> Result<Option<K::Piece>, Stop>
-    ensures ok { IfOk result (λ piece. (d : Data) × (value_at depth (token_of token.entry ∷ reader.old) ≡ Some (d, reader.new)) × (piece ≡ option_and_then K.of (elements_of d))) }
+    ensures ok { IfOk result (λ piece. (d : Data)
+        × (value_at depth (token_of token.entry ∷ reader.old) ≡ Some (d, reader.new))
+        × (piece ≡ option_and_then K.of (elements_of d))) }
     ensures err { result ≡ Err NotJson → value_at depth (token_of token.entry ∷ reader.old) ≡ None }
     ensures memory { result ≡ Err NoMemory → K.takes_memory ≡ true }
     ensures shorter { OnOk result (length reader.new ≤ length reader.old) }
@@ -114,7 +119,9 @@ fn piece_in<K: PieceKind>(
 
 /// One more. Memory gives out long before the numbers do.
 fn next_count(count: usize) -> Result<usize, Stop>
-    ensures { MatchResult result (λ next. (next ≡ count + 1) × (next < 2 ^ 64)) (λ stop. stop ≡ NoMemory) }
+    ensures { MatchResult result
+        (λ next. (next ≡ count + 1) × (next < 2 ^ 64))
+        (λ stop. stop ≡ NoMemory) }
 {
     count.checked_add(1).ok_or(Stop::NoMemory)
 }
@@ -122,8 +129,9 @@ fn next_count(count: usize) -> Result<usize, Stop>
 /// The pieces of an array, whose bracket was taken from the reader. The reader is then behind the
 /// bracket that closes the array.
 ///
-/// `NotJson` where what comes is not the rest of an array in which arrays and objects nest no deeper
-/// than `depth`, `NoMemory` where memory was refused. The reader is then anywhere in the text.
+/// `NotJson` where what comes is not the rest of an array in which arrays and objects nest no
+/// deeper than `depth`, `NoMemory` where memory was refused. The reader is then anywhere in the
+/// text.
 ///
 /// Each piece is read once, by `K::read`, and memory is taken for those that are kept.
 pub fn pieces_in<K: PieceKind>(
@@ -131,7 +139,10 @@ pub fn pieces_in<K: PieceKind>(
     reader: &mut Reader<'_>,
     depth: usize,
 ) -> Result<Pieces<K::Piece>, Stop>
-    ensures ok { IfOk result (λ found. (ds : List Data) × (items_at depth reader.old ≡ Some (items_from ds, reader.new)) × FindsBoth K.part K.most found (pieces_from (old_of K.is_old K.of) K.part 0 ds) (pieces_from K.of K.part 0 ds)) }
+    ensures ok { IfOk result (λ found. (ds : List Data)
+        × (items_at depth reader.old ≡ Some (items_from ds, reader.new))
+        × FindsBoth K.part K.most found
+        (pieces_from (old_of K.is_old K.of) K.part 0 ds) (pieces_from K.of K.part 0 ds)) }
     ensures range { IfOk result (λ found. found.count < 2 ^ 64) }
     ensures err { result ≡ Err NotJson → items_at depth reader.old ≡ None }
     ensures shorter { OnOk result (length reader.new < length reader.old) }

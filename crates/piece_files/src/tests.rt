@@ -171,9 +171,21 @@ fn pieces_of_version_2(rt: HostRuntime) -> Result<(), Fail> {
         ("[[1,2],[1,2],[1,2],[1,2],[3,0]]", wrong(4), limit, limit),
     ];
     for (points, in_first, in_second, in_third) in cases {
-        assert_eq!(rt; fault_in_version(rt.alloc(), 1, points)?, in_first, "{points}");
-        assert_eq!(rt; fault_in_version(rt.alloc(), 2, points)?, in_second, "{points}");
-        assert_eq!(rt; fault_in_version(rt.alloc(), 3, points)?, in_third, "{points}");
+        assert_eq!(rt;
+            fault_in_version(rt.alloc(), 1, points)?,
+            in_first,
+            "{points}"
+        );
+        assert_eq!(rt;
+            fault_in_version(rt.alloc(), 2, points)?,
+            in_second,
+            "{points}"
+        );
+        assert_eq!(rt;
+            fault_in_version(rt.alloc(), 3, points)?,
+            in_third,
+            "{points}"
+        );
     }
     Ok(())
 }

@@ -36,4 +36,5 @@ entry_text e = array_text (elements_of_entry e)
 abbrev pub text_of_history : ℕ → ℕ → List Entry → List ℕ
 text_of_history version stripes entries =
     codes "{\"entries\":" ++ (array_text (map entry_text entries)
-    ++ (codes ",\"stripes\":" ++ (decimal stripes ++ (codes ",\"version\":" ++ (decimal version ++ codes "}")))))
+    ++ (codes ",\"stripes\":" ++ (decimal stripes
+    ++ (codes ",\"version\":" ++ (decimal version ++ codes "}")))))

@@ -34,7 +34,8 @@ step_of ds = do
   name ← word_at ds
   if bytes_eq name.0 (codes "ask") then ask_of name.1
       else if bytes_eq name.0 (codes "back") then (two_of name.1 >>= λ cn. Some (Back cn.0 cn.1))
-      else if bytes_eq name.0 (codes "init_seek") then (two_of name.1 >>= λ hb. Some (InitSeek hb.0 hb.1))
+      else if bytes_eq name.0 (codes "init_seek")
+      then (two_of name.1 >>= λ hb. Some (InitSeek hb.0 hb.1))
       else if bytes_eq name.0 (codes "sweep") then (if length name.1 == 0 then Some Sweep else None)
       else (one_of name.1 >>= λ n. numbered_of name.0 n)
 

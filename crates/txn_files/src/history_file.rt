@@ -157,7 +157,8 @@ fn entries_in(
     numbers: [u64; 1],
     entries: Vec<Entry>,
 ) -> Result<(u32, Vec<Entry>, u64), FileFault>
-    ensures { Gives (λ file. (file.0, file.1.items, file.2)) result (entries_from version numbers entries.items) }
+    ensures { Gives (λ file. (file.0, file.1.items, file.2)) result
+        (entries_from version numbers entries.items) }
 {
     let [stripes] = numbers;
     if is_history(stripes, &entries) {
@@ -171,22 +172,26 @@ fn entries_in(
 /// `{"version":V,"stripes":S,"entries":[..]}`, where each entry is an array, as
 /// `["asked",0,"put",1,10]` or `["did",0,null]`. Version 1 has no `put_if`.
 ///
-/// The first fault in this order is the answer:
-/// `Limit` where there are more than 16,777,216 bytes; `NotJson`; `Member` where the value is no
-/// object or one of the three members, in the order above, is missing or of the wrong kind; `Piece`
-/// for the first entry that is none, or in version 1 has a `put_if`; `Limit` where the version is not
-/// 1 or 2, the stripes are not 1 to 4,096, a caller or the holder that an entry names is above 63, or
-/// there are more than 1,000,000 entries. `NoMemory` can come in place of any answer.
+/// The first fault in this order is the answer: `Limit` where there are more than 16,777,216 bytes;
+/// `NotJson`; `Member` where the value is no object or one of the three members, in the order
+/// above, is missing or of the wrong kind; `Piece` for the first entry that is none, or in version
+/// 1 has a `put_if`; `Limit` where the version is not 1 or 2, the stripes are not 1 to 4,096, a
+/// caller or the holder that an entry names is above 63, or there are more than 1,000,000 entries.
+/// `NoMemory` can come in place of any answer.
 ///
-/// Other members of the object are passed over, and of a member that is given twice the last counts.
-/// A number is written without a sign, a fraction or an exponent, and is below 2^64. Whether the
-/// history is legal is not asked.
+/// Other members of the object are passed over, and of a member that is given twice the last
+/// counts. A number is written without a sign, a fraction or an exponent, and is below 2^64.
+/// Whether the history is legal is not asked.
 ///
 /// Time and memory are proportional to the number of bytes.
 pub fn read_history(alloc: Global, bytes: &[u8]) -> Result<(u32, Vec<Entry>, u64), FileFault>
     ensures { Gives (λ file. (file.0, file.1.items, file.2)) result (history_of bytes.now) }
 {
-    let (version, numbers, entries) =
-        read_file::<EntryKind, 1>(alloc, bytes, &["stripes"], "entries")?;
+    let (version, numbers, entries) = read_file::<EntryKind, 1>(
+        alloc,
+        bytes,
+        &["stripes"],
+        "entries",
+    )?;
     entries_in(version, numbers, entries)
 }

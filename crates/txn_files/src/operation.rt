@@ -13,11 +13,9 @@ use txn_trace::Op;
 /// Of a `put_if` of this key what is expected and the value, with which the elements begin; and the
 /// elements after it.
 #[tactic(auto, unfolding(crate::specs::Operations::put_if_at))]
-fn leading_put_if_in<'v, 'a>(
-    key: u64,
-    values: &'v [Plain<'a>],
-) -> Option<(Op, &'v [Plain<'a>])>
-    ensures { option_map (λ x. (x.0, map data_of x.1.now)) result ≡ put_if_at key (map data_of values.now) }
+fn leading_put_if_in<'v, 'a>(key: u64, values: &'v [Plain<'a>]) -> Option<(Op, &'v [Plain<'a>])>
+    ensures { option_map (λ x. (x.0, map data_of x.1.now)) result
+        ≡ put_if_at key (map data_of values.now) }
 {
     let (expected, rest) = leading_optional_in(values)?;
     let (value, rest) = number_in(rest)?;
@@ -63,7 +61,8 @@ pub fn is_old_op(op: Op) -> bool
 
 /// Adds the elements of an operation, with a comma between each two.
 pub fn put_op(text: &mut String, op: Op) -> Result<(), AllocError>
-    ensures { OnOk result (string_bytes text.new ≡ string_bytes text.old ++ join_with_byte comma (elements_of_op op)) }
+    ensures { OnOk result (string_bytes text.new
+        ≡ string_bytes text.old ++ join_with_byte comma (elements_of_op op)) }
 {
     match op {
         Op::Put(key, value) => write!(text, "\"put\",{key},{value}"),

@@ -172,19 +172,19 @@ fn work_in(version: u64, numbers: [u64; 4], scripts: Vec<Script>) -> Result<Scri
 
 /// What a script file gives workers to do:
 /// `{"version":V,"workers":W,"stripes":S,"buckets":B,"tries":T,"scripts":[[..],..]}`, where each
-/// script is an array of actions, and each action an array, as `["put",1,10]` or `["save"]`. Version 1
-/// has no `put_if`, and its limits take half keys alone.
+/// script is an array of actions, and each action an array, as `["put",1,10]` or `["save"]`.
+/// Version 1 has no `put_if`, and its limits take half keys alone.
 ///
-/// The first fault in this order is the answer:
-/// `Limit` where there are more than 16,777,216 bytes; `NotJson`; `Member` where the value is no
-/// object or one of the six members, in the order above, is missing or of the wrong kind; `Piece`
-/// for the first script that is none, or in version 1 has a `put_if`, with its index; `Limit` where
-/// the version is not 1 or 2, `Limits::new` refuses the numbers with the workers as callers, the tries
-/// are above 1,000, there are more than 10,000 scripts, or one of them has more than 10,000 actions.
-/// `NoMemory` can come in place of any answer.
+/// The first fault in this order is the answer: `Limit` where there are more than 16,777,216 bytes;
+/// `NotJson`; `Member` where the value is no object or one of the six members, in the order above,
+/// is missing or of the wrong kind; `Piece` for the first script that is none, or in version 1 has
+/// a `put_if`, with its index; `Limit` where the version is not 1 or 2, `Limits::new` refuses the
+/// numbers with the workers as callers, the tries are above 1,000, there are more than 10,000
+/// scripts, or one of them has more than 10,000 actions. `NoMemory` can come in place of any
+/// answer.
 ///
-/// Other members of the object are passed over, and of a member that is given twice the last counts.
-/// A number is written without a sign, a fraction or an exponent, and is below 2^64.
+/// Other members of the object are passed over, and of a member that is given twice the last
+/// counts. A number is written without a sign, a fraction or an exponent, and is below 2^64.
 ///
 /// Time and memory are proportional to the number of bytes.
 pub fn read_scripts(alloc: Global, bytes: &[u8]) -> Result<Scripts, FileFault>

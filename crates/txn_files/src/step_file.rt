@@ -149,7 +149,8 @@ fn steps_in(
     numbers: [u64; 3],
     steps: Vec<Step>,
 ) -> Result<(Limits, Vec<Step>), FileFault>
-    ensures { Gives (λ file. (file.0, file.1.items)) result (steps_from version numbers steps.items) }
+    ensures { Gives (λ file. (file.0, file.1.items)) result
+        (steps_from version numbers steps.items) }
 {
     let [callers, stripes, buckets] = numbers;
     let limits = limits_in(version, callers, stripes, buckets)?;
@@ -157,18 +158,17 @@ fn steps_in(
 }
 
 /// The limits and the steps of a step file:
-/// `{"version":V,"callers":C,"stripes":S,"buckets":B,"steps":[..]}`, where each step is an array, as
-/// `["ask",0,"put",1,10]`. Version 1 has no `put_if`, and its limits take half keys alone.
+/// `{"version":V,"callers":C,"stripes":S,"buckets":B,"steps":[..]}`, where each step is an array,
+/// as `["ask",0,"put",1,10]`. Version 1 has no `put_if`, and its limits take half keys alone.
 ///
-/// The first fault in this order is the answer:
-/// `Limit` where there are more than 16,777,216 bytes; `NotJson`; `Member` where the value is no
-/// object or one of the five members, in the order above, is missing or of the wrong kind; `Piece`
-/// for the first step that is none, or in version 1 a `put_if`; `Limit` where the version is not 1 or
-/// 2, `Limits::new` refuses the numbers, or there are more than 1,000,000 steps. `NoMemory` can come
-/// in place of any answer.
+/// The first fault in this order is the answer: `Limit` where there are more than 16,777,216 bytes;
+/// `NotJson`; `Member` where the value is no object or one of the five members, in the order above,
+/// is missing or of the wrong kind; `Piece` for the first step that is none, or in version 1 a
+/// `put_if`; `Limit` where the version is not 1 or 2, `Limits::new` refuses the numbers, or there
+/// are more than 1,000,000 steps. `NoMemory` can come in place of any answer.
 ///
-/// Other members of the object are passed over, and of a member that is given twice the last counts.
-/// A number is written without a sign, a fraction or an exponent, and is below 2^64.
+/// Other members of the object are passed over, and of a member that is given twice the last
+/// counts. A number is written without a sign, a fraction or an exponent, and is below 2^64.
 ///
 /// Time and memory are proportional to the number of bytes.
 pub fn read_steps(alloc: Global, bytes: &[u8]) -> Result<(Limits, Vec<Step>), FileFault>

@@ -43,7 +43,8 @@ fn first_commit(rt: HostRuntime) -> Result<(), Fail> {
 
 #[test]
 fn every_step(rt: HostRuntime) -> Result<(), Fail> {
-    // White space, numbers at both ends, members in another order, others beside them, and one given twice.
+    // White space, numbers at both ends, members in another order, others beside them, and one
+    // given twice.
     let text = " { \"steps\" : [[\"abort\",18446744073709551615], [\"ask\",7,\"take\",0],\n\
         [\"ask\",0,\"get\",9223372036854775808],[\"ask\",1,\"put\",18446744073709551615,0],\n\
         [\"save\",3],[\"back\",4,2],[\"sweep\"],[\"init_seek\",5,6],[\"init_link\",7],[\"init_store\",8],[\"double\",9]], \"note\" : null,\n\
@@ -106,11 +107,18 @@ fn put_if_in_each_version(rt: HostRuntime) -> Result<(), Fail> {
     let wrong = Some(FileFault::Piece(Part::Step, 1));
     let limit = Some(FileFault::Limit);
     for (version, wanted) in [(0, limit), (1, wrong), (2, None), (3, limit), (9, limit)] {
-        assert_eq!(rt; fault_in_version(&rt, version, steps)?, wanted, "version {version}");
+        assert_eq!(rt;
+            fault_in_version(&rt, version, steps)?,
+            wanted,
+            "version {version}"
+        );
     }
     let before = "[[\"begin\",0],[\"ask\",0,\"put_if\",1,null,12],[\"start\",0]]";
     assert_eq!(rt; fault_in_version(&rt, 1, before)?, wrong);
-    assert_eq!(rt; fault_in_version(&rt, 3, before)?, Some(FileFault::Piece(Part::Step, 2)));
+    assert_eq!(rt;
+        fault_in_version(&rt, 3, before)?,
+        Some(FileFault::Piece(Part::Step, 2))
+    );
     let behind = "[[\"begin\",0],[\"start\",0],[\"ask\",0,\"put_if\",1,null,12]]";
     assert_eq!(rt; fault_in_version(&rt, 1, behind)?, wrong);
     Ok(())
