@@ -63,8 +63,8 @@ fn calls_in_turn(rt: HostRuntime) -> Result<(), Fail> {
     Ok(())
 }
 
-/// Also run with each allocation refused in turn: the list is then as it was, and gives the spare at
-/// the next call.
+/// Also run with each allocation refused in turn: the list is then as it was, and gives the spare
+/// at the next call.
 #[test]
 fn refused_allocations(rt: HostRuntime) -> Result<(), Fail> {
     let mut list = match NodeList::new(rt.alloc(), 0) {
