@@ -7,15 +7,14 @@ ghost use Rattle.list_steps.specs.Found.{IsPlaced, at_of};
 
 use crate::{Again, Cursor, SweepOutcome, link, look, mark, seek, swap, sweep};
 use node_list::{Kind, NodeList, NodeRef, Spare, SpareFault};
-use split_key::{BadKey, Key, SortKey};
+use split_key::{Key, SortKey};
 use std::test::Fail;
 
 /// Where the node of a key stands.
-fn at(number: u64) -> Result<SortKey, BadKey>
-    ensures { IfOk result (IsBefore (dummy_at 0)) }
+fn at(number: u64) -> SortKey
+    ensures { IsBefore (dummy_at 0) result }
 {
-    let key = Key::new(number)?;
-    Ok(SortKey::regular(key))
+    SortKey::regular(Key::new(number))
 }
 
 /// A spare that is filled as a regular node.
@@ -54,6 +53,19 @@ fn regular_there(list: &NodeList, cursor: &Cursor) -> Result<NodeRef, Fail>
     Err("the key is not there".into())
 }
 
+/// Links a spare where its sort key was sought, which has to be vacant.
+fn linked(list: &mut NodeList, cursor: &Cursor, spare: Spare) -> Result<NodeRef, Fail>
+    requires placed { IsPlaced list.old cursor.now }
+    requires out { IsOut list.old spare }
+    requires at { spare.at ≡ at_of cursor.now }
+    ensures follows { Follows list.old list.new }
+{
+    match look(list, cursor) {
+        Ok(None) => Ok(link(list, cursor.pred(), spare)),
+        _ => Err("the cursor does not fit, or the key is there".into()),
+    }
+}
+
 /// What the first four nodes stand for, each with its key.
 fn kinds(list: &NodeList) -> [Option<(Kind, u64)>; 4] {
     let mut kinds = [None; 4];
@@ -68,14 +80,13 @@ fn kinds(list: &NodeList) -> [Option<(Kind, u64)>; 4] {
 
 #[test]
 fn list_steps_in_order(rt: HostRuntime) -> Result<(), Fail> {
-    let (at_two, at_four) = (at(2)?, at(4)?);
+    let (at_two, at_four) = (at(2), at(4));
     let mut list = NodeList::new(rt.alloc(), 0)?;
     let early = seek_from_head(&mut list, at_two);
     let late = seek_from_head(&mut list, at_four);
 
     let spare = regular_spare(&mut list, at_four, 40)?;
-    assert_eq!(rt; look(&list, &late), Ok(None));
-    let four = link(&mut list, late.pred(), spare);
+    let four = linked(&mut list, &late, spare)?;
 
     let spare = regular_spare(&mut list, at_two, 20)?;
     assert_eq!(rt; look(&list, &early), Err(Again));
@@ -83,8 +94,7 @@ fn list_steps_in_order(rt: HostRuntime) -> Result<(), Fail> {
     let cursor = seek_from_head(&mut list, at_two);
     assert_eq!(rt; cursor.pred(), four);
     assert_eq!(rt; cursor.cur, None);
-    assert_eq!(rt; look(&list, &cursor), Ok(None));
-    let _ = link(&mut list, cursor.pred(), spare);
+    let _ = linked(&mut list, &cursor, spare)?;
     assert_eq!(rt;
         kinds(&list),
         [
@@ -120,16 +130,15 @@ fn list_steps_in_order(rt: HostRuntime) -> Result<(), Fail> {
 
 #[test]
 fn values_at_a_cursor(rt: HostRuntime) -> Result<(), Fail> {
-    let at_two = at(2)?;
+    let at_two = at(2);
     let mut list = NodeList::new(rt.alloc(), 0)?;
     let cursor = seek_from_head(&mut list, at_two);
     let spare = regular_spare(&mut list, at_two, 20)?;
-    assert_eq!(rt; look(&list, &cursor), Ok(None));
-    let linked = link(&mut list, cursor.pred(), spare);
+    let new = linked(&mut list, &cursor, spare)?;
 
     let cursor = seek_from_head(&mut list, at_two);
     let two = regular_there(&list, &cursor)?;
-    assert_eq!(rt; two, linked);
+    assert_eq!(rt; two, new);
     assert_eq!(rt; swap(&mut list, two, 21), 20);
     let node = *list.linked_node(two).ok_or("no key 2")?;
     assert_eq!(rt; node.value, 21);
@@ -137,7 +146,7 @@ fn values_at_a_cursor(rt: HostRuntime) -> Result<(), Fail> {
     let two = regular_there(&list, &cursor)?;
     assert_eq!(rt; mark(&mut list, two), 21);
     assert_eq!(rt; look(&list, &cursor), Err(Again));
-    let passing = seek_from_head(&mut list, at(0x7fff_ffff_ffff_ffff)?);
+    let passing = seek_from_head(&mut list, at(u64::MAX));
     assert_eq!(rt; passing.cur, None);
     assert_eq!(rt; passing.pred(), list.head());
     assert_eq!(rt; kinds(&list), [Some((Kind::Dummy, 0)), None, None, None]);
@@ -147,21 +156,16 @@ fn values_at_a_cursor(rt: HostRuntime) -> Result<(), Fail> {
 
 /// Links the node of a key that is not there.
 fn put(list: &mut NodeList, number: u64) -> Result<(), Fail> {
-    let at = at(number)?;
+    let at = at(number);
     let spare = regular_spare(list, at, number)?;
     let cursor = seek_from_head(list, at);
-    match look(list, &cursor) {
-        Ok(None) => {
-            let _ = link(list, cursor.pred(), spare);
-            Ok(())
-        }
-        _ => Err("the key is there".into()),
-    }
+    let _ = linked(list, &cursor, spare)?;
+    Ok(())
 }
 
 /// Marks the node of a key that is there, and answers its value.
 fn take(list: &mut NodeList, number: u64) -> Result<u64, Fail> {
-    let at = at(number)?;
+    let at = at(number);
     let cursor = seek_from_head(list, at);
     let node = regular_there(list, &cursor)?;
     Ok(mark(list, node))
@@ -182,6 +186,31 @@ fn two_marked_nodes(rt: HostRuntime) -> Result<(), Fail> {
     assert_eq!(rt; list.marked_count(), 1);
     assert_eq!(rt; sweep(&mut list), SweepOutcome::Swept);
     assert_eq!(rt; sweep(&mut list), SweepOutcome::Clean);
+    Ok(())
+}
+
+/// Two keys that differ by 2^63 share their split key, and are found by their sort keys.
+#[test]
+fn keys_that_share_a_split_key(rt: HostRuntime) -> Result<(), Fail> {
+    let half = 1 << 63;
+    let mut list = NodeList::new(rt.alloc(), 0)?;
+    put(&mut list, half + 2)?;
+    put(&mut list, 2)?;
+    assert_eq!(rt;
+        kinds(&list),
+        [
+            Some((Kind::Dummy, 0)),
+            Some((Kind::Regular, 2)),
+            Some((Kind::Regular, half + 2)),
+            None
+        ]
+    );
+    assert_eq!(rt; take(&mut list, 2)?, 2);
+    put(&mut list, 2)?;
+    assert_eq!(rt; take(&mut list, half + 2)?, half + 2);
+    let cursor = seek_from_head(&mut list, at(half + 2));
+    assert_eq!(rt; look(&list, &cursor), Ok(None));
+    assert_eq!(rt; take(&mut list, 2)?, 2);
     Ok(())
 }
 
