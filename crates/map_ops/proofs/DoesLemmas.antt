@@ -1,5 +1,5 @@
 -- What is done to the table by the steps at a key.
-use Rattle.std.proofs.Common.{◌≡◌, ℕ, List, Option, Some, None, true, sym, ◌∙◌, ap}
+use Rattle.std.proofs.Common.{◌≡◌, ℕ, List, Option, Some, None, true, refl, sym, ◌∙◌, ap}
 use Rattle.node_list.specs.Nodes.{NodeAt, Listing, SpareAt}
 use Rattle.node_list.specs.Sound.{IsSound}
 use Rattle.list_steps.specs.declared.cursor.Cursor.{Cursor}
@@ -11,7 +11,7 @@ use Rattle.split_key.specs.Sort.{regular_at}
 use Rattle.bucket_table.specs.Directory.{Directory}
 use Rattle.bucket_table.specs.Dummies.{has_dummy}
 use Rattle.bucket_table.proofs.DummyLemmas.{has_dummy-sought}
-use Rattle.txn_trace.specs.declared.op.Op.TheVariants.{Put, Take}
+use Rattle.txn_trace.specs.declared.op.Op.TheVariants.{Put, Take, Get}
 use Rattle.txn_trace.specs.Map.{get}
 use Rattle.map_ops.specs.declared.job.MapJob.TheVariants.{Unput, Restore, Relink}
 use Rattle.map_ops.specs.TableAt.{content, map_of, table_of, KeepsSpares}
@@ -71,6 +71,19 @@ module _ (old mid new : Listing) (buckets : Directory) (k : ℕ) (before : Optio
     linked = gives.nodes.linked;
     last = gives.last;
   }
+
+-- A get changes nothing.
+pub does_get : (list : Listing) (buckets : Directory) (k : ℕ) (reply : Option ℕ) → reply ≡ get (content (table_of list buckets)) k
+    → Does (table_of list buckets) (table_of list buckets) (record { op = Get k; spare = None }) reply None
+does_get list buckets k reply is = record {
+  reply_is = is;
+  content_is = refl;
+  job_is = refl;
+  spares = λ place. refl;
+  buckets = same_buckets list list buckets;
+  linked = refl;
+  last = refl;
+}
 
 -- A key is sought.
 pub places : (old new : Listing) (buckets : Directory) (key from : ℕ) (bound : SortKey) (c : Cursor) → IsSound old → new.nodes ≡ sought old.nodes from bound → KeepsRest old new → pairs new.nodes ≡ pairs old.nodes

@@ -1,18 +1,23 @@
 -- What a cursor says of the content.
 use Rattle.std.proofs.Common.{◌≡◌, ◌≢◌, ℕ, ◌<◌, ◌^◌, ◌%◌, Option, Some, None, true, refl, sym, ◌∙◌, ap, subst, arith}
-use Rattle.std.specs.Prelude.{IsSome, IsSomeAnd, IsTrue, is_some}
+use Rattle.std.specs.Prelude.{IfOk, IsSome, Result, Ok, Err, is_ok, is_some}
+use Rattle.list_steps.specs.declared.cursor.Again.{Again}
 use Rattle.std.proofs.lemmas.Bool.{false≢true}
 use Rattle.std.specs.List.{AllByRecursion}
 use Rattle.node_list.specs.declared.node.Kind.{Kind}
 use Rattle.node_list.specs.declared.node.Kind.TheVariants.{Dummy, Regular}
-use Rattle.node_list.specs.Nodes.{NodeAt, Listing, is_regular, place_of}
+use Rattle.node_list.specs.Nodes.{NodeAt, Listing, node_of}
+use Rattle.node_list.specs.Order.{IsVacant}
+use Rattle.node_list.proofs.NodesLemmas.{place-found}
 use Rattle.node_list.specs.Sound.{IsSound}
 use Rattle.node_list.proofs.OrderLemmas.{some-none, each_found}
 use Rattle.list_steps.specs.declared.cursor.Cursor.{Cursor}
 use Rattle.list_steps.specs.Content.{pairs}
-use Rattle.list_steps.specs.Found.{at_of, fits, node_there, IsPlaced, IsRoomFor, IsKeyThere}
+use Rattle.list_steps.specs.Found.{at_of, fits, node_there, IsPlaced}
+use Rattle.list_steps.specs.declared.position.Position.{Position}
+use Rattle.list_steps.specs.declared.position.Position.TheVariants.{Vacant, Occupied}
+use Rattle.list_steps.specs.Steps.{IsAbsent, Stands}
 use Rattle.list_steps.proofs.CursorLemmas.{there}
-use Rattle.list_steps.proofs.StepLemmas.{finds}
 use Rattle.split_key.specs.declared.sort.SortKey.{SortKey}
 use Rattle.split_key.specs.Sort.{regular_at}
 use Rattle.split_key.proofs.SplitLemmas.{split_odd}
@@ -20,6 +25,7 @@ use Rattle.txn_trace.specs.Map.{get}
 use Rattle.txn_trace.proofs.Order.{Rises}
 use Rattle.map_ops.specs.TableAt.{map_of}
 use Rattle.map_ops.specs.Sound.{Belong, IsEvenDummy}
+use Rattle.map_ops.specs.Steps.{HasNode, HasRoom, IsPositionOf, place_in}
 use Rattle.map_ops.proofs.ContentLemmas.{rises-pairs, get-map_of, value_at-absent, value_at-there}
 
 -- A node that stands where a key belongs is the key's.
@@ -50,21 +56,34 @@ module _ (l : Listing) (c : Cursor) (key : ℕ) (sound : IsSound l) (belong : Be
       get-map_of (pairs l.nodes) key rises ∙ value_at-there key l.nodes n.place n sound.rising belong.keyed at.is (kind_there n is) (at.at ∙ same) at.unmarked
 
   -- Without one the key is not there.
-  pub get-absent : node_there l c ≡ None → get (map_of (pairs l.nodes)) key ≡ None
-  get-absent is =
-      let absent = finds l c sound placed fitting None (ap place_of (sym is)) in
+  pub get-absent : IsAbsent l c → get (map_of (pairs l.nodes)) key ≡ None
+  get-absent absent =
       get-map_of (pairs l.nodes) key rises ∙ value_at-absent key l.nodes belong.keyed (subst (λ (s : SortKey). AllByRecursion (λ (n : NodeAt). n.at ≢ s) l.nodes) same absent.others)
 
-  pub room : get (map_of (pairs l.nodes)) key ≡ None → IsRoomFor l c
-  room none fit = go (node_there l c) refl
-    where
-      go : (o : Option NodeAt) → node_there l c ≡ o → node_there l c ≡ None
-      go None is = is
-      go (Some n) is = absurd (some-none (sym (get-there n is) ∙ none))
+  -- What stands where the cursor is tells where the key's node is, or would belong.
+  pub position_of : (position : Position) → Stands l c position → IsPositionOf l key position
+  position_of (Vacant pred) vacant = record { vacant = subst (IsVacant l.nodes pred) same vacant.vacant; none = get-absent vacant.absent }
+  position_of (Occupied place) at =
+      let own : at.node.place ≡ place = place-found l.nodes place at.node at.is in
+      record {
+        node = at.node;
+        its = record { is = ap (node_of l.nodes) own ∙ at.is; kind = kind_there at.node at.there; at = at.at ∙ same; unmarked = at.unmarked };
+        place_is = sym own;
+        value = get-there at.node at.there;
+      }
 
-  pub key_there : IsSome (get (map_of (pairs l.nodes)) key) → IsKeyThere l c
-  key_there some fit = go (node_there l c) refl
-    where
-      go : (o : Option NodeAt) → node_there l c ≡ o → IsSomeAnd (node_there l c) (λ n. IsTrue (is_regular n.kind))
-      go None is = absurd (false≢true (sym (ap is_some (get-absent is)) ∙ some))
-      go (Some n) is = subst (λ o. IsSomeAnd o (λ (m : NodeAt). IsTrue (is_regular m.kind))) (sym is) (ap is_regular (kind_there n is))
+-- What a look answers so.
+pub found : (l : Listing) (c : Cursor) (key : ℕ) → IsSound l → Belong l.nodes → IsPlaced l c → at_of c ≡ regular_at key → key < 2 ^ 63
+    → (result : Result Position Again) → fits l c ≡ is_ok result → IfOk result (Stands l c) → IfOk result (IsPositionOf l key)
+found l c key sound belong placed same small (Ok position) fitting stands = position_of l c key sound belong placed fitting same small position stands
+found l c key sound belong placed same small (Err again) fitting stands = tt
+
+-- A key that is there has its node at the place.
+pub occupied : (l : Listing) (key : ℕ) (position : Position) → IsPositionOf l key position → IsSome (get (map_of (pairs l.nodes)) key) → HasNode l key (place_in position)
+occupied l key (Vacant pred) room some = absurd (false≢true (sym (ap is_some room.none) ∙ some))
+occupied l key (Occupied place) has some = has
+
+-- And one that is not belongs behind the node at the place.
+pub vacant : (l : Listing) (key : ℕ) (position : Position) → IsPositionOf l key position → get (map_of (pairs l.nodes)) key ≡ None → HasRoom l key (place_in position)
+vacant l key (Vacant pred) room none = room
+vacant l key (Occupied place) has none = absurd (some-none (sym has.value ∙ none))
