@@ -11,6 +11,7 @@ use Rattle.txn_drive.specs.declared.«end».End.{End}
 use Rattle.txn_drive.specs.declared.turn.Turn.{Turn}
 use Rattle.txn_drive.specs.declared.turn.Turn.TheVariants.{One, Two, Ended}
 use Rattle.txn_drive.specs.Drives.{new_drive, sized_of, turn_of, told_of, step_of, end_of}
+use Rattle.txn_drive.specs.Turns.{TakesTurn}
 use Rattle.script_worker.specs.declared.attempt.Outcome.{Outcome}
 use Rattle.script_worker.specs.declared.attempt.Progress.{Progress}
 use Rattle.script_worker.specs.declared.attempt.Progress.TheVariants.{Next, Over}
@@ -110,3 +111,30 @@ IsTurnBy worker None = worker.task ≡ None
 IsTurnBy worker (Some (One step)) = step_by worker ≡ Some step
 IsTurnBy worker (Some (Two step next)) = (step_by worker ≡ Some step) × (step_by (told_drive worker answers.Placed) ≡ Some next)
 IsTurnBy worker (Some (Ended outcome)) = ⊥
+
+-- What takes a worker's steps, the worker, and how its script ended in this turn.
+pub record Working (X : Type 0) : Type 0 where
+  pub taker : X
+  pub worker : Standing
+  pub outcome : Option Outcome
+
+-- A step of the worker is taken, and the worker is told the answer.
+pub record TakesStep {X : Type 0} (takes : X → Step → Answer → X → Type 0) (scripts : List (List Action)) (tries : ℕ)
+    (old : Working X) (step : Step) (answer : Answer) (new : Working X) : Type 0 where
+  pub taken : takes old.taker step answer new.taker
+  pub told : new.worker ≡ told_by scripts tries old.worker answer
+  pub ended : new.outcome ≡ option_or (outcome_told scripts tries old.worker answer) old.outcome
+
+-- A turn of a worker takes one step at least.
+abbrev pub TakesIn : {X : Type 0} → (X → Step → Answer → X → Type 0) → List (List Action) → ℕ → Working X → Option Turn → Working X → Type 0
+TakesIn takes scripts tries old None new = ⊥
+TakesIn takes scripts tries old (Some (Ended outcome)) new = ⊥
+TakesIn takes scripts tries old (Some turn) new = TakesTurn (TakesStep takes scripts tries) old turn new
+
+-- The next turn of a worker is taken, at this size of the table.
+abbrev pub TakesNext : {X : Type 0} → (X → Step → Answer → X → Type 0) → ℕ → List (List Action) → ℕ → X → Standing → Option Outcome → X → Standing → Type 0
+TakesNext takes size scripts tries old before outcome new after =
+    TakesIn takes scripts tries
+    (record { taker = old; worker = sized_by size before; outcome = None })
+    (turn_by (sized_by size before))
+    (record { taker = new; worker = after; outcome = outcome })

@@ -1,9 +1,10 @@
-ghost use Rattle.std.specs.Prelude.{◌≡◌, ◌<◌, ◌++◌, List, [], Some, is_some};
+ghost use Rattle.std.specs.Option.{option_or};
+ghost use Rattle.std.specs.Prelude.{◌≡◌, ◌<◌, ◌++◌, List, [], Some, true, is_some};
 ghost use Rattle.txn_trace.specs.declared.action.Action.{Action};
 ghost use Rattle.txn_trace.specs.declared.entry.Entry.{Entry};
 ghost use Rattle.txn_trace.specs.declared.step.Step.{Step};
 ghost use Rattle.txn_trace.specs.Entries.{entries_of};
-ghost use Rattle.script_worker.specs.Workers.{new_worker, told_by, told_drive, outcome_told, sized_by, turn_by, step_by, IsReady, IsTurnBy};
+ghost use Rattle.script_worker.specs.Workers.{new_worker, told_by, told_drive, outcome_told, sized_by, turn_by, step_by, IsReady, IsTurnBy, TakesNext};
 ghost use Rattle.script_worker.specs.Keeps.{Keeps};
 
 use crate::attempt::Outcome;
@@ -11,7 +12,7 @@ use crate::standing::Standing;
 use crate::task::Task;
 use std::marker::Model;
 use txn_drive::Turn;
-use txn_trace::{Answer, Script};
+use txn_trace::{Answer, Script, Step};
 
 /// One of several workers, which share scripts out: worker `w` of `n` runs the scripts `w`, `w + n`, `w + 2 n` and so on,
 /// in this order. While it has a script left it has a step to take.
@@ -82,6 +83,46 @@ impl Worker {
         let turn = drive.turn(size);
         self.standing.task = Some(Task { drive, ..task });
         Some(turn)
+    }
+
+    /// Takes the next turn, at the size that the table has at this moment: `step` takes each of its
+    /// steps, and the worker is told the answers, as by `told`. Answers how the worker's script
+    /// ended, where it ended in this turn.
+    ///
+    /// # Cost
+    ///
+    /// That of one or two calls of `step`, and of `told` after each.
+    pub fn take_turn<F: FnMut(Step) -> Answer>(
+        &mut self,
+        size: u32,
+        scripts: &[Script],
+        tries: u64,
+        step: &mut F,
+    ) -> Option<Outcome>
+        requires live { is_some (step_by self.old) ≡ true }
+        requires callable { (f : F) (s : _) → F.pre f s }
+        ensures turn { IsTurnBy (sized_by size self.old) (turn_by (sized_by size self.old)) }
+        ensures takes { TakesNext (λ f s answer g. F.step f s answer g) size scripts.now tries
+            step.old self.old result step.new self.new }
+        ensures ready { IsReady self.new }
+    {
+        let Some(turn) = self.turn(size) else {
+            return None;
+        };
+        let mut outcome = None;
+        let mut take = |next: Step| -> Answer
+            requires { (f : F) (s : _) → F.pre f s }
+            ensures taken { F.step step.entry.now next result step.exit.now }
+            ensures told { self.exit.now ≡ told_by scripts.entry.now tries self.entry.now result }
+            ensures ended { outcome.exit
+                ≡ option_or (outcome_told scripts.entry.now tries self.entry.now result) outcome.entry }
+        {
+            let answer = step(next);
+            outcome = self.told(scripts, tries, answer).or(outcome);
+            answer
+        };
+        turn.take(&mut take);
+        outcome
     }
 
     /// Says how the step that the turn named was answered; of a turn of two steps, each step taken. The scripts and the
