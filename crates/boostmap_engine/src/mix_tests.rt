@@ -44,6 +44,19 @@ fn mix_one_worker(rt: HostRuntime) -> Result<(), Fail> {
     Ok(())
 }
 
+/// A script file of version 2, with a key of 2^63 and an action `put_if`: its history is of version 2.
+#[test]
+fn mix_of_version_2(rt: HostRuntime) -> Result<(), Fail> {
+    let scripts = "{\"version\":2,\"workers\":1,\"stripes\":8,\"buckets\":8,\"tries\":0,\"scripts\":[[[\"put_if\",9223372036854775808,null,5],[\"help\",9223372036854775808]]]}";
+    let wanted = "{\"entries\":[[\"began\",0,1],[\"asked\",0,\"put_if\",9223372036854775808,null,5],[\"did\",0,null],[\"committed\",0,1]],\"stripes\":8,\"version\":2}\n";
+    let history = mixed(&rt, 7, scripts.as_bytes())?;
+    assert_eq!(rt; history.as_slice(), wanted.as_bytes());
+    let mut line: Vec<u8> = Vec::new(rt.alloc());
+    assert!(rt; matches!(check(rt.alloc(), &mut history.as_slice(), &mut line), Ok(true)));
+    assert_eq!(rt; line.as_slice(), b"legal 1 commits 0 open\n".as_slice());
+    Ok(())
+}
+
 /// For 50 seeds from this one on the history is legal with nothing open, and the same when it is made again.
 fn any_seed_from(rt: &(impl Abort + AllocGlobal), first: u64) -> Result<(), Fail> {
     for place in 0..50 {

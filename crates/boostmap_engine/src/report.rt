@@ -47,8 +47,12 @@ fn text_of_run(alloc: Global, answers: &[Answer], core: &Core) -> Result<String,
     Ok(text)
 }
 
-/// The report of the steps that the bytes are, run on a new core. Costs what the steps cost, and time and memory in
-/// proportion to the bytes and the report.
+/// The report of the steps that the bytes are, run on a new core, which takes half keys alone where
+/// the file is of version 1.
+///
+/// # Cost
+///
+/// What the steps cost, and time and memory in proportion to the bytes and the report.
 ///
 /// # Errors
 ///

@@ -69,5 +69,5 @@ KeepsAt workers scripts w (Some task) parts = KeepsTask workers scripts w task p
 
 -- The worker's entries in the history are what its scripts ask for so far.
 pub record Keeps (scripts : List (List Action)) (worker : Standing) (seen : List Entry) : Type 0 where
-  pub number : worker.number < worker.workers
-  pub at : KeepsAt worker.workers scripts worker.number worker.task (parts_of seen)
+  pub number : worker.number < worker.limits.callers
+  pub at : KeepsAt worker.limits.callers scripts worker.number worker.task (parts_of seen)

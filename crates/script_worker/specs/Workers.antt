@@ -1,10 +1,11 @@
 -- A worker: the script that it is at, its next step, and where it is once that was answered.
-use Rattle.std.specs.Prelude.{◌≡◌, ℕ, ◌+◌, nat_lt, if◌then◌else◌, List, length, Option, Some, None, is_some, slice_get}
+use Rattle.std.specs.Prelude.{◌≡◌, ℕ, ◌+◌, nat_lt, Bool, if◌then◌else◌, List, length, Option, Some, None, is_some, slice_get}
 use Rattle.std.specs.Option.{option_map, option_and_then, option_or}
 use Rattle.txn_trace.specs.declared.action.Action.{Action}
 use Rattle.txn_trace.specs.declared.answer.Answer.{Answer}
 use Rattle.txn_trace.specs.declared.answer.Answer.TheVariants as answers
 use Rattle.txn_trace.specs.declared.step.Step.{Step}
+use Rattle.txn_trace.specs.Sizes.{Sizes}
 use Rattle.txn_drive.specs.declared.call.Call.TheVariants as calls
 use Rattle.txn_drive.specs.declared.drive.Drive.{Drive}
 use Rattle.txn_drive.specs.declared.«end».End.{End}
@@ -20,17 +21,22 @@ use Rattle.script_worker.specs.declared.standing.Standing.{Standing}
 use Rattle.script_worker.specs.Attempts.{first_attempt, call_at, progress_of}
 
 -- The first attempt at the script of a number, where there is one.
-abbrev pub started : List (List Action) → ℕ → ℕ → Option Task
-started scripts w n = if nat_lt n (length scripts) then Some (record { script = n; attempt = first_attempt; drive = new_drive w calls.Begin }) else None
+abbrev pub started : Bool → List (List Action) → ℕ → ℕ → Option Task
+started half scripts w n =
+    if nat_lt n (length scripts)
+    then Some (record { script = n; attempt = first_attempt; drive = new_drive half w calls.Begin })
+    else None
 
 -- The worker before its first step.
-abbrev pub new_worker : List (List Action) → ℕ → ℕ → Standing
-new_worker scripts w workers = record { number = w; workers = workers; task = started scripts w w }
+abbrev pub new_worker : List (List Action) → ℕ → Sizes → Standing
+new_worker scripts w limits =
+    record { number = w; limits = limits; task = started limits.half scripts w w }
 
 -- What the worker is at after a call of an attempt at a script: the next call, or the next script of its own.
 abbrev pub followed : List (List Action) → Standing → Task → List Action → Progress → Option Task
-followed scripts worker task script (Next attempt) = Some (record { script = task.script; attempt = attempt; drive = new_drive worker.number (call_at script attempt.stage) })
-followed scripts worker task script (Over outcome) = started scripts worker.number (task.script + worker.workers)
+followed scripts worker task script (Next attempt) = Some (record { script = task.script; attempt = attempt; drive = new_drive worker.limits.half worker.number (call_at script attempt.stage) })
+followed scripts worker task script (Over outcome) =
+    started worker.limits.half scripts worker.number (task.script + worker.limits.callers)
 
 -- The same of the script of a number, after the call has ended so.
 abbrev pub progressed : List (List Action) → ℕ → Standing → Task → End → Option Task
@@ -132,9 +138,9 @@ TakesIn takes scripts tries old (Some (Ended outcome)) new = ⊥
 TakesIn takes scripts tries old (Some turn) new = TakesTurn (TakesStep takes scripts tries) old turn new
 
 -- The next turn of a worker is taken, at this size of the table.
-abbrev pub TakesNext : {X : Type 0} → (X → Step → Answer → X → Type 0) → ℕ → List (List Action) → ℕ → X → Standing → Option Outcome → X → Standing → Type 0
-TakesNext takes size scripts tries old before outcome new after =
-    TakesIn takes scripts tries
-    (record { taker = old; worker = sized_by size before; outcome = None })
-    (turn_by (sized_by size before))
-    (record { taker = new; worker = after; outcome = outcome })
+pub record TakesNext {X : Type 0} (takes : X → Step → Answer → X → Type 0) (size : ℕ) (scripts : List (List Action)) (tries : ℕ)
+    (old : X) (before : Standing) (outcome : Option Outcome) (new : X) (after : Standing) : Type 0 where
+  pub steps : TakesIn takes scripts tries
+      (record { taker = old; worker = sized_by size before; outcome = None })
+      (turn_by (sized_by size before))
+      (record { taker = new; worker = after; outcome = outcome })

@@ -12,13 +12,13 @@ use crate::standing::Standing;
 use crate::task::Task;
 use std::marker::Model;
 use txn_drive::Turn;
-use txn_trace::{Answer, Script, Step};
+use txn_trace::{Answer, Limits, Script, Step};
 
-/// One of several workers, which share scripts out: worker `w` of `n` runs the scripts `w`, `w + n`, `w + 2 n` and so on,
-/// in this order. While it has a script left it has a step to take.
+/// One of several workers, which share scripts out: worker `w` of `n` runs the scripts `w`, `w + n`,
+/// `w + 2 n` and so on, in this order. While it has a script left it has a step to take.
 ///
-/// Begin with `new`; while the worker is live, take turns by `turn`, and after each step taken say by `told` how it was
-/// answered.
+/// Begin with `new`; while the worker is live, take turns by `take_turn`: or by `turn`, and after
+/// each step taken say by `told` how it was answered.
 #[derive(Clone, Copy, Debug, PartialEq, Eq)]
 pub struct Worker {
     standing: Standing,
@@ -39,15 +39,16 @@ impl Model for Worker {
 }
 
 impl Worker {
-    /// The worker of this number before its first step. Constant time.
-    pub fn new(number: usize, workers: usize, scripts: &[Script]) -> Worker
-        requires { number < workers }
-        ensures worker { result ≡ new_worker scripts.now number workers }
+    /// The worker of this number before its first step, on a map of these limits, which has as many
+    /// workers as callers. Constant time.
+    pub fn new(number: usize, limits: Limits, scripts: &[Script]) -> Worker
+        requires { number < limits.callers }
+        ensures worker { result ≡ new_worker scripts.now number limits }
         ensures ready { IsReady result }
         ensures keeps { Keeps scripts.now result [] }
     {
         Worker {
-            standing: Standing::new(number, workers, scripts),
+            standing: Standing::new(number, limits, scripts),
         }
     }
 
@@ -104,7 +105,6 @@ impl Worker {
         ensures turn { IsTurnBy (sized_by size self.old) (turn_by (sized_by size self.old)) }
         ensures takes { TakesNext (λ f s answer g. F.step f s answer g) size scripts.now tries
             step.old self.old result step.new self.new }
-        ensures ready { IsReady self.new }
     {
         let Some(turn) = self.turn(size) else {
             return None;
@@ -135,7 +135,7 @@ impl Worker {
         ensures outcome { result ≡ outcome_told scripts.now tries self.old answer }
         ensures worker { self.new ≡ told_by scripts.now tries self.old answer }
         ensures number { self.new.number ≡ self.old.number }
-        ensures workers { self.new.workers ≡ self.old.workers }
+        ensures limits { self.new.limits ≡ self.old.limits }
         ensures ready { IsReady self.new }
         ensures second { (step : Step) → step_by (told_drive self.old answer) ≡ Some step → step_by self.new ≡ Some step }
         ensures keeps { (seen : List Entry) (step : Step) → step_by self.old ≡ Some step → Keeps scripts.now self.old seen

@@ -1,11 +1,12 @@
 -- The phases of a drive: the step of each, the turn that it takes, and the phase after an answer.
-use Rattle.std.specs.Prelude.{◌≡◌, ℕ, ◌+◌, ◌-◌, ◌^◌, ◌%◌, ◌==◌, nat_lt, ◌&&◌, if◌then◌else◌, Option, Some, None}
+use Rattle.std.specs.Prelude.{◌≡◌, ℕ, ◌+◌, ◌-◌, ◌^◌, ◌%◌, ◌==◌, Bool, nat_lt, ◌&&◌, if◌then◌else◌, Option, Some, None}
 use Rattle.txn_trace.specs.declared.step.Step.{Step}
 use Rattle.txn_trace.specs.declared.step.Step.TheVariants as steps
 use Rattle.txn_trace.specs.declared.answer.Answer.{Answer}
 use Rattle.txn_trace.specs.declared.answer.Answer.TheVariants as answers
 use Rattle.txn_trace.specs.declared.refusal.Refusal.{Refusal}
 use Rattle.txn_trace.specs.declared.refusal.Refusal.TheVariants.{BadKey, NothingToSeek, NoMemory, StampsUsedUp, OutOfStep}
+use Rattle.txn_trace.specs.Sizes.{is_bad_key}
 use Rattle.txn_drive.specs.declared.call.Call.{Call}
 use Rattle.txn_drive.specs.declared.call.Call.TheVariants as calls
 use Rattle.txn_drive.specs.declared.drive.Drive.{Drive}
@@ -20,13 +21,14 @@ use Rattle.txn_drive.specs.declared.turn.Turn.TheVariants.{One, Two, Ended}
 use Rattle.txn_drive.specs.declared.way.Way.{Way}
 use Rattle.txn_drive.specs.Ways.{child_towards}
 
--- A helper's call is first to double the table, where its key is good; any other call is fresh.
-abbrev pub first_phase : Call → Phase
-first_phase (calls.Help key) = if nat_lt key (2 ^ 63) then Doubling 0 else Refused BadKey
-first_phase call = Fresh
+-- A helper's call is first to double the table, where its key is good: any key, or, where half keys
+-- alone are taken, one of them. Any other call is fresh.
+abbrev pub first_phase : Bool → Call → Phase
+first_phase half (calls.Help key) = if is_bad_key half key then Refused BadKey else Doubling 0
+first_phase half call = Fresh
 
-abbrev pub new_drive : ℕ → Call → Drive
-new_drive c call = record { caller = c; call = call; phase = first_phase call }
+abbrev pub new_drive : Bool → ℕ → Call → Drive
+new_drive half c call = record { caller = c; call = call; phase = first_phase half call }
 
 -- The phase once the table's size at this moment is known.
 abbrev pub sized_in : ℕ → Phase → Phase

@@ -8,7 +8,7 @@ use crate::call::Call;
 use crate::end::End;
 use crate::phase::{Phase, Work};
 use crate::turn::{Turn, paired};
-use txn_trace::{Answer, Refusal, Step};
+use txn_trace::{Answer, Limits, Refusal, Step};
 
 /// A caller's call on its way: which step comes next, and what was told so far.
 ///
@@ -25,17 +25,18 @@ pub struct Drive {
 }
 
 impl Drive {
-    /// The drive of a caller's call, before its first step. Constant time.
+    /// The drive of a caller's call on a map of these limits, before its first step. Constant time.
     ///
-    /// A call `Help` of a key of 2^63 or more has ended with `Refusal::BadKey`, before any step.
-    pub fn new(caller: u64, call: Call) -> Drive
-        ensures drive { result ≡ new_drive caller call }
+    /// Where the limits take half keys alone, a call `Help` of a key of 2^63 or more has ended with
+    /// `Refusal::BadKey`, before any step.
+    pub fn new(caller: u64, call: Call, limits: Limits) -> Drive
+        ensures drive { result ≡ new_drive limits.half caller call }
         ensures made { made result ≡ [] }
     {
         Drive {
             caller,
             call,
-            phase: call.first_phase(),
+            phase: call.first_phase(limits),
         }
     }
 
