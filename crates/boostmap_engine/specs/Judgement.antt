@@ -9,7 +9,8 @@ use Rattle.boostmap_engine.specs.Report.{line}
 -- The line of a verdict.
 abbrev pub verdict_line : Verdict → List ℕ
 verdict_line (Legal commits running) =
-    line (codes "legal " ++ (decimal commits ++ (codes " commits " ++ (decimal running ++ codes " open"))))
+    line (codes "legal "
+    ++ (decimal commits ++ (codes " commits " ++ (decimal running ++ codes " open"))))
 verdict_line (Illegal entry rule) =
     line (codes "illegal entry " ++ (decimal entry ++ (codes " rule " ++ decimal rule)))
 

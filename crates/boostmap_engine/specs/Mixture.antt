@@ -25,7 +25,8 @@ pub record IsMixture (work : Work) (seed : ℕ) (text : List ℕ) : Type 0 where
 
 -- The same of the scripts that the bytes are.
 abbrev pub IsMixtureOf : ℕ → List ℕ → List ℕ → Type 0
-IsMixtureOf seed bytes text = (work : Work) × (scripts_of bytes ≡ Ok work) × IsMixture work seed text
+IsMixtureOf seed bytes text =
+    (work : Work) × (scripts_of bytes ≡ Ok work) × IsMixture work seed text
 
 -- The bytes are no script file, for this fault.
 abbrev pub IsNoScriptFile : List ℕ → FileFault → Type 0

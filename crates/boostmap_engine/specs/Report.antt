@@ -33,7 +33,8 @@ pairs_text pairs = flat_map (λ pair. line (decimal pair.0 ++ (codes " " ++ deci
 abbrev pub report : List Answer → State → List ℕ
 report answers last =
     answers_text answers
-    ++ (size_text last.size (count_of (now last.history)) ++ pairs_text (ordered (now last.history)))
+    ++ (size_text last.size (count_of (now last.history))
+    ++ pairs_text (ordered (now last.history)))
 
 -- A run of these steps, and its report.
 pub record IsReport (sizes : Sizes) (steps : List Step) (text : List ℕ) : Type 0 where

@@ -45,7 +45,8 @@ fn says(
 /// A change of `put_if` is taken back once, and one that changed nothing never.
 #[test]
 fn put_if_history(rt: HostRuntime) -> Result<(), Fail> {
-    let before = "[\"began\",0,1],[\"asked\",0,\"put_if\",1,null,5],[\"did\",0,null],[\"asked\",0,\"put_if\",1,4,6],[\"did\",0,5],[\"leave\",0,null],[\"undone\",0],";
+    let before =
+        "[\"began\",0,1],[\"asked\",0,\"put_if\",1,null,5],[\"did\",0,null],[\"asked\",0,\"put_if\",1,4,6],[\"did\",0,5],[\"leave\",0,null],[\"undone\",0],";
     let rows = [
         ("", "legal 0 commits 0 open\n", 0),
         ("[\"undone\",0],", "illegal entry 7 rule 3\n", 1),

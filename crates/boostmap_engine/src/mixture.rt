@@ -12,8 +12,8 @@ use txn_files::{history_text, read_scripts};
 ///
 /// # Cost
 ///
-/// What the steps cost and a look at each worker for each turn, and time and memory in proportion to
-/// bytes and text.
+/// What the steps cost and a look at each worker for each turn, and time and memory in proportion
+/// to bytes and text.
 ///
 /// # Errors
 ///

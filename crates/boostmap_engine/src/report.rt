@@ -10,7 +10,8 @@ use txn_trace::Answer;
 
 /// Puts the answers to the text, one a line.
 fn put_answers(text: &mut String, answers: &[Answer]) -> Result<(), AllocError>
-    ensures { OnOk result (string_bytes text.new ≡ string_bytes text.old ++ answers_text answers.now) }
+    ensures { OnOk result (string_bytes text.new ≡ string_bytes text.old
+        ++ answers_text answers.now) }
 {
     for answer in answers {
         writeln!(text, "{answer}")?;

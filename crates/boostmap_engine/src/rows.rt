@@ -4,7 +4,8 @@ use crate::replay;
 use std::process::Abort;
 use std::test::Fail;
 
-/// What a step file has, and what its report says to it. A name in a step stands between single quotes.
+/// What a step file has, and what its report says to it. A name in a step stands between single
+/// quotes.
 #[derive(Clone, Copy)]
 enum Line {
     /// A step and its answer.
@@ -91,7 +92,8 @@ const FIVE_KEYS: [Line; 10] = [
 
 const FIVE_KEYS_REPORT: &str = "size 4 count 5\n4 40\n2 20\n1 10\n5 50\n3 30";
 
-/// Keys that share a split key, and `put_if`, which puts only where the old value is the expected one.
+/// Keys that share a split key, and `put_if`, which puts only where the old value is the expected
+/// one.
 const KEYS_OF_64_BITS: [Line; 8] = [
     Line::Step("'begin',0", "began 1"),
     Line::Do(0, "'put',9223372036854775809,11", "done none"),

@@ -142,8 +142,8 @@ fn bad_input(rt: HostRuntime) -> Result<(), Fail> {
     Ok(())
 }
 
-/// A step that only version 2 has, in files of other versions; and a bad step before it, which is the
-/// first fault.
+/// A step that only version 2 has, in files of other versions; and a bad step before it, which is
+/// the first fault.
 #[test]
 fn versions_of_step_files(rt: HostRuntime) -> Result<(), Fail> {
     let put_if = "[\"begin\",0],[\"ask\",0,\"put_if\",1,null,5]";
@@ -224,8 +224,8 @@ fn failing_writes(rt: HostRuntime) {
     }
 }
 
-/// Is to be run with each allocation refused in turn: nothing is written, or the step that was refused
-/// memory has changed nothing.
+/// Is to be run with each allocation refused in turn: nothing is written, or the step that was
+/// refused memory has changed nothing.
 #[test]
 fn refused_allocations(rt: HostRuntime) {
     let mut input = FIRST_COMMIT.as_bytes();

@@ -35,7 +35,6 @@ takes_next {X} takes size scripts tries before R I p x t o y worker none turn so
 -- A worker's turn on whatever takes its steps is one on the part that a step changes so.
 module _ {X F : Type 0} (takes : X → Step → Answer → X → Type 0) (R : F → Step → Answer → F → Type 0) (I : F → Type 0) (p : F → X)
     (each : (x : F) (s : Step) (a : Answer) (y : F) → I x → R x s a y → takes (p x) s a (p y) × I y) (scripts : List (List Action)) (tries : ℕ) where
-
   abbrev on_part : Working F → Working X
   on_part w = record { taker = p w.taker; worker = w.worker; outcome = w.outcome }
 

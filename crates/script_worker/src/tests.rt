@@ -29,7 +29,8 @@ fn scripts_of(rt: &(impl Abort + AllocGlobal), scripts: &[&[Action]]) -> Result<
     Ok(all)
 }
 
-/// The worker takes this step and is told this answer, with one further try allowed. No script ends by it.
+/// The worker takes this step and is told this answer, with one further try allowed. No script ends
+/// by it.
 fn takes(rt: &impl Abort, worker: &mut Worker, scripts: &[Script], step: Step, answer: Answer) {
     assert_eq!(rt; last_of(rt, worker, scripts, step, answer), None);
 }
@@ -112,7 +113,8 @@ fn busy_is_tried_again(rt: HostRuntime) -> Result<(), Fail> {
     Ok(())
 }
 
-/// A refused call aborts the transaction, and a refused begin ends the script; help with a bad key takes no step.
+/// A refused call aborts the transaction, and a refused begin ends the script; help with a bad key
+/// takes no step.
 #[test]
 fn refusals_end_a_script(rt: HostRuntime) -> Result<(), Fail> {
     let scripts = scripts_of(
@@ -148,8 +150,8 @@ fn refusals_end_a_script(rt: HostRuntime) -> Result<(), Fail> {
     Ok(())
 }
 
-/// The first help with a bad key is refused without a step, and its transaction given up: neither further ones nor a put
-/// come after it.
+/// The first help with a bad key is refused without a step, and its transaction given up: neither
+/// further ones nor a put come after it.
 #[test]
 fn bad_helps_in_a_row(rt: HostRuntime) -> Result<(), Fail> {
     let bad = Action::Help(1 << 63);
@@ -176,7 +178,8 @@ fn bad_helps_in_a_row(rt: HostRuntime) -> Result<(), Fail> {
     Ok(())
 }
 
-/// Where every key is taken, help with a key of 2^63 takes steps; an action `put_if` is an operation.
+/// Where every key is taken, help with a key of 2^63 takes steps; an action `put_if` is an
+/// operation.
 #[test]
 fn every_key_is_helped(rt: HostRuntime) -> Result<(), Fail> {
     let op = Op::PutIf(1 << 63, None, 5);

@@ -14,8 +14,8 @@ use std::marker::Model;
 use txn_drive::Turn;
 use txn_trace::{Answer, Limits, Script, Step};
 
-/// One of several workers, which share scripts out: worker `w` of `n` runs the scripts `w`, `w + n`,
-/// `w + 2 n` and so on, in this order. While it has a script left it has a step to take.
+/// One of several workers, which share scripts out: worker `w` of `n` runs the scripts `w`, `w +
+/// n`, `w + 2 n` and so on, in this order. While it has a script left it has a step to take.
 ///
 /// Begin with `new`; while the worker is live, take turns by `take_turn`: or by `turn`, and after
 /// each step taken say by `told` how it was answered.
@@ -60,7 +60,8 @@ impl Worker {
         self.standing
     }
 
-    /// Whether the worker has a step to take: until the last step of its last script. Constant time.
+    /// Whether the worker has a step to take: until the last step of its last script. Constant
+    /// time.
     pub fn is_live(&self) -> bool
         ensures step { result ≡ is_some (step_by self.now) }
         ensures script { result ≡ is_some self.now.task }
@@ -68,14 +69,15 @@ impl Worker {
         self.standing.task.is_some()
     }
 
-    /// The next turn, of one step or of two, at the size that the table has at this moment; none where the worker is not
-    /// live. Constant time.
+    /// The next turn, of one step or of two, at the size that the table has at this moment; none
+    /// where the worker is not live. Constant time.
     pub fn turn(&mut self, size: u32) -> Option<Turn>
         ensures worker { self.new ≡ sized_by size self.old }
         ensures turn { result ≡ turn_by self.new }
         ensures step { IsTurnBy self.new result }
         ensures ready { IsReady self.new }
-        ensures keeps { (scripts : List (List Action)) (seen : List Entry) → Keeps scripts self.old seen → Keeps scripts self.new seen }
+        ensures keeps { (scripts : List (List Action)) (seen : List Entry)
+            → Keeps scripts self.old seen → Keeps scripts self.new seen }
     {
         let Some(task) = self.standing.task else {
             return None;
@@ -114,8 +116,8 @@ impl Worker {
             requires { (f : F) (s : _) → F.pre f s }
             ensures taken { F.step step.entry.now next result step.exit.now }
             ensures told { self.exit.now ≡ told_by scripts.entry.now tries self.entry.now result }
-            ensures ended { outcome.exit
-                ≡ option_or (outcome_told scripts.entry.now tries self.entry.now result) outcome.entry }
+            ensures ended { outcome.exit ≡ option_or
+                (outcome_told scripts.entry.now tries self.entry.now result) outcome.entry }
         {
             let answer = step(next);
             outcome = self.told(scripts, tries, answer).or(outcome);
@@ -125,20 +127,24 @@ impl Worker {
         outcome
     }
 
-    /// Says how the step that the turn named was answered; of a turn of two steps, each step taken. The scripts and the
-    /// tries are the same in each call: a script that found a stripe held is attempted again up to `tries` times. Answers how
-    /// the worker's script ended, where it ended by this answer.
+    /// Says how the step that the turn named was answered; of a turn of two steps, each step taken.
+    /// The scripts and the tries are the same in each call: a script that found a stripe held is
+    /// attempted again up to `tries` times. Answers how the worker's script ended, where it ended
+    /// by this answer.
     ///
-    /// What follows without a step has happened then: a call that ended is followed by the next one, of the same script or
-    /// of the next. The cost is fixed, but for the search of a helper's next bucket, which takes up to 32 rounds.
+    /// What follows without a step has happened then: a call that ended is followed by the next
+    /// one, of the same script or of the next. The cost is fixed, but for the search of a helper's
+    /// next bucket, which takes up to 32 rounds.
     pub fn told(&mut self, scripts: &[Script], tries: u64, answer: Answer) -> Option<Outcome>
         ensures outcome { result ≡ outcome_told scripts.now tries self.old answer }
         ensures worker { self.new ≡ told_by scripts.now tries self.old answer }
         ensures number { self.new.number ≡ self.old.number }
         ensures limits { self.new.limits ≡ self.old.limits }
         ensures ready { IsReady self.new }
-        ensures second { (step : Step) → step_by (told_drive self.old answer) ≡ Some step → step_by self.new ≡ Some step }
-        ensures keeps { (seen : List Entry) (step : Step) → step_by self.old ≡ Some step → Keeps scripts.now self.old seen
+        ensures second { (step : Step) → step_by (told_drive self.old answer) ≡ Some step
+            → step_by self.new ≡ Some step }
+        ensures keeps { (seen : List Entry) (step : Step) → step_by self.old ≡ Some step
+            → Keeps scripts.now self.old seen
             → Keeps scripts.now self.new (seen ++ entries_of step answer) }
     {
         let heard = self.standing.told(scripts, tries, answer);

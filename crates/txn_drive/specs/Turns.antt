@@ -7,7 +7,8 @@ use Rattle.txn_drive.specs.declared.turn.Turn.{Turn}
 use Rattle.txn_drive.specs.declared.turn.Turn.TheVariants.{One, Two, Ended}
 
 -- After the first step of two the second is taken where the answer was `placed`.
-abbrev pub TakesSecond : {X : Type 0} → (X → Step → Answer → X → Type 0) → X → Step → Answer → X → Type 0
+abbrev pub TakesSecond : {X : Type 0} → (X → Step → Answer → X → Type 0) → X → Step → Answer → X
+    → Type 0
 TakesSecond takes old second Placed new = (answer : Answer) × takes old second answer new
 TakesSecond takes old second answer new = new ≡ old
 
@@ -20,11 +21,13 @@ TakesTurn {X} takes old (Two first second) new =
 TakesTurn takes old (Ended outcome) new = new ≡ old
 
 -- The same as a record, by which a proof finds what takes the steps.
-pub record HasTaken {X : Type 0} (takes : X → Step → Answer → X → Type 0) (old : X) (turn : Turn) (new : X) : Type 0 where
+pub record HasTaken {X : Type 0} (takes : X → Step → Answer → X → Type 0) (old : X) (turn : Turn)
+    (new : X) : Type 0 where
   pub steps : TakesTurn takes old turn new
 
 -- The steps of a turn may be taken, the second of two after the answer `placed`.
-abbrev pub MayTake : {X : Type 0} → (X → Step → Type 0) → (X → Step → Answer → X → Type 0) → X → Turn → Type 0
+abbrev pub MayTake : {X : Type 0} → (X → Step → Type 0) → (X → Step → Answer → X → Type 0) → X
+    → Turn → Type 0
 MayTake may takes old (One step) = may old step
 MayTake {X} may takes old (Two first second) =
     may old first × ((between : X) → takes old first Placed between → may between second)

@@ -12,8 +12,8 @@ use txn_trace::{Answer, Limits, Refusal, Step};
 
 /// A caller's call on its way: which step comes next, and what was told so far.
 ///
-/// Begin with `new`; take turns by `turn`, and after each step taken say by `told` how it was answered, until a turn
-/// says `Ended`.
+/// Begin with `new`; take turns by `turn`, and after each step taken say by `told` how it was
+/// answered, until a turn says `Ended`.
 #[derive(Clone, Copy, Debug, PartialEq, Eq)]
 pub struct Drive {
     /// The caller's number, which is also its helper's.
@@ -42,8 +42,8 @@ impl Drive {
 
     /// The next turn, at the size in buckets that the table has at this moment. Constant time.
     ///
-    /// Only a helper that is to double the table notes the size. A drive whose turn says `Ended` says it at each later turn
-    /// too.
+    /// Only a helper that is to double the table notes the size. A drive whose turn says `Ended`
+    /// says it at each later turn too.
     pub fn turn(&mut self, size: u32) -> Turn
         ensures drive { self.new ≡ sized_of size self.old }
         ensures turn { result ≡ turn_of self.new }
@@ -92,14 +92,15 @@ impl Drive {
         }
     }
 
-    /// Says how the step that the turn named was answered; of a turn of two steps, each step taken. Constant time, but for
-    /// the search of a helper's next bucket, which takes up to 32 rounds.
+    /// Says how the step that the turn named was answered; of a turn of two steps, each step taken.
+    /// Constant time, but for the search of a helper's next bucket, which takes up to 32 rounds.
     ///
-    /// An answer that no rule foresees ends the call with `Refusal::OutOfStep`, and so does any answer that is told once the
-    /// call has ended.
+    /// An answer that no rule foresees ends the call with `Refusal::OutOfStep`, and so does any
+    /// answer that is told once the call has ended.
     pub fn told(&mut self, answer: Answer)
         ensures drive { self.new ≡ told_of self.old answer }
-        ensures made { (step : Step) → step_of self.old ≡ Some step → made self.new ≡ made self.old ++ entries_of step answer }
+        ensures made { (step : Step) → step_of self.old ≡ Some step
+            → made self.new ≡ made self.old ++ entries_of step answer }
     {
         self.phase = self.phase.told(self.call, answer);
     }
