@@ -362,7 +362,8 @@ impl Session {
 
 /// One line of the history.
 #[allow(dead_code)]
-enum Entry {
+#[derive(Clone, Copy)]
+pub enum Entry {
     Began(u64, u64),
     Asked(u64, Op),
     Did(u64, Reply),
@@ -373,6 +374,23 @@ enum Entry {
     Committed(u64, u64),
     Busy(u64, Op, u64),
     Aborted(u64),
+}
+
+impl Entry {
+    pub fn caller(&self) -> u64 {
+        match *self {
+            Entry::Began(caller, _)
+            | Entry::Asked(caller, _)
+            | Entry::Did(caller, _)
+            | Entry::Saved(caller)
+            | Entry::Leave(caller, _)
+            | Entry::Undone(caller)
+            | Entry::Returned(caller, _)
+            | Entry::Committed(caller, _)
+            | Entry::Busy(caller, _, _)
+            | Entry::Aborted(caller) => caller,
+        }
+    }
 }
 
 pub struct Core {
@@ -441,6 +459,10 @@ impl Core {
     #[inline(never)]
     pub fn run(&mut self, steps: &[Step]) -> Vec<Answer> {
         steps.iter().map(|step| self.step(*step)).collect()
+    }
+
+    pub fn history(&self) -> &[Entry] {
+        &self.history
     }
 
     pub fn size(&self) -> u32 {
