@@ -1,6 +1,10 @@
 //! The core in plain Rust, as the proved one is built: the table over the list of nodes, the locks of the stripes, and for
 //! each caller its stage, its cursor and its undo log.
-use crate::list::{Again, Cursor, Kind, NodeList, Spare, link, look, mark, seek, swap, sweep};
+use crate::list::{Again, Cursor, Kind, NodeList, Spare, link, look, mark, seek, swap};
+#[cfg(not(feature = "marks"))]
+use crate::list::sweep;
+#[cfg(feature = "marks")]
+use crate::list::{first_mark, sweep_from};
 use crate::split::{bucket_of, dummy, parent, regular};
 use crate::step::{Answer, Limits, Op, Refusal, Reply, Step};
 use std::mem;
@@ -657,6 +661,19 @@ impl Core {
         Ok(Answer::Leaving)
     }
 
+    /// Unlinks the first marked node, which is sought from the nearest dummy before it.
+    #[cfg(feature = "marks")]
+    fn sweep(&mut self) -> Answer {
+        let table = &mut self.table;
+        let Some(split) = first_mark(&table.list) else {
+            return Answer::Clean;
+        };
+        let from = table.nearest(bucket_of(split.reverse_bits(), table.size));
+        sweep_from(&mut table.list, from);
+        Answer::Swept
+    }
+
+    #[cfg(not(feature = "marks"))]
     fn sweep(&mut self) -> Answer {
         if sweep(&mut self.table.list) {
             Answer::Swept
