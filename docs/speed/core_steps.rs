@@ -8,6 +8,7 @@
 //! - steps: how many there are, at most 1,000,000; fewer where the file would have more than 16,777,216 bytes
 //! - callers, stripes, buckets: the limits
 //! - keys: how many keys there are; with wide=1 they have up to 19 digits
+//! - sweeps: a sweep comes by chance once in so many steps
 //! - turn: after a step another caller may take the next one, by chance once in so many steps; 0: only after a transaction
 //! - seed: where chance begins
 #![allow(dead_code, unexpected_cfgs)]
@@ -56,6 +57,7 @@ struct Wishes {
     limits: Limits,
     keys: u64,
     wide: bool,
+    sweeps: u64,
     turn: u64,
     seed: u64,
 }
@@ -71,6 +73,7 @@ impl Wishes {
             },
             keys: 100_000,
             wide: false,
+            sweeps: 1024,
             turn: 8,
             seed: 1,
         };
@@ -84,6 +87,7 @@ impl Wishes {
                 "buckets" => wishes.limits.buckets = number as u32,
                 "keys" => wishes.keys = number,
                 "wide" => wishes.wide = number != 0,
+                "sweeps" => wishes.sweeps = number,
                 "turn" => wishes.turn = number,
                 "seed" => wishes.seed = number,
                 _ => return Err(format!("{name} is no such name").into()),
@@ -308,7 +312,7 @@ impl Writer {
 
     /// A step, or none where the file is full.
     fn step(&mut self) -> Option<()> {
-        if self.chance.once_in(1024) {
+        if self.chance.once_in(self.wishes.sweeps) {
             return self.take(Step::Sweep).map(|_| ());
         }
         let size = self.core.size();

@@ -116,6 +116,9 @@ pub struct NodeList {
     last: u64,
     pub count: u64,
     marked: u64,
+    // The split keys of the marked nodes, for a sweep that does not walk from the head.
+    #[cfg(feature = "marks")]
+    marks: std::collections::BTreeSet<u64>,
 }
 
 impl Kind {
@@ -170,6 +173,8 @@ impl NodeList {
             last: first_stamp,
             count: 0,
             marked: 0,
+            #[cfg(feature = "marks")]
+            marks: std::collections::BTreeSet::new(),
         }
     }
 
@@ -227,6 +232,11 @@ impl NodeList {
 
     fn unlink_after(&mut self, pred: usize) {
         if let Some(place) = self.node(pred).next {
+            #[cfg(feature = "marks")]
+            {
+                let split = self.node(place).split;
+                self.marks.remove(&split);
+            }
             self.node_mut(pred).next = self.node(place).next;
             let _ = self.slab.try_remove(place);
             self.marked -= 1;
@@ -235,6 +245,11 @@ impl NodeList {
     }
 
     fn set_mark(&mut self, place: usize) {
+        #[cfg(feature = "marks")]
+        {
+            let split = self.node(place).split;
+            self.marks.insert(split);
+        }
         self.node_mut(place).marked = true;
         self.count -= 1;
         self.marked += 1;
@@ -372,11 +387,24 @@ pub fn swap(list: &mut NodeList, cursor: Cursor, value: u64) -> Result<u64, Agai
     }
 }
 
+/// Unlinks the first marked node, if there is one.
 pub fn sweep(list: &mut NodeList) -> bool {
     if list.marked == 0 {
         return false;
     }
-    let mut place = list.head;
+    sweep_from(list, list.head);
+    true
+}
+
+/// The split key of the first marked node.
+#[cfg(feature = "marks")]
+pub fn first_mark(list: &NodeList) -> Option<u64> {
+    list.marks.first().copied()
+}
+
+/// Unlinks the first marked node after this one.
+pub fn sweep_from(list: &mut NodeList, from: usize) {
+    let mut place = from;
     while let Some(next) = list.node(place).next {
         if list.node(next).marked {
             break;
@@ -384,5 +412,4 @@ pub fn sweep(list: &mut NodeList) -> bool {
         place = next;
     }
     list.unlink_after(place);
-    true
 }

@@ -1,6 +1,10 @@
 //! The core in plain Rust, as the proved one is built: the table over the list of nodes, the locks of the stripes, and for
 //! each caller its stage, its cursor and its undo log.
-use crate::list::{Again, Cursor, Kind, NodeList, Spare, link, look, mark, seek, swap, sweep};
+use crate::list::{Again, Cursor, Kind, NodeList, Spare, link, look, mark, seek, swap};
+#[cfg(not(feature = "marks"))]
+use crate::list::sweep;
+#[cfg(feature = "marks")]
+use crate::list::{first_mark, sweep_from};
 use crate::split::{bucket_of, dummy, parent, regular};
 use crate::step::{Answer, Limits, Op, Refusal, Reply, Step};
 use std::mem;
@@ -362,7 +366,8 @@ impl Session {
 
 /// One line of the history.
 #[allow(dead_code)]
-enum Entry {
+#[derive(Clone, Copy)]
+pub enum Entry {
     Began(u64, u64),
     Asked(u64, Op),
     Did(u64, Reply),
@@ -373,6 +378,23 @@ enum Entry {
     Committed(u64, u64),
     Busy(u64, Op, u64),
     Aborted(u64),
+}
+
+impl Entry {
+    pub fn caller(&self) -> u64 {
+        match *self {
+            Entry::Began(caller, _)
+            | Entry::Asked(caller, _)
+            | Entry::Did(caller, _)
+            | Entry::Saved(caller)
+            | Entry::Leave(caller, _)
+            | Entry::Undone(caller)
+            | Entry::Returned(caller, _)
+            | Entry::Committed(caller, _)
+            | Entry::Busy(caller, _, _)
+            | Entry::Aborted(caller) => caller,
+        }
+    }
 }
 
 pub struct Core {
@@ -441,6 +463,10 @@ impl Core {
     #[inline(never)]
     pub fn run(&mut self, steps: &[Step]) -> Vec<Answer> {
         steps.iter().map(|step| self.step(*step)).collect()
+    }
+
+    pub fn history(&self) -> &[Entry] {
+        &self.history
     }
 
     pub fn size(&self) -> u32 {
@@ -635,6 +661,19 @@ impl Core {
         Ok(Answer::Leaving)
     }
 
+    /// Unlinks the first marked node, which is sought from the nearest dummy before it.
+    #[cfg(feature = "marks")]
+    fn sweep(&mut self) -> Answer {
+        let table = &mut self.table;
+        let Some(split) = first_mark(&table.list) else {
+            return Answer::Clean;
+        };
+        let from = table.nearest(bucket_of(split.reverse_bits(), table.size));
+        sweep_from(&mut table.list, from);
+        Answer::Swept
+    }
+
+    #[cfg(not(feature = "marks"))]
     fn sweep(&mut self) -> Answer {
         if sweep(&mut self.table.list) {
             Answer::Swept

@@ -1,15 +1,17 @@
 #!/usr/bin/env bash
 # Writes a script file of so many calls, a multiple of a thousand, for so many workers. Scripts have nine operations and then a
 # help, or as many more of both as the largest number of scripts, 10,000, asks for. Half of the operations put, a quarter take,
-# a quarter get. There is a key for each five calls; of the workers, which are a power of two, each has
+# a quarter get. There is a key for each five calls (but see every); of the workers, which are a power of two, each has
 #   apart   keys of its own, no two workers' keys with one stripe
 #   shared  the keys of all
+#   every   the keys of all, a key for each call and 4,096 more; a third of the scripts set savepoints, half of these go back to
+#           them, and one script in eight aborts at its end
 # Usage: docs/speed/scripts.sh KIND CALLS WORKERS
 set -euo pipefail
 exec awk -v kind="$1" -v calls="$2" -v workers="$3" '
   function word() { seed = (seed * 16807) % 2147483647; return seed }
   function draw(    key) {
-    key = word() % (calls / 5)
+    key = word() % (kind == "every" ? calls + 4096 : calls / 5)
     return kind == "apart" ? key - key % workers + script % workers : key
   }
   function operation(action) {
@@ -23,12 +25,16 @@ exec awk -v kind="$1" -v calls="$2" -v workers="$3" '
     for (script = 0; script < calls / 10 / rounds; script++) {
       printf script ? ",[" : "["
       for (round = 1; round <= rounds; round++) {
+        saves = kind == "every" && word() % 3 == 0
         for (i = 0; i < 9; i++) {
           key = draw()
           operation(word() % 4)
+          if (saves && i == 2) printf "[\"save\"],"
+          if (saves && i == 5 && script % 2) printf "[\"back\",1],"
         }
         printf "[\"help\",%d]%s", key, round < rounds ? "," : ""
       }
+      if (kind == "every" && script % 8 == 7) printf ",[\"abort\"]"
       printf "]"
     }
     print "]}"

@@ -58,7 +58,7 @@ wants() {
 
 each_command_on_each_example() {
   local file kind
-  for file in first_commit many_callers doubling first_scripts scripts checked; do
+  for file in first_commit many_callers doubling keys_of_64_bits first_scripts scripts checked; do
     case $file in
       *scripts) kind='mix --seed 7' ;;
       checked) kind=check ;;

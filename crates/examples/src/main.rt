@@ -11,10 +11,11 @@ use std::rt::Runtime;
 use std::{fmt, fs, io};
 
 /// The commands, with the file that each runs.
-const CALLS: [(Command, &str); 6] = [
+const CALLS: [(Command, &str); 7] = [
     (Command::Replay, "first_commit.json"),
     (Command::Replay, "many_callers.json"),
     (Command::Replay, "doubling.json"),
+    (Command::Replay, "keys_of_64_bits.json"),
     (Command::Mix(7), "first_scripts.json"),
     (Command::Mix(7), "scripts.json"),
     (Command::Check, "checked.json"),

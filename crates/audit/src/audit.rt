@@ -1,0 +1,29 @@
+//! What is asked of a history.
+ghost use Rattle.std.specs.Prelude.{◌<◌, ◌↔◌, IsTrue, IsSome, IfOk, IfSome};
+ghost use Rattle.std.specs.List.{All};
+ghost use Rattle.txn_trace.specs.History.{caller_of};
+ghost use Rattle.txn_trace.specs.Legal.{IsLegal};
+
+use history_check::{Verdict, check};
+use std::alloc::{AllocError, Global};
+use txn_trace::Entry;
+
+/// Whether a history of a map with so many stripes is legal; `None` where a caller's number is 64 or
+/// more, of which the checker knows none.
+///
+/// # Errors
+///
+/// `AllocError` where memory is refused.
+pub fn is_legal(alloc: Global, entries: &[Entry], stripes: u64) -> Result<Option<bool>, AllocError>
+    requires { 0 < stripes }
+    ensures legal { IfOk result (λ answer. IfSome answer (λ legal. IsTrue legal ↔ IsLegal stripes entries.now)) }
+    ensures known { IfOk result (λ answer. All (λ entry. caller_of entry < 64) entries.now → IsSome answer) }
+{
+    for entry in entries {
+        if entry.caller() >= 64 {
+            return Ok(None);
+        }
+    }
+    let verdict = check(alloc, entries, stripes)?;
+    Ok(Some(matches!(verdict, Verdict::Legal { .. })))
+}

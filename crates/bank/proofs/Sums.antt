@@ -1,0 +1,24 @@
+-- What two puts make of the accounts.
+use Rattle.std.proofs.Common.{◌≡◌, ◌≢◌, ℕ, ◌+◌, cond, Some, refl, sym, ap, subst, ◌∙◌, arith}
+use Rattle.std.specs.Prelude.{unwrap_or}
+use Rattle.std.proofs.lemmas.Bool.{ne_eqb}
+use Rattle.txn_trace.specs.Map.{Map, get, insert}
+use Rattle.txn_trace.proofs.Maps.{get-insert, get-insert-here}
+use Rattle.bank.specs.Transfers.{balance, IsTransfer}
+
+get_other : (m : Map) (k v q : ℕ) → q ≢ k → get (insert m k v) q ≡ get m q
+get_other m k v q other = get-insert m k v q ∙ ap (λ b. cond b (Some v) (get m q)) (ne_eqb q k other)
+
+pub transferred : (from to sum less more : ℕ) (old new : Map) → from ≢ to → less + sum ≡ balance old from → more ≡ balance old to + sum
+    → new ≡ insert (insert old from less) to more → IsTransfer from to sum old new
+transferred from to sum less more old new apart had has is =
+    subst (IsTransfer from to sum old) (sym is)
+    (let last = insert (insert old from less) to more in
+    let at_from : balance last from ≡ less =
+    ap (λ o. unwrap_or o 0) (get_other (insert old from less) to more from apart ∙ get-insert-here old from less) in
+    let at_to : balance last to ≡ more = ap (λ o. unwrap_or o 0) (get-insert-here (insert old from less) to more) in
+    record {
+      both = omega (arith, at_from, at_to, had, has);
+      to_more = at_to ∙ has;
+      others = λ k not_from not_to. get_other (insert old from less) to more k not_to ∙ get_other old from less k not_from;
+    })

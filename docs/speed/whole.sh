@@ -1,0 +1,62 @@
+#!/usr/bin/env bash
+# Runs the program's commands and their twins in plain Rust (whole/) on the same files, and prints of each command and size the
+# pieces and the bytes of the file, the milliseconds of processor time of one run of both, their ratio, the most memory of both
+# in MB, and its ratio. What both print is compared.
+#
+# The files have every kind of step, at a rate that users would have: one step in 50 sweeps; savepoints, returns and aborts; eight
+# callers that find each other's stripes held; doublings, and the steps of each new bucket. The twin wants Debian's package
+# librust-serde-json-dev, or other sources of serde_json in the folder that CRATES names.
+# Usage: docs/speed/whole.sh [ROUNDS]
+source "$(dirname "${BASH_SOURCE[0]}")/common.sh"
+rounds=${1:-5}
+crates=${CRATES:-/usr/share/cargo/registry}
+
+quietly ./boostmap check examples/checked.json
+cp crates/boostmap/out/boostmap "$work/proved"
+quietly cargo build --release --offline --manifest-path docs/speed/whole/Cargo.toml --target-dir "$work/target" \
+  --config 'source.crates-io.replace-with="here"' --config "source.here.directory=\"$crates\""
+cp "$work/target/release/whole" "$work/plain"
+
+# Writes the files of a size: 0 is the full one.
+write_files() {
+  local most=${1/#0/1000000} calls=${1/#0/500000}
+  "$work/core_steps" steps="$most" sweeps=50 stripes=256 keys=60000 >"$work/replay.json" 2>/dev/null
+  "$work/core_steps" steps=1000000 stripes=256 keys=60000 >"$work/long.json" 2>/dev/null
+  "$work/plain" history "$work/long.json" "$most" >"$work/check.json"
+  docs/speed/scripts.sh every "$calls" 8 >"$work/mix.json"
+}
+
+# The processor milliseconds of one run of a program, and the most memory of one in KB.
+costs() {
+  local program=$1 runs=$2 seconds
+  shift 2
+  seconds=$({ time for _ in $(seq "$runs"); do "$work/$program" "$@" >"$work/$program.text"; done; } 2>&1)
+  /usr/bin/time -o "$work/peak" -f %M "$work/$program" "$@" >"$work/$program.text"
+  echo "$seconds $runs $(cat "$work/peak")" | awk '{ print 1000 * ($1 + $2) / $3, $4 }'
+}
+
+TIMEFORMAT='%U %S'
+rustc -O -o "$work/core_steps" docs/speed/core_steps.rs 2>/dev/null
+printf '%-7s %8s %9s %9s %9s %6s %7s %7s %6s\n' command pieces bytes proved plain ratio MB plain ratio
+for size in 1000 10000 100000 0; do
+  write_files $size
+  for command in replay check mix; do
+    file=$work/$command.json
+    words=("$command")
+    [ $command = mix ] && words+=(--seed 7)
+    rm -f "$work/proved.costs" "$work/plain.costs"
+    for _ in $(seq "$rounds"); do
+      for program in proved plain; do
+        costs $program $((1 + 20000 / (size + 1000) + (size == 0 ? -20 : 0))) "${words[@]}" "$file" >>"$work/$program.costs"
+      done
+    done
+    cmp "$work/proved.text" "$work/plain.text"
+    middle=$(((rounds + 1) / 2))
+    for program in proved plain; do
+      echo "$(sort -n "$work/$program.costs" | sed -n "${middle}p") "
+    done | tr -d '\n' | awk -v command=$command -v bytes="$(wc -c <"$file")" \
+      -v pieces="$(($(tr -cd '[' <"$file" | wc -c) - 1))" '{
+        printf "%-7s %8d %9d %9.2f %9.2f %6.2f %7.1f %7.1f %6.2f\n", command, pieces, bytes, $1, $3, $1 / $3, $2 / 1024, $4 / 1024,
+          $2 / $4 }'
+  done
+done

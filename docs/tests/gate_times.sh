@@ -1,0 +1,50 @@
+#!/usr/bin/env bash
+# Runs the gate and prints, for each crate, how many processor seconds its proofs took, its tests' proofs, and its wrong bodies.
+# Nothing else of this user may run `rt` meanwhile. What a process used after it was last looked at, in its last second, is not
+# seen; the last line has what the system counted in all.
+# Usage: docs/tests/gate_times.sh [COMMAND..]; without one .ci/run
+set -euo pipefail
+cd "$(dirname "${BASH_SOURCE[0]}")/../.."
+work=$(mktemp -d)
+trap 'rm -rf "$work"' EXIT
+
+# A line for each prover that runs: its number, its seconds, its crate, and what it proves.
+look() {
+  local process seconds words kind
+  while read -r process seconds words; do
+    [[ $words =~ rattle\ check.*\ --crate-name\ ([a-z_0-9]+) ]] || continue
+    case "$(readlink "/proc/$process/cwd" 2>&1) $words" in
+      /tmp/rt-edit-*) kind=bodies ;;
+      *' --test '*) kind=tests ;;
+      *) kind=proofs ;;
+    esac
+    echo "$process $seconds ${BASH_REMATCH[1]} $kind"
+  done < <(ps -eo pid=,cputimes=,args= -ww)
+}
+
+TIMEFORMAT='%U %S'
+{ time "${@:-.ci/run}" >"$work/log" 2>&1; } 2>"$work/time" &
+gate=$!
+while kill -0 $gate 2>/dev/null; do
+  look >>"$work/seen"
+  sleep 1
+done
+status=0
+wait $gate || status=$?
+tail -1 "$work/log"
+printf '%-16s %8s %8s %8s %8s\n' crate proofs tests bodies all
+awk '
+  # A process that has another crate or kind than before, or fewer seconds, is another one.
+  { key = $1 " " $3 " " $4
+    if (key in last && $2 < last[key]) sum[$3, $4] += last[key]
+    last[key] = $2
+    crates[$3] }
+  END {
+    for (key in last) { split(key, part, " "); sum[part[2], part[3]] += last[key] }
+    for (crate in crates) {
+      all = sum[crate, "proofs"] + sum[crate, "tests"] + sum[crate, "bodies"]
+      printf "%-16s %8d %8d %8d %8d\n", crate, sum[crate, "proofs"], sum[crate, "tests"], sum[crate, "bodies"], all
+    }
+  }' "$work/seen" | sort -k5,5nr
+awk '{ printf "counted in all: %d processor minutes\n", ($1 + $2) / 60 }' "$work/time"
+exit $status
