@@ -64,7 +64,7 @@ returns-in_default-step c = record {
       let second = gets c.get.new.self c.get-2.new.self c.args.caller base c.args.to c.in-Done-get.has first.0 c.in-Done-get.ensures in
       let third = puts c.get-2.new.self c.put.new.self c.args.caller base c.args.from c.in-Some.less c.in-Done-put.field-0 second.0 c.in-Done-put.ensures in
       let fourth = puts c.put.new.self c.put-2.new.self c.args.caller base c.args.to c.in-Some-checked_add.more c.in-Done-put-2.field-0 third.0 c.in-Done-put-2.ensures in
-      not_committed c.put-2.new.self c.step.new.self c.args.caller base c.step.result fourth.0 c.in_default-step.not-Committed c.step.ensures;
+      not_committed c.put-2.new.self c.step.new.self c.args.caller base c.step.result fourth.0 c.in_default-step.not-Committed c.step.ensures.moves;
 }
 
 pub returns-clause-moved : goal.returns-clause-moved

@@ -6,7 +6,7 @@ use Rattle.bank.proofs.Steps.{begins, not_begun, aborts}
 use Rattle.bank.proofs.transfer.transfer.Goals as goal
 
 pub returns-in_default-clause-kept : goal.returns-in_default-clause-kept
-returns-in_default-clause-kept c = λ is. not_begun c.args.core.now c.step.new.self c.args.caller c.step.result c.in_default.not-Began c.step.ensures
+returns-in_default-clause-kept c = λ is. not_begun c.args.core.now c.step.new.self c.args.caller c.step.result c.in_default.not-Began c.step.ensures.moves
 
 pub returns-then-not-is_moved-clause-kept : goal.returns-then-not-is_moved-clause-kept
 returns-then-not-is_moved-clause-kept c = λ is.
