@@ -1,5 +1,5 @@
 -- What a step at a key does to the table.
-use Rattle.std.proofs.Common.{◌≡◌, ℕ, ◌<◌, ◌^◌, List, [], ◌∷◌, Some, None, true, false, sym, ◌∙◌, ap, subst}
+use Rattle.std.proofs.Common.{◌≡◌, ℕ, List, [], ◌∷◌, Some, None, true, false, sym, ◌∙◌, ap, subst}
 use Rattle.node_list.specs.declared.node.Kind.TheVariants.{Regular}
 use Rattle.node_list.specs.Nodes.{NodeAt, Listing, linked_after, marked_at, node_of, written_at}
 use Rattle.node_list.specs.Sound.{IsSound}
@@ -22,7 +22,7 @@ use Rattle.map_ops.proofs.ContentLemmas.{rises-pairs, map_of-linked, map_of-writ
 use Rattle.map_ops.proofs.KeepLemmas.{same_buckets}
 use Rattle.map_ops.proofs.BelongLemmas.{belong_linked, belong_marked, belong_written, has_dummy-marked, has_dummy-written, has_dummy-regular, linked_same}
 
-module _ (old new : Listing) (key : ℕ) (sound : IsSound old) (after : IsSound new) (belong : Belong old.nodes) (small : key < 2 ^ 63) where
+module _ (old new : Listing) (key : ℕ) (sound : IsSound old) (after : IsSound new) (belong : Belong old.nodes) where
   old_rises : Rises (pairs old.nodes)
   old_rises = rises-pairs old.nodes sound.rising belong.keyed
 
@@ -93,7 +93,7 @@ module _ (old new : Listing) (key : ℕ) (sound : IsSound old) (after : IsSound 
 
   module _ (x : NodeAt) (kind : x.kind ≡ Regular) (unmarked : x.marked ≡ false) (place : x.at ≡ regular_at key) where
     pub links_belong : (pred : ℕ) → Links old new pred x → Belong new.nodes
-    links_belong pred links = subst Belong (sym links.takes.nodes) (belong_linked old.nodes pred x key belong kind small place)
+    links_belong pred links = subst Belong (sym links.takes.nodes) (belong_linked old.nodes pred x key belong kind place)
 
     -- A key that is linked is there, with the node's value.
     pub links_sets : (pred : ℕ) → HasRoom old key pred → Links old new pred x → (buckets : Directory) → Sets (table_of old buckets) (table_of new buckets) key (Some x.value)

@@ -1,7 +1,6 @@
 -- What the parts of the table's calls do.
-use Rattle.std.specs.Prelude.{◌≡◌, ℕ, ◌<◌, ◌-◌, ◌^◌, Option, Some, None, List}
-use Rattle.std.specs.Option.{option_map}
-use Rattle.node_list.specs.Nodes.{Listing, NodeAt, node_of}
+use Rattle.std.specs.Prelude.{◌≡◌, ℕ, ◌<◌, ◌-◌, ◌^◌, Option, Some, None}
+use Rattle.node_list.specs.Nodes.{Listing, NodeAt}
 use Rattle.node_list.specs.Order.{IsVacant}
 use Rattle.list_steps.specs.Content.{pairs}
 use Rattle.split_key.specs.Sort.{regular_at}
@@ -35,11 +34,6 @@ Stands l key pred (Some place) = HasNode l key place
 abbrev pub place_in : ℕ → Option ℕ → ℕ
 place_in pred None = pred
 place_in pred (Some place) = place
-
--- The value of the node at this place, if there is one.
-abbrev pub value_in : List NodeAt → Option ℕ → Option ℕ
-value_in nodes None = None
-value_in nodes (Some place) = option_map (λ (n : NodeAt). n.value) (node_of nodes place)
 
 -- A spare is given, and nothing else but the last stamp has changed.
 pub record GivesOne (old new : TableAt) (spare : SpareAt) : Type 0 where

@@ -1,9 +1,10 @@
 //! What is done to the list of a table. Each contract holds of the table with any buckets.
 //!
 //! A line `let _turn = list.changes();` has the prover know that the change number fits its 64 bits.
-ghost use Rattle.std.specs.Prelude.{◌≡◌, ℕ, ◌<◌, ◌≤◌, ◌^◌, Option, Some, None, is_ok, IfOk, IfErr, OnErr};
+ghost use Rattle.std.specs.Prelude.{◌≡◌, ℕ, ◌<◌, ◌≤◌, ◌^◌, Option, Some, None, is_ok, nat_eq, IfOk, IfErr, OnErr};
+ghost use Rattle.std.specs.Option.{option_eq};
 ghost use Rattle.node_list.specs.Follow.{Follows};
-ghost use Rattle.node_list.specs.Nodes.{IsLinked, IsOut};
+ghost use Rattle.node_list.specs.Nodes.{IsOut};
 ghost use Rattle.node_list.specs.Sound.{IsSound};
 ghost use Rattle.list_steps.specs.Content.{pairs};
 ghost use Rattle.list_steps.specs.Found.{IsPlaced, at_of, fits, pred_of};
@@ -11,13 +12,13 @@ ghost use Rattle.split_key.specs.Sort.{regular_at};
 ghost use Rattle.bucket_table.specs.Directory.{Directory};
 ghost use Rattle.bucket_table.specs.Home.{IsHome};
 ghost use Rattle.txn_trace.specs.Map.{get, key_of};
-ghost use Rattle.map_ops.specs.declared.pending.Plan.TheVariants.{Take as TakePlan};
+ghost use Rattle.map_ops.specs.declared.pending.Plan.TheVariants.{PutIf as PutIfPlan, Take as TakePlan};
 ghost use Rattle.map_ops.specs.TableAt.{KeepsSpares, map_of, table_of};
 ghost use Rattle.map_ops.specs.Jobs.{IsDue, key_of_job, spare_of_job, unput};
 ghost use Rattle.map_ops.specs.Plans.{pending_of};
 ghost use Rattle.map_ops.specs.Changes.{Does, GivesBack, IsRefused, OwnsIf, Places, Prepares, SeeksNear, Spends, TakesBack};
 ghost use Rattle.map_ops.specs.Nodes.{JobWrites, LinksNode, MarksNode, OpWrites, PutWrites, TakeWrites, WritesNode, node_for};
-ghost use Rattle.map_ops.specs.Steps.{GivesOne, HasNode, HasRoom, IsLacking, Sets, Stands, place_in, value_in};
+ghost use Rattle.map_ops.specs.Steps.{GivesOne, HasNode, HasRoom, IsLacking, Sets, Stands, place_in};
 ghost use Rattle.map_ops.specs.Sound.{Belong};
 
 use crate::job::MapJob;
@@ -102,17 +103,6 @@ pub(crate) fn find(list: &NodeList, cursor: &Cursor, key: Key) -> Result<Option<
 {
     let _turn = list.changes();
     look(list, cursor)
-}
-
-/// The value of a node, if there is one.
-fn value_at(list: &NodeList, there: Option<NodeRef>) -> Reply
-    requires { (place : ℕ) → there ≡ Some place → IsLinked list.now.nodes place }
-    ensures { result ≡ value_in list.now.nodes there }
-{
-    match there {
-        None => None,
-        Some(node) => Some(list.node(node).value),
-    }
 }
 
 /// Links a node of an absent key.
@@ -206,6 +196,13 @@ pub(crate) fn give_up_job(list: &mut NodeList, job: MapJob)
     }
 }
 
+/// Whether a key had what is expected.
+fn is_expected(was: Reply, expected: Reply) -> bool
+    ensures { result ≡ option_eq nat_eq was expected }
+{
+    was == expected
+}
+
 /// Puts a value, and answers what the key had with what takes the change back.
 fn put_key(
     list: &mut NodeList,
@@ -214,13 +211,13 @@ fn put_key(
     key: Key,
     value: u64,
     spare: Spare,
-) -> (Reply, MapJob)
+) -> (Reply, Option<MapJob>)
     requires sound { IsSound list.old }
     requires belong { Belong list.old.nodes }
     requires stands { Stands list.old key pred there }
     requires owned { IsOut list.old spare }
     ensures was { get (map_of (pairs list.old.nodes)) key ≡ result.0 }
-    ensures job { unput key result.0 ≡ Some result.1 }
+    ensures job { result.1 ≡ unput key result.0 }
     ensures sets { (buckets : Directory)
         → Sets (table_of list.old buckets) (table_of list.new buckets) key (Some value) }
     ensures spares { (buckets : Directory)
@@ -232,13 +229,48 @@ fn put_key(
     match there {
         None => {
             link_key(list, pred, key, value, spare);
-            (None, MapJob::Unput(key))
+            (None, Some(MapJob::Unput(key)))
         }
         Some(node) => {
             let old = swap_key(list, node, key, value);
             give_back(list, spare);
-            (Some(old), MapJob::Restore(key, old))
+            (Some(old), Some(MapJob::Restore(key, old)))
         }
+    }
+}
+
+/// Puts a value where the key has what is expected; else leaves it.
+fn put_if_key(
+    list: &mut NodeList,
+    pred: NodeRef,
+    there: Option<NodeRef>,
+    key: Key,
+    expected: Reply,
+    value: u64,
+    spare: Spare,
+) -> (Reply, Option<MapJob>)
+    requires sound { IsSound list.old }
+    requires belong { Belong list.old.nodes }
+    requires stands { Stands list.old key pred there }
+    requires owned { IsOut list.old spare }
+    ensures does { (buckets : Directory)
+        → Does (table_of list.old buckets) (table_of list.new buckets)
+        (pending_of (PutIfPlan key expected value spare)) result.0 result.1 }
+    ensures writes { OpWrites list.old list.new
+        (pending_of (PutIfPlan key expected value spare)).op (Some spare)
+        (get (map_of (pairs list.old.nodes)) key) }
+    ensures belong { Belong list.new.nodes }
+    ensures follows { Follows list.old list.new }
+{
+    let was = match there {
+        None => None,
+        Some(node) => Some(list.node(node).value),
+    };
+    if is_expected(was, expected) {
+        put_key(list, pred, there, key, value, spare)
+    } else {
+        give_back(list, spare);
+        (was, None)
     }
 }
 
@@ -256,7 +288,7 @@ fn take_key(
     requires owned { IsOut list.old spare }
     ensures does { (buckets : Directory)
         → Does (table_of list.old buckets) (table_of list.new buckets)
-            (pending_of (TakePlan key spare)) result.0 result.1 }
+        (pending_of (TakePlan key spare)) result.0 result.1 }
     ensures writes { TakeWrites list.old list.new key (get (map_of (pairs list.old.nodes)) key) }
     ensures belong { Belong list.new.nodes }
     ensures follows { Follows list.old list.new }
@@ -288,29 +320,22 @@ pub(crate) fn change(
         → OwnsIf (table_of list.old buckets) (pending_of plan).spare }
     ensures does { (buckets : Directory)
         → Does (table_of list.old buckets) (table_of list.new buckets) (pending_of plan)
-            result.0 result.1 }
+        result.0 result.1 }
     ensures writes { OpWrites list.old list.new (pending_of plan).op (pending_of plan).spare
         (get (map_of (pairs list.old.nodes)) (key_of (pending_of plan).op)) }
     ensures belong { Belong list.new.nodes }
     ensures follows { Follows list.old list.new }
 {
     match plan {
-        Plan::Put(key, value, spare) => {
-            let (was, job) = put_key(list, pred, there, key, value, spare);
-            (was, Some(job))
-        }
+        Plan::Put(key, value, spare) => put_key(list, pred, there, key, value, spare),
         Plan::PutIf(key, expected, value, spare) => {
-            let was = value_at(list, there);
-            if was == expected {
-                let (_, job) = put_key(list, pred, there, key, value, spare);
-                (was, Some(job))
-            } else {
-                give_back(list, spare);
-                (was, None)
-            }
+            put_if_key(list, pred, there, key, expected, value, spare)
         }
         Plan::Take(key, spare) => take_key(list, pred, there, key, spare),
-        Plan::Get(_) => (value_at(list, there), None),
+        Plan::Get(_) => match there {
+            None => (None, None),
+            Some(node) => (Some(list.node(node).value), None),
+        },
     }
 }
 

@@ -5,9 +5,7 @@ ghost use Rattle.map_ops.specs.Jobs.{IsDue, key_of_job, spare_of_job};
 ghost use Rattle.map_ops.specs.Changes.{OwnsIf, ShowsAfter};
 ghost use Rattle.map_ops.specs.TableAt.{Follows, KeepsSpares};
 
-use crate::{
-    Act, Double, InitLink, InitSeek, MapJob, Pending, SweepOutcome, Table, Undo,
-};
+use crate::{Act, Double, InitLink, InitSeek, MapJob, Pending, SweepOutcome, Table, Undo};
 use std::alloc::{AllocError, Global};
 use std::process::Abort;
 use std::test::Fail;
