@@ -1,5 +1,5 @@
 -- Cursors that fit, and cursors that were placed.
-use Rattle.std.proofs.Common.{◌≡◌, ℕ, ◌<◌, ◌≤◌, inl, inr, List, Option, Some, None, Bool, true, false, refl, sym, ◌∙◌, ap, subst, arith, ◌==◌, ◌&&◌, not}
+use Rattle.std.proofs.Common.{◌≡◌, ℕ, inl, inr, List, Option, Some, None, Bool, true, false, refl, sym, ◌∙◌, ap, subst, arith, ◌==◌, ◌&&◌, not}
 use Rattle.std.proofs.lemmas.Bool.Decides.{eqb_tells}
 use Rattle.split_key.specs.Sort.{IsBefore, IsNotBefore}
 use Rattle.split_key.proofs.SortLemmas.{before_total, cases_before, cases_same}

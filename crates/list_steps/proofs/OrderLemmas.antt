@@ -1,5 +1,5 @@
 -- The place of a sort key in a list in order.
-use Rattle.std.proofs.Common.{◌≡◌, ◌≢◌, ℕ, ◌<◌, List, [], ◌∷◌, ◌++◌, Some, refl, sym, ◌∙◌, subst, arith}
+use Rattle.std.proofs.Common.{◌≡◌, ◌≢◌, ℕ, List, [], ◌∷◌, ◌++◌, Some, refl, sym, ◌∙◌, subst}
 use Rattle.std.specs.List.{AllByRecursion}
 use Rattle.node_list.specs.Nodes.{NodeAt, node_of, next_of, first}
 use Rattle.node_list.specs.Order.{IsNodeBefore, IsRising}

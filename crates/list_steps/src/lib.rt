@@ -18,7 +18,7 @@
 //! change of the list keeps what makes it safe (`IsPlaced`, by the lemma `still_placed`).
 //!
 //! A cursor is tested once: where it fits `look` answers the node of the sort key, or that there is
-//! none, and `link`, `mark` and `swap` go by that.
+//! none, and `link_at`, `mark_at` and `swap_at` go by that. `link`, `mark` and `swap` are both at once.
 //!
 //! A contract sees the list as `node_list` does, and its content as `pairs`: key and value of each
 //! regular, unmarked node, in order. A link of a regular node puts its pair in, a mark takes a pair
@@ -28,6 +28,7 @@
 //! from its start to its place once, and a sweep walks to the first marked node.
 #![tactic(auto)]
 
+mod at_cursor;
 mod cursor;
 mod search;
 mod steps;
@@ -35,7 +36,8 @@ mod sweeps;
 #[cfg(test)]
 mod tests;
 
+pub use at_cursor::{link, mark, swap};
 pub use cursor::{Again, Cursor};
 pub use search::seek;
-pub use steps::{link, look, mark, swap};
+pub use steps::{link_at, look, mark_at, swap_at};
 pub use sweeps::{SweepOutcome, sweep};

@@ -26,8 +26,9 @@ fn node_there(list: &NodeList, cursor: &Cursor) -> Option<NodeRef>
 /// is regular its pair is in the content. `None` says that no linked node, marked or not, has the
 /// sort key, which belongs right behind `cursor.pred()`.
 ///
-/// What is done next goes by the answer alone, until the list changes: `link` behind
-/// `cursor.pred()` where there is no node, `mark` or `swap` at a regular one.
+/// What is done next goes by the answer alone, until the list changes: `link_at` behind
+/// `cursor.pred()` where there is no node, `mark_at` or `swap_at` at a
+/// regular one.
 ///
 /// # Errors
 ///
@@ -58,7 +59,7 @@ pub fn look(list: &NodeList, cursor: &Cursor) -> Result<Option<NodeRef>, Again>
 /// # Cost
 ///
 /// A fixed number of look-ups.
-pub fn link(list: &mut NodeList, pred: NodeRef, spare: Spare) -> NodeRef
+pub fn link_at(list: &mut NodeList, pred: NodeRef, spare: Spare) -> NodeRef
     requires out { IsOut list.old spare }
     requires vacant { IsVacant list.old.nodes pred spare.at }
     ensures links { Links list.old list.new pred (filled spare) }
@@ -78,7 +79,7 @@ pub fn link(list: &mut NodeList, pred: NodeRef, spare: Spare) -> NodeRef
 /// # Cost
 ///
 /// A fixed number of look-ups.
-pub fn mark(list: &mut NodeList, node: NodeRef) -> u64
+pub fn mark_at(list: &mut NodeList, node: NodeRef) -> u64
     requires { IsRegularAt list.old.nodes node }
     ensures marks { Marks list.old list.new node result }
     ensures follows { Follows list.old list.new }
@@ -95,7 +96,7 @@ pub fn mark(list: &mut NodeList, node: NodeRef) -> u64
 /// # Cost
 ///
 /// A fixed number of look-ups.
-pub fn swap(list: &mut NodeList, node: NodeRef, value: u64) -> u64
+pub fn swap_at(list: &mut NodeList, node: NodeRef, value: u64) -> u64
     requires { IsRegularAt list.old.nodes node }
     ensures swaps { Swaps list.old list.new node result value }
     ensures follows { Follows list.old list.new }

@@ -1,6 +1,6 @@
 use Rattle.node_list.specs.Nodes.{filled}
 use Rattle.list_steps.proofs.StepLemmas.{links}
-use Rattle.list_steps.proofs.steps.link.Goals as goal
+use Rattle.list_steps.proofs.steps.link_at.Goals as goal
 
 pub returns-clause-links : goal.returns-clause-links
 returns-clause-links c =

@@ -1,6 +1,6 @@
 use Rattle.node_list.proofs.NodesLemmas.{found_linked}
 use Rattle.list_steps.proofs.StepLemmas.{marks}
-use Rattle.list_steps.proofs.steps.mark.Goals as goal
+use Rattle.list_steps.proofs.steps.mark_at.Goals as goal
 
 pub node-requires : goal.node-requires
 node-requires c = found_linked _ _ _ c.requires.is

@@ -1,0 +1,101 @@
+//! What is done where a cursor stands: the test and the step in one call.
+ghost use Rattle.std.specs.Prelude.{◌≡◌, ◌<◌, ◌-◌, ◌^◌, is_ok, IsOk, IfOk, IfErr, OnOk, OnErr};
+ghost use Rattle.node_list.specs.Nodes.{IsOut, filled};
+ghost use Rattle.node_list.specs.Follow.{Follows};
+ghost use Rattle.list_steps.specs.Found.{IsKeyThere, IsPlaced, IsRoomFor, at_of, changes_of, fits, pred_of};
+ghost use Rattle.list_steps.specs.Steps.{Links, MarksThere, SwapsThere};
+
+use crate::cursor::{Again, Cursor};
+use crate::steps::{link_at, look, mark_at, swap_at};
+use node_list::{NodeList, NodeRef, Spare};
+
+/// Links the node of a spare where the cursor is, and answers that node. The spare is this list's
+/// and filled with the sort key sought; where the cursor fits, no node may have that sort key, as
+/// `look` tells.
+///
+/// The content gains the pair of a regular node; a dummy keeps it as it was. Takes no memory.
+///
+/// # Errors
+///
+/// `Again` exactly where the cursor does not fit; then nothing changes, and the spare comes back.
+///
+/// # Cost
+///
+/// A fixed number of look-ups.
+pub fn link(list: &mut NodeList, cursor: Cursor, spare: Spare) -> Result<NodeRef, (Again, Spare)>
+    requires out { IsOut list.old spare }
+    requires filled { spare.at ≡ at_of cursor }
+    requires placed { IsPlaced list.old cursor }
+    requires room { IsRoomFor list.old cursor }
+    ensures again { is_ok result ≡ fits list.old cursor }
+    ensures unchanged_since { list.old.changes ≡ changes_of cursor
+        → list.old.changes < 2 ^ 64 - 1 → IsOk result }
+    ensures ok { OnOk result (Links list.old list.new (pred_of cursor) (filled spare)) }
+    ensures place { IfOk result (λ node. node ≡ spare.place) }
+    ensures unchanged { OnErr result (list.new ≡ list.old) }
+    ensures back { IfErr result (λ e. e.1 ≡ spare) }
+    ensures follows { Follows list.old list.new }
+{
+    if cursor.is_fitting(list) {
+        Ok(link_at(list, cursor.pred(), spare))
+    } else {
+        Err((Again, spare))
+    }
+}
+
+/// Marks the regular node of the sort key sought, and answers its value. Where the cursor fits,
+/// that node has to be there, as `look` tells.
+///
+/// Its pair leaves the content. The node stays linked until a seek passes it or a sweep comes to it.
+/// Takes no memory.
+///
+/// # Errors
+///
+/// `Again` exactly where the cursor does not fit; then nothing changes.
+///
+/// # Cost
+///
+/// A fixed number of look-ups.
+pub fn mark(list: &mut NodeList, cursor: Cursor) -> Result<u64, Again>
+    requires placed { IsPlaced list.old cursor }
+    requires there { IsKeyThere list.old cursor }
+    ensures again { is_ok result ≡ fits list.old cursor }
+    ensures unchanged_since { list.old.changes ≡ changes_of cursor
+        → list.old.changes < 2 ^ 64 - 1 → IsOk result }
+    ensures ok { IfOk result (MarksThere list.old list.new cursor) }
+    ensures unchanged { OnErr result (list.new ≡ list.old) }
+    ensures follows { Follows list.old list.new }
+{
+    match look(list, &cursor)? {
+        Some(node) => Ok(mark_at(list, node)),
+        None => unreachable!(),
+    }
+}
+
+/// Writes a value into the regular node of the sort key sought, and answers the value that it had.
+/// Where the cursor fits, that node has to be there, as `look` tells.
+///
+/// In the content its pair has the new value, at its old place. Takes no memory.
+///
+/// # Errors
+///
+/// `Again` exactly where the cursor does not fit; then nothing changes.
+///
+/// # Cost
+///
+/// A fixed number of look-ups.
+pub fn swap(list: &mut NodeList, cursor: Cursor, value: u64) -> Result<u64, Again>
+    requires placed { IsPlaced list.old cursor }
+    requires there { IsKeyThere list.old cursor }
+    ensures again { is_ok result ≡ fits list.old cursor }
+    ensures unchanged_since { list.old.changes ≡ changes_of cursor
+        → list.old.changes < 2 ^ 64 - 1 → IsOk result }
+    ensures ok { IfOk result (λ was. SwapsThere list.old list.new cursor was value) }
+    ensures unchanged { OnErr result (list.new ≡ list.old) }
+    ensures follows { Follows list.old list.new }
+{
+    match look(list, &cursor)? {
+        Some(node) => Ok(swap_at(list, node, value)),
+        None => unreachable!(),
+    }
+}
