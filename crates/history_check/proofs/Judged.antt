@@ -7,7 +7,7 @@ use Rattle.txn_trace.specs.declared.entry.Entry.TheVariants.{Did, Undone}
 use Rattle.txn_trace.specs.Locks.{is_locked}
 use Rattle.txn_trace.specs.declared.seat.Phase.{Phase}
 use Rattle.txn_trace.specs.declared.seat.Phase.TheVariants.{Waiting}
-use Rattle.txn_trace.specs.Shape.{Seat, row, seat_after, own, is_numbered, is_shaped}
+use Rattle.txn_trace.specs.Shape.{is_shaped}
 use Rattle.txn_trace.specs.Legal.{IsLegal, replies_hold, broken}
 use Rattle.txn_trace.proofs.Breaking.{is_right, replies_hold-push}
 use Rattle.txn_trace.proofs.Entries.{length-log_of}

@@ -6,7 +6,6 @@ use Rattle.serde_json.specs.Data.{Num, unsigned, negative, float, Data, null, bo
 use Rattle.serde_json.specs.Read.{of_json, of_items, of_members, converted}
 use Rattle.piece_files.specs.declared.plain.Plain.{Plain}
 use Rattle.piece_files.specs.Plain.{data_of}
-use Rattle.piece_files.specs.Faults.{◌>>=◌}
 use Rattle.piece_files.specs.declared.part.Part.{Part}
 use Rattle.piece_files.specs.declared.piece.Pieces.{Pieces}
 use Rattle.std.specs.Prelude.{Result, Ok, Err}

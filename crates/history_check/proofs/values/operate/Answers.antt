@@ -1,7 +1,7 @@
-use Rattle.std.proofs.Common.{◌≡◌, ◌∙◌, Some, None, cond, true, nat_eq, nat_cmp, ap, sym, subst, rules, arith}
+use Rattle.std.proofs.Common.{◌≡◌, ◌∙◌, Some, None, cond, true, nat_eq, nat_cmp, ap, sym, subst, rules}
 use Rattle.std.specs.Option.{option_eq}
 use Rattle.std.specs.BTreeMap.{get as value_at}
-use Rattle.txn_trace.specs.Map.{get, insert}
+use Rattle.txn_trace.specs.Map.{insert}
 use Rattle.history_check.specs.Values.{Has}
 use Rattle.history_check.proofs.OneKey.{has-set_at}
 use Rattle.history_check.proofs.values.operate.Goals as goal

@@ -1,4 +1,4 @@
-use Rattle.std.proofs.Common.{◌≡◌, map, sym, ap, subst, ◌∙◌, arith}
+use Rattle.std.proofs.Common.{map, sym, ap, subst, ◌∙◌, arith}
 use Rattle.piece_files.specs.Faults.{◌>>=◌, Fails, Gives, or_fault}
 use Rattle.piece_files.specs.Files.{FileKind, contents_of}
 use Rattle.piece_files.specs.Pieces.{pieces_member, old_of}

@@ -1,4 +1,4 @@
-use Rattle.std.proofs.Common.{refl, sym, ◌∙◌, true, false}
+use Rattle.std.proofs.Common.{refl, sym, true, false}
 use Rattle.txn_trace.specs.declared.entry.Entry.TheVariants.{Asked}
 use Rattle.history_check.specs.Callers.{seat_of}
 use Rattle.history_check.proofs.EachKind.{next-asked, broken_by}

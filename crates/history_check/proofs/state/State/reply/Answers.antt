@@ -1,4 +1,4 @@
-use Rattle.std.proofs.Common.{◌≡◌, Some, ◌+◌, ◌∷◌, cond, refl, sym, ap, ◌∙◌, Result, Ok, Err}
+use Rattle.std.proofs.Common.{◌≡◌, Some, ◌∷◌, cond, refl, sym, ap, ◌∙◌, Result, Ok, Err}
 use Rattle.std.specs.Result.{OnErr}
 use Rattle.txn_trace.specs.declared.entry.Entry.TheVariants.{Did}
 use Rattle.txn_trace.specs.Map.{key_of}

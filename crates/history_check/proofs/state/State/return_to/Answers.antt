@@ -1,4 +1,4 @@
-use Rattle.std.proofs.Common.{refl, sym, ◌∙◌}
+use Rattle.std.proofs.Common.{refl, sym}
 use Rattle.txn_trace.specs.declared.entry.Entry.TheVariants.{Returned}
 use Rattle.history_check.specs.Callers.{seat_of}
 use Rattle.history_check.proofs.EachKind.{next-returned}
