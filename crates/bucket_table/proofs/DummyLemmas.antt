@@ -146,9 +146,9 @@ dummy_there n bucket fits keyed same = go n.kind refl
     go Dummy is = is
     go Regular is =
         let own = keyed is in
-        let odd = split_odd n.at.key own.0 in
+        let odd = split_odd n.at.key in
         let even = reversed_even bucket (omega arith) in
-        let parity : split n.at.key ≡ reversed bucket = ap (λ (at : SortKey). at.split) (sym own.1 ∙ same) in
+        let parity : split n.at.key ≡ reversed bucket = ap (λ (at : SortKey). at.split) (sym own ∙ same) in
         absurd (omega (arith, odd, even, parity))
 
 -- A dummy is no regular node.

@@ -6,7 +6,7 @@ use Rattle.node_list.specs.declared.spare.SpareFault.{SpareFault}
 use Rattle.node_list.specs.declared.spare.SpareFault.TheVariants.{Worn, NoMemory as SpareNoMemory}
 use Rattle.node_list.specs.Nodes.{NodeAt, Listing, SpareAt, GivesOut, IsLinked, out_at, one_more, linked_after}
 use Rattle.list_steps.specs.declared.cursor.Cursor.{Cursor}
-use Rattle.list_steps.specs.Found.{at_of, fits, pred_of}
+use Rattle.list_steps.specs.Found.{at_of, fits}
 use Rattle.list_steps.specs.Steps.{IsThere, IsAbsent, Links}
 use Rattle.split_key.specs.declared.sort.SortKey.{SortKey}
 use Rattle.split_key.specs.Sort.{dummy_at}
@@ -29,15 +29,15 @@ pub unlinked : (before after : Listing) (fault : SpareFault) → (◌≡◌ {A =
 unlinked before after Worn worn same = (same, worn.0 refl)
 unlinked before after SpareNoMemory worn same = (same, λ last. absurd (cc (worn.1 last)))
 
-module _ (before middle after : Listing) (cursor : Cursor) (bucket place stamp : ℕ) where
+module _ (before middle after : Listing) (pred bucket place stamp : ℕ) where
   -- The spare is linked as the bucket's dummy.
-  pub links_at : GivesOut before middle place stamp → stamp ≡ before.last + 1 → before.last ≢ 2 ^ 64 - 2 → bucket < 2 ^ 32 → IsLinked middle.nodes (pred_of cursor)
-      → (x : NodeAt) → x ≡ dummy_node place bucket stamp → Links middle after cursor x → LinksAt before after cursor bucket place
+  pub links_at : GivesOut before middle place stamp → stamp ≡ before.last + 1 → before.last ≢ 2 ^ 64 - 2 → bucket < 2 ^ 32 → IsLinked middle.nodes pred
+      → (x : NodeAt) → x ≡ dummy_node place bucket stamp → Links middle after pred x → LinksAt before after pred bucket place
   links_at given next last fits linked x is links =
       let at_place : x.place ≡ place = ap (λ (v : NodeAt). v.place) is in
       record {
-        linked = subst (λ ns. IsLinked ns (pred_of cursor)) given.nodes linked;
-        nodes = links.takes.nodes ∙ ap (λ ns. linked_after ns (pred_of cursor) x) given.nodes ∙ ap (λ v. linked_after before.nodes (pred_of cursor) v) (is ∙ ap (λ s. dummy_node place bucket s) next);
+        linked = subst (λ ns. IsLinked ns pred) given.nodes linked;
+        nodes = links.takes.nodes ∙ ap (λ ns. linked_after ns pred x) given.nodes ∙ ap (λ v. linked_after before.nodes pred v) (is ∙ ap (λ s. dummy_node place bucket s) next);
         dummy = record {
           node = x;
           is = rw (← at_place) links.linked;
@@ -53,7 +53,7 @@ module _ (before middle after : Listing) (cursor : Cursor) (bucket place stamp :
           | inr apart ↦ links.takes.others other (λ same. apart (same ∙ at_place)) ∙ given.others other apart
         ];
         dummies = λ other other_fits.
-            let more = has_dummy-linked_after middle.nodes (pred_of cursor) x other linked in
+            let more = has_dummy-linked_after middle.nodes pred x other linked in
             let own = ap (λ v. is_dummy_of other v) is ∙ is_dummy_of-dummy_node place bucket stamp other fits other_fits in
             ap (λ ns. has_dummy ns other) links.takes.nodes ∙ more ∙ ap (λ b. b || has_dummy middle.nodes other) own ∙ ap (λ ns. (bucket == other) || has_dummy ns other) given.nodes;
       }

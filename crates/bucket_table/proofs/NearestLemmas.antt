@@ -61,13 +61,13 @@ module _ (d : Directory) (l : Listing) (bucket place : ℕ) (home : IsHome d l) 
     ];
   }
 
-  pub nearest_start : IsPowerOfTwo d.size → d.size < 2 ^ 32 → (key : ℕ) → key < 2 ^ 63 → key % d.size ≡ bucket → IsStart l.nodes place (regular_at key)
-  nearest_start power fits key small in_bucket =
+  pub nearest_start : IsPowerOfTwo d.size → d.size < 2 ^ 32 → (key : ℕ) → key % d.size ≡ bucket → IsStart l.nodes place (regular_at key)
+  nearest_start power fits key in_bucket =
       let bits = power.exponent in
       let bucket_is : key % 2 ^ bits ≡ bucket = ap (λ n. key % n) (sym power.is) ∙ in_bucket in
       let ancestor : IsAncestor (ancestor_of nearest.steps bucket) (key % 2 ^ bits) = rw bucket_is near_ancestor in
       let few : bits < 32 = exponent_below bits 32 (omega (arith, power.is)) in
-      let below = ancestor_before_key (ancestor_of nearest.steps bucket) key bits small (omega arith) ancestor in
+      let below = ancestor_before_key (ancestor_of nearest.steps bucket) key bits (omega arith) ancestor in
       record {
         node = near_dummy.node;
         is = near_dummy.is;

@@ -2,7 +2,7 @@
 use Rattle.std.specs.Prelude.{◌≡◌, ℕ, ◌-◌, Some, Result, Ok, Err, length}
 use Rattle.node_list.specs.Nodes.{Listing, changes_after}
 use Rattle.list_steps.specs.declared.cursor.Cursor.{Cursor}
-use Rattle.list_steps.specs.Found.{IsFound, at_of}
+use Rattle.list_steps.specs.Found.{IsFound, at_of, pred_of}
 use Rattle.list_steps.specs.Seek.{KeepsRest, sought}
 use Rattle.split_key.specs.Split.{parent_of}
 use Rattle.split_key.specs.Sort.{dummy_at}
@@ -57,7 +57,7 @@ pub record LinksDummy (old new : Directory) (before after : Listing) (helper : �
   pub place : ℕ
   pub had : helper_of old helper ≡ Some (Seeking bucket cursor)
   pub now : new ≡ with_helper old helper (Holding bucket place)
-  pub links : LinksAt before after cursor bucket place
+  pub links : LinksAt before after (pred_of cursor) bucket place
 
 -- What a link by a helper changes.
 abbrev pub LinkChanges : Directory → Directory → Listing → Listing → ℕ

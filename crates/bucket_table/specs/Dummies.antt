@@ -1,5 +1,5 @@
 -- The dummies of a list.
-use Rattle.std.specs.Prelude.{◌≡◌, ℕ, ◌<◌, ◌^◌, List, [], ◌∷◌, Some, Bool, false, ◌&&◌, ◌||◌, not}
+use Rattle.std.specs.Prelude.{◌≡◌, ℕ, List, [], ◌∷◌, Some, Bool, false, ◌&&◌, ◌||◌, not}
 use Rattle.std.specs.List.{AllByRecursion}
 use Rattle.node_list.specs.declared.node.Kind.TheVariants.{Dummy, Regular}
 use Rattle.node_list.specs.Nodes.{NodeAt, node_of, is_regular}
@@ -41,7 +41,7 @@ pub record IsBeforeBucket (nodes : List NodeAt) (place bucket : ℕ) : Type 0 wh
 
 -- A regular node stands where its key belongs.
 abbrev pub IsKeyedNode : NodeAt → Type 0
-IsKeyedNode n = n.kind ≡ Regular → (n.at.key < 2 ^ 63) × (n.at ≡ regular_at n.at.key)
+IsKeyedNode n = n.kind ≡ Regular → n.at ≡ regular_at n.at.key
 
 -- Each regular node stands where its key belongs.
 abbrev pub IsKeyed : List NodeAt → Type 0

@@ -1,17 +1,15 @@
 -- What linking a dummy does to a list.
 use Rattle.std.specs.Prelude.{◌≡◌, ◌≢◌, ℕ, ◌+◌, ◌-◌, ◌<◌, ◌^◌, ◌==◌, ◌||◌}
 use Rattle.node_list.specs.Nodes.{Listing, IsLinked, out_at, linked_after, one_more}
-use Rattle.list_steps.specs.declared.cursor.Cursor.{Cursor}
-use Rattle.list_steps.specs.Found.{pred_of}
 use Rattle.bucket_table.specs.declared.answer.InitRefusal.{InitRefusal}
 use Rattle.bucket_table.specs.declared.answer.InitRefusal.TheVariants.{NoSuchBucket, ParentMissing, NoSuchHelper, HelperOutOfOrder, NoMemory, StampsUsedUp}
 use Rattle.bucket_table.specs.Dummies.{IsDummyAt, dummy_node, has_dummy}
 
--- The dummy of a bucket is linked where a cursor is, at this place and with a new stamp.
-pub record LinksAt (before after : Listing) (cursor : Cursor) (bucket place : ℕ) : Type 0 where
-  pub linked : IsLinked before.nodes (pred_of cursor)
+-- The dummy of a bucket is linked behind a node, at this place and with a new stamp.
+pub record LinksAt (before after : Listing) (pred bucket place : ℕ) : Type 0 where
+  pub linked : IsLinked before.nodes pred
   pub nodes : after.nodes
-      ≡ linked_after before.nodes (pred_of cursor) (dummy_node place bucket (before.last + 1))
+      ≡ linked_after before.nodes pred (dummy_node place bucket (before.last + 1))
   pub dummy : IsDummyAt after.nodes place bucket
   pub head : after.head ≡ before.head
   pub changes : after.changes ≡ one_more before.changes

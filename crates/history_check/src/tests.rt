@@ -136,6 +136,53 @@ fn forged_histories(rt: HostRuntime) -> Result<(), Fail> {
     Ok(())
 }
 
+/// A transaction in which the first of two `PutIf`s is a change, and the second is none.
+const PUT_IF_HISTORY: [Entry; 8] = [
+    Entry::Began(0, 1),
+    Entry::Asked(0, Op::PutIf(1, None, 5)),
+    Entry::Did(0, None),
+    Entry::Asked(0, Op::PutIf(1, Some(4), 6)),
+    Entry::Did(0, Some(5)),
+    Entry::Leave(0, None),
+    Entry::Undone(0),
+    Entry::Aborted(0),
+];
+
+#[test]
+fn put_if_history(rt: HostRuntime) -> Result<(), Fail> {
+    assert_eq!(rt; judged(&rt, &PUT_IF_HISTORY, 8)?, legal(0, 0));
+    let mut undone_twice = PUT_IF_HISTORY[..7].to_vec(rt.alloc())?;
+    undone_twice.push(Entry::Undone(0))?;
+    undone_twice.push(Entry::Aborted(0))?;
+    assert_eq!(rt; judged(&rt, &undone_twice, 8)?, illegal(7, Rule::Shape));
+    let mut not_put = PUT_IF_HISTORY;
+    not_put[4] = Entry::Did(0, None);
+    assert_eq!(rt; judged(&rt, &not_put, 8)?, illegal(4, Rule::Replies));
+    Ok(())
+}
+
+/// Keys 1 and 2^63 + 1, which agree but for their top bit.
+#[test]
+fn keys_that_share_a_split_key(rt: HostRuntime) -> Result<(), Fail> {
+    let apart = [
+        Entry::Began(0, 1),
+        Entry::Asked(0, Op::Put(0x8000_0000_0000_0001, 11)),
+        Entry::Did(0, None),
+        Entry::Asked(0, Op::Put(1, 10)),
+        Entry::Did(0, None),
+        Entry::Asked(0, Op::PutIf(1, Some(10), 12)),
+        Entry::Did(0, Some(10)),
+        Entry::Asked(0, Op::Get(0x8000_0000_0000_0001)),
+        Entry::Did(0, Some(11)),
+        Entry::Committed(0, 1),
+    ];
+    assert_eq!(rt; judged(&rt, &apart, 8)?, legal(1, 0));
+    let mut taken_for_one = apart;
+    taken_for_one[4] = Entry::Did(0, Some(11));
+    assert_eq!(rt; judged(&rt, &taken_for_one, 8)?, illegal(4, Rule::Replies));
+    Ok(())
+}
+
 /// Begins to check, once more where that is refused.
 fn started(alloc: Global) -> Result<Checker, AllocError> {
     match Checker::new(alloc, 8) {

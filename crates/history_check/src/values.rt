@@ -21,6 +21,11 @@ pub(crate) fn operate(values: &mut BTreeMap<u64, u64>, op: Op) -> Result<(), All
             values.remove(&key);
         }
         Op::Get(_) => {}
+        Op::PutIf(key, expected, value) => {
+            if values.get(&key).copied() == expected {
+                values.insert(key, value)?;
+            }
+        }
     }
     Ok(())
 }

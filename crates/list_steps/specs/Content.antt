@@ -4,7 +4,8 @@ use Rattle.node_list.specs.declared.node.Kind.{Kind}
 use Rattle.node_list.specs.declared.node.Kind.TheVariants.{Dummy, Regular}
 use Rattle.node_list.specs.Nodes.{NodeAt}
 
--- What a node of this kind, mark, key and value adds to the content: its pair, if it is regular and unmarked.
+-- What a node of this kind, mark, key and value adds to the content: its pair, if it is regular and
+-- unmarked.
 abbrev pub pair_if : Kind → Bool → ℕ → ℕ → List (ℕ × ℕ)
 pair_if Dummy marked key value = []
 pair_if Regular true key value = []

@@ -57,21 +57,23 @@ is_next_noted None (Some c) = false
 is_next_noted (Some n) None = false
 is_next_noted (Some n) (Some c) = n.place == c.place && (n.stamp == c.stamp && not n.marked)
 
--- The cursor fits: its first node is linked and unmarked with the noted stamp, behind it is the noted
--- second one or the end, and that one is unmarked and has its noted stamp.
+-- The cursor fits: its first node is linked and unmarked with the noted stamp, behind it is the
+-- noted second one or the end, and that one is unmarked and has its noted stamp.
 unfoldable pub fits : Listing → Cursor → Bool
 fits l c = is_noted (node_of l.nodes (pred_of c)) c.pred.stamp && is_next_noted (behind l c) c.cur
 
--- A cursor that was placed on the list, at any time: a linked node with a noted stamp is the noted one, so
--- the first is below the sort key and the second is not, and the cursor fits where nothing changed since.
--- Each step on the list keeps it.
+-- A cursor that was placed on the list, at any time: a linked node with a noted stamp is the noted
+-- one, so the first is below the sort key and the second is not, and the cursor fits where nothing
+-- changed since. Each step on the list keeps it.
 pub record IsPlaced (l : Listing) (c : Cursor) : Type 0 where
   pub pred_known : c.pred.stamp ≤ l.last
   pub pred_apart : (place : ℕ) → out_at l place ≢ Some c.pred.stamp
-  pub below : (n : NodeAt) → node_of l.nodes (pred_of c) ≡ Some n → n.stamp ≡ c.pred.stamp → IsBelow n (at_of c)
+  pub below : (n : NodeAt) → node_of l.nodes (pred_of c) ≡ Some n → n.stamp ≡ c.pred.stamp
+      → IsBelow n (at_of c)
   pub cur_known : (cur : Noted) → c.cur ≡ Some cur → cur.stamp ≤ l.last
   pub cur_apart : (cur : Noted) (place : ℕ) → c.cur ≡ Some cur → out_at l place ≢ Some cur.stamp
-  pub beyond : (m : NodeAt) (cur : Noted) → c.cur ≡ Some cur → node_of l.nodes cur.place ≡ Some m → m.stamp ≡ cur.stamp → IsNotBelow m (at_of c)
+  pub beyond : (m : NodeAt) (cur : Noted) → c.cur ≡ Some cur → node_of l.nodes cur.place ≡ Some m
+      → m.stamp ≡ cur.stamp → IsNotBelow m (at_of c)
   pub changes_known : min (changes_of c) (2 ^ 64 - 1) ≤ l.changes
   pub held : l.changes ≡ changes_of c → l.changes < 2 ^ 64 - 1 → fits l c ≡ true
 
@@ -83,11 +85,3 @@ with_key (Some n) at = if is_same n.at at then Some n else None
 -- The node of the sort key sought, if it stands where the cursor is.
 abbrev pub node_there : Listing → Cursor → Option NodeAt
 node_there l c = with_key (behind l c) (at_of c)
-
--- Where the cursor fits, no node has its sort key.
-abbrev pub IsRoomFor : Listing → Cursor → Type 0
-IsRoomFor l c = fits l c ≡ true → node_there l c ≡ None
-
--- Where the cursor fits, a regular node has its sort key.
-abbrev pub IsKeyThere : Listing → Cursor → Type 0
-IsKeyThere l c = fits l c ≡ true → IsSomeAnd (node_there l c) (λ n. IsTrue (is_regular n.kind))

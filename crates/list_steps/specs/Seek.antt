@@ -17,7 +17,8 @@ IsNotBelow n at = IsNotBefore n.at at
 unfoldable pub cleaned : SortKey → List NodeAt → List NodeAt
 cleaned at [] = []
 cleaned at (n ∷ rest) =
-    if n.marked then cleaned at rest else (if is_before n.at at then n ∷ cleaned at rest else n ∷ rest)
+    if n.marked then cleaned at rest
+    else (if is_before n.at at then n ∷ cleaned at rest else n ∷ rest)
 
 -- The nodes after a seek of the sort key from a place.
 unfoldable pub sought : List NodeAt → ℕ → SortKey → List NodeAt

@@ -3,13 +3,15 @@ use Rattle.std.specs.Prelude.{◌≡◌, ◌≢◌, ℕ, List, [], ◌∷◌, Op
 use Rattle.std.specs.List.{AllByRecursion}
 use Rattle.node_list.specs.declared.node.Kind.TheVariants.{Regular}
 use Rattle.node_list.specs.Nodes.{NodeAt, Listing, Becomes, Takes, node_of, linked_after, marked_at, written_at}
+use Rattle.node_list.specs.Order.{IsVacant}
 use Rattle.list_steps.specs.declared.cursor.Cursor.{Cursor}
 use Rattle.list_steps.specs.declared.sweeps.SweepOutcome.{SweepOutcome}
 use Rattle.list_steps.specs.declared.sweeps.SweepOutcome.TheVariants.{Swept, Clean}
 use Rattle.list_steps.specs.Content.{pairs, pair_of, Replaces}
 use Rattle.list_steps.specs.Found.{at_of, pred_of, node_there}
 
--- At the place is the node of the sort key sought, unmarked, and its pair is in the content if it is regular.
+-- At the place is the node of the sort key sought, unmarked, and its pair is in the content if it
+-- is regular.
 pub record IsThere (l : Listing) (c : Cursor) (place : ℕ) : Type 0 where
   pub node : NodeAt
   pub there : node_there l c ≡ Some node
@@ -18,9 +20,10 @@ pub record IsThere (l : Listing) (c : Cursor) (place : ℕ) : Type 0 where
   pub unmarked : node.marked ≡ false
   pub content : node.kind ≡ Regular → Contains (pairs l.nodes) (node.at.key, node.value)
 
--- No linked node has the sort key sought.
+-- No linked node has the sort key sought, which belongs right behind the cursor's first node.
 pub record IsAbsent (l : Listing) (c : Cursor) : Type 0 where
   pub none : node_there l c ≡ None
+  pub vacant : IsVacant l.nodes (pred_of c) (at_of c)
   pub others : AllByRecursion (λ n. n.at ≢ at_of c) l.nodes
 
 -- What a look finds.
@@ -28,29 +31,30 @@ abbrev pub Finds : Listing → Cursor → Option ℕ → Type 0
 Finds l c None = IsAbsent l c
 Finds l c (Some place) = IsThere l c place
 
--- The node is linked where the cursor is.
-pub record Links (old new : Listing) (c : Cursor) (node : NodeAt) : Type 0 where
-  pub takes : Takes old new (linked_after old.nodes (pred_of c) node) node.place
+-- The node is linked behind the one at the place.
+pub record Links (old new : Listing) (pred : ℕ) (node : NodeAt) : Type 0 where
+  pub takes : Takes old new (linked_after old.nodes pred node) node.place
   pub linked : node_of new.nodes node.place ≡ Some node
   pub content : Replaces (pairs old.nodes) (pairs new.nodes) [] (pair_of node)
 
--- The node of the sort key sought, which had this value, is marked.
-pub record Marks (old new : Listing) (c : Cursor) (value : ℕ) : Type 0 where
+-- The regular node at the place, which had this value, is marked.
+pub record Marks (old new : Listing) (place value : ℕ) : Type 0 where
   pub node : NodeAt
-  pub there : node_there old c ≡ Some node
+  pub is : node_of old.nodes place ≡ Some node
   pub regular : node.kind ≡ Regular
   pub value_is : node.value ≡ value
-  pub becomes : Becomes old new (marked_at old.nodes node.place)
+  pub becomes : Becomes old new (marked_at old.nodes place)
   pub content : Replaces (pairs old.nodes) (pairs new.nodes) ((node.at.key, value) ∷ []) []
 
--- The node of the sort key sought, which had the first value, has the second.
-pub record Swaps (old new : Listing) (c : Cursor) (was now : ℕ) : Type 0 where
+-- The regular node at the place, which had the first value, has the second.
+pub record Swaps (old new : Listing) (place was now : ℕ) : Type 0 where
   pub node : NodeAt
-  pub there : node_there old c ≡ Some node
+  pub is : node_of old.nodes place ≡ Some node
   pub regular : node.kind ≡ Regular
   pub value_is : node.value ≡ was
-  pub becomes : Becomes old new (written_at old.nodes node.place now)
-  pub content : Replaces (pairs old.nodes) (pairs new.nodes) ((node.at.key, was) ∷ []) ((node.at.key, now) ∷ [])
+  pub becomes : Becomes old new (written_at old.nodes place now)
+  pub content : Replaces (pairs old.nodes) (pairs new.nodes)
+      ((node.at.key, was) ∷ []) ((node.at.key, now) ∷ [])
 
 -- The nodes without the first marked one.
 unfoldable pub without_first_marked : List NodeAt → List NodeAt

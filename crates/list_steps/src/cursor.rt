@@ -18,8 +18,7 @@ pub struct Noted {
 
 /// Where a sort key belongs in a list, as a seek found it.
 ///
-/// It is plain data: the list may change while it is kept, and the step that is handed the cursor
-/// tests whether it still fits.
+/// It is plain data: the list may change while it is kept, and `look` tests whether it still fits.
 #[derive(Clone, Copy, Debug, PartialEq, Eq)]
 pub struct Cursor {
     pub(crate) pred: Noted,
@@ -28,8 +27,7 @@ pub struct Cursor {
     pub(crate) changes: u64,
 }
 
-/// The cursor does not fit: the list is not as it noted it. Nothing was changed; seek again. It is
-/// printed as `the list is not as the cursor noted it`.
+/// The cursor does not fit: the list is not as it noted it. Seek again. It is printed as `the list is not as the cursor noted it`.
 #[derive(Clone, Copy, Debug, PartialEq, Eq)]
 pub struct Again;
 
@@ -93,6 +91,14 @@ impl Cursor {
             at,
             changes: list.changes(),
         }
+    }
+
+    /// The node behind which the sort key belongs, where the cursor fits and no node has it.
+    /// Constant time.
+    pub fn pred(&self) -> NodeRef
+        ensures { result ≡ pred_of self.now }
+    {
+        self.pred.place
     }
 
     /// Whether the node behind the first one is what was noted, and unmarked.

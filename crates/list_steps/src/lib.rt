@@ -1,10 +1,10 @@
 //! Steps on a list of nodes, at places that were sought before.
 //!
 //! This is the list of Shalev and Shavit, "Split-Ordered Lists: Lock-Free Extensible Hash Tables"
-//! (Journal of the ACM 53(3), 2006), with the marked nodes of Harris, "A Pragmatic Implementation of
-//! Non-Blocking Linked-Lists" (DISC 2001), cut into steps that each have the list to themselves: a
-//! place is sought, and something is done there later. What other callers did in between, the step
-//! itself sees.
+//! (Journal of the ACM 53(3), 2006), with the marked nodes of Harris, "A Pragmatic Implementation
+//! of Non-Blocking Linked-Lists" (DISC 2001), cut into steps that each have the list to themselves:
+//! a place is sought, and something is done there later. What other callers did in between, the
+//! step itself sees.
 //!
 //! ```text
 //! dummy 0 -> key 4 -> key 2 -> end      a cursor of key 2's sort key: pred is key 4, cur is key 2
@@ -12,11 +12,13 @@
 //!
 //! A `Cursor` notes `pred`, the last unmarked node below the sort key sought; `cur`, the first
 //! unmarked one not below it, or the end; their stamps; the sort key; and the list's change number.
-//! It *fits* where `pred` is a linked, unmarked node with its noted stamp, the node behind it is the
-//! noted `cur`, and that is unmarked with its noted stamp. A step at a cursor that does not fit
-//! answers `Again`, changes nothing and hands back what it was given; at one that fits it never
-//! does. A cursor of any age may be handed in: every change of the list keeps what makes it safe
-//! (`IsPlaced`, by the lemma `still_placed`).
+//! It *fits* where `pred` is a linked, unmarked node with its noted stamp, the node behind it is
+//! the noted `cur`, and that is unmarked with its noted stamp. `look` tests it: where it does not
+//! fit the answer is `Again`, and never where it fits. A cursor of any age may be handed in: every
+//! change of the list keeps what makes it safe (`IsPlaced`, by the lemma `still_placed`).
+//!
+//! A cursor is tested once: where it fits `look` answers the node of the sort key, or that there is
+//! none, and `link`, `mark` and `swap` go by that.
 //!
 //! A contract sees the list as `node_list` does, and its content as `pairs`: key and value of each
 //! regular, unmarked node, in order. A link of a regular node puts its pair in, a mark takes a pair

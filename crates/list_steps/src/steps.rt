@@ -1,8 +1,9 @@
-//! What is done at a cursor.
-ghost use Rattle.std.specs.Prelude.{◌≡◌, ◌<◌, ◌-◌, ◌^◌, is_ok, IsOk, IfOk, IfErr, OnOk, OnErr};
-ghost use Rattle.node_list.specs.Nodes.{IsLinked, IsOut, filled, place_of};
+//! The test of a cursor, and what is done by its answer.
+ghost use Rattle.std.specs.Prelude.{◌≡◌, ◌<◌, ◌-◌, ◌^◌, is_ok, IsOk, IfOk};
+ghost use Rattle.node_list.specs.Nodes.{IsLinked, IsOut, IsRegularAt, filled, place_of};
+ghost use Rattle.node_list.specs.Order.{IsVacant};
 ghost use Rattle.node_list.specs.Follow.{Follows};
-ghost use Rattle.list_steps.specs.Found.{IsKeyThere, IsPlaced, IsRoomFor, fits, node_there, pred_of, at_of, changes_of};
+ghost use Rattle.list_steps.specs.Found.{IsPlaced, fits, node_there, pred_of, changes_of};
 ghost use Rattle.list_steps.specs.Steps.{Finds, Links, Marks, Swaps};
 
 use crate::cursor::{Again, Cursor};
@@ -21,15 +22,25 @@ fn node_there(list: &NodeList, cursor: &Cursor) -> Option<NodeRef>
     }
 }
 
-/// Looks whether a node with the sort key sought is linked where the cursor is, and which one.
-/// That node is unmarked, and if it is regular its pair is in the content. `None` says that no
-/// linked node, marked or not, has the sort key.
+/// Tests a cursor, and tells which node has the sort key sought. That node is unmarked, and if it
+/// is regular its pair is in the content. `None` says that no linked node, marked or not, has the
+/// sort key, which belongs right behind `cursor.pred()`.
 ///
-/// `Again` exactly where the cursor does not fit. A fixed number of look-ups.
+/// What is done next goes by the answer alone, until the list changes: `link` behind
+/// `cursor.pred()` where there is no node, `mark` or `swap` at a regular one.
+///
+/// # Errors
+///
+/// `Again` exactly where the cursor does not fit.
+///
+/// # Cost
+///
+/// A fixed number of look-ups.
 pub fn look(list: &NodeList, cursor: &Cursor) -> Result<Option<NodeRef>, Again>
     requires { IsPlaced list.now cursor.now }
     ensures again { is_ok result ≡ fits list.now cursor.now }
-    ensures unchanged_since { list.now.changes ≡ changes_of cursor.now → list.now.changes < 2 ^ 64 - 1 → IsOk result }
+    ensures unchanged_since { list.now.changes ≡ changes_of cursor.now
+        → list.now.changes < 2 ^ 64 - 1 → IsOk result }
     ensures ok { IfOk result (Finds list.now cursor.now) }
 {
     if cursor.is_fitting(list) {
@@ -39,80 +50,57 @@ pub fn look(list: &NodeList, cursor: &Cursor) -> Result<Option<NodeRef>, Again>
     }
 }
 
-/// Links the node of a spare where the cursor is, and answers that node. The spare is this list's
-/// and filled with the sort key sought; where the cursor fits, no node may have that sort key, as
-/// `look` tells.
+/// Links the node of a spare behind a linked node, where its sort key is vacant, and answers it.
+/// The spare is this list's.
 ///
-/// The content gains the pair of a regular node; a dummy keeps it as it was. `Again` exactly where
-/// the cursor does not fit; then nothing changes, and the spare comes back. Takes no memory. A fixed
-/// number of look-ups.
-pub fn link(list: &mut NodeList, cursor: Cursor, spare: Spare) -> Result<NodeRef, (Again, Spare)>
+/// The content gains the pair of a regular node; a dummy keeps it as it was. Takes no memory.
+///
+/// # Cost
+///
+/// A fixed number of look-ups.
+pub fn link(list: &mut NodeList, pred: NodeRef, spare: Spare) -> NodeRef
     requires out { IsOut list.old spare }
-    requires filled { spare.at ≡ at_of cursor }
-    requires placed { IsPlaced list.old cursor }
-    requires room { IsRoomFor list.old cursor }
-    ensures again { is_ok result ≡ fits list.old cursor }
-    ensures unchanged_since { list.old.changes ≡ changes_of cursor → list.old.changes < 2 ^ 64 - 1 → IsOk result }
-    ensures ok { OnOk result (Links list.old list.new cursor (filled spare)) }
-    ensures place { IfOk result (λ node. node ≡ spare.place) }
-    ensures unchanged { OnErr result (list.new ≡ list.old) }
-    ensures back { IfErr result (λ e. e.1 ≡ spare) }
+    requires vacant { IsVacant list.old.nodes pred spare.at }
+    ensures links { Links list.old list.new pred (filled spare) }
+    ensures place { result ≡ spare.place }
     ensures follows { Follows list.old list.new }
 {
-    if cursor.is_fitting(list) {
-        let node = spare.node();
-        list.link_after(cursor.pred.place, spare);
-        Ok(node)
-    } else {
-        Err((Again, spare))
-    }
+    let node = spare.node();
+    list.link_after(pred, spare);
+    node
 }
 
-/// Marks the regular node of the sort key sought, and answers its value. Where the cursor fits,
-/// that node has to be there, as `look` tells.
+/// Marks an unmarked regular node, and answers its value.
 ///
 /// Its pair leaves the content. The node stays linked until a seek passes it or a sweep comes to it
-/// (Harris, DISC 2001). `Again` exactly where the cursor does not fit; then nothing changes. Takes no
-/// memory. A fixed number of look-ups.
-pub fn mark(list: &mut NodeList, cursor: Cursor) -> Result<u64, Again>
-    requires placed { IsPlaced list.old cursor }
-    requires there { IsKeyThere list.old cursor }
-    ensures again { is_ok result ≡ fits list.old cursor }
-    ensures unchanged_since { list.old.changes ≡ changes_of cursor → list.old.changes < 2 ^ 64 - 1 → IsOk result }
-    ensures ok { IfOk result (Marks list.old list.new cursor) }
-    ensures unchanged { OnErr result (list.new ≡ list.old) }
+/// (Harris, DISC 2001). Takes no memory.
+///
+/// # Cost
+///
+/// A fixed number of look-ups.
+pub fn mark(list: &mut NodeList, node: NodeRef) -> u64
+    requires { IsRegularAt list.old.nodes node }
+    ensures marks { Marks list.old list.new node result }
     ensures follows { Follows list.old list.new }
 {
-    match look(list, &cursor)? {
-        Some(node) => {
-            let value = list.node(node).value;
-            list.set_mark(node);
-            Ok(value)
-        }
-        None => unreachable!(),
-    }
+    let value = list.node(node).value;
+    list.set_mark(node);
+    value
 }
 
-/// Writes a value into the regular node of the sort key sought, and answers the value that it had.
-/// Where the cursor fits, that node has to be there, as `look` tells.
+/// Writes the value of an unmarked regular node, and answers the one that it had.
 ///
-/// In the content its pair has the new value, at its old place. `Again` exactly where the cursor
-/// does not fit; then nothing changes. Takes no memory. A fixed number of look-ups.
-pub fn swap(list: &mut NodeList, cursor: Cursor, value: u64) -> Result<u64, Again>
-    requires placed { IsPlaced list.old cursor }
-    requires there { IsKeyThere list.old cursor }
-    ensures again { is_ok result ≡ fits list.old cursor }
-    ensures unchanged_since { list.old.changes ≡ changes_of cursor → list.old.changes < 2 ^ 64 - 1 → IsOk result }
-    ensures ok { IfOk result (λ was. Swaps list.old list.new cursor was value) }
-    ensures unchanged { OnErr result (list.new ≡ list.old) }
+/// In the content its pair has the new value, at its old place. Takes no memory.
+///
+/// # Cost
+///
+/// A fixed number of look-ups.
+pub fn swap(list: &mut NodeList, node: NodeRef, value: u64) -> u64
+    requires { IsRegularAt list.old.nodes node }
+    ensures swaps { Swaps list.old list.new node result value }
     ensures follows { Follows list.old list.new }
 {
-    match look(list, &cursor)? {
-        Some(node) => {
-            let was = list.node(node).value;
-            list.write(node, value);
-            Ok(was)
-        }
-        None => unreachable!(),
-    }
+    let was = list.node(node).value;
+    list.write(node, value);
+    was
 }

@@ -36,8 +36,8 @@ fn before_first_marked(list: &NodeList) -> NodeRef
 /// Unlinks the first marked node, and nothing else, or answers that no node is marked.
 ///
 /// `Clean` exactly where none is, which is known at once; the list is then as it was. The content
-/// and the spares that are out stay as they were. Takes no memory. The walk to the first marked node
-/// is the whole cost.
+/// and the spares that are out stay as they were. Takes no memory. The walk to the first marked
+/// node is the whole cost.
 pub fn sweep(list: &mut NodeList) -> SweepOutcome
     ensures clean { (result ≡ SweepOutcome.Clean) ↔
         AllByRecursion (λ n. n.marked ≡ false) list.old.nodes }

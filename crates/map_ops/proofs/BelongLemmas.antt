@@ -23,9 +23,9 @@ belong_sought nodes from bound belong = record {
   even = each_sought IsEvenDummy nodes from bound belong.even;
 }
 
-pub belong_linked : (nodes : List NodeAt) (pred : ℕ) (x : NodeAt) (key : ℕ) → Belong nodes → x.kind ≡ Regular → key < 2 ^ 63 → x.at ≡ regular_at key → Belong (linked_after nodes pred x)
-belong_linked nodes pred x key belong kind small place = record {
-  keyed = each_linked IsKeyedNode nodes pred x (λ is. let own : key ≡ x.at.key = sym (ap (λ (at : SortKey). at.key) place) in (subst (λ k. k < 2 ^ 63) own small, place ∙ ap regular_at own)) belong.keyed;
+pub belong_linked : (nodes : List NodeAt) (pred : ℕ) (x : NodeAt) (key : ℕ) → Belong nodes → x.kind ≡ Regular → x.at ≡ regular_at key → Belong (linked_after nodes pred x)
+belong_linked nodes pred x key belong kind place = record {
+  keyed = each_linked IsKeyedNode nodes pred x (λ is. let own : key ≡ x.at.key = sym (ap (λ (at : SortKey). at.key) place) in place ∙ ap regular_at own) belong.keyed;
   even = each_linked IsEvenDummy nodes pred x (λ dummy. let both : Regular ≡ Dummy = sym kind ∙ dummy in absurd (cc)) belong.even;
 }
 

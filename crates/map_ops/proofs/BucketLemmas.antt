@@ -20,7 +20,9 @@ use Rattle.bucket_table.specs.declared.answer.InitSeek.TheVariants.{Ready, Place
 use Rattle.bucket_table.specs.declared.answer.InitLink.{InitLink}
 use Rattle.bucket_table.specs.declared.answer.InitLink.TheVariants.{Again, Present, Linked}
 use Rattle.bucket_table.specs.declared.answer.InitRefusal.{InitRefusal}
-use Rattle.bucket_table.specs.declared.answer.InitRefusal.TheVariants.{NoSuchHelper, NoMemory, StampsUsedUp}
+use Rattle.bucket_table.specs.declared.answer.InitRefusal.TheVariants.{NoSuchBucket, ParentMissing, NoSuchHelper, HelperOutOfOrder, NoMemory, StampsUsedUp}
+use Rattle.txn_trace.specs.declared.refusal.Refusal.{Refusal}
+use Rattle.txn_trace.specs.declared.refusal.Refusal.TheVariants as refusals
 use Rattle.bucket_table.specs.declared.answer.Double.{Double}
 use Rattle.bucket_table.specs.declared.answer.Double.TheVariants.{Moved, AtLimit, Light, Doubled}
 use Rattle.bucket_table.specs.declared.helper.Helper.{Helper}
@@ -41,7 +43,7 @@ use Rattle.list_steps.specs.Steps as steps
 use Rattle.map_ops.specs.Sound.{AllEven, Belong, IsEvenDummy}
 use Rattle.bucket_table.specs.Helpers.{cursor_fits, help_at}
 use Rattle.map_ops.specs.TableAt.{Help, Nothing, Sought, Dummy, help_of, linked_of, table_of, Keeps}
-use Rattle.map_ops.specs.Buckets.{Doubles, Helps, Holds, Links, LinkChanges, SeekChanges, Seeks, Stores, StoreChanges, helper_fits, seek_answer, link_answer, store_answer}
+use Rattle.map_ops.specs.Buckets.{Doubles, Helps, Holds, Links, LinkChanges, SeekChanges, Seeks, Stores, StoreChanges, answered, helper_fits, seek_answer, link_answer, store_answer}
 use Rattle.map_ops.proofs.BelongLemmas.{belong_swept, has_dummy-swept, linked_same}
 use Rattle.map_ops.proofs.KeepLemmas.{same_buckets}
 
@@ -49,8 +51,8 @@ stored_at : (entries : List (Option ℕ)) (bucket : ℕ) → slice_index_or (map
 stored_at entries bucket = lists.get_or-map is_some entries bucket None
 
 -- What a seek is answered.
-pub seek_answers : (d : Directory) (helper bucket : ℕ) → buckets.seek_answer d.size (directories.is_stored d) (help_at d helper) bucket ≡ seek_answer d.size (map is_some d.entries) (slice_get (map help_of d.helpers) helper) bucket
-seek_answers d helper bucket = λ i. buckets.seek_answer d.size (λ b. sym (stored_at d.entries b) i) (sym (slice_get-map help_of d.helpers helper) i) bucket
+pub seek_answers : (d : Directory) (helper bucket : ℕ) → answered (buckets.seek_answer d.size (directories.is_stored d) (help_at d helper) bucket) ≡ seek_answer d.size (map is_some d.entries) (slice_get (map help_of d.helpers) helper) bucket
+seek_answers d helper bucket = λ i. answered (buckets.seek_answer d.size (λ b. sym (stored_at d.entries b) i) (sym (slice_get-map help_of d.helpers helper) i) bucket)
 
 -- What a store is answered.
 pub store_answers : (d : Directory) (helper : ℕ) → store_answer (help_at d helper) ≡ store_answer (slice_get (map help_of d.helpers) helper)
@@ -63,17 +65,17 @@ within_limit : (d : Directory) (helper bucket : ℕ) (had : Helper) → director
 within_limit d helper bucket had sound is below = let order = helper_found (IsInOrder d) d.helpers helper had sound.helpers is in let small : bucket < d.size = below order in omega (arith, small, sound.most)
 
 -- What a link is answered.
-pub link_answers : (l : Listing) (d : Directory) (helper : ℕ) → directories.IsSound d → buckets.link_answer_at d l helper ≡ link_answer (helper_fits (table_of l d) helper) (linked_of (table_of l d)) l.last (slice_get (map help_of d.helpers) helper)
+pub link_answers : (l : Listing) (d : Directory) (helper : ℕ) → directories.IsSound d → answered (buckets.link_answer_at d l helper) ≡ link_answer (helper_fits (table_of l d) helper) (linked_of (table_of l d)) l.last (slice_get (map help_of d.helpers) helper)
 link_answers l d helper sound =
     go (helper_of d helper) refl ∙ ap (link_answer (helper_fits (table_of l d) helper) (linked_of (table_of l d)) l.last) (sym (slice_get-map help_of d.helpers helper))
   where
-    go : (o : Option Helper) → helper_of d helper ≡ o → buckets.link_answer (cursor_fits l (helper_of d helper)) (has_dummy l.nodes) l.last (option_map help_of o) ≡ link_answer (helper_fits (table_of l d) helper) (linked_of (table_of l d)) l.last (option_map help_of o)
+    go : (o : Option Helper) → helper_of d helper ≡ o → answered (buckets.link_answer (cursor_fits l (helper_of d helper)) (has_dummy l.nodes) l.last (option_map help_of o)) ≡ link_answer (helper_fits (table_of l d) helper) (linked_of (table_of l d)) l.last (option_map help_of o)
     go None is = refl
     go (Some Idle) is = refl
     go (Some (Holding bucket dummy)) is = refl
     go (Some (Seeking bucket cursor)) is =
         let within : bucket < limit_of d = within_limit d helper bucket (Seeking bucket cursor) sound is (λ order. order.within) in
-        ap (λ (there : Bool). buckets.link_answer (cursor_fits l (helper_of d helper)) (λ b. there) l.last (Some (Sought bucket (changes_of cursor)))) (sym (linked_at l.nodes (limit_of d) bucket within))
+        ap (λ (there : Bool). answered (buckets.link_answer (cursor_fits l (helper_of d helper)) (λ b. there) l.last (Some (Sought bucket (changes_of cursor))))) (sym (linked_at l.nodes (limit_of d) bucket within))
 
 -- A helper has something else.
 pub helps_with : (old new : Listing) (d : Directory) (helper : ℕ) (now : Helper) → pairs new.nodes ≡ pairs old.nodes → ((place : ℕ) → out_at new place ≡ out_at old place) → new.last ≡ old.last → ((bucket : ℕ) → has_dummy new.nodes bucket ≡ has_dummy old.nodes bucket)
@@ -98,7 +100,7 @@ found_at helpers helper now within =
 
 -- What a seek changes.
 pub seek_changes : (before after : Listing) (old new : Directory) (helper bucket : ℕ) (result : Result InitSeek InitRefusal) → result ≡ buckets.seek_answer old.size (directories.is_stored old) (help_at old helper) bucket → buckets_changes.SeekChanges old new before after helper bucket result
-    → pairs after.nodes ≡ pairs before.nodes → ((other : ℕ) → has_dummy after.nodes other ≡ has_dummy before.nodes other) → SeekChanges (table_of before old) (table_of after new) helper bucket result
+    → pairs after.nodes ≡ pairs before.nodes → ((other : ℕ) → has_dummy after.nodes other ≡ has_dummy before.nodes other) → SeekChanges (table_of before old) (table_of after new) helper bucket (answered result)
 seek_changes before after old new helper bucket (Ok Ready) answer changes same dummies =
     let Q : Listing → Directory → Type 0 = λ list d. Helps (table_of before old) (table_of list d) helper Nothing × (list.changes ≡ before.changes) in
     subst (λ list. Q list new) (sym changes.1) (subst (λ d. Q before d) (sym changes.0) (helps_with before before old helper Idle refl (λ place. refl) refl (λ other. refl), refl))
@@ -111,15 +113,15 @@ seek_changes before after old new helper bucket (Ok Placed) answer seeks same du
     })
   where
     there : (o : Option Helper) → helper_of old helper ≡ o → Ok Placed ≡ buckets.seek_answer old.size (directories.is_stored old) (help_at old helper) bucket → helper < length old.helpers
-    there None is answered = absurd (refused (answered ∙ ap (λ (o : Option Helper). buckets.seek_answer old.size (directories.is_stored old) (option_map help_of o) bucket) is))
+    there None is says = absurd (refused (says ∙ ap (λ (o : Option Helper). buckets.seek_answer old.size (directories.is_stored old) (option_map help_of o) bucket) is))
       where
         refused : ◌≡◌ {A = Result InitSeek InitRefusal} (Ok Placed) (Err NoSuchHelper) → ⊥
         refused is = cc
-    there (Some had) is answered = slice_get_within old.helpers helper had is
+    there (Some had) is says = slice_get_within old.helpers helper had is
 seek_changes before after old new helper bucket (Err refusal) answer changes same dummies = λ i. table_of (changes.1 i) (changes.0 i)
 
 -- What a store changes.
-pub store_changes : (list : Listing) (old new : Directory) (helper : ℕ) (result : Result Unit InitRefusal) → buckets_changes.StoreChanges old new helper result → StoreChanges (table_of list old) (table_of list new) helper result
+pub store_changes : (list : Listing) (old new : Directory) (helper : ℕ) (result : Result Unit InitRefusal) → buckets_changes.StoreChanges old new helper result → StoreChanges (table_of list old) (table_of list new) helper (answered result)
 store_changes list old new helper (Ok done) stores =
     let Q : Directory → Type 0 = λ d. Stores (table_of list old) (table_of list d) helper in
     subst Q (sym stores.now) (record {
@@ -183,7 +185,7 @@ was_absent false there used is = absurd (cc)
 
 -- What a link changes.
 pub link_changes : (before after : Listing) (old new : Directory) (helper : ℕ) (result : Result InitLink InitRefusal) → directories.IsSound old → (result ≢ Err NoMemory → result ≡ buckets.link_answer_at old before helper) → buckets_changes.LinkChanges old new before after helper result
-    → pairs after.nodes ≡ pairs before.nodes → LinkChanges (table_of before old) (table_of after new) helper result
+    → pairs after.nodes ≡ pairs before.nodes → LinkChanges (table_of before old) (table_of after new) helper (answered result)
 link_changes before after old new helper (Ok Again) sound answer changes same =
     let Q : Listing → Directory → Type 0 = λ list d. Helps (table_of before old) (table_of list d) helper Nothing × (list.changes ≡ before.changes) in
     subst (λ list. Q list new) (sym changes.1) (subst (λ d. Q before d) (sym changes.0) (helps_with before before old helper Idle refl (λ place. refl) refl (λ other. refl), refl))
@@ -203,12 +205,12 @@ link_changes before after old new helper (Ok Present) sound answer changes same 
 link_changes before after old new helper (Ok Linked) sound answer links same =
     let Q : Directory → Type 0 = λ d. Links (table_of before old) (table_of after d) helper in
     let within : links.bucket < limit_of old = within_limit old helper links.bucket (Seeking links.bucket links.cursor) sound links.had (λ order. order.within) in
-    let answered = answer (λ is. cc) ∙ ap (λ (o : Option Helper). buckets.link_answer (cursor_fits before o) (has_dummy before.nodes) before.last (option_map help_of o)) links.had in
+    let says = answer (λ is. cc) ∙ ap (λ (o : Option Helper). buckets.link_answer (cursor_fits before o) (has_dummy before.nodes) before.last (option_map help_of o)) links.had in
     subst Q (sym links.now) (record {
       bucket = links.bucket;
       turn = changes_of links.cursor;
       had = slice_get-map help_of old.helpers helper ∙ ap (option_map help_of) links.had;
-      absent = linked_is before.nodes (limit_of old) links.bucket within ∙ ap Some (was_absent (fits before links.cursor) (has_dummy before.nodes links.bucket) (before.last == 2 ^ 64 - 2) answered);
+      absent = linked_is before.nodes (limit_of old) links.bucket within ∙ ap Some (was_absent (fits before links.cursor) (has_dummy before.nodes links.bucket) (before.last == 2 ^ 64 - 2) says);
       becomes = record {
         regular = same;
         spares = links.links.out;
@@ -236,7 +238,7 @@ helper_in_turn l d helper bucket home had below = go (helper_of d helper) refl (
         let placed = helper_found (IsHelperHome l) d.helpers helper (Seeking other cursor) home.helpers is in
         ap (cursor_fits l) is ∙ placed.0.held same below
 
-not_again : (there used : Bool) → ◌≡◌ {A = Result InitLink InitRefusal} (if there then Ok Present else (if used then Err StampsUsedUp else Ok Linked)) (Ok Again) → ⊥
+not_again : (there used : Bool) → ◌≡◌ {A = Result InitLink Refusal} (answered (if there then Ok Present else (if used then Err StampsUsedUp else Ok Linked))) (Ok Again) → ⊥
 not_again true used is = cc
 not_again false true is = cc
 not_again false false is = cc
@@ -274,3 +276,13 @@ sweep_keeps old new d Clean sound is same = subst (λ (l : Listing). Keeps (tabl
 pub sweep_belong : (old new : Listing) (outcome : SweepOutcome) → steps.Sweeps old new outcome → Belong old.nodes → Belong new.nodes
 sweep_belong old new Swept becomes belong = subst Belong (sym becomes.nodes) (belong_swept old.nodes belong)
 sweep_belong old new Clean is belong = subst (λ (l : Listing). Belong l.nodes) (sym is) belong
+
+-- No other refusal is answered as that of memory.
+pub no_memory_alone : (result : Result InitLink InitRefusal) → answered result ≡ Err refusals.NoMemory → result ≡ Err NoMemory
+no_memory_alone (Ok done) is = absurd (cc is)
+no_memory_alone (Err NoMemory) is = refl
+no_memory_alone (Err NoSuchBucket) is = absurd (cc is)
+no_memory_alone (Err ParentMissing) is = absurd (cc is)
+no_memory_alone (Err NoSuchHelper) is = absurd (cc is)
+no_memory_alone (Err HelperOutOfOrder) is = absurd (cc is)
+no_memory_alone (Err StampsUsedUp) is = absurd (cc is)

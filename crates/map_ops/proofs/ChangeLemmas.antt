@@ -1,110 +1,109 @@
 -- What a step at a key does to the table.
-use Rattle.std.proofs.Common.{◌≡◌, ℕ, ◌<◌, ◌^◌, List, [], ◌∷◌, Some, None, true, false, sym, ◌∙◌, ap, subst}
+use Rattle.std.proofs.Common.{◌≡◌, ℕ, List, [], ◌∷◌, Some, None, true, false, sym, ◌∙◌, ap, subst}
 use Rattle.node_list.specs.declared.node.Kind.TheVariants.{Regular}
-use Rattle.node_list.specs.Nodes.{NodeAt, Listing, linked_after}
+use Rattle.node_list.specs.Nodes.{NodeAt, Listing, linked_after, marked_at, node_of, written_at}
 use Rattle.node_list.specs.Sound.{IsSound}
-use Rattle.list_steps.specs.declared.cursor.Cursor.{Cursor}
 use Rattle.list_steps.specs.Content.{pairs, Replaces}
-use Rattle.list_steps.specs.Found.{fits, node_there, at_of, pred_of, IsPlaced}
 use Rattle.list_steps.specs.Steps.{Links, Marks, Swaps}
 use Rattle.list_steps.proofs.ContentLemmas.{pair_regular}
-use Rattle.list_steps.proofs.CursorLemmas.{fits_linked, there}
+use Rattle.node_list.proofs.NodesLemmas.{found_linked}
+use Rattle.node_list.proofs.OrderLemmas.{some-injective}
 use Rattle.split_key.specs.declared.sort.SortKey.{SortKey}
 use Rattle.split_key.specs.Sort.{regular_at}
 use Rattle.bucket_table.specs.Directory.{Directory}
 use Rattle.bucket_table.specs.Dummies.{has_dummy}
 use Rattle.txn_trace.proofs.Order.{Rises}
-use Rattle.map_ops.specs.TableAt.{table_of}
-use Rattle.map_ops.specs.Steps.{Sets}
-use Rattle.map_ops.specs.Nodes.{IsNodeOf, LinksNode, MarksNode, WritesNode}
+use Rattle.txn_trace.specs.Map.{get}
+use Rattle.map_ops.specs.TableAt.{map_of, table_of}
+use Rattle.map_ops.specs.Steps.{HasNode, HasRoom, Sets}
+use Rattle.map_ops.specs.Nodes.{LinksNode, MarksNode, WritesNode}
 use Rattle.map_ops.specs.Sound.{Belong}
 use Rattle.map_ops.proofs.ContentLemmas.{rises-pairs, map_of-linked, map_of-written, map_of-unlinked}
-use Rattle.map_ops.proofs.ThereLemmas.{kind_there}
 use Rattle.map_ops.proofs.KeepLemmas.{same_buckets}
 use Rattle.map_ops.proofs.BelongLemmas.{belong_linked, belong_marked, belong_written, has_dummy-marked, has_dummy-written, has_dummy-regular, linked_same}
 
-module _ (old new : Listing) (c : Cursor) (key : ℕ) (sound : IsSound old) (after : IsSound new) (belong : Belong old.nodes) (placed : IsPlaced old c) (fitting : fits old c ≡ true) (same : at_of c ≡ regular_at key) (small : key < 2 ^ 63) where
+module _ (old new : Listing) (key : ℕ) (sound : IsSound old) (after : IsSound new) (belong : Belong old.nodes) where
   old_rises : Rises (pairs old.nodes)
   old_rises = rises-pairs old.nodes sound.rising belong.keyed
 
-  own_at : (n : NodeAt) → node_there old c ≡ Some n → n.at ≡ regular_at key
-  own_at n is = (there old c n sound.spread fitting is).at ∙ same
+  -- The node at the place is the key's.
+  own_node : (place : ℕ) (n : NodeAt) (has : HasNode old key place) → node_of old.nodes place ≡ Some n → n ≡ has.node
+  own_node place n has is = some-injective (sym is ∙ ap (node_of old.nodes) has.place_is ∙ has.its.is)
 
-  own_key : (n : NodeAt) → node_there old c ≡ Some n → n.at.key ≡ key
-  own_key n is = ap (λ (at : SortKey). at.key) (own_at n is)
+  own_key : (place : ℕ) (n : NodeAt) → HasNode old key place → node_of old.nodes place ≡ Some n → n.at.key ≡ key
+  own_key place n has is = ap (λ (m : NodeAt). m.at.key) (own_node place n has is) ∙ ap (λ (at : SortKey). at.key) has.its.at
 
-  its : (n : NodeAt) → node_there old c ≡ Some n → IsNodeOf old.nodes key n
-  its n is =
-      let at = there old c n sound.spread fitting is in
-      record { is = at.is; kind = kind_there old c key sound belong placed fitting same small n is; at = own_at n is; unmarked = at.unmarked }
+  -- What the key had.
+  pub had : (place value : ℕ) (n : NodeAt) → HasNode old key place → node_of old.nodes place ≡ Some n → n.value ≡ value → get (map_of (pairs old.nodes)) key ≡ Some value
+  had place value n has is value_is = has.value ∙ ap Some (ap (λ (m : NodeAt). m.value) (sym (own_node place n has is)) ∙ value_is)
 
   -- The key's node is the one that is marked.
-  pub marks_node : (value : ℕ) → Marks old new c value → MarksNode old new key
-  marks_node value marks = record {
-    node = marks.node;
-    its = its marks.node marks.there;
-    writes = record { nodes = marks.becomes.nodes; changes = marks.becomes.changes };
+  pub marks_node : (place value : ℕ) → HasNode old key place → Marks old new place value → MarksNode old new key
+  marks_node place value has marks = record {
+    node = has.node;
+    its = has.its;
+    writes = record { nodes = marks.becomes.nodes ∙ ap (marked_at old.nodes) has.place_is; changes = marks.becomes.changes };
   }
 
   -- The key's node is the one that is written.
-  pub swaps_node : (was now : ℕ) → Swaps old new c was now → WritesNode old new key now
-  swaps_node was now swaps = record {
-    node = swaps.node;
-    its = its swaps.node swaps.there;
-    writes = record { nodes = swaps.becomes.nodes; changes = swaps.becomes.changes };
+  pub swaps_node : (place was now : ℕ) → HasNode old key place → Swaps old new place was now → WritesNode old new key now
+  swaps_node place was now has swaps = record {
+    node = has.node;
+    its = has.its;
+    writes = record { nodes = swaps.becomes.nodes ∙ ap (λ (at : ℕ). written_at old.nodes at now) has.place_is; changes = swaps.becomes.changes };
   }
 
-  pub marks_belong : (value : ℕ) → Marks old new c value → Belong new.nodes
-  marks_belong value marks = subst Belong (sym marks.becomes.nodes) (belong_marked old.nodes marks.node.place belong)
+  pub marks_belong : (place value : ℕ) → Marks old new place value → Belong new.nodes
+  marks_belong place value marks = subst Belong (sym marks.becomes.nodes) (belong_marked old.nodes place belong)
 
   -- A key that is marked is there no more.
-  pub marks_sets : (value : ℕ) → Marks old new c value → (buckets : Directory) → Sets (table_of old buckets) (table_of new buckets) key None
-  marks_sets value marks buckets =
+  pub marks_sets : (place value : ℕ) → HasNode old key place → Marks old new place value → (buckets : Directory) → Sets (table_of old buckets) (table_of new buckets) key None
+  marks_sets place value has marks buckets =
       let replaces : Replaces (pairs old.nodes) (pairs new.nodes) ((key, value) ∷ []) [] =
-      subst (λ k. Replaces (pairs old.nodes) (pairs new.nodes) ((k, value) ∷ []) []) (own_key marks.node marks.there) marks.content in
+      subst (λ k. Replaces (pairs old.nodes) (pairs new.nodes) ((k, value) ∷ []) []) (own_key place marks.node has marks.is) marks.content in
       record {
-        content_is = map_of-unlinked (pairs old.nodes) (pairs new.nodes) key old_rises (rises-pairs new.nodes after.rising (marks_belong value marks).keyed) value replaces;
+        content_is = map_of-unlinked (pairs old.nodes) (pairs new.nodes) key old_rises (rises-pairs new.nodes after.rising (marks_belong place value marks).keyed) value replaces;
         buckets = same_buckets old new buckets;
-        linked = linked_same old new buckets (λ b. ap (λ (nodes : List NodeAt). has_dummy nodes b) marks.becomes.nodes ∙ has_dummy-marked old.nodes marks.node.place b);
+        linked = linked_same old new buckets (λ b. ap (λ (nodes : List NodeAt). has_dummy nodes b) marks.becomes.nodes ∙ has_dummy-marked old.nodes place b);
         last = marks.becomes.last;
       }
 
-  pub swaps_belong : (was now : ℕ) → Swaps old new c was now → Belong new.nodes
-  swaps_belong was now swaps = subst Belong (sym swaps.becomes.nodes) (belong_written old.nodes swaps.node.place now belong)
+  pub swaps_belong : (place was now : ℕ) → Swaps old new place was now → Belong new.nodes
+  swaps_belong place was now swaps = subst Belong (sym swaps.becomes.nodes) (belong_written old.nodes place now belong)
 
   -- A key that is written has the value.
-  pub swaps_sets : (was now : ℕ) → Swaps old new c was now → (buckets : Directory) → Sets (table_of old buckets) (table_of new buckets) key (Some now)
-  swaps_sets was now swaps buckets =
+  pub swaps_sets : (place was now : ℕ) → HasNode old key place → Swaps old new place was now → (buckets : Directory) → Sets (table_of old buckets) (table_of new buckets) key (Some now)
+  swaps_sets place was now has swaps buckets =
       let replaces : Replaces (pairs old.nodes) (pairs new.nodes) ((key, was) ∷ []) ((key, now) ∷ []) =
-      subst (λ k. Replaces (pairs old.nodes) (pairs new.nodes) ((k, was) ∷ []) ((k, now) ∷ [])) (own_key swaps.node swaps.there) swaps.content in
+      subst (λ k. Replaces (pairs old.nodes) (pairs new.nodes) ((k, was) ∷ []) ((k, now) ∷ [])) (own_key place swaps.node has swaps.is) swaps.content in
       record {
-        content_is = map_of-written (pairs old.nodes) (pairs new.nodes) key old_rises (rises-pairs new.nodes after.rising (swaps_belong was now swaps).keyed) was now replaces;
+        content_is = map_of-written (pairs old.nodes) (pairs new.nodes) key old_rises (rises-pairs new.nodes after.rising (swaps_belong place was now swaps).keyed) was now replaces;
         buckets = same_buckets old new buckets;
-        linked = linked_same old new buckets (λ b. ap (λ (nodes : List NodeAt). has_dummy nodes b) swaps.becomes.nodes ∙ has_dummy-written old.nodes swaps.node.place now b);
+        linked = linked_same old new buckets (λ b. ap (λ (nodes : List NodeAt). has_dummy nodes b) swaps.becomes.nodes ∙ has_dummy-written old.nodes place now b);
         last = swaps.becomes.last;
       }
 
   -- This node is the one that is linked.
-  pub links_node : (x node : NodeAt) → x ≡ node → Links old new c x → LinksNode old new node
-  links_node x node is links = record {
-    before = pred_of c;
-    linked = fits_linked old c fitting;
-    writes = record { nodes = links.takes.nodes ∙ ap (λ (n : NodeAt). linked_after old.nodes (pred_of c) n) is; changes = links.takes.changes };
+  pub links_node : (pred : ℕ) (x node : NodeAt) → HasRoom old key pred → x ≡ node → Links old new pred x → LinksNode old new node
+  links_node pred x node room is links = record {
+    before = pred;
+    linked = found_linked old.nodes pred room.vacant.node room.vacant.is;
+    writes = record { nodes = links.takes.nodes ∙ ap (λ (n : NodeAt). linked_after old.nodes pred n) is; changes = links.takes.changes };
   }
 
   module _ (x : NodeAt) (kind : x.kind ≡ Regular) (unmarked : x.marked ≡ false) (place : x.at ≡ regular_at key) where
-    pub links_belong : Links old new c x → Belong new.nodes
-    links_belong links = subst Belong (sym links.takes.nodes) (belong_linked old.nodes (pred_of c) x key belong kind small place)
+    pub links_belong : (pred : ℕ) → Links old new pred x → Belong new.nodes
+    links_belong pred links = subst Belong (sym links.takes.nodes) (belong_linked old.nodes pred x key belong kind place)
 
     -- A key that is linked is there, with the node's value.
-    pub links_sets : Links old new c x → (buckets : Directory) → Sets (table_of old buckets) (table_of new buckets) key (Some x.value)
-    links_sets links buckets =
+    pub links_sets : (pred : ℕ) → HasRoom old key pred → Links old new pred x → (buckets : Directory) → Sets (table_of old buckets) (table_of new buckets) key (Some x.value)
+    links_sets pred room links buckets =
         let replaces : Replaces (pairs old.nodes) (pairs new.nodes) [] ((key, x.value) ∷ []) =
         subst (λ now. Replaces (pairs old.nodes) (pairs new.nodes) [] now) (pair_regular x kind unmarked ∙ ap (λ (at : SortKey). (at.key, x.value) ∷ []) place) links.content in
         record {
-          content_is = map_of-linked (pairs old.nodes) (pairs new.nodes) key old_rises (rises-pairs new.nodes after.rising (links_belong links).keyed) x.value replaces;
+          content_is = map_of-linked (pairs old.nodes) (pairs new.nodes) key old_rises (rises-pairs new.nodes after.rising (links_belong pred links).keyed) x.value replaces;
           buckets = same_buckets old new buckets;
-          linked = linked_same old new buckets (λ b. ap (λ (nodes : List NodeAt). has_dummy nodes b) links.takes.nodes ∙ has_dummy-regular old.nodes (pred_of c) x b (fits_linked old c fitting) kind);
+          linked = linked_same old new buckets (λ b. ap (λ (nodes : List NodeAt). has_dummy nodes b) links.takes.nodes ∙ has_dummy-regular old.nodes pred x b (found_linked old.nodes pred room.vacant.node room.vacant.is) kind);
           last = links.takes.last;
         }
 

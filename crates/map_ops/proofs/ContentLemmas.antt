@@ -12,7 +12,6 @@ use Rattle.list_steps.specs.Content.{pair_if, pairs, Replaces}
 use Rattle.split_key.specs.declared.sort.SortKey.{SortKey}
 use Rattle.split_key.specs.Split.{split}
 use Rattle.split_key.specs.Sort.{IsBefore, regular_at}
-use Rattle.split_key.proofs.SplitLemmas.{same_from_split}
 use Rattle.split_key.proofs.SortLemmas.{before_apart, split_before}
 use Rattle.bucket_table.specs.Dummies.{IsKeyed}
 use Rattle.txn_trace.specs.Map.{Map, count_of, empty, get, insert, remove}
@@ -21,10 +20,10 @@ use Rattle.txn_trace.proofs.Maps.{get-insert, same_map}
 use Rattle.txn_trace.proofs.Order.{Rises, IsSortedBySplit, value_at, or_else, or_else_none, split_cmp_tied, sorted-rises, value_at-ordered, ordered_rising, ordered-linked, ordered-written, ordered-unlinked, length-ordered}
 use Rattle.map_ops.specs.TableAt.{map_of}
 
--- Where all split keys are above that of a key, the key is not there.
-none_above : (k : ℕ) (es : List (ℕ × ℕ)) → AllByRecursion (λ (other : ℕ × ℕ). split k < split other.0) es → value_at k es ≡ None
+-- Where a key belongs before all others, it is not there.
+none_above : (k : ℕ) (es : List (ℕ × ℕ)) → AllByRecursion (λ (other : ℕ × ℕ). IsBefore (regular_at k) (regular_at other.0)) es → value_at k es ≡ None
 none_above k [] all = refl
-none_above k (e ∷ es) all = ap (λ b. cond b (Some e.1) (value_at k es)) (split_cmp_tied k e.0 ∙ ne_eqb k e.0 (λ same. let equal : split k ≡ split e.0 = ap split same in omega (arith, equal, all.0))) ∙ none_above k es all.1
+none_above k (e ∷ es) all = ap (λ b. cond b (Some e.1) (value_at k es)) (split_cmp_tied k e.0 ∙ ne_eqb k e.0 (λ same. before_apart (regular_at k) (regular_at e.0) all.0 (ap regular_at same))) ∙ none_above k es all.1
 
 get-inserted : (ps : List (ℕ × ℕ)) (m : Map) (q : ℕ) → Rises ps → get (fold (λ (m : Map) (pair : ℕ × ℕ). insert m pair.0 pair.1) m ps) q ≡ or_else (value_at q ps) (get m q)
 get-inserted [] m q rises = refl
@@ -73,42 +72,32 @@ module _ (old new : List (ℕ × ℕ)) (k : ℕ) (old_rises : Rises old) (new_ri
       map_of_is (remove (map_of old) k) new new_rises (r.new_is ∙ ordered-unlinked (map_of old) k v r.before r.after
       (sym r.old_is ∙ ordered-map_of old old_rises))
 
--- Keys in the order of the list have rising split keys.
-split_rises : (j k : ℕ) → j < 2 ^ 63 → k < 2 ^ 63 → IsBefore (regular_at j) (regular_at k) → split j < split k
-split_rises j k small also before = elim (cases_lt (split j) (split k)) [
-  | inl less ↦ less
-  | inr more ↦
-      let least = split_before (regular_at j) (regular_at k) before in
-      let one : j ≡ k = same_from_split j k small also (omega (arith, least, more)) in
-      absurd (before_apart (regular_at j) (regular_at k) before (ap regular_at one))
-]
-
 -- Pairs of nodes that rise, each where its key belongs, rise.
-above_pair : (k : ℕ) (kind : Kind) (marked : Bool) (key value : ℕ) (ps : List (ℕ × ℕ)) → (kind ≡ Regular → split k < split key) → AllByRecursion (λ (other : ℕ × ℕ). split k < split other.0) ps → AllByRecursion (λ (other : ℕ × ℕ). split k < split other.0) (pair_if kind marked key value ++ ps)
+above_pair : (k : ℕ) (kind : Kind) (marked : Bool) (key value : ℕ) (ps : List (ℕ × ℕ)) → (kind ≡ Regular → IsBefore (regular_at k) (regular_at key)) → AllByRecursion (λ (other : ℕ × ℕ). IsBefore (regular_at k) (regular_at other.0)) ps → AllByRecursion (λ (other : ℕ × ℕ). IsBefore (regular_at k) (regular_at other.0)) (pair_if kind marked key value ++ ps)
 above_pair k Dummy marked key value ps here all = all
 above_pair k Regular true key value ps here all = all
 above_pair k Regular false key value ps here all = (here refl, all)
 
-above_pairs : (k : ℕ) (rest : List NodeAt) → k < 2 ^ 63 → AllByRecursion (λ (m : NodeAt). IsBefore (regular_at k) m.at) rest → IsKeyed rest → AllByRecursion (λ (other : ℕ × ℕ). split k < split other.0) (pairs rest)
+above_pairs : (k : ℕ) (rest : List NodeAt) → AllByRecursion (λ (m : NodeAt). IsBefore (regular_at k) m.at) rest → IsKeyed rest → AllByRecursion (λ (other : ℕ × ℕ). IsBefore (regular_at k) (regular_at other.0)) (pairs rest)
 unfolding pairs
-above_pairs k [] small above keyed = tt
-above_pairs k (n ∷ rest) small above keyed =
+above_pairs k [] above keyed = tt
+above_pairs k (n ∷ rest) above keyed =
     above_pair k n.kind n.marked n.at.key n.value (pairs rest)
-    (λ regular. let own = keyed.0 regular in split_rises k n.at.key small own.0 (subst (IsBefore (regular_at k)) own.1 above.0))
-    (above_pairs k rest small above.1 keyed.1)
+    (λ regular. subst (IsBefore (regular_at k)) (keyed.0 regular) above.0)
+    (above_pairs k rest above.1 keyed.1)
 
-rises_pair : (kind : Kind) (marked : Bool) (key value : ℕ) (ps : List (ℕ × ℕ)) → (kind ≡ Regular → AllByRecursion (λ (other : ℕ × ℕ). split key < split other.0) ps) → Rises ps → Rises (pair_if kind marked key value ++ ps)
+rises_pair : (kind : Kind) (marked : Bool) (key value : ℕ) (ps : List (ℕ × ℕ)) → (kind ≡ Regular → AllByRecursion (λ (other : ℕ × ℕ). IsBefore (regular_at key) (regular_at other.0)) ps) → Rises ps → Rises (pair_if kind marked key value ++ ps)
 rises_pair Dummy marked key value ps here rises = rises
 rises_pair Regular true key value ps here rises = rises
 rises_pair Regular false key value ps here rises = (here refl, rises)
 
--- The pairs of a list rise by split keys.
+-- The pairs of a list rise by sort keys.
 pub rises-pairs : (nodes : List NodeAt) → IsRising nodes → IsKeyed nodes → Rises (pairs nodes)
 unfolding pairs IsRising
 rises-pairs [] rising keyed = tt
 rises-pairs (n ∷ rest) rising keyed =
     rises_pair n.kind n.marked n.at.key n.value (pairs rest)
-    (λ regular. let own = keyed.0 regular in above_pairs n.at.key rest own.0 (subst (λ (at : SortKey). AllByRecursion (λ (m : NodeAt). IsBefore at m.at) rest) own.1 rising.0) keyed.1)
+    (λ regular. above_pairs n.at.key rest (subst (λ (at : SortKey). AllByRecursion (λ (m : NodeAt). IsBefore at m.at) rest) (keyed.0 regular) rising.0) keyed.1)
     (rises-pairs rest rising.1 keyed.1)
 
 -- The value at a key in the pairs of nodes.
@@ -127,7 +116,7 @@ pub value_at-absent : (key : ℕ) (nodes : List NodeAt) → IsKeyed nodes → Al
 unfolding pairs
 value_at-absent key [] keyed others = refl
 value_at-absent key (n ∷ rest) keyed others =
-    value_at-other key n.kind n.marked n.at.key n.value (pairs rest) (λ regular same. others.0 ((keyed.0 regular).1 ∙ ap regular_at same))
+    value_at-other key n.kind n.marked n.at.key n.value (pairs rest) (λ regular same. others.0 (keyed.0 regular ∙ ap regular_at same))
     ∙ value_at-absent key rest keyed.1 others.1
 
 -- A regular, unmarked node of the key is linked: the key has its value.
@@ -142,7 +131,7 @@ value_at-there key (m ∷ rest) place n rising keyed is kind at unmarked = elim 
   | inr past ↦
       let later : node_of rest place ≡ Some n = rw past.0 at is in
       let below : IsNodeBefore m n = each_found (IsNodeBefore m) rest place n rising.0 later in
-      value_at-other key m.kind m.marked m.at.key m.value (pairs rest) (λ regular same. before_apart m.at n.at below ((keyed.0 regular).1 ∙ ap regular_at same ∙ sym at))
+      value_at-other key m.kind m.marked m.at.key m.value (pairs rest) (λ regular same. before_apart m.at n.at below (keyed.0 regular ∙ ap regular_at same ∙ sym at))
       ∙ value_at-there key rest place n rising.1 keyed.1 later kind at unmarked
 ]
 

@@ -1,5 +1,5 @@
 -- What is done to the table by the steps at a key.
-use Rattle.std.proofs.Common.{◌≡◌, ℕ, List, Option, Some, None, true, sym, ◌∙◌, ap}
+use Rattle.std.proofs.Common.{◌≡◌, ℕ, List, Option, Some, None, Bool, true, false, cond, refl, sym, ◌∙◌, ap, subst}
 use Rattle.node_list.specs.Nodes.{NodeAt, Listing, SpareAt}
 use Rattle.node_list.specs.Sound.{IsSound}
 use Rattle.list_steps.specs.declared.cursor.Cursor.{Cursor}
@@ -11,42 +11,83 @@ use Rattle.split_key.specs.Sort.{regular_at}
 use Rattle.bucket_table.specs.Directory.{Directory}
 use Rattle.bucket_table.specs.Dummies.{has_dummy}
 use Rattle.bucket_table.proofs.DummyLemmas.{has_dummy-sought}
-use Rattle.txn_trace.specs.declared.op.Op.TheVariants.{Put, Take}
-use Rattle.txn_trace.specs.Map.{get}
+use Rattle.txn_trace.specs.declared.op.Op.TheVariants.{Put, Take, Get, PutIf}
+use Rattle.std.specs.Prelude.{nat_eq}
+use Rattle.std.specs.Option.{option_eq}
+use Rattle.txn_trace.specs.Map.{get, insert}
 use Rattle.map_ops.specs.declared.job.MapJob.TheVariants.{Unput, Restore, Relink}
-use Rattle.map_ops.specs.TableAt.{content, map_of, table_of, KeepsSpares}
+use Rattle.map_ops.specs.TableAt.{TableAt, content, map_of, table_of, KeepsSpares}
 use Rattle.map_ops.specs.declared.job.MapJob.{MapJob}
 use Rattle.map_ops.specs.Jobs.{unput, relink, key_of_job, value_before, spare_of_job}
-use Rattle.map_ops.specs.Changes.{Does, GivesBack, Places, Spends, TakesBack}
+use Rattle.map_ops.specs.Changes.{Does, GivesBack, Places, Spends, SpendsFor, TakesBack}
 use Rattle.map_ops.specs.Steps.{Sets}
 use Rattle.map_ops.proofs.BelongLemmas.{linked_same}
 use Rattle.map_ops.proofs.KeepLemmas.{placed_on, same_buckets}
 use Rattle.map_ops.proofs.RemoveLemmas.{remove-absent}
 
-module _ (old mid new : Listing) (buckets : Directory) (k : ℕ) (before : Option ℕ) (before_is : before ≡ get (content (table_of old buckets)) k) (spare : SpareAt) where
-  pub does_put_new : (v : ℕ) → before ≡ None → Sets (table_of old buckets) (table_of new buckets) k (Some v) → Spends (table_of old buckets) (table_of new buckets) (Some spare)
-      → Does (table_of old buckets) (table_of new buckets) (record { op = Put k v; spare = Some spare }) before (Some (Unput k))
-  does_put_new v none sets spends = record {
+-- A spare that is given back after the write leaves what is written.
+pub sets_then_back : (old mid new : Listing) (buckets : Directory) (k : ℕ) (value : Option ℕ) (spare : SpareAt) → Sets (table_of old buckets) (table_of mid buckets) k value → GivesBack (table_of mid buckets) (table_of new buckets) (Some spare)
+    → Sets (table_of old buckets) (table_of new buckets) k value
+sets_then_back old mid new buckets k value spare sets gives = record {
+  content_is = ap map_of gives.nodes.regular ∙ sets.content_is;
+  buckets = same_buckets old new buckets;
+  linked = gives.nodes.linked ∙ sets.linked;
+  last = gives.last ∙ sets.last;
+}
+
+-- And is out no more.
+pub keeps_then_back : (old mid new : Listing) (buckets : Directory) (spare : SpareAt) → KeepsSpares (table_of old buckets) (table_of mid buckets) → GivesBack (table_of mid buckets) (table_of new buckets) (Some spare)
+    → Spends (table_of old buckets) (table_of new buckets) (Some spare)
+keeps_then_back old mid new buckets spare keeps gives = (gives.spares.0, λ other apart. gives.spares.1 other apart ∙ keeps other)
+
+-- The spare of a put is not its job's.
+put_spends : (old new : TableAt) (k : ℕ) (before : Option ℕ) (spare : Option SpareAt) (job : Option MapJob) → job ≡ unput k before → Spends old new spare → SpendsFor old new spare job
+put_spends old new k None spare job is spends = subst (SpendsFor old new spare) (sym is) spends
+put_spends old new k (Some value) spare job is spends = subst (SpendsFor old new spare) (sym is) spends
+
+module _ (old new : Listing) (buckets : Directory) (k : ℕ) (before : Option ℕ) (before_is : before ≡ get (content (table_of old buckets)) k) (spare : SpareAt) where
+  -- A put.
+  pub does_put : (v : ℕ) (job : Option MapJob) → job ≡ unput k before → Sets (table_of old buckets) (table_of new buckets) k (Some v) → Spends (table_of old buckets) (table_of new buckets) (Some spare)
+      → Does (table_of old buckets) (table_of new buckets) (record { op = Put k v; spare = Some spare }) before job
+  does_put v job job_is sets spends = record {
     reply_is = before_is;
     content_is = sets.content_is;
-    job_is = ap (unput k) (sym none ∙ before_is);
-    spares = spends;
+    job_is = job_is ∙ ap (unput k) before_is;
+    spares = put_spends (table_of old buckets) (table_of new buckets) k before (Some spare) job job_is spends;
     buckets = same_buckets old new buckets;
     linked = sets.linked;
     last = sets.last;
   }
 
-  pub does_put_over : (v value : ℕ) → before ≡ Some value → Sets (table_of old buckets) (table_of mid buckets) k (Some v) → KeepsSpares (table_of old buckets) (table_of mid buckets) → GivesBack (table_of mid buckets) (table_of new buckets) (Some spare)
-      → Does (table_of old buckets) (table_of new buckets) (record { op = Put k v; spare = Some spare }) before (Some (Restore k value))
-  does_put_over v value some sets keeps gives = record {
-    reply_is = before_is;
-    content_is = ap map_of gives.nodes.regular ∙ sets.content_is;
-    job_is = ap (unput k) (sym some ∙ before_is);
-    spares = (gives.spares.0, λ other apart. gives.spares.1 other apart ∙ keeps other);
-    buckets = same_buckets old new buckets;
-    linked = gives.nodes.linked ∙ sets.linked;
-    last = gives.last ∙ sets.last;
-  }
+  -- A put whose condition holds.
+  pub does_put_if : (v : ℕ) (expected : Option ℕ) (job : Option MapJob) → option_eq nat_eq before expected ≡ true → job ≡ unput k before → Sets (table_of old buckets) (table_of new buckets) k (Some v) → Spends (table_of old buckets) (table_of new buckets) (Some spare)
+      → Does (table_of old buckets) (table_of new buckets) (record { op = PutIf k expected v; spare = Some spare }) before job
+  does_put_if v expected job holds job_is sets spends =
+      let there : option_eq nat_eq (get (content (table_of old buckets)) k) expected ≡ true = ap (λ (o : Option ℕ). option_eq nat_eq o expected) (sym before_is) ∙ holds in
+      record {
+        reply_is = before_is;
+        content_is = sets.content_is ∙ sym (ap (λ (b : Bool). cond b (insert (content (table_of old buckets)) k v) (content (table_of old buckets))) there);
+        job_is = job_is ∙ ap (unput k) before_is ∙ sym (ap (λ (b : Bool). cond b (unput k (get (content (table_of old buckets)) k)) None) there);
+        spares = put_spends (table_of old buckets) (table_of new buckets) k before (Some spare) job job_is spends;
+        buckets = same_buckets old new buckets;
+        linked = sets.linked;
+        last = sets.last;
+      }
+
+  -- A put whose condition does not hold.
+  pub does_put_if_not : (v : ℕ) (expected : Option ℕ) → option_eq nat_eq before expected ≡ false → GivesBack (table_of old buckets) (table_of new buckets) (Some spare)
+      → Does (table_of old buckets) (table_of new buckets) (record { op = PutIf k expected v; spare = Some spare }) before None
+  does_put_if_not v expected differs gives =
+      let other : option_eq nat_eq (get (content (table_of old buckets)) k) expected ≡ false = ap (λ (o : Option ℕ). option_eq nat_eq o expected) (sym before_is) ∙ differs in
+      record {
+        reply_is = before_is;
+        content_is = ap map_of gives.nodes.regular ∙ sym (ap (λ (b : Bool). cond b (insert (content (table_of old buckets)) k v) (content (table_of old buckets))) other);
+        job_is = sym (ap (λ (b : Bool). cond b (unput k (get (content (table_of old buckets)) k)) None) other);
+        spares = gives.spares;
+        buckets = same_buckets old new buckets;
+        linked = gives.nodes.linked;
+        last = gives.last;
+      }
 
   pub does_take : (value : ℕ) → before ≡ Some value → Sets (table_of old buckets) (table_of new buckets) k None → KeepsSpares (table_of old buckets) (table_of new buckets)
       → Does (table_of old buckets) (table_of new buckets) (record { op = Take k; spare = Some spare }) before (Some (Relink k value spare))
@@ -71,6 +112,19 @@ module _ (old mid new : Listing) (buckets : Directory) (k : ℕ) (before : Optio
     linked = gives.nodes.linked;
     last = gives.last;
   }
+
+-- A get changes nothing.
+pub does_get : (list : Listing) (buckets : Directory) (k : ℕ) (reply : Option ℕ) → reply ≡ get (content (table_of list buckets)) k
+    → Does (table_of list buckets) (table_of list buckets) (record { op = Get k; spare = None }) reply None
+does_get list buckets k reply is = record {
+  reply_is = is;
+  content_is = refl;
+  job_is = refl;
+  spares = λ place. refl;
+  buckets = same_buckets list list buckets;
+  linked = refl;
+  last = refl;
+}
 
 -- A key is sought.
 pub places : (old new : Listing) (buckets : Directory) (key from : ℕ) (bound : SortKey) (c : Cursor) → IsSound old → new.nodes ≡ sought old.nodes from bound → KeepsRest old new → pairs new.nodes ≡ pairs old.nodes

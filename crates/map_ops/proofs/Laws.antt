@@ -1,12 +1,13 @@
 -- What layers above rest on.
 use Rattle.std.proofs.Common.{◌≡◌, ◌≢◌, ℕ, inl, inr, Bool, true, false, cond, Option, Some, None, [], refl, sym, ap, subst, ◌∙◌}
-use Rattle.std.specs.Prelude.{is_some, IfSome}
+use Rattle.std.specs.Prelude.{is_some, IfSome, nat_eq}
+use Rattle.std.specs.Option.{option_eq}
 use Rattle.std.proofs.lemmas.Bool.{cases_eq, eq-eqb, false≢true, ne_eqb}
 use Rattle.node_list.specs.Nodes.{SpareAt, out_at}
 use Rattle.node_list.proofs.OrderLemmas.{some-injective, some-none}
 use Rattle.bucket_table.specs.Directory.{Directory}
 use Rattle.txn_trace.specs.declared.op.Op.{Op}
-use Rattle.txn_trace.specs.declared.op.Op.TheVariants.{Put, Take, Get}
+use Rattle.txn_trace.specs.declared.op.Op.TheVariants.{Put, Take, Get, PutIf}
 use Rattle.txn_trace.specs.Map.{Map, after, get, insert, remove}
 use Rattle.txn_trace.specs.Now.{set_at}
 use Rattle.txn_trace.proofs.Maps.{get-insert, get-remove, get-insert-here, get-remove-here, same_map}
@@ -43,13 +44,14 @@ shows_before old new job back =
 abbrev pub no_buckets : Directory
 no_buckets = record { size = 0; entries = []; helpers = [] }
 
+-- The job of a put is due on what it leaves.
+put_is_due : (m : Map) (k v : ℕ) (job : MapJob) (o : Option ℕ) → unput k o ≡ Some job → IsDue (insert m k v) job
+put_is_due m k v job None same = subst (IsDue (insert m k v)) (some-injective same) (ap is_some (get-insert-here m k v))
+put_is_due m k v job (Some old) same = subst (IsDue (insert m k v)) (some-injective same) (ap is_some (get-insert-here m k v))
+
 -- A job is due on what its operation leaves, and gives the map before it.
 pub job_is_due : (m : Map) (op : Op) (spare : Option SpareAt) (job : MapJob) → job_of m op spare ≡ Some job → IsDue (after m op) job
-job_is_due m (Put k v) spare job is = go (get m k) is
-  where
-    go : (o : Option ℕ) → unput k o ≡ Some job → IsDue (insert m k v) job
-    go None same = subst (IsDue (insert m k v)) (some-injective same) (ap is_some (get-insert-here m k v))
-    go (Some old) same = subst (IsDue (insert m k v)) (some-injective same) (ap is_some (get-insert-here m k v))
+job_is_due m (Put k v) spare job is = put_is_due m k v job (get m k) is
 job_is_due m (Take k) spare job is = go (get m k) spare is
   where
     go : (o : Option ℕ) (s : Option SpareAt) → relink k o s ≡ Some job → IsDue (remove m k) job
@@ -57,6 +59,11 @@ job_is_due m (Take k) spare job is = go (get m k) spare is
     go (Some old) None same = absurd (some-none (sym same))
     go (Some old) (Some s) same = subst (IsDue (remove m k)) (some-injective same) (get-remove-here m k)
 job_is_due m (Get k) spare job is = absurd (some-none (sym is))
+job_is_due m (PutIf k expected v) spare job is = go (option_eq nat_eq (get m k) expected) is
+  where
+    go : (b : Bool) → cond b (unput k (get m k)) None ≡ Some job → IsDue (cond b (insert m k v) m) job
+    go true same = put_is_due m k v job (get m k) same
+    go false same = absurd (some-none (sym same))
 
 -- Writing over a key and setting it to what it was.
 set_at-insert : (m : Map) (k v : ℕ) (before : Option ℕ) → get m k ≡ before → set_at (insert m k v) k before ≡ m
@@ -71,12 +78,13 @@ set_at-remove m k before is = same_map _ m (λ q. get-set_at (remove m k) k befo
   | inr other ↦ ap (λ b. cond b before (get (remove m k) q)) (ne_eqb q k other) ∙ get-remove m k q ∙ ap (λ b. cond b None (get m q)) (ne_eqb q k other)
 ])
 
+-- And gives the map before it.
+put_set_at : (m : Map) (k v : ℕ) (job : MapJob) (o : Option ℕ) → get m k ≡ o → unput k o ≡ Some job → set_at (insert m k v) (key_of_job job) (value_before job) ≡ m
+put_set_at m k v job None was same = subst (λ j. set_at (insert m k v) (key_of_job j) (value_before j) ≡ m) (some-injective same) (set_at-insert m k v None was)
+put_set_at m k v job (Some old) was same = subst (λ j. set_at (insert m k v) (key_of_job j) (value_before j) ≡ m) (some-injective same) (set_at-insert m k v (Some old) was)
+
 pub set_at-after : (m : Map) (op : Op) (spare : Option SpareAt) (job : MapJob) → job_of m op spare ≡ Some job → set_at (after m op) (key_of_job job) (value_before job) ≡ m
-set_at-after m (Put k v) spare job is = go (get m k) refl is
-  where
-    go : (o : Option ℕ) → get m k ≡ o → unput k o ≡ Some job → set_at (insert m k v) (key_of_job job) (value_before job) ≡ m
-    go None was same = subst (λ j. set_at (insert m k v) (key_of_job j) (value_before j) ≡ m) (some-injective same) (set_at-insert m k v None was)
-    go (Some old) was same = subst (λ j. set_at (insert m k v) (key_of_job j) (value_before j) ≡ m) (some-injective same) (set_at-insert m k v (Some old) was)
+set_at-after m (Put k v) spare job is = put_set_at m k v job (get m k) refl is
 set_at-after m (Take k) spare job is = go (get m k) spare refl is
   where
     go : (o : Option ℕ) (s : Option SpareAt) → get m k ≡ o → relink k o s ≡ Some job → set_at (remove m k) (key_of_job job) (value_before job) ≡ m
@@ -84,14 +92,20 @@ set_at-after m (Take k) spare job is = go (get m k) spare refl is
     go (Some old) None was same = absurd (some-none (sym same))
     go (Some old) (Some s) was same = subst (λ j. set_at (remove m k) (key_of_job j) (value_before j) ≡ m) (some-injective same) (set_at-remove m k (Some old) was)
 set_at-after m (Get k) spare job is = absurd (some-none (sym is))
+set_at-after m (PutIf k expected v) spare job is = go (option_eq nat_eq (get m k) expected) is
+  where
+    go : (b : Bool) → cond b (unput k (get m k)) None ≡ Some job → set_at (cond b (insert m k v) m) (key_of_job job) (value_before job) ≡ m
+    go true same = put_set_at m k v job (get m k) refl same
+    go false same = absurd (some-none (sym same))
+
+-- A put always has a job.
+put_no_job : (m : Map) (k v : ℕ) (o : Option ℕ) → unput k o ≡ None → insert m k v ≡ m
+put_no_job m k v None none = absurd (some-none none)
+put_no_job m k v (Some old) none = absurd (some-none none)
 
 -- An operation without a job leaves the map.
 pub after-no_job : (m : Map) (op : Op) (spare : Option SpareAt) → is_some spare ≡ takes_node op → job_of m op spare ≡ None → after m op ≡ m
-after-no_job m (Put k v) spare given is = go (get m k) is
-  where
-    go : (o : Option ℕ) → unput k o ≡ None → insert m k v ≡ m
-    go None none = absurd (some-none none)
-    go (Some old) none = absurd (some-none none)
+after-no_job m (Put k v) spare given is = put_no_job m k v (get m k) is
 after-no_job m (Take k) spare given is = go (get m k) spare refl given is
   where
     go : (o : Option ℕ) (s : Option SpareAt) → get m k ≡ o → is_some s ≡ true → relink k o s ≡ None → remove m k ≡ m
@@ -99,6 +113,11 @@ after-no_job m (Take k) spare given is = go (get m k) spare refl given is
     go (Some old) None was there none = absurd (false≢true there)
     go (Some old) (Some s) was there none = absurd (some-none none)
 after-no_job m (Get k) spare given is = refl
+after-no_job m (PutIf k expected v) spare given is = go (option_eq nat_eq (get m k) expected) is
+  where
+    go : (b : Bool) → cond b (unput k (get m k)) None ≡ None → cond b (insert m k v) m ≡ m
+    go true none = put_no_job m k v (get m k) none
+    go false none = refl
 
 -- After an operation that was done at once, the table shows what its job names as after.
 pub shows_after : (old new : TableAt) (op : Op) (reply : Option ℕ) (job : MapJob) → Applies old new op reply (Some job) → ShowsAfter job new

@@ -8,7 +8,7 @@ use Rattle.map_ops.specs.Sound.{Belong, IsSound}
 
 -- A later list in which each node stands where it belongs.
 pub still_sound : (old new : Listing) (buckets : Directory) → IsSound old buckets → Follows old new → Belong new.nodes → IsSound new buckets
-still_sound old new buckets sound follows belong = record { home = still_home old new follows buckets sound.home; belong = belong }
+still_sound old new buckets sound follows belong = record { sound = follows.sound sound.sound; home = still_home old new follows buckets sound.home; belong = belong }
 
 -- A later list of the same nodes.
 pub sound_with_nodes : (old new : Listing) (buckets : Directory) → IsSound old buckets → Follows old new → new.nodes ≡ old.nodes → IsSound new buckets

@@ -1,18 +1,21 @@
 -- What a cursor says of the content.
-use Rattle.std.proofs.Common.{◌≡◌, ◌≢◌, ℕ, ◌<◌, ◌^◌, ◌%◌, Option, Some, None, true, refl, sym, ◌∙◌, ap, subst, arith}
-use Rattle.std.specs.Prelude.{IsSome, IsSomeAnd, IsTrue, is_some}
+use Rattle.std.proofs.Common.{◌≡◌, ◌≢◌, ℕ, ◌%◌, Option, Some, None, true, refl, sym, ◌∙◌, ap, subst, arith}
+use Rattle.std.specs.Prelude.{IfOk, IsSome, Result, Ok, Err, is_ok, is_some}
+use Rattle.list_steps.specs.declared.cursor.Again.{Again}
 use Rattle.std.proofs.lemmas.Bool.{false≢true}
 use Rattle.std.specs.List.{AllByRecursion}
 use Rattle.node_list.specs.declared.node.Kind.{Kind}
 use Rattle.node_list.specs.declared.node.Kind.TheVariants.{Dummy, Regular}
-use Rattle.node_list.specs.Nodes.{NodeAt, Listing, is_regular, place_of}
+use Rattle.node_list.specs.Nodes.{NodeAt, Listing, IsLinked, node_of}
+use Rattle.node_list.specs.Order.{IsVacant}
+use Rattle.node_list.proofs.NodesLemmas.{found_linked, place-found}
 use Rattle.node_list.specs.Sound.{IsSound}
-use Rattle.node_list.proofs.OrderLemmas.{some-none, each_found}
+use Rattle.node_list.proofs.OrderLemmas.{some-injective, some-none, each_found}
 use Rattle.list_steps.specs.declared.cursor.Cursor.{Cursor}
 use Rattle.list_steps.specs.Content.{pairs}
-use Rattle.list_steps.specs.Found.{at_of, fits, node_there, IsPlaced, IsRoomFor, IsKeyThere}
+use Rattle.list_steps.specs.Found.{at_of, fits, node_there, pred_of, IsPlaced}
+use Rattle.list_steps.specs.Steps.{IsAbsent, Finds}
 use Rattle.list_steps.proofs.CursorLemmas.{there}
-use Rattle.list_steps.proofs.StepLemmas.{finds}
 use Rattle.split_key.specs.declared.sort.SortKey.{SortKey}
 use Rattle.split_key.specs.Sort.{regular_at}
 use Rattle.split_key.proofs.SplitLemmas.{split_odd}
@@ -20,51 +23,74 @@ use Rattle.txn_trace.specs.Map.{get}
 use Rattle.txn_trace.proofs.Order.{Rises}
 use Rattle.map_ops.specs.TableAt.{map_of}
 use Rattle.map_ops.specs.Sound.{Belong, IsEvenDummy}
+use Rattle.map_ops.specs.Steps.{HasNode, HasRoom, Stands, place_in}
 use Rattle.map_ops.proofs.ContentLemmas.{rises-pairs, get-map_of, value_at-absent, value_at-there}
 
 -- A node that stands where a key belongs is the key's.
-pub regular_of : (n : NodeAt) (key : ℕ) → key < 2 ^ 63 → IsEvenDummy n → n.at ≡ regular_at key → n.kind ≡ Regular
-regular_of n key small even same = go n.kind refl
+pub regular_of : (n : NodeAt) (key : ℕ) → IsEvenDummy n → n.at ≡ regular_at key → n.kind ≡ Regular
+regular_of n key even same = go n.kind refl
   where
     go : (kind : Kind) → n.kind ≡ kind → n.kind ≡ Regular
     go Dummy is =
-        let odd = split_odd key small in
+        let odd = split_odd key in
         let no : n.at.split % 2 ≡ 0 = even is in
         let there = ap (λ (at : SortKey). at.split) same in
         absurd (omega (arith, odd, no, there))
     go Regular is = is
 
-module _ (l : Listing) (c : Cursor) (key : ℕ) (sound : IsSound l) (belong : Belong l.nodes) (placed : IsPlaced l c) (fitting : fits l c ≡ true) (same : at_of c ≡ regular_at key) (small : key < 2 ^ 63) where
-  pub rises : Rises (pairs l.nodes)
+module _ (l : Listing) (c : Cursor) (key : ℕ) (sound : IsSound l) (belong : Belong l.nodes) (placed : IsPlaced l c) (fitting : fits l c ≡ true) (same : at_of c ≡ regular_at key) where
+  rises : Rises (pairs l.nodes)
   rises = rises-pairs l.nodes sound.rising belong.keyed
 
-  pub kind_there : (n : NodeAt) → node_there l c ≡ Some n → n.kind ≡ Regular
+  kind_there : (n : NodeAt) → node_there l c ≡ Some n → n.kind ≡ Regular
   kind_there n is =
       let at = there l c n sound.spread fitting is in
-      regular_of n key small (each_found IsEvenDummy l.nodes n.place n belong.even at.is) (at.at ∙ same)
+      regular_of n key (each_found IsEvenDummy l.nodes n.place n belong.even at.is) (at.at ∙ same)
 
   -- The node at the cursor has the key's value.
-  pub get-there : (n : NodeAt) → node_there l c ≡ Some n → get (map_of (pairs l.nodes)) key ≡ Some n.value
+  get-there : (n : NodeAt) → node_there l c ≡ Some n → get (map_of (pairs l.nodes)) key ≡ Some n.value
   get-there n is =
       let at = there l c n sound.spread fitting is in
       get-map_of (pairs l.nodes) key rises ∙ value_at-there key l.nodes n.place n sound.rising belong.keyed at.is (kind_there n is) (at.at ∙ same) at.unmarked
 
   -- Without one the key is not there.
-  pub get-absent : node_there l c ≡ None → get (map_of (pairs l.nodes)) key ≡ None
-  get-absent is =
-      let absent = finds l c sound placed fitting None (ap place_of (sym is)) in
+  get-absent : IsAbsent l c → get (map_of (pairs l.nodes)) key ≡ None
+  get-absent absent =
       get-map_of (pairs l.nodes) key rises ∙ value_at-absent key l.nodes belong.keyed (subst (λ (s : SortKey). AllByRecursion (λ (n : NodeAt). n.at ≢ s) l.nodes) same absent.others)
 
-  pub room : get (map_of (pairs l.nodes)) key ≡ None → IsRoomFor l c
-  room none fit = go (node_there l c) refl
-    where
-      go : (o : Option NodeAt) → node_there l c ≡ o → node_there l c ≡ None
-      go None is = is
-      go (Some n) is = absurd (some-none (sym (get-there n is) ∙ none))
+  -- What stands where the cursor is tells where the key's node is, or would belong.
+  pub stands : (found : Option ℕ) → Finds l c found → Stands l key (pred_of c) found
+  stands None absent = record { vacant = subst (IsVacant l.nodes (pred_of c)) same absent.vacant; none = get-absent absent }
+  stands (Some place) at =
+      let own : at.node.place ≡ place = place-found l.nodes place at.node at.is in
+      record {
+        node = at.node;
+        its = record { is = ap (node_of l.nodes) own ∙ at.is; kind = kind_there at.node at.there; at = at.at ∙ same; unmarked = at.unmarked };
+        place_is = sym own;
+        value = get-there at.node at.there;
+      }
 
-  pub key_there : IsSome (get (map_of (pairs l.nodes)) key) → IsKeyThere l c
-  key_there some fit = go (node_there l c) refl
-    where
-      go : (o : Option NodeAt) → node_there l c ≡ o → IsSomeAnd (node_there l c) (λ n. IsTrue (is_regular n.kind))
-      go None is = absurd (false≢true (sym (ap is_some (get-absent is)) ∙ some))
-      go (Some n) is = subst (λ o. IsSomeAnd o (λ (m : NodeAt). IsTrue (is_regular m.kind))) (sym is) (ap is_regular (kind_there n is))
+-- What a look answers so.
+pub found : (l : Listing) (c : Cursor) (key : ℕ) → IsSound l → Belong l.nodes → IsPlaced l c → at_of c ≡ regular_at key
+    → (result : Result (Option ℕ) Again) → fits l c ≡ is_ok result → IfOk result (Finds l c) → IfOk result (Stands l key (pred_of c))
+found l c key sound belong placed same (Ok there) fitting finds = stands l c key sound belong placed fitting same there finds
+found l c key sound belong placed same (Err again) fitting finds = tt
+
+-- A key that is there has its node at the place.
+pub occupied : (l : Listing) (key pred : ℕ) (there : Option ℕ) → Stands l key pred there → IsSome (get (map_of (pairs l.nodes)) key) → HasNode l key (place_in pred there)
+occupied l key pred None room some = absurd (false≢true (sym (ap is_some room.none) ∙ some))
+occupied l key pred (Some place) has some = has
+
+-- And one that is not belongs behind the node at the place.
+pub vacant : (l : Listing) (key pred : ℕ) (there : Option ℕ) → Stands l key pred there → get (map_of (pairs l.nodes)) key ≡ None → HasRoom l key (place_in pred there)
+vacant l key pred None room none = room
+vacant l key pred (Some place) has none = absurd (some-none (sym has.value ∙ none))
+
+-- The key's node is linked.
+pub node_linked : (l : Listing) (key place : ℕ) → HasNode l key place → IsLinked l.nodes place
+node_linked l key place has = found_linked l.nodes place has.node (ap (node_of l.nodes) has.place_is ∙ has.its.is)
+
+-- Its value is the key's.
+pub value_there : (l : Listing) (key place : ℕ) (n : NodeAt) → HasNode l key place → node_of l.nodes place ≡ Some n → Some n.value ≡ get (map_of (pairs l.nodes)) key
+value_there l key place n has is =
+    ap (λ (m : NodeAt). Some m.value) (some-injective (sym is ∙ ap (node_of l.nodes) has.place_is ∙ has.its.is)) ∙ sym has.value

@@ -15,12 +15,12 @@ use Rattle.bucket_table.specs.Changes as buckets
 use Rattle.bucket_table.specs.Directory.{Directory}
 use Rattle.bucket_table.specs.Dummies.{dummy_node}
 use Rattle.map_ops.specs.TableAt.{Sought, help_of, table_of}
-use Rattle.map_ops.specs.Buckets.{LinkWrites, SeekWrites}
+use Rattle.map_ops.specs.Buckets.{LinkWrites, SeekWrites, answered}
 
 -- What a seek writes.
 pub seek_writes : (before after : Listing) (old new : Directory) (helper bucket : ℕ) (result : Result InitSeek InitRefusal)
     → buckets.SeekChanges old new before after helper bucket result
-    → SeekWrites (table_of before old) (table_of after new) bucket result
+    → SeekWrites (table_of before old) (table_of after new) bucket (answered result)
 seek_writes before after old new helper bucket (Ok Ready) changes = changes.1
 seek_writes before after old new helper bucket (Ok Placed) seeks = record { start = seeks.from; parent = seeks.parent; nodes = seeks.nodes; changes = seeks.changes }
 seek_writes before after old new helper bucket (Err refusal) changes = changes.1
@@ -29,7 +29,7 @@ seek_writes before after old new helper bucket (Err refusal) changes = changes.1
 pub link_writes : (before after : Listing) (old new : Directory) (helper bucket turn : ℕ) (result : Result InitLink InitRefusal)
     → slice_get (map help_of old.helpers) helper ≡ Some (Sought bucket turn)
     → buckets.LinkChanges old new before after helper result
-    → LinkWrites (table_of before old) (table_of after new) bucket result
+    → LinkWrites (table_of before old) (table_of after new) bucket (answered result)
 link_writes before after old new helper bucket turn (Ok Again) had changes = changes.1
 link_writes before after old new helper bucket turn (Ok Present) had changes = changes.1
 link_writes before after old new helper bucket turn (Ok Linked) had links =

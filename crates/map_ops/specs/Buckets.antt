@@ -2,7 +2,7 @@
 use Rattle.std.specs.Prelude.{◌≡◌, ℕ, ◌+◌, ◌-◌, Bool, true, false, Option, Some, Result, Ok, Err, List, slice_set, slice_index_or}
 use Rattle.std.specs.List.{slice_get}
 pub use Rattle.split_key.specs.Split.{parent_of}
-pub use Rattle.bucket_table.specs.Answers.{store_answer, double_answer}
+pub use Rattle.bucket_table.specs.Answers.{double_answer}
 use Rattle.bucket_table.specs.Answers as buckets
 use Rattle.split_key.specs.Sort.{dummy_at}
 use Rattle.list_steps.specs.Seek.{sought}
@@ -13,6 +13,9 @@ use Rattle.bucket_table.specs.declared.answer.InitSeek.TheVariants.{Ready, Place
 use Rattle.bucket_table.specs.declared.answer.InitLink.{InitLink}
 use Rattle.bucket_table.specs.declared.answer.InitLink.TheVariants.{Again, Present, Linked}
 use Rattle.bucket_table.specs.declared.answer.InitRefusal.{InitRefusal}
+use Rattle.bucket_table.specs.declared.answer.InitRefusal.TheVariants.{NoSuchBucket, ParentMissing, NoSuchHelper, HelperOutOfOrder, NoMemory, StampsUsedUp}
+use Rattle.txn_trace.specs.declared.refusal.Refusal.{Refusal}
+use Rattle.txn_trace.specs.declared.refusal.Refusal.TheVariants as refusals
 use Rattle.bucket_table.specs.declared.answer.Double.{Double}
 use Rattle.bucket_table.specs.declared.answer.Double.TheVariants.{Moved, AtLimit, Light, Doubled}
 use Rattle.map_ops.specs.TableAt.{TableAt, Help, Nothing, Sought, Dummy, regular, turn_of, last_of, largest_of, size_of, stored_of, linked_of, helps_of, nodes_of, KeepsList, KeepsSpares}
@@ -23,18 +26,39 @@ pub use Rattle.map_ops.specs.TableAt.{helper_fits}
 abbrev pub is_stored : List Bool → ℕ → Bool
 is_stored stored bucket = slice_index_or stored bucket false
 
+-- The refusal of a call on buckets, as steps name it.
+abbrev pub refusal_for : InitRefusal → Refusal
+refusal_for NoSuchBucket = refusals.NoSuchBucket
+refusal_for ParentMissing = refusals.ParentMissing
+refusal_for NoSuchHelper = refusals.NoSuchHelper
+refusal_for HelperOutOfOrder = refusals.HelperOutOfOrder
+refusal_for NoMemory = refusals.NoMemory
+refusal_for StampsUsedUp = refusals.StampsUsedUp
+
+-- What a call on buckets is answered, with that refusal.
+abbrev pub answered : {A : Type 0} → Result A InitRefusal → Result A Refusal
+answered (Ok done) = Ok done
+answered (Err refusal) = Err (refusal_for refusal)
+
 -- What a seek for a bucket by a helper that has this is answered, at this size and with these
 -- buckets stored.
-abbrev pub seek_answer : ℕ → List Bool → Option Help → ℕ → Result InitSeek InitRefusal
-seek_answer size stored help bucket = buckets.seek_answer size (is_stored stored) help bucket
+abbrev pub seek_answer : ℕ → List Bool → Option Help → ℕ → Result InitSeek Refusal
+seek_answer size stored help bucket =
+    answered (buckets.seek_answer size (is_stored stored) help bucket)
 
 -- What a link by a helper that has this is answered, where memory lasts.
-abbrev pub link_answer : Bool → List Bool → ℕ → Option Help → Result InitLink InitRefusal
-link_answer fitting linked last help = buckets.link_answer fitting (is_stored linked) last help
+abbrev pub link_answer : Bool → List Bool → ℕ → Option Help → Result InitLink Refusal
+link_answer fitting linked last help =
+    answered (buckets.link_answer fitting (is_stored linked) last help)
 
 -- What a link by the helper of this number is answered by a table, where memory lasts.
-abbrev pub link_answer_of : TableAt → ℕ → Result InitLink InitRefusal
-link_answer_of t helper = link_answer (helper_fits t helper) (linked_of t) (last_of t) (slice_get (helps_of t) helper)
+abbrev pub link_answer_of : TableAt → ℕ → Result InitLink Refusal
+link_answer_of t helper =
+    link_answer (helper_fits t helper) (linked_of t) (last_of t) (slice_get (helps_of t) helper)
+
+-- What a store by a helper that has this is answered.
+abbrev pub store_answer : Option Help → Result Unit Refusal
+store_answer help = answered (buckets.store_answer help)
 
 -- The size after a doubling that was answered so.
 abbrev pub size_after : ℕ → Double → ℕ
@@ -73,13 +97,13 @@ pub record SeeksBucket (old new : TableAt) (bucket : ℕ) : Type 0 where
   pub changes : IsUnlinking old.list new.list
 
 -- What a seek for a bucket writes.
-abbrev pub SeekWrites : TableAt → TableAt → ℕ → Result InitSeek InitRefusal → Type 0
+abbrev pub SeekWrites : TableAt → TableAt → ℕ → Result InitSeek Refusal → Type 0
 SeekWrites old new bucket (Ok Ready) = KeepsList old new
 SeekWrites old new bucket (Ok Placed) = SeeksBucket old new bucket
 SeekWrites old new bucket (Err refusal) = KeepsList old new
 
 -- What a seek for a bucket changes.
-abbrev pub SeekChanges : TableAt → TableAt → ℕ → ℕ → Result InitSeek InitRefusal → Type 0
+abbrev pub SeekChanges : TableAt → TableAt → ℕ → ℕ → Result InitSeek Refusal → Type 0
 SeekChanges old new helper bucket (Ok Ready) = Helps old new helper Nothing
     × (turn_of new ≡ turn_of old)
 SeekChanges old new helper bucket (Ok Placed) = Seeks old new helper bucket
@@ -110,14 +134,14 @@ pub record LinksDummy (old new : TableAt) (bucket : ℕ) : Type 0 where
   pub links : LinksNode old.list new.list (dummy_node place bucket (last_of old + 1))
 
 -- What a link by a helper writes, where it sought this bucket.
-abbrev pub LinkWrites : TableAt → TableAt → ℕ → Result InitLink InitRefusal → Type 0
+abbrev pub LinkWrites : TableAt → TableAt → ℕ → Result InitLink Refusal → Type 0
 LinkWrites old new bucket (Ok Again) = KeepsList old new
 LinkWrites old new bucket (Ok Present) = KeepsList old new
 LinkWrites old new bucket (Ok Linked) = LinksDummy old new bucket
 LinkWrites old new bucket (Err refusal) = KeepsList old new
 
 -- What a link by a helper changes.
-abbrev pub LinkChanges : TableAt → TableAt → ℕ → Result InitLink InitRefusal → Type 0
+abbrev pub LinkChanges : TableAt → TableAt → ℕ → Result InitLink Refusal → Type 0
 LinkChanges old new helper (Ok Again) = Helps old new helper Nothing × (turn_of new ≡ turn_of old)
 LinkChanges old new helper (Ok Present) = Holds old new helper
 LinkChanges old new helper (Ok Linked) = Links old new helper
@@ -132,7 +156,7 @@ pub record Stores (old new : TableAt) (helper : ℕ) : Type 0 where
   pub kept : turn_of new ≡ turn_of old
 
 -- What a store by a helper changes.
-abbrev pub StoreChanges : TableAt → TableAt → ℕ → Result Unit InitRefusal → Type 0
+abbrev pub StoreChanges : TableAt → TableAt → ℕ → Result Unit Refusal → Type 0
 StoreChanges old new helper (Ok done) = Stores old new helper
 StoreChanges old new helper (Err refusal) = new ≡ old
 

@@ -44,18 +44,14 @@ GivesFor old new false (Some spare) = ⊥
 -- The operation is prepared: nothing but the spares and the last stamp has changed.
 pub record Prepares (old new : TableAt) (op : Op) (pending : PendingAt) : Type 0 where
   pub op_is : pending.op ≡ op
-  pub key_fits : key_of op < 2 ^ 63
   pub given : GivesFor old new (takes_node op) pending.spare
   pub nodes : KeepsNodes old new
 
--- Why an operation is not prepared: a bad key exactly where the key is 2^63 or more; then, where it
--- takes a node, stamps used up exactly where the last one is given; else memory was refused.
+-- Why an operation that takes a node is not prepared: stamps used up exactly where the last one is
+-- given; else memory was refused.
 abbrev pub IsRefused : TableAt → Op → Refusal → Type 0
-IsRefused t op refusals.BadKey = 2 ^ 63 ≤ key_of op
-IsRefused t op refusals.StampsUsedUp = (key_of op < 2 ^ 63) × (takes_node op ≡ true)
-    × (last_of t ≡ 2 ^ 64 - 2)
-IsRefused t op refusals.NoMemory = (key_of op < 2 ^ 63) × (takes_node op ≡ true)
-    × (last_of t < 2 ^ 64 - 2)
+IsRefused t op refusals.StampsUsedUp = (takes_node op ≡ true) × (last_of t ≡ 2 ^ 64 - 2)
+IsRefused t op refusals.NoMemory = (takes_node op ≡ true) × (last_of t < 2 ^ 64 - 2)
 IsRefused t op refusal = ⊥
 
 -- A key was sought: marked nodes may be unlinked, and the cursor fits.

@@ -1,7 +1,8 @@
 -- Operations that are prepared, and the jobs that take changes back.
-use Rattle.std.specs.Prelude.{◌≡◌, ℕ, Bool, true, false, IsSome, Option, Some, None}
+use Rattle.std.specs.Prelude.{◌≡◌, ℕ, Bool, true, false, IsSome, Option, Some, None, nat_eq, if◌then◌else◌}
+use Rattle.std.specs.Option.{option_eq}
 use Rattle.txn_trace.specs.declared.op.Op.{Op}
-use Rattle.txn_trace.specs.declared.op.Op.TheVariants.{Put, Take, Get}
+use Rattle.txn_trace.specs.declared.op.Op.TheVariants.{Put, Take, Get, PutIf}
 use Rattle.txn_trace.specs.Map.{Map, get}
 use Rattle.map_ops.specs.declared.job.MapJob.{MapJob}
 use Rattle.map_ops.specs.declared.job.MapJob.TheVariants.{Unput, Restore, Relink}
@@ -17,6 +18,7 @@ abbrev pub takes_node : Op → Bool
 takes_node (Put k v) = true
 takes_node (Take k) = true
 takes_node (Get k) = false
+takes_node (PutIf k expected v) = true
 
 -- The key of a job.
 abbrev pub key_of_job : MapJob → ℕ
@@ -58,3 +60,5 @@ abbrev pub job_of : Map → Op → Option SpareAt → Option MapJob
 job_of m (Put k v) spare = unput k (get m k)
 job_of m (Take k) spare = relink k (get m k) spare
 job_of m (Get k) spare = None
+job_of m (PutIf k expected v) spare =
+    if option_eq nat_eq (get m k) expected then unput k (get m k) else None

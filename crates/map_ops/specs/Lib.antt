@@ -10,7 +10,6 @@ pub mod Laws
 -- The types of the layers below that the table hands on.
 pub use Rattle.bucket_table.specs.declared.answer.InitSeek
 pub use Rattle.bucket_table.specs.declared.answer.InitLink
-pub use Rattle.bucket_table.specs.declared.answer.InitRefusal
 pub use Rattle.bucket_table.specs.declared.answer.Double
 pub use Rattle.list_steps.specs.declared.cursor.Cursor
 pub use Rattle.list_steps.specs.declared.sweeps.SweepOutcome

@@ -1,10 +1,11 @@
 -- What is done to the linked nodes and to the change number.
-use Rattle.std.specs.Prelude.{◌≡◌, ℕ, ◌-◌, List, Option, Some, None, false, length}
+use Rattle.std.specs.Prelude.{◌≡◌, ℕ, ◌-◌, List, Option, Some, None, Bool, true, false, length, nat_eq}
+use Rattle.std.specs.Option.{option_eq}
 use Rattle.node_list.specs.declared.node.Kind.TheVariants.{Regular}
 use Rattle.node_list.specs.Nodes.{NodeAt, Listing, SpareAt, IsLinked, node_of, linked_after, marked_at, written_at, one_more, changes_after}
 use Rattle.split_key.specs.Sort.{regular_at}
 use Rattle.txn_trace.specs.declared.op.Op.{Op}
-use Rattle.txn_trace.specs.declared.op.Op.TheVariants.{Put, Take, Get}
+use Rattle.txn_trace.specs.declared.op.Op.TheVariants.{Put, Take, Get, PutIf}
 use Rattle.map_ops.specs.declared.job.MapJob.{MapJob}
 use Rattle.map_ops.specs.declared.job.MapJob.TheVariants.{Unput, Restore, Relink}
 
@@ -71,11 +72,18 @@ abbrev pub TakeWrites : Listing → Listing → ℕ → Option ℕ → Type 0
 TakeWrites old new key None = WritesNothing old new
 TakeWrites old new key (Some was) = MarksNode old new key
 
+-- A put that is not made writes nothing.
+abbrev pub PutIfWrites : Listing → Listing → ℕ → ℕ → Option SpareAt → Option ℕ → Bool → Type 0
+PutIfWrites old new key value spare before true = PutWrites old new key value spare before
+PutIfWrites old new key value spare before false = WritesNothing old new
+
 -- What an operation with this spare writes, where its key had this value. A get writes nothing.
 abbrev pub OpWrites : Listing → Listing → Op → Option SpareAt → Option ℕ → Type 0
 OpWrites old new (Put k v) spare before = PutWrites old new k v spare before
 OpWrites old new (Take k) spare before = TakeWrites old new k before
 OpWrites old new (Get k) spare before = WritesNothing old new
+OpWrites old new (PutIf k expected v) spare before =
+    PutIfWrites old new k v spare before (option_eq nat_eq before expected)
 
 -- What is written where a job's change is taken back.
 abbrev pub JobWrites : Listing → Listing → MapJob → Type 0

@@ -3,6 +3,7 @@ use Rattle.std.specs.Prelude.{◌≡◌, ◌%◌, List}
 use Rattle.std.specs.List.{AllByRecursion}
 use Rattle.node_list.specs.declared.node.Kind.TheVariants.{Dummy}
 use Rattle.node_list.specs.Nodes.{NodeAt, Listing}
+use Rattle.node_list.specs.Sound as nodes
 use Rattle.bucket_table.specs.Directory.{Directory}
 use Rattle.bucket_table.specs.Dummies.{IsKeyed}
 use Rattle.bucket_table.specs.Home.{IsHome}
@@ -20,7 +21,8 @@ pub record Belong (nodes : List NodeAt) : Type 0 where
   pub keyed : IsKeyed nodes
   pub even : AllEven nodes
 
--- The buckets are the list's, and each node stands where it belongs.
+-- The list is sound, the buckets are the list's, and each node stands where it belongs.
 pub record IsSound (list : Listing) (buckets : Directory) : Type 0 where
+  pub sound : nodes.IsSound list
   pub home : IsHome buckets list
   pub belong : Belong list.nodes

@@ -1,10 +1,39 @@
 -- What the parts of the table's calls do.
-use Rattle.std.specs.Prelude.{◌≡◌, ℕ, ◌<◌, ◌-◌, ◌^◌, Option}
+use Rattle.std.specs.Prelude.{◌≡◌, ℕ, ◌<◌, ◌-◌, ◌^◌, Option, Some, None}
+use Rattle.node_list.specs.Nodes.{Listing, NodeAt}
+use Rattle.node_list.specs.Order.{IsVacant}
+use Rattle.list_steps.specs.Content.{pairs}
+use Rattle.split_key.specs.Sort.{regular_at}
 use Rattle.txn_trace.specs.declared.refusal.Refusal.{Refusal}
 use Rattle.txn_trace.specs.declared.refusal.Refusal.TheVariants.{StampsUsedUp, NoMemory}
+use Rattle.txn_trace.specs.Map.{get}
 use Rattle.txn_trace.specs.Now.{set_at}
-use Rattle.map_ops.specs.TableAt.{TableAt, SpareAt, KeepsBuckets, KeepsNodes, content, last_of, linked_of}
+use Rattle.map_ops.specs.TableAt.{TableAt, SpareAt, KeepsBuckets, KeepsNodes, content, last_of, linked_of, map_of}
+use Rattle.map_ops.specs.Nodes.{IsNodeOf}
 use Rattle.map_ops.specs.Changes.{GivesSpare}
+
+-- The key's node is linked at the place, and the key has its value.
+pub record HasNode (l : Listing) (key place : ℕ) : Type 0 where
+  pub node : NodeAt
+  pub its : IsNodeOf l.nodes key node
+  pub place_is : place ≡ node.place
+  pub value : get (map_of (pairs l.nodes)) key ≡ Some node.value
+
+-- The key has no value, and its node would belong right behind the one at the place.
+pub record HasRoom (l : Listing) (key pred : ℕ) : Type 0 where
+  pub vacant : IsVacant l.nodes pred (regular_at key)
+  pub none : get (map_of (pairs l.nodes)) key ≡ None
+
+-- The key's node is linked at this place, if there is one; else it would belong right behind this
+-- node.
+abbrev pub Stands : Listing → ℕ → ℕ → Option ℕ → Type 0
+Stands l key pred None = HasRoom l key pred
+Stands l key pred (Some place) = HasNode l key place
+
+-- The place of the key's node, or of the node that it would belong behind.
+abbrev pub place_in : ℕ → Option ℕ → ℕ
+place_in pred None = pred
+place_in pred (Some place) = place
 
 -- A spare is given, and nothing else but the last stamp has changed.
 pub record GivesOne (old new : TableAt) (spare : SpareAt) : Type 0 where

@@ -1,34 +1,37 @@
 //! What is done to the list of a table. Each contract holds of the table with any buckets.
 //!
-//! A line `let _changes = list.changes();` has the prover know what is true of every list, which
-//! the contract of `changes` says; so does `let _number = key.number();` of keys.
-ghost use Rattle.std.specs.Prelude.{◌≡◌, ℕ, ◌<◌, ◌≤◌, ◌^◌, true, Some, None, is_ok, IsSome, IfOk, IfErr, OnErr};
+//! A line `let _turn = list.changes();` has the prover know that the change number fits its 64 bits.
+ghost use Rattle.std.specs.Prelude.{◌≡◌, ℕ, ◌<◌, ◌≤◌, ◌^◌, Option, Some, None, is_ok, nat_eq, IfOk, IfErr, OnErr};
+ghost use Rattle.std.specs.Option.{option_eq};
 ghost use Rattle.node_list.specs.Follow.{Follows};
 ghost use Rattle.node_list.specs.Nodes.{IsOut};
+ghost use Rattle.node_list.specs.Sound.{IsSound};
 ghost use Rattle.list_steps.specs.Content.{pairs};
-ghost use Rattle.list_steps.specs.Found.{IsPlaced, at_of, fits};
+ghost use Rattle.list_steps.specs.Found.{IsPlaced, at_of, fits, pred_of};
 ghost use Rattle.split_key.specs.Sort.{regular_at};
 ghost use Rattle.bucket_table.specs.Directory.{Directory};
 ghost use Rattle.bucket_table.specs.Home.{IsHome};
 ghost use Rattle.txn_trace.specs.Map.{get, key_of};
+ghost use Rattle.map_ops.specs.declared.pending.Plan.TheVariants.{PutIf as PutIfPlan, Take as TakePlan};
 ghost use Rattle.map_ops.specs.TableAt.{KeepsSpares, map_of, table_of};
-ghost use Rattle.map_ops.specs.Jobs.{IsDue, key_of_job, spare_of_job};
+ghost use Rattle.map_ops.specs.Jobs.{IsDue, key_of_job, spare_of_job, unput};
 ghost use Rattle.map_ops.specs.Plans.{pending_of};
 ghost use Rattle.map_ops.specs.Changes.{Does, GivesBack, IsRefused, OwnsIf, Places, Prepares, SeeksNear, Spends, TakesBack};
-ghost use Rattle.map_ops.specs.Nodes.{JobWrites, LinksNode, MarksNode, OpWrites, WritesNode, node_for};
-ghost use Rattle.map_ops.specs.Steps.{GivesOne, IsLacking, Sets};
+ghost use Rattle.map_ops.specs.Nodes.{JobWrites, LinksNode, MarksNode, OpWrites, PutWrites, TakeWrites, WritesNode, node_for};
+ghost use Rattle.map_ops.specs.Steps.{GivesOne, HasNode, HasRoom, IsLacking, Sets, Stands, place_in};
 ghost use Rattle.map_ops.specs.Sound.{Belong};
 
 use crate::job::MapJob;
 use crate::pending::Plan;
 use bucket_table::Buckets;
 use list_steps::{Again, Cursor, link, look, mark, seek, swap};
-use node_list::{Kind, NodeList, Spare, SpareFault};
+use node_list::{Kind, NodeList, NodeRef, Spare, SpareFault};
 use split_key::{Key, SortKey, bucket_of};
 use txn_trace::{Op, Refusal, Reply};
 
 /// A spare of the list.
 fn give_spare(list: &mut NodeList) -> Result<Spare, Refusal>
+    requires { IsSound list.old }
     ensures ok { IfOk result (λ spare. (buckets : Directory)
         → GivesOne (table_of list.old buckets) (table_of list.new buckets) spare) }
     ensures err { IfErr result (λ refusal. (buckets : Directory)
@@ -36,7 +39,6 @@ fn give_spare(list: &mut NodeList) -> Result<Spare, Refusal>
     ensures unchanged { OnErr result (list.new ≡ list.old) }
     ensures follows { Follows list.old list.new }
 {
-    let _changes = list.changes();
     match list.spare() {
         Ok(spare) => Ok(spare),
         Err(SpareFault::Worn) => Err(Refusal::StampsUsedUp),
@@ -44,8 +46,9 @@ fn give_spare(list: &mut NodeList) -> Result<Spare, Refusal>
     }
 }
 
-/// An operation with a right key and the spare that it takes.
+/// An operation with the spare that it takes.
 pub(crate) fn plan(list: &mut NodeList, op: Op) -> Result<Plan, Refusal>
+    requires { IsSound list.old }
     ensures ok { IfOk result (λ plan. (buckets : Directory)
         → Prepares (table_of list.old buckets) (table_of list.new buckets) op (pending_of plan)) }
     ensures err { IfErr result (λ refusal. (buckets : Directory)
@@ -53,10 +56,7 @@ pub(crate) fn plan(list: &mut NodeList, op: Op) -> Result<Plan, Refusal>
     ensures unchanged { OnErr result (list.new ≡ list.old) }
     ensures follows { Follows list.old list.new }
 {
-    let _changes = list.changes();
-    let Ok(key) = Key::new(op.key()) else {
-        return Err(Refusal::BadKey);
-    };
+    let key = Key::new(op.key());
     match op {
         Op::Put(_, value) => {
             let spare = give_spare(list)?;
@@ -66,6 +66,10 @@ pub(crate) fn plan(list: &mut NodeList, op: Op) -> Result<Plan, Refusal>
             let spare = give_spare(list)?;
             Ok(Plan::Take(key, spare))
         }
+        Op::PutIf(_, expected, value) => {
+            let spare = give_spare(list)?;
+            Ok(Plan::PutIf(key, expected, value, spare))
+        }
         Op::Get(_) => Ok(Plan::Get(key)),
     }
 }
@@ -73,6 +77,7 @@ pub(crate) fn plan(list: &mut NodeList, op: Op) -> Result<Plan, Refusal>
 /// Seeks a key.
 pub(crate) fn seek_key(list: &mut NodeList, buckets: &Buckets, key: Key) -> Cursor
     requires home { IsHome buckets.now list.old }
+    requires sound { IsSound list.old }
     requires belong { Belong list.old.nodes }
     ensures places { Places (table_of list.old buckets.now) (table_of list.new buckets.now) key result }
     ensures near { SeeksNear (table_of list.old buckets.now) (table_of list.new buckets.now) key }
@@ -80,37 +85,31 @@ pub(crate) fn seek_key(list: &mut NodeList, buckets: &Buckets, key: Key) -> Curs
     ensures rises { list.old.changes ≤ list.new.changes }
     ensures follows { Follows list.old list.new }
 {
-    let _changes = list.changes();
-    let _number = key.number();
+    let _turn = list.changes();
     let bucket = bucket_of(key, buckets.size());
     let from = buckets.nearest(bucket);
     seek(list, from, SortKey::regular(key))
 }
 
-/// The value of a key at a cursor.
-pub(crate) fn find(list: &NodeList, cursor: &Cursor, key: Key) -> Result<Reply, Again>
+/// The node of a key, as a cursor tells. Without one it belongs right behind the cursor's node.
+pub(crate) fn find(list: &NodeList, cursor: &Cursor, key: Key) -> Result<Option<NodeRef>, Again>
+    requires sound { IsSound list.now }
     requires belong { Belong list.now.nodes }
     requires placed { IsPlaced list.now cursor.now }
     requires at { at_of cursor.now ≡ regular_at key }
     ensures again { is_ok result ≡ fits list.now cursor.now }
-    ensures value { IfOk result (λ value. value ≡ get (map_of (pairs list.now.nodes)) key) }
+    ensures ok { IfOk result (Stands list.now key (pred_of cursor.now)) }
     ensures changes { list.now.changes < 2 ^ 64 }
 {
-    let _changes = list.changes();
-    let _number = key.number();
-    match look(list, cursor)? {
-        Some(node) => Ok(Some(list.node(node).value)),
-        None => Ok(None),
-    }
+    let _turn = list.changes();
+    look(list, cursor)
 }
 
 /// Links a node of an absent key.
-fn link_key(list: &mut NodeList, cursor: Cursor, key: Key, value: u64, mut spare: Spare)
+fn link_key(list: &mut NodeList, pred: NodeRef, key: Key, value: u64, mut spare: Spare)
+    requires sound { IsSound list.old }
     requires belong { Belong list.old.nodes }
-    requires placed { IsPlaced list.old cursor }
-    requires at { at_of cursor ≡ regular_at key }
-    requires fits { fits list.old cursor ≡ true }
-    requires absent { get (map_of (pairs list.old.nodes)) key ≡ None }
+    requires room { HasRoom list.old key pred }
     requires owned { IsOut list.old spare }
     ensures sets { (buckets : Directory)
         → Sets (table_of list.old buckets) (table_of list.new buckets) key (Some value) }
@@ -120,24 +119,16 @@ fn link_key(list: &mut NodeList, cursor: Cursor, key: Key, value: u64, mut spare
     ensures belong { Belong list.new.nodes }
     ensures follows { Follows list.old list.new }
 {
-    let _changes = list.changes();
-    let _number = key.number();
     spare.fill(SortKey::regular(key), Kind::Regular, value);
-    match link(list, cursor, spare) {
-        Ok(_) => {
-            let _after = list.changes();
-        }
-        Err(_) => unreachable!(),
-    }
+    let _ = link(list, pred, spare);
 }
 
-/// Writes the value of a key that is there.
-fn swap_key(list: &mut NodeList, cursor: Cursor, key: Key, value: u64)
+/// Writes the value of a key that is there, and answers the one that it had.
+fn swap_key(list: &mut NodeList, node: NodeRef, key: Key, value: u64) -> u64
+    requires sound { IsSound list.old }
     requires belong { Belong list.old.nodes }
-    requires placed { IsPlaced list.old cursor }
-    requires at { at_of cursor ≡ regular_at key }
-    requires fits { fits list.old cursor ≡ true }
-    requires there { IsSome (get (map_of (pairs list.old.nodes)) key) }
+    requires there { HasNode list.old key node }
+    ensures was { get (map_of (pairs list.old.nodes)) key ≡ Some result }
     ensures sets { (buckets : Directory)
         → Sets (table_of list.old buckets) (table_of list.new buckets) key (Some value) }
     ensures spares { (buckets : Directory)
@@ -146,23 +137,15 @@ fn swap_key(list: &mut NodeList, cursor: Cursor, key: Key, value: u64)
     ensures belong { Belong list.new.nodes }
     ensures follows { Follows list.old list.new }
 {
-    let _changes = list.changes();
-    let _number = key.number();
-    match swap(list, cursor, value) {
-        Ok(_) => {
-            let _after = list.changes();
-        }
-        Err(_) => unreachable!(),
-    }
+    swap(list, node, value)
 }
 
-/// Marks the node of a key that is there.
-fn mark_key(list: &mut NodeList, cursor: Cursor, key: Key)
+/// Marks the node of a key that is there, and answers its value.
+fn mark_key(list: &mut NodeList, node: NodeRef, key: Key) -> u64
+    requires sound { IsSound list.old }
     requires belong { Belong list.old.nodes }
-    requires placed { IsPlaced list.old cursor }
-    requires at { at_of cursor ≡ regular_at key }
-    requires fits { fits list.old cursor ≡ true }
-    requires there { IsSome (get (map_of (pairs list.old.nodes)) key) }
+    requires there { HasNode list.old key node }
+    ensures was { get (map_of (pairs list.old.nodes)) key ≡ Some result }
     ensures sets { (buckets : Directory)
         → Sets (table_of list.old buckets) (table_of list.new buckets) key None }
     ensures spares { (buckets : Directory)
@@ -171,14 +154,7 @@ fn mark_key(list: &mut NodeList, cursor: Cursor, key: Key)
     ensures belong { Belong list.new.nodes }
     ensures follows { Follows list.old list.new }
 {
-    let _changes = list.changes();
-    let _number = key.number();
-    match mark(list, cursor) {
-        Ok(_) => {
-            let _after = list.changes();
-        }
-        Err(_) => unreachable!(),
-    }
+    mark(list, node)
 }
 
 /// Gives a spare back.
@@ -198,10 +174,10 @@ pub(crate) fn give_up(list: &mut NodeList, plan: Plan)
         → GivesBack (table_of list.old buckets) (table_of list.new buckets) (pending_of plan).spare }
     ensures follows { Follows list.old list.new }
 {
-    let _changes = list.changes();
     match plan {
         Plan::Put(_, _, spare) => give_back(list, spare),
         Plan::Take(_, spare) => give_back(list, spare),
+        Plan::PutIf(_, _, _, spare) => give_back(list, spare),
         Plan::Get(_) => {}
     }
 }
@@ -213,7 +189,6 @@ pub(crate) fn give_up_job(list: &mut NodeList, job: MapJob)
         → GivesBack (table_of list.old buckets) (table_of list.new buckets) (spare_of_job job) }
     ensures follows { Follows list.old list.new }
 {
-    let _changes = list.changes();
     match job {
         MapJob::Relink(_, _, spare) => give_back(list, spare),
         MapJob::Unput(_) => {}
@@ -221,59 +196,164 @@ pub(crate) fn give_up_job(list: &mut NodeList, job: MapJob)
     }
 }
 
-/// Does an operation at a cursor that fits, where its key has this value.
-pub(crate) fn change(
+/// Whether a key had what is expected.
+fn is_expected(was: Reply, expected: Reply) -> bool
+    ensures { result ≡ option_eq nat_eq was expected }
+{
+    was == expected
+}
+
+/// Puts a value, and answers what the key had with what takes the change back.
+fn put_key(
     list: &mut NodeList,
-    plan: Plan,
-    cursor: Cursor,
-    before: Reply,
-) -> Option<MapJob>
+    pred: NodeRef,
+    there: Option<NodeRef>,
+    key: Key,
+    value: u64,
+    spare: Spare,
+) -> (Reply, Option<MapJob>)
+    requires sound { IsSound list.old }
     requires belong { Belong list.old.nodes }
-    requires placed { IsPlaced list.old cursor }
-    requires at { at_of cursor ≡ regular_at (key_of (pending_of plan).op) }
-    requires fits { fits list.old cursor ≡ true }
-    requires before { before ≡ get (map_of (pairs list.old.nodes)) (key_of (pending_of plan).op) }
-    requires owned { (buckets : Directory)
-        → OwnsIf (table_of list.old buckets) (pending_of plan).spare }
-    ensures does { (buckets : Directory)
-        → Does (table_of list.old buckets) (table_of list.new buckets) (pending_of plan) before result }
-    ensures writes { OpWrites list.old list.new (pending_of plan).op (pending_of plan).spare before }
+    requires stands { Stands list.old key pred there }
+    requires owned { IsOut list.old spare }
+    ensures was { get (map_of (pairs list.old.nodes)) key ≡ result.0 }
+    ensures job { result.1 ≡ unput key result.0 }
+    ensures sets { (buckets : Directory)
+        → Sets (table_of list.old buckets) (table_of list.new buckets) key (Some value) }
+    ensures spares { (buckets : Directory)
+        → Spends (table_of list.old buckets) (table_of list.new buckets) (Some spare) }
+    ensures writes { PutWrites list.old list.new key value (Some spare) result.0 }
     ensures belong { Belong list.new.nodes }
     ensures follows { Follows list.old list.new }
 {
-    let _changes = list.changes();
-    match plan {
-        Plan::Put(key, value, spare) => match before {
-            None => {
-                link_key(list, cursor, key, value, spare);
-                Some(MapJob::Unput(key))
-            }
-            Some(old) => {
-                swap_key(list, cursor, key, value);
-                give_back(list, spare);
-                Some(MapJob::Restore(key, old))
-            }
-        },
-        Plan::Take(key, spare) => match before {
-            None => {
-                give_back(list, spare);
-                None
-            }
-            Some(old) => {
-                mark_key(list, cursor, key);
-                Some(MapJob::Relink(key, old, spare))
-            }
-        },
-        Plan::Get(_) => None,
+    match there {
+        None => {
+            link_key(list, pred, key, value, spare);
+            (None, Some(MapJob::Unput(key)))
+        }
+        Some(node) => {
+            let old = swap_key(list, node, key, value);
+            give_back(list, spare);
+            (Some(old), Some(MapJob::Restore(key, old)))
+        }
     }
 }
 
-/// Takes a change back at a cursor that fits.
-pub(crate) fn restore(list: &mut NodeList, job: MapJob, cursor: Cursor)
+/// Puts a value where the key has what is expected; else leaves it.
+fn put_if_key(
+    list: &mut NodeList,
+    pred: NodeRef,
+    there: Option<NodeRef>,
+    key: Key,
+    expected: Reply,
+    value: u64,
+    spare: Spare,
+) -> (Reply, Option<MapJob>)
+    requires sound { IsSound list.old }
     requires belong { Belong list.old.nodes }
-    requires placed { IsPlaced list.old cursor }
-    requires at { at_of cursor ≡ regular_at (key_of_job job) }
-    requires fits { fits list.old cursor ≡ true }
+    requires stands { Stands list.old key pred there }
+    requires owned { IsOut list.old spare }
+    ensures does { (buckets : Directory)
+        → Does (table_of list.old buckets) (table_of list.new buckets)
+        (pending_of (PutIfPlan key expected value spare)) result.0 result.1 }
+    ensures writes { OpWrites list.old list.new
+        (pending_of (PutIfPlan key expected value spare)).op (Some spare)
+        (get (map_of (pairs list.old.nodes)) key) }
+    ensures belong { Belong list.new.nodes }
+    ensures follows { Follows list.old list.new }
+{
+    let was = match there {
+        None => None,
+        Some(node) => Some(list.node(node).value),
+    };
+    if is_expected(was, expected) {
+        put_key(list, pred, there, key, value, spare)
+    } else {
+        give_back(list, spare);
+        (was, None)
+    }
+}
+
+/// Takes a key out, and answers what it had with what puts it back.
+fn take_key(
+    list: &mut NodeList,
+    pred: NodeRef,
+    there: Option<NodeRef>,
+    key: Key,
+    spare: Spare,
+) -> (Reply, Option<MapJob>)
+    requires sound { IsSound list.old }
+    requires belong { Belong list.old.nodes }
+    requires stands { Stands list.old key pred there }
+    requires owned { IsOut list.old spare }
+    ensures does { (buckets : Directory)
+        → Does (table_of list.old buckets) (table_of list.new buckets)
+        (pending_of (TakePlan key spare)) result.0 result.1 }
+    ensures writes { TakeWrites list.old list.new key (get (map_of (pairs list.old.nodes)) key) }
+    ensures belong { Belong list.new.nodes }
+    ensures follows { Follows list.old list.new }
+{
+    match there {
+        None => {
+            give_back(list, spare);
+            (None, None)
+        }
+        Some(node) => {
+            let old = mark_key(list, node, key);
+            (Some(old), Some(MapJob::Relink(key, old, spare)))
+        }
+    }
+}
+
+/// Does an operation where the node of its key is, or would belong behind `pred`, and answers what
+/// the key had with what takes the change back.
+pub(crate) fn change(
+    list: &mut NodeList,
+    plan: Plan,
+    pred: NodeRef,
+    there: Option<NodeRef>,
+) -> (Reply, Option<MapJob>)
+    requires sound { IsSound list.old }
+    requires belong { Belong list.old.nodes }
+    requires stands { Stands list.old (key_of (pending_of plan).op) pred there }
+    requires owned { (buckets : Directory)
+        → OwnsIf (table_of list.old buckets) (pending_of plan).spare }
+    ensures does { (buckets : Directory)
+        → Does (table_of list.old buckets) (table_of list.new buckets) (pending_of plan)
+        result.0 result.1 }
+    ensures writes { OpWrites list.old list.new (pending_of plan).op (pending_of plan).spare
+        (get (map_of (pairs list.old.nodes)) (key_of (pending_of plan).op)) }
+    ensures belong { Belong list.new.nodes }
+    ensures follows { Follows list.old list.new }
+{
+    match plan {
+        Plan::Put(key, value, spare) => put_key(list, pred, there, key, value, spare),
+        Plan::PutIf(key, expected, value, spare) => {
+            put_if_key(list, pred, there, key, expected, value, spare)
+        }
+        Plan::Take(key, spare) => take_key(list, pred, there, key, spare),
+        Plan::Get(_) => match there {
+            None => (None, None),
+            Some(node) => (Some(list.node(node).value), None),
+        },
+    }
+}
+
+/// The place of a key's node, or of the node that it would belong behind.
+fn place_in(pred: NodeRef, there: Option<NodeRef>) -> NodeRef
+    ensures { result ≡ place_in pred there }
+{
+    match there {
+        None => pred,
+        Some(node) => node,
+    }
+}
+
+/// Takes a change back where the node of its key is, or would belong behind `pred`.
+pub(crate) fn restore(list: &mut NodeList, job: MapJob, pred: NodeRef, there: Option<NodeRef>)
+    requires sound { IsSound list.old }
+    requires belong { Belong list.old.nodes }
+    requires stands { Stands list.old (key_of_job job) pred there }
     requires due { IsDue (map_of (pairs list.old.nodes)) job }
     requires owned { (buckets : Directory) → OwnsIf (table_of list.old buckets) (spare_of_job job) }
     ensures back { (buckets : Directory)
@@ -282,9 +362,14 @@ pub(crate) fn restore(list: &mut NodeList, job: MapJob, cursor: Cursor)
     ensures belong { Belong list.new.nodes }
     ensures follows { Follows list.old list.new }
 {
+    let place = place_in(pred, there);
     match job {
-        MapJob::Unput(key) => mark_key(list, cursor, key),
-        MapJob::Restore(key, old) => swap_key(list, cursor, key, old),
-        MapJob::Relink(key, old, spare) => link_key(list, cursor, key, old, spare),
+        MapJob::Unput(key) => {
+            let _ = mark_key(list, place, key);
+        }
+        MapJob::Restore(key, old) => {
+            let _ = swap_key(list, place, key, old);
+        }
+        MapJob::Relink(key, old, spare) => link_key(list, place, key, old, spare),
     }
 }

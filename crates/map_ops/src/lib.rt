@@ -18,7 +18,7 @@
 //!   changed in between where the cursor is makes them answer `Again`, and nothing is lost.
 //! - All other calls leave content and list of pairs.
 //!
-//! A prepared put or take owns the node that it may need, and a take passes it on to its job. So
+//! A prepared change owns the node that it may need, and a take passes it on to its job. So
 //! only `new`, `prepare`, `apply`, `init_link`, `content` and `regular_list` take memory, and none
 //! is wanted to take a change back.
 //!
@@ -36,13 +36,14 @@ mod job;
 pub mod law;
 mod listing;
 mod pending;
+mod refusals;
 mod table;
 #[cfg(test)]
 mod tests;
 mod undo_job;
 
 pub use act::{Act, Undo};
-pub use bucket_table::{Double, InitLink, InitRefusal, InitSeek};
+pub use bucket_table::{Double, InitLink, InitSeek};
 pub use job::MapJob;
 pub use list_steps::{Cursor, SweepOutcome};
 pub use node_list::Spare;

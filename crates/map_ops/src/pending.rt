@@ -1,22 +1,23 @@
 //! Operations that are prepared.
-ghost use Rattle.std.specs.Prelude.{◌≡◌, ◌<◌, ◌^◌, is_some};
+ghost use Rattle.std.specs.Prelude.{◌≡◌, is_some};
 
 use node_list::Spare;
 use split_key::Key;
 use std::marker::Model;
 use txn_trace::Op;
 
-/// An operation with a key that is right, and the spare that it takes.
+/// An operation, and the spare that it takes.
 #[derive(Debug, Drop)]
 pub(crate) enum Plan {
     Put(Key, u64, Spare),
     Take(Key, Spare),
+    PutIf(Key, Option<u64>, u64, Spare),
     Get(Key),
 }
 
 /// An operation that is prepared: it has what it needs, and memory is not wanted from here on.
 ///
-/// A put and a take own a spare of the table that prepared them, until they are done or withdrawn.
+/// A put, a put under a condition and a take own a spare of the table that prepared them, until they are done or withdrawn.
 #[derive(Debug, Drop)]
 pub struct Pending {
     plan: Plan,
@@ -49,16 +50,15 @@ impl Pending {
         self.plan
     }
 
-    /// The operation. Its key is below 2^63, and it has a spare exactly where it is a put or a
-    /// take. Constant time.
+    /// The operation. It has a spare exactly where it is not a get. Constant time.
     pub fn op(&self) -> Op
         ensures op { result ≡ self.now.op }
-        ensures key { key_of result < 2 ^ 63 }
         ensures spare { is_some self.now.spare ≡ takes_node result }
     {
         match &self.plan {
             Plan::Put(key, value, _) => Op::Put(key.number(), *value),
             Plan::Take(key, _) => Op::Take(key.number()),
+            Plan::PutIf(key, expected, value, _) => Op::PutIf(key.number(), *expected, *value),
             Plan::Get(key) => Op::Get(key.number()),
         }
     }
@@ -70,6 +70,7 @@ impl Pending {
         match &self.plan {
             Plan::Put(key, _, _) => *key,
             Plan::Take(key, _) => *key,
+            Plan::PutIf(key, _, _, _) => *key,
             Plan::Get(key) => *key,
         }
     }

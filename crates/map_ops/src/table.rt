@@ -1,7 +1,7 @@
 //! The table.
 //!
-//! A line `let _changes = self.list.changes();` has the prover know what is true of every list,
-//! which the contract of `changes` says.
+//! A line `let _turn = self.list.changes();` has the prover know that the change number fits its 64
+//! bits.
 ghost use Rattle.std.specs.Prelude.{◌≡◌, ◌≢◌, ℕ, ◌<◌, ◌≤◌, ◌-◌, ◌^◌, ◌↔◌, Ok, Err, Some, length, IfOk, IfErr, OnErr};
 ghost use Rattle.std.specs.List.{slice_get};
 ghost use Rattle.std.specs.BTreeMap.{get as value_at};
@@ -14,7 +14,8 @@ use crate::change::{change, find, give_up, give_up_job, plan, restore, seek_key}
 use crate::job::MapJob;
 use crate::listing::{map_of, pairs_of};
 use crate::pending::Pending;
-use bucket_table::{Buckets, Double, InitLink, InitRefusal, InitSeek};
+use crate::refusals::answered;
+use bucket_table::{Buckets, Double, InitLink, InitSeek};
 use list_steps::{Again, Cursor, SweepOutcome, sweep};
 use node_list::NodeList;
 use std::alloc::{AllocError, Global};
@@ -71,23 +72,21 @@ impl Table {
         Ok(Table { list, buckets })
     }
 
-    /// Prepares an operation: looks at its key, and takes the spare that a put or a take needs, so
-    /// that no memory is wanted from here on. Content and list stay.
+    /// Prepares an operation: takes the spare that it needs unless it is a get, so that no memory is
+    /// wanted from here on. Content and list stay.
     ///
     /// May allocate a node. Amortised constant time.
     ///
     /// # Errors
     ///
-    /// `BadKey` where the key is 2^63 or more; then, for a put or a take, `StampsUsedUp` where the
-    /// last stamp, 2^64 - 2, is given, and `NoMemory` where memory is refused. Each leaves the
-    /// table as it was.
+    /// Unless it is a get, `StampsUsedUp` where the last stamp, 2^64 - 2, is given, and else
+    /// `NoMemory` where memory is refused. Each leaves the table as it was.
     pub fn prepare(&mut self, op: Op) -> Result<Pending, Refusal>
         ensures ok { IfOk result (Prepares self.old self.new op) }
         ensures err { IfErr result (IsRefused self.old op) }
         ensures unchanged { OnErr result (self.new ≡ self.old) }
         ensures follows { Follows self.old self.new }
     {
-        let _changes = self.list.changes();
         let plan = plan(&mut self.list, op)?;
         Ok(Pending::new(plan))
     }
@@ -108,8 +107,8 @@ impl Table {
     }
 
     /// Does an operation at a cursor that was placed for its key, and gives the reply with what
-    /// takes the change back. A put links one node or writes one value, a take marks one node, and
-    /// what is no change writes nothing. No node is unlinked.
+    /// takes the change back. A put that is made links one node or writes one value, a take marks
+    /// one node, and what is no change writes nothing. No node is unlinked.
     ///
     /// `Again` comes exactly where the cursor no longer fits, so never while the change number is
     /// still the cursor's and below 2^64 - 1: then nothing has changed, and the operation comes
@@ -123,9 +122,10 @@ impl Table {
         ensures follows { Follows self.old self.new }
     {
         match find(&self.list, &cursor, pending.key()) {
-            Ok(before) => {
-                let job = change(&mut self.list, pending.into_plan(), cursor, before);
-                Act::Acted(before, job)
+            Ok(there) => {
+                let plan = pending.into_plan();
+                let (reply, job) = change(&mut self.list, plan, cursor.pred(), there);
+                Act::Acted(reply, job)
             }
             Err(Again) => Act::Again(pending),
         }
@@ -170,8 +170,8 @@ impl Table {
         ensures follows { Follows self.old self.new }
     {
         match find(&self.list, &cursor, job.key()) {
-            Ok(_) => {
-                restore(&mut self.list, job, cursor);
+            Ok(there) => {
+                restore(&mut self.list, job, cursor.pred(), there);
                 Undo::Undone
             }
             Err(Again) => Undo::Again(job),
@@ -245,7 +245,6 @@ impl Table {
         ensures { IfOk result (λ map. (key : ℕ)
             → value_at nat_cmp map key ≡ get (content self.now) key) }
     {
-        let _changes = self.list.changes();
         let pairs = pairs_of(alloc, &self.list)?;
         map_of(alloc, &pairs)
     }
@@ -260,7 +259,6 @@ impl Table {
         ensures regular { IfOk result (λ pairs. pairs.items ≡ regular self.now) }
         ensures ordered { IfOk result (λ pairs. pairs.items ≡ ordered (content self.now)) }
     {
-        let _changes = self.list.changes();
         pairs_of(alloc, &self.list)
     }
 
@@ -276,7 +274,6 @@ impl Table {
         ensures stored { NamesDummies self.now }
         ensures parents { HasParents self.now }
     {
-        let _changes = self.list.changes();
         self.buckets.size()
     }
 
@@ -293,7 +290,6 @@ impl Table {
         ensures count { result ≡ count_of (content self.now) }
         ensures length { result ≡ length (regular self.now) }
     {
-        let _changes = self.list.changes();
         self.list.count()
     }
 
@@ -310,7 +306,7 @@ impl Table {
         ensures rises { turn_of self.old ≤ turn_of self.new }
         ensures follows { Follows self.old self.new }
     {
-        let _changes = self.list.changes();
+        let _turn = self.list.changes();
         sweep(&mut self.list)
     }
 
@@ -326,7 +322,7 @@ impl Table {
     /// In this order: `NoSuchHelper`, `NoSuchBucket` where the bucket is not below the size,
     /// `ParentMissing` where it is not initialised and its parent is not either. Each leaves the
     /// table as it was.
-    pub fn init_seek(&mut self, helper: u64, bucket: u64) -> Result<InitSeek, InitRefusal>
+    pub fn init_seek(&mut self, helper: u64, bucket: u64) -> Result<InitSeek, Refusal>
         ensures answer { result
             ≡ seek_answer (size_of self.old) (stored_of self.old) (slice_get (helps_of self.old) helper) bucket }
         ensures changes { SeekChanges self.old self.new helper bucket result }
@@ -334,8 +330,8 @@ impl Table {
         ensures rises { turn_of self.old ≤ turn_of self.new }
         ensures follows { Follows self.old self.new }
     {
-        let _changes = self.list.changes();
-        self.buckets.init_seek(&mut self.list, helper, bucket)
+        let _turn = self.list.changes();
+        answered(self.buckets.init_seek(&mut self.list, helper, bucket))
     }
 
     /// Links the dummy of a helper's bucket at the helper's cursor. Content and list of pairs stay.
@@ -348,10 +344,10 @@ impl Table {
     ///
     /// In this order: `NoSuchHelper`, `HelperOutOfOrder` where the helper has no cursor,
     /// `StampsUsedUp`, `NoMemory`. Each leaves the table as it was.
-    pub fn init_link(&mut self, helper: u64) -> Result<InitLink, InitRefusal>
-        ensures answer { result ≢ Err InitRefusal.NoMemory
+    pub fn init_link(&mut self, helper: u64) -> Result<InitLink, Refusal>
+        ensures answer { result ≢ Err Refusal.NoMemory
             → result ≡ link_answer_of self.old helper }
-        ensures no_memory { result ≡ Err InitRefusal.NoMemory
+        ensures no_memory { result ≡ Err Refusal.NoMemory
             → link_answer_of self.old helper ≡ Ok InitLink.Linked }
         ensures in_turn { (bucket : ℕ)
             → slice_get (helps_of self.old) helper ≡ Some (Sought bucket (turn_of self.old))
@@ -363,9 +359,9 @@ impl Table {
         ensures rises { turn_of self.old ≤ turn_of self.new }
         ensures follows { Follows self.old self.new }
     {
-        let _changes = self.list.changes();
+        let _turn = self.list.changes();
         let _size = self.buckets.size();
-        self.buckets.init_link(&mut self.list, helper)
+        answered(self.buckets.init_link(&mut self.list, helper))
     }
 
     /// Stores a helper's dummy as its bucket's, which is initialised from then on, and leaves the
@@ -377,14 +373,13 @@ impl Table {
     ///
     /// In this order: `NoSuchHelper`, `HelperOutOfOrder` where the helper has no dummy. Each leaves
     /// the table as it was.
-    pub fn init_store(&mut self, helper: u64) -> Result<(), InitRefusal>
+    pub fn init_store(&mut self, helper: u64) -> Result<(), Refusal>
         ensures answer { result ≡ store_answer (slice_get (helps_of self.old) helper) }
         ensures changes { StoreChanges self.old self.new helper result }
         ensures list { KeepsList self.old self.new }
         ensures follows { Follows self.old self.new }
     {
-        let _changes = self.list.changes();
-        self.buckets.init_store(helper)
+        answered(self.buckets.init_store(helper))
     }
 
     /// Doubles the size. No node moves.
@@ -399,7 +394,6 @@ impl Table {
         ensures list { KeepsList self.old self.new }
         ensures follows { Follows self.old self.new }
     {
-        let _changes = self.list.changes();
         self.buckets.double(&self.list, seen)
     }
 }

@@ -5,9 +5,7 @@ ghost use Rattle.map_ops.specs.Jobs.{IsDue, key_of_job, spare_of_job};
 ghost use Rattle.map_ops.specs.Changes.{OwnsIf, ShowsAfter};
 ghost use Rattle.map_ops.specs.TableAt.{Follows, KeepsSpares};
 
-use crate::{
-    Act, Double, InitLink, InitRefusal, InitSeek, MapJob, Pending, SweepOutcome, Table, Undo,
-};
+use crate::{Act, Double, InitLink, InitSeek, MapJob, Pending, SweepOutcome, Table, Undo};
 use std::alloc::{AllocError, Global};
 use std::process::Abort;
 use std::test::Fail;
@@ -90,16 +88,32 @@ fn keys_stand_by_split_keys(rt: HostRuntime) -> Result<(), Fail> {
 }
 
 #[test]
-fn a_bad_key_is_refused(rt: HostRuntime) -> Result<(), Fail> {
+fn keys_of_64_bits(rt: HostRuntime) -> Result<(), Fail> {
     let mut table = table(rt.alloc())?;
-    assert!(rt;
-        matches!(
-            table.apply(Op::Put(9223372036854775808, 1)),
-            Err(Refusal::BadKey)
-        )
-    );
-    assert_eq!(rt; table.apply(Op::Put(9223372036854775807, 7))?.0, None);
-    shows(&rt, rt.alloc(), &table, &[(9223372036854775807, 7)])
+    let wanted = [
+        (Op::Put(9223372036854775809, 11), None),
+        (Op::Put(1, 10), None),
+        (Op::PutIf(1, None, 12), Some(10)),
+        (Op::PutIf(1, Some(10), 12), Some(10)),
+        (Op::PutIf(2, None, 20), None),
+        (Op::PutIf(3, Some(5), 6), None),
+        (Op::Put(18446744073709551615, 7), None),
+    ];
+    for (op, reply) in wanted {
+        assert_eq!(rt; table.apply(op)?.0, reply, "to {op:?}");
+    }
+    assert_eq!(rt; (table.size(), table.count()), (2, 4));
+    shows(
+        &rt,
+        rt.alloc(),
+        &table,
+        &[
+            (2, 20),
+            (1, 12),
+            (9223372036854775809, 11),
+            (18446744073709551615, 7),
+        ],
+    )
 }
 
 #[test]
@@ -114,10 +128,10 @@ fn buckets_are_initialised_after_their_parents(rt: HostRuntime) -> Result<(), Fa
     assert_eq!(rt; table.double(2), Double::Moved(4));
     assert_eq!(rt; table.double(4), Double::Light);
     assert_eq!(rt; table.size(), 4);
-    assert_eq!(rt; table.init_seek(0, 3), Err(InitRefusal::ParentMissing));
-    assert_eq!(rt; table.init_seek(0, 4), Err(InitRefusal::NoSuchBucket));
-    assert_eq!(rt; table.init_seek(2, 3), Err(InitRefusal::NoSuchHelper));
-    assert_eq!(rt; table.init_link(0), Err(InitRefusal::HelperOutOfOrder));
+    assert_eq!(rt; table.init_seek(0, 3), Err(Refusal::ParentMissing));
+    assert_eq!(rt; table.init_seek(0, 4), Err(Refusal::NoSuchBucket));
+    assert_eq!(rt; table.init_seek(2, 3), Err(Refusal::NoSuchHelper));
+    assert_eq!(rt; table.init_link(0), Err(Refusal::HelperOutOfOrder));
     assert_eq!(rt; table.init_seek(0, 1), Ok(InitSeek::Placed));
     assert_eq!(rt; table.init_link(0), Ok(InitLink::Linked));
     assert_eq!(rt; table.init_store(0), Ok(()));
@@ -433,7 +447,7 @@ fn refused_memory_for_a_link(rt: HostRuntime) -> Result<(), Fail> {
             shows(&rt, rt.alloc(), &table, &PAIRS[1..3])
         }
         Err(refusal) => {
-            assert_eq!(rt; refusal, InitRefusal::NoMemory);
+            assert_eq!(rt; refusal, Refusal::NoMemory);
             assert_eq!(rt; figures(&table), seen);
             shows(&rt, rt.alloc(), &table, &PAIRS[1..3])?;
             let (reply, _) = finish(&mut table, kept);

@@ -15,7 +15,7 @@ use Rattle.node_list.proofs.NodesLemmas.{found_linked, next_linked, linked_more,
 use Rattle.node_list.proofs.ChainLemmas.{spread, nodes_in_is, nodes_fit, absent_free, linked_node, node_found, next_is}
 use Rattle.node_list.proofs.CountLemmas.{gain, count-linked, count-unlinked, count-changed, live-marked, live-regular, live-fresh, counts_fit}
 use Rattle.node_list.proofs.SlabSteps.{kept, spare_laid_out, spare_stamps, spare_out, spare_was_free, spare_others, back_laid_out, back_stamps, back_gone, back_others, link_absent, link_laid_out, link_stamps, link_gone, link_others, mid_spare, change_laid_out, change_stamps, change_out, unlink_laid_out, unlink_stamps, unlink_out}
-use Rattle.node_list.proofs.FollowLemmas.{gives_out_follows, takes_back_follows, links_follow, changes_follow, unlinks_follow}
+use Rattle.node_list.proofs.FollowLemmas.{sound, gives_out_follows, takes_back_follows, links_follow, changes_follow, unlinks_follow}
 
 -- No more nodes are counted than slots are in use.
 pub counted_fit : (slab : Slab Slot) (head last count marked : ℕ) → IsKept slab head last count marked → count + marked ≤ slab_len slab
@@ -46,10 +46,11 @@ module _ (old : Slab Slot) (head changes last count marked : ℕ) (is : IsKept o
         was_free = spare_was_free old new head place (last + 1) nodes free updates;
         is_out = spare_out old new head place (last + 1) nodes free updates;
         others = spare_others old new head place (last + 1) nodes free updates;
-      } in (
-        kept new head (last + 1) count marked nodes laid stamps below is.counted is.marks,
+      } in
+      let now = kept new head (last + 1) count marked nodes laid stamps below is.counted is.marks in (
+        now,
         gives,
-        gives_out_follows _ _ place (last + 1) refl gives,
+        gives_out_follows _ _ place (last + 1) refl (sound new head changes (last + 1) count marked now) gives,
       )
 
   -- A spare is given back.
@@ -65,10 +66,11 @@ module _ (old : Slab Slot) (head changes last count marked : ℕ) (is : IsKept o
         last = refl;
         gone = back_gone old new head place stamp nodes is_out freed;
         others = back_others old new head place stamp nodes is_out freed;
-      } in (
-        kept new head last count marked nodes laid stamps is.below is.counted is.marks,
+      } in
+      let now = kept new head last count marked nodes laid stamps is.below is.counted is.marks in (
+        now,
         back,
-        takes_back_follows _ _ place back,
+        takes_back_follows _ _ place (sound new head changes last count marked now) back,
       )
 
   -- A node is changed.
@@ -100,11 +102,12 @@ module _ (old : Slab Slot) (head changes last count marked : ℕ) (is : IsKept o
           changes = refl;
           last = refl;
           out = change_out old new head last place nodes change node written is.laid_out is.stamps same stores stamp is_node new_is;
-        } in (
-          kept new head last live marks (changed_at nodes place change) laid stamps is.below
-              (omega (arith, live_now, is.counted)) (omega (arith, marked_now, is.marks)),
+        } in
+        let now = kept new head last live marks (changed_at nodes place change) laid stamps is.below
+        (omega (arith, live_now, is.counted)) (omega (arith, marked_now, is.marks)) in (
+          now,
           becomes,
-          changes_follow _ _ place change same becomes,
+          changes_follow _ _ place change same (sound new head (one_more changes) last live marks now) becomes,
         )
 
   -- A value is written.
@@ -190,11 +193,13 @@ module _ (old : Slab Slot) (head changes last count marked : ℕ) (is : IsKept o
         out = unlink_out old mid new head last pred place nodes before behind is.laid_out is.stamps linked is_before next is_behind mid_is freed;
       } in
       let live = count-unlinked is_live nodes pred is_behind_marked.node is_behind_marked.next in
-      let none = live-marked is_behind_marked.node is_behind_marked.marked in (
-        kept new head last count (marked - 1) (unlinked_after nodes pred) laid stamps is.below
-            (omega (arith, live, none, is.counted)) (omega (arith, marks_behind pred is_behind_marked, is.marks)),
+      let none = live-marked is_behind_marked.node is_behind_marked.marked in
+      let now = kept new head last count (marked - 1) (unlinked_after nodes pred) laid stamps is.below
+      (omega (arith, live, none, is.counted)) (omega (arith, marks_behind pred is_behind_marked, is.marks)) in
+      let now_sound = sound new head (one_more changes) last count (marked - 1) now in (
+        now,
         becomes,
-        unlinks_follow _ _ pred (spread (get old) nodes is.laid_out.chain is.laid_out.rising) is.laid_out.plain is_behind_marked becomes,
+        unlinks_follow _ _ pred (spread (get old) nodes is.laid_out.chain is.laid_out.rising) is.laid_out.plain is_behind_marked now_sound becomes,
       )
 
   -- The node of a spare is linked.
@@ -224,10 +229,11 @@ module _ (old : Slab Slot) (head changes last count marked : ℕ) (is : IsKept o
         } in
         let live = count-linked is_live nodes pred x linked in
         let marks = count-linked is_marked nodes pred x linked in
-        let absent = absent_free (get old) nodes s.place is.laid_out.chain (link_absent old mid new head last pred nodes x before is.laid_out is.stamps is_before is_out mid_is new_is) in (
-          kept new head last (count + gained) marked (linked_after nodes pred x) laid stamps is.below
-              (omega (arith, live, gained_is, live-fresh s.kind, is.counted)) (omega (arith, marks, is.marks)),
+        let absent = absent_free (get old) nodes s.place is.laid_out.chain (link_absent old mid new head last pred nodes x before is.laid_out is.stamps is_before is_out mid_is new_is) in
+        let now = kept new head last (count + gained) marked (linked_after nodes pred x) laid stamps is.below
+        (omega (arith, live, gained_is, live-fresh s.kind, is.counted)) (omega (arith, marks, is.marks)) in (
+          now,
           takes,
           ap (λ (ns : List NodeAt). node_of ns s.place) takes.nodes ∙ now_found nodes pred x absent linked,
-          links_follow _ _ pred x absent is_out takes,
+          links_follow _ _ pred x absent is_out (sound new head (one_more changes) last (count + gained) marked now) takes,
         )

@@ -19,6 +19,7 @@ use Rattle.node_list.proofs.SlabSteps.{out_in, slot_out}
 -- A list follows itself.
 pub follows_self : (l : Listing) → Follows l l
 follows_self l = record {
+  sound = λ is. is;
   last = omega arith;
   changes = omega arith;
   still = λ same below. refl;
@@ -30,6 +31,7 @@ follows_self l = record {
 -- A list that follows one that follows another follows that.
 pub follows_twice : (a b c : Listing) → Follows a b → Follows b c → Follows a c
 follows_twice a b c first second = record {
+  sound = λ is. second.sound (first.sound is);
   last = omega (arith, first.last, second.last);
   changes = omega (arith, first.changes, second.changes);
   still = λ same below.
@@ -61,8 +63,9 @@ follows_twice a b c first second = record {
 }
 
 -- Each change follows.
-pub gives_out_follows : (old new : Listing) (place stamp : ℕ) → stamp ≡ old.last + 1 → GivesOut old new place stamp → Follows old new
-gives_out_follows old new place stamp above given = record {
+pub gives_out_follows : (old new : Listing) (place stamp : ℕ) → stamp ≡ old.last + 1 → IsSound new → GivesOut old new place stamp → Follows old new
+gives_out_follows old new place stamp above now_sound given = record {
+  sound = λ was. now_sound;
   last = omega (arith, given.last);
   changes = omega (arith, given.changes);
   still = λ same below. given.nodes;
@@ -74,8 +77,9 @@ gives_out_follows old new place stamp above given = record {
   dummies = λ at n is dummy. (n, rw given.nodes is, same_node n);
 }
 
-pub takes_back_follows : (old new : Listing) (place : ℕ) → TakesBack old new place → Follows old new
-takes_back_follows old new place back = record {
+pub takes_back_follows : (old new : Listing) (place : ℕ) → IsSound new → TakesBack old new place → Follows old new
+takes_back_follows old new place now_sound back = record {
+  sound = λ was. now_sound;
   last = omega (arith, back.last);
   changes = omega (arith, back.changes);
   still = λ same below. back.nodes;
@@ -87,8 +91,9 @@ takes_back_follows old new place back = record {
   dummies = λ at n is dummy. (n, rw back.nodes is, same_node n);
 }
 
-pub links_follow : (old new : Listing) (pred : ℕ) (x : NodeAt) → AbsentFrom x.place old.nodes → out_at old x.place ≡ Some x.stamp → Takes old new (linked_after old.nodes pred x) x.place → Follows old new
-links_follow old new pred x absent was_out takes = record {
+pub links_follow : (old new : Listing) (pred : ℕ) (x : NodeAt) → AbsentFrom x.place old.nodes → out_at old x.place ≡ Some x.stamp → IsSound new → Takes old new (linked_after old.nodes pred x) x.place → Follows old new
+links_follow old new pred x absent was_out now_sound takes = record {
+  sound = λ was. now_sound;
   last = omega (arith, takes.last);
   changes = omega (arith, takes.changes);
   still = λ same below. absurd (omega (arith, takes.changes));
@@ -103,8 +108,9 @@ links_follow old new pred x absent was_out takes = record {
   dummies = λ place n is dummy. (n, rw takes.nodes (still_found_linked old.nodes pred place x n absent is), same_node n);
 }
 
-pub changes_follow : (old new : Listing) (changed : ℕ) (change : NodeAt → NodeAt) → ((n : NodeAt) → IsSameNode n (change n)) → Becomes old new (changed_at old.nodes changed change) → Follows old new
-changes_follow old new changed change same now = record {
+pub changes_follow : (old new : Listing) (changed : ℕ) (change : NodeAt → NodeAt) → ((n : NodeAt) → IsSameNode n (change n)) → IsSound new → Becomes old new (changed_at old.nodes changed change) → Follows old new
+changes_follow old new changed change same now_sound now = record {
+  sound = λ was. now_sound;
   last = omega (arith, now.last);
   changes = omega (arith, now.changes);
   still = λ same_changes below. absurd (omega (arith, now.changes));
@@ -113,8 +119,9 @@ changes_follow old new changed change same now = record {
   dummies = λ place n is dummy. rw now.nodes (still_found_changed old.nodes changed place change n same is);
 }
 
-pub unlinks_follow : (old new : Listing) (pred : ℕ) → IsSpread old.nodes → AllPlain old.nodes → IsBeforeMarked old.nodes pred → Becomes old new (unlinked_after old.nodes pred) → Follows old new
-unlinks_follow old new pred spread plain behind now = record {
+pub unlinks_follow : (old new : Listing) (pred : ℕ) → IsSpread old.nodes → AllPlain old.nodes → IsBeforeMarked old.nodes pred → IsSound new → Becomes old new (unlinked_after old.nodes pred) → Follows old new
+unlinks_follow old new pred spread plain behind now_sound now = record {
+  sound = λ was. now_sound;
   last = omega (arith, now.last);
   changes = omega (arith, now.changes);
   still = λ same below. absurd (omega (arith, now.changes));

@@ -1,8 +1,9 @@
 -- What is found in a list of nodes, before and after a change.
 use Rattle.std.proofs.Common.{◌≡◌, ◌≢◌, ℕ, ◌⊎◌, inl, inr, List, [], ◌∷◌, Option, Some, None, true, refl, sym, ◌∙◌, ap, is_some}
 use Rattle.std.proofs.lemmas.Bool.Decides.{eqb_tells}
+use Rattle.split_key.specs.declared.sort.SortKey.{SortKey}
 use Rattle.node_list.specs.Nodes.{NodeAt, node_of, next_of, first, without_first, place_of, IsLinked, linked_after, unlinked_after, changed_at, marked_at, written_at}
-use Rattle.node_list.specs.Order.{AbsentFrom, IsSpread}
+use Rattle.node_list.specs.Order.{AbsentFrom, IsSpread, IsVacant}
 use Rattle.node_list.specs.Follow.{IsSameNode}
 use Rattle.node_list.proofs.OrderLemmas.{some-injective, some-none}
 
@@ -57,6 +58,10 @@ found_linked (m ∷ rest) place n is = elim (eqb_tells m.place place) [
   | inl here ↦ inl here.1
   | inr apart ↦ inr (found_linked rest place n (rw apart.0 at is))
 ]
+
+-- Where a sort key is vacant there is a linked node to link behind.
+pub vacant_linked : (nodes : List NodeAt) (pred : ℕ) (sort : SortKey) → IsVacant nodes pred sort → IsLinked nodes pred
+vacant_linked nodes pred sort vacant = found_linked nodes pred vacant.node vacant.is
 
 pub place-found : (nodes : List NodeAt) (place : ℕ) (n : NodeAt) → node_of nodes place ≡ Some n → n.place ≡ place
 unfolding node_of

@@ -4,7 +4,7 @@ use Rattle.std.proofs.lemmas.Bool.Decides.{eqb_tells}
 use Rattle.std.specs.List.{AllByRecursion}
 use Rattle.split_key.proofs.SortLemmas.{before_irreflexive, before_not_before, before_transitive}
 use Rattle.node_list.specs.Nodes.{NodeAt, node_of, next_of, first, linked_after, unlinked_after, changed_at}
-use Rattle.node_list.specs.Order.{IsNodeBefore, IsRising}
+use Rattle.node_list.specs.Order.{IsNodeBefore, IsRising, IsVacant}
 use Rattle.node_list.specs.Follow.{IsSameNode}
 
 pub some-injective : {X : Type 0} {x y : X} → Some x ≡ Some y → x ≡ y
@@ -95,6 +95,10 @@ rising_linked (k ∷ (m ∷ rest)) pred n x rising is before next = elim (eqb_te
         rising_linked (m ∷ rest) pred n x rising.1 there before (λ l behind. next l (rw apart.0 behind)),
       )
 ]
+
+-- A node that is linked where its sort key is vacant keeps the order.
+pub rising_vacant : (nodes : List NodeAt) (pred : ℕ) (x : NodeAt) → IsRising nodes → IsVacant nodes pred x.at → IsRising (linked_after nodes pred x)
+rising_vacant nodes pred x rising vacant = rising_linked nodes pred vacant.node x rising vacant.is vacant.below vacant.above
 
 pub rising_unlinked : (nodes : List NodeAt) (pred : ℕ) → IsRising nodes → IsRising (unlinked_after nodes pred)
 unfolding IsRising unlinked_after

@@ -2,6 +2,7 @@
 use Rattle.std.specs.Prelude.{◌≡◌, ℕ, ◌<◌, ◌≤◌, ◌-◌, ◌^◌, min, ◌⊎◌, Some}
 use Rattle.node_list.specs.declared.node.Kind.TheVariants.{Dummy}
 use Rattle.node_list.specs.Nodes.{NodeAt, Listing, node_of, out_at}
+use Rattle.node_list.specs.Sound.{IsSound}
 
 -- One node at two times: only its value and its mark may differ.
 pub record IsSameNode (n m : NodeAt) : Type 0 where
@@ -20,12 +21,15 @@ WasThere old place n =
 abbrev pub IsStillThere : Listing → ℕ → NodeAt → Type 0
 IsStillThere new place n = (m : NodeAt) × (node_of new.nodes place ≡ Some m) × IsSameNode n m
 
--- A list at two times: no stamp comes back, a linked dummy stays linked, and while the change number
--- stays the nodes do.
+-- A list at two times: what is true of every list stays true, no stamp comes back, a linked dummy
+-- stays linked, and while the change number stays the nodes do.
 pub record Follows (old new : Listing) : Type 0 where
+  pub sound : IsSound old → IsSound new
   pub last : old.last ≤ new.last
   pub changes : min old.changes (2 ^ 64 - 1) ≤ new.changes
   pub still : new.changes ≡ old.changes → new.changes < 2 ^ 64 - 1 → new.nodes ≡ old.nodes
   pub linked : (place : ℕ) (n : NodeAt) → node_of new.nodes place ≡ Some n → WasThere old place n
-  pub out : (place stamp : ℕ) → out_at new place ≡ Some stamp → (out_at old place ≡ Some stamp) ⊎ (old.last < stamp)
-  pub dummies : (place : ℕ) (n : NodeAt) → node_of old.nodes place ≡ Some n → n.kind ≡ Dummy → IsStillThere new place n
+  pub out : (place stamp : ℕ) → out_at new place ≡ Some stamp
+      → (out_at old place ≡ Some stamp) ⊎ (old.last < stamp)
+  pub dummies : (place : ℕ) (n : NodeAt) → node_of old.nodes place ≡ Some n → n.kind ≡ Dummy
+      → IsStillThere new place n

@@ -14,7 +14,14 @@ use Rattle.node_list.specs.Sound.{AllPlain}
 
 -- A node as it is stored, before a next one.
 abbrev pub stored : NodeAt → Option ℕ → Node
-stored n next = record { at = n.at; kind = n.kind; value = n.value; stamp = n.stamp; marked = n.marked; next = next }
+stored n next = record {
+  at = n.at;
+  kind = n.kind;
+  value = n.value;
+  stamp = n.stamp;
+  marked = n.marked;
+  next = next;
+}
 
 -- The node in a slot, and then the nodes from its next one on.
 abbrev pub step : ℕ → Option Slot → (Option ℕ → List NodeAt) → List NodeAt
@@ -82,7 +89,8 @@ pub record IsLaidOut (slab : Slab Slot) (head : ℕ) (nodes : List NodeAt) : Typ
 -- No stamp is above the last one, and no two places have one stamp.
 pub record HasStamps (slab : Slab Slot) (last : ℕ) : Type 0 where
   pub bound : (place : ℕ) (slot : Slot) → get slab place ≡ Some slot → slot_stamp slot ≤ last
-  pub one_place : (p q : ℕ) (s t : Slot) → get slab p ≡ Some s → get slab q ≡ Some t → slot_stamp s ≡ slot_stamp t → p ≡ q
+  pub one_place : (p q : ℕ) (s t : Slot) → get slab p ≡ Some s → get slab q ≡ Some t
+      → slot_stamp s ≡ slot_stamp t → p ≡ q
 
 -- The fields of a list.
 pub record IsKept (slab : Slab Slot) (head last count marked : ℕ) : Type 0 where

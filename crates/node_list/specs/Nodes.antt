@@ -34,11 +34,27 @@ pub record SpareAt : Type 0 where
 
 -- The node that a spare becomes.
 abbrev pub filled : SpareAt → NodeAt
-filled s = record { place = s.place; at = s.at; kind = s.kind; value = s.value; stamp = s.stamp; marked = false }
+filled s =
+    record {
+      place = s.place;
+      at = s.at;
+      kind = s.kind;
+      value = s.value;
+      stamp = s.stamp;
+      marked = false;
+    }
 
 -- The dummy of bucket 0.
 abbrev pub first_dummy : ℕ → ℕ → NodeAt
-first_dummy place stamp = record { place = place; at = dummy_at 0; kind = Dummy; value = 0; stamp = stamp; marked = false }
+first_dummy place stamp =
+    record {
+      place = place;
+      at = dummy_at 0;
+      kind = Dummy;
+      value = 0;
+      stamp = stamp;
+      marked = false;
+    }
 
 -- The stamp of the spare that is out at a place, if there is one.
 abbrev pub out_at : Listing → ℕ → Option ℕ
@@ -120,17 +136,20 @@ marked_count nodes = count_where is_marked nodes
 -- The list with one node more, behind the one at a place.
 unfoldable pub linked_after : List NodeAt → ℕ → NodeAt → List NodeAt
 linked_after [] place x = []
-linked_after (n ∷ rest) place x = if n.place == place then n ∷ (x ∷ rest) else n ∷ linked_after rest place x
+linked_after (n ∷ rest) place x =
+    if n.place == place then n ∷ (x ∷ rest) else n ∷ linked_after rest place x
 
 -- The list without the node behind the one at a place.
 unfoldable pub unlinked_after : List NodeAt → ℕ → List NodeAt
 unlinked_after [] place = []
-unlinked_after (n ∷ rest) place = if n.place == place then n ∷ without_first rest else n ∷ unlinked_after rest place
+unlinked_after (n ∷ rest) place =
+    if n.place == place then n ∷ without_first rest else n ∷ unlinked_after rest place
 
 -- The list with a change to the node at a place.
 unfoldable pub changed_at : List NodeAt → ℕ → (NodeAt → NodeAt) → List NodeAt
 changed_at [] place change = []
-changed_at (n ∷ rest) place change = if n.place == place then change n ∷ rest else n ∷ changed_at rest place change
+changed_at (n ∷ rest) place change =
+    if n.place == place then change n ∷ rest else n ∷ changed_at rest place change
 
 -- The list with the node at a place marked.
 abbrev pub marked_at : List NodeAt → ℕ → List NodeAt

@@ -5,4 +5,11 @@ use Rattle.node_list.specs.Nodes.{NodeAt}
 
 -- The node at a place.
 abbrev pub seen : ℕ → Node → NodeAt
-seen place n = record { place = place; at = n.at; kind = n.kind; value = n.value; stamp = n.stamp; marked = n.marked }
+seen place n = record {
+  place = place;
+  at = n.at;
+  kind = n.kind;
+  value = n.value;
+  stamp = n.stamp;
+  marked = n.marked;
+}

@@ -21,12 +21,15 @@ pub record IsFirst (l : Listing) : Type 0 where
 -- No stamp is above the last one, and no two places have one stamp.
 pub record IsStamped (l : Listing) : Type 0 where
   pub bound : (place : ℕ) (n : NodeAt) → node_of l.nodes place ≡ Some n → n.stamp ≤ l.last
-  pub alone : (p q : ℕ) (n m : NodeAt) → node_of l.nodes p ≡ Some n → node_of l.nodes q ≡ Some m → n.stamp ≡ m.stamp → p ≡ q
-  pub apart : (place other : ℕ) (n : NodeAt) → node_of l.nodes place ≡ Some n → out_at l other ≢ Some n.stamp
+  pub alone : (p q : ℕ) (n m : NodeAt) → node_of l.nodes p ≡ Some n → node_of l.nodes q ≡ Some m
+      → n.stamp ≡ m.stamp → p ≡ q
+  pub apart : (place other : ℕ) (n : NodeAt) → node_of l.nodes place ≡ Some n
+      → out_at l other ≢ Some n.stamp
   pub out_bound : (place stamp : ℕ) → out_at l place ≡ Some stamp → stamp ≤ l.last
   pub out_alone : (p q stamp : ℕ) → out_at l p ≡ Some stamp → out_at l q ≡ Some stamp → p ≡ q
 
--- The nodes are in order and at places of their own, no dummy is marked, and no stamp is used twice.
+-- The nodes are in order and at places of their own, no dummy is marked, and no stamp is used
+-- twice.
 pub record IsSound (l : Listing) : Type 0 where
   pub first : IsFirst l
   pub rising : IsRising l.nodes

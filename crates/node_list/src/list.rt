@@ -3,7 +3,7 @@ ghost use Rattle.std.specs.Prelude.{◌≡◌, ◌≢◌, ℕ, ◌+◌, ◌-◌,
 ghost use Rattle.std.specs.List.{AllByRecursion};
 ghost use Rattle.node_list.specs.Follow.{Follows};
 ghost use Rattle.node_list.specs.Nodes.{out_at, IsOut, filled, first_dummy, IsLinked, IsRegularAt, IsBeforeMarked, node_of, next_of, place_of, live_count, marked_count, one_more, linked_after, unlinked_after, marked_at, written_at, GivesOut, Becomes, Takes, TakesBack};
-ghost use Rattle.node_list.specs.Order.{IsRising};
+ghost use Rattle.node_list.specs.Order.{IsVacant};
 ghost use Rattle.node_list.specs.Seen.{seen};
 ghost use Rattle.node_list.specs.Sound.{IsSound};
 
@@ -71,11 +71,11 @@ impl NodeList {
         }
     }
 
-    /// A place that is kept for a node, with the stamp one above the last that was given. It is filled
-    /// as the dummy of bucket 0.
+    /// A place that is kept for a node, with the stamp one above the last that was given. It is
+    /// filled as the dummy of bucket 0.
     ///
-    /// `Worn` exactly where the last stamp was 2^64 - 2; then `NoMemory` where the slab could not grow.
-    /// Either leaves the list as it was. May allocate. Amortised constant time.
+    /// `Worn` exactly where the last stamp was 2^64 - 2; then `NoMemory` where the slab could not
+    /// grow. Either leaves the list as it was. May allocate. Amortised constant time.
     pub fn spare(&mut self) -> Result<Spare, SpareFault>
         ensures worn { (result ≡ Err SpareFault.Worn) ↔ (self.old.last ≡ 2 ^ 64 - 2) }
         ensures stamp { IfOk result (λ spare. spare.stamp ≡ self.old.last + 1) }
@@ -110,13 +110,13 @@ impl NodeList {
         let _ = self.slab.try_remove(spare.node().place());
     }
 
-    /// Links the node of a spare behind a linked node. The spare is out no more.
+    /// Links the node of a spare behind a linked node, where its sort key belongs. The spare is out
+    /// no more.
     ///
     /// Takes no memory. Constant time.
     pub fn link_after(&mut self, pred: NodeRef, spare: Spare)
-        requires linked { IsLinked self.old.nodes pred }
+        requires vacant { IsVacant self.old.nodes pred spare.at }
         requires out { IsOut self.old spare }
-        requires order { IsRising (linked_after self.old.nodes pred (filled spare)) }
         ensures linked { Takes self.old self.new
             (linked_after self.old.nodes pred (filled spare)) spare.place }
         ensures node { node_of self.new.nodes spare.place ≡ Some (filled spare) }
@@ -210,8 +210,8 @@ impl NodeList {
         NodeRef::new(self.head)
     }
 
-    /// The change number: how many links, marks, unlinks and writes there were, and 2^64 - 1 from there
-    /// on. Constant time.
+    /// The change number: how many links, marks, unlinks and writes there were, and 2^64 - 1 from
+    /// there on. Constant time.
     pub fn changes(&self) -> u64
         ensures changes { result ≡ self.now.changes }
         ensures sound { IsSound self.now }

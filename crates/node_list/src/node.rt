@@ -63,12 +63,12 @@ impl NodeRef {
 pub struct Node {
     /// Where it stands in the order of the list. A regular node has its key there.
     pub at: SortKey,
-    /// A dummy or a regular node.
-    pub kind: Kind,
     /// The value of a regular node.
     pub value: u64,
     /// The stamp, which no other node ever had.
     pub stamp: u64,
+    /// A dummy or a regular node. It lies beside the mark, so that both take one word.
+    pub kind: Kind,
     /// Whether the node is taken out of the table, and waits to be unlinked.
     pub marked: bool,
     /// The node behind it.

@@ -27,7 +27,7 @@ fn calls_in_turn(rt: HostRuntime) -> Result<(), Fail> {
     let mut list = NodeList::new(rt.alloc(), 6)?;
     let head = list.head();
     let mut spare = list.spare()?;
-    let at = SortKey::regular(Key::new(3)?);
+    let at = SortKey::regular(Key::new(3));
     spare.fill(at, Kind::Regular, 30);
     let three = spare.node();
     list.link_after(head, spare);
@@ -63,8 +63,8 @@ fn calls_in_turn(rt: HostRuntime) -> Result<(), Fail> {
     Ok(())
 }
 
-/// Also run with each allocation refused in turn: the list is then as it was, and gives the spare at
-/// the next call.
+/// Also run with each allocation refused in turn: the list is then as it was, and gives the spare
+/// at the next call.
 #[test]
 fn refused_allocations(rt: HostRuntime) -> Result<(), Fail> {
     let mut list = match NodeList::new(rt.alloc(), 0) {

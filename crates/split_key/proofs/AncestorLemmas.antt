@@ -96,11 +96,11 @@ ancestor_before ancestor bucket small is other =
     ]
 
 -- The dummies of the key's bucket and of its ancestors stand before the key.
-pub ancestor_before_key : (ancestor key exponent : ℕ) → key < 2 ^ 63 → exponent ≤ 32 → IsAncestor ancestor (key % 2 ^ exponent) → reversed ancestor < split key
-ancestor_before_key ancestor key exponent fits small is =
+pub ancestor_before_key : (ancestor key exponent : ℕ) → exponent ≤ 32 → IsAncestor ancestor (key % 2 ^ exponent) → reversed ancestor < split key
+ancestor_before_key ancestor key exponent small is =
     let within = mod_below key (2 ^ exponent) (pow_pos exponent) in
     let power : 2 ^ exponent ≤ 2 ^ 32 = pow-le-pow_right {n = 2} (omega arith) small in
     let lowest = ancestor_of_lowest is.steps (key % 2 ^ exponent) (omega arith) in
     let twice = mod_pow_twice key exponent lowest.0 in
     let low : ancestor ≡ key % 2 ^ twice.0 = is.reached ∙ lowest.2 ∙ twice.2 in
-    rw low (lowest_before_key twice.0 key (omega (arith, twice.1)) fits)
+    rw low (lowest_before_key twice.0 key (omega (arith, twice.1)))

@@ -30,7 +30,7 @@ apart_test a b differs = elim (eqb_tells a b) [
 ]
 
 -- What the test of two sort keys says of their numbers.
-abbrev IsLower : SortKey → SortKey → Type 0
+abbrev pub IsLower : SortKey → SortKey → Type 0
 IsLower a b = (a.split < b.split) ⊎ ((a.split ≡ b.split) × (a.key < b.key))
 
 pub by_split : (a b : SortKey) → a.split ≢ b.split → is_before a b ≡ nat_lt a.split b.split
@@ -41,7 +41,7 @@ pub by_key : (a b : SortKey) → a.split ≡ b.split → is_before a b ≡ nat_l
 unfolding is_before
 by_key a b same = rw (same_test a.split b.split same) refl
 
-before_from : (a b : SortKey) → IsLower a b → IsBefore a b
+pub before_from : (a b : SortKey) → IsLower a b → IsBefore a b
 before_from a b (inl less) = by_split a b (λ same. omega (arith, same, less)) ∙ below_test a.split b.split less
 before_from a b (inr both) = by_key a b both.0 ∙ below_test a.key b.key both.1
 
@@ -68,7 +68,7 @@ cases_sort a b = elim (cases_order a.split b.split) [
   ]
 ]
 
-lower_from : (a b : SortKey) → IsBefore a b → IsLower a b
+pub lower_from : (a b : SortKey) → IsBefore a b → IsLower a b
 lower_from a b before = elim (cases_sort a b) [
   | inl lower ↦ lower
   | inr other ↦ elim other [
@@ -184,8 +184,8 @@ first_before_dummy bucket fits other =
     before_by_split (dummy_at 0) (dummy_at bucket) (subst (λ low. reversed low < reversed bucket) none lower)
 
 -- And before each key.
-pub first_before_key : (key : ℕ) → key < 2 ^ 63 → IsBefore (dummy_at 0) (regular_at key)
-first_before_key key fits =
+pub first_before_key : (key : ℕ) → IsBefore (dummy_at 0) (regular_at key)
+first_before_key key =
     let none : key % 2 ^ 0 ≡ 0 = omega arith in
-    let lower = lowest_before_key 0 key (omega arith) fits in
+    let lower = lowest_before_key 0 key (omega arith) in
     before_by_split (dummy_at 0) (regular_at key) (subst (λ low. reversed low < split key) none lower)

@@ -1,10 +1,10 @@
 -- Bits in reverse order: each bit's place, that no two words share a reversal, and the order of split keys.
 use Prim.Native.Nat.{zero, suc}
-use Rattle.std.proofs.Common.{◌≡◌, ℕ, ◌+◌, ◌*◌, ◌-◌, ◌/◌, ◌%◌, ◌^◌, ◌<◌, ◌≤◌, refl, sym, ◌∙◌, ap, arith, pow-suc, zero-add, suc-add, div-add-mod', add-mul, subst, mul_assoc, mul_left_comm, inl, inr}
+use Rattle.std.proofs.Common.{◌≡◌, ℕ, ◌+◌, ◌*◌, ◌-◌, ◌/◌, ◌%◌, ◌^◌, ◌<◌, ◌≤◌, refl, sym, ◌∙◌, ap, arith, bit_or, pow-suc, zero-add, suc-add, div-add-mod', add-mul, subst, mul_assoc, mul_left_comm, inl, inr}
 use Rattle.std.proofs.lemmas.Bool.{cases_lt}
-use Rattle.std.proofs.lemmas.Nat.{pow_pos, pow-add, mod_below, mod_low, shr_below, le-div}
+use Rattle.std.proofs.lemmas.Nat.{pow_pos, pow-add, mod_below, mod_low, mod-pow-add, shr_below, le-div, or_lt}
 use Rattle.std.proofs.Math.Nat.{mul-le-mul_right}
-use Rattle.std.proofs.lemmas.Nat.Bits.{bit_at_lowest, bit_at-suc, bit_at_cat_low, bit_at_cat_high, same_from_bits_below}
+use Rattle.std.proofs.lemmas.Nat.Bits.{bit_at_lowest, bit_at-suc, bit_at-lt, bit_at_or, bit_at-pow_same, bit_at-pow_other, bit_at_cat_low, bit_at_cat_high, same_from_bits_below}
 use Rattle.std.specs.Int.{bit_at}
 use Rattle.split_key.specs.Split.{reversed_low, reversed, split}
 
@@ -98,17 +98,54 @@ reversed_twice word within = reversed_low_twice 64 word within
 pub same_from_reversed : (a b : ℕ) → a < 2 ^ 64 → b < 2 ^ 64 → reversed a ≡ reversed b → a ≡ b
 same_from_reversed a b a_fits b_fits same = sym (reversed_twice a a_fits) ∙ ap reversed same ∙ reversed_twice b b_fits
 
--- Two keys with one split key are one.
-pub same_from_split : (a b : ℕ) → a < 2 ^ 63 → b < 2 ^ 63 → split a ≡ split b → a ≡ b
+-- A key with bit 63 set, as a sum and as the machine makes it.
+top_set_below : (key : ℕ) → key % 2 ^ 63 + 2 ^ 63 < 2 ^ 64
+top_set_below key = omega (arith, mod_below key (2 ^ 63) (pow_pos 63))
+
+top_set_bits : (key place : ℕ) → place < 64 → bit_at (bit_or key (2 ^ 63)) place ≡ bit_at (1 * 2 ^ 63 + key % 2 ^ 63) place
+top_set_bits key place within =
+    let either = bit_at_or key (2 ^ 63) place in
+    let lower = mod_below key (2 ^ 63) (pow_pos 63) in
+    elim (cases_lt place 63) [
+      | inl less ↦
+          let unset = bit_at-pow_other 63 place (λ same. omega (arith, same, less)) in
+          let from_rest = bit_at_cat_low 1 63 (key % 2 ^ 63) place less in
+          let from_key = bit_at_cat_low (key / 2 ^ 63) 63 (key % 2 ^ 63) place less in
+          let whole : bit_at (key / 2 ^ 63 * 2 ^ 63 + key % 2 ^ 63) place ≡ bit_at key place = ap (λ n. bit_at n place) (div-add-mod' key (2 ^ 63)) in
+          omega (arith, either, unset, from_rest, from_key, whole)
+      | inr more ↦
+          let top : place ≡ 63 = omega arith in
+          let set = bit_at-pow_same 63 in
+          let high = bit_at_cat_high 1 63 (key % 2 ^ 63) place lower more in
+          let one : bit_at 1 (place - 63) ≡ 1 = rw top refl in
+          let set_there : bit_at (2 ^ 63) place ≡ 1 = rw top set in
+          omega (arith, either, set_there, high, one, bit_at-lt key place)
+    ]
+
+pub top_set_is : (key : ℕ) → key < 2 ^ 64 → bit_or key (2 ^ 63) ≡ key % 2 ^ 63 + 2 ^ 63
+top_set_is key fits =
+    let whole : 1 * 2 ^ 63 + key % 2 ^ 63 ≡ key % 2 ^ 63 + 2 ^ 63 = omega arith in
+    same_from_bits_below 64 (bit_or key (2 ^ 63)) (1 * 2 ^ 63 + key % 2 ^ 63) (or_lt 64 key (2 ^ 63) fits (omega arith)) (omega (arith, top_set_below key)) (top_set_bits key) ∙ whole
+
+-- Two keys share a split key exactly where they agree below bit 63.
+pub same_from_split : (a b : ℕ) → split a ≡ split b → a % 2 ^ 63 ≡ b % 2 ^ 63
 unfolding split
-same_from_split a b a_fits b_fits same = omega (arith, same_from_reversed (a + 2 ^ 63) (b + 2 ^ 63) (omega arith) (omega arith) same)
+same_from_split a b same =
+    let one = same_from_reversed (a % 2 ^ 63 + 2 ^ 63) (b % 2 ^ 63 + 2 ^ 63) (top_set_below a) (top_set_below b) same in
+    omega (arith, one)
+
+pub split_same : (a b : ℕ) → a % 2 ^ 63 ≡ b % 2 ^ 63 → split a ≡ split b
+unfolding split
+split_same a b same = ap (λ rest. reversed (rest + 2 ^ 63)) same
 
 -- A regular node's split key is odd, a dummy's even.
-pub split_odd : (key : ℕ) → key < 2 ^ 63 → split key % 2 ≡ 1
+pub split_odd : (key : ℕ) → split key % 2 ≡ 1
 unfolding split
-split_odd key fits =
-    let word = key + 2 ^ 63 in
-    omega (arith, bit_at_lowest (reversed word), bit_at-reversed word 0 (omega arith))
+split_odd key =
+    let word = key % 2 ^ 63 + 2 ^ 63 in
+    let rest = mod_below key (2 ^ 63) (pow_pos 63) in
+    let top : bit_at word 63 ≡ 1 = ap (λ n. bit_at n 63) (omega arith) ∙ bit_at_cat_high 1 63 (key % 2 ^ 63) 63 rest (omega arith) ∙ refl in
+    omega (arith, bit_at_lowest (reversed word), bit_at-reversed word 0 (omega arith), top)
 
 pub reversed_even : (bucket : ℕ) → bucket < 2 ^ 63 → reversed bucket % 2 ≡ 0
 reversed_even bucket fits = omega (arith, bit_at_lowest (reversed bucket), bit_at-reversed bucket 0 (omega arith))
@@ -132,14 +169,21 @@ lowest_before j word small fits longer =
     omega (arith, at low, at word, alone, whole, more, reversed_low_of_zero k)
 
 -- The key's lowest bits stand before the key.
-pub lowest_before_key : (bits key : ℕ) → bits ≤ 63 → key < 2 ^ 63 → reversed (key % 2 ^ bits) < split key
+pub lowest_before_key : (bits key : ℕ) → bits ≤ 63 → reversed (key % 2 ^ bits) < split key
 unfolding split
-lowest_before_key bits key small fits =
+lowest_before_key bits key small =
     let above = 63 - bits in
     let width : above + bits ≡ 63 = omega arith in
     let power : 2 ^ above * 2 ^ bits ≡ 2 ^ 63 = sym (pow-add 2 above bits) ∙ ap (λ k. 2 ^ k) width in
-    let low_within = mod_below key (2 ^ bits) (pow_pos bits) in
-    let word_is : key + 2 ^ 63 ≡ (key / 2 ^ bits + 2 ^ above) * 2 ^ bits + key % 2 ^ bits = omega (arith, power, add-mul (key / 2 ^ bits) (2 ^ above) (2 ^ bits), div-add-mod' key (2 ^ bits)) in
-    let same_low : (key + 2 ^ 63) % 2 ^ bits ≡ key % 2 ^ bits = rw word_is (mod_low (key / 2 ^ bits + 2 ^ above) bits (key % 2 ^ bits) low_within) in
-    let longer : 2 ^ bits ≤ key + 2 ^ 63 = omega (arith, power, mul-le-mul_right (2 ^ bits) (pow_pos above)) in
-    subst (λ low. reversed low < reversed (key + 2 ^ 63)) same_low (lowest_before bits (key + 2 ^ 63) (omega arith) (omega arith) longer)
+    let rest = key % 2 ^ 63 in
+    let word = rest + 2 ^ 63 in
+    let fits : word < 2 ^ 64 = top_set_below key in
+    let low_within = mod_below rest (2 ^ bits) (pow_pos bits) in
+    let word_is : word ≡ (rest / 2 ^ bits + 2 ^ above) * 2 ^ bits + rest % 2 ^ bits = omega (arith, power, add-mul (rest / 2 ^ bits) (2 ^ above) (2 ^ bits), div-add-mod' rest (2 ^ bits)) in
+    let same_low : word % 2 ^ bits ≡ rest % 2 ^ bits = rw word_is (mod_low (rest / 2 ^ bits + 2 ^ above) bits (rest % 2 ^ bits) low_within) in
+    let key_is = mod-pow-add key above bits in
+    let in_key : rest % 2 ^ bits ≡ key % 2 ^ bits =
+    ap (λ k. key % 2 ^ k % 2 ^ bits) (sym width) ∙ ap (λ n. n % 2 ^ bits) key_is
+    ∙ mod_low (key / 2 ^ bits % 2 ^ above) bits (key % 2 ^ bits) (mod_below key (2 ^ bits) (pow_pos bits)) in
+    let longer : 2 ^ bits ≤ word = omega (arith, power, mul-le-mul_right (2 ^ bits) (pow_pos above)) in
+    subst (λ low. reversed low < reversed word) (same_low ∙ in_key) (lowest_before bits word (omega arith) fits longer)

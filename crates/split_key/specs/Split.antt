@@ -11,14 +11,15 @@ reversed_low (suc width) word = word % 2 * 2 ^ width + reversed_low width (word 
 unfoldable pub reversed : ℕ → ℕ
 reversed word = reversed_low 64 word
 
--- The split key of a key.
+-- The split key of a key: its 64 bits, bit 63 set, in reverse order.
 unfoldable pub split : ℕ → ℕ
-split key = reversed (key + 2 ^ 63)
+split key = reversed (key % 2 ^ 63 + 2 ^ 63)
 
 -- A number below 2 ^ width with its highest 1 bit cleared.
 unfoldable pub highest_cleared : ℕ → ℕ → ℕ
 highest_cleared zero number = 0
-highest_cleared (suc width) number = if nat_le (2 ^ width) number then number - 2 ^ width else highest_cleared width number
+highest_cleared (suc width) number =
+    if nat_le (2 ^ width) number then number - 2 ^ width else highest_cleared width number
 
 -- The parent of a bucket, and 0 for bucket 0.
 unfoldable pub parent_of : ℕ → ℕ

@@ -5,10 +5,10 @@ use std::fmt;
 use std::fmt::Display;
 use std::marker::Model;
 
-/// The numbers of keys are below this: the top bit is what a split key sets.
-const LIMIT: u64 = 1 << 63;
+/// The numbers of half keys are below this.
+const HALF: u64 = 1 << 63;
 
-/// A key of the table: a number below 2^63. A contract sees it as that number.
+/// A key of the table: any number of 64 bits. A contract sees it as that number.
 #[derive(Clone, Copy, Debug, PartialEq, Eq)]
 pub struct Key {
     number: u64,
@@ -19,12 +19,13 @@ impl Model for Key {
 
     ghost view = { λ key. key.number };
 
-    ghost invariant = { λ key. key.number < 2 ^ 63 };
+    ghost invariant = { λ key. key.number < 2 ^ 64 };
 
     ghost inverse = { λ number. record { number = number } };
 }
 
-/// The error of a number that is no key, since it is 2^63 or more. It is printed as `a key is a number below 2^63`.
+/// The error of a number that is no half key, since it is 2^63 or more. It is printed as
+/// `a key is a number below 2^63`.
 #[derive(Clone, Copy, Debug, PartialEq, Eq)]
 pub struct BadKey;
 
@@ -42,24 +43,30 @@ impl std::error::Error for BadKey {}
 
 impl Key {
     /// The key with this number. Constant time.
+    pub fn new(number: u64) -> Key
+        ensures { result ≡ number }
+    {
+        Key { number }
+    }
+
+    /// The key with this number, where it is one of the lower half of all keys. Constant time.
     ///
     /// # Errors
     ///
     /// `BadKey` where the number is 2^63 or more.
-    pub fn new(number: u64) -> Result<Key, BadKey>
+    pub fn half(number: u64) -> Result<Key, BadKey>
         ensures { MatchResult result (λ key. (key ≡ number) × (number < 2 ^ 63)) (λ _. 2 ^ 63 ≤ number) }
     {
-        if number < LIMIT {
+        if number < HALF {
             Ok(Key { number })
         } else {
             Err(BadKey)
         }
     }
 
-    /// The key's number, below 2^63. Constant time.
+    /// The key's number. Constant time.
     pub fn number(self) -> u64
-        ensures same { result ≡ self }
-        ensures below { result < 2 ^ 63 }
+        ensures { result ≡ self }
     {
         self.number
     }

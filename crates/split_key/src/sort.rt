@@ -1,5 +1,5 @@
 //! Sort keys: where nodes stand in the order of the list.
-ghost use Rattle.std.specs.Prelude.{◌≡◌, ◌≢◌};
+ghost use Rattle.std.specs.Prelude.{◌≡◌, ◌≢◌, ℕ};
 ghost use Rattle.split_key.specs.Sort.{IsBefore, dummy_at, is_before, regular_at};
 
 use crate::key::Key;
@@ -14,9 +14,11 @@ pub struct SortKey {
 }
 
 impl SortKey {
-    /// Where the node of a key stands, behind the dummy of bucket 0. Constant time.
+    /// Where the node of a key stands, behind the dummy of bucket 0. No other key has its node there.
+    /// Constant time.
     pub fn regular(key: Key) -> SortKey
         ensures value { result ≡ regular_at key }
+        ensures apart { (other : ℕ) → regular_at other ≡ result → other ≡ key }
         ensures behind_first { IsBefore (dummy_at 0) result }
     {
         SortKey {

@@ -4,26 +4,29 @@ ghost use Rattle.split_key.specs.Split.{reversed, split, IsAncestor};
 use crate::key::Key;
 use crate::reversal::reverse;
 
-/// The bit that a key lacks, and that makes its split key odd.
+/// The bit that is set in a key before it is reversed, and that makes its split key odd.
 const TOP_BIT: u64 = 1 << 63;
 
-/// The split key of a key's node, a regular node: the key's 64 bits, the top one set, in reverse order. It is odd, and
-/// no other key has it. Constant time.
+/// The split key of a key's node, a regular node: the key's 64 bits, the top one set, in reverse
+/// order. It is odd. Keys that agree below their top bit share it, and no others: two keys below
+/// 2^63 have one split key where they are one. Constant time.
 pub fn regular(key: Key) -> u64
     ensures value { result ≡ split key }
     ensures odd { result % 2 ≡ 1 }
-    ensures apart { (other : ℕ) → other < 2 ^ 63 → split other ≡ result → other ≡ key }
+    ensures shared { (other : ℕ) → other % 2 ^ 63 ≡ key % 2 ^ 63 → split other ≡ result }
+    ensures apart { (other : ℕ) → split other ≡ result → other % 2 ^ 63 ≡ key % 2 ^ 63 }
 {
-    reverse(key.number() + TOP_BIT)
+    reverse(key.number() | TOP_BIT)
 }
 
-/// The split key of a bucket's dummy node: the bucket's bits in reverse order. It is even, no other bucket has it, and
-/// it is above those of the bucket's ancestors. Constant time.
+/// The split key of a bucket's dummy node: the bucket's bits in reverse order. It is even, no other
+/// bucket has it, and it is above those of the bucket's ancestors. Constant time.
 pub fn dummy(bucket: u32) -> u64
     ensures value { result ≡ reversed bucket }
     ensures even { result % 2 ≡ 0 }
     ensures apart { (other : ℕ) → other < 2 ^ 32 → reversed other ≡ result → other ≡ bucket }
-    ensures order { (ancestor : ℕ) → IsAncestor ancestor bucket → ancestor ≢ bucket → reversed ancestor < result }
+    ensures order { (ancestor : ℕ) → IsAncestor ancestor bucket → ancestor ≢ bucket
+        → reversed ancestor < result }
 {
     reverse(u64::from(bucket))
 }

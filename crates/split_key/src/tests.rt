@@ -1,4 +1,4 @@
-use crate::{BadKey, Key, bucket_of, dummy, parent, regular, reverse};
+use crate::{BadKey, Key, SortKey, bucket_of, dummy, parent, regular, reverse};
 use std::test::Fail;
 
 #[test]
@@ -10,7 +10,7 @@ fn split_keys_of_dummies(rt: HostRuntime) {
 }
 
 #[test]
-fn split_keys_of_keys(rt: HostRuntime) -> Result<(), Fail> {
+fn split_keys_of_keys(rt: HostRuntime) {
     let table = [
         (0, 0x0000_0000_0000_0001),
         (4, 0x2000_0000_0000_0001),
@@ -22,19 +22,39 @@ fn split_keys_of_keys(rt: HostRuntime) -> Result<(), Fail> {
         (3, 0xc000_0000_0000_0001),
         (7, 0xe000_0000_0000_0001),
         (0x7fff_ffff_ffff_ffff, 0xffff_ffff_ffff_ffff),
+        (0x8000_0000_0000_0000, 0x0000_0000_0000_0001),
+        (0x8000_0000_0000_0001, 0x8000_0000_0000_0001),
+        (0xffff_ffff_ffff_ffff, 0xffff_ffff_ffff_ffff),
     ];
     for (number, split) in table {
-        let key = Key::new(number)?;
+        let key = Key::new(number);
         assert_eq!(rt; key.number(), number);
         assert_eq!(rt; regular(key), split, "of key {number}");
     }
-    Ok(())
 }
 
 #[test]
-fn a_key_is_below_half_of_all_numbers(rt: HostRuntime) {
-    assert_eq!(rt; Key::new(0x8000_0000_0000_0000), Err(BadKey));
-    assert_eq!(rt; Key::new(0xffff_ffff_ffff_ffff), Err(BadKey));
+fn keys_of_one_split_key_in_their_order(rt: HostRuntime) {
+    let low = SortKey::regular(Key::new(1));
+    let high = SortKey::regular(Key::new(0x8000_0000_0000_0001));
+    let next = SortKey::regular(Key::new(5));
+    assert_eq!(rt; low.split(), high.split());
+    assert!(rt; low.is_before(high));
+    assert!(rt; !high.is_before(low));
+    assert!(rt; high.is_before(next));
+    assert!(rt; SortKey::dummy(1).is_before(low));
+}
+
+#[test]
+fn a_half_key_is_below_half_of_all_numbers(rt: HostRuntime) -> Result<(), Fail> {
+    assert_eq!(rt; Key::half(0)?.number(), 0);
+    assert_eq!(rt;
+        Key::half(0x7fff_ffff_ffff_ffff)?.number(),
+        0x7fff_ffff_ffff_ffff
+    );
+    assert_eq!(rt; Key::half(0x8000_0000_0000_0000), Err(BadKey));
+    assert_eq!(rt; Key::half(0xffff_ffff_ffff_ffff), Err(BadKey));
+    Ok(())
 }
 
 #[test]
@@ -52,14 +72,13 @@ fn parents(rt: HostRuntime) {
 }
 
 #[test]
-fn buckets_at_rising_sizes(rt: HostRuntime) -> Result<(), Fail> {
-    let key = Key::new(14)?;
+fn buckets_at_rising_sizes(rt: HostRuntime) {
+    let key = Key::new(14);
     let at_two = bucket_of(key, 2);
     let at_four = bucket_of(key, 4);
     let at_eight = bucket_of(key, 8);
     let at_largest = bucket_of(key, 0x8000_0000);
     assert_eq!(rt; [at_two, at_four, at_eight, at_largest], [0, 2, 6, 14]);
-    Ok(())
 }
 
 #[test]

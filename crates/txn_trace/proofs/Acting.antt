@@ -1,14 +1,15 @@
 -- A reply: it is right where it is that of the map as it is now, which then changes by the operation.
 use Rattle.std.proofs.Common.{◌≡◌, ℕ, ◌==◌, ◌≢◌, true, false, cond, List, [], ◌∷◌, ◌++◌, refl, ap, sym, subst, ◌∙◌, Some, None, Option, is_some}
-use Rattle.std.specs.Option.{option_and_then}
+use Rattle.std.specs.Prelude.{nat_eq}
+use Rattle.std.specs.Option.{option_eq, option_and_then}
 use Rattle.std.proofs.lemmas.Bool.{false≢true, cases_eq, eq-eqb, ne_eqb}
 use Rattle.std.proofs.lemmas.List.{append-nil}
 use mathlib.Core.Logic.{inl, inr}
 use Rattle.txn_trace.specs.declared.op.Op.{Op}
-use Rattle.txn_trace.specs.declared.op.Op.TheVariants.{Put, Take, Get}
+use Rattle.txn_trace.specs.declared.op.Op.TheVariants.{Put, Take, Get, PutIf}
 use Rattle.txn_trace.specs.declared.entry.Entry.{Entry}
 use Rattle.txn_trace.specs.declared.entry.Entry.TheVariants.{Did}
-use Rattle.txn_trace.specs.Map.{Map, get, remove, after, reply_of, key_of, is_change}
+use Rattle.txn_trace.specs.Map.{Map, get, insert, remove, after, reply_of, key_of, is_change}
 use Rattle.txn_trace.specs.History.{of}
 use Rattle.txn_trace.specs.Alone.{Run, with_op, act_did, act, alone, last_map, map_after}
 use Rattle.txn_trace.specs.Serial.{serial}
@@ -39,18 +40,30 @@ after_unchanged m (Take k) h = same_map (remove m k) m (λ q. get-remove m k q �
       | inr other ↦ ap (λ b. cond b None (get m q)) (ne_eqb q k other)
     ]
 after_unchanged m (Get k) h = refl
+after_unchanged m (PutIf k expected v) h = ap (λ b. cond b (insert m k v) m) h
 
 -- Another key stays.
 pub get-after_other : (m : Map) (op : Op) (q : ℕ) → q ≢ key_of op → get (after m op) q ≡ get m q
 get-after_other m (Put k v) q other = get-insert m k v q ∙ ap (λ b. cond b (Some v) (get m q)) (ne_eqb q k other)
 get-after_other m (Take k) q other = get-remove m k q ∙ ap (λ b. cond b None (get m q)) (ne_eqb q k other)
 get-after_other m (Get k) q other = refl
+get-after_other m (PutIf k expected v) q other =
+    elim (option_eq nat_eq (get m k) expected) as (λ b. get (cond b (insert m k v) m) q ≡ get m q) [
+      | true ↦ get-insert m k v q ∙ ap (λ b. cond b (Some v) (get m q)) (ne_eqb q k other)
+      | false ↦ refl
+    ]
 
 -- Maps that have the same at a key and at the operation's have the same there after it.
 pub get-after_same : (m n : Map) (op : Op) (q : ℕ) → get m q ≡ get n q → get m (key_of op) ≡ get n (key_of op) → get (after m op) q ≡ get (after n op) q
 get-after_same m n (Put k v) q same at = get-insert m k v q ∙ ap (cond (q == k) (Some v)) same ∙ sym (get-insert n k v q)
 get-after_same m n (Take k) q same at = get-remove m k q ∙ ap (cond (q == k) None) same ∙ sym (get-remove n k q)
 get-after_same m n (Get k) q same at = same
+get-after_same m n (PutIf k expected v) q same at =
+    subst (λ c. get (cond (option_eq nat_eq (get m k) expected) (insert m k v) m) q ≡ get (cond c (insert n k v) n) q) (ap (λ o. option_eq nat_eq o expected) at)
+    (elim (option_eq nat_eq (get m k) expected) as (λ b. get (cond b (insert m k v) m) q ≡ get (cond b (insert n k v) n) q) [
+      | true ↦ get-insert m k v q ∙ ap (cond (q == k) (Some v)) same ∙ sym (get-insert n k v q)
+      | false ↦ same
+    ])
 
 added : (r : Run) (op : Op) → (with_op r op).last ≡ after r.last op
 added r op = (elim (is_change r.last op) as (λ b. is_change r.last op ≡ b → (cond b (record r { last = after r.last op; earlier = r.last ∷ r.earlier }) r).last ≡ after r.last op) [

@@ -2,7 +2,7 @@
 use Rattle.std.proofs.Common.{◌≡◌, ℕ, ◌^◌, ◌-◌, List, [], ◌∷◌, ◌++◌, Some, None, Option, refl, sym, subst, take, map, arith, lit≤, lit<}
 use Rattle.split_key.specs.Split.{split, reversed, reversed_low}
 use Rattle.txn_trace.specs.declared.op.Op.{Op}
-use Rattle.txn_trace.specs.declared.op.Op.TheVariants.{Put, Take, Get}
+use Rattle.txn_trace.specs.declared.op.Op.TheVariants.{Put, Take, Get, PutIf}
 use Rattle.txn_trace.specs.declared.action.Action.{Action}
 use Rattle.txn_trace.specs.declared.action.Action.TheVariants as actions
 use Rattle.txn_trace.specs.declared.entry.Entry.{Entry}
@@ -341,3 +341,44 @@ one_worker_scripts : PlayScripts 1 (first_script ∷ second_script ∷ []) one_w
 one_worker_scripts c below = let is : c ≡ 0 = omega arith in
     let P : ℕ → Type 0 = λ c. PlayRising 1 (first_script ∷ second_script ∷ []) c one_worker 0 2 (commits_of c one_worker) in
     subst P (sym is) (0, first_script, lit≤ tt, lit< tt, record { mine = refl; there = refl }, one_worker_first, tt)
+
+-- Two keys that share a split key, and a put_if that changes and one that does not.
+abbrev two_of_one_split_key : List Entry
+two_of_one_split_key =
+    Began 0 1 ∷ asked_and_done 0 (Put 9223372036854775809 11) None ++ asked_and_done 0 (Put 1 10) None ++ asked_and_done 0 (PutIf 1 None 12) (Some 10)
+    ++ asked_and_done 0 (PutIf 1 (Some 10) 12) (Some 10) ++ asked_and_done 0 (PutIf 2 None 20) None ++ asked_and_done 0 (PutIf 3 (Some 5) 6) None
+    ++ asked_and_done 0 (Put 18446744073709551615 7) None
+
+abbrev keys_of_64_bits : List Entry
+keys_of_64_bits = two_of_one_split_key ++ Committed 0 1 ∷ []
+
+keys_of_64_bits_verdict : verdict 8 keys_of_64_bits ≡ Legal 1 0
+keys_of_64_bits_verdict = refl
+
+keys_of_64_bits_ordered : ordered (now keys_of_64_bits) ≡ (2, 20) ∷ (1, 12) ∷ (9223372036854775809, 11) ∷ (18446744073709551615, 7) ∷ []
+unfolding split reversed reversed_low
+keys_of_64_bits_ordered = refl
+
+abbrev keys_of_64_bits_leave : List Entry
+keys_of_64_bits_leave = two_of_one_split_key ++ Leave 0 None ∷ Undone 0 ∷ Undone 0 ∷ Undone 0 ∷ Undone 0 ∷ []
+
+keys_of_64_bits_undone : verdict 8 (keys_of_64_bits_leave ++ Undone 0 ∷ Aborted 0 ∷ []) ≡ Legal 0 0
+keys_of_64_bits_undone = refl
+
+keys_of_64_bits_not_undone : verdict 8 (keys_of_64_bits_leave ++ Aborted 0 ∷ []) ≡ Illegal 20 3
+keys_of_64_bits_not_undone = refl
+
+keys_of_64_bits_left : (now (keys_of_64_bits_leave ++ Undone 0 ∷ Aborted 0 ∷ [])).rows ≡ []
+keys_of_64_bits_left = refl
+
+abbrev put_if_history_front : List Entry
+put_if_history_front = Began 0 1 ∷ asked_and_done 0 (PutIf 1 None 5) None ++ asked_and_done 0 (PutIf 1 (Some 4) 6) (Some 5) ++ Leave 0 None ∷ Undone 0 ∷ []
+
+put_if_history : verdict 8 (put_if_history_front ++ Aborted 0 ∷ []) ≡ Legal 0 0
+put_if_history = refl
+
+put_if_history_undone_twice : verdict 8 (put_if_history_front ++ Undone 0 ∷ Aborted 0 ∷ []) ≡ Illegal 7 3
+put_if_history_undone_twice = refl
+
+put_if_history_erased : erase (put_if_history_front ++ Aborted 0 ∷ []) ≡ []
+put_if_history_erased = refl

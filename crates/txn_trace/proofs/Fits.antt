@@ -3,7 +3,7 @@ use Rattle.std.proofs.Common.{◌≡◌, ℕ, zero, suc, ◌+◌, ◌-◌, ◌<�
 use Rattle.std.specs.Prelude.{nat_lt}
 use Rattle.std.proofs.lemmas.Bool.{false≢true, eqb-true, ltb-true, and_parts}
 use Rattle.txn_trace.specs.declared.op.Op.{Op}
-use Rattle.txn_trace.specs.declared.op.Op.TheVariants.{Put, Take, Get}
+use Rattle.txn_trace.specs.declared.op.Op.TheVariants.{Put, Take, Get, PutIf}
 use Rattle.txn_trace.specs.declared.entry.Entry.{Entry}
 use Rattle.txn_trace.specs.declared.entry.Entry.TheVariants.{Began, Asked, Did, Saved, Leave, Undone, Returned, Committed, Busy, Aborted}
 use Rattle.txn_trace.specs.Map.{Map, reply_of, after, is_change}
@@ -41,6 +41,7 @@ pub changes-reply : (m : Map) (op : Op) → changes op (reply_of m op) ≡ is_ch
 changes-reply m (Put k v) = refl
 changes-reply m (Take k) = refl
 changes-reply m (Get k) = refl
+changes-reply m (PutIf k expected v) = refl
 
 pub fits_start : (m : Map) → Fits (record closed_seat { phase = Opened }) (start m)
 fits_start m = record { standing = refl; notes = refl; phase = tt }

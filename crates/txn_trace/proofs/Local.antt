@@ -6,7 +6,7 @@ use Rattle.std.specs.Option.{option_eq, option_and_then}
 use Rattle.std.specs.List.{fold}
 use Rattle.std.proofs.lemmas.Bool.{false≢true, ne_eqb}
 use Rattle.txn_trace.specs.declared.op.Op.{Op}
-use Rattle.txn_trace.specs.declared.op.Op.TheVariants.{Put, Take, Get}
+use Rattle.txn_trace.specs.declared.op.Op.TheVariants.{Put, Take, Get, PutIf}
 use Rattle.txn_trace.specs.declared.entry.Entry.{Entry}
 use Rattle.txn_trace.specs.declared.entry.Entry.TheVariants.{Asked, Did, Saved, Undone, Returned}
 use Rattle.txn_trace.specs.Map.{Map, get, insert, remove, key_of, reply_of, after, is_change, keys}
@@ -74,11 +74,18 @@ pub after_alike : (keys : ℕ → Bool) (m n a b : Map) (op : Op) → Alike keys
 after_alike keys m n a b (Put k v) alike is = insert_alike keys m n a b alike k is v
 after_alike keys m n a b (Take k) alike is = remove_alike keys m n a b alike k is
 after_alike keys m n a b (Get k) alike is = alike
+after_alike keys m n a b (PutIf k expected v) alike is =
+    subst (λ c. Alike keys m n (cond (option_eq nat_eq (get a k) expected) (insert a k v) a) (cond c (insert b k v) b)) (ap (λ o. option_eq nat_eq o expected) (alike.inside k is))
+    (elim (option_eq nat_eq (get a k) expected) as (λ c. Alike keys m n (cond c (insert a k v) a) (cond c (insert b k v) b)) [
+      | true ↦ insert_alike keys m n a b alike k is v
+      | false ↦ alike
+    ])
 
 is_change_alike : (keys : ℕ → Bool) (m n a b : Map) (op : Op) → Alike keys m n a b → keys (key_of op) ≡ true → is_change a op ≡ is_change b op
 is_change_alike keys m n a b (Put k v) alike is = refl
 is_change_alike keys m n a b (Take k) alike is = ap is_some (alike.inside k is)
 is_change_alike keys m n a b (Get k) alike is = refl
+is_change_alike keys m n a b (PutIf k expected v) alike is = ap (λ o. option_eq nat_eq o expected) (alike.inside k is)
 
 module _ (keys : ℕ → Bool) (m n : Map) where
   add_alike : (r s : Run) (op : Op) → RunAlike keys m n r s → keys (key_of op) ≡ true → RunAlike keys m n (record (with_op r op) { pending = None }) (record (with_op s op) { pending = None })

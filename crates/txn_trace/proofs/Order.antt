@@ -1,4 +1,4 @@
--- The pairs of a map in the order of the table: there is one list of them that rises strictly by split keys.
+-- The pairs of a map in the order of the table: there is one list of them that rises strictly by sort keys.
 use Rattle.std.proofs.Common.{◌≡◌, ◌≢◌, ℕ, ◌+◌, ◌<◌, ◌^◌, ◌==◌, ◌&&◌, Bool, true, false, cond, T, List, [], ◌∷◌, ◌++◌, length, refl, ap, sym, subst, ◌∙◌, Some, None, Option, is_some, arith}
 use Rattle.std.specs.List.{fold, AllByRecursion}
 use Rattle.std.specs.FinMap.{IsAntisymmetric, nat_cmp-IsAntisymmetric}
@@ -11,7 +11,8 @@ use Rattle.std.proofs.lemmas.Cmp.{then_total}
 use Rattle.std.proofs.lemmas.Bool.{false≢true, cases_eq, eq-eqb, ne_eqb}
 use mathlib.Core.Logic.{◌⊎◌, inl, inr}
 use Rattle.split_key.specs.Split.{split}
-use Rattle.split_key.proofs.SplitLemmas.{same_from_split}
+use Rattle.split_key.specs.Sort.{IsBefore, regular_at}
+use Rattle.split_key.proofs.SortLemmas.{lower_from, before_by_split, before_by_key}
 use Rattle.txn_trace.specs.Map.{Map, get, insert, remove, count_of}
 use Rattle.txn_trace.specs.Ordered.{split_cmp, ordered}
 use Rattle.txn_trace.proofs.Maps.{get-insert, get-remove}
@@ -46,8 +47,13 @@ split_cmp_tied a b = elim (cases_eq a b) [
   | inr other ↦ apart a b other (split_cmp a b) refl ∙ sym (ne_eqb a b other)
 ]
 
-pub split_cmp_less : (a b : ℕ) → split a < split b → split_cmp a b ≡ Less
-split_cmp_less a b below = ap (λ o. ordering_then o (nat_cmp a b)) (sym (nat_cmp_is (split a) (split b) Less below))
+pub split_cmp_less : (a b : ℕ) → IsBefore (regular_at a) (regular_at b) → split_cmp a b ≡ Less
+split_cmp_less a b before = elim (lower_from (regular_at a) (regular_at b) before) [
+  | inl less ↦ ap (λ o. ordering_then o (nat_cmp a b)) (sym (nat_cmp_is (split a) (split b) Less less))
+  | inr both ↦
+      ap (λ o. ordering_then o (nat_cmp a b)) (ap (nat_cmp (split a)) (sym both.0) ∙ tied_itself nat_cmp_total (split a))
+      ∙ sym (nat_cmp_is a b Less both.1)
+]
 
 -- The value at a key in a list of pairs.
 abbrev pub value_at : ℕ → List (ℕ × ℕ) → Option ℕ
@@ -143,12 +149,12 @@ length-puts (row ∷ rows) es rows_rise es_rise fresh =
 pub length-ordered : (m : Map) → length (ordered m) ≡ count_of m
 length-ordered m = let same : length (puts [] m.rows) ≡ 0 + length m.rows = length-puts m.rows [] m.rising tt (λ k there. refl) in omega arith
 
--- Each pair's split key is below those of all that follow it.
+-- Each pair's sort key is before those of all that follow it.
 abbrev pub Rises : List (ℕ × ℕ) → Type 0
 Rises [] = Unit {0}
-Rises (pair ∷ rest) = AllByRecursion (λ (other : ℕ × ℕ). split pair.0 < split other.0) rest × Rises rest
+Rises (pair ∷ rest) = AllByRecursion (λ (other : ℕ × ℕ). IsBefore (regular_at pair.0) (regular_at other.0)) rest × Rises rest
 
-below_sorted : (pair : ℕ × ℕ) (rest : List (ℕ × ℕ)) → AllByRecursion (λ (other : ℕ × ℕ). split pair.0 < split other.0) rest → T (below_all split_cmp pair.0 rest)
+below_sorted : (pair : ℕ × ℕ) (rest : List (ℕ × ℕ)) → AllByRecursion (λ (other : ℕ × ℕ). IsBefore (regular_at pair.0) (regular_at other.0)) rest → T (below_all split_cmp pair.0 rest)
 below_sorted pair [] below = tt
 below_sorted pair (other ∷ rest) below = pair_both _ _ (subst (λ o. T (is_lt o)) (sym (split_cmp_less pair.0 other.0 below.0)) tt) (below_sorted pair rest below.1)
 
@@ -157,30 +163,34 @@ pub sorted-rises : (es : List (ℕ × ℕ)) → Rises es → IsSortedBySplit es
 sorted-rises [] rises = tt
 sorted-rises (pair ∷ rest) rises = pair_both _ _ (below_sorted pair rest rises.0) (sorted-rises rest rises.1)
 
--- A list that rises strictly by split keys, and has at each key what the map has, is the list of the map's ordered pairs.
+-- A list that rises strictly by sort keys, and has at each key what the map has, is the list of the map's ordered pairs.
 pub ordered_rising : (m : Map) (es : List (ℕ × ℕ)) → Rises es → ((k : ℕ) → value_at k es ≡ get m k) → es ≡ ordered m
 ordered_rising m es rises same = ordered_is m es (sorted-rises es rises) same
 
-above_sorted : (k : ℕ) (rest : List (ℕ × ℕ)) → k < 2 ^ 63 → AllByRecursion (λ (other : ℕ × ℕ). other.0 < 2 ^ 63) rest → T (below_all split_cmp k rest) → AllByRecursion (λ (other : ℕ × ℕ). split k < split other.0) rest
-above_sorted k [] small all below = tt
-above_sorted k (other ∷ rest) small all below =
+above_sorted : (k : ℕ) (rest : List (ℕ × ℕ)) → T (below_all split_cmp k rest) → AllByRecursion (λ (other : ℕ × ℕ). IsBefore (regular_at k) (regular_at other.0)) rest
+above_sorted k [] below = tt
+above_sorted k (other ∷ rest) below =
     let parts = pair_parts (is_lt (split_cmp k other.0)) (below_all split_cmp k rest) below in
-    (from (nat_cmp (split k) (split other.0)) refl parts.0, above_sorted k rest small all.1 parts.1)
+    (from (nat_cmp (split k) (split other.0)) refl parts.0, above_sorted k rest parts.1)
   where
-    from : (o : Ordering) → nat_cmp (split k) (split other.0) ≡ o → T (is_lt (split_cmp k other.0)) → split k < split other.0
-    from Less is less = subst (λ r. MatchOrdering r (split k < split other.0) (split k ≡ split other.0) (split other.0 < split k)) is (ranks (split k) (split other.0))
+    by_keys : (o : Ordering) → nat_cmp k other.0 ≡ o → split k ≡ split other.0 → T (is_lt o) → IsBefore (regular_at k) (regular_at other.0)
+    by_keys Less is same less = before_by_key (regular_at k) (regular_at other.0) same (subst (λ r. MatchOrdering r (k < other.0) (k ≡ other.0) (other.0 < k)) is (ranks k other.0))
+    by_keys Equal is same less = absurd less
+    by_keys Greater is same less = absurd less
+
+    from : (o : Ordering) → nat_cmp (split k) (split other.0) ≡ o → T (is_lt (split_cmp k other.0)) → IsBefore (regular_at k) (regular_at other.0)
+    from Less is less = before_by_split (regular_at k) (regular_at other.0) (subst (λ r. MatchOrdering r (split k < split other.0) (split k ≡ split other.0) (split other.0 < split k)) is (ranks (split k) (split other.0)))
     from Equal is less =
-        let equal_splits : split k ≡ split other.0 = nat_cmp-IsAntisymmetric (split k) (split other.0) is in
-        let same : k ≡ other.0 = same_from_split k other.0 small all.0 equal_splits in
-        absurd (subst (λ o. T (is_lt o)) (ap (split_cmp k) (sym same) ∙ tied_itself split_cmp_total k) less)
+        let same : split k ≡ split other.0 = nat_cmp-IsAntisymmetric (split k) (split other.0) is in
+        by_keys (nat_cmp k other.0) refl same (subst (λ o. T (is_lt (ordering_then o (nat_cmp k other.0)))) is less)
     from Greater is less = absurd (subst (λ o. T (is_lt (ordering_then o (nat_cmp k other.0)))) is less)
 
--- Where all keys are below 2^63, the ordered pairs rise strictly by split keys.
-pub rises-sorted : (es : List (ℕ × ℕ)) → AllByRecursion (λ (pair : ℕ × ℕ). pair.0 < 2 ^ 63) es → IsSortedBySplit es → Rises es
-rises-sorted [] all sorted = tt
-rises-sorted (pair ∷ rest) all sorted =
+-- The ordered pairs rise strictly by sort keys.
+pub rises-sorted : (es : List (ℕ × ℕ)) → IsSortedBySplit es → Rises es
+rises-sorted [] sorted = tt
+rises-sorted (pair ∷ rest) sorted =
     let parts = pair_parts (below_all split_cmp pair.0 rest) (is_sorted split_cmp rest) sorted in
-    (above_sorted pair.0 rest all.0 all.1 parts.0, rises-sorted rest all.1 parts.1)
+    (above_sorted pair.0 rest parts.0, rises-sorted rest parts.1)
 
 -- A pair is one of a list.
 abbrev pub IsAmong : ℕ × ℕ → List (ℕ × ℕ) → Type 0

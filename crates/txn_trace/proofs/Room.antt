@@ -1,11 +1,11 @@
 -- The room that is kept for what callers still owe.
 use Rattle.std.proofs.Common.{◌≡◌, ℕ, ◌+◌, ◌-◌, ◌<◌, ◌≤◌, ◌==◌, ◌&&◌, Bool, true, false, cond, List, [], ◌∷◌, ◌++◌, length, take, slice_index, refl, ap, sym, subst, ◌∙◌, Some, None, Option, is_some, arith}
-use Rattle.std.specs.Prelude.{nat_lt}
+use Rattle.std.specs.Prelude.{nat_eq, nat_lt}
 use Rattle.std.specs.List.{AllByRecursion}
-use Rattle.std.specs.Option.{option_and_then}
+use Rattle.std.specs.Option.{option_eq, option_and_then}
 use Rattle.std.proofs.lemmas.Bool.{ltb-true}
 use Rattle.txn_trace.specs.declared.op.Op.{Op}
-use Rattle.txn_trace.specs.declared.op.Op.TheVariants.{Put, Take, Get}
+use Rattle.txn_trace.specs.declared.op.Op.TheVariants.{Put, Take, Get, PutIf}
 use Rattle.txn_trace.specs.declared.entry.Entry.{Entry}
 use Rattle.txn_trace.specs.declared.entry.Entry.TheVariants.{Began, Asked, Did, Saved, Leave, Undone, Returned, Committed, Busy, Aborted}
 use Rattle.txn_trace.specs.declared.answer.Answer.{Answer}
@@ -60,6 +60,7 @@ did_fits_in : (s : ℕ) (op : Op) (r : Option ℕ) → 2 + cond (changes op r) (
 did_fits_in s (Put k v) r = omega arith
 did_fits_in s (Take k) r = elim (is_some r) as (λ b. 2 + cond b (s + 1) s + 1 ≤ 2 + s + 2 + 0) [ true ↦ omega arith | false ↦ omega arith ]
 did_fits_in s (Get k) r = omega arith
+did_fits_in s (PutIf k expected v) r = elim (option_eq nat_eq r expected) as (λ b. 2 + cond b (s + 1) s + 1 ≤ 2 + s + 2 + 0) [ true ↦ omega arith | false ↦ omega arith ]
 
 row_fits : (s : Seat) (q : Phase) (e : Entry) → s.phase ≡ q → FitsIn (owed_in s.standing q + reserved_for e) (row s q e)
 row_fits s Closed (Began c t) at = omega arith

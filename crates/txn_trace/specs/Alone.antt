@@ -7,8 +7,8 @@ use Rattle.txn_trace.specs.declared.entry.Entry.{Entry}
 use Rattle.txn_trace.specs.declared.entry.Entry.TheVariants.{Asked, Did, Saved, Undone, Returned}
 use Rattle.txn_trace.specs.Map.{Map, reply_of, after, is_change}
 
--- A run is a list of maps, the newest apart; the operation that waits for its reply; and for each level
--- the number of maps that was noted there, 1 at level 0.
+-- A run is a list of maps, the newest apart; the operation that waits for its reply; and for each
+-- level the number of maps that was noted there, 1 at level 0.
 pub record Run : Type 0 where
   pub last : Map
   pub earlier : List Map
@@ -25,12 +25,18 @@ number_of_maps run = length run.earlier + 1
 
 -- An operation that is a change adds the map that it leaves.
 abbrev pub with_op : Run → Op → Run
-with_op run op = if is_change run.last op then record run { last = after run.last op; earlier = run.last ∷ run.earlier } else run
+with_op run op =
+    if is_change run.last op
+    then record run { last = after run.last op; earlier = run.last ∷ run.earlier }
+    else run
 
 -- Did: the reply must be that of the last map.
 abbrev pub act_did : Run → Option Op → Option ℕ → Option Run
 act_did run None r = None
-act_did run (Some op) r = if option_eq nat_eq r (reply_of run.last op) then Some (record (with_op run op) { pending = None }) else None
+act_did run (Some op) r =
+    if option_eq nat_eq r (reply_of run.last op)
+    then Some (record (with_op run op) { pending = None })
+    else None
 
 -- Undone: the last map is dropped; the first may not be.
 abbrev pub act_undone : Run → List Map → Option Run
@@ -39,7 +45,10 @@ act_undone run (m ∷ ms) = Some (record run { last = m; earlier = ms })
 
 -- Returned: the number of maps must be the one noted at the level; later notes are dropped.
 abbrev pub act_returned : Run → ℕ → Option Run
-act_returned run n = if option_eq nat_eq (slice_get run.notes n) (Some (number_of_maps run)) then Some (record run { notes = take (n + 1) run.notes }) else None
+act_returned run n =
+    if option_eq nat_eq (slice_get run.notes n) (Some (number_of_maps run))
+    then Some (record run { notes = take (n + 1) run.notes })
+    else None
 
 -- What an entry does to a run; None where it must not stand there.
 abbrev pub act : Run → Entry → Option Run

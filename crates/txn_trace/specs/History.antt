@@ -1,4 +1,5 @@
--- A history is a list of entries. Each belongs to a transaction, and each transaction is committed, aborted or open.
+-- A history is a list of entries. Each belongs to a transaction, and each transaction is committed,
+-- aborted or open.
 use Rattle.std.specs.Prelude.{ℕ, ◌==◌, Bool, true, false, not, ◌||◌, Option, Some, None, List, [], ◌∷◌, map, nat_eq, if◌then◌else◌}
 use Rattle.std.specs.Option.{option_eq}
 use Rattle.std.specs.List.{filter, filter_map, fold}
@@ -46,7 +47,8 @@ txn_after before _ x = before x
 -- Each entry with its transaction, where the callers had these transactions before.
 abbrev pub lines_from : (ℕ → Option ℕ) → List Entry → List Line
 lines_from before [] = []
-lines_from before (e ∷ h) = record { txn = txn_after before e (caller_of e); entry = e } ∷ lines_from (txn_after before e) h
+lines_from before (e ∷ h) =
+    record { txn = txn_after before e (caller_of e); entry = e } ∷ lines_from (txn_after before e) h
 
 -- Each entry of a history with its transaction.
 abbrev pub lines_of : List Entry → List Line
@@ -84,6 +86,7 @@ txns_of test h = filter_map (λ line. if test line.entry then line.txn else None
 abbrev pub commits : List Entry → List ℕ
 commits h = filter (λ t. is_committed t h) (txns_of is_commit h)
 
--- The open transactions, in the order of their Began entries: by rising number, where the history has the right shape.
+-- The open transactions, in the order of their Began entries: by rising number, where the history
+-- has the right shape.
 abbrev pub open_txns : List Entry → List ℕ
 open_txns h = filter (λ t. is_open t h) (txns_of is_began h)

@@ -21,14 +21,16 @@ pub record IsLegal (stripes : ℕ) (h : List Entry) : Type 0 where
 abbrev pub replies_hold : List Entry → Bool
 replies_hold g = list_all (λ t. is_some (alone (serial g) (of t g))) (open_txns g)
 
--- The rule that an entry breaks after g: 3, shape; else the lesser of 1, replies, and 2, locks; None where it breaks none.
+-- The rule that an entry breaks after g: 3, shape; else the lesser of 1, replies, and 2, locks;
+-- None where it breaks none.
 abbrev pub broken : ℕ → List Entry → Entry → Option ℕ
 broken stripes g e =
     if not (is_shaped g e) then Some 3 else
     if not (replies_hold (g ++ e ∷ [])) then Some 1 else
     if not (is_locked stripes g e) then Some 2 else None
 
--- Of the entries h that come after g, the i-th and following ones, the first that breaks a rule, and the rule.
+-- Of the entries h that come after g, the i-th and following ones, the first that breaks a rule,
+-- and the rule.
 abbrev pub first_bad : ℕ → List Entry → List Entry → ℕ → Option (ℕ × ℕ)
 first_bad stripes g [] i = None
 first_bad stripes g (e ∷ h) i = elim (broken stripes g e) [
@@ -54,7 +56,8 @@ callers_in h = fold (λ n e. max n (caller_of e + 1)) 0 h
 abbrev pub running : ℕ → List Entry → List ℕ
 running callers h = filter (λ c. is_running (seat_after (own c h))) (range_with_len 0 callers)
 
--- A verdict is Legal with the numbers of commits and of callers that are not closed, or Illegal with the first bad entry and its rule.
+-- A verdict is Legal with the numbers of commits and of callers that are not closed, or Illegal
+-- with the first bad entry and its rule.
 pub data Verdict : Type 0 where
   Legal : ℕ → ℕ → Verdict
   Illegal : ℕ → ℕ → Verdict

@@ -22,18 +22,24 @@ is_in_open h line = elim line.txn [ None ↦ false | Some t ↦ is_open t h ]
 
 -- The callers with an open transaction that has asked for a key of the stripe.
 abbrev pub holders : ℕ → ℕ → List Entry → List ℕ
-holders stripes s h = map (λ line. caller_of line.entry) (filter (λ line. asks_in stripes s line.entry && is_in_open h line) (lines_of h))
+holders stripes s h =
+    map (λ line. caller_of line.entry)
+    (filter (λ line. asks_in stripes s line.entry && is_in_open h line) (lines_of h))
 
 -- The caller that holds a stripe, if one does: in a legal history no stripe has two.
 abbrev pub holder_of : ℕ → ℕ → List Entry → Option ℕ
 holder_of stripes s h = slice_get (holders stripes s h) 0
 
--- Whether an entry may stand after g: an Asked where no other caller holds the stripe, a Busy where the named one is another and does.
+-- Whether an entry may stand after g: an Asked where no other caller holds the stripe, a Busy where
+-- the named one is another and does.
 abbrev pub is_locked : ℕ → List Entry → Entry → Bool
-is_locked stripes g (Asked c op) = list_all (λ x. x == c) (holders stripes (stripe_of stripes (key_of op)) g)
-is_locked stripes g (Busy c op x) = not (x == c) && list_any (λ y. y == x) (holders stripes (stripe_of stripes (key_of op)) g)
+is_locked stripes g (Asked c op) =
+    list_all (λ x. x == c) (holders stripes (stripe_of stripes (key_of op)) g)
+is_locked stripes g (Busy c op x) =
+    not (x == c) && list_any (λ y. y == x) (holders stripes (stripe_of stripes (key_of op)) g)
 is_locked stripes g _ = true
 
 -- That holds of each entry after the beginning before it.
 abbrev pub LocksHold : ℕ → List Entry → Type 0
-LocksHold stripes h = (g : List Entry) (e : Entry) → IsPrefix (g ++ e ∷ []) h → IsTrue (is_locked stripes g e)
+LocksHold stripes h =
+    (g : List Entry) (e : Entry) → IsPrefix (g ++ e ∷ []) h → IsTrue (is_locked stripes g e)

@@ -7,7 +7,8 @@ use Rattle.txn_trace.specs.declared.entry.Entry.TheVariants.{Began, Asked, Did, 
 use Rattle.txn_trace.specs.Map.{key_of}
 use Rattle.txn_trace.specs.Shape.{changes, own}
 
--- The operation that waits for its reply; and for each change that stands, newest first, its key and the value before it.
+-- The operation that waits for its reply; and for each change that stands, newest first, its key
+-- and the value before it.
 pub record Log : Type 0 where
   pub pending : Option Op
   pub standing : List (ℕ × Option ℕ)
@@ -19,9 +20,13 @@ no_log = record { pending = None; standing = [] }
 -- Did: a change is noted with its key and its reply.
 abbrev pub log_did : Log → Option Op → Option ℕ → Log
 log_did log None r = log
-log_did log (Some op) r = record { pending = None; standing = if changes op r then (key_of op, r) ∷ log.standing else log.standing }
+log_did log (Some op) r = record {
+  pending = None;
+  standing = if changes op r then (key_of op, r) ∷ log.standing else log.standing;
+}
 
--- The log after an entry: Undone takes back the newest change, and with its end a transaction has nothing left to take back.
+-- The log after an entry: Undone takes back the newest change, and with its end a transaction has
+-- nothing left to take back.
 abbrev pub log_step : Log → Entry → Log
 log_step log (Asked c op) = record log { pending = Some op }
 log_step log (Did c r) = log_did log log.pending r

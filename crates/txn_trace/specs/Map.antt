@@ -1,12 +1,14 @@
 -- Finite maps from numbers to numbers, and what an operation answers and leaves.
-use Rattle.std.specs.Prelude.{ℕ, Bool, true, false, not, Option, is_some, T, List, [], map, length}
+use Rattle.std.specs.Prelude.{ℕ, Bool, true, false, not, Option, is_some, T, List, [], map, length, nat_eq, if◌then◌else◌}
+use Rattle.std.specs.Option.{option_eq}
 use Rattle.std.specs.FinMap.Entries.{find, put, where_key, is_sorted, is_sorted-put, is_sorted-where_key}
 use Rattle.std.specs.Ordering.{nat_cmp, eq_by_cmp}
 use Rattle.std.specs.Cmp.{nat_cmp_total}
 use Rattle.txn_trace.specs.declared.op.Op.{Op}
-use Rattle.txn_trace.specs.declared.op.Op.TheVariants.{Put, Take, Get}
+use Rattle.txn_trace.specs.declared.op.Op.TheVariants.{Put, Take, Get, PutIf}
 
--- A map is the list of its pairs of key and value, by rising keys: std's finite map, written so that it computes.
+-- A map is the list of its pairs of key and value, by rising keys: std's finite map, written so
+-- that it computes.
 pub record Map : Type 0 where
   pub rows : List (ℕ × ℕ)
   pub rising : T (is_sorted nat_cmp rows)
@@ -21,11 +23,17 @@ get m k = find nat_cmp k m.rows
 
 -- The map with a key at a value.
 abbrev pub insert : Map → ℕ → ℕ → Map
-insert m k v = record { rows = put nat_cmp k v m.rows; rising = is_sorted-put nat_cmp nat_cmp_total k v m.rows m.rising }
+insert m k v = record {
+  rows = put nat_cmp k v m.rows;
+  rising = is_sorted-put nat_cmp nat_cmp_total k v m.rows m.rising;
+}
 
 -- The map without a key.
 abbrev pub remove : Map → ℕ → Map
-remove m k = record { rows = where_key nat_cmp (λ x. not (eq_by_cmp nat_cmp k x)) m.rows; rising = is_sorted-where_key nat_cmp _ m.rows m.rising }
+remove m k = record {
+  rows = where_key nat_cmp (λ x. not (eq_by_cmp nat_cmp k x)) m.rows;
+  rising = is_sorted-where_key nat_cmp _ m.rows m.rising;
+}
 
 -- The keys, rising.
 abbrev pub keys : Map → List ℕ
@@ -40,19 +48,24 @@ abbrev pub key_of : Op → ℕ
 key_of (Put k v) = k
 key_of (Take k) = k
 key_of (Get k) = k
+key_of (PutIf k expected v) = k
 
 -- What an operation answers: the value at its key, if the key is there.
 abbrev pub reply_of : Map → Op → Option ℕ
 reply_of m op = get m (key_of op)
 
--- The map that an operation leaves.
+-- The map that an operation leaves: a PutIf puts its value exactly where the key has what is
+-- expected, a value or none.
 abbrev pub after : Map → Op → Map
 after m (Put k v) = insert m k v
 after m (Take k) = remove m k
 after m (Get k) = m
+after m (PutIf k expected v) = if option_eq nat_eq (get m k) expected then insert m k v else m
 
--- Whether an operation is a change: a Put, or a Take of a key that is there.
+-- Whether an operation is a change: a Put, a Take of a key that is there, or a PutIf where the key
+-- has what is expected.
 abbrev pub is_change : Map → Op → Bool
 is_change m (Put k v) = true
 is_change m (Take k) = is_some (get m k)
 is_change m (Get k) = false
+is_change m (PutIf k expected v) = option_eq nat_eq (get m k) expected

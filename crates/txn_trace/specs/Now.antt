@@ -12,12 +12,15 @@ use Rattle.txn_trace.specs.Serial.{serial}
 abbrev pub open_maps : List Entry → List Map
 open_maps h = map (λ t. map_after (serial h) (of t h)) (open_txns h)
 
--- The value at a key in the first of the maps that differs there from the base; that of the base where none differs.
+-- The value at a key in the first of the maps that differs there from the base; that of the base
+-- where none differs.
 abbrev pub first_differing : Map → List Map → ℕ → Option ℕ
 first_differing base [] k = get base k
-first_differing base (m ∷ ms) k = if option_eq nat_eq (get m k) (get base k) then first_differing base ms k else get m k
+first_differing base (m ∷ ms) k =
+    if option_eq nat_eq (get m k) (get base k) then first_differing base ms k else get m k
 
--- The value at a key now: that of the open transaction that changed it, else that of the committed ones.
+-- The value at a key now: that of the open transaction that changed it, else that of the committed
+-- ones.
 abbrev pub now_at : List Entry → ℕ → Option ℕ
 now_at h k = first_differing (serial h) (open_maps h) k
 

@@ -2,7 +2,7 @@
 use Rattle.std.specs.Prelude.{ℕ, ◌+◌, Bool, true, false, Option, Some, None, List}
 use Rattle.std.specs.List.{sum_by, range_with_len}
 use Rattle.txn_trace.specs.declared.op.Op.{Op}
-use Rattle.txn_trace.specs.declared.op.Op.TheVariants.{Put, Take, Get}
+use Rattle.txn_trace.specs.declared.op.Op.TheVariants.{Put, Take, Get, PutIf}
 use Rattle.txn_trace.specs.declared.entry.Entry.{Entry}
 use Rattle.txn_trace.specs.declared.step.Step.{Step}
 use Rattle.txn_trace.specs.declared.step.Step.TheVariants.{Begin, Ask, Save, Back}
@@ -15,12 +15,14 @@ abbrev pub may_change : Op → Bool
 may_change (Put k v) = true
 may_change (Take k) = true
 may_change (Get k) = false
+may_change (PutIf k expected v) = true
 
 -- For an operation that waits: its reply, and for one that may change, the undoing of it.
 abbrev pub owed_for : Op → ℕ
 owed_for (Put k v) = 2
 owed_for (Take k) = 2
 owed_for (Get k) = 1
+owed_for (PutIf k expected v) = 2
 
 -- For a number of standing changes and a phase.
 abbrev pub owed_in : ℕ → Phase → ℕ
@@ -39,8 +41,8 @@ owed_by (Some s) = owed_in s.standing s.phase
 abbrev pub owed : ℕ → List Entry → ℕ
 owed callers h = sum_by (λ c. owed_by (seat_after (own c h))) (range_with_len 0 callers)
 
--- What a step reserves in the history before it does anything: its entry, and what its caller owes more after it. The
--- entries of all other steps are owed already.
+-- What a step reserves in the history before it does anything: its entry, and what its caller owes
+-- more after it. The entries of all other steps are owed already.
 abbrev pub reserved : Step → ℕ
 reserved (Begin c) = 3
 reserved (Ask c op) = 1 + owed_for op

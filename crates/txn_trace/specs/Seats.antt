@@ -1,5 +1,5 @@
 -- What a caller's seat alone says of its next step: the refusals that it decides, in their order.
-use Rattle.std.specs.Prelude.{ℕ, ◌^◌, Bool, true, false, not, ◌||◌, nat_lt, nat_le, slice_index, length, List, [], ◌∷◌, ◌++◌, Option, Some, None, if◌then◌else◌}
+use Rattle.std.specs.Prelude.{ℕ, Bool, true, false, not, ◌||◌, nat_lt, nat_le, slice_index, length, List, [], ◌∷◌, ◌++◌, Option, Some, None, if◌then◌else◌}
 use Rattle.txn_trace.specs.declared.entry.Entry.{Entry}
 use Rattle.txn_trace.specs.declared.entry.Entry.TheVariants.{Saved}
 use Rattle.txn_trace.specs.declared.step.Step.{Step}
@@ -7,6 +7,7 @@ use Rattle.txn_trace.specs.declared.step.Step.TheVariants.{Begin, Ask, Seek, Act
 use Rattle.txn_trace.specs.declared.refusal.Refusal.{Refusal}
 use Rattle.txn_trace.specs.declared.refusal.Refusal.TheVariants.{BadKey, NotOpen, AlreadyOpen, OperationUnfinished, Leaving, NothingToSeek, NoSuchLevel}
 use Rattle.txn_trace.specs.Map.{key_of}
+use Rattle.txn_trace.specs.Sizes.{is_bad_key}
 use Rattle.txn_trace.specs.declared.seat.Phase.{Phase}
 use Rattle.txn_trace.specs.declared.seat.Phase.TheVariants.{Closed, Waiting, LeavingTo, LeavingToEnd}
 use Rattle.txn_trace.specs.Shape.{Seat}
@@ -39,21 +40,28 @@ has_target seat = is_waiting seat.phase || has_job seat
 -- The tests of a step that only an open caller with nothing unfinished may take.
 abbrev pub unready_tests : Phase → List (Bool × Refusal)
 unready_tests phase =
-    (is_closed phase, NotOpen) ∷ (is_leaving phase, Leaving) ∷ (is_waiting phase, OperationUnfinished) ∷ []
+    (is_closed phase, NotOpen) ∷ (is_leaving phase, Leaving)
+    ∷ (is_waiting phase, OperationUnfinished) ∷ []
 
--- The tests of a step that the caller's seat decides, each with its refusal, in their order.
-abbrev pub tests_in : Seat → Step → List (Bool × Refusal)
-tests_in seat (Begin c) = (is_leaving seat.phase, Leaving) ∷ (not (is_closed seat.phase), AlreadyOpen) ∷ []
-tests_in seat (Ask c op) = unready_tests seat.phase ++ (nat_le (2 ^ 63) (key_of op), BadKey) ∷ []
-tests_in seat (Seek c) = (is_closed seat.phase, NotOpen) ∷ (not (has_target seat), NothingToSeek) ∷ []
-tests_in seat (Act c) =
+-- The tests of a step that the caller's seat decides, each with its refusal, in their order; for
+-- the key of an operation, by whether half keys alone are taken.
+abbrev pub tests_in : Bool → Seat → Step → List (Bool × Refusal)
+tests_in half seat (Begin c) =
+    (is_leaving seat.phase, Leaving) ∷ (not (is_closed seat.phase), AlreadyOpen) ∷ []
+tests_in half seat (Ask c op) =
+    unready_tests seat.phase ++ (is_bad_key half (key_of op), BadKey) ∷ []
+tests_in half seat (Seek c) =
+    (is_closed seat.phase, NotOpen) ∷ (not (has_target seat), NothingToSeek) ∷ []
+tests_in half seat (Act c) =
     (is_closed seat.phase, NotOpen)
     ∷ (not (is_leaving seat.phase || is_waiting seat.phase), NothingToSeek) ∷ []
-tests_in seat (Save c) = unready_tests seat.phase
-tests_in seat (Back c n) = unready_tests seat.phase ++ (nat_le (length seat.kept) n, NoSuchLevel) ∷ []
-tests_in seat (Commit c) = unready_tests seat.phase
-tests_in seat (Abort c) = (is_closed seat.phase, NotOpen) ∷ (is_leaving seat.phase, Leaving) ∷ []
-tests_in seat step = []
+tests_in half seat (Save c) = unready_tests seat.phase
+tests_in half seat (Back c n) =
+    unready_tests seat.phase ++ (nat_le (length seat.kept) n, NoSuchLevel) ∷ []
+tests_in half seat (Commit c) = unready_tests seat.phase
+tests_in half seat (Abort c) =
+    (is_closed seat.phase, NotOpen) ∷ (is_leaving seat.phase, Leaving) ∷ []
+tests_in half seat step = []
 
 -- The refusal of the first test that holds.
 abbrev pub first_of : List (Bool × Refusal) → Option Refusal
@@ -61,8 +69,8 @@ first_of [] = None
 first_of (test ∷ tests) = if test.0 then Some test.1 else first_of tests
 
 -- The refusal of a step by its caller's seat alone.
-abbrev pub refusal_in : Seat → Step → Option Refusal
-refusal_in seat step = first_of (tests_in seat step)
+abbrev pub refusal_in : Bool → Seat → Step → Option Refusal
+refusal_in half seat step = first_of (tests_in half seat step)
 
 -- Whether an entry is a Saved: it takes memory in the seat.
 abbrev pub is_saved : Entry → Bool

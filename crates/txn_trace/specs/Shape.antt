@@ -1,17 +1,18 @@
 -- The rule of shape: which entry may stand in which phase of a caller, and the seat after it.
-use Rattle.std.specs.Prelude.{ℕ, ◌+◌, ◌-◌, ◌==◌, Bool, true, false, ◌&&◌, Option, Some, None, is_some, IsTrue, List, [], ◌∷◌, ◌++◌, length, take, slice_index, nat_lt, if◌then◌else◌}
-use Rattle.std.specs.Option.{option_and_then}
+use Rattle.std.specs.Prelude.{ℕ, ◌+◌, ◌-◌, ◌==◌, Bool, true, false, ◌&&◌, Option, Some, None, is_some, IsTrue, List, [], ◌∷◌, ◌++◌, length, take, slice_index, nat_eq, nat_lt, if◌then◌else◌}
+use Rattle.std.specs.Option.{option_eq, option_and_then}
 use Rattle.std.specs.List.{fold, filter}
 use mathlib.Core.List.{IsPrefix}
 use Rattle.txn_trace.specs.declared.op.Op.{Op}
-use Rattle.txn_trace.specs.declared.op.Op.TheVariants.{Put, Take, Get}
+use Rattle.txn_trace.specs.declared.op.Op.TheVariants.{Put, Take, Get, PutIf}
 use Rattle.txn_trace.specs.declared.entry.Entry.{Entry}
 use Rattle.txn_trace.specs.declared.entry.Entry.TheVariants.{Began, Asked, Did, Saved, Leave, Undone, Returned, Committed, Busy, Aborted}
 use Rattle.txn_trace.specs.declared.seat.Phase.{Phase}
 use Rattle.txn_trace.specs.declared.seat.Phase.TheVariants.{Closed, Opened, Waiting, LeavingTo, LeavingToEnd}
 use Rattle.txn_trace.specs.History.{caller_of, is_began, is_commit}
 
--- A caller's phase, how many of its changes stand, and how many stood at each level, none at level 0.
+-- A caller's phase, how many of its changes stand, and how many stood at each level, none at level
+-- 0.
 pub record Seat : Type 0 where
   pub phase : Phase
   pub standing : ℕ
@@ -22,6 +23,10 @@ pub record RoomySeat : Type 0 where
   pub seat : Seat
   pub room : ℕ
 
+-- How many levels it has memory for, level 0 with them.
+abbrev pub capacity : RoomySeat → ℕ
+capacity roomy = length roomy.seat.kept + roomy.room
+
 -- The seat of a caller without a transaction.
 abbrev pub closed_seat : Seat
 closed_seat = record { phase = Closed; standing = 0; kept = 0 ∷ [] }
@@ -31,6 +36,7 @@ abbrev pub changes : Op → Option ℕ → Bool
 changes (Put k v) r = true
 changes (Take k) r = is_some r
 changes (Get k) r = false
+changes (PutIf k expected v) r = option_eq nat_eq r expected
 
 -- The seat after an entry, for each phase and entry in which one may stand; None for all others.
 abbrev pub row : Seat → Phase → Entry → Option Seat
@@ -39,13 +45,24 @@ row s Opened (Asked c op) = Some (record s { phase = Waiting op })
 row s Opened (Busy c op x) = Some (record s { phase = LeavingToEnd })
 row s Opened (Saved c) = Some (record s { kept = s.kept ++ s.standing ∷ [] })
 row s Opened (Leave c None) = Some (record s { phase = LeavingToEnd })
-row s Opened (Leave c (Some n)) = if nat_lt n (length s.kept) then Some (record s { phase = LeavingTo n }) else None
+row s Opened (Leave c (Some n)) =
+    if nat_lt n (length s.kept) then Some (record s { phase = LeavingTo n }) else None
 row s Opened (Committed c p) = Some closed_seat
-row s (Waiting op) (Did c r) = Some (record s { phase = Opened; standing = if changes op r then s.standing + 1 else s.standing })
+row s (Waiting op) (Did c r) = Some (record s {
+  phase = Opened;
+  standing = if changes op r then s.standing + 1 else s.standing;
+})
 row s (Waiting op) (Leave c None) = Some (record s { phase = LeavingToEnd })
-row s (LeavingTo n) (Undone c) = if nat_lt (slice_index s.kept n) s.standing then Some (record s { standing = s.standing - 1 }) else None
-row s (LeavingTo n) (Returned c m) = if (n == m) && (slice_index s.kept n == s.standing) then Some (record s { phase = Opened; kept = take (n + 1) s.kept }) else None
-row s LeavingToEnd (Undone c) = if nat_lt 0 s.standing then Some (record s { standing = s.standing - 1 }) else None
+row s (LeavingTo n) (Undone c) =
+    if nat_lt (slice_index s.kept n) s.standing
+    then Some (record s { standing = s.standing - 1 })
+    else None
+row s (LeavingTo n) (Returned c m) =
+    if (n == m) && (slice_index s.kept n == s.standing)
+    then Some (record s { phase = Opened; kept = take (n + 1) s.kept })
+    else None
+row s LeavingToEnd (Undone c) =
+    if nat_lt 0 s.standing then Some (record s { standing = s.standing - 1 }) else None
 row s LeavingToEnd (Aborted c) = if s.standing == 0 then Some closed_seat else None
 row s _ e = None
 
@@ -61,7 +78,7 @@ own c h = filter (λ e. caller_of e == c) h
 abbrev pub how_many : (Entry → Bool) → List Entry → ℕ
 how_many test h = length (filter test h)
 
--- Transactions, and places in the commit order, are numbered from 1.
+-- Transactions and commits are numbered from 1.
 abbrev pub is_numbered : List Entry → Entry → Bool
 is_numbered g (Began c t) = t == how_many is_began g + 1
 is_numbered g (Committed c p) = p == how_many is_commit g + 1

@@ -1,3 +1,5 @@
+//! What a script asks for inside a transaction.
+
 use crate::op::Op;
 
 /// What a script asks of the worker that runs it, inside a transaction.
@@ -9,7 +11,8 @@ pub enum Action {
     Save,
     /// Goes back to the savepoint of this number, or to the start at 0.
     Back(u64),
-    /// Helps the table along for this key: doubles it where it is due, and initialises the key's bucket.
+    /// Helps the table along for this key: doubles it where it is due, and initialises the key's
+    /// bucket.
     Help(u64),
     /// Aborts the transaction and ends the script.
     Abort,

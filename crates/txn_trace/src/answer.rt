@@ -1,3 +1,4 @@
+//! What steps are answered, and the text of an answer.
 ghost use Rattle.std.specs.Prelude.{◌≡◌, IfOk, string_bytes};
 ghost use Rattle.txn_trace.specs.Text.{text_of};
 
@@ -31,7 +32,7 @@ pub enum Answer {
     Saved(u64),
     /// The caller takes changes back from here.
     Leaving,
-    /// The transaction is committed, at this place in the commit order.
+    /// The transaction is committed, with this commit number.
     Committed(u64),
     /// The first marked node is unlinked.
     Swept,
@@ -76,7 +77,7 @@ impl fmt::Display for Answer {
             Answer::Aborted => write!(f, "aborted"),
             Answer::Saved(level) => write!(f, "saved {level}"),
             Answer::Leaving => write!(f, "leaving"),
-            Answer::Committed(place) => write!(f, "committed {place}"),
+            Answer::Committed(number) => write!(f, "committed {number}"),
             Answer::Swept => write!(f, "swept"),
             Answer::Clean => write!(f, "clean"),
             Answer::Ready => write!(f, "ready"),
@@ -94,7 +95,11 @@ impl fmt::Display for Answer {
 
 /// An answer as text, without a line feed.
 ///
-/// `AllocError` where memory is refused. Costs one allocation and time by the text's length.
+/// Costs one allocation, and time in proportion to the text's length.
+///
+/// # Errors
+///
+/// `AllocError` where memory is refused.
 pub fn answer_text(alloc: Global, answer: &Answer) -> Result<String, AllocError>
     ensures { IfOk result (λ text. string_bytes text ≡ text_of answer.now) }
 {

@@ -1,3 +1,4 @@
+//! The lines of a history.
 ghost use Rattle.std.specs.Prelude.{◌≡◌};
 ghost use Rattle.txn_trace.specs.History.{caller_of};
 
@@ -8,7 +9,8 @@ use crate::op::{Op, Reply};
 /// An entry belongs to the transaction that its caller began last.
 #[derive(Clone, Copy, Debug, PartialEq, Eq)]
 pub enum Entry {
-    /// A transaction began; the second number is the transaction's, counted from 1 over all callers.
+    /// A transaction began; the second number is the transaction's, counted from 1 over all
+    /// callers.
     Began(u64, u64),
     /// An operation was asked for: the stripe of its key belongs to the caller from now on.
     Asked(u64, Op),
@@ -22,9 +24,10 @@ pub enum Entry {
     Undone(u64),
     /// The caller is back at a level, and its transaction is open again.
     Returned(u64, u64),
-    /// The transaction committed; the second number is its place in the commit order, from 1.
+    /// The transaction committed; the second number is its commit number, from 1.
     Committed(u64, u64),
-    /// An operation found its stripe in the hands of the caller named last, and its transaction aborts.
+    /// An operation found its stripe in the hands of the caller named last, and its transaction
+    /// aborts.
     Busy(u64, Op, u64),
     /// All changes are taken back, and the transaction is over.
     Aborted(u64),

@@ -14,6 +14,7 @@ ghost use Rattle.txn_trace.specs.declared.entry.Entry.{Entry};
 /// Does nothing when it runs: its contract is the law.
 pub fn erased()
     ensures now { (stripes : ℕ) (h : List Entry) → IsLegal stripes h → now (erase h) ≡ now h }
-    ensures serial { (stripes : ℕ) (h : List Entry) → IsLegal stripes h → serial (erase h) ≡ serial h }
+    ensures serial { (stripes : ℕ) (h : List Entry) → IsLegal stripes h
+        → serial (erase h) ≡ serial h }
     ensures replies { (stripes : ℕ) (h : List Entry) → IsLegal stripes h → RepliesHold (erase h) }
 {}

@@ -1,17 +1,21 @@
-//! The words in which transactions on a map are spoken of: operations, steps and their answers, refusals, limits, and
-//! the entries of a history; and what a history of them means.
+//! The words in which transactions on a map are spoken of: operations, steps and their answers,
+//! refusals, limits, and the entries of a history; and what a history of them means.
 //!
-//! A history is a list of entries of one or more callers. The definitions in `specs/` say which transaction an entry
-//! belongs to, what a transaction does when it runs alone, which map the committed transactions leave in commit order
-//! (`serial`) and which map there is with the changes of the open ones (`now`), and which histories are legal: those
-//! in which each transaction has the replies of running alone, each stripe of keys belongs to one open transaction,
-//! and each entry has the right shape. This is the meaning of "serialisable" after Herlihy and Koskinen,
-//! "Transactional Boosting: A Methodology for Highly-Concurrent Transactional Objects" (PPoPP 2008), whose rules 2
-//! (abstract locks) and 3 (inverses) are the locks and the taking back of a history here.
+//! A history is a list of entries of one or more callers. The definitions in `specs/` say which
+//! transaction an entry belongs to, what a transaction does when it runs alone, which map the
+//! committed transactions leave in commit order (`serial`) and which map there is with the changes
+//! of the open ones (`now`), and which histories are legal: those in which each transaction has the
+//! replies of running alone, each stripe of keys belongs to one open transaction, and each entry
+//! has the right shape. This is the meaning of "serialisable" after Herlihy and Koskinen,
+//! "Transactional Boosting: A Methodology for Highly-Concurrent Transactional Objects" (PPoPP
+//! 2008), whose rules 2 (abstract locks) and 3 (inverses) are the locks and the taking back of a
+//! history here.
 //!
-//! Proved: the laws of histories in `proofs/`, entry by entry, for crates above to cite; and, as the contract of
-//! `laws::erased`, that nothing is left of aborted transactions. The code itself makes limits and texts, and tells the
-//! key of an operation and the caller of an entry, in constant time but for one allocation of `answer_text`.
+//! Proved: the laws of histories in `proofs/`, entry by entry, for crates above to cite; and, as
+//! the contract of `laws::erased`, that nothing is left of aborted transactions. The code is that of
+//! definitions which crates above share: limits and texts, the entry of a step with its answer, what
+//! an operation and a step need in a history, and a caller's seat, in constant time but for one
+//! allocation of `answer_text` and those of `Seat::reserve_level`.
 #![tactic(auto)]
 
 mod action;

@@ -1,25 +1,39 @@
-ghost use Rattle.std.specs.Prelude.{◌≡◌, IsTrue};
-ghost use Rattle.txn_trace.specs.Sizes.{Sizes, are_limits, limits_of};
+//! The limits of a map: its callers, stripes and buckets.
+ghost use Rattle.std.specs.Prelude.{◌≡◌, true, IsTrue};
+ghost use Rattle.txn_trace.specs.Sizes.{Sizes, are_limits, is_bad_key, limits_of};
 
 use crate::refusal::Refusal;
+use split_key::Key;
 use std::marker::Model;
 
-/// How many callers there are, how many stripes of keys, and how many buckets at most.
+/// How many callers there are, how many stripes of keys, and how many buckets at most; and whether
+/// every key is taken, or half keys alone, which are those below 2^63.
 #[derive(Clone, Copy, Debug, PartialEq, Eq)]
 pub struct Limits {
     callers: u32,
     stripes: u32,
     buckets: u32,
+    half_keys: bool,
 }
 
 impl Model for Limits {
     ghost Value = { Sizes };
 
-    ghost view = { λ l. record { callers = l.callers; stripes = l.stripes; buckets = l.buckets } };
+    ghost view = { λ l. record {
+      callers = l.callers;
+      stripes = l.stripes;
+      buckets = l.buckets;
+      half = l.half_keys;
+    } };
 
     ghost invariant = { λ l. IsTrue (are_limits l.callers l.stripes l.buckets) };
 
-    ghost inverse = { λ s. record { callers = s.callers; stripes = s.stripes; buckets = s.buckets } };
+    ghost inverse = { λ s. record {
+      callers = s.callers;
+      stripes = s.stripes;
+      buckets = s.buckets;
+      half_keys = s.half;
+    } };
 }
 
 impl Limits {
@@ -32,10 +46,14 @@ impl Limits {
     /// How many buckets there may be. It is a power of two.
     pub const MAX_BUCKETS: u64 = 65536;
 
-    /// Limits that are in range: 1 to `MAX_CALLERS` callers, 1 to `MAX_STRIPES` stripes, and as the largest size a
-    /// power of two from 2 to `MAX_BUCKETS` buckets.
+    /// Limits that take every key and are in range: 1 to `MAX_CALLERS` callers, 1 to `MAX_STRIPES` stripes, and as the
+    /// largest size a power of two from 2 to `MAX_BUCKETS` buckets.
     ///
-    /// `Refusal::Limit` where a number is out of range. Constant time.
+    /// Constant time.
+    ///
+    /// # Errors
+    ///
+    /// `Refusal::Limit` where a number is out of range.
     pub fn new(callers: u64, stripes: u64, buckets: u64) -> Result<Limits, Refusal>
         ensures { result ≡ limits_of callers stripes buckets }
     {
@@ -50,6 +68,7 @@ impl Limits {
             callers: callers as u32,
             stripes: stripes as u32,
             buckets: buckets as u32,
+            half_keys: false,
         })
     }
 
@@ -75,5 +94,29 @@ impl Limits {
         ensures limits { IsTrue (are_limits self.callers self.stripes self.buckets) }
     {
         self.buckets
+    }
+
+    /// The same limits, but that half keys alone are taken. Constant time.
+    pub fn half_keys(self) -> Limits
+        ensures { result ≡ record self { half = true } }
+    {
+        Limits {
+            half_keys: true,
+            ..self
+        }
+    }
+
+    /// Whether half keys alone are taken. Constant time.
+    pub fn has_half_keys(self) -> bool
+        ensures { result ≡ self.half }
+    {
+        self.half_keys
+    }
+
+    /// Whether these limits refuse a key: half keys alone are taken, and it is none. Constant time.
+    pub fn is_bad_key(self, key: u64) -> bool
+        ensures { result ≡ is_bad_key self.half key }
+    {
+        self.half_keys && Key::half(key).is_err()
     }
 }

@@ -1,3 +1,4 @@
+//! The operations on one key, and what they answer.
 ghost use Rattle.std.specs.Prelude.{◌≡◌};
 ghost use Rattle.txn_trace.specs.Map.{key_of};
 ghost use Rattle.txn_trace.specs.Shape.{changes};
@@ -12,6 +13,9 @@ pub enum Op {
     Take(u64),
     /// Looks a key up.
     Get(u64),
+    /// Puts a value at a key exactly where the key has what is expected, a value or none: the key,
+    /// what is expected, the value.
+    PutIf(u64, Option<u64>, u64),
 }
 
 impl Op {
@@ -19,7 +23,7 @@ impl Op {
     pub fn key(self) -> u64
         ensures { result ≡ key_of self }
     {
-        let (Op::Put(key, _) | Op::Take(key) | Op::Get(key)) = self;
+        let (Op::Put(key, _) | Op::Take(key) | Op::Get(key) | Op::PutIf(key, ..)) = self;
         key
     }
 
@@ -30,8 +34,8 @@ impl Op {
         !matches!(self, Op::Get(_))
     }
 
-    /// Whether the operation was a change, if this is its reply: it put a value, or took a key out that
-    /// was there. Constant time.
+    /// Whether the operation was a change, if this is its reply: it put a value, or took a key out
+    /// that was there. Constant time.
     pub fn changes(self, reply: Reply) -> bool
         ensures { result ≡ changes self reply }
     {
@@ -39,11 +43,12 @@ impl Op {
             Op::Put(..) => true,
             Op::Take(_) => reply.is_some(),
             Op::Get(_) => false,
+            Op::PutIf(_, expected, _) => reply == expected,
         }
     }
 
-    /// How many entries are owed for the operation while it waits: its reply, and where it may change
-    /// something the undoing of it. Constant time.
+    /// How many entries are owed for the operation while it waits: its reply, and where it may
+    /// change something the undoing of it. Constant time.
     pub fn owed(self) -> u64
         ensures { result ≡ owed_for self }
     {

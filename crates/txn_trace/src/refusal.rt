@@ -1,13 +1,15 @@
+//! Why a call is refused, by number.
 ghost use Rattle.std.specs.Prelude.{◌≡◌};
 ghost use Rattle.txn_trace.specs.Refusals.{number_of, words_of};
 
 use std::error::Error;
 use std::fmt;
 
-/// Why a call was refused. Each has a number, by which answers and programs name it, and is printed as that number.
+/// Why a call was refused. Each has a number, by which answers and programs name it, and is printed
+/// as that number.
 #[derive(Clone, Copy, Debug, PartialEq, Eq)]
 pub enum Refusal {
-    /// 1: the key is 2^63 or more.
+    /// 1: the key is 2^63 or more, and the limits take half keys alone.
     BadKey,
     /// 2: the caller's number is not below the number of callers.
     NoSuchCaller,

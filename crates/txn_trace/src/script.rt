@@ -44,10 +44,11 @@ impl Script {
     }
 }
 
-/// Scripts for the callers of a map: the limits of the map, how often a script is tried again, and the
-/// scripts.
+/// Scripts for the callers of a map: the version of the file that says them, the limits of the map,
+/// how often a script is tried again, and the scripts.
 #[derive(Drop)]
 pub struct Scripts {
+    version: u64,
     limits: Limits,
     tries: u64,
     scripts: Vec<Script>,
@@ -58,19 +59,37 @@ impl Model for Scripts {
 
     ghost Value = { Work };
 
-    ghost view = { λ s. record { sizes = s.limits; tries = s.tries; scripts = s.scripts.items } };
+    ghost view = { λ s. record {
+      version = s.version;
+      sizes = s.limits;
+      tries = s.tries;
+      scripts = s.scripts.items;
+    } };
 }
 
 impl Scripts {
     /// The work of these scripts. Constant time, and no memory.
-    pub fn new(limits: Limits, tries: u64, scripts: Vec<Script>) -> Scripts
-        ensures { result ≡ record { sizes = limits; tries = tries; scripts = scripts.items } }
+    pub fn new(version: u64, limits: Limits, tries: u64, scripts: Vec<Script>) -> Scripts
+        ensures { result ≡ record {
+          version = version;
+          sizes = limits;
+          tries = tries;
+          scripts = scripts.items;
+        } }
     {
         Scripts {
+            version,
             limits,
             tries,
             scripts,
         }
+    }
+
+    /// The version of the file that says the scripts. Constant time.
+    pub fn version(&self) -> u64
+        ensures { result ≡ self.now.version }
+    {
+        self.version
     }
 
     /// The limits of the map, whose callers are the workers. Constant time.

@@ -1,11 +1,12 @@
 //! What a caller's own entries make of it.
 ghost use Rattle.std.specs.Prelude.{◌≡◌, ℕ, ◌+◌, ◌-◌, ◌<◌, ◌≤◌, ◌^◌, true, false, is_some, length, slice_get, slice_index, Some, OnOk, OnErr};
 ghost use Rattle.txn_trace.specs.declared.seat.Phase.TheVariants.{Opened};
-ghost use Rattle.txn_trace.specs.Shape.{row, closed_seat};
+ghost use Rattle.txn_trace.specs.Shape.{row, capacity, closed_seat};
 ghost use Rattle.txn_trace.specs.Seats.{first_of, has_job, has_target, is_saved, refusal_in, unready_tests};
 ghost use Rattle.txn_trace.specs.Owed.{owed_in};
 
 use crate::entry::Entry;
+use crate::limits::Limits;
 use crate::op::{Op, Reply};
 use crate::refusal::Refusal;
 use crate::step::Step;
@@ -29,8 +30,8 @@ pub enum Phase {
 
 /// A caller's seat: its phase, how many of its changes stand, and how many stood at each savepoint.
 ///
-/// A contract sees it as two things: `seat`, the seat of the definitions, in which level 0 is noted too,
-/// with no change; and `room`, how many `Saved` entries more it has memory for.
+/// A contract sees it as two things: `seat`, the seat of the definitions, in which level 0 is noted
+/// too, with no change; and `room`, how many `Saved` entries more it has memory for.
 #[derive(Drop)]
 pub struct Seat {
     phase: Phase,
@@ -83,7 +84,8 @@ impl Seat {
         self.savepoints.len() as u64
     }
 
-    /// How many changes stood at a level: none at level 0. `None` where there is no such level. Constant time.
+    /// How many changes stood at a level: none at level 0. `None` where there is no such level.
+    /// Constant time.
     pub fn kept(&self, level: u64) -> Option<u64>
         ensures { result ≡ slice_get self.now.seat.kept level }
     {
@@ -104,16 +106,18 @@ impl Seat {
         }
     }
 
-    /// Whether there is something to seek: an operation that waits, or a change to take back. Constant time.
+    /// Whether there is something to seek: an operation that waits, or a change to take back.
+    /// Constant time.
     pub fn has_target(&self) -> bool
         ensures { result ≡ has_target self.now.seat }
     {
         matches!(self.phase, Phase::Waiting(_)) || self.has_job()
     }
 
-    /// The refusal of a step of its caller, as far as the seat decides it. Constant time.
-    pub fn refusal(&self, step: Step) -> Option<Refusal>
-        ensures { result ≡ refusal_in self.now.seat step }
+    /// The refusal of a step of its caller, as far as the seat decides it, and the limits which keys
+    /// are taken. Constant time.
+    pub fn refusal(&self, limits: Limits, step: Step) -> Option<Refusal>
+        ensures { result ≡ refusal_in limits.half self.now.seat step }
     {
         match step {
             Step::Begin(_) => match self.phase {
@@ -122,7 +126,7 @@ impl Seat {
                 Phase::LeavingTo(_) | Phase::LeavingToEnd => Some(Refusal::Leaving),
             },
             Step::Ask(_, op) => {
-                let is_bad = op.key() >= 1 << 63;
+                let is_bad = limits.is_bad_key(op.key());
                 self.unready().or(is_bad.then_some(Refusal::BadKey))
             }
             Step::Seek(_) => match self.phase {
@@ -171,8 +175,8 @@ impl Seat {
         self.kept(level).unwrap_or(0)
     }
 
-    /// How many entries its caller may add without a new reservation: its reply, the undoing of each change that
-    /// stands, and the end. Constant time.
+    /// How many entries its caller may add without a new reservation: its reply, the undoing of
+    /// each change that stands, and the end. Constant time.
     pub fn owed(&self) -> u64
         requires { owed_in self.now.seat.standing self.now.seat.phase < 2 ^ 64 }
         ensures { result ≡ owed_in self.now.seat.standing self.now.seat.phase }
@@ -186,9 +190,11 @@ impl Seat {
         }
     }
 
-    /// Makes room for one savepoint, if there is none; the seat stays, and so does the room that there was.
+    /// Makes room for one savepoint, if there is none; the seat stays, and so does the room that
+    /// there was.
     ///
-    /// Costs constant time on average, or where there is no room an allocation in proportion to the savepoints.
+    /// Costs constant time on average, or where there is no room an allocation in proportion to the
+    /// savepoints.
     ///
     /// # Errors
     ///
@@ -202,7 +208,8 @@ impl Seat {
         self.savepoints.reserve(1)
     }
 
-    /// Whether an entry may come next: whether the rule of shape has a row for it here. Constant time.
+    /// Whether an entry may come next: whether the rule of shape has a row for it here. Constant
+    /// time.
     pub fn allows(&self, entry: &Entry) -> bool
         ensures { result ≡ is_some (row self.now.seat self.now.seat.phase entry.now) }
     {
@@ -240,13 +247,15 @@ impl Seat {
 
     /// Goes on by an entry where it may come next, and says whether it may; else nothing changes.
     ///
-    /// A `Saved` takes a place of the room, and savepoints that are dropped give theirs back. Constant time.
+    /// A `Saved` takes one of the room, and a savepoint that is dropped gives one back.
+    /// Constant time.
     pub fn enter(&mut self, entry: Entry) -> bool
         requires standing { self.old.seat.standing < 2 ^ 64 - 1 }
         requires room { is_saved entry ≡ true → 0 < self.old.room }
         ensures is_allowed { result ≡ is_some (row self.old.seat self.old.seat.phase entry) }
-        ensures seat { result ≡ true → row self.old.seat self.old.seat.phase entry ≡ Some self.new.seat }
-        ensures room { length self.new.seat.kept + self.new.room ≡ length self.old.seat.kept + self.old.room }
+        ensures seat { result ≡ true →
+            row self.old.seat self.old.seat.phase entry ≡ Some self.new.seat }
+        ensures room { capacity self.new ≡ capacity self.old }
         ensures same { result ≡ false → self.new ≡ self.old }
     {
         if !self.allows(&entry) {
@@ -272,9 +281,10 @@ impl Seat {
     /// The operation that waits has its reply.
     fn reply(&mut self, reply: Reply)
         requires { self.old.seat.standing < 2 ^ 64 - 1 }
-        ensures seat { (c : ℕ) → is_some (row self.old.seat self.old.seat.phase (Entry.Did c reply)) ≡ true
+        ensures seat { (c : ℕ) →
+            is_some (row self.old.seat self.old.seat.phase (Entry.Did c reply)) ≡ true
             → row self.old.seat self.old.seat.phase (Entry.Did c reply) ≡ Some self.new.seat }
-        ensures room { length self.new.seat.kept + self.new.room ≡ length self.old.seat.kept + self.old.room }
+        ensures room { capacity self.new ≡ capacity self.old }
     {
         if let Phase::Waiting(op) = self.phase {
             if op.changes(reply) {
@@ -287,7 +297,7 @@ impl Seat {
     /// The transaction is over.
     fn close(&mut self)
         ensures seat { self.new.seat ≡ closed_seat }
-        ensures room { length self.new.seat.kept + self.new.room ≡ length self.old.seat.kept + self.old.room }
+        ensures room { capacity self.new ≡ capacity self.old }
     {
         self.phase = Phase::Closed;
         self.standing = 0;
@@ -297,7 +307,7 @@ impl Seat {
     /// A transaction begins.
     fn open(&mut self)
         ensures seat { self.new.seat ≡ record closed_seat { phase = Opened } }
-        ensures room { length self.new.seat.kept + self.new.room ≡ length self.old.seat.kept + self.old.room }
+        ensures room { capacity self.new ≡ capacity self.old }
     {
         self.close();
         self.phase = Phase::Opened;

@@ -1,3 +1,4 @@
+//! The steps of callers, of helpers and of the table, and the entries that they add to a history.
 ghost use Rattle.std.specs.Prelude.{◌≡◌, option_to_list};
 ghost use Rattle.txn_trace.specs.Entries.{entries_of};
 ghost use Rattle.txn_trace.specs.Owed.{reserved};
@@ -8,18 +9,19 @@ use crate::op::Op;
 
 /// One step: of a caller or a helper, which is named by its number, or of the table.
 ///
-/// Each kind lists the `Refusal`s with which a core answers it, in the order of their tests: the first that holds is
-/// the answer.
+/// Each kind lists the `Refusal`s with which a core answers it, in the order of their tests: the
+/// first that holds is the answer.
 #[derive(Clone, Copy, Debug, PartialEq, Eq)]
 pub enum Step {
     /// Begins a transaction.
     ///
     /// Refused, in this order: `NoSuchCaller`, `Leaving`, `AlreadyOpen`, `NoMemory`.
     Begin(u64),
-    /// Asks for an operation: its stripe is locked, and all that it and its undoing need is reserved.
+    /// Asks for an operation: its stripe is locked, and all that it and its undoing need is
+    /// reserved.
     ///
-    /// Refused, in this order: `NoSuchCaller`, `NotOpen`, `Leaving`, `OperationUnfinished`, `BadKey`; then `NoMemory` or,
-    /// where the operation takes a node, `StampsUsedUp`.
+    /// Refused, in this order: `NoSuchCaller`, `NotOpen`, `Leaving`, `OperationUnfinished`,
+    /// `BadKey`; then `NoMemory` or, where the operation takes a node, `StampsUsedUp`.
     Ask(u64, Op),
     /// Seeks the place of the operation that was asked for, or of the newest change to take back.
     ///
@@ -31,11 +33,14 @@ pub enum Step {
     Act(u64),
     /// Sets a savepoint.
     ///
-    /// Refused, in this order: `NoSuchCaller`, `NotOpen`, `Leaving`, `OperationUnfinished`, `NoMemory`.
+    /// Refused, in this order: `NoSuchCaller`, `NotOpen`, `Leaving`, `OperationUnfinished`,
+    /// `NoMemory`.
     Save(u64),
-    /// Goes back to a level, 0 or the number of a savepoint: from here the later changes are taken back.
+    /// Goes back to a level, 0 or the number of a savepoint: from here the later changes are taken
+    /// back.
     ///
-    /// Refused, in this order: `NoSuchCaller`, `NotOpen`, `Leaving`, `OperationUnfinished`, `NoSuchLevel`, `NoMemory`.
+    /// Refused, in this order: `NoSuchCaller`, `NotOpen`, `Leaving`, `OperationUnfinished`,
+    /// `NoSuchLevel`, `NoMemory`.
     Back(u64, u64),
     /// Commits the transaction.
     ///
@@ -55,8 +60,8 @@ pub enum Step {
     InitSeek(u64, u64),
     /// A helper links the dummy at the place that it sought.
     ///
-    /// Refused, in this order: `NoSuchHelper`, `HelperOutOfOrder`; then, where the dummy is not linked yet, `StampsUsedUp`,
-    /// `NoMemory`.
+    /// Refused, in this order: `NoSuchHelper`, `HelperOutOfOrder`; then, where the dummy is not
+    /// linked yet, `StampsUsedUp`, `NoMemory`.
     InitLink(u64),
     /// A helper stores its dummy, with which the bucket is initialised.
     ///
@@ -69,7 +74,8 @@ pub enum Step {
 }
 
 impl Step {
-    /// How many entries a core reserves room for in its history before it takes the step. Constant time.
+    /// How many entries a core reserves room for in its history before it takes the step. Constant
+    /// time.
     pub fn reserved(self) -> u64
         ensures { result ≡ reserved self }
     {
@@ -113,7 +119,7 @@ pub fn entry_of(step: Step, answer: Answer) -> Option<Entry>
             _ => None,
         },
         Step::Commit(caller) => match answer {
-            Answer::Committed(place) => Some(Entry::Committed(caller, place)),
+            Answer::Committed(number) => Some(Entry::Committed(caller, number)),
             _ => None,
         },
         Step::Abort(caller) => match answer {

@@ -1,4 +1,4 @@
-use crate::{Answer, Entry, Limits, Op, Refusal, answer_text};
+use crate::{Answer, Entry, Limits, Op, Refusal, Seat, Step, answer_text};
 use std::test::Fail;
 
 #[test]
@@ -122,6 +122,39 @@ fn keys_of_operations(rt: HostRuntime) {
     assert_eq!(rt; Op::Put(1, 10).key(), 1);
     assert_eq!(rt; Op::Take(2).key(), 2);
     assert_eq!(rt; Op::Get(3).key(), 3);
+    assert_eq!(rt; Op::PutIf(4, Some(5), 6).key(), 4);
+}
+
+#[test]
+fn a_put_if_changes_what_is_expected(rt: HostRuntime) {
+    let replace = Op::PutIf(1, Some(4), 6);
+    for (reply, is_change) in [(Some(4), true), (Some(6), false), (None, false)] {
+        assert_eq!(rt; replace.changes(reply), is_change, "after {reply:?}");
+    }
+    let add = Op::PutIf(1, None, 6);
+    for (reply, is_change) in [(None, true), (Some(6), false), (Some(4), false)] {
+        assert_eq!(rt; add.changes(reply), is_change, "after {reply:?}");
+    }
+}
+
+#[test]
+fn keys_that_limits_refuse(rt: HostRuntime) -> Result<(), Fail> {
+    let every = Limits::new(2, 8, 8)?;
+    let half = every.half_keys();
+    assert_ne!(rt; half, every);
+    let mut seat = Seat::new(rt.alloc());
+    assert!(rt; seat.enter(Entry::Began(0, 1)));
+    let table = [
+        (0x7fff_ffff_ffff_ffff, None),
+        (0x8000_0000_0000_0000, Some(Refusal::BadKey)),
+        (0xffff_ffff_ffff_ffff, Some(Refusal::BadKey)),
+    ];
+    for (key, refusal) in table {
+        let ask = Step::Ask(0, Op::Get(key));
+        assert_eq!(rt; seat.refusal(half, ask), refusal, "of key {key}");
+        assert_eq!(rt; seat.refusal(every, ask), None, "of key {key}");
+    }
+    Ok(())
 }
 
 #[test]
@@ -141,4 +174,22 @@ fn callers_of_entries(rt: HostRuntime) {
     for entry in entries {
         assert_eq!(rt; entry.caller(), 7, "{entry:?}");
     }
+}
+
+/// Is to be run with each allocation refused in turn: the seat stays, and is given room when asked
+/// once more.
+#[test]
+fn savepoints_without_memory(rt: HostRuntime) -> Result<(), Fail> {
+    let mut seat = Seat::new(rt.alloc());
+    assert!(rt; seat.enter(Entry::Began(0, 1)));
+    for level in 1..=9 {
+        if seat.reserve_level().is_err() {
+            assert_eq!(rt; seat.levels(), level - 1, "no memory, no savepoint");
+            seat.reserve_level()?;
+        }
+        assert!(rt; seat.standing() == 0);
+        assert!(rt; seat.enter(Entry::Saved(0)));
+        assert_eq!(rt; seat.levels(), level);
+    }
+    Ok(())
 }

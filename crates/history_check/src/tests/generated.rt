@@ -38,11 +38,14 @@ impl Draws {
     fn op(&mut self) -> Op {
         let key = match self.below(20) {
             0 => u64::MAX,
+            1 => (1 << 63) + self.below(6),
             _ => self.below(6),
         };
-        match self.below(4) {
+        match self.below(6) {
             0 | 1 => Op::Put(key, self.below(4)),
             2 => Op::Take(key),
+            3 => Op::PutIf(key, None, self.below(4)),
+            4 => Op::PutIf(key, Some(self.below(4)), self.below(4)),
             _ => Op::Get(key),
         }
     }

@@ -70,6 +70,7 @@ fn is_change_done(pair: &[Entry]) -> bool {
     match pair {
         [Entry::Asked(_, Op::Put(..)), Entry::Did(..)] => true,
         [Entry::Asked(_, Op::Take(_)), Entry::Did(_, reply)] => reply.is_some(),
+        [Entry::Asked(_, Op::PutIf(_, expected, _)), Entry::Did(_, reply)] => reply == expected,
         _ => false,
     }
 }
@@ -206,6 +207,11 @@ fn after(values: &Values, op: Op) -> Result<Values, AllocError> {
             left.remove(&key);
         }
         Op::Get(_) => {}
+        Op::PutIf(key, expected, value) => {
+            if left.get(&key).copied() == expected {
+                left.insert(key, value)?;
+            }
+        }
     }
     Ok(left)
 }
@@ -221,6 +227,7 @@ fn is_change(values: &Values, op: Op) -> bool {
         Op::Put(..) => true,
         Op::Take(key) => values.contains_key(&key),
         Op::Get(_) => false,
+        Op::PutIf(key, expected, _) => values.get(&key).copied() == expected,
     }
 }
 

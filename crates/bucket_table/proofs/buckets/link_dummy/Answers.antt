@@ -1,9 +1,9 @@
 use Rattle.std.proofs.Common.{◌∙◌, ap, ℕ, false}
 use Rattle.std.proofs.lemmas.Result.{err_from_is_err_and}
-use Rattle.list_steps.proofs.CursorLemmas.{fits_same, fits_linked, still_placed}
+use Rattle.node_list.proofs.NodesLemmas.{found_linked}
 use Rattle.split_key.specs.declared.sort.SortKey.{SortKey}
 use Rattle.node_list.specs.declared.node.Kind.TheVariants.{Dummy}
-use Rattle.node_list.specs.Nodes.{NodeAt, SpareAt, filled}
+use Rattle.node_list.specs.Nodes.{NodeAt, SpareAt, IsLinked, filled}
 use Rattle.bucket_table.specs.Dummies.{IsKeyedNode}
 use Rattle.bucket_table.proofs.DummyLemmas.{keyed_dummy}
 use Rattle.node_list.proofs.OrderLemmas.{each_linked}
@@ -19,24 +19,21 @@ returns-in_err-spare-clause-err c =
     let p = err_from_is_err_and c.from_residual.result c.from_residual.ensures.1 in
     rw (p.1, p.2) (unlinked _ _ _ c.in_err-spare.ensures.worn c.in_err-spare.ensures.unchanged)
 
-pub link-requires-clause-placed : goal.link-requires-clause-placed
-link-requires-clause-placed c = still_placed _ _ _ c.requires.placed c.in_ok-spare.ensures.follows
-
-pub unreachable-requires : goal.unreachable-requires
-unreachable-requires c =
-    let same = fits_same c.args.list.now c.spare.new.self c.args.cursor c.in_ok-spare.ensures.ok.nodes in
-    cc (c.in-Err.ensures.again, same, c.requires.fits)
+pub link-requires-clause-vacant : goal.link-requires-clause-vacant
+link-requires-clause-vacant c =
+    let at = ap (λ (s : SpareAt). s.at) c.fill.ensures ∙ c.dummy.ensures.value in
+    rw (at, c.in_ok-spare.ensures.ok.nodes) c.requires
 
 pub returns-clause-ok : goal.returns-clause-ok
 returns-clause-ok c =
     let given = c.in_ok-spare.ensures.ok in
-    let fit = fits_same c.args.list.now c.spare.new.self c.args.cursor given.nodes ∙ c.requires.fits in
-    let at_place = c.in-Ok.ensures.place ∙ ap (λ (s : SpareAt). s.place) c.fill.ensures in
+    let linked : IsLinked c.spare.new.self.nodes c.args.pred = rw given.nodes (found_linked _ _ _ c.requires.is) in
+    let at_place = c.link.ensures.place ∙ ap (λ (s : SpareAt). s.place) c.fill.ensures in
     let filled_is = ap filled c.fill.ensures ∙ ap (λ (at : SortKey). dummy_with c.in_ok-spare.spare.place at c.in_ok-spare.spare.stamp) c.dummy.ensures.value in
-    rw at_place (links_at _ _ _ _ _ _ _ given c.in_ok-spare.ensures.stamp (λ last. cc (c.in_ok-spare.ensures.worn.1 last)) c.ranges.bucket.fits
-    (fits_linked c.spare.new.self c.args.cursor fit) (filled c.fill.new.self) filled_is c.in-Ok.ensures.ok)
+    rw at_place (links_at c.args.list.now c.spare.new.self _ c.args.pred _ _ _ given c.in_ok-spare.ensures.stamp (λ last. cc (c.in_ok-spare.ensures.worn.1 last)) c.ranges.bucket.fits
+    linked (filled c.fill.new.self) filled_is c.link.ensures.links)
 
 pub returns-clause-keyed : goal.returns-clause-keyed
 returns-clause-keyed c keyed =
-    rw (c.in-Ok.ensures.ok.takes.nodes, c.in_ok-spare.ensures.ok.nodes)
+    rw (c.link.ensures.links.takes.nodes, c.in_ok-spare.ensures.ok.nodes)
     (each_linked IsKeyedNode _ _ (filled c.fill.new.self) (keyed_dummy (filled c.fill.new.self) (ap (λ (s : SpareAt). s.kind) c.fill.ensures)) keyed)

@@ -1,19 +1,9 @@
-use Rattle.std.proofs.Common.{sym}
 use Rattle.node_list.proofs.NodesLemmas.{found_linked}
-use Rattle.list_steps.proofs.StepLemmas.{regular_at, marks}
+use Rattle.list_steps.proofs.StepLemmas.{marks}
 use Rattle.list_steps.proofs.steps.mark.Goals as goal
 
 pub node-requires : goal.node-requires
-node-requires c =
-    let here = rw c.in-Some.is at c.in_ok-node.ensures.ok in
-    found_linked _ _ _ here.is
+node-requires c = found_linked _ _ _ c.requires.is
 
-pub set_mark-requires : goal.set_mark-requires
-set_mark-requires c =
-    let here = rw c.in-Some.is at c.in_ok-node.ensures.ok in
-    regular_at _ _ c.node.ensures.sound c.requires.placed (sym c.in_ok-node.ensures.again) _ here c.requires.there
-
-pub returns-clause-ok : goal.returns-clause-ok
-returns-clause-ok c =
-    let here = rw c.in-Some.is at c.in_ok-node.ensures.ok in
-    marks _ _ c.node.ensures.sound c.requires.placed (sym c.in_ok-node.ensures.again) _ _ here c.requires.there c.set_mark.ensures.marked _ c.node.ensures.node
+pub returns-clause-marks : goal.returns-clause-marks
+returns-clause-marks c = marks _ _ _ _ c.requires c.node.ensures.node c.set_mark.ensures.marked

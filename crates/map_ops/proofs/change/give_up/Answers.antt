@@ -12,3 +12,9 @@ returns-in-Put-clause-back c = λ buckets. rw c.in-Put.is (c.give_back.ensures.b
 
 pub returns-in-Take-clause-back : goal.returns-in-Take-clause-back
 returns-in-Take-clause-back c = λ buckets. rw c.in-Take.is (c.give_back-in-Take.ensures.back buckets)
+
+pub give_back-requires-in-PutIf : goal.give_back-requires-in-PutIf
+give_back-requires-in-PutIf c = rw c.in-PutIf.is at (c.requires no_buckets)
+
+pub returns-in-PutIf-clause-back : goal.returns-in-PutIf-clause-back
+returns-in-PutIf-clause-back c = λ buckets. rw c.in-PutIf.is (c.give_back-in-PutIf.ensures.back buckets)

@@ -1,10 +1,9 @@
-use Rattle.std.proofs.Common.{ℕ, ◌<◌, ◌^◌, ◌∙◌, ap, refl, subst, Some, false}
+use Rattle.std.proofs.Common.{ℕ, ◌∙◌, ap, refl, subst, Some, false}
 use Rattle.node_list.specs.declared.node.Kind.TheVariants.{Regular}
 use Rattle.node_list.specs.Nodes.{NodeAt, SpareAt, filled}
 use Rattle.split_key.specs.declared.sort.SortKey.{SortKey}
 use Rattle.map_ops.specs.TableAt.{table_of}
 use Rattle.map_ops.specs.Steps.{Sets}
-use Rattle.map_ops.proofs.ThereLemmas.{room}
 use Rattle.map_ops.proofs.ChangeLemmas.{links_sets, links_node, links_belong}
 use Rattle.map_ops.proofs.change.link_key.Goals as goal
 
@@ -12,28 +11,25 @@ use Rattle.map_ops.proofs.change.link_key.Goals as goal
 abbrev node_at : SortKey → ℕ → SpareAt → NodeAt
 node_at at value spare = record { place = spare.place; at = at; kind = Regular; value = value; stamp = spare.stamp; marked = false }
 
-pub link-requires-clause-room : goal.link-requires-clause-room
-link-requires-clause-room c =
-    let small = subst (λ (k : ℕ). k < 2 ^ 63) c.number-number.ensures.same c.number-number.ensures.below in
-    room c.args.list.now c.args.cursor c.args.key c.changes-changes.ensures.sound c.requires.belong c.requires.placed c.requires.fits c.requires.at small c.requires.absent
+pub link-requires-clause-vacant : goal.link-requires-clause-vacant
+link-requires-clause-vacant c =
+    let at = ap (λ (s : SpareAt). s.at) c.fill.ensures ∙ c.regular.ensures.value in
+    rw at c.requires.room.vacant
 
 pub returns-clause-sets : goal.returns-clause-sets
 returns-clause-sets c = λ buckets.
-    let small = subst (λ (k : ℕ). k < 2 ^ 63) c.number-number.ensures.same c.number-number.ensures.below in
     subst (λ (v : ℕ). Sets (table_of c.args.list.now buckets) (table_of c.link.new.list buckets) c.args.key (Some v)) (ap (λ (s : SpareAt). s.value) c.fill.ensures)
-    (links_sets c.args.list.now c.link.new.list c.args.cursor c.args.key c.changes-changes.ensures.sound c.changes-after.ensures.sound c.requires.belong c.requires.placed c.requires.fits c.requires.at small
-    (filled c.fill.new.self) (ap (λ (s : SpareAt). s.kind) c.fill.ensures) refl (ap (λ (s : SpareAt). s.at) c.fill.ensures ∙ c.regular.ensures.value) c.in-Ok.ensures.ok buckets)
+    (links_sets c.args.list.now c.link.new.list c.args.key c.requires.sound (c.link.ensures.follows.sound c.requires.sound) c.requires.belong
+    (filled c.fill.new.self) (ap (λ (s : SpareAt). s.kind) c.fill.ensures) refl (ap (λ (s : SpareAt). s.at) c.fill.ensures ∙ c.regular.ensures.value) _ c.requires.room c.link.ensures.links buckets)
 
 pub returns-clause-belong : goal.returns-clause-belong
 returns-clause-belong c =
-    let small = subst (λ (k : ℕ). k < 2 ^ 63) c.number-number.ensures.same c.number-number.ensures.below in
-    links_belong c.args.list.now c.link.new.list c.args.cursor c.args.key c.changes-changes.ensures.sound c.changes-after.ensures.sound c.requires.belong c.requires.placed c.requires.fits c.requires.at small
-    (filled c.fill.new.self) (ap (λ (s : SpareAt). s.kind) c.fill.ensures) refl (ap (λ (s : SpareAt). s.at) c.fill.ensures ∙ c.regular.ensures.value) c.in-Ok.ensures.ok
+    links_belong c.args.list.now c.link.new.list c.args.key c.requires.sound (c.link.ensures.follows.sound c.requires.sound) c.requires.belong
+    (filled c.fill.new.self) (ap (λ (s : SpareAt). s.kind) c.fill.ensures) refl (ap (λ (s : SpareAt). s.at) c.fill.ensures ∙ c.regular.ensures.value) _ c.link.ensures.links
 
 pub returns-clause-writes : goal.returns-clause-writes
 returns-clause-writes c =
-    let small = subst (λ (k : ℕ). k < 2 ^ 63) c.number-number.ensures.same c.number-number.ensures.below in
     let is = ap filled c.fill.ensures
     ∙ ap (λ (at : SortKey). node_at at c.args.value c.args.spare) c.regular.ensures.value in
-    links_node c.args.list.now c.link.new.list c.args.cursor c.args.key c.changes-changes.ensures.sound c.changes-after.ensures.sound c.requires.belong c.requires.placed c.requires.fits c.requires.at small
-    (filled c.fill.new.self) _ is c.in-Ok.ensures.ok
+    links_node c.args.list.now c.link.new.list c.args.key c.requires.sound (c.link.ensures.follows.sound c.requires.sound) c.requires.belong
+    _ (filled c.fill.new.self) _ c.requires.room is c.link.ensures.links

@@ -1,6 +1,25 @@
 use Rattle.map_ops.proofs.Laws.{no_buckets}
+use Rattle.map_ops.proofs.ThereLemmas.{occupied, vacant}
 use Rattle.map_ops.proofs.DoesLemmas.{takes_back}
 use Rattle.map_ops.proofs.change.restore.Goals as goal
+
+pub mark_key-requires-clause-there : goal.mark_key-requires-clause-there
+mark_key-requires-clause-there c =
+    let stands = rw c.in-Unput.is at c.requires.stands in
+    let due = rw c.in-Unput.is at c.requires.due in
+    rw c.place_in-place.ensures (occupied c.args.list.now _ _ c.args.there stands due)
+
+pub swap_key-requires-clause-there : goal.swap_key-requires-clause-there
+swap_key-requires-clause-there c =
+    let stands = rw c.in-Restore.is at c.requires.stands in
+    let due = rw c.in-Restore.is at c.requires.due in
+    rw c.place_in-place.ensures (occupied c.args.list.now _ _ c.args.there stands due)
+
+pub link_key-requires-clause-room : goal.link_key-requires-clause-room
+link_key-requires-clause-room c =
+    let stands = rw c.in-Relink.is at c.requires.stands in
+    let due = rw c.in-Relink.is at c.requires.due in
+    rw c.place_in-place.ensures (vacant c.args.list.now _ _ c.args.there stands due)
 
 pub link_key-requires-clause-owned : goal.link_key-requires-clause-owned
 link_key-requires-clause-owned c = rw c.in-Relink.is at (c.requires.owned no_buckets)

@@ -10,7 +10,7 @@ use Rattle.map_ops.proofs.change.seek_key.Goals as goal
 
 pub returns-clause-places : goal.returns-clause-places
 returns-clause-places c =
-    places c.args.list.now c.seek.new.list c.args.buckets.now c.args.key _ _ c.seek.result c.changes-changes.ensures.sound c.seek.ensures.nodes c.seek.ensures.kept c.seek.ensures.content
+    places c.args.list.now c.seek.new.list c.args.buckets.now c.args.key _ _ c.seek.result c.requires.sound c.seek.ensures.nodes c.seek.ensures.kept c.seek.ensures.content
     c.seek.ensures.found c.seek.ensures.placed c.seek.ensures.fits (c.seek.ensures.at ∙ c.regular.ensures.value)
 
 pub returns-clause-near : goal.returns-clause-near
@@ -25,4 +25,4 @@ pub returns-clause-belong : goal.returns-clause-belong
 returns-clause-belong c = subst Belong (sym c.seek.ensures.nodes) (belong_sought _ _ _ c.requires.belong)
 
 pub returns-clause-rises : goal.returns-clause-rises
-returns-clause-rises c = turn_rises c.args.list.now c.seek.new.list c.changes-changes.result c.seek.ensures.follows c.changes-changes.ensures.changes c.changes-changes.type_inv
+returns-clause-rises c = turn_rises c.args.list.now c.seek.new.list c.changes-turn.result c.seek.ensures.follows c.changes-turn.ensures.changes c.changes-turn.type_inv

@@ -1,24 +1,26 @@
-use Rattle.std.proofs.Common.{ℕ, ◌<◌, ◌^◌, subst}
-use Rattle.map_ops.proofs.ThereLemmas.{key_there}
-use Rattle.map_ops.proofs.ChangeLemmas.{swaps_sets, swaps_node, swaps_belong}
+use Rattle.std.proofs.Common.{◌∙◌, ap}
+use Rattle.node_list.specs.Nodes.{node_of}
+use Rattle.map_ops.proofs.ChangeLemmas.{had, swaps_sets, swaps_node, swaps_belong}
 use Rattle.map_ops.proofs.change.swap_key.Goals as goal
 
-pub swap-requires-clause-there : goal.swap-requires-clause-there
-swap-requires-clause-there c =
-    let small = subst (λ (k : ℕ). k < 2 ^ 63) c.number-number.ensures.same c.number-number.ensures.below in
-    key_there c.args.list.now c.args.cursor c.args.key c.changes-changes.ensures.sound c.requires.belong c.requires.placed c.requires.fits c.requires.at small c.requires.there
+pub swap-requires : goal.swap-requires
+swap-requires c =
+    let there = c.requires.there in
+    record { node = there.node; is = ap (node_of c.args.list.now.nodes) there.place_is ∙ there.its.is; regular = there.its.kind; unmarked = there.its.unmarked }
+
+pub returns-clause-was : goal.returns-clause-was
+returns-clause-was c =
+    let swaps = c.swap.ensures.swaps in
+    had c.args.list.now c.swap.new.list c.args.key c.requires.sound (c.swap.ensures.follows.sound c.requires.sound) c.requires.belong _ _ _ c.requires.there swaps.is swaps.value_is
 
 pub returns-clause-sets : goal.returns-clause-sets
 returns-clause-sets c =
-    let small = subst (λ (k : ℕ). k < 2 ^ 63) c.number-number.ensures.same c.number-number.ensures.below in
-    swaps_sets c.args.list.now c.swap.new.list c.args.cursor c.args.key c.changes-changes.ensures.sound c.changes-after.ensures.sound c.requires.belong c.requires.placed c.requires.fits c.requires.at small _ _ c.in-Ok.ensures.ok
-
-pub returns-clause-belong : goal.returns-clause-belong
-returns-clause-belong c =
-    let small = subst (λ (k : ℕ). k < 2 ^ 63) c.number-number.ensures.same c.number-number.ensures.below in
-    swaps_belong c.args.list.now c.swap.new.list c.args.cursor c.args.key c.changes-changes.ensures.sound c.changes-after.ensures.sound c.requires.belong c.requires.placed c.requires.fits c.requires.at small _ _ c.in-Ok.ensures.ok
+    swaps_sets c.args.list.now c.swap.new.list c.args.key c.requires.sound (c.swap.ensures.follows.sound c.requires.sound) c.requires.belong _ _ _ c.requires.there c.swap.ensures.swaps
 
 pub returns-clause-writes : goal.returns-clause-writes
 returns-clause-writes c =
-    let small = subst (λ (k : ℕ). k < 2 ^ 63) c.number-number.ensures.same c.number-number.ensures.below in
-    swaps_node c.args.list.now c.swap.new.list c.args.cursor c.args.key c.changes-changes.ensures.sound c.changes-after.ensures.sound c.requires.belong c.requires.placed c.requires.fits c.requires.at small _ _ c.in-Ok.ensures.ok
+    swaps_node c.args.list.now c.swap.new.list c.args.key c.requires.sound (c.swap.ensures.follows.sound c.requires.sound) c.requires.belong _ _ _ c.requires.there c.swap.ensures.swaps
+
+pub returns-clause-belong : goal.returns-clause-belong
+returns-clause-belong c =
+    swaps_belong c.args.list.now c.swap.new.list c.args.key c.requires.sound (c.swap.ensures.follows.sound c.requires.sound) c.requires.belong _ _ _ c.swap.ensures.swaps

@@ -6,19 +6,15 @@ use Rattle.node_list.proofs.OrderLemmas.{some-none, rising_linked}
 use Rattle.node_list.proofs.NodesLemmas.{found_linked, linked_more, next_linked, next-found, next_of-single, still_linked, now_linked, marked_linked, written_linked}
 use Rattle.node_list.proofs.tests.calls_in_turn.Goals as goal
 
-pub link_after-requires-clause-linked : goal.link_after-requires-clause-linked
-link_after-requires-clause-linked g c =
-    rw (c.in_ok-spare.ensures.ok.nodes, c.head-head.ensures.place) (found_linked _ _ _ c.head-head.ensures.sound.first.is)
-
-pub link_after-requires-clause-order : goal.link_after-requires-clause-order
-link_after-requires-clause-order g c =
+pub link_after-requires-clause-vacant : goal.link_after-requires-clause-vacant
+link_after-requires-clause-vacant g c =
     let sound = c.head-head.ensures.sound in
-    let x : NodeAt = filled c.fill.new.self in
-    let above : IsNodeBefore sound.first.node x = rw (sound.first.at, c.fill.ensures) c.regular-at.ensures.behind_first in
-    let last : (m : NodeAt) → next_of c.in_ok-list.list.nodes c.in_ok-list.list.head ≡ Some m → IsNodeBefore x m = λ m is.
-    absurd (some-none (sym is ∙ ap (λ nodes. next_of nodes c.in_ok-list.list.head) c.in_ok-list.ensures.nodes ∙ next_of-single _ _)) in
-    rw (c.in_ok-spare.ensures.ok.nodes, c.head-head.ensures.place)
-    (rising_linked _ _ sound.first.node x sound.rising sound.first.is above last)
+    rw (c.in_ok-spare.ensures.ok.nodes, c.head-head.ensures.place) (record {
+      node = sound.first.node;
+      is = sound.first.is;
+      below = rw (sound.first.at, c.fill.ensures) c.regular-at.ensures.behind_first;
+      above = λ next is. absurd (some-none (sym is ∙ ap (λ nodes. next_of nodes c.in_ok-list.list.head) c.in_ok-list.ensures.nodes ∙ next_of-single _ _));
+    })
 
 pub write-requires : goal.write-requires
 write-requires g c =

@@ -4,22 +4,22 @@ use Rattle.map_ops.proofs.KeepLemmas.{follows}
 use Rattle.map_ops.proofs.table.Table.act.Goals as goal
 
 pub invariant_of-self : goal.invariant_of-self
-invariant_of-self c = still_sound c.self.inside.list c.change-job.new.list c.self.inside.buckets c.self.invariant c.change-job.ensures.follows c.change-job.ensures.belong
+invariant_of-self c = still_sound c.self.inside.list c.change-reply.new.list c.self.inside.buckets c.self.invariant c.change-reply.ensures.follows c.change-reply.ensures.belong
 
 pub returns-in-Ok-clause-acts : goal.returns-in-Ok-clause-acts
 returns-in-Ok-clause-acts c =
-    let does = rw c.into_plan.ensures at (c.change-job.ensures.does c.self.inside.buckets) in
+    let does = rw c.into_plan-plan.ensures at (c.change-reply.ensures.does c.self.inside.buckets) in
     rw (← c.self.view_is) (sym c.in-Ok.ensures.again, does)
 
 pub returns-in-Ok-clause-rises : goal.returns-in-Ok-clause-rises
-returns-in-Ok-clause-rises c = rw (← c.self.view_is) (turn_rises c.self.inside.list c.change-job.new.list _ c.change-job.ensures.follows refl c.find.ensures.changes)
+returns-in-Ok-clause-rises c = rw (← c.self.view_is) (turn_rises c.self.inside.list c.change-reply.new.list _ c.change-reply.ensures.follows refl c.find.ensures.changes)
 
 pub returns-in-Ok-clause-follows : goal.returns-in-Ok-clause-follows
-returns-in-Ok-clause-follows c = rw (← c.self.view_is) (follows c.self.inside.list c.change-job.new.list c.self.inside.buckets _ c.change-job.ensures.follows)
+returns-in-Ok-clause-follows c = rw (← c.self.view_is) (follows c.self.inside.list c.change-reply.new.list c.self.inside.buckets _ c.change-reply.ensures.follows)
 
 pub returns-in-Ok-clause-writes : goal.returns-in-Ok-clause-writes
 returns-in-Ok-clause-writes c =
-    let writes = rw (c.into_plan.ensures, c.in-Ok.ensures.value, c.key.ensures) at c.change-job.ensures.writes in
+    let writes = rw c.into_plan-plan.ensures at c.change-reply.ensures.writes in
     rw (← c.self.view_is) writes
 
 pub returns-in-Err-clause-writes : goal.returns-in-Err-clause-writes

@@ -3,4 +3,4 @@ use Rattle.map_ops.proofs.ContentLemmas.{ordered-map_of, rises-pairs}
 use Rattle.map_ops.proofs.table.Table.size.Goals as goal
 
 pub returns-clause-ordered : goal.returns-clause-ordered
-returns-clause-ordered c = rw (← c.self.view_is) (ordered-map_of (pairs c.self.inside.list.nodes) (rises-pairs c.self.inside.list.nodes c.changes-changes.ensures.sound.rising c.self.invariant.belong.keyed))
+returns-clause-ordered c = rw (← c.self.view_is) (ordered-map_of (pairs c.self.inside.list.nodes) (rises-pairs c.self.inside.list.nodes c.self.invariant.sound.rising c.self.invariant.belong.keyed))

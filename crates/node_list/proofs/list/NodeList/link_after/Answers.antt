@@ -1,14 +1,18 @@
 use Rattle.std.proofs.Common.{refl, arith}
+use Rattle.node_list.specs.Nodes.{filled}
+use Rattle.node_list.proofs.NodesLemmas.{vacant_linked}
+use Rattle.node_list.proofs.OrderLemmas.{rising_vacant}
 use Rattle.node_list.proofs.CallLemmas.{slot_linked, counted_fit, filling_slot, filled_in}
 use Rattle.node_list.proofs.list.NodeList.link_after.Goals as goal
 
 pub replace_next-next-requires : goal.replace_next-next-requires
 replace_next-next-requires c =
-    rw c.place.ensures (slot_linked _ _ _ _ _ _ c.self.invariant (rw (← c.self.view_is) at c.requires.linked))
+    rw c.place.ensures (slot_linked _ _ _ _ _ _ c.self.invariant (vacant_linked _ _ _ (rw (← c.self.view_is) at c.requires.vacant)))
 
 pub set_slot-requires : goal.set_slot-requires
 set_slot-requires c =
-    let linked = rw (← c.self.view_is) at c.requires.linked in
+    let vacant = rw (← c.self.view_is) at c.requires.vacant in
+    let linked = vacant_linked _ _ _ vacant in
     let out = rw (← c.self.view_is) at c.requires.out in
     let slot = slot_linked _ _ _ _ _ _ c.self.invariant linked in
     let next_was = rw c.place.ensures at c.replace_next-next.ensures.was slot.0 in
@@ -18,12 +22,13 @@ set_slot-requires c =
 
 pub overflow_add-self : goal.overflow_add-self
 overflow_add-self c =
-    let linked = rw (← c.self.view_is) at c.requires.linked in
+    let vacant = rw (← c.self.view_is) at c.requires.vacant in
+    let linked = vacant_linked _ _ _ vacant in
     let out = rw (← c.self.view_is) at c.requires.out in
     let slot = slot_linked _ _ _ _ _ _ c.self.invariant linked in
     let next_was = rw c.place.ensures at c.replace_next-next.ensures.was slot.0 in
     let pointed = rw (c.place.ensures, c.node-place.ensures) at c.replace_next-next.ensures.now slot.0 in
-    let order = rw (← c.self.view_is) at c.requires.order in
+    let order = rising_vacant _ _ (filled c.args.spare) c.self.invariant.laid_out.rising vacant in
     let weight = rw c.into_node-node.ensures at c.weight-weight.ensures in
     let filled = rw (c.place-2.ensures, c.node-place.ensures, c.into_node-node.ensures) at c.set_slot.ensures in
     let now = filled_in _ _ c.self.inside.changes _ _ _ c.self.invariant _ _ _ slot.0 c.args.spare _ slot.1 out (next_was slot.1) (pointed slot.1) _ weight filled linked order in
@@ -32,12 +37,13 @@ overflow_add-self c =
 
 pub invariant_of-self : goal.invariant_of-self
 invariant_of-self c =
-    let linked = rw (← c.self.view_is) at c.requires.linked in
+    let vacant = rw (← c.self.view_is) at c.requires.vacant in
+    let linked = vacant_linked _ _ _ vacant in
     let out = rw (← c.self.view_is) at c.requires.out in
     let slot = slot_linked _ _ _ _ _ _ c.self.invariant linked in
     let next_was = rw c.place.ensures at c.replace_next-next.ensures.was slot.0 in
     let pointed = rw (c.place.ensures, c.node-place.ensures) at c.replace_next-next.ensures.now slot.0 in
-    let order = rw (← c.self.view_is) at c.requires.order in
+    let order = rising_vacant _ _ (filled c.args.spare) c.self.invariant.laid_out.rising vacant in
     let weight = rw c.into_node-node.ensures at c.weight-weight.ensures in
     let filled = rw (c.place-2.ensures, c.node-place.ensures, c.into_node-node.ensures) at c.set_slot.ensures in
     let now = filled_in _ _ c.self.inside.changes _ _ _ c.self.invariant _ _ _ slot.0 c.args.spare _ slot.1 out (next_was slot.1) (pointed slot.1) _ weight filled linked order in
@@ -45,12 +51,13 @@ invariant_of-self c =
 
 pub returns-clause-linked : goal.returns-clause-linked
 returns-clause-linked c =
-    let linked = rw (← c.self.view_is) at c.requires.linked in
+    let vacant = rw (← c.self.view_is) at c.requires.vacant in
+    let linked = vacant_linked _ _ _ vacant in
     let out = rw (← c.self.view_is) at c.requires.out in
     let slot = slot_linked _ _ _ _ _ _ c.self.invariant linked in
     let next_was = rw c.place.ensures at c.replace_next-next.ensures.was slot.0 in
     let pointed = rw (c.place.ensures, c.node-place.ensures) at c.replace_next-next.ensures.now slot.0 in
-    let order = rw (← c.self.view_is) at c.requires.order in
+    let order = rising_vacant _ _ (filled c.args.spare) c.self.invariant.laid_out.rising vacant in
     let weight = rw c.into_node-node.ensures at c.weight-weight.ensures in
     let filled = rw (c.place-2.ensures, c.node-place.ensures, c.into_node-node.ensures) at c.set_slot.ensures in
     let now = filled_in _ _ c.self.inside.changes _ _ _ c.self.invariant _ _ _ slot.0 c.args.spare _ slot.1 out (next_was slot.1) (pointed slot.1) _ weight filled linked order in
@@ -58,12 +65,13 @@ returns-clause-linked c =
 
 pub returns-clause-node : goal.returns-clause-node
 returns-clause-node c =
-    let linked = rw (← c.self.view_is) at c.requires.linked in
+    let vacant = rw (← c.self.view_is) at c.requires.vacant in
+    let linked = vacant_linked _ _ _ vacant in
     let out = rw (← c.self.view_is) at c.requires.out in
     let slot = slot_linked _ _ _ _ _ _ c.self.invariant linked in
     let next_was = rw c.place.ensures at c.replace_next-next.ensures.was slot.0 in
     let pointed = rw (c.place.ensures, c.node-place.ensures) at c.replace_next-next.ensures.now slot.0 in
-    let order = rw (← c.self.view_is) at c.requires.order in
+    let order = rising_vacant _ _ (filled c.args.spare) c.self.invariant.laid_out.rising vacant in
     let weight = rw c.into_node-node.ensures at c.weight-weight.ensures in
     let filled = rw (c.place-2.ensures, c.node-place.ensures, c.into_node-node.ensures) at c.set_slot.ensures in
     let now = filled_in _ _ c.self.inside.changes _ _ _ c.self.invariant _ _ _ slot.0 c.args.spare _ slot.1 out (next_was slot.1) (pointed slot.1) _ weight filled linked order in
@@ -71,12 +79,13 @@ returns-clause-node c =
 
 pub returns-clause-follows : goal.returns-clause-follows
 returns-clause-follows c =
-    let linked = rw (← c.self.view_is) at c.requires.linked in
+    let vacant = rw (← c.self.view_is) at c.requires.vacant in
+    let linked = vacant_linked _ _ _ vacant in
     let out = rw (← c.self.view_is) at c.requires.out in
     let slot = slot_linked _ _ _ _ _ _ c.self.invariant linked in
     let next_was = rw c.place.ensures at c.replace_next-next.ensures.was slot.0 in
     let pointed = rw (c.place.ensures, c.node-place.ensures) at c.replace_next-next.ensures.now slot.0 in
-    let order = rw (← c.self.view_is) at c.requires.order in
+    let order = rising_vacant _ _ (filled c.args.spare) c.self.invariant.laid_out.rising vacant in
     let weight = rw c.into_node-node.ensures at c.weight-weight.ensures in
     let filled = rw (c.place-2.ensures, c.node-place.ensures, c.into_node-node.ensures) at c.set_slot.ensures in
     let now = filled_in _ _ c.self.inside.changes _ _ _ c.self.invariant _ _ _ slot.0 c.args.spare _ slot.1 out (next_was slot.1) (pointed slot.1) _ weight filled linked order in

@@ -1,0 +1,30 @@
+//! Refusals of calls on buckets, as steps name them.
+ghost use Rattle.std.specs.Prelude.{◌≡◌};
+ghost use Rattle.map_ops.specs.Buckets.{answered, refusal_for};
+
+use bucket_table::InitRefusal;
+use txn_trace::Refusal;
+
+/// The refusal of a call on buckets.
+fn refusal_for(refusal: InitRefusal) -> Refusal
+    ensures { result ≡ refusal_for refusal }
+{
+    match refusal {
+        InitRefusal::NoSuchBucket => Refusal::NoSuchBucket,
+        InitRefusal::ParentMissing => Refusal::ParentMissing,
+        InitRefusal::NoSuchHelper => Refusal::NoSuchHelper,
+        InitRefusal::HelperOutOfOrder => Refusal::HelperOutOfOrder,
+        InitRefusal::NoMemory => Refusal::NoMemory,
+        InitRefusal::StampsUsedUp => Refusal::StampsUsedUp,
+    }
+}
+
+/// What a call on buckets is answered.
+pub(crate) fn answered<T>(outcome: Result<T, InitRefusal>) -> Result<T, Refusal>
+    ensures { result ≡ answered outcome }
+{
+    match outcome {
+        Ok(done) => Ok(done),
+        Err(refusal) => Err(refusal_for(refusal)),
+    }
+}
