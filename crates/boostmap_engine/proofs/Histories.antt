@@ -42,16 +42,16 @@ is_history-parts stripes h e =
     let some = and_parts (nat_le 1 stripes) (nat_le stripes 4096) all.0 in
     (omega (arith, leb-true 1 stripes some.0), All-weaker (λ e. is_in_range e ≡ true) (λ e. caller_of e < 64) below_64 h (AllPass-from_list_all is_in_range h all.1))
 
-is_history-from : (numbers : List ℕ) (entries : List Entry) (stripes : ℕ) (h : List Entry) → entries_from numbers entries ≡ Ok (stripes, h) → is_history stripes h ≡ true
+is_history-from : (given : ℕ) (numbers : List ℕ) (entries : List Entry) (stripes : ℕ) (h : List Entry) (version : ℕ) → entries_from given numbers entries ≡ Ok (stripes, h, version) → is_history stripes h ≡ true
 unfolding entries_from
-is_history-from (s ∷ []) entries stripes h e =
-    let (right, same) = passed (is_history s entries) (s, entries) (stripes, h) e in
-    subst (λ (file : ℕ × List Entry). is_history file.0 file.1 ≡ true) same right
-is_history-from [] entries stripes h e = absurd (cc e)
-is_history-from (s ∷ t ∷ numbers) entries stripes h e = absurd (cc e)
+is_history-from given (s ∷ []) entries stripes h version e =
+    let (right, same) = passed (is_history s entries) (s, entries, given) (stripes, h, version) e in
+    subst (λ (file : ℕ × List Entry × ℕ). is_history file.0 file.1 ≡ true) same right
+is_history-from given [] entries stripes h version e = absurd (cc e)
+is_history-from given (s ∷ t ∷ numbers) entries stripes h version e = absurd (cc e)
 
 -- A history has stripes, and its callers are below 64.
-pub history_of-in_range : (bytes : List ℕ) (stripes : ℕ) (h : List Entry) → history_of bytes ≡ Ok (stripes, h) → (0 < stripes) × All (λ e. caller_of e < 64) h
-history_of-in_range bytes stripes h e =
-    let (file, made) = gone_on (contents history_file bytes) (λ file. entries_from file.0 file.1) (stripes, h) e in
-    is_history-parts stripes h (is_history-from file.0 file.1 stripes h made)
+pub history_of-in_range : (bytes : List ℕ) (stripes : ℕ) (h : List Entry) (version : ℕ) → history_of bytes ≡ Ok (stripes, h, version) → (0 < stripes) × All (λ e. caller_of e < 64) h
+history_of-in_range bytes stripes h version e =
+    let (file, made) = gone_on (contents history_file bytes) (λ file. entries_from file.0 file.1 file.2) (stripes, h, version) e in
+    is_history-parts stripes h (is_history-from file.0 file.1 file.2 stripes h version made)

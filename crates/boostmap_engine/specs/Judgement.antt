@@ -8,8 +8,11 @@ use Rattle.boostmap_engine.specs.Report.{line}
 
 -- The line of a verdict.
 abbrev pub verdict_line : Verdict → List ℕ
-verdict_line (Legal commits running) = line (codes "legal " ++ (decimal commits ++ (codes " commits " ++ (decimal running ++ codes " open"))))
-verdict_line (Illegal entry rule) = line (codes "illegal entry " ++ (decimal entry ++ (codes " rule " ++ decimal rule)))
+verdict_line (Legal commits running) =
+    line (codes "legal "
+    ++ (decimal commits ++ (codes " commits " ++ (decimal running ++ codes " open"))))
+verdict_line (Illegal entry rule) =
+    line (codes "illegal entry " ++ (decimal entry ++ (codes " rule " ++ decimal rule)))
 
 -- Whether a verdict is that the history is legal.
 abbrev pub says_legal : Verdict → Bool
@@ -20,13 +23,16 @@ says_legal (Illegal entry rule) = false
 pub record IsJudged (bytes : List ℕ) (outcome : Verdict) : Type 0 where
   pub stripes : ℕ
   pub history : List Entry
-  pub file : history_of bytes ≡ Ok (stripes, history)
+  pub version : ℕ
+  pub file : history_of bytes ≡ Ok (stripes, history, version)
   pub right : outcome ≡ verdict stripes history
   pub sound : IsTrue (says_legal outcome) ↔ IsLegal stripes history
 
 -- The line of the verdict on the history that the bytes are, and whether that is legal.
 abbrev pub IsJudgement : Bool → List ℕ → List ℕ → Type 0
-IsJudgement legal bytes text = (outcome : Verdict) × IsJudged bytes outcome × (legal ≡ says_legal outcome) × (text ≡ verdict_line outcome)
+IsJudgement legal bytes text =
+    (outcome : Verdict) × IsJudged bytes outcome × (legal ≡ says_legal outcome)
+    × (text ≡ verdict_line outcome)
 
 -- The line of the verdict, whichever it is.
 abbrev pub IsJudgementOf : List ℕ → List ℕ → Type 0

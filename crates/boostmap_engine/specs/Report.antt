@@ -28,10 +28,13 @@ size_text size count = line (codes "size " ++ (decimal size ++ (codes " count " 
 abbrev pub pairs_text : List (ℕ × ℕ) → List ℕ
 pairs_text pairs = flat_map (λ pair. line (decimal pair.0 ++ (codes " " ++ decimal pair.1))) pairs
 
--- The answers of a run, then the size and the count of its last state, then the pairs of its map in list order.
+-- The answers of a run, then the size and the count of its last state, then the pairs of its map in
+-- list order.
 abbrev pub report : List Answer → State → List ℕ
 report answers last =
-    answers_text answers ++ (size_text last.size (count_of (now last.history)) ++ pairs_text (ordered (now last.history)))
+    answers_text answers
+    ++ (size_text last.size (count_of (now last.history))
+    ++ pairs_text (ordered (now last.history)))
 
 -- A run of these steps, and its report.
 pub record IsReport (sizes : Sizes) (steps : List Step) (text : List ℕ) : Type 0 where
@@ -42,7 +45,9 @@ pub record IsReport (sizes : Sizes) (steps : List Step) (text : List ℕ) : Type
 
 -- The report of a run of the steps that the bytes are.
 abbrev pub IsReportOf : List ℕ → List ℕ → Type 0
-IsReportOf bytes text = (sizes : Sizes) × (steps : List Step) × (file_of bytes ≡ Ok (sizes, steps)) × IsReport sizes steps text
+IsReportOf bytes text =
+    (sizes : Sizes) × (steps : List Step) × (file_of bytes ≡ Ok (sizes, steps))
+    × IsReport sizes steps text
 
 -- The bytes are no step file, for this fault.
 abbrev pub IsNoStepFile : List ℕ → FileFault → Type 0

@@ -28,15 +28,23 @@ HasNone IsRefused bytes faults.Write = ⊥
 HasNone IsRefused bytes faults.OutOfStep = ⊥
 
 -- What was written is a text of the bytes that were read.
-abbrev pub Writes : (List ℕ → List ℕ → Type 0) → Option (List ℕ) → Option (List ℕ) → Option (List ℕ) → Type 0
-Writes IsTextOf remaining old new = (bytes : List ℕ) × (text : List ℕ) × IsRead remaining bytes × IsTextOf bytes text × Appends old new text
+abbrev pub Writes : (List ℕ → List ℕ → Type 0) → Option (List ℕ) → Option (List ℕ)
+    → Option (List ℕ) → Type 0
+Writes IsTextOf remaining old new =
+    (bytes : List ℕ) × (text : List ℕ) × IsRead remaining bytes × IsTextOf bytes text
+    × Appends old new text
 
--- What was written at a fault: a part of a text of the bytes that were read where a write failed, else nothing.
-abbrev pub Leaves : (List ℕ → List ℕ → Type 0) → (List ℕ → FileFault → Type 0) → Option (List ℕ) → Option (List ℕ) → Option (List ℕ) → Fault → Type 0
-Leaves IsTextOf IsRefused remaining old new (faults.Input fault) = (bytes : List ℕ) × IsRead remaining bytes × IsRefused bytes fault × Keeps old new
+-- What was written at a fault: a part of a text of the bytes that were read where a write failed,
+-- else nothing.
+abbrev pub Leaves : (List ℕ → List ℕ → Type 0) → (List ℕ → FileFault → Type 0) → Option (List ℕ)
+    → Option (List ℕ) → Option (List ℕ) → Fault → Type 0
+Leaves IsTextOf IsRefused remaining old new (faults.Input fault) =
+    (bytes : List ℕ) × IsRead remaining bytes × IsRefused bytes fault × Keeps old new
 Leaves IsTextOf IsRefused remaining old new faults.NoMemory = Keeps old new
 Leaves IsTextOf IsRefused remaining old new faults.Read = Keeps old new
-Leaves IsTextOf IsRefused remaining old new faults.Write = (bytes : List ℕ) × (text : List ℕ) × IsRead remaining bytes × IsTextOf bytes text × AppendsPart old new text
+Leaves IsTextOf IsRefused remaining old new faults.Write =
+    (bytes : List ℕ) × (text : List ℕ) × IsRead remaining bytes × IsTextOf bytes text
+    × AppendsPart old new text
 Leaves IsTextOf IsRefused remaining old new faults.Usage = ⊥
 Leaves IsTextOf IsRefused remaining old new faults.NoThread = ⊥
 Leaves IsTextOf IsRefused remaining old new faults.OutOfStep = ⊥

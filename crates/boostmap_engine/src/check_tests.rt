@@ -42,6 +42,44 @@ fn says(
     Ok(())
 }
 
+/// A change of `put_if` is taken back once, and one that changed nothing never.
+#[test]
+fn put_if_history(rt: HostRuntime) -> Result<(), Fail> {
+    let before =
+        "[\"began\",0,1],[\"asked\",0,\"put_if\",1,null,5],[\"did\",0,null],[\"asked\",0,\"put_if\",1,4,6],[\"did\",0,5],[\"leave\",0,null],[\"undone\",0],";
+    let rows = [
+        ("", "legal 0 commits 0 open\n", 0),
+        ("[\"undone\",0],", "illegal entry 7 rule 3\n", 1),
+    ];
+    for (more, wanted, status) in rows {
+        let text = format!(in rt.alloc();
+            "{{\"version\":2,\"stripes\":8,\"entries\":[{before}{more}[\"aborted\",0]]}}"
+        )?;
+        let (line, found) = checked(&rt, text.as_bytes())?;
+        assert_eq!(rt; (line.as_str(), found), (wanted, status));
+    }
+    Ok(())
+}
+
+/// An entry that only version 2 has, in files of other versions.
+#[test]
+fn versions_of_histories(rt: HostRuntime) -> Result<(), Fail> {
+    let rows = [
+        (1, "refused 21 entry 1", 3),
+        (2, "legal 0 commits 1 open\n", 0),
+        (3, "refused 22", 3),
+        (9, "refused 22", 3),
+    ];
+    for (version, wanted, status) in rows {
+        let text = format!(in rt.alloc();
+            "{{\"version\":{version},\"stripes\":8,\"entries\":[[\"began\",0,1],[\"asked\",0,\"put_if\",1,null,5]]}}"
+        )?;
+        let (line, found) = checked(&rt, text.as_bytes())?;
+        assert_eq!(rt; (line.as_str(), found), (wanted, status), "{version}");
+    }
+    Ok(())
+}
+
 #[test]
 fn checker_replies(rt: HostRuntime) -> Result<(), Fail> {
     let (line, status) = checked(&rt, CHECKED.as_bytes())?;

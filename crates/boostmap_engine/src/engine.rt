@@ -14,12 +14,13 @@ use std::alloc::Global;
 use std::io::{Read, Write};
 
 /// Reads a step file to its end, runs its steps one after the other on a new core, and writes the
-/// report: the answers, one a line, then `size S count C` with the numbers of buckets and of keys, then
-/// a line `key value` for each pair of the map, in list order. Every line ends with a line feed, and
-/// nothing else is written.
+/// report: the answers, one a line, then `size S count C` with the numbers of buckets and of keys,
+/// then a line `key value` for each pair of the map, in list order. Every line ends with a line
+/// feed, and nothing else is written.
 ///
-/// At most 16,777,217 bytes are read, and no call of the reader or the writer is made again after it
-/// failed. Costs what the steps cost, and time and memory in proportion to the file and the report.
+/// At most 16,777,217 bytes are read, and no call of the reader or the writer is made again after
+/// it failed. Costs what the steps cost, and time and memory in proportion to the file and the
+/// report.
 ///
 /// # Errors
 ///
@@ -31,22 +32,25 @@ use std::io::{Read, Write};
 ///   `refused 14` and changes nothing.
 /// - `Write` where a write fails or takes nothing: a proper beginning of the report is written.
 pub fn replay<R: Read, W: Write>(alloc: Global, input: &mut R, output: &mut W) -> Result<(), Fault>
-    ensures reports { OnOk result (Writes IsReportOf (R.remaining input.old) (W.contents output.old) (W.contents output.new)) }
-    ensures fault { IfErr result (Leaves IsReportOf IsNoStepFile (R.remaining input.old) (W.contents output.old) (W.contents output.new)) }
+    ensures reports { OnOk result (Writes IsReportOf (R.remaining input.old)
+        (W.contents output.old) (W.contents output.new)) }
+    ensures fault { IfErr result (Leaves IsReportOf IsNoStepFile (R.remaining input.old)
+        (W.contents output.old) (W.contents output.new)) }
 {
     let bytes = read_input(alloc, input)?;
     let text = report(alloc, &bytes)?;
     write_text(output, text.as_bytes())
 }
 
-/// Reads a history file to its end, judges the history, and writes the verdict as one line that ends
-/// with a line feed, and nothing else: `legal C commits O open` with the numbers of commits and of
-/// callers that are in a transaction at the end, or `illegal entry I rule R` with the index, from 0,
-/// of the first entry that breaks a rule, and the rule: 1 replies, 2 locks, 3 shape. The answer is
-/// whether the history is legal.
+/// Reads a history file to its end, judges the history, and writes the verdict as one line that
+/// ends with a line feed, and nothing else: `legal C commits O open` with the numbers of commits
+/// and of callers that are in a transaction at the end, or `illegal entry I rule R` with the index,
+/// from 0, of the first entry that breaks a rule, and the rule: 1 replies, 2 locks, 3 shape. The
+/// answer is whether the history is legal.
 ///
-/// At most 16,777,217 bytes are read, and no call of the reader or the writer is made again after it
-/// failed. An entry costs the logarithm of the number of keys; memory is in proportion to the file.
+/// At most 16,777,217 bytes are read, and no call of the reader or the writer is made again after
+/// it failed. An entry costs the logarithm of the number of keys; memory is in proportion to the
+/// file.
 ///
 /// # Errors
 ///
@@ -57,8 +61,10 @@ pub fn replay<R: Read, W: Write>(alloc: Global, input: &mut R, output: &mut W) -
 /// - `NoMemory` where memory is refused.
 /// - `Write` where a write fails or takes nothing: a proper beginning of the line is written.
 pub fn check<R: Read, W: Write>(alloc: Global, input: &mut R, output: &mut W) -> Result<bool, Fault>
-    ensures judges { IfOk result (λ legal. Writes (IsJudgement legal) (R.remaining input.old) (W.contents output.old) (W.contents output.new)) }
-    ensures fault { IfErr result (Leaves IsJudgementOf IsNoHistoryFile (R.remaining input.old) (W.contents output.old) (W.contents output.new)) }
+    ensures judges { IfOk result (λ legal. Writes (IsJudgement legal) (R.remaining input.old)
+        (W.contents output.old) (W.contents output.new)) }
+    ensures fault { IfErr result (Leaves IsJudgementOf IsNoHistoryFile (R.remaining input.old)
+        (W.contents output.old) (W.contents output.new)) }
 {
     let bytes = read_input(alloc, input)?;
     let verdict = judge(alloc, &bytes)?;
@@ -67,15 +73,17 @@ pub fn check<R: Read, W: Write>(alloc: Global, input: &mut R, output: &mut W) ->
     Ok(is_legal(verdict))
 }
 
-/// Reads a script file to its end, runs its scripts on a new core with the workers' turns mixed as the seed says, and
-/// writes the history as one line of compact JSON, which ends with a line feed, and nothing else.
+/// Reads a script file to its end, runs its scripts on a new core with the workers' turns mixed as
+/// the seed says, and writes the history as one line of compact JSON, which ends with a line feed,
+/// and nothing else.
 ///
-/// Before each turn the next word of the generator `Pcg32` of this seed, modulo the number of workers that still have a
-/// step to take, names the place of the worker, of those in rising order, that takes its next turn, also where there is
-/// only one. So the same seed gives the same bytes.
+/// Before each turn the next word of the generator `Pcg32` of this seed, modulo the number of
+/// workers that still have a step to take, names the place of the worker, of those in rising order,
+/// that takes its next turn, also where there is only one. So the same seed gives the same bytes.
 ///
-/// At most 16,777,217 bytes are read, and no call of the reader or the writer is made again after it failed. Costs what
-/// the steps cost and a look at each worker for each turn, and time and memory in proportion to the file and the history.
+/// At most 16,777,217 bytes are read, and no call of the reader or the writer is made again after
+/// it failed. Costs what the steps cost and a look at each worker for each turn, and time and
+/// memory in proportion to the file and the history.
 ///
 /// # Errors
 ///
@@ -83,7 +91,8 @@ pub fn check<R: Read, W: Write>(alloc: Global, input: &mut R, output: &mut W) ->
 ///
 /// - `Input` where the file is refused.
 /// - `Read` where a read fails.
-/// - `NoMemory` where memory is refused outside a step. A step that is refused memory ends its script as refused.
+/// - `NoMemory` where memory is refused outside a step. A step that is refused memory ends its
+///   script as refused.
 /// - `Write` where a write fails or takes nothing: a proper beginning of the line is written.
 pub fn mix<R: Read, W: Write>(
     alloc: Global,
@@ -91,8 +100,10 @@ pub fn mix<R: Read, W: Write>(
     input: &mut R,
     output: &mut W,
 ) -> Result<(), Fault>
-    ensures mixes { OnOk result (Writes (IsMixtureOf seed) (R.remaining input.old) (W.contents output.old) (W.contents output.new)) }
-    ensures fault { IfErr result (Leaves (IsMixtureOf seed) IsNoScriptFile (R.remaining input.old) (W.contents output.old) (W.contents output.new)) }
+    ensures mixes { OnOk result (Writes (IsMixtureOf seed) (R.remaining input.old)
+        (W.contents output.old) (W.contents output.new)) }
+    ensures fault { IfErr result (Leaves (IsMixtureOf seed) IsNoScriptFile
+        (R.remaining input.old) (W.contents output.old) (W.contents output.new)) }
 {
     let bytes = read_input(alloc, input)?;
     let history = mixture(alloc, seed, &bytes)?;

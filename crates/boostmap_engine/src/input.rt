@@ -19,12 +19,13 @@ fn zeros(alloc: Global, count: usize) -> Result<Vec<u8>, AllocError>
     vec![in alloc; 0u8; count]
 }
 
-/// Reads to the end, or as far as shows that there is too much: at most 16,777,217 bytes. Costs time and memory in
-/// proportion to the bytes.
+/// Reads to the end, or as far as shows that there is too much: at most 16,777,217 bytes. Costs
+/// time and memory in proportion to the bytes.
 ///
 /// # Errors
 ///
-/// `Read` where a read fails, after which the reader is not called again; `NoMemory` where memory is refused.
+/// `Read` where a read fails, after which the reader is not called again; `NoMemory` where memory
+/// is refused.
 pub fn read_input<R: Read>(alloc: Global, input: &mut R) -> Result<Vec<u8>, Fault>
     ensures ok { IfOk result (λ bytes. IsRead (R.remaining input.old) bytes.items) }
     ensures err { IfErr result IsReadFault }

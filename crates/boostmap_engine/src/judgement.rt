@@ -8,8 +8,11 @@ use history_check::{Verdict, check};
 use std::alloc::{AllocError, Global};
 use txn_files::read_history;
 
-/// The verdict on the history that the bytes are. An entry costs the logarithm of the number of keys; memory is in
-/// proportion to the bytes.
+/// The verdict on the history that the bytes are, of whichever version.
+///
+/// # Cost
+///
+/// The logarithm of the number of keys for an entry; memory in proportion to the bytes.
 ///
 /// # Errors
 ///
@@ -18,12 +21,16 @@ pub fn judge(alloc: Global, bytes: &[u8]) -> Result<Verdict, Fault>
     ensures ok { IfOk result (λ verdict. IsJudged bytes.now (meaning_of verdict)) }
     ensures err { IfErr result (HasNone IsNoHistoryFile bytes.now) }
 {
-    let (stripes, entries) = read_history(alloc, bytes)?;
+    let (stripes, entries, _version) = read_history(alloc, bytes)?;
     let verdict = check(alloc, &entries, u64::from(stripes))?;
     Ok(verdict)
 }
 
-/// The line of a verdict, with its line feed. Costs time and memory in proportion to the line, which is at most 61 bytes.
+/// The line of a verdict, with its line feed.
+///
+/// # Cost
+///
+/// Time and memory in proportion to the line, which is at most 61 bytes.
 ///
 /// # Errors
 ///

@@ -1,16 +1,17 @@
 //! The engines of the program `boostmap`, over any reader and any writer.
 //!
-//! An engine reads a file and writes what came of it. `replay` runs the steps of a step file on a new
-//! core, and writes the report: each step's answer, the size and the count, and the pairs of the map
-//! in list order. `check` judges the history of a history file, and writes the verdict as one line.
-//! `mix` runs the scripts of a script file, its workers' turns mixed as a seed says, and writes the history.
+//! An engine reads a file and writes what came of it. `replay` runs the steps of a step file on a
+//! new core, and writes the report: each step's answer, the size and the count, and the pairs of
+//! the map in list order. `check` judges the history of a history file, and writes the verdict as
+//! one line. `mix` runs the scripts of a script file, its workers' turns mixed as a seed says, and
+//! writes the history.
 //!
 //! What they promise (`specs/Report.antt`, `specs/Judgement.antt`, `specs/Mixture.antt`): what was
-//! written is the report of a run of the steps that the bytes are, or the line of the verdict on the
-//! history that they are, or a legal history in which the workers' committed transactions play the
-//! scripts that the bytes are, and nothing else. A file that is refused, a failed read and want of
-//! memory (outside a step) leave nothing written; a failed write leaves a proper beginning of the text
-//! (`specs/Written.antt`).
+//! written is the report of a run of the steps that the bytes are, or the line of the verdict on
+//! the history that they are, or a legal history in which the workers' committed transactions play
+//! the scripts that the bytes are, and nothing else. A file that is refused, a failed read and want
+//! of memory (outside a step) leave nothing written; a failed write leaves a proper beginning of
+//! the text (`specs/Written.antt`).
 //!
 //! No read and no write is tried again. The whole text is made before the first byte is written, so
 //! memory is needed for the file, what it holds, and the text at once.

@@ -44,7 +44,29 @@ fn mix_one_worker(rt: HostRuntime) -> Result<(), Fail> {
     Ok(())
 }
 
-/// For 50 seeds from this one on the history is legal with nothing open, and the same when it is made again.
+/// A script file of version 2, with a key of 2^63 and an action `put_if`: its history is of version
+/// 2.
+#[test]
+fn mix_of_version_2(rt: HostRuntime) -> Result<(), Fail> {
+    let scripts =
+        "{\"version\":2,\"workers\":1,\"stripes\":8,\"buckets\":8,\"tries\":0,\"scripts\":[[[\"put_if\",9223372036854775808,null,5],[\"help\",9223372036854775808]]]}";
+    let wanted =
+        "{\"entries\":[[\"began\",0,1],[\"asked\",0,\"put_if\",9223372036854775808,null,5],[\"did\",0,null],[\"committed\",0,1]],\"stripes\":8,\"version\":2}\n";
+    let history = mixed(&rt, 7, scripts.as_bytes())?;
+    assert_eq!(rt; history.as_slice(), wanted.as_bytes());
+    let mut line: Vec<u8> = Vec::new(rt.alloc());
+    assert!(rt;
+        matches!(
+            check(rt.alloc(), &mut history.as_slice(), &mut line),
+            Ok(true)
+        )
+    );
+    assert_eq!(rt; line.as_slice(), b"legal 1 commits 0 open\n".as_slice());
+    Ok(())
+}
+
+/// For 50 seeds from this one on the history is legal with nothing open, and the same when it is
+/// made again.
 fn any_seed_from(rt: &(impl Abort + AllocGlobal), first: u64) -> Result<(), Fail> {
     for place in 0..50 {
         let seed = first.saturating_add(place);
@@ -202,8 +224,9 @@ fn mix_of_failing_writes(rt: HostRuntime) {
 const TWO_SCRIPTS: &str =
     "{\"version\":1,\"workers\":1,\"stripes\":8,\"buckets\":8,\"tries\":0,\"scripts\":[[[\"put\",1,10],[\"save\"]],[[\"get\",1]]]}";
 
-/// The histories of these scripts: the whole one, and those where memory was refused to one step of it, which ended its
-/// script: to the begin, the ask or the save of the first script, or to the begin or the ask of the second.
+/// The histories of these scripts: the whole one, and those where memory was refused to one step of
+/// it, which ended its script: to the begin, the ask or the save of the first script, or to the
+/// begin or the ask of the second.
 const TWO_SCRIPTS_HISTORIES: [&str; 6] = [
     "{\"entries\":[[\"began\",0,1],[\"asked\",0,\"put\",1,10],[\"did\",0,null],[\"saved\",0],[\"committed\",0,1],[\"began\",0,2],[\"asked\",0,\"get\",1],[\"did\",0,10],[\"committed\",0,2]],\"stripes\":8,\"version\":1}\n",
     "{\"entries\":[[\"began\",0,1],[\"asked\",0,\"get\",1],[\"did\",0,null],[\"committed\",0,1]],\"stripes\":8,\"version\":1}\n",
@@ -213,8 +236,8 @@ const TWO_SCRIPTS_HISTORIES: [&str; 6] = [
     "{\"entries\":[[\"began\",0,1],[\"asked\",0,\"put\",1,10],[\"did\",0,null],[\"saved\",0],[\"committed\",0,1],[\"began\",0,2],[\"leave\",0,null],[\"aborted\",0]],\"stripes\":8,\"version\":1}\n",
 ];
 
-/// Is to be run with each allocation refused in turn: nothing is written, or a whole history, in which the script whose
-/// step was refused memory has changed nothing.
+/// Is to be run with each allocation refused in turn: nothing is written, or a whole history, in
+/// which the script whose step was refused memory has changed nothing.
 #[test]
 fn mix_without_memory(rt: HostRuntime) {
     let mut input = TWO_SCRIPTS.as_bytes();

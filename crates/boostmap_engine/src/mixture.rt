@@ -7,8 +7,13 @@ use script_mix::mixed;
 use std::alloc::Global;
 use txn_files::{history_text, read_scripts};
 
-/// The text of a history of the scripts that the bytes are, the workers' turns mixed as the seed says, with its line feed.
-/// Costs what the steps cost and a look at each worker for each turn, and time and memory in proportion to bytes and text.
+/// The text of a history of the scripts that the bytes are, the workers' turns mixed as the seed
+/// says, with its line feed. The history has its script file's version.
+///
+/// # Cost
+///
+/// What the steps cost and a look at each worker for each turn, and time and memory in proportion
+/// to bytes and text.
 ///
 /// # Errors
 ///
@@ -19,7 +24,7 @@ pub fn mixture(alloc: Global, seed: u64, bytes: &[u8]) -> Result<String, Fault>
 {
     let work = read_scripts(alloc, bytes)?;
     let core = mixed(alloc, seed, &work)?;
-    let mut text = history_text(alloc, work.limits().stripes(), core.trace())?;
+    let mut text = history_text(alloc, work.version(), work.limits().stripes(), core.trace())?;
     text.push_str("\n")?;
     Ok(text)
 }

@@ -10,11 +10,12 @@ use std::io::Write;
 ///
 /// # Errors
 ///
-/// `Write` where the writer fails or takes nothing, after which it is not called again: a proper beginning of the text
-/// is written.
+/// `Write` where the writer fails or takes nothing, after which it is not called again: a proper
+/// beginning of the text is written.
 pub fn write_text<W: Write>(output: &mut W, text: &[u8]) -> Result<(), Fault>
     ensures ok { OnOk result (Appends (W.contents output.old) (W.contents output.new) text.now) }
-    ensures err { OnErr result (AppendsPart (W.contents output.old) (W.contents output.new) text.now) }
+    ensures err { OnErr result (AppendsPart (W.contents output.old)
+        (W.contents output.new) text.now) }
     ensures fault { IfErr result (λ fault. fault ≡ faults.Write) }
 {
     let mut done = 0;

@@ -10,7 +10,8 @@ use txn_trace::Answer;
 
 /// Puts the answers to the text, one a line.
 fn put_answers(text: &mut String, answers: &[Answer]) -> Result<(), AllocError>
-    ensures { OnOk result (string_bytes text.new ≡ string_bytes text.old ++ answers_text answers.now) }
+    ensures { OnOk result (string_bytes text.new ≡ string_bytes text.old
+        ++ answers_text answers.now) }
 {
     for answer in answers {
         writeln!(text, "{answer}")?;
@@ -47,8 +48,12 @@ fn text_of_run(alloc: Global, answers: &[Answer], core: &Core) -> Result<String,
     Ok(text)
 }
 
-/// The report of the steps that the bytes are, run on a new core. Costs what the steps cost, and time and memory in
-/// proportion to the bytes and the report.
+/// The report of the steps that the bytes are, run on a new core, which takes half keys alone where
+/// the file is of version 1.
+///
+/// # Cost
+///
+/// What the steps cost, and time and memory in proportion to the bytes and the report.
 ///
 /// # Errors
 ///

@@ -4,7 +4,8 @@ use crate::replay;
 use std::process::Abort;
 use std::test::Fail;
 
-/// What a step file has, and what its report says to it. A name in a step stands between single quotes.
+/// What a step file has, and what its report says to it. A name in a step stands between single
+/// quotes.
 #[derive(Clone, Copy)]
 enum Line {
     /// A step and its answer.
@@ -37,9 +38,22 @@ fn add(steps: &mut String, answers: &mut String, line: Line) -> Result<(), Fail>
     Ok(())
 }
 
-/// Replays a file with these lines, and compares the report: the answers, and then the rest.
+/// Replays a file of version 1 with these lines, and compares the report: the answers, and then the
+/// rest.
 fn play(
     rt: &(impl Abort + AllocGlobal),
+    callers: u64,
+    buckets: u64,
+    lines: &[Line],
+    rest: &str,
+) -> Result<(), Fail> {
+    play_version(rt, 1, callers, buckets, lines, rest)
+}
+
+/// The same of a file of this version.
+fn play_version(
+    rt: &(impl Abort + AllocGlobal),
+    version: u64,
     callers: u64,
     buckets: u64,
     lines: &[Line],
@@ -53,7 +67,7 @@ fn play(
     writeln!(report, "{rest}")?;
     let steps = steps.trim_end_matches(',').replace(rt.alloc(), "'", "\"")?;
     let text = format!(in rt.alloc();
-        "{{\"version\":1,\"callers\":{callers},\"stripes\":8,\"buckets\":{buckets},\"steps\":[{steps}]}}"
+        "{{\"version\":{version},\"callers\":{callers},\"stripes\":8,\"buckets\":{buckets},\"steps\":[{steps}]}}"
     )?;
     let mut output: Vec<u8> = Vec::new(rt.alloc());
     replay(rt.alloc(), &mut text.as_bytes(), &mut output)?;
@@ -77,6 +91,39 @@ const FIVE_KEYS: [Line; 10] = [
 ];
 
 const FIVE_KEYS_REPORT: &str = "size 4 count 5\n4 40\n2 20\n1 10\n5 50\n3 30";
+
+/// Keys that share a split key, and `put_if`, which puts only where the old value is the expected
+/// one.
+const KEYS_OF_64_BITS: [Line; 8] = [
+    Line::Step("'begin',0", "began 1"),
+    Line::Do(0, "'put',9223372036854775809,11", "done none"),
+    Line::Do(0, "'put',1,10", "done none"),
+    Line::Do(0, "'put_if',1,null,12", "done 10"),
+    Line::Do(0, "'put_if',1,10,12", "done 10"),
+    Line::Do(0, "'put_if',2,null,20", "done none"),
+    Line::Do(0, "'put_if',3,5,6", "done none"),
+    Line::Do(0, "'put',18446744073709551615,7", "done none"),
+];
+
+#[test]
+fn keys_of_64_bits(rt: HostRuntime) -> Result<(), Fail> {
+    let mut lines = Vec::from_array(rt.alloc(), KEYS_OF_64_BITS)?;
+    lines.push(Line::Step("'commit',0", "committed 1"))?;
+    let rest = "size 2 count 4\n2 20\n1 12\n9223372036854775809 11\n18446744073709551615 7";
+    play_version(&rt, 2, 1, 8, &lines, rest)
+}
+
+/// Five of the seven operations are changes, and an abort takes them back.
+#[test]
+fn keys_of_64_bits_aborted(rt: HostRuntime) -> Result<(), Fail> {
+    let mut lines = Vec::from_array(rt.alloc(), KEYS_OF_64_BITS)?;
+    lines.push(Line::Step("'abort',0", "leaving"))?;
+    for _ in 0..5 {
+        lines.push(Line::Undo(0))?;
+    }
+    lines.push(Line::Step("'act',0", "aborted"))?;
+    play_version(&rt, 2, 1, 8, &lines, "size 2 count 0")
+}
 
 #[test]
 fn abort_takes_back(rt: HostRuntime) -> Result<(), Fail> {

@@ -142,6 +142,34 @@ fn bad_input(rt: HostRuntime) -> Result<(), Fail> {
     Ok(())
 }
 
+/// A step that only version 2 has, in files of other versions; and a bad step before it, which is
+/// the first fault.
+#[test]
+fn versions_of_step_files(rt: HostRuntime) -> Result<(), Fail> {
+    let put_if = "[\"begin\",0],[\"ask\",0,\"put_if\",1,null,5]";
+    for (version, more, wanted) in [
+        (1, "", "refused 21 step 1"),
+        (1, "[\"begin\"],", "refused 21 step 0"),
+        (2, "", "began 1\nasked\nsize 2 count 0\n"),
+        (2, "[\"begin\"],", "refused 21 step 0"),
+        (3, "", "refused 22"),
+        (3, "[\"begin\"],", "refused 21 step 0"),
+        (9, "", "refused 22"),
+    ] {
+        let text = format!(in rt.alloc();
+            "{{\"version\":{version},\"callers\":1,\"stripes\":8,\"buckets\":8,\"steps\":[{more}{put_if}]}}"
+        )?;
+        let mut output: Vec<u8> = Vec::new(rt.alloc());
+        if let Err(fault) = replay(rt.alloc(), &mut text.as_bytes(), &mut output) {
+            assert!(rt; output.is_empty(), "{version}");
+            output = fault.to_string(rt.alloc())?.into_bytes();
+        }
+        let printed = String::from_utf8(output).ok().ok_or("no text")?;
+        assert_eq!(rt; printed.as_str(), wanted, "{version}");
+    }
+    Ok(())
+}
+
 #[test]
 fn reads_no_more_than_shows_too_much(rt: HostRuntime) {
     let mut input = Endless { given: 0 };
@@ -196,8 +224,8 @@ fn failing_writes(rt: HostRuntime) {
     }
 }
 
-/// Is to be run with each allocation refused in turn: nothing is written, or the step that was refused
-/// memory has changed nothing.
+/// Is to be run with each allocation refused in turn: nothing is written, or the step that was
+/// refused memory has changed nothing.
 #[test]
 fn refused_allocations(rt: HostRuntime) {
     let mut input = FIRST_COMMIT.as_bytes();

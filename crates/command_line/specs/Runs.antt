@@ -25,10 +25,13 @@ file_of (Check file) = file.now
 abbrev pub Does : Call → Option (List ℕ) → Option (List ℕ) → Option (List ℕ) → Outcome → Type 0
 Does (Replay file) bytes old new (Ok well) = Writes IsReportOf bytes old new × (well ≡ true)
 Does (Replay file) bytes old new (Err fault) = Leaves IsReportOf IsNoStepFile bytes old new fault
-Does (Mix seed file) bytes old new (Ok well) = Writes (IsMixtureOf seed) bytes old new × (well ≡ true)
-Does (Mix seed file) bytes old new (Err fault) = Leaves (IsMixtureOf seed) IsNoScriptFile bytes old new fault
+Does (Mix seed file) bytes old new (Ok well) =
+    Writes (IsMixtureOf seed) bytes old new × (well ≡ true)
+Does (Mix seed file) bytes old new (Err fault) =
+    Leaves (IsMixtureOf seed) IsNoScriptFile bytes old new fault
 Does (Check file) bytes old new (Ok well) = Writes (IsJudgement well) bytes old new
-Does (Check file) bytes old new (Err fault) = Leaves IsJudgementOf IsNoHistoryFile bytes old new fault
+Does (Check file) bytes old new (Err fault) =
+    Leaves IsJudgementOf IsNoHistoryFile bytes old new fault
 
 -- No command ran: the words are no call, the file was not opened, or memory was refused.
 abbrev pub RunsNone : Option (List ℕ) → Option (List ℕ) → Outcome → Type 0
@@ -52,7 +55,8 @@ status_after (Ok true) = 0
 status_after (Ok false) = 1
 status_after (Err fault) = status_of fault
 
--- What standard error gets: the line of a fault, unless it did not take all of it, and else nothing.
+-- What standard error gets: the line of a fault, unless it did not take all of it, and else
+-- nothing.
 abbrev pub Tells : Option (List ℕ) → Option (List ℕ) → Bool → Outcome → Type 0
 Tells old new is_told (Ok well) = Keeps old new × (is_told ≡ true)
 Tells old new is_told (Err fault) = is_told ≡ true → Appends old new (line (message_of fault))

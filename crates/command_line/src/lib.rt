@@ -1,15 +1,17 @@
-//! The command line of `boostmap`: from the words of a call to the status that the program ends with.
+//! The command line of `boostmap`: from the words of a call to the status that the program ends
+//! with.
 //!
-//! `boostmap replay FILE` runs the steps of a file on a transactional map and prints what came of it;
-//! `boostmap mix --seed N FILE` runs the scripts of a file, its workers' turns mixed as the seed says,
-//! and prints the history; `boostmap check FILE` says whether the recorded history of a file is legal.
+//! `boostmap replay FILE` runs the steps of a file on a transactional map and prints what came of
+//! it; `boostmap mix --seed N FILE` runs the scripts of a file, its workers' turns mixed as the
+//! seed says, and prints the history; `boostmap check FILE` says whether the recorded history of a
+//! file is legal.
 //!
 //! `run` does all that the program does, over any system that gives words and opens files, and over
 //! any two writers, so that tests and contracts reach all of it. What it promises
 //! (`specs/Runs.antt`): the engine of the call's own command ran on the call's own file; standard
-//! output holds what that engine wrote and nothing else; standard error holds the line of the fault,
-//! where there is one, and nothing else; and the status is that of what came of it. That the words ask
-//! for the call that a user means by them is shown by tests alone.
+//! output holds what that engine wrote and nothing else; standard error holds the line of the
+//! fault, where there is one, and nothing else; and the status is that of what came of it. That the
+//! words ask for the call that a user means by them is shown by tests alone.
 #![tactic(auto)]
 
 mod program;

@@ -38,7 +38,8 @@ fn run_engine<R: Read, W: Write>(
     input: &mut R,
     output: &mut W,
 ) -> Result<bool, Fault>
-    ensures { Does call.entry (R.remaining input.old) (W.contents output.old) (W.contents output.new) result }
+    ensures { Does call.entry (R.remaining input.old) (W.contents output.old)
+        (W.contents output.new) result }
 {
     match call {
         Call::Replay { .. } => {

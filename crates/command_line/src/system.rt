@@ -27,7 +27,8 @@ pub trait System {
     ///
     /// `OutOfMemory` where memory is refused; another kind where the file cannot be opened.
     fn open(&self, name: &str) -> io::Result<Self::Input>
-        ensures { IfOk result (λ input. IfSome (bytes self.now name.now) (λ known. Self.Input.remaining input ≡ Some known)) };
+        ensures { IfOk result (λ input. IfSome (bytes self.now name.now)
+            (λ known. Self.Input.remaining input ≡ Some known)) };
 }
 
 /// The system that a process runs on.

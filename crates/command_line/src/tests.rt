@@ -30,7 +30,8 @@ const SCRIPT: &[u8] =
 const HISTORY: &str =
     "{\"entries\":[[\"began\",0,1],[\"asked\",0,\"put\",1,10],[\"did\",0,null],[\"committed\",0,1]],\"stripes\":8,\"version\":1}\n";
 
-/// Two workers with a script each, of twelve gets: the order of the workers' turns shows in the history.
+/// Two workers with a script each, of twelve gets: the order of the workers' turns shows in the
+/// history.
 const TWO_WORKERS: &[u8] =
     b"{\"version\":1,\"workers\":2,\"stripes\":8,\"buckets\":8,\"tries\":0,\"scripts\":[[[\"get\",1],[\"get\",1],[\"get\",1],[\"get\",1],[\"get\",1],[\"get\",1],[\"get\",1],[\"get\",1],[\"get\",1],[\"get\",1],[\"get\",1],[\"get\",1]],[[\"get\",2],[\"get\",2],[\"get\",2],[\"get\",2],[\"get\",2],[\"get\",2],[\"get\",2],[\"get\",2],[\"get\",2],[\"get\",2],[\"get\",2],[\"get\",2]]]}";
 

@@ -72,8 +72,8 @@ fn seed_in(word: &str) -> Option<u64> {
     }
 }
 
-/// What the words ask for, of which the first is the program's name. Costs time in proportion to the
-/// words.
+/// What the words ask for, of which the first is the program's name. Costs time in proportion to
+/// the words.
 ///
 /// # Errors
 ///

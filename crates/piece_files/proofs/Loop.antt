@@ -1,5 +1,5 @@
 -- Reading the pieces of a file one after the other.
-use Rattle.std.proofs.Common.{◌≡◌, ℕ, suc, ◌+◌, ◌<◌, ◌≤◌, List, [], ◌∷◌, ◌++◌, length, take, Bool, true, false, Option, Some, None, option_and_then, Result, Ok, Err, refl, sym, ap, ◌∙◌, arith}
+use Rattle.std.proofs.Common.{◌≡◌, ℕ, suc, ◌+◌, ◌<◌, ◌≤◌, List, [], ◌∷◌, ◌++◌, length, take, Bool, true, false, not, cond, Option, Some, None, option_and_then, Result, Ok, Err, refl, sym, ap, ◌∙◌, arith}
 use Rattle.std.proofs.lemmas.List.{length-append, take_all, take-append-le}
 use Rattle.serde_json.specs.Data.{Data}
 use Rattle.piece_files.specs.declared.part.Part.{Part}
@@ -7,8 +7,10 @@ use Rattle.piece_files.specs.declared.file_fault.FileFault.{FileFault}
 use Rattle.piece_files.specs.declared.file_fault.FileFault.TheVariants.{Piece}
 use Rattle.piece_files.specs.Elements.{elements_of}
 use Rattle.piece_files.specs.Faults.{◌>>=◌, or_fault}
-use Rattle.piece_files.specs.Pieces.{piece_at, pieces_from}
-use Rattle.piece_files.specs.Tokens.{outcome}
+use Rattle.std.specs.Option.{option_or}
+use Rattle.std.specs.Bool.{then_some}
+use Rattle.piece_files.specs.Pieces.{piece_at, pieces_from, old_of}
+use Rattle.piece_files.specs.Tokens.{outcome, FindsOld}
 
 -- Pieces, and then one at the end.
 abbrev with_last : {P : Type 0} → Result (List P) FileFault → Result P FileFault → Result (List P) FileFault
@@ -111,3 +113,71 @@ no_piece of part most true pieces count ds d o none is h =
       kept = h.kept;
     }
 no_piece of part most false pieces count ds d o none is h = drop_piece of part most false pieces count ds d refl h
+
+-- ---- what version 1 finds
+
+abbrev pub OldRead : {P : Type 0} → (List Data → Option P) → (P → Bool) → Part → Option ℕ → List Data → Type 0
+OldRead of is_old part first ds = FindsOld part first (pieces_from (old_of is_old of) part 0 ds) (pieces_from of part 0 ds)
+
+pub nothing_old : {P : Type 0} (of : List Data → Option P) (is_old : P → Bool) (part : Part) → OldRead of is_old part None []
+unfolding pieces_from
+nothing_old of is_old part = refl
+
+-- After a wrong piece of version 1 no further one counts.
+old_later : {P : Type 0} (of : List Data → Option P) (is_old : P → Bool) (part : Part) (i : ℕ) (ds : List Data) (d : Data) → OldRead of is_old part (Some i) ds → OldRead of is_old part (Some i) (ds ++ d ∷ [])
+old_later of is_old part i ds d h =
+    let last = piece_at (old_of is_old of) part (length ds) d in
+    pieces-last (old_of is_old of) part 0 (length ds) ds d (omega arith) ∙ ap (λ read. with_last read last) h
+
+-- An element that is the same piece in both, or none in both.
+old_same : {P : Type 0} (of : List Data → Option P) (is_old : P → Bool) (part : Part) (first : Option ℕ) (ds : List Data) (d : Data)
+    → option_and_then (old_of is_old of) (elements_of d) ≡ option_and_then of (elements_of d) → OldRead of is_old part first ds → OldRead of is_old part first (ds ++ d ∷ [])
+old_same of is_old part (Some i) ds d same h = old_later of is_old part i ds d h
+old_same of is_old part None ds d same h =
+    let last = piece_at of part (length ds) d in
+    let one : piece_at (old_of is_old of) part (length ds) d ≡ last = ap (or_fault (Piece part (length ds))) same in
+    pieces-last (old_of is_old of) part 0 (length ds) ds d (omega arith) ∙ ap (with_last (pieces_from (old_of is_old of) part 0 ds)) one
+    ∙ ap (λ read. with_last read last) h ∙ sym (pieces-last of part 0 (length ds) ds d (omega arith))
+
+none_old : {P : Type 0} (of : List Data → Option P) (is_old : P → Bool) (e : Option (List Data)) → option_and_then of e ≡ None → option_and_then (old_of is_old of) e ≡ None
+none_old of is_old None h = refl
+none_old of is_old (Some ds) h = ap (option_and_then (λ p. cond (is_old p) (Some p) None)) h
+
+piece_old : {P : Type 0} (of : List Data → Option P) (is_old : P → Bool) (e : Option (List Data)) (p : P) → option_and_then of e ≡ Some p → option_and_then (old_of is_old of) e ≡ cond (is_old p) (Some p) None
+piece_old of is_old None p h = absurd (cc h)
+piece_old of is_old (Some ds) p h = ap (option_and_then (λ p. cond (is_old p) (Some p) None)) h
+
+pub no_piece_old : {P : Type 0} (of : List Data → Option P) (is_old : P → Bool) (part : Part) (first : Option ℕ) (ds : List Data) (d : Data) (o : Option P)
+    → o ≡ None → o ≡ option_and_then of (elements_of d) → OldRead of is_old part first ds → OldRead of is_old part first (ds ++ d ∷ [])
+no_piece_old of is_old part first ds d o none is h =
+    let nothing = sym is ∙ none in
+    old_same of is_old part first ds d (none_old of is_old (elements_of d) nothing ∙ sym nothing) h
+
+-- Once an element was wrong, no further one counts.
+pub drop_piece_old : {P : Type 0} (of : List Data → Option P) (is_old : P → Bool) (part : Part) (most : ℕ) (b : Bool) (pieces : List P) (count : ℕ) (first : Option ℕ) (ds : List Data) (d : Data)
+    → b ≡ false → IsRead of part most b pieces count ds → OldRead of is_old part first ds → OldRead of is_old part first (ds ++ d ∷ [])
+drop_piece_old of is_old part most true pieces count first ds d so read h = true≢false (sym so)
+drop_piece_old of is_old part most false pieces count (Some i) ds d so read h = old_later of is_old part i ds d h
+drop_piece_old of is_old part most false pieces count None ds d so read h =
+    pieces-last (old_of is_old of) part 0 (length ds) ds d (omega arith) ∙ ap (λ r. with_last r (piece_at (old_of is_old of) part (length ds) d)) (h ∙ read.found)
+    ∙ sym (pieces-last of part 0 (length ds) ds d (omega arith) ∙ ap (λ r. with_last r (piece_at of part (length ds) d)) read.found)
+
+first_new : {P : Type 0} (of : List Data → Option P) (is_old : P → Bool) (part : Part) (most : ℕ) (pieces : List P) (count : ℕ) (ds : List Data) (d : Data)
+    → option_and_then (old_of is_old of) (elements_of d) ≡ None → IsRead of part most true pieces count ds → OldRead of is_old part None ds → OldRead of is_old part (Some count) (ds ++ d ∷ [])
+first_new of is_old part most pieces count ds d none read h =
+    let here : length ds ≡ count = omega (arith, read.each refl, read.counted) in
+    pieces-last (old_of is_old of) part 0 (length ds) ds d (omega arith) ∙ ap (λ r. with_last r (piece_at (old_of is_old of) part (length ds) d)) (h ∙ read.found)
+    ∙ ap (λ o. with_last (Ok read.all) (or_fault (Piece part (length ds)) o)) none ∙ ap (λ i. Err (Piece part i)) here
+
+pub piece_read_old : {P : Type 0} (of : List Data → Option P) (is_old : P → Bool) (part : Part) (most : ℕ) (b : Bool) (pieces : List P) (count : ℕ) (first : Option ℕ) (ds : List Data) (d : Data) (p : P) (o : Option P)
+    → b ≡ true → o ≡ Some p → o ≡ option_and_then of (elements_of d) → IsRead of part most b pieces count ds → OldRead of is_old part first ds
+    → OldRead of is_old part (option_or first (then_some (not (is_old p)) count)) (ds ++ d ∷ [])
+piece_read_old of is_old part most false pieces count first ds d p o so some is read h = true≢false so
+piece_read_old of is_old part most true pieces count (Some i) ds d p o so some is read h = old_later of is_old part i ds d h
+piece_read_old of is_old part most true pieces count None ds d p o so some is read h =
+    let there : option_and_then of (elements_of d) ≡ Some p = sym is ∙ some in
+    let in_old = piece_old of is_old (elements_of d) p there in
+    (elim (is_old p) as (λ old. option_and_then (old_of is_old of) (elements_of d) ≡ cond old (Some p) None → OldRead of is_old part (then_some (not old) count) (ds ++ d ∷ [])) [
+      | true ↦ λ same. old_same of is_old part None ds d (same ∙ sym there) h
+      | false ↦ λ none. first_new of is_old part most pieces count ds d none read h
+    ]) in_old

@@ -3,7 +3,7 @@ use Rattle.std.proofs.Common.{◌≡◌, ℕ, zero, suc, List, [], ◌∷◌, le
 use Rattle.std.specs.Prelude.{⊤}
 use Rattle.serde_json.specs.Data.{unsigned, negative, float, Data, null, boolean, number, string, array, object}
 use Rattle.serde_json.specs.Find.{as_str}
-use Rattle.piece_files.specs.Elements.{◌>>=◌, number_of, number_at, word_at, one_of, two_of, end_of, optional, optional_of}
+use Rattle.piece_files.specs.Elements.{◌>>=◌, number_of, number_at, word_at, one_of, two_of, end_of, optional, optional_at, optional_of}
 use Rattle.piece_files.specs.Tokens.{is_plain, are_plain}
 
 -- ---- what is behind an answer
@@ -103,14 +103,14 @@ pub end_plain : (k : ℕ) (ds : List Data) (x : ⊤) → end_of ds ≡ Some x �
 unfolding end_of
 end_plain k ds x e = none_left k ds (tested _ _ e)
 
-chosen_last : (k : ℕ) (d : Data) (ds : List Data) (r : Option ℕ) (b : Bool) → (length ds == 0) ≡ b → (if b then optional d else None) ≡ Some r → is_plain d && are_plain k ds ≡ true
-chosen_last k d ds r true none e = rw (optional_plain d r e) (none_left k ds none)
-chosen_last k d ds r false none e = never e
+pub optional_first : (k : ℕ) (ds : List Data) (p : Option ℕ × List Data) → optional_at ds ≡ Some p → are_plain k p.1 ≡ true → are_plain (suc k) ds ≡ true
+unfolding optional_at are_plain
+optional_first k [] p e h = never e
+optional_first k (d ∷ ds) p e h = let parts = paired (optional d) ds p e in rw (optional_plain d p.0 parts.0, parts.1) h
 
 pub optional_all_plain : (k : ℕ) (ds : List Data) (r : Option ℕ) → optional_of ds ≡ Some r → are_plain (suc k) ds ≡ true
-unfolding optional_of are_plain
-optional_all_plain k [] r e = refl
-optional_all_plain k (d ∷ ds) r e = chosen_last k d ds r (length ds == 0) refl e
+unfolding optional_of
+optional_all_plain k ds r e = let a = bound (optional_at ds) _ r e in optional_first k ds a.0 a.1 (none_left k a.0.1 (tested _ _ a.2))
 
 -- ---- and so what has other elements is none
 

@@ -138,8 +138,8 @@ apart_of kind e =
     record { first = not_true (bytes_eq version kind.pieces) b.0; from_version = b.1; from_pieces = c.0; numbers = c.1 }
 
 module _ {P : Type 0} (kind : FileKind P) (apart : Apart kind) (n : Option ℕ) (numbers : List (Option ℕ)) (pieces : Option (Pieces P)) (key : List ℕ) (d : Data) (ms : Members) where
-  same_pieces : bytes_eq key kind.pieces ≡ false → AreFound kind n numbers pieces ms → ArePiecesIn kind.of kind.part kind.most pieces (get_member kind.pieces (put key d ms))
-  same_pieces e h = subst (ArePiecesIn kind.of kind.part kind.most pieces) (sym (last_other key kind.pieces d ms e)) h.the_pieces
+  same_pieces : bytes_eq key kind.pieces ≡ false → AreFound kind n numbers pieces ms → ArePiecesIn kind.of kind.is_old kind.part kind.most pieces (get_member kind.pieces (put key d ms))
+  same_pieces e h = subst (ArePiecesIn kind.of kind.is_old kind.part kind.most pieces) (sym (last_other key kind.pieces d ms e)) h.the_pieces
 
   pub take_version : bytes_eq key version ≡ true → (new : Option ℕ) → new ≡ number_of d → AreFound kind n numbers pieces ms → AreFound kind new numbers pieces (put key d ms)
   take_version e new is h = let same = same_from key version e in record {
@@ -148,11 +148,11 @@ module _ {P : Type 0} (kind : FileKind P) (apart : Apart kind) (n : Option ℕ) 
     the_pieces = same_pieces (is_apart key version kind.pieces same apart.first) h;
   }
 
-  pub take_pieces : bytes_eq key kind.pieces ≡ true → (new : Option (Pieces P)) → ArePiecesOf kind.of kind.part kind.most new d → AreFound kind n numbers pieces ms → AreFound kind n numbers new (put key d ms)
+  pub take_pieces : bytes_eq key kind.pieces ≡ true → (new : Option (Pieces P)) → ArePiecesOf kind.of kind.is_old kind.part kind.most new d → AreFound kind n numbers pieces ms → AreFound kind n numbers new (put key d ms)
   take_pieces e new are h = let same = same_from key kind.pieces e in record {
     the_version = h.the_version ∙ sym (number_other key version d ms (is_apart key kind.pieces version same (apart_back version kind.pieces apart.first)));
     the_numbers = h.the_numbers ∙ sym (numbers_other key d ms kind.numbers (ap (λ k. is_none k kind.numbers) same ∙ apart.from_pieces));
-    the_pieces = subst (ArePiecesIn kind.of kind.part kind.most new) (sym (last_here key kind.pieces d ms same)) are;
+    the_pieces = subst (ArePiecesIn kind.of kind.is_old kind.part kind.most new) (sym (last_here key kind.pieces d ms same)) are;
   }
 
   pub take_number : bytes_eq key version ≡ false → bytes_eq key kind.pieces ≡ false → (i : ℕ) → position (λ name. bytes_eq name key) kind.numbers ≡ Some i → (new : Option ℕ) → new ≡ number_of d

@@ -13,10 +13,10 @@ use Rattle.piece_files.specs.declared.file_fault.FileFault.{FileFault}
 use Rattle.piece_files.specs.declared.file_fault.FileFault.TheVariants.{NotJson, Member, Piece, Limit, NoMemory}
 use Rattle.piece_files.specs.Elements.{number_of, elements_of}
 use Rattle.piece_files.specs.Faults.{◌>>=◌, or_fault, Fails, Gives}
-use Rattle.piece_files.specs.Files.{FileKind, version, all_of, contents_from, contents_of}
+use Rattle.piece_files.specs.Files.{FileKind, version, all_of, contents_from, contents_of, is_version}
 use Rattle.piece_files.specs.Json.{number_named}
 use Rattle.piece_files.specs.Members.{AreFound, ArePiecesIn, FindsIn, last_number, members_within}
-use Rattle.piece_files.specs.Pieces.{pieces_from, pieces_member}
+use Rattle.piece_files.specs.Pieces.{pieces_from, pieces_member, old_of, in_version}
 
 -- ---- all of some numbers
 
@@ -54,37 +54,37 @@ missing : {A : Type 0} (o : Option A) (fault : FileFault) → Err fault ≡ ok_o
 missing None fault e = (refl, cc)
 missing (Some x) fault e = absurd (grind (arith, e))
 
-module _ {P : Type 0} (most : ℕ) (version : Option ℕ) (numbers : Option (List ℕ)) (wanted : Result (List P) FileFault) where
-  pub version_fault : (fault : FileFault) → Err fault ≡ ok_or version Member → Fails fault (contents_from most version numbers wanted)
+module _ {P : Type 0} (most : ℕ) (version : Option ℕ) (numbers : Option (List ℕ)) (old new : Result (List P) FileFault) where
+  pub version_fault : (fault : FileFault) → Err fault ≡ ok_or version Member → Fails fault (contents_from most version numbers old new)
   unfolding contents_from
   version_fault fault e = let h = missing version fault e in rw (h.1, h.0) refl
 
   module _ (v : ℕ) (is : version ≡ Some v) where
-    pub numbers_fault : (fault : FileFault) → Err fault ≡ ok_or numbers Member → Fails fault (contents_from most version numbers wanted)
+    pub numbers_fault : (fault : FileFault) → Err fault ≡ ok_or numbers Member → Fails fault (contents_from most version numbers old new)
     unfolding contents_from
     numbers_fault fault e = let h = missing numbers fault e in rw (h.1, is, h.0) refl
 
     module _ (ns : List ℕ) (are : numbers ≡ Some ns) where
-      pub pieces_fault : (fault : FileFault) → Fails fault wanted → Fails fault (contents_from most version numbers wanted)
+      pub pieces_fault : (fault : FileFault) → Fails fault (in_version v old new) → Fails fault (contents_from most version numbers old new)
       unfolding contents_from
-      pieces_fault fault h = rw (is, are) (fails_first fault wanted _ h)
+      pieces_fault fault h = rw (is, are) (fails_first fault (in_version v old new) _ h)
 
-      all_there : (all : List P) → wanted ≡ Ok all → contents_from most version numbers wanted ≡ cond ((v == 1) && nat_le (length all) most) (Ok (ns, all)) (Err Limit)
+      all_there : (all : List P) → in_version v old new ≡ Ok all → contents_from most version numbers old new ≡ cond (is_version v && nat_le (length all) most) (Ok (v, ns, all)) (Err Limit)
       unfolding contents_from
       all_there all same = rw (is, are, same) refl
 
-      pub in_range : (all kept : List P) (count : ℕ) → wanted ≡ Ok all → count ≡ length all → kept ≡ take most all → v ≡ 1 → count ≤ most → contents_from most version numbers wanted ≡ Ok (ns, kept)
-      in_range all kept count same counted keeps first few =
+      pub in_range : (all kept : List P) (count : ℕ) → in_version v old new ≡ Ok all → count ≡ length all → kept ≡ take most all → is_version v ≡ true → count ≤ most → contents_from most version numbers old new ≡ Ok (v, ns, kept)
+      in_range all kept count same counted keeps is_read few =
           let short : length all ≤ most = omega arith in
-          all_there all same ∙ rw (first, le-leb (length all) most short, keeps, take_all most all short) refl
+          all_there all same ∙ rw (is_read, le-leb (length all) most short, keeps, take_all most all short) refl
 
-      pub other_version : (all : List P) → wanted ≡ Ok all → (v ≡ 1 → ⊥) → contents_from most version numbers wanted ≡ Err Limit
-      other_version all same other = let no : (v == 1) ≡ false = grind (arith, nat_tests, other) in all_there all same ∙ rw no refl
+      pub other_version : (all : List P) → in_version v old new ≡ Ok all → is_version v ≡ false → contents_from most version numbers old new ≡ Err Limit
+      other_version all same other = all_there all same ∙ rw other refl
 
-      pub too_many : (all : List P) (count : ℕ) → wanted ≡ Ok all → count ≡ length all → v ≡ 1 → most < count → contents_from most version numbers wanted ≡ Err Limit
-      too_many all count same counted first more =
+      pub too_many : (all : List P) (count : ℕ) → in_version v old new ≡ Ok all → count ≡ length all → is_version v ≡ true → most < count → contents_from most version numbers old new ≡ Err Limit
+      too_many all count same counted is_read more =
           let long : nat_le (length all) most ≡ false = grind (arith, nat_tests, counted, more) in
-          all_there all same ∙ rw (first, long) refl
+          all_there all same ∙ rw (is_read, long) refl
 
 -- ---- a file by the members of its value
 
@@ -103,19 +103,19 @@ numbers-within : (d : Data) (names : List (List ℕ)) → map (λ name. number_n
 numbers-within d [] = refl
 numbers-within d (name ∷ names) = rw (number-within d name, numbers-within d names) refl
 
-pieces-within : {P : Type 0} (of : List Data → Option P) (part : Part) (most : ℕ) (found : Option (Pieces P)) (o : Option Data) → ArePiecesIn of part most found o
-    → FindsIn part most found (or_fault Member (option_and_then elements_of o) >>= pieces_from of part 0)
-pieces-within of part most found None h = rw h refl
-pieces-within of part most None (Some d) h = rw h refl
-pieces-within of part most (Some p) (Some d) h = rw h.1 h.2
+pieces-within : {P : Type 0} (of : List Data → Option P) (is_old : P → Bool) (part : Part) (most : ℕ) (found : Option (Pieces P)) (o : Option Data) → ArePiecesIn of is_old part most found o
+    → FindsIn part most found (or_fault Member (option_and_then elements_of o) >>= pieces_from (old_of is_old of) part 0) (or_fault Member (option_and_then elements_of o) >>= pieces_from of part 0)
+pieces-within of is_old part most found None h = rw h (refl, refl)
+pieces-within of is_old part most None (Some d) h = rw h (refl, refl)
+pieces-within of is_old part most (Some p) (Some d) h = rw h.1 h.2
 
 pub finds_pieces : {P : Type 0} (kind : FileKind P) (n : Option ℕ) (numbers : List (Option ℕ)) (pieces : Option (Pieces P)) (d : Data) → AreFound kind n numbers pieces (members_within d)
-    → FindsIn kind.part kind.most pieces (pieces_member kind.of kind.part kind.pieces d)
+    → FindsIn kind.part kind.most pieces (pieces_member (old_of kind.is_old kind.of) kind.part kind.pieces d) (pieces_member kind.of kind.part kind.pieces d)
 finds_pieces kind n numbers pieces d h =
-    rw (get-within kind.pieces d) (pieces-within kind.of kind.part kind.most pieces (get_member kind.pieces (members_within d)) h.the_pieces)
+    rw (get-within kind.pieces d) (pieces-within kind.of kind.is_old kind.part kind.most pieces (get_member kind.pieces (members_within d)) h.the_pieces)
 
 pub contents_are : {P : Type 0} (kind : FileKind P) (n : Option ℕ) (numbers : List (Option ℕ)) (pieces : Option (Pieces P)) (d : Data) → AreFound kind n numbers pieces (members_within d)
-    → contents_of kind d ≡ contents_from kind.most n (all_of numbers) (pieces_member kind.of kind.part kind.pieces d)
+    → contents_of kind d ≡ contents_from kind.most n (all_of numbers) (pieces_member (old_of kind.is_old kind.of) kind.part kind.pieces d) (pieces_member kind.of kind.part kind.pieces d)
 unfolding contents_of
 contents_are kind n numbers pieces d h =
     rw (number-within d version, numbers-within d kind.numbers, ← h.the_version, ← h.the_numbers) refl

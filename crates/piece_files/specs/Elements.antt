@@ -9,7 +9,8 @@ abbrev pub ◌>>=◌ : {A B : Type 0} → Option A → (A → Option B) → Opti
 (Some x) >>= f = f x
 None >>= f = None
 
--- A whole number below 2^64 with no sign, fraction or exponent: 2.0, 1e2, -0 and 2^64 are read as floats.
+-- A whole number below 2^64 with no sign, fraction or exponent: 2.0, 1e2, -0 and 2^64 are read as
+-- floats.
 abbrev pub number_of : Data → Option ℕ
 number_of d = option_and_then as_u64 (as_number d)
 
@@ -46,10 +47,16 @@ end_of ds = if length ds == 0 then Some tt else None
 abbrev pub optional : Data → Option (Option ℕ)
 optional d = if is_some (as_null d) then Some None else option_map (λ n. Some n) (number_of d)
 
+-- The first element, null or a number, and the elements after it.
+unfoldable pub optional_at : List Data → Option (Option ℕ × List Data)
+optional_at [] = None
+optional_at (d ∷ ds) = option_map (λ r. (r, ds)) (optional d)
+
 -- Null or one number, and nothing else.
 unfoldable pub optional_of : List Data → Option (Option ℕ)
-optional_of [] = None
-optional_of (d ∷ ds) = if length ds == 0 then optional d else None
+optional_of ds = do
+  r ← optional_at ds
+  if length r.1 == 0 then Some r.0 else None
 
 -- Two numbers and nothing else.
 unfoldable pub two_of : List Data → Option (ℕ × ℕ)

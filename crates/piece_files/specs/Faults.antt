@@ -16,7 +16,8 @@ words_of NoMemory = codes "14"
 
 -- Go on with what was read, or stay with the first fault.
 infixl 10 ◌>>=◌
-abbrev pub ◌>>=◌ : {A B : Type 0} → Result A FileFault → (A → Result B FileFault) → Result B FileFault
+abbrev pub ◌>>=◌ : {A B : Type 0}
+    → Result A FileFault → (A → Result B FileFault) → Result B FileFault
 (Ok x) >>= f = f x
 (Err e) >>= f = Err e
 

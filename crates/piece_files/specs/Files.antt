@@ -1,5 +1,5 @@
 -- A file: an object in JSON with its version, some numbers and an array of pieces.
-use Rattle.std.specs.Prelude.{ℕ, List, [], ◌∷◌, length, ◌==◌, Bool, true, ◌&&◌, not, nat_le, map, Option, Some, option_map, option_and_then, Result, Ok, Err, if◌then◌else◌, codes}
+use Rattle.std.specs.Prelude.{ℕ, List, [], ◌∷◌, length, Bool, true, ◌&&◌, not, nat_le, map, Option, Some, option_map, option_and_then, Result, Ok, Err, if◌then◌else◌, codes}
 use Rattle.std.specs.List.{list_all}
 use Rattle.std.specs.Str.{bytes_eq}
 use Rattle.serde_json.specs.Data.{Data}
@@ -8,14 +8,15 @@ use Rattle.piece_files.specs.declared.file_fault.FileFault.{FileFault}
 use Rattle.piece_files.specs.declared.file_fault.FileFault.TheVariants.{Member, Limit}
 use Rattle.piece_files.specs.Faults.{◌>>=◌, or_fault}
 use Rattle.piece_files.specs.Json.{json_of, number_named}
-use Rattle.piece_files.specs.Pieces.{pieces_member}
+use Rattle.piece_files.specs.Pieces.{pieces_member, old_of, in_version}
 
 -- A kind of file: the names of its numbers in the written order, the name of its pieces, what a
--- piece is, what a fault calls one, and how many there may be.
+-- piece is, whether version 1 has it too, what a fault calls one, and how many there may be.
 pub record FileKind (P : Type 0) : Type 0 where
   pub numbers : List (List ℕ)
   pub pieces : List ℕ
   pub of : List Data → Option P
+  pub is_old : P → Bool
   pub part : Part
   pub most : ℕ
 
@@ -37,20 +38,36 @@ abbrev pub all_of : List (Option ℕ) → Option (List ℕ)
 all_of [] = Some []
 all_of (number ∷ numbers) = option_and_then (λ n. option_map (λ ns. n ∷ ns) (all_of numbers)) number
 
--- The numbers and the pieces by the members, tested in this order, and then the version and how
--- many pieces there are.
-unfoldable pub contents_from : {P : Type 0} → ℕ → Option ℕ → Option (List ℕ) → Result (List P) FileFault → Result (List ℕ × List P) FileFault
-contents_from most version numbers pieces = do
+-- The last version that is read.
+abbrev pub max_version : ℕ
+max_version = 2
+
+-- Whether a version is read.
+abbrev pub is_version : ℕ → Bool
+is_version v = nat_le 1 v && nat_le v max_version
+
+-- The version, the numbers and the pieces by the members, tested in this order, the pieces as
+-- version 1 has them and as all others have; and then whether the version is read, and how many
+-- pieces there are.
+unfoldable pub contents_from : {P : Type 0} → ℕ → Option ℕ → Option (List ℕ)
+    → Result (List P) FileFault → Result (List P) FileFault
+    → Result (ℕ × List ℕ × List P) FileFault
+contents_from most version numbers old new = do
   v ← or_fault Member version
   ns ← or_fault Member numbers
-  ps ← pieces
-  if (v == 1) && nat_le (length ps) most then Ok (ns, ps) else Err Limit
+  ps ← in_version v old new
+  if is_version v && nat_le (length ps) most then Ok (v, ns, ps) else Err Limit
 
--- The numbers and the pieces that a value has as a file of this kind.
-unfoldable pub contents_of : {P : Type 0} → FileKind P → Data → Result (List ℕ × List P) FileFault
+-- The version, the numbers and the pieces that a value has as a file of this kind.
+unfoldable pub contents_of : {P : Type 0}
+    → FileKind P → Data → Result (ℕ × List ℕ × List P) FileFault
 contents_of kind d =
-    contents_from kind.most (number_named version d) (all_of (map (λ name. number_named name d) kind.numbers)) (pieces_member kind.of kind.part kind.pieces d)
+    contents_from kind.most (number_named version d)
+    (all_of (map (λ name. number_named name d) kind.numbers))
+    (pieces_member (old_of kind.is_old kind.of) kind.part kind.pieces d)
+    (pieces_member kind.of kind.part kind.pieces d)
 
--- The numbers and the pieces that bytes have as a file of this kind, or the first fault.
-abbrev pub contents : {P : Type 0} → FileKind P → List ℕ → Result (List ℕ × List P) FileFault
+-- The version, the numbers and the pieces that bytes have as a file of this kind, or the first
+-- fault.
+abbrev pub contents : {P : Type 0} → FileKind P → List ℕ → Result (ℕ × List ℕ × List P) FileFault
 contents kind bytes = json_of bytes >>= contents_of kind

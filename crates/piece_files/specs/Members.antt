@@ -1,5 +1,5 @@
 -- What is found of the members of an object.
-use Rattle.std.specs.Prelude.{◌≡◌, ℕ, List, map, Option, Some, None, option_and_then, Result, Err}
+use Rattle.std.specs.Prelude.{◌≡◌, ℕ, Bool, List, map, Option, Some, None, option_and_then, Result, Err}
 use Rattle.serde_json.specs.Data.{Data, null, boolean, number, string, array, object, Members, no_members}
 use Rattle.serde_json.specs.Find.{get_member}
 use Rattle.piece_files.specs.declared.part.Part.{Part}
@@ -9,8 +9,8 @@ use Rattle.piece_files.specs.declared.file_fault.FileFault.TheVariants.{Member}
 use Rattle.piece_files.specs.declared.members.Names.{Names}
 use Rattle.piece_files.specs.Elements.{number_of, elements_of}
 use Rattle.piece_files.specs.Files.{FileKind, version}
-use Rattle.piece_files.specs.Pieces.{pieces_from}
-use Rattle.piece_files.specs.Tokens.{Finds}
+use Rattle.piece_files.specs.Pieces.{pieces_from, old_of}
+use Rattle.piece_files.specs.Tokens.{FindsBoth}
 
 -- The members of a value, which are none where it is no object.
 abbrev pub members_within : Data → Members
@@ -26,26 +26,42 @@ abbrev pub last_number : Members → List ℕ → Option ℕ
 last_number ms name = option_and_then number_of (get_member name ms)
 
 -- Pieces that are read, of an array.
-abbrev pub ArePiecesOf : {P : Type 0} → (List Data → Option P) → Part → ℕ → Option (Pieces P) → Data → Type 0
-ArePiecesOf of part most None d = elements_of d ≡ None
-ArePiecesOf of part most (Some p) d = (ds : List Data) × (elements_of d ≡ Some ds) × Finds part most p.pieces.items p.count p.are_all (pieces_from of part 0 ds)
+abbrev pub ArePiecesOf : {P : Type 0} → (List Data → Option P) → (P → Bool) → Part → ℕ
+    → Option (Pieces P) → Data → Type 0
+ArePiecesOf of is_old part most None d = elements_of d ≡ None
+ArePiecesOf of is_old part most (Some p) d =
+    (ds : List Data) × (elements_of d ≡ Some ds)
+    × FindsBoth part most p (pieces_from (old_of is_old of) part 0 ds) (pieces_from of part 0 ds)
 
 -- Pieces that are read of a member, where it is there.
-abbrev pub ArePiecesIn : {P : Type 0} → (List Data → Option P) → Part → ℕ → Option (Pieces P) → Option Data → Type 0
-ArePiecesIn of part most found None = found ≡ None
-ArePiecesIn of part most found (Some d) = ArePiecesOf of part most found d
+abbrev pub ArePiecesIn : {P : Type 0} → (List Data → Option P) → (P → Bool) → Part → ℕ
+    → Option (Pieces P) → Option Data → Type 0
+ArePiecesIn of is_old part most found None = found ≡ None
+ArePiecesIn of is_old part most found (Some d) = ArePiecesOf of is_old part most found d
 
 -- The kind of file that has members of these names.
-abbrev pub kind_named : {P : Type 0} → Names → (List Data → Option P) → Part → ℕ → FileKind P
-kind_named names of part most = record { numbers = map (λ name. name.now) names.numbers.now; pieces = names.pieces.now; of = of; part = part; most = most }
+abbrev pub kind_named : {P : Type 0}
+    → Names → (List Data → Option P) → (P → Bool) → Part → ℕ → FileKind P
+kind_named names of is_old part most = record {
+  numbers = map (λ name. name.now) names.numbers.now;
+  pieces = names.pieces.now;
+  of = of;
+  is_old = is_old;
+  part = part;
+  most = most;
+}
 
 -- What was found is what the last members of the kind's names hold.
-pub record AreFound {P : Type 0} (kind : FileKind P) (n : Option ℕ) (numbers : List (Option ℕ)) (pieces : Option (Pieces P)) (ms : Members) : Type 0 where
+pub record AreFound {P : Type 0} (kind : FileKind P) (n : Option ℕ) (numbers : List (Option ℕ))
+    (pieces : Option (Pieces P)) (ms : Members) : Type 0 where
   pub the_version : n ≡ last_number ms version
   pub the_numbers : numbers ≡ map (last_number ms) kind.numbers
-  pub the_pieces : ArePiecesIn kind.of kind.part kind.most pieces (get_member kind.pieces ms)
+  pub the_pieces :
+      ArePiecesIn kind.of kind.is_old kind.part kind.most pieces (get_member kind.pieces ms)
 
--- What was found of the member of pieces is of these pieces.
-abbrev pub FindsIn : {P : Type 0} → Part → ℕ → Option (Pieces P) → Result (List P) FileFault → Type 0
-FindsIn part most None wanted = wanted ≡ Err Member
-FindsIn part most (Some p) wanted = Finds part most p.pieces.items p.count p.are_all wanted
+-- What was found of the member of pieces is of these pieces, as version 1 wants them and as version
+-- 2 does.
+abbrev pub FindsIn : {P : Type 0} → Part → ℕ → Option (Pieces P)
+    → Result (List P) FileFault → Result (List P) FileFault → Type 0
+FindsIn part most None old new = (old ≡ Err Member) × (new ≡ Err Member)
+FindsIn part most (Some p) old new = FindsBoth part most p old new

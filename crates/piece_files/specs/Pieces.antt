@@ -1,5 +1,5 @@
 -- The pieces of a file, each an array: the steps of a step file, for one.
-use Rattle.std.specs.Prelude.{ℕ, suc, List, [], ◌∷◌, Option, option_and_then, Result, Ok}
+use Rattle.std.specs.Prelude.{ℕ, suc, ◌==◌, Bool, List, [], ◌∷◌, Option, Some, None, option_and_then, Result, Ok, if◌then◌else◌}
 use Rattle.serde_json.specs.Data.{Data}
 use Rattle.piece_files.specs.declared.part.Part.{Part}
 use Rattle.piece_files.specs.declared.file_fault.FileFault.{FileFault}
@@ -13,13 +13,23 @@ abbrev pub piece_at : {P : Type 0} → (List Data → Option P) → Part → ℕ
 piece_at of part i d = or_fault (Piece part i) (option_and_then of (elements_of d))
 
 -- The pieces from an index on.
-unfoldable pub pieces_from : {P : Type 0} → (List Data → Option P) → Part → ℕ → List Data → Result (List P) FileFault
+unfoldable pub pieces_from : {P : Type 0} → (List Data → Option P) → Part → ℕ
+    → List Data → Result (List P) FileFault
 pieces_from of part i [] = Ok []
 pieces_from of part i (d ∷ ds) = do
   first ← piece_at of part i d
   others ← pieces_from of part (suc i) ds
   Ok (first ∷ others)
 
+-- The piece that elements are in version 1, which lacks some of the pieces that version 2 has.
+abbrev pub old_of : {P : Type 0} → (P → Bool) → (List Data → Option P) → List Data → Option P
+old_of is_old of ds = option_and_then (λ p. if is_old p then Some p else None) (of ds)
+
+-- What a file of this version has, of what version 1 has and what all others have.
+abbrev pub in_version : {A : Type 0} → ℕ → A → A → A
+in_version version old new = if version == 1 then old else new
+
 -- The pieces in the member of this name.
-abbrev pub pieces_member : {P : Type 0} → (List Data → Option P) → Part → List ℕ → Data → Result (List P) FileFault
+abbrev pub pieces_member : {P : Type 0} → (List Data → Option P) → Part → List ℕ
+    → Data → Result (List P) FileFault
 pieces_member of part name d = array_member name d >>= pieces_from of part 0

@@ -8,6 +8,7 @@ use Rattle.piece_files.specs.declared.plain.Plain.{Plain}
 use Rattle.piece_files.specs.Plain.{data_of}
 use Rattle.piece_files.specs.Faults.{◌>>=◌}
 use Rattle.piece_files.specs.declared.part.Part.{Part}
+use Rattle.piece_files.specs.declared.piece.Pieces.{Pieces}
 use Rattle.std.specs.Prelude.{Result, Ok, Err}
 use Rattle.piece_files.specs.declared.file_fault.FileFault.{FileFault}
 use Rattle.piece_files.specs.declared.file_fault.FileFault.TheVariants.{Piece}
@@ -22,7 +23,8 @@ items_at depth ts = converted of_items (items (value depth) (length ts) ts)
 
 -- The members of an object, whose brace was taken.
 abbrev pub members_at : ℕ → List Token → Option (Members × List Token)
-members_at depth ts = converted (λ ms. of_members ms no_members) (members (value depth) (length ts) ts)
+members_at depth ts =
+    converted (λ ms. of_members ms no_members) (members (value depth) (length ts) ts)
 
 -- Null, a text, or a whole number below 2^64: what is kept of elements.
 abbrev pub is_whole : Num → Bool
@@ -64,6 +66,21 @@ abbrev pub outcome : {P : Type 0} → Part → Bool → List P → Result (List 
 outcome part true pieces = Ok pieces
 outcome part false pieces = Err (Piece part (length pieces))
 
--- Of the pieces that are wanted, or those before the first that is wrong, the first are kept and all are counted.
+-- Of the pieces that are wanted, or those before the first that is wrong, the first are kept and
+-- all are counted.
 abbrev pub Finds : {P : Type 0} → Part → ℕ → List P → ℕ → Bool → Result (List P) FileFault → Type 0
-Finds {P} part most pieces count are_all wanted = (all : List P) × (wanted ≡ outcome part are_all all) × (count ≡ length all) × (pieces ≡ take most all)
+Finds {P} part most pieces count are_all wanted =
+    (all : List P) × (wanted ≡ outcome part are_all all) × (count ≡ length all)
+    × (pieces ≡ take most all)
+
+-- Version 1 finds the same, or the first piece that only version 2 has is wrong there.
+abbrev pub FindsOld : {P : Type 0} → Part → Option ℕ
+    → Result (List P) FileFault → Result (List P) FileFault → Type 0
+FindsOld part None old new = old ≡ new
+FindsOld part (Some i) old new = old ≡ Err (Piece part i)
+
+-- What is found of the pieces that version 1 wants, and of those that version 2 does.
+abbrev pub FindsBoth : {P : Type 0} → Part → ℕ → Pieces P
+    → Result (List P) FileFault → Result (List P) FileFault → Type 0
+FindsBoth part most p old new =
+    Finds part most p.pieces.items p.count p.are_all new × FindsOld part p.first_new old new

@@ -1,16 +1,19 @@
-//! The elements of an array, read one after the other. Each call takes constant time and takes no memory.
+//! The elements of an array, read one after the other. Each call takes constant time and takes no
+//! memory.
 
 ghost use Rattle.std.specs.Prelude.{◌≡◌, map, option_map};
 ghost use Rattle.piece_files.specs.Plain.{data_of};
-ghost use Rattle.piece_files.specs.Elements.{number_at, word_at, one_of, two_of, end_of, optional_of};
+ghost use Rattle.piece_files.specs.Elements.{number_at, word_at, optional_at, one_of, two_of, end_of};
+ghost use Rattle.piece_files.specs.Elements.{optional_of};
 
 use crate::plain::Plain;
 
-/// The first element, which is a whole number below 2^64, and the elements after it. None where there
-/// is no element, or the first is no such number.
+/// The first element, which is a whole number below 2^64, and the elements after it. None where
+/// there is no element, or the first is no such number.
 #[tactic(auto, unfolding(crate::specs::Elements::number_at))]
 pub fn number_in<'v, 'a>(values: &'v [Plain<'a>]) -> Option<(u64, &'v [Plain<'a>])>
-    ensures { option_map (λ x. (x.0, map data_of x.1.now)) result ≡ number_at (map data_of values.now) }
+    ensures { option_map (λ x. (x.0, map data_of x.1.now)) result
+        ≡ number_at (map data_of values.now) }
 {
     let (first, rest) = values.split_first()?;
     match *first {
@@ -19,11 +22,12 @@ pub fn number_in<'v, 'a>(values: &'v [Plain<'a>]) -> Option<(u64, &'v [Plain<'a>
     }
 }
 
-/// The first element, which is a text, and the elements after it. None where there is no element, or
-/// the first is no text.
+/// The first element, which is a text, and the elements after it. None where there is no element,
+/// or the first is no text.
 #[tactic(auto, unfolding(crate::specs::Elements::word_at))]
 pub fn word_in<'v, 'a>(values: &'v [Plain<'a>]) -> Option<(&'a str, &'v [Plain<'a>])>
-    ensures { option_map (λ x. (x.0.now, map data_of x.1.now)) result ≡ word_at (map data_of values.now) }
+    ensures { option_map (λ x. (x.0.now, map data_of x.1.now)) result
+        ≡ word_at (map data_of values.now) }
 {
     let (first, rest) = values.split_first()?;
     match *first {
@@ -32,8 +36,8 @@ pub fn word_in<'v, 'a>(values: &'v [Plain<'a>]) -> Option<(&'a str, &'v [Plain<'
     }
 }
 
-/// The one element, which is a whole number below 2^64. None where there is no element, another one,
-/// or more than one.
+/// The one element, which is a whole number below 2^64. None where there is no element, another
+/// one, or more than one.
 #[tactic(auto, unfolding(crate::specs::Elements::one_of))]
 pub fn one_in(values: &[Plain<'_>]) -> Option<u64>
     ensures { result ≡ one_of (map data_of values.now) }
@@ -50,25 +54,35 @@ pub fn end_in(values: &[Plain<'_>]) -> Option<()>
     if values.is_empty() { Some(()) } else { None }
 }
 
+/// The first element, which is a whole number below 2^64, or `null`, which is none within; and the
+/// elements after it. None where there is no element, or the first is another.
+#[tactic(auto, unfolding(crate::specs::Elements::optional_at))]
+pub fn leading_optional_in<'v, 'a>(
+    values: &'v [Plain<'a>],
+) -> Option<(Option<u64>, &'v [Plain<'a>])>
+    ensures { option_map (λ x. (x.0, map data_of x.1.now)) result
+        ≡ optional_at (map data_of values.now) }
+{
+    let (first, rest) = values.split_first()?;
+    match *first {
+        Plain::Null => Some((None, rest)),
+        Plain::Number(number) => Some((Some(number), rest)),
+        Plain::Text(_) => None,
+    }
+}
+
 /// The one element, which is a whole number below 2^64, or `null`, which is none within. None where
 /// there is no element, another one, or more than one.
 #[tactic(auto, unfolding(crate::specs::Elements::optional_of))]
 pub fn optional_in(values: &[Plain<'_>]) -> Option<Option<u64>>
     ensures { result ≡ optional_of (map data_of values.now) }
 {
-    let (first, rest) = values.split_first()?;
-    if !rest.is_empty() {
-        return None;
-    }
-    match *first {
-        Plain::Null => Some(None),
-        Plain::Number(number) => Some(Some(number)),
-        Plain::Text(_) => None,
-    }
+    let (value, rest) = leading_optional_in(values)?;
+    if rest.is_empty() { Some(value) } else { None }
 }
 
-/// The two elements, which are whole numbers below 2^64, in their order. None where there are not two
-/// of these, and nothing else.
+/// The two elements, which are whole numbers below 2^64, in their order. None where there are not
+/// two of these, and nothing else.
 #[tactic(auto, unfolding(crate::specs::Elements::two_of))]
 pub fn two_in(values: &[Plain<'_>]) -> Option<(u64, u64)>
     ensures { result ≡ two_of (map data_of values.now) }

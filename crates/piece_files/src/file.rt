@@ -3,9 +3,10 @@
 ghost use Rattle.std.specs.Prelude.{◌≡◌, ◌∷◌, ◌≤◌, List, length, take, map, true, Option, Some, Result, Ok, Err, MatchResult};
 ghost use Rattle.std.specs.Str.{IsUtf8};
 ghost use Rattle.piece_files.specs.Faults.{Fails, Gives, or_fault};
-ghost use Rattle.piece_files.specs.Files.{FileKind, version, are_apart, all_of, contents_from, contents};
+ghost use Rattle.piece_files.specs.Files.{FileKind, version, are_apart, all_of, contents_from, contents, is_version};
 ghost use Rattle.piece_files.specs.Json.{max_bytes};
 ghost use Rattle.piece_files.specs.Members.{FindsIn};
+ghost use Rattle.piece_files.specs.Pieces.{in_version};
 ghost use Rattle.piece_files.specs.declared.file_fault.FileFault.{FileFault};
 ghost use Rattle.piece_files.specs.declared.file_fault.FileFault.TheVariants.{NoMemory};
 
@@ -28,15 +29,33 @@ fn all_numbers<const N: usize>(found: [Option<u64>; N]) -> Option<[u64; N]>
     Some(numbers)
 }
 
-/// The pieces in a member, where all its elements are pieces.
+/// The last version that is read.
+const MAX_VERSION: u64 = 2;
+
+/// Whether a version is read.
+fn is_version(version: u64) -> bool
+    ensures { result ≡ is_version version }
+{
+    1 <= version && version <= MAX_VERSION
+}
+
+/// The pieces in a member, where all its elements are pieces of this version.
 fn pieces_found<K: PieceKind>(
     found: Option<Pieces<K::Piece>>,
+    version: u64,
 ) -> Result<Pieces<K::Piece>, FileFault>
-    ensures { (wanted : Result (List K.Piece) FileFault) → FindsIn K.part K.most found wanted → MatchResult result
-        (λ p. (all : List K.Piece) × (wanted ≡ Ok all) × (p.count ≡ length all) × (p.pieces.items ≡ take K.most all))
-        (λ fault. Fails fault wanted) }
+    ensures { (old new : Result (List K.Piece) FileFault)
+        → FindsIn K.part K.most found old new → MatchResult result
+        (λ p. (all : List K.Piece) × (in_version version old new ≡ Ok all)
+        × (p.count ≡ length all) × (p.pieces.items ≡ take K.most all))
+        (λ fault. Fails fault (in_version version old new)) }
 {
     let pieces = found.ok_or(FileFault::Member)?;
+    if version == 1 {
+        if let Some(index) = pieces.first_new {
+            return Err(FileFault::Piece(K::part(), index));
+        }
+    }
     if pieces.are_all {
         Ok(pieces)
     } else {
@@ -44,52 +63,65 @@ fn pieces_found<K: PieceKind>(
     }
 }
 
-/// The numbers and the pieces by what was found of the members.
+/// The version, the numbers and the pieces by what was found of the members.
 fn contents_found<K: PieceKind, const N: usize>(
     found: Found<K::Piece, N>,
-) -> Result<([u64; N], Vec<K::Piece>), FileFault>
-    ensures { (wanted : Result (List K.Piece) FileFault) → FindsIn K.part K.most found.pieces wanted → Gives (λ file. (file.0, file.1.items)) result (contents_from K.most found.version (all_of found.numbers) wanted) }
+) -> Result<(u64, [u64; N], Vec<K::Piece>), FileFault>
+    ensures { (old new : Result (List K.Piece) FileFault)
+        → FindsIn K.part K.most found.pieces old new
+        → Gives (λ file. (file.0, file.1, file.2.items)) result
+        (contents_from K.most found.version (all_of found.numbers) old new) }
 {
     let version = found.version.ok_or(FileFault::Member)?;
     let numbers = all_numbers(found.numbers).ok_or(FileFault::Member)?;
-    let found = pieces_found::<K>(found.pieces)?;
-    if version == 1 && found.count <= K::most() {
-        Ok((numbers, found.pieces))
+    let found = pieces_found::<K>(found.pieces, version)?;
+    if is_version(version) && found.count <= K::most() {
+        Ok((version, numbers, found.pieces))
     } else {
         Err(FileFault::Limit)
     }
 }
 
-/// The numbers and the pieces of a file of version 1: an object in JSON with the member `version`,
-/// a number in each member of `numbers`, and an array of pieces in the member `pieces`.
+/// The version, the numbers and the pieces of a file of version 1 or 2: an object in JSON with the
+/// member `version`, a number in each member of `numbers`, and an array of pieces in the member
+/// `pieces`.
 ///
 /// # Errors
 ///
 /// The first of these, in this order: `Limit` where there are more than 16,777,216 bytes; `NotJson`
-/// where they are not UTF-8, or no JSON in which arrays and objects nest no deeper than 127 and each
-/// number is in range of a float; `Member` where the value is no object, or a member is missing or of
-/// the wrong kind; `Piece` for the first element of `pieces` that is none; `Limit` where the version
-/// is not 1 or there are more pieces than there may be. `NoMemory` where memory was refused: not for the
-/// length, nor where the bytes are not UTF-8.
+/// where they are not UTF-8, or no JSON in which arrays and objects nest no deeper than 127 and
+/// each number is in range of a float; `Member` where the value is no object, or a member is
+/// missing or of the wrong kind; `Piece` for the first element of `pieces` that is none, or where
+/// the version is 1 none that version 1 has; `Limit` where the version is not 1 or 2 or there are
+/// more pieces than there may be. `NoMemory` where memory was refused: not for the length, nor
+/// where the bytes are not UTF-8.
 ///
-/// Other members of the object are passed over, and of a member that is given twice the last counts.
-/// A number is written without a sign, a fraction or an exponent, and is below 2^64.
+/// Other members of the object are passed over, and of a member that is given twice the last
+/// counts. A number is written without a sign, a fraction or an exponent, and is below 2^64.
 ///
 /// # Cost
 ///
-/// Time is proportional to the number of bytes, as far as `K::read` is. Besides the pieces, memory is
-/// taken for the longest text in the file that is written with escapes.
+/// Time is proportional to the number of bytes, as far as `K::read` is. Besides the pieces, memory
+/// is taken for the longest text in the file that is written with escapes.
 pub fn read_file<'n, K: PieceKind, const N: usize>(
     alloc: Global,
     bytes: &[u8],
     numbers: &'n [&'n str],
     pieces: &'n str,
-) -> Result<([u64; N], Vec<K::Piece>), FileFault>
+) -> Result<(u64, [u64; N], Vec<K::Piece>), FileFault>
     requires few { N ≤ 64 }
     requires many { length numbers.now ≡ N }
     requires apart { are_apart (version ∷ pieces.now ∷ map (λ name. name.now) numbers.now) ≡ true }
     ensures memory { result ≡ Err NoMemory → (length bytes.now ≤ max_bytes) × IsUtf8 bytes.now }
-    ensures contents { let kind : FileKind K.Piece = record { numbers = map (λ name. name.now) numbers.now; pieces = pieces.now; of = K.of; part = K.part; most = K.most } in Gives (λ file. (file.0, file.1.items)) result (contents kind bytes.now) }
+    ensures contents { let kind : FileKind K.Piece = record {
+      numbers = map (λ name. name.now) numbers.now;
+      pieces = pieces.now;
+      of = K.of;
+      is_old = K.is_old;
+      part = K.part;
+      most = K.most;
+    } in
+        Gives (λ file. (file.0, file.1, file.2.items)) result (contents kind bytes.now) }
 {
     if bytes.len() > MAX_BYTES {
         return Err(FileFault::Limit);

@@ -1,15 +1,19 @@
-//! Files that are an object in JSON: a version, some numbers, and an array of pieces. A kind of file is a table: the
-//! names of its numbers in the written order, the name of its pieces, and what a piece is (`PieceKind`). Of steps, scripts
-//! and entries nothing is known here but the words by which a fault names them (`Part`).
+//! Files that are an object in JSON: a version, some numbers, and an array of pieces. A kind of
+//! file is a table: the names of its numbers in the written order, the name of its pieces, and what
+//! a piece is (`PieceKind`). Version 1 of a kind of file may lack some of the pieces that version 2
+//! has: in a file of version 1 these are wrong. Of steps, scripts and entries nothing is known here
+//! but the words by which a fault names them (`Part`).
 //!
-//! The model is a function of the bytes, `contents` of `specs/Files.antt`: the value that they are (`json_of`), the
-//! numbers in its members, and the pieces of an array or the first that is wrong (`pieces_from`). Inside, a reader is the
-//! tokens that are left, and `specs/Tokens.antt` says what they begin with. What bytes, tokens and numbers mean as JSON is
-//! what `json` and `serde_json` say.
+//! The model is a function of the bytes, `contents` of `specs/Files.antt`: the value that they are
+//! (`json_of`), the numbers in its members, and the pieces of an array or the first that is wrong
+//! (`pieces_from`). Inside, a reader is the tokens that are left, and `specs/Tokens.antt` says what
+//! they begin with. What bytes, tokens and numbers mean as JSON is what `json` and `serde_json`
+//! say.
 //!
-//! Promised: `read_file` computes that function, or says that memory was refused. A text is read once, token by token, in
-//! time proportional to its length. What is passed over is tested to be JSON, and nothing of it is kept; of the pieces no
-//! more are kept than a file may have, and the others counted.
+//! Promised: `read_file` computes that function, or says that memory was refused. A text is read
+//! once, token by token, in time proportional to its length. What is passed over is tested to be
+//! JSON, and nothing of it is kept; of the pieces no more are kept than a file may have, and the
+//! others counted.
 #![tactic(auto)]
 
 mod elements;
@@ -25,7 +29,7 @@ mod stop;
 #[cfg(test)]
 mod tests;
 
-pub use elements::{end_in, number_in, one_in, optional_in, two_in, word_in};
+pub use elements::{end_in, leading_optional_in, number_in, one_in, optional_in, two_in, word_in};
 pub use file::read_file;
 pub use file_fault::FileFault;
 pub use part::Part;

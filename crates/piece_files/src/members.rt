@@ -1,4 +1,5 @@
-//! The members of a file, taken one after the other: those that its kind has are kept, the others passed over.
+//! The members of a file, taken one after the other: those that its kind has are kept, the others
+//! passed over.
 
 ghost use Rattle.std.specs.Prelude.{◌≡◌, ◌∷◌, ◌≤◌, ◌<◌, true, false, map, length, Option, Some, None, Ok, Err, IfOk, OnOk, OnErr, MatchResult, codes};
 ghost use Rattle.json.specs.Reads.{token_of};
@@ -49,7 +50,9 @@ fn number_member(
     reader: &mut Reader<'_>,
     depth: usize,
 ) -> Result<Option<u64>, Invalid>
-    ensures ok { IfOk result (λ found. (d : Data) × (value_at depth (token_of token.entry ∷ reader.old) ≡ Some (d, reader.new)) × (found ≡ number_of d)) }
+    ensures ok { IfOk result (λ found. (d : Data)
+        × (value_at depth (token_of token.entry ∷ reader.old) ≡ Some (d, reader.new))
+        × (found ≡ number_of d)) }
     ensures err { OnErr result (value_at depth (token_of token.entry ∷ reader.old) ≡ None) }
     ensures shorter { OnOk result (length reader.new ≤ length reader.old) }
 {
@@ -59,14 +62,17 @@ fn number_member(
     }
 }
 
-/// The pieces of the array that begins with this token, which was taken: none where the value is another.
+/// The pieces of the array that begins with this token, which was taken: none where the value is
+/// another.
 fn pieces_member<K: PieceKind>(
     alloc: Global,
     token: Token<'_>,
     reader: &mut Reader<'_>,
     depth: usize,
 ) -> Result<Option<Pieces<K::Piece>>, Stop>
-    ensures ok { IfOk result (λ found. (d : Data) × (value_at depth (token_of token.entry ∷ reader.old) ≡ Some (d, reader.new)) × ArePiecesOf K.of K.part K.most found d) }
+    ensures ok { IfOk result (λ found. (d : Data)
+        × (value_at depth (token_of token.entry ∷ reader.old) ≡ Some (d, reader.new))
+        × ArePiecesOf K.of K.is_old K.part K.most found d) }
     ensures err { result ≡ Err NotJson → value_at depth (token_of token.entry ∷ reader.old) ≡ None }
     ensures shorter { OnOk result (length reader.new ≤ length reader.old) }
 {
@@ -110,8 +116,14 @@ fn take_member<K: PieceKind, const N: usize>(
     depth: usize,
 ) -> Result<(), Stop>
     requires many { length names.numbers.now ≡ N }
-    requires apart { are_apart (names_of (kind_named names K.of K.part K.most)) ≡ true }
-    ensures ok { let kind = kind_named names.entry K.of K.part K.most in OnOk result ((d : Data) × (value_at depth (token_of token.entry ∷ reader.old) ≡ Some (d, reader.new)) × ((ms : Members) → AreFound kind found.old.version found.old.numbers found.old.pieces ms → AreFound kind found.new.version found.new.numbers found.new.pieces (put key.now d ms))) }
+    requires apart { are_apart (names_of (kind_named names K.of K.is_old K.part K.most)) ≡ true }
+    ensures ok { let kind = kind_named names.entry K.of K.is_old K.part K.most in
+        OnOk result ((d : Data)
+        × (value_at depth (token_of token.entry ∷ reader.old) ≡ Some (d, reader.new))
+        × ((ms : Members)
+        → AreFound kind found.old.version found.old.numbers found.old.pieces ms
+        → AreFound kind found.new.version found.new.numbers found.new.pieces
+        (put key.now d ms))) }
     ensures err { result ≡ Err NotJson → value_at depth (token_of token.entry ∷ reader.old) ≡ None }
     ensures shorter { OnOk result (length reader.new ≤ length reader.old) }
 {
@@ -136,9 +148,13 @@ fn take_members<K: PieceKind, const N: usize>(
     depth: usize,
 ) -> Result<(), Stop>
     requires many { length names.numbers.now ≡ N }
-    requires apart { are_apart (names_of (kind_named names K.of K.part K.most)) ≡ true }
-    requires nothing { AreFound (kind_named names K.of K.part K.most) found.old.version found.old.numbers found.old.pieces no_members }
-    ensures ok { OnOk result ((ms : Members) × (members_at depth reader.old ≡ Some (ms, reader.new)) × AreFound (kind_named names.entry K.of K.part K.most) found.new.version found.new.numbers found.new.pieces ms) }
+    requires apart { are_apart (names_of (kind_named names K.of K.is_old K.part K.most)) ≡ true }
+    requires nothing { AreFound (kind_named names K.of K.is_old K.part K.most)
+        found.old.version found.old.numbers found.old.pieces no_members }
+    ensures ok { OnOk result ((ms : Members)
+        × (members_at depth reader.old ≡ Some (ms, reader.new))
+        × AreFound (kind_named names.entry K.of K.is_old K.part K.most)
+        found.new.version found.new.numbers found.new.pieces ms) }
     ensures err { result ≡ Err NotJson → members_at depth reader.old ≡ None }
 {
     'members: while let Some(key) = reader.next_key()? {
@@ -156,9 +172,13 @@ fn take_value<K: PieceKind, const N: usize>(
     reader: &mut Reader<'_>,
 ) -> Result<(), Stop>
     requires many { length names.numbers.now ≡ N }
-    requires apart { are_apart (names_of (kind_named names K.of K.part K.most)) ≡ true }
-    requires nothing { AreFound (kind_named names K.of K.part K.most) found.old.version found.old.numbers found.old.pieces no_members }
-    ensures ok { OnOk result ((d : Data) × (value_at max_depth reader.old ≡ Some (d, reader.new)) × AreFound (kind_named names.entry K.of K.part K.most) found.new.version found.new.numbers found.new.pieces (members_within d)) }
+    requires apart { are_apart (names_of (kind_named names K.of K.is_old K.part K.most)) ≡ true }
+    requires nothing { AreFound (kind_named names K.of K.is_old K.part K.most)
+        found.old.version found.old.numbers found.old.pieces no_members }
+    ensures ok { OnOk result ((d : Data)
+        × (value_at max_depth reader.old ≡ Some (d, reader.new))
+        × AreFound (kind_named names.entry K.of K.is_old K.part K.most)
+        found.new.version found.new.numbers found.new.pieces (members_within d)) }
     ensures err { result ≡ Err NotJson → value_at max_depth reader.old ≡ None }
 {
     let token = reader.next().ok_or(Stop::NotJson)?;
@@ -187,9 +207,11 @@ pub(crate) fn members_in<K: PieceKind, const N: usize>(
 ) -> Result<Found<K::Piece, N>, FileFault>
     requires few { N ≤ 64 }
     requires many { length names.numbers.now ≡ N }
-    requires apart { are_apart (names_of (kind_named names K.of K.part K.most)) ≡ true }
+    requires apart { are_apart (names_of (kind_named names K.of K.is_old K.part K.most)) ≡ true }
     ensures { MatchResult result
-        (λ found. (d : Data) × (read text.now ≡ Some d) × AreFound (kind_named names.entry K.of K.part K.most) found.version found.numbers found.pieces (members_within d))
+        (λ found. (d : Data) × (read text.now ≡ Some d)
+        × AreFound (kind_named names.entry K.of K.is_old K.part K.most)
+        found.version found.numbers found.pieces (members_within d))
         (λ fault. Fails fault (or_fault NoJson (read text.now))) }
 {
     let mut found = Found {

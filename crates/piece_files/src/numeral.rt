@@ -43,8 +43,8 @@ fn negative_in(bytes: &[u8]) -> Option<Option<u64>>
     float_in(true, bytes)
 }
 
-/// The number that a number's text is: none where no number in range, and none within where it has a
-/// sign, a fraction or an exponent, or is 2^64 or more.
+/// The number that a number's text is: none where no number in range, and none within where it has
+/// a sign, a fraction or an exponent, or is 2^64 or more.
 #[inline(always)]
 pub(crate) fn number_in_text(text: &str) -> Option<Option<u64>>
     ensures { result ≡ option_map as_u64 (number_of text.now) }

@@ -8,16 +8,17 @@ ghost use Rattle.piece_files.specs.Tokens.{value_at, items_at, members_at};
 use crate::numeral::number_in_text;
 use json::{Invalid, Reader, Token};
 
-/// Passes over the value that begins with this token, which was taken from the reader. The reader is
-/// then behind the value.
+/// Passes over the value that begins with this token, which was taken from the reader. The reader
+/// is then behind the value.
 ///
-/// `Invalid` where no value of JSON comes in which arrays and objects nest no deeper than `depth`, or
-/// a number is too large for a float. The reader is then anywhere in the text.
+/// `Invalid` where no value of JSON comes in which arrays and objects nest no deeper than `depth`,
+/// or a number is too large for a float. The reader is then anywhere in the text.
 ///
 /// Time is proportional to the tokens taken; nothing is kept of them.
 #[cycle(pass)]
 pub fn pass_value(token: Token<'_>, reader: &mut Reader<'_>, depth: usize) -> Result<(), Invalid>
-    ensures ok { OnOk result ((d : Data) × (value_at depth (token_of token.entry ∷ reader.old) ≡ Some (d, reader.new))) }
+    ensures ok { OnOk result ((d : Data)
+        × (value_at depth (token_of token.entry ∷ reader.old) ≡ Some (d, reader.new))) }
     ensures err { OnErr result (value_at depth (token_of token.entry ∷ reader.old) ≡ None) }
     ensures shorter { OnOk result (length reader.new ≤ length reader.old) }
 {
@@ -60,7 +61,8 @@ fn pass_items(reader: &mut Reader<'_>, depth: usize) -> Result<(), Invalid>
 /// Passes over the members of an object.
 #[cycle(pass)]
 fn pass_members(reader: &mut Reader<'_>, depth: usize) -> Result<(), Invalid>
-    ensures ok { OnOk result ((ms : Members) × (members_at depth reader.old ≡ Some (ms, reader.new))) }
+    ensures ok { OnOk result ((ms : Members)
+        × (members_at depth reader.old ≡ Some (ms, reader.new))) }
     ensures err { OnErr result (members_at depth reader.old ≡ None) }
     ensures shorter { OnOk result (length reader.new < length reader.old) }
 {

@@ -5,8 +5,8 @@ ghost use Rattle.json.specs.Token.{Token as SpecToken};
 ghost use Rattle.json.specs.Reads.{token_of};
 ghost use Rattle.serde_json.specs.Data.{Data};
 ghost use Rattle.piece_files.specs.Elements.{elements_of};
-ghost use Rattle.piece_files.specs.Pieces.{pieces_from};
-ghost use Rattle.piece_files.specs.Tokens.{value_at, items_at, items_from, Finds};
+ghost use Rattle.piece_files.specs.Pieces.{old_of, pieces_from};
+ghost use Rattle.piece_files.specs.Tokens.{value_at, items_at, items_from, FindsBoth};
 ghost use Rattle.piece_files.specs.declared.part.Part.{Part};
 ghost use Rattle.piece_files.specs.declared.stop.Stop.TheVariants.{NotJson, NoMemory};
 
@@ -16,14 +16,17 @@ use crate::stop::Stop;
 use json::{Reader, Token};
 use std::alloc::Global;
 
-/// A kind of pieces, of which a file has an array. Each piece is an array itself, and its elements say
-/// what it is. A kind has no value; it is named where pieces are read.
+/// A kind of pieces, of which a file has an array. Each piece is an array itself, and its elements
+/// say what it is. A kind has no value; it is named where pieces are read.
 pub trait PieceKind {
     /// A piece of this kind.
     type Piece: Drop;
 
-    /// The piece that has these elements, where some piece has them.
+    /// The piece that has these elements in version 2, where some piece has them.
     ghost of: { List Data → Option Self.Piece };
+
+    /// Whether version 1 has a piece too.
+    ghost is_old: { Self.Piece → Bool };
 
     /// What a fault calls a piece of this kind.
     ghost part: { Part };
@@ -38,21 +41,28 @@ pub trait PieceKind {
     fn part() -> Part
         ensures { result ≡ part };
 
+    /// Whether version 1 has a piece too.
+    fn is_old(piece: &Self::Piece) -> bool
+        ensures { result ≡ is_old piece.now };
+
     /// How many pieces a file may have. No more are kept, the others only counted. Constant time.
     fn most() -> usize
         ensures { result ≡ most };
 
-    /// The piece whose elements come next, after the bracket that opens it, or none where no piece of
-    /// this kind has them. The reader is then behind the bracket that closes it.
+    /// The piece whose elements come next, after the bracket that opens it, or none where no piece
+    /// of this kind has them in version 2. The reader is then behind the bracket that closes it.
     ///
     /// `NotJson` where what comes is not the rest of an array in which arrays and objects nest no
-    /// deeper than `depth`, `NoMemory` where memory was refused. The reader is then anywhere in the text.
+    /// deeper than `depth`, `NoMemory` where memory was refused. The reader is then anywhere in the
+    /// text.
     fn read(
         alloc: Global,
         reader: &mut Reader<'_>,
         depth: usize,
     ) -> Result<Option<Self::Piece>, Stop>
-        ensures ok { IfOk result (λ piece. (ds : List Data) × (items_at depth reader.old ≡ Some (items_from ds, reader.new)) × (piece ≡ of ds)) }
+        ensures ok { IfOk result (λ piece. (ds : List Data)
+            × (items_at depth reader.old ≡ Some (items_from ds, reader.new))
+            × (piece ≡ of ds)) }
         ensures err { result ≡ Err NotJson → items_at depth reader.old ≡ None }
         ensures memory { result ≡ Err NoMemory → takes_memory ≡ true }
         ensures shorter { OnOk result (length reader.new < length reader.old) };
@@ -67,6 +77,8 @@ pub struct Pieces<P> {
     pub count: usize,
     /// Whether all elements of the array are pieces.
     pub are_all: bool,
+    /// The index of the first of them that version 1 has not, if there is one.
+    pub first_new: Option<usize>,
 }
 
 /// The piece that begins with this token, which was taken, or none where it is no piece.
@@ -76,7 +88,9 @@ fn piece_in<K: PieceKind>(
     reader: &mut Reader<'_>,
     depth: usize,
 ) -> Result<Option<K::Piece>, Stop>
-    ensures ok { IfOk result (λ piece. (d : Data) × (value_at depth (token_of token.entry ∷ reader.old) ≡ Some (d, reader.new)) × (piece ≡ option_and_then K.of (elements_of d))) }
+    ensures ok { IfOk result (λ piece. (d : Data)
+        × (value_at depth (token_of token.entry ∷ reader.old) ≡ Some (d, reader.new))
+        × (piece ≡ option_and_then K.of (elements_of d))) }
     ensures err { result ≡ Err NotJson → value_at depth (token_of token.entry ∷ reader.old) ≡ None }
     ensures memory { result ≡ Err NoMemory → K.takes_memory ≡ true }
     ensures shorter { OnOk result (length reader.new ≤ length reader.old) }
@@ -105,7 +119,9 @@ fn piece_in<K: PieceKind>(
 
 /// One more. Memory gives out long before the numbers do.
 fn next_count(count: usize) -> Result<usize, Stop>
-    ensures { MatchResult result (λ next. (next ≡ count + 1) × (next < 2 ^ 64)) (λ stop. stop ≡ NoMemory) }
+    ensures { MatchResult result
+        (λ next. (next ≡ count + 1) × (next < 2 ^ 64))
+        (λ stop. stop ≡ NoMemory) }
 {
     count.checked_add(1).ok_or(Stop::NoMemory)
 }
@@ -113,8 +129,9 @@ fn next_count(count: usize) -> Result<usize, Stop>
 /// The pieces of an array, whose bracket was taken from the reader. The reader is then behind the
 /// bracket that closes the array.
 ///
-/// `NotJson` where what comes is not the rest of an array in which arrays and objects nest no deeper
-/// than `depth`, `NoMemory` where memory was refused. The reader is then anywhere in the text.
+/// `NotJson` where what comes is not the rest of an array in which arrays and objects nest no
+/// deeper than `depth`, `NoMemory` where memory was refused. The reader is then anywhere in the
+/// text.
 ///
 /// Each piece is read once, by `K::read`, and memory is taken for those that are kept.
 pub fn pieces_in<K: PieceKind>(
@@ -122,7 +139,10 @@ pub fn pieces_in<K: PieceKind>(
     reader: &mut Reader<'_>,
     depth: usize,
 ) -> Result<Pieces<K::Piece>, Stop>
-    ensures ok { IfOk result (λ found. (ds : List Data) × (items_at depth reader.old ≡ Some (items_from ds, reader.new)) × Finds K.part K.most found.pieces.items found.count found.are_all (pieces_from K.of K.part 0 ds)) }
+    ensures ok { IfOk result (λ found. (ds : List Data)
+        × (items_at depth reader.old ≡ Some (items_from ds, reader.new))
+        × FindsBoth K.part K.most found
+        (pieces_from (old_of K.is_old K.of) K.part 0 ds) (pieces_from K.of K.part 0 ds)) }
     ensures range { IfOk result (λ found. found.count < 2 ^ 64) }
     ensures err { result ≡ Err NotJson → items_at depth reader.old ≡ None }
     ensures shorter { OnOk result (length reader.new < length reader.old) }
@@ -131,12 +151,14 @@ pub fn pieces_in<K: PieceKind>(
     let mut pieces = Vec::new(alloc);
     let mut count = 0;
     let mut are_all = true;
+    let mut first_new = None;
     'pieces: while !reader.take_end_array() {
         let token = reader.next().ok_or(Stop::NotJson)?;
         let read = piece_in::<K>(alloc, token, reader, depth)?;
         match read {
             Some(piece) => {
                 if are_all {
+                    first_new = first_new.or((!K::is_old(&piece)).then_some(count));
                     if count < most {
                         pieces.push(piece)?;
                     }
@@ -150,5 +172,6 @@ pub fn pieces_in<K: PieceKind>(
         pieces,
         count,
         are_all,
+        first_new,
     })
 }

@@ -29,7 +29,9 @@ pub(crate) fn plain_value<'a>(
     reader: &mut Reader<'_>,
     depth: usize,
 ) -> Result<Option<Plain<'a>>, Invalid>
-    ensures ok { IfOk result (λ found. (d : Data) × (value_at depth (token_of token.entry ∷ reader.old) ≡ Some (d, reader.new)) × IsPlain found d) }
+    ensures ok { IfOk result (λ found. (d : Data)
+        × (value_at depth (token_of token.entry ∷ reader.old) ≡ Some (d, reader.new))
+        × IsPlain found d) }
     ensures err { OnErr result (value_at depth (token_of token.entry ∷ reader.old) ≡ None) }
     ensures shorter { OnOk result (length reader.new ≤ length reader.old) }
 {
@@ -54,14 +56,15 @@ pub(crate) fn plain_value<'a>(
     }
 }
 
-/// The elements of an array, whose bracket was taken from the reader: none where there are more than
-/// `MOST`, or one is neither null, nor a text, nor a whole number below 2^64. The reader is then behind
-/// the bracket that closes the array.
+/// The elements of an array, whose bracket was taken from the reader: none where there are more
+/// than `MOST`, or one is neither null, nor a text, nor a whole number below 2^64. The reader is
+/// then behind the bracket that closes the array.
 ///
 /// # Errors
 ///
-/// `Invalid` where what comes is not the rest of an array in which arrays and objects nest no deeper
-/// than `depth`, or a number is too large for a float. The reader is then anywhere in the text.
+/// `Invalid` where what comes is not the rest of an array in which arrays and objects nest no
+/// deeper than `depth`, or a number is too large for a float. The reader is then anywhere in the
+/// text.
 ///
 /// # Cost
 ///
@@ -71,7 +74,9 @@ pub fn plain_elements<'a, const MOST: usize>(
     reader: &mut Reader<'a>,
     depth: usize,
 ) -> Result<Option<ArrayVec<Plain<'a>, MOST>>, Invalid>
-    ensures ok { IfOk result (λ found. (ds : List Data) × (items_at depth reader.old ≡ Some (items_from ds, reader.new)) × AreElements MOST (option_map (λ v. v.items) found) ds) }
+    ensures ok { IfOk result (λ found. (ds : List Data)
+        × (items_at depth reader.old ≡ Some (items_from ds, reader.new))
+        × AreElements MOST (option_map (λ v. v.items) found) ds) }
     ensures err { OnErr result (items_at depth reader.old ≡ None) }
     ensures shorter { OnOk result (length reader.new < length reader.old) }
 {

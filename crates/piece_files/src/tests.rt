@@ -1,4 +1,4 @@
-ghost use Rattle.std.specs.Prelude.{false};
+ghost use Rattle.std.specs.Prelude.{◌==◌, false, not};
 ghost use Rattle.piece_files.specs.Elements.{two_of};
 
 use super::*;
@@ -8,7 +8,8 @@ use std::alloc::Global;
 use std::process::Abort;
 use std::test::Fail;
 
-/// Points, each two numbers, of which a file may have three.
+/// Points, each two numbers, of which a file may have three. Version 1 has none whose second number
+/// is 0.
 struct PointKind;
 
 impl PieceKind for PointKind {
@@ -18,6 +19,8 @@ impl PieceKind for PointKind {
 
     ghost of = { two_of };
 
+    ghost is_old = { λ point. not (point.1 == 0) };
+
     ghost part = { parts.Entry };
 
     ghost most = { 3 };
@@ -26,6 +29,10 @@ impl PieceKind for PointKind {
 
     fn part() -> Part {
         Part::Entry
+    }
+
+    fn is_old(piece: &(u64, u64)) -> bool {
+        piece.1 != 0
     }
 
     fn most() -> usize {
@@ -48,7 +55,7 @@ impl PieceKind for PointKind {
 
 /// The width and the points of a drawing.
 fn drawing_in(alloc: Global, text: &str) -> Result<(u64, Vec<(u64, u64)>), FileFault> {
-    let ([width], points) = read_file::<PointKind, 1>(
+    let (_version, [width], points) = read_file::<PointKind, 1>(
         alloc,
         text.as_bytes(),
         &["width"],
@@ -132,13 +139,55 @@ fn wrong_drawings(rt: HostRuntime) {
             FileFault::Limit,
         ),
         (
-            "{\"version\":2,\"width\":7,\"points\":[]}",
+            "{\"version\":3,\"width\":7,\"points\":[]}",
+            FileFault::Limit,
+        ),
+        (
+            "{\"version\":0,\"width\":7,\"points\":[]}",
             FileFault::Limit,
         ),
     ];
     for (text, wanted) in cases {
         assert_eq!(rt; drawing_in(rt.alloc(), text).err(), Some(wanted), "{text}");
     }
+}
+
+/// The fault of a drawing of this version, whose points version 1 has not all.
+fn fault_in_version(alloc: Global, version: u64, points: &str) -> Result<Option<FileFault>, Fail> {
+    let text = format!(in alloc; "{{\"points\":{points},\"version\":{version},\"width\":7}}")?;
+    Ok(drawing_in(alloc, &text).err())
+}
+
+/// A piece that only version 2 has is wrong in version 1, also behind as many as are kept; in any
+/// other version it is right.
+#[test]
+fn pieces_of_version_2(rt: HostRuntime) -> Result<(), Fail> {
+    let wrong = |index: usize| Some(FileFault::Piece(Part::Entry, index));
+    let limit = Some(FileFault::Limit);
+    let cases = [
+        ("[[1,2],[3,0]]", wrong(1), None, limit),
+        ("[[1,2],[3,0],[4],[5,0]]", wrong(1), wrong(2), wrong(2)),
+        ("[[1,2],[4],[3,0]]", wrong(1), wrong(1), wrong(1)),
+        ("[[1,2],[1,2],[1,2],[1,2],[3,0]]", wrong(4), limit, limit),
+    ];
+    for (points, in_first, in_second, in_third) in cases {
+        assert_eq!(rt;
+            fault_in_version(rt.alloc(), 1, points)?,
+            in_first,
+            "{points}"
+        );
+        assert_eq!(rt;
+            fault_in_version(rt.alloc(), 2, points)?,
+            in_second,
+            "{points}"
+        );
+        assert_eq!(rt;
+            fault_in_version(rt.alloc(), 3, points)?,
+            in_third,
+            "{points}"
+        );
+    }
+    Ok(())
 }
 
 /// The elements of the next array, where they are plain and no more than four.

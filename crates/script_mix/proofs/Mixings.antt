@@ -2,6 +2,7 @@
 use Rattle.std.proofs.Common.{◌≡◌, ℕ, [], List, ap, subst, ◌∙◌}
 use Rattle.txn_trace.specs.declared.action.Action.{Action}
 use Rattle.txn_trace.specs.declared.entry.Entry.{Entry}
+use Rattle.txn_trace.specs.Sizes.{Sizes}
 use Rattle.txn_trace.specs.Work.{Work}
 use Rattle.rand_core.specs.Pcg32Seed.{pcg32_seed}
 use Rattle.rand_pcg.specs.Lcg.{Lcg}
@@ -15,18 +16,18 @@ abbrev mixing : State → List Worker → Lcg → Mixing
 mixing core crew generator = record { core = core; crew = crew; generator = generator }
 
 -- A core, workers and a generator that are new are the beginning.
-pub begins : (work : Work) (seed : ℕ) (core : State) (crew : List Worker) (generator : Lcg) → core ≡ start work.sizes → crew ≡ first_crew work.scripts work.sizes.callers work.sizes.callers
+pub begins : (work : Work) (seed : ℕ) (core : State) (crew : List Worker) (generator : Lcg) → core ≡ start work.sizes → crew ≡ first_crew work.scripts work.sizes work.sizes.callers
     → generator ≡ pcg32_of_seed (pcg32_seed 16 seed) → mixing core crew generator ≡ beginning work seed
 begins work seed core crew generator core_is crew_is generator_is =
     ap (λ s. mixing s crew generator) core_is ∙ ap (λ ws. mixing (start work.sizes) ws generator) crew_is
-    ∙ ap (λ g. mixing (start work.sizes) (first_crew work.scripts work.sizes.callers work.sizes.callers) g) generator_is
+    ∙ ap (λ g. mixing (start work.sizes) (first_crew work.scripts work.sizes work.sizes.callers) g) generator_is
 
-pub crew_begins : (scripts theirs : List (List Action)) (count callers : ℕ) (h : List Entry) (crew : List Worker) → scripts ≡ theirs → count ≡ callers → [] ≡ h → IsCrew scripts count [] crew → IsCrew theirs callers h crew
-crew_begins scripts theirs count callers h crew scripts_is count_is none is =
-    subst (λ s. IsCrew s callers h crew) scripts_is (subst (λ n. IsCrew scripts n h crew) count_is (subst (λ es. IsCrew scripts count es crew) none is))
+pub crew_begins : (scripts theirs : List (List Action)) (limits sizes : Sizes) (h : List Entry) (crew : List Worker) → scripts ≡ theirs → limits ≡ sizes → [] ≡ h → IsCrew scripts limits.callers [] crew → IsCrew theirs sizes.callers h crew
+crew_begins scripts theirs limits sizes h crew scripts_is limits_is none is =
+    subst (λ s. IsCrew s sizes.callers h crew) scripts_is (subst (λ (n : Sizes). IsCrew scripts n.callers h crew) limits_is (subst (λ es. IsCrew scripts limits.callers es crew) none is))
 
-pub crew_first : (scripts theirs : List (List Action)) (count callers : ℕ) (crew : List Worker) → scripts ≡ theirs → count ≡ callers → crew ≡ first_crew scripts count count → crew ≡ first_crew theirs callers callers
-crew_first scripts theirs count callers crew scripts_is count_is is = is ∙ ap (λ s. first_crew s count count) scripts_is ∙ ap (λ n. first_crew theirs n n) count_is
+pub crew_first : (scripts theirs : List (List Action)) (limits sizes : Sizes) (crew : List Worker) → scripts ≡ theirs → limits ≡ sizes → crew ≡ first_crew scripts limits limits.callers → crew ≡ first_crew theirs sizes sizes.callers
+crew_first scripts theirs limits sizes crew scripts_is limits_is is = is ∙ ap (λ s. first_crew s limits limits.callers) scripts_is ∙ ap (λ (n : Sizes). first_crew theirs n n.callers) limits_is
 
 pub turn_of_work : (scripts theirs : List (List Action)) (tries allowed : ℕ) (old new : State) (before after : Worker) → scripts ≡ theirs → tries ≡ allowed
     → TakesTurn scripts tries old before new after → TakesTurn theirs allowed old before new after

@@ -18,19 +18,25 @@ use Rattle.txn_trace.specs.declared.step.Step.TheVariants.{Begin}
 use Rattle.txn_trace.specs.History.{caller_of}
 use Rattle.txn_trace.specs.Shape.{own}
 use Rattle.txn_trace.specs.Legal.{IsLegal}
+use Rattle.txn_trace.specs.Sizes.{Sizes}
 use Rattle.txn_trace.specs.Plays.{PlayScripts, HavePlayed, parts_of}
 use Rattle.txn_trace.proofs.Playing.{scripts_played}
+use Rattle.txn_drive.specs.declared.turn.Turn.{Turn}
+use Rattle.txn_drive.specs.declared.turn.Turn.TheVariants.{One, Two, Ended}
 use Rattle.txn_drive.specs.Drives.{step_of}
+use Rattle.txn_drive.specs.Turns.{TakesSecond}
 use Rattle.txn_trace.specs.Entries.{entries_of}
 use Rattle.boost_core.specs.Machine.{State, Move}
 use Rattle.boost_core.specs.Answers as core
 use Rattle.script_worker.specs.declared.task.Task.{Task}
 use Rattle.script_worker.specs.declared.worker.Worker.{Worker}
-use Rattle.script_worker.specs.Workers.{step_by}
+use Rattle.script_worker.specs.declared.attempt.Outcome.{Outcome}
+use Rattle.script_worker.specs.Workers.{told_drive, told_by, sized_by, turn_by, step_by, IsTurnBy, Working, TakesStep, TakesIn, TakesNext}
 use Rattle.script_worker.specs.Keeps.{KeepsAt, Keeps}
 use Rattle.txn_drive.proofs.DriveLaws.{entries_callers}
-use Rattle.script_worker.proofs.Keeping.{keeps_played}
+use Rattle.script_worker.proofs.Keeping.{keeps_played, told_keeps, told_on, told_same, sized_keeps}
 use Rattle.script_mix.specs.Crews.{IsMember, IsCrew, Goes}
+use Rattle.script_mix.specs.Turns.{TakesTurn}
 
 no_entries : (step : Step) (refusal : Refusal) → entries_of step (answers.Refused refusal) ≡ []
 no_entries (Begin c) refusal = refl
@@ -76,29 +82,73 @@ step_mine workers scripts w None parts step answer keeps is = absurd (cc is)
 step_mine workers scripts w (Some task) parts step answer keeps is = subst (λ c. AreOf c (entries_of step answer)) keeps.caller (entries_callers task.drive step answer is)
 
 -- A worker's step.
-pub step_goes : (scripts : List (List Action)) (old new : State) (before after : Worker) (step : Step) (answer : Answer) → Move old step answer new → step_by before ≡ Some step
-    → after.number ≡ before.number → after.workers ≡ before.workers → Keeps scripts before (own before.number old.history)
+step_goes : (scripts : List (List Action)) (old new : State) (before after : Worker) (step : Step) (answer : Answer) → Move old step answer new → step_by before ≡ Some step
+    → after.number ≡ before.number → after.limits ≡ before.limits → Keeps scripts before (own before.number old.history)
     → (Keeps scripts before (own before.number old.history) → Keeps scripts after (own before.number old.history ++ entries_of step answer)) → Goes scripts old new before after
-step_goes scripts old new before after step answer move is number workers keeps told =
+step_goes scripts old new before after step answer move is number same keeps told =
     let es = entries_of step answer in
-    let mine : AreOf before.number es = step_mine before.workers scripts before.number before.task _ step answer keeps.at is in
+    let mine : AreOf before.number es = step_mine before.limits.callers scripts before.number before.task _ step answer keeps.at is in
     let history = move-history old new step answer move in
     record {
       limits = move-limits old new step answer move;
       number = number;
-      workers = workers;
+      same = same;
       others = λ c other. ap (own c) history ∙ own-others before.number c old.history es other mine;
       keeps = subst (Keeps scripts after) (sym (ap (own before.number) history ∙ own-mine before.number old.history es mine) ∙ ap (λ w. own w new.history) (sym number)) (told keeps);
     }
 
-pub goes_then : (scripts : List (List Action)) (a b c : State) (x y z : Worker) → Goes scripts a b x y → Goes scripts b c y z → Goes scripts a c x z
+goes_then : (scripts : List (List Action)) (a b c : State) (x y z : Worker) → Goes scripts a b x y → Goes scripts b c y z → Goes scripts a c x z
 goes_then scripts a b c x y z first next = record {
   limits = next.limits ∙ first.limits;
   number = next.number ∙ first.number;
-  workers = next.workers ∙ first.workers;
+  same = next.same ∙ first.same;
   others = λ d other. next.others d (λ is. other (is ∙ first.number)) ∙ first.others d other;
   keeps = next.keeps;
 }
+
+-- A worker's turn.
+module _ (scripts : List (List Action)) (tries : ℕ) where
+  abbrev Steps : Working State → Step → Answer → Working State → Type 0
+  Steps old step answer new = TakesStep Move scripts tries old step answer new
+
+  one_goes : (old : Working State) (step : Step) (answer : Answer) (new : Working State) → step_by old.worker ≡ Some step → Keeps scripts old.worker (own old.worker.number old.taker.history)
+      → Steps old step answer new → Goes scripts old.taker new.taker old.worker new.worker
+  one_goes old step answer new is keeps takes =
+      subst (λ (w : Worker). Goes scripts old.taker new.taker old.worker w) (sym takes.told)
+      (step_goes scripts old.taker new.taker old.worker (told_by scripts tries old.worker answer) step answer takes.taken is (told_same scripts tries old.worker answer).0 (told_same scripts tries old.worker answer).1 keeps
+      (λ keeps. told_keeps scripts tries old.worker answer (own old.worker.number old.taker.history) step is keeps))
+
+  second_goes : (old : Working State) (first second : Step) (answer : Answer) (between new : Working State) → step_by old.worker ≡ Some first → step_by (told_drive old.worker answers.Placed) ≡ Some second
+      → Keeps scripts old.worker (own old.worker.number old.taker.history) → Steps old first answer between → TakesSecond Steps between second answer new
+      → Goes scripts old.taker new.taker old.worker new.worker
+  second_goes old first second answers.Placed between new is next keeps takes (answer, then) =
+      let goes = one_goes old first answers.Placed between is keeps takes in
+      let there : step_by between.worker ≡ Some second =
+      ap step_by (takes.told ∙ told_on scripts tries old.worker answers.Placed second next) ∙ next in
+      goes_then scripts old.taker between.taker new.taker old.worker between.worker new.worker goes
+      (one_goes between second answer new there goes.keeps then)
+  second_goes old first second answer between new is next keeps takes same =
+      subst (λ (x : Working State). Goes scripts old.taker x.taker old.worker x.worker) (sym same) (one_goes old first answer between is keeps takes)
+
+  turn_goes_in : (old : Working State) (turn : Option Turn) (new : Working State) → IsTurnBy old.worker turn → Keeps scripts old.worker (own old.worker.number old.taker.history)
+      → TakesIn Move scripts tries old turn new → Goes scripts old.taker new.taker old.worker new.worker
+  turn_goes_in old None new is keeps takes = absurd takes
+  turn_goes_in old (Some (Ended outcome)) new is keeps takes = absurd takes
+  turn_goes_in old (Some (One step)) new is keeps (answer, takes) = one_goes old step answer new is keeps takes
+  turn_goes_in old (Some (Two first second)) new is keeps (answer, between, takes, then) = second_goes old first second answer between new is.0 is.1 keeps takes then
+
+  -- The worker at the size that the table has goes on as the worker itself.
+  pub turn_goes : (size : ℕ) (old new : State) (before after : Worker) (outcome : Option Outcome) → IsTurnBy (sized_by size before) (turn_by (sized_by size before)) → Keeps scripts before (own before.number old.history)
+      → TakesNext Move size scripts tries old before outcome new after → Goes scripts old new before after
+  turn_goes size old new before after outcome is keeps takes =
+      let goes = turn_goes_in (record { taker = old; worker = sized_by size before; outcome = None }) (turn_by (sized_by size before)) (record { taker = new; worker = after; outcome = outcome }) is
+      (sized_keeps size scripts before (own before.number old.history) keeps) takes in
+      record { limits = goes.limits; number = goes.number; same = goes.same; others = goes.others; keeps = goes.keeps }
+
+-- At the size that the core's table has.
+pub took : (scripts : List (List Action)) (tries size : ℕ) (old new : State) (before after : Worker) (outcome : Option Outcome) → size ≡ old.size
+    → TakesNext Move size scripts tries old before outcome new after → TakesTurn scripts tries old before new after
+took scripts tries size old new before after outcome is takes = (outcome, subst (λ n. TakesNext Move n scripts tries old before outcome new after) is takes)
 
 -- One member goes on, and the others stay as they are.
 pub crew_goes : (scripts : List (List Action)) (count w : ℕ) (old new : State) (crew : List Worker) (before after : Worker) → w < length crew → before ≡ get_or crew w before
@@ -125,7 +175,7 @@ crew_goes scripts count w old new crew before after within at is goes = record {
           subst (λ x. IsMember scripts count new.history x (get_or (set crew w after) x other)) (sym mine)
           (subst (IsMember scripts count new.history w) (sym (get_or-set_same crew w after other within)) (record {
             number = goes.number ∙ before_is.number;
-            workers = goes.workers ∙ before_is.workers;
+            workers = ap (λ (limits : Sizes). limits.callers) goes.same ∙ before_is.workers;
             keeps = subst (λ x. Keeps scripts after (own x new.history)) (goes.number ∙ before_is.number) goes.keeps;
           }))
       | false ↦ λ apart.
@@ -157,10 +207,10 @@ crew_more scripts count crew worker member each w other less = elim (nat_lt w (l
 ] refl
 
 -- So a crew's history is one in which each worker's committed transactions play scripts of its own.
-pub crew_plays : (scripts : List (List Action)) (count stripes : ℕ) (h : List Entry) (crew : List Worker) → IsLegal stripes h → IsCrew scripts count h crew → PlayScripts count scripts h
-crew_plays scripts count stripes h crew legal is = scripts_played count scripts h legal.shape (λ c below.
-    let nobody : Worker = record { number = 0; workers = 0; task = None } in
+pub crew_plays : (limits : Sizes) (scripts : List (List Action)) (count stripes : ℕ) (h : List Entry) (crew : List Worker) → IsLegal stripes h → IsCrew scripts count h crew → PlayScripts count scripts h
+crew_plays limits scripts count stripes h crew legal is = scripts_played count scripts h legal.shape (λ c below.
+    let nobody : Worker = record { number = 0; limits = limits; task = None } in
     let worker : Worker = get_or crew c nobody in
     let member : IsMember scripts count h c worker = is.each c nobody (subst (λ n. c < n) (sym is.size) below) in
     subst (λ n. HavePlayed n scripts c (length scripts) (parts_of (own c h))) member.workers
-    (subst (λ w. HavePlayed worker.workers scripts w (length scripts) (parts_of (own c h))) member.number (keeps_played scripts worker (own c h) member.keeps)))
+    (subst (λ w. HavePlayed worker.limits.callers scripts w (length scripts) (parts_of (own c h))) member.number (keeps_played scripts worker (own c h) member.keeps)))

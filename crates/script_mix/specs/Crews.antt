@@ -11,27 +11,31 @@ use Rattle.script_worker.specs.Keeps.{Keeps}
 use Rattle.script_mix.specs.Turns.{live, AreDone, Mixing, beginning, TakeDrawn}
 
 -- One of so many workers, whose own entries in the history are what its scripts ask for so far.
-pub record IsMember (scripts : List (List Action)) (count : ℕ) (h : List Entry) (w : ℕ) (worker : Worker) : Type 0 where
+pub record IsMember (scripts : List (List Action)) (count : ℕ) (h : List Entry) (w : ℕ)
+    (worker : Worker) : Type 0 where
   pub number : worker.number ≡ w
-  pub workers : worker.workers ≡ count
+  pub workers : worker.limits.callers ≡ count
   pub keeps : Keeps scripts worker (own w h)
 
 -- The workers, by rising numbers.
-pub record IsCrew (scripts : List (List Action)) (count : ℕ) (h : List Entry) (crew : List Worker) : Type 0 where
+pub record IsCrew (scripts : List (List Action)) (count : ℕ) (h : List Entry)
+    (crew : List Worker) : Type 0 where
   pub size : length crew ≡ count
-  pub each : (w : ℕ) (other : Worker) → w < length crew → IsMember scripts count h w (slice_index_or crew w other)
+  pub each : (w : ℕ) (other : Worker) → w < length crew → IsMember scripts count h w
+      (slice_index_or crew w other)
 
 -- A worker went on: it keeps to its scripts, and adds no entry of another caller.
-pub record Goes (scripts : List (List Action)) (old new : State) (before after : Worker) : Type 0 where
+pub record Goes (scripts : List (List Action)) (old new : State)
+    (before after : Worker) : Type 0 where
   pub limits : new.limits ≡ old.limits
   pub number : after.number ≡ before.number
-  pub workers : after.workers ≡ before.workers
+  pub same : after.limits ≡ before.limits
   pub others : (c : ℕ) → c ≢ before.number → own c new.history ≡ own c old.history
   pub keeps : Keeps scripts after (own after.number new.history)
 
--- A core of the limits asked for, on which the workers took turns as they were drawn, until none had a step or a script left
--- or 2^64 - 1 turns were taken; and in whose history each worker's committed transactions play scripts of its own, their
--- numbers rising.
+-- A core of the limits asked for, on which the workers took turns as they were drawn, until none
+-- had a step or a script left or 2^64 - 1 turns were taken; and in whose history each worker's
+-- committed transactions play scripts of its own, their numbers rising.
 pub record IsMixed (work : Work) (seed : ℕ) (state : State) : Type 0 where
   pub limits : state.limits ≡ work.sizes
   pub plays : PlayScripts work.sizes.callers work.scripts state.history

@@ -1,16 +1,13 @@
 -- Which worker takes each turn, and what the turn does.
-use Rattle.std.specs.Prelude.{◌≡◌, ℕ, ◌+◌, ◌<◌, ◌%◌, if◌then◌else◌, List, [], ◌∷◌, ◌++◌, All, length, take, Option, Some, None, is_some, slice_index_or, slice_set}
+use Rattle.std.specs.Prelude.{◌≡◌, ℕ, ◌+◌, ◌<◌, ◌%◌, if◌then◌else◌, List, [], ◌∷◌, ◌++◌, All, length, take, Option, None, is_some, slice_index_or, slice_set}
 use Prim.Native.Nat.{zero, suc}
 use Rattle.txn_trace.specs.declared.action.Action.{Action}
-use Rattle.txn_trace.specs.declared.answer.Answer.{Answer}
-use Rattle.txn_trace.specs.declared.answer.Answer.TheVariants as answers
-use Rattle.txn_trace.specs.declared.step.Step.{Step}
+use Rattle.txn_trace.specs.Sizes.{Sizes}
 use Rattle.txn_trace.specs.Work.{Work}
-use Rattle.txn_drive.specs.declared.turn.Turn.{Turn}
-use Rattle.txn_drive.specs.declared.turn.Turn.TheVariants.{One, Two, Ended}
 use Rattle.boost_core.specs.Machine.{State, Move, start}
 use Rattle.script_worker.specs.declared.worker.Worker.{Worker}
-use Rattle.script_worker.specs.Workers.{new_worker, told_by, sized_by, turn_by, step_by}
+use Rattle.script_worker.specs.declared.attempt.Outcome.{Outcome}
+use Rattle.script_worker.specs.Workers.{new_worker, step_by, TakesNext}
 use Rattle.rand_core.specs.Pcg32Seed.{pcg32_seed}
 use Rattle.rand_pcg.specs.Lcg.{Lcg}
 use Rattle.rand_pcg.specs.Pcg.{pcg32, pcg32_of_seed}
@@ -30,27 +27,10 @@ pub record IsAtPlace (workers : List Worker) (place number : ℕ) : Type 0 where
   pub before : live (take number workers) ≡ place
   pub lives : live (take (number + 1) workers) ≡ place + 1
 
--- A worker takes this step, and is told the answer.
-pub record Takes (scripts : List (List Action)) (tries : ℕ) (old : State) (before : Worker) (step : Step) (answer : Answer) (new : State) (after : Worker) : Type 0 where
-  pub move : Move old step answer new
-  pub told : after ≡ told_by scripts tries before answer
-
--- After the first step of two the second is taken where the answer was `placed`.
-abbrev pub TakesSecond : List (List Action) → ℕ → State → Worker → Step → Answer → State → Worker → Type 0
-TakesSecond scripts tries old before second answers.Placed new after = (answer : Answer) × Takes scripts tries old before second answer new after
-TakesSecond scripts tries old before second answer new after = (new ≡ old) × (after ≡ before)
-
--- A turn of a worker: it takes one step at least.
-abbrev pub TakesIn : List (List Action) → ℕ → State → Worker → Option Turn → State → Worker → Type 0
-TakesIn scripts tries old before (Some (One step)) new after = (answer : Answer) × Takes scripts tries old before step answer new after
-TakesIn scripts tries old before (Some (Two first second)) new after =
-    (answer : Answer) × (between : State) × (middle : Worker) × Takes scripts tries old before first answer between middle × TakesSecond scripts tries between middle second answer new after
-TakesIn scripts tries old before (Some (Ended outcome)) new after = ⊥
-TakesIn scripts tries old before None new after = ⊥
-
--- The next turn of a worker, at the size of the table.
+-- A worker takes its next turn on the core, at the size of the core's table.
 abbrev pub TakesTurn : List (List Action) → ℕ → State → Worker → State → Worker → Type 0
-TakesTurn scripts tries old before new after = TakesIn scripts tries old (sized_by old.size before) (turn_by (sized_by old.size before)) new after
+TakesTurn scripts tries old before new after =
+    (outcome : Option Outcome) × TakesNext Move old.size scripts tries old before outcome new after
 
 -- A core, the workers that take turns on it, and the generator by which they are drawn.
 pub record Mixing : Type 0 where
@@ -59,21 +39,22 @@ pub record Mixing : Type 0 where
   pub generator : Lcg
 
 -- The first so many workers before their first steps.
-abbrev pub first_crew : List (List Action) → ℕ → ℕ → List Worker
-first_crew scripts workers zero = []
-first_crew scripts workers (suc w) = first_crew scripts workers w ++ new_worker scripts w workers ∷ []
+abbrev pub first_crew : List (List Action) → Sizes → ℕ → List Worker
+first_crew scripts limits zero = []
+first_crew scripts limits (suc w) = first_crew scripts limits w ++ new_worker scripts w limits ∷ []
 
 -- A new core with its workers, and the generator of this seed.
 abbrev pub beginning : Work → ℕ → Mixing
 beginning work seed = record {
   core = start work.sizes;
-  crew = first_crew work.scripts work.sizes.callers work.sizes.callers;
+  crew = first_crew work.scripts work.sizes work.sizes.callers;
   generator = pcg32_of_seed (pcg32_seed 16 seed);
 }
 
--- The worker of this number is the one at the place that the generator's next word, modulo the number of live workers,
--- says, and takes its next turn.
-pub record TakesDrawn (scripts : List (List Action)) (tries : ℕ) (old : Mixing) (number : ℕ) (new : Mixing) : Type 0 where
+-- The worker of this number is the one at the place that the generator's next word, modulo the
+-- number of live workers, says, and takes its next turn.
+pub record TakesDrawn (scripts : List (List Action)) (tries : ℕ) (old : Mixing) (number : ℕ)
+    (new : Mixing) : Type 0 where
   pub drawn : IsAtPlace old.crew ((pcg32 old.generator).0 % live old.crew) number
   pub generator : new.generator ≡ (pcg32 old.generator).1
   pub before : Worker
@@ -85,4 +66,6 @@ pub record TakesDrawn (scripts : List (List Action)) (tries : ℕ) (old : Mixing
 -- Turn after turn, with the numbers of the workers that were drawn, the last one first.
 abbrev pub TakeDrawn : List (List Action) → ℕ → Mixing → List ℕ → Mixing → Type 0
 TakeDrawn scripts tries first [] last = last ≡ first
-TakeDrawn scripts tries first (number ∷ numbers) last = (between : Mixing) × TakeDrawn scripts tries first numbers between × TakesDrawn scripts tries between number last
+TakeDrawn scripts tries first (number ∷ numbers) last =
+    (between : Mixing) × TakeDrawn scripts tries first numbers between
+    × TakesDrawn scripts tries between number last

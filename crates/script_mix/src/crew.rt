@@ -7,20 +7,22 @@ use crate::drawing::draw;
 use rand_pcg::Pcg32;
 use script_worker::Worker;
 use std::alloc::{AllocError, Global};
-use txn_trace::Script;
+use txn_trace::{Limits, Script};
 
-/// The workers, by rising numbers, before their first steps.
+/// The workers, as many as callers, by rising numbers, before their first steps.
 pub(crate) fn workers_of(
     alloc: Global,
-    count: usize,
+    limits: Limits,
     scripts: &[Script],
 ) -> Result<Vec<Worker>, AllocError>
-    ensures crew { IfOk result (λ crew. IsCrew scripts.now count [] crew.items) }
-    ensures first { IfOk result (λ crew. crew.items ≡ first_crew scripts.now count count) }
+    ensures crew { IfOk result (λ crew. IsCrew scripts.now limits.callers [] crew.items) }
+    ensures first { IfOk result (λ crew.
+        crew.items ≡ first_crew scripts.now limits limits.callers) }
 {
+    let count = limits.callers() as usize;
     let mut workers = Vec::with_capacity(alloc, count)?;
     for number in 0..count {
-        workers.push(Worker::new(number, count, scripts))?;
+        workers.push(Worker::new(number, limits, scripts))?;
     }
     Ok(workers)
 }
@@ -39,12 +41,14 @@ fn live_count(workers: &[Worker]) -> usize
     count
 }
 
-/// Draws one of the workers that have a step to take, and gives its number; none where no worker has one.
+/// Draws one of the workers that have a step to take, and gives its number; none where no worker
+/// has one.
 ///
-/// Draws a number below how many such workers there are, also where there is one, and takes the worker at that place of
-/// them, in rising order.
+/// Draws a number below how many such workers there are, also where there is one, and takes the
+/// worker at that place of them, in rising order.
 pub(crate) fn drawn(generator: &mut Pcg32, workers: &[Worker]) -> Option<usize>
-    ensures drawn { IfSome result (λ number. IsAtPlace workers.now ((pcg32 generator.old).0 % live workers.now) number) }
+    ensures drawn { IfSome result (λ number.
+        IsAtPlace workers.now ((pcg32 generator.old).0 % live workers.now) number) }
     ensures generator { IfSome result (λ number. generator.new ≡ (pcg32 generator.old).1) }
     ensures none { result ≡ None → (live workers.now ≡ 0) × AreDone workers.now }
 {

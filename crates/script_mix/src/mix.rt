@@ -9,11 +9,18 @@ use rand_pcg::Pcg32;
 use std::alloc::{AllocError, Global};
 use txn_trace::Scripts;
 
-/// Runs the scripts on a new core, the workers' turns mixed as the seed says, until no worker has a step left. The core
-/// then has the history. Before each turn a place among the live workers is drawn, also where there is one.
+/// Runs the scripts on a new core, the workers' turns mixed as the seed says, until no worker has a
+/// step left. The core then has the history. Before each turn a place among the live workers is
+/// drawn, also where there is one.
 ///
-/// `AllocError` where memory is refused outside a step. A step that is refused memory is answered 14, by which its
-/// script ends. A run costs what its steps cost, and a look at each worker for each turn.
+/// # Errors
+///
+/// `AllocError` where memory is refused outside a step. A step that is refused memory is answered
+/// 14, by which its script ends.
+///
+/// # Cost
+///
+/// What the steps cost, and a look at each worker for each turn.
 pub fn mixed(alloc: Global, seed: u64, work: &Scripts) -> Result<Core, AllocError>
     ensures { IfOk result (λ core. IsMixed work.now seed core) }
 {
@@ -21,7 +28,7 @@ pub fn mixed(alloc: Global, seed: u64, work: &Scripts) -> Result<Core, AllocErro
     let Ok(mut core) = Core::new(alloc, limits) else {
         return Err(AllocError);
     };
-    let mut workers = workers_of(alloc, limits.callers() as usize, work.scripts())?;
+    let mut workers = workers_of(alloc, limits, work.scripts())?;
     let mut generator = Pcg32::seed_from_u64(seed);
     for _turn in 0..u64::MAX {
         let Some(number) = drawn(&mut generator, &workers) else {

@@ -6,7 +6,7 @@ use rand_pcg::Pcg32;
 use std::process::Abort;
 use std::test::Fail;
 use txn_files::read_scripts;
-use txn_trace::{Answer, Entry, Refusal, Script};
+use txn_trace::{Answer, Entry, Limits, Refusal, Script};
 
 #[test]
 fn draw_is_the_next_word(rt: HostRuntime) {
@@ -33,7 +33,11 @@ fn empty_scripts(rt: &(impl Abort + AllocGlobal), count: usize) -> Result<Vec<Sc
 #[test]
 fn places_among_live_workers(rt: HostRuntime) -> Result<(), Fail> {
     let scripts = empty_scripts(&rt, 3)?;
-    let mut workers = workers_of(rt.alloc(), 4, &scripts)?;
+    let mut workers = workers_of(
+        rt.alloc(),
+        Limits::new(4, 8, 8).ok().ok_or("limits")?,
+        &scripts,
+    )?;
     for (place, number) in [(0, Some(0)), (1, Some(1)), (2, Some(2)), (3, None)] {
         assert_eq!(rt; at_place(&workers, place), number, "{place}");
     }
@@ -64,7 +68,8 @@ fn mixed_commits_an_empty_script(rt: HostRuntime) -> Result<(), Fail> {
     Ok(())
 }
 
-/// An empty script takes two turns, begin and commit, and each is an entry: so the history says who took each turn.
+/// An empty script takes two turns, begin and commit, and each is an entry: so the history says who
+/// took each turn.
 #[test]
 fn the_worker_drawn_goes(rt: HostRuntime) -> Result<(), Fail> {
     let text =
@@ -95,7 +100,8 @@ fn the_worker_drawn_goes(rt: HostRuntime) -> Result<(), Fail> {
     Ok(())
 }
 
-/// The entries of the turns of two scripts that begin with a help with a bad key: begin, abort, seek, act.
+/// The entries of the turns of two scripts that begin with a help with a bad key: begin, abort,
+/// seek, act.
 const BAD_HELPS: [Option<&str>; 8] = [
     Some("began"),
     Some("leave"),
@@ -107,7 +113,8 @@ const BAD_HELPS: [Option<&str>; 8] = [
     Some("aborted"),
 ];
 
-/// The entries of the turns of such a script, and of one that is a put: begin, ask, seek, act, commit.
+/// The entries of the turns of such a script, and of one that is a put: begin, ask, seek, act,
+/// commit.
 const BAD_HELP_AND_PUT: [Option<&str>; 9] = [
     Some("began"),
     Some("leave"),
@@ -133,8 +140,8 @@ fn named(entry: &Entry) -> (u64, &'static str) {
     }
 }
 
-/// Helps with bad keys draw nothing: worker 0 has no other action and takes eight turns, and worker 1 also puts and takes
-/// nine.
+/// Helps with bad keys draw nothing: worker 0 has no other action and takes eight turns, and worker
+/// 1 also puts and takes nine.
 #[test]
 fn bad_helps_beside_a_put(rt: HostRuntime) -> Result<(), Fail> {
     let text =

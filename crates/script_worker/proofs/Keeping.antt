@@ -21,6 +21,7 @@ use Rattle.txn_trace.specs.declared.step.Step.{Step}
 use Rattle.txn_trace.specs.declared.step.Step.TheVariants as steps
 use Rattle.txn_trace.specs.Plays.{is_undone, without_undone, ArePlayed, IsPlayed, IsScriptOf, HavePlayed, parts_of, part_after}
 use Rattle.txn_trace.proofs.Playing.{part-began, played_below, played_on, played_commit}
+use Rattle.txn_trace.specs.Sizes.{Sizes}
 use Rattle.txn_drive.specs.declared.call.Call.{Call}
 use Rattle.txn_drive.specs.declared.call.Call.TheVariants as calls
 use Rattle.txn_drive.specs.declared.drive.Drive.{Drive}
@@ -40,7 +41,7 @@ use Rattle.script_worker.specs.declared.attempt.Outcome.TheVariants as outcomes
 use Rattle.script_worker.specs.declared.task.Task.{Task}
 use Rattle.script_worker.specs.declared.standing.Standing.{Standing}
 use Rattle.script_worker.specs.Attempts.{attempt_at, call_for, call_of, call_at, done_with, busy_at, refused_with, refused_at, progress_at, progress_of}
-use Rattle.script_worker.specs.Workers.{started, followed, progressed, settled_in, settled_at, settled, with_drive_in, told_drive, told_by, sized_by, step_by}
+use Rattle.script_worker.specs.Workers.{new_worker, started, followed, progressed, settled_in, settled_at, settled, with_drive_in, told_drive, told_by, sized_by, step_by}
 use Rattle.script_worker.specs.Keeps.{IsFront, IsAsFar, IsBegun, IsCommitting, IsActing, IsAt, KeepsTask, KeepsAt, Keeps}
 use Rattle.txn_drive.proofs.DriveLaws.{goes_on, made_at_end, made-sized, made-new}
 use Rattle.script_worker.proofs.Driving.{IsPlainCall, IsInner, plain_step, plain_entries, part-inner, played_inner}
@@ -110,13 +111,13 @@ as_far_next script i drive after parts added added_is none asked far = record {
   goes = λ rest plays. subst (IsPlayed script) (sym (append_assoc far.front added rest)) (far.goes (added ++ rest) (asked rest plays));
 }
 
-module _ (workers : ℕ) (scripts : List (List Action)) (w : ℕ) (below : w < workers) where
+module _ (half : Bool) (workers : ℕ) (scripts : List (List Action)) (w : ℕ) (below : w < workers) where
   -- The next script of the worker's, where there is one.
   keeps_started : (n high : ℕ) (parts : List (List Entry)) → n % workers ≡ w → high ≤ n → high ≤ length scripts → HavePlayed workers scripts w high parts
-      → KeepsAt workers scripts w (started scripts w n) parts
+      → KeepsAt workers scripts w (started half scripts w n) parts
   keeps_started n high parts mine le within played = at (nat_lt n (length scripts)) refl
     where
-      at : (b : Bool) → nat_lt n (length scripts) ≡ b → KeepsAt workers scripts w (if b then Some (record { script = n; attempt = attempt_at 0 Beginning; drive = new_drive w calls.Begin }) else None) parts
+      at : (b : Bool) → nat_lt n (length scripts) ≡ b → KeepsAt workers scripts w (if b then Some (record { script = n; attempt = attempt_at 0 Beginning; drive = new_drive half w calls.Begin }) else None) parts
       at true is = record {
         script = get_or scripts n [];
         mine = record { mine = mine; there = slice_get-get_or scripts n [] (ltb-true n (length scripts) is) };
@@ -126,17 +127,17 @@ module _ (workers : ℕ) (scripts : List (List Action)) (w : ℕ) (below : w < w
       }
       at false is = played_below workers scripts w high (length scripts) parts within played
 
-  pub keeps_new : KeepsAt workers scripts w (started scripts w w) []
+  pub keeps_new : KeepsAt workers scripts w (started half scripts w w) []
   keeps_new = keeps_started w 0 [] (mod-eq_of_lt below) (omega arith) (omega arith) tt
 
   module _ (n : ℕ) (script : List Action) (is : IsScriptOf workers scripts w n script) where
     -- An attempt at the script goes on.
-    keeps_next : (again : ℕ) (stage : Stage) (parts : List (List Entry)) → IsAt workers scripts w n script (new_drive w (call_at script stage)) parts stage
-        → KeepsTask workers scripts w (record { script = n; attempt = attempt_at again stage; drive = new_drive w (call_at script stage) }) parts
+    keeps_next : (again : ℕ) (stage : Stage) (parts : List (List Entry)) → IsAt workers scripts w n script (new_drive half w (call_at script stage)) parts stage
+        → KeepsTask workers scripts w (record { script = n; attempt = attempt_at again stage; drive = new_drive half w (call_at script stage) }) parts
     keeps_next again stage parts at = record { script = script; mine = is; caller = refl; call = refl; at = at }
 
     -- The script is over, and the next one of the worker's follows.
-    keeps_over : (parts : List (List Entry)) → HavePlayed workers scripts w (suc n) parts → KeepsAt workers scripts w (started scripts w (n + workers)) parts
+    keeps_over : (parts : List (List Entry)) → HavePlayed workers scripts w (suc n) parts → KeepsAt workers scripts w (started half scripts w (n + workers)) parts
     keeps_over parts played =
         let within : n < length scripts = slice_get_within scripts n script is.there in
         keeps_started (n + workers) (suc n) parts (add-mod_right n workers ∙ is.mine) (omega arith) (omega arith) played
@@ -146,8 +147,8 @@ module _ (workers : ℕ) (scripts : List (List Action)) (w : ℕ) (below : w < w
 
     -- What follows, where it is the next call of an attempt or another script.
     abbrev Follows : List (List Entry) → Progress → Type 0
-    Follows parts (Next attempt) = KeepsTask workers scripts w (record { script = n; attempt = attempt; drive = new_drive w (call_at script attempt.stage) }) parts
-    Follows parts (Over outcome) = KeepsAt workers scripts w (started scripts w (n + workers)) parts
+    Follows parts (Next attempt) = KeepsTask workers scripts w (record { script = n; attempt = attempt; drive = new_drive half w (call_at script attempt.stage) }) parts
+    Follows parts (Over outcome) = KeepsAt workers scripts w (started half scripts w (n + workers)) parts
 
     follows_busy : (tries again : ℕ) (parts : List (List Entry)) → HavePlayed workers scripts w n parts → Follows parts (busy_at tries again)
     follows_busy tries again parts played = elim (nat_lt again tries) as (λ b. Follows parts (if b then Next (attempt_at (again + 1) Beginning) else Over outcomes.Busy)) [
@@ -162,10 +163,10 @@ module _ (workers : ℕ) (scripts : List (List Action)) (w : ℕ) (below : w < w
     follows_action : (again i : ℕ) (drive : Drive) (parts : List (List Entry)) → made drive ≡ [] → IsAsFar script i drive parts → HavePlayed workers scripts w n parts → Follows parts (Next (attempt_at again (Acting i)))
     follows_action again i drive parts none far played = keeps_next again (Acting i) parts (at (slice_get script i))
       where
-        new : (call : Call) → IsAsFar script i (new_drive w call) parts
-        new call = with_made script i drive (new_drive w call) parts (sym (none ∙ sym (made-new w call))) far
+        new : (call : Call) → IsAsFar script i (new_drive half w call) parts
+        new call = with_made script i drive (new_drive half w call) parts (sym (none ∙ sym (made-new half w call))) far
 
-        at : (o : Option Action) → IsActing workers scripts w n script i (new_drive w (call_of o)) parts o
+        at : (o : Option Action) → IsActing workers scripts w n script i (new_drive half w (call_of o)) parts o
         at (Some action) = (new (call_for action), played)
         at None = (new calls.Commit, played)
 
@@ -195,7 +196,7 @@ module _ (workers : ℕ) (scripts : List (List Action)) (w : ℕ) (below : w < w
 
     begun : (tries again t : ℕ) (parts : List (List Entry)) → (older : List (List Entry)) → parts ≡ (entries.Began w t ∷ []) ∷ older → HavePlayed workers scripts w n parts
         → Follows parts (Next (attempt_at again (Acting 0)))
-    begun tries again t parts older parts_are played = follows_action again 0 (new_drive w calls.Begin) parts refl (record {
+    begun tries again t parts older parts_are played = follows_action again 0 (new_drive half w calls.Begin) parts refl (record {
       part = entries.Began w t ∷ [];
       older = older;
       parts_are = parts_are;
@@ -248,8 +249,8 @@ module _ (workers : ℕ) (scripts : List (List Action)) (w : ℕ) (below : w < w
         → ((rest : List Entry) → ArePlayed (drop (i + 1) script) rest → ArePlayed (action ∷ drop (i + 1) script) (added ++ rest))
         → IsAsFar script i drive parts → HavePlayed workers scripts w n parts → Follows parts (Next (attempt_at again (Acting (i + 1))))
     goes_next again i action drive parts added here added_is asked far played =
-        follows_action again (i + 1) (new_drive w calls.Begin) parts refl
-        (as_far_next script i drive (new_drive w calls.Begin) parts added added_is refl (λ rest plays. subst (λ s. ArePlayed s (added ++ rest)) (sym (from_here script i action here)) (asked rest plays)) far) played
+        follows_action again (i + 1) (new_drive half w calls.Begin) parts refl
+        (as_far_next script i drive (new_drive half w calls.Begin) parts added added_is refl (λ rest plays. subst (λ s. ArePlayed s (added ++ rest)) (sym (from_here script i action here)) (asked rest plays)) far) played
 
     acted_end : (tries again i c : ℕ) (action : Action) (outcome : End) (drive : Drive) (parts : List (List Entry)) → slice_get script i ≡ Some action → IsMade c (call_for action) outcome (made drive)
         → IsAsFar script i drive parts → HavePlayed workers scripts w n parts → Follows parts (progress_with tries again i (Some action) outcome)
@@ -397,26 +398,26 @@ module _ (workers : ℕ) (scripts : List (List Action)) (w : ℕ) (below : w < w
     at = sized_at task.script at.script at.mine size task.attempt.stage task.drive parts at.at;
   }
 
-follows_keeps : (scripts : List (List Action)) (worker : Standing) (below : worker.number < worker.workers) (task : Task) (script : List Action) (is : IsScriptOf worker.workers scripts worker.number task.script script) (parts : List (List Entry)) (progress : Progress)
-    → Follows worker.workers scripts worker.number below task.script script is parts progress → KeepsAt worker.workers scripts worker.number (followed scripts worker task script progress) parts
+follows_keeps : (scripts : List (List Action)) (worker : Standing) (below : worker.number < worker.limits.callers) (task : Task) (script : List Action) (is : IsScriptOf worker.limits.callers scripts worker.number task.script script) (parts : List (List Entry)) (progress : Progress)
+    → Follows worker.limits.half worker.limits.callers scripts worker.number below task.script script is parts progress → KeepsAt worker.limits.callers scripts worker.number (followed scripts worker task script progress) parts
 follows_keeps scripts worker below task script is parts (Next attempt) follows = follows
 follows_keeps scripts worker below task script is parts (Over outcome) follows = follows
 
-progressed_keeps : (scripts : List (List Action)) (tries : ℕ) (worker : Standing) (below : worker.number < worker.workers) (task : Task) (outcome : End) (parts : List (List Entry)) → end_of task.drive ≡ Some outcome
-    → KeepsTask worker.workers scripts worker.number task parts → KeepsAt worker.workers scripts worker.number (progressed scripts tries worker task outcome) parts
+progressed_keeps : (scripts : List (List Action)) (tries : ℕ) (worker : Standing) (below : worker.number < worker.limits.callers) (task : Task) (outcome : End) (parts : List (List Entry)) → end_of task.drive ≡ Some outcome
+    → KeepsTask worker.limits.callers scripts worker.number task parts → KeepsAt worker.limits.callers scripts worker.number (progressed scripts tries worker task outcome) parts
 progressed_keeps scripts tries worker below task outcome parts is at =
-    subst (λ o. KeepsAt worker.workers scripts worker.number (option_and_then (λ script. followed scripts worker task script (progress_of script tries task.attempt outcome)) o) parts) (sym at.mine.there)
+    subst (λ o. KeepsAt worker.limits.callers scripts worker.number (option_and_then (λ script. followed scripts worker task script (progress_of script tries task.attempt outcome)) o) parts) (sym at.mine.there)
     (follows_keeps scripts worker below task at.script at.mine parts (progress_of at.script tries task.attempt outcome)
-    (follows_end worker.workers scripts worker.number below task.script at.script at.mine tries task.attempt.again task.attempt.stage task.drive outcome parts at.call is at.at))
+    (follows_end worker.limits.half worker.limits.callers scripts worker.number below task.script at.script at.mine tries task.attempt.again task.attempt.stage task.drive outcome parts at.call is at.at))
 
-settled_in_keeps : (scripts : List (List Action)) (tries : ℕ) (worker : Standing) (below : worker.number < worker.workers) (task : Task) (seen : List Entry) (o : Option End) → end_of task.drive ≡ o → worker.task ≡ Some task
-    → KeepsTask worker.workers scripts worker.number task (parts_of seen) → Keeps scripts (settled_in scripts tries worker task o) seen
-settled_in_keeps scripts tries worker below task seen None is task_is at = record { number = below; at = subst (λ o. KeepsAt worker.workers scripts worker.number o (parts_of seen)) (sym task_is) at }
+settled_in_keeps : (scripts : List (List Action)) (tries : ℕ) (worker : Standing) (below : worker.number < worker.limits.callers) (task : Task) (seen : List Entry) (o : Option End) → end_of task.drive ≡ o → worker.task ≡ Some task
+    → KeepsTask worker.limits.callers scripts worker.number task (parts_of seen) → Keeps scripts (settled_in scripts tries worker task o) seen
+settled_in_keeps scripts tries worker below task seen None is task_is at = record { number = below; at = subst (λ o. KeepsAt worker.limits.callers scripts worker.number o (parts_of seen)) (sym task_is) at }
 settled_in_keeps scripts tries worker below task seen (Some outcome) is task_is at = record { number = below; at = progressed_keeps scripts tries worker below task outcome (parts_of seen) is at }
 
-settled_at_keeps : (scripts : List (List Action)) (tries : ℕ) (worker : Standing) (below : worker.number < worker.workers) (seen : List Entry) (o : Option Task) → worker.task ≡ o
-    → KeepsAt worker.workers scripts worker.number o (parts_of seen) → Keeps scripts (settled_at scripts tries worker o) seen
-settled_at_keeps scripts tries worker below seen None is at = record { number = below; at = subst (λ o. KeepsAt worker.workers scripts worker.number o (parts_of seen)) (sym is) at }
+settled_at_keeps : (scripts : List (List Action)) (tries : ℕ) (worker : Standing) (below : worker.number < worker.limits.callers) (seen : List Entry) (o : Option Task) → worker.task ≡ o
+    → KeepsAt worker.limits.callers scripts worker.number o (parts_of seen) → Keeps scripts (settled_at scripts tries worker o) seen
+settled_at_keeps scripts tries worker below seen None is at = record { number = below; at = subst (λ o. KeepsAt worker.limits.callers scripts worker.number o (parts_of seen)) (sym is) at }
 settled_at_keeps scripts tries worker below seen (Some task) is at = settled_in_keeps scripts tries worker below task seen (end_of task.drive) refl is at
 
 -- A worker that goes on keeps to its scripts.
@@ -431,15 +432,15 @@ told_keeps scripts tries worker answer seen step is keeps =
     let parts_are : parts_of es ≡ fold part_after (parts_of seen) (entries_of step answer) = fold-append part_after [] seen (entries_of step answer) in
     let told : Keeps scripts (told_drive worker answer) es = record {
       number = keeps.number;
-      at = subst (KeepsAt worker.workers scripts worker.number (told_drive worker answer).task) (sym parts_are) (task_told worker.workers scripts worker.number keeps.number worker.task step answer (parts_of seen) is keeps.at);
+      at = subst (KeepsAt worker.limits.callers scripts worker.number (told_drive worker answer).task) (sym parts_are) (task_told worker.limits.half worker.limits.callers scripts worker.number keeps.number worker.task step answer (parts_of seen) is keeps.at);
     } in
     settled_keeps scripts tries _ es (settled_keeps scripts tries _ es told)
 
 pub sized_keeps : (size : ℕ) (scripts : List (List Action)) (worker : Standing) (seen : List Entry) → Keeps scripts worker seen → Keeps scripts (sized_by size worker) seen
-sized_keeps size scripts worker seen keeps = record { number = keeps.number; at = task_sized worker.workers scripts worker.number keeps.number size worker.task (parts_of seen) keeps.at }
+sized_keeps size scripts worker seen keeps = record { number = keeps.number; at = task_sized worker.limits.half worker.limits.callers scripts worker.number keeps.number size worker.task (parts_of seen) keeps.at }
 
-pub new_keeps : (scripts : List (List Action)) (w workers : ℕ) → w < workers → Keeps scripts (record { number = w; workers = workers; task = started scripts w w }) []
-new_keeps scripts w workers below = record { number = below; at = keeps_new workers scripts w below }
+pub new_keeps : (scripts : List (List Action)) (w : ℕ) (limits : Sizes) → w < limits.callers → Keeps scripts (new_worker scripts w limits) []
+new_keeps scripts w limits below = record { number = below; at = keeps_new limits.half limits.callers scripts w below }
 
 -- A worker with a step to take stays as it is.
 stays : (scripts : List (List Action)) (tries : ℕ) (worker : Standing) (step : Step) (o : Option Task) → option_and_then (λ (task : Task). step_of task.drive) o ≡ Some step → settled_at scripts tries worker o ≡ worker
@@ -474,19 +475,19 @@ module _ (workers : ℕ) (scripts : List (List Action)) (w : ℕ) where
       let within : task.script < length scripts = slice_get_within scripts task.script at.script at.mine.there in
       played_below workers scripts w (suc task.script) (length scripts) parts (omega arith) (at_played task.script at.script task.drive parts task.attempt.stage at.at)
 
-pub keeps_played : (scripts : List (List Action)) (worker : Standing) (seen : List Entry) → Keeps scripts worker seen → HavePlayed worker.workers scripts worker.number (length scripts) (parts_of seen)
-keeps_played scripts worker seen keeps = task_played worker.workers scripts worker.number worker.task (parts_of seen) keeps.at
+pub keeps_played : (scripts : List (List Action)) (worker : Standing) (seen : List Entry) → Keeps scripts worker seen → HavePlayed worker.limits.callers scripts worker.number (length scripts) (parts_of seen)
+keeps_played scripts worker seen keeps = task_played worker.limits.callers scripts worker.number worker.task (parts_of seen) keeps.at
 
 -- The worker whose drive knows the size at this moment.
 pub sized_is : (size : ℕ) (worker : Standing) (task : Task) (drive : Drive) → worker.task ≡ Some task → drive ≡ sized_of size task.drive
-    → sized_by size worker ≡ record { number = worker.number; workers = worker.workers; task = Some (record { script = task.script; attempt = task.attempt; drive = drive }) }
+    → sized_by size worker ≡ record { number = worker.number; limits = worker.limits; task = Some (record { script = task.script; attempt = task.attempt; drive = drive }) }
 sized_is size worker task drive is drive_is =
-    let with_task : Option Task → Standing = λ o. record { number = worker.number; workers = worker.workers; task = o } in
+    let with_task : Option Task → Standing = λ o. record { number = worker.number; limits = worker.limits; task = o } in
     ap (λ o. with_task (with_drive_in (sized_of size) o)) is ∙ ap (λ d. with_task (Some (record { script = task.script; attempt = task.attempt; drive = d }))) (sym drive_is)
 
--- A worker stays the same one among as many.
+-- A worker stays the same one, of the same limits.
 abbrev IsSameOne : Standing → Standing → Type 0
-IsSameOne after before = (after.number ≡ before.number) × (after.workers ≡ before.workers)
+IsSameOne after before = (after.number ≡ before.number) × (after.limits ≡ before.limits)
 
 settled_in_same : (scripts : List (List Action)) (tries : ℕ) (worker : Standing) (task : Task) (o : Option End) → IsSameOne (settled_in scripts tries worker task o) worker
 settled_in_same scripts tries worker task None = (refl, refl)

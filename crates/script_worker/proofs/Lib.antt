@@ -1,3 +1,4 @@
 pub mod Driving
 pub mod Keeping
 pub mod Ready
+pub mod Taking

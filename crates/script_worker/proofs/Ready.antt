@@ -9,6 +9,7 @@ use Rattle.txn_trace.specs.declared.answer.Answer.{Answer}
 use Rattle.txn_trace.specs.declared.answer.Answer.TheVariants as answers
 use Rattle.txn_trace.specs.declared.refusal.Refusal.TheVariants.{BadKey}
 use Rattle.txn_trace.specs.declared.step.Step.{Step}
+use Rattle.txn_trace.specs.Sizes.{Sizes, is_bad_key}
 use Rattle.txn_drive.specs.declared.call.Call.{Call}
 use Rattle.txn_drive.specs.declared.call.Call.TheVariants as calls
 use Rattle.txn_drive.specs.declared.drive.Drive.{Drive}
@@ -56,24 +57,25 @@ steps_ended (Some step) drive is some = goes_on drive step is
 
 -- A task as a call leaves it: its drive has a step to take, or is new.
 record IsCalled (scripts : List (List Action)) (task : Task) : Type 0 where
+  half : Bool
   caller : ℕ
   script : List Action
   there : slice_get scripts task.script ≡ Some script
-  drive : task.drive ≡ new_drive caller (call_at script task.attempt.stage)
+  drive : task.drive ≡ new_drive half caller (call_at script task.attempt.stage)
 
 abbrev IsCalledIfAny : List (List Action) → Option Task → Type 0
 IsCalledIfAny scripts None = Unit {0}
 IsCalledIfAny scripts (Some task) = HasStep task.drive ⊎ IsCalled scripts task
 
 -- The first settling.
-called_started : (scripts : List (List Action)) (w n : ℕ) → IsCalledIfAny scripts (started scripts w n)
-called_started scripts w n =
-    elim (nat_lt n (length scripts)) as (λ b. IsCalledIfAny scripts (if b then Some (record { script = n; attempt = first_attempt; drive = new_drive w calls.Begin }) else None)) [ true ↦ inl refl | false ↦ tt ]
+called_started : (half : Bool) (scripts : List (List Action)) (w n : ℕ) → IsCalledIfAny scripts (started half scripts w n)
+called_started half scripts w n =
+    elim (nat_lt n (length scripts)) as (λ b. IsCalledIfAny scripts (if b then Some (record { script = n; attempt = first_attempt; drive = new_drive half w calls.Begin }) else None)) [ true ↦ inl refl | false ↦ tt ]
 
 called_followed : (scripts : List (List Action)) (worker : Standing) (task : Task) (script : List Action) (progress : Progress) → slice_get scripts task.script ≡ Some script
     → IsCalledIfAny scripts (followed scripts worker task script progress)
-called_followed scripts worker task script (Next attempt) there = inr (record { caller = worker.number; script = script; there = there; drive = refl })
-called_followed scripts worker task script (Over outcome) there = called_started scripts worker.number (task.script + worker.workers)
+called_followed scripts worker task script (Next attempt) there = inr (record { half = worker.limits.half; caller = worker.number; script = script; there = there; drive = refl })
+called_followed scripts worker task script (Over outcome) there = called_started worker.limits.half scripts worker.number (task.script + worker.limits.callers)
 
 called_progressed : (scripts : List (List Action)) (tries : ℕ) (worker : Standing) (task : Task) (outcome : End) (o : Option (List Action)) → slice_get scripts task.script ≡ o
     → IsCalledIfAny scripts (option_and_then (λ script. followed scripts worker task script (progress_of script tries task.attempt outcome)) o)
@@ -96,28 +98,28 @@ abbrev FollowsReady : List (List Action) → Standing → Task → List Action �
 FollowsReady scripts worker task script progress = IsReadyTask (followed scripts worker task script progress)
 
 bad_help : (scripts : List (List Action)) (tries again : ℕ) (worker : Standing) (task : Task) (script : List Action) (i c key : ℕ) (b : Bool) (outcome : End)
-    → slice_get script i ≡ Some (actions.Help key) → ended_by (turn_in c (calls.Help key) (if b then Doubling 0 else Refused BadKey)) ≡ Some outcome
+    → slice_get script i ≡ Some (actions.Help key) → ended_by (turn_in c (calls.Help key) (if b then Refused BadKey else Doubling 0)) ≡ Some outcome
     → FollowsReady scripts worker task script (progress_at script tries again (stages.Acting i) outcome)
-bad_help scripts tries again worker task script i c key true outcome here ended = absurd (cc ended)
-bad_help scripts tries again worker task script i c key false outcome here ended =
+bad_help scripts tries again worker task script i c key false outcome here ended = absurd (cc ended)
+bad_help scripts tries again worker task script i c key true outcome here ended =
     let same : ends.Refused BadKey ≡ outcome = cc ended in
     subst (λ o. FollowsReady scripts worker task script (progress_at script tries again (stages.Acting i) o)) same
     (subst (λ o. FollowsReady scripts worker task script (refused_with again o BadKey)) (sym here) refl)
 
-ready_action : (scripts : List (List Action)) (tries again : ℕ) (worker : Standing) (task : Task) (script : List Action) (i c : ℕ) (o : Option Action) (outcome : End)
-    → slice_get script i ≡ o → end_of (new_drive c (call_of o)) ≡ Some outcome → FollowsReady scripts worker task script (progress_at script tries again (stages.Acting i) outcome)
-ready_action scripts tries again worker task script i c None outcome here ended = absurd (cc ended)
-ready_action scripts tries again worker task script i c (Some (actions.Help key)) outcome here ended = bad_help scripts tries again worker task script i c key (nat_lt key (2 ^ 63)) outcome here ended
-ready_action scripts tries again worker task script i c (Some (actions.Op op)) outcome here ended = absurd (cc ended)
-ready_action scripts tries again worker task script i c (Some actions.Save) outcome here ended = absurd (cc ended)
-ready_action scripts tries again worker task script i c (Some (actions.Back n)) outcome here ended = absurd (cc ended)
-ready_action scripts tries again worker task script i c (Some actions.Abort) outcome here ended = absurd (cc ended)
+ready_action : (half : Bool) (scripts : List (List Action)) (tries again : ℕ) (worker : Standing) (task : Task) (script : List Action) (i c : ℕ) (o : Option Action) (outcome : End)
+    → slice_get script i ≡ o → end_of (new_drive half c (call_of o)) ≡ Some outcome → FollowsReady scripts worker task script (progress_at script tries again (stages.Acting i) outcome)
+ready_action half scripts tries again worker task script i c None outcome here ended = absurd (cc ended)
+ready_action half scripts tries again worker task script i c (Some (actions.Help key)) outcome here ended = bad_help scripts tries again worker task script i c key (is_bad_key half key) outcome here ended
+ready_action half scripts tries again worker task script i c (Some (actions.Op op)) outcome here ended = absurd (cc ended)
+ready_action half scripts tries again worker task script i c (Some actions.Save) outcome here ended = absurd (cc ended)
+ready_action half scripts tries again worker task script i c (Some (actions.Back n)) outcome here ended = absurd (cc ended)
+ready_action half scripts tries again worker task script i c (Some actions.Abort) outcome here ended = absurd (cc ended)
 
-ready_stage : (scripts : List (List Action)) (tries again : ℕ) (worker : Standing) (task : Task) (script : List Action) (c : ℕ) (stage : Stage) (outcome : End)
-    → end_of (new_drive c (call_at script stage)) ≡ Some outcome → FollowsReady scripts worker task script (progress_at script tries again stage outcome)
-ready_stage scripts tries again worker task script c stages.Beginning outcome ended = absurd (cc ended)
-ready_stage scripts tries again worker task script c (stages.Acting i) outcome ended = ready_action scripts tries again worker task script i c (slice_get script i) outcome refl ended
-ready_stage scripts tries again worker task script c (stages.Leaving refusal) outcome ended = absurd (cc ended)
+ready_stage : (half : Bool) (scripts : List (List Action)) (tries again : ℕ) (worker : Standing) (task : Task) (script : List Action) (c : ℕ) (stage : Stage) (outcome : End)
+    → end_of (new_drive half c (call_at script stage)) ≡ Some outcome → FollowsReady scripts worker task script (progress_at script tries again stage outcome)
+ready_stage half scripts tries again worker task script c stages.Beginning outcome ended = absurd (cc ended)
+ready_stage half scripts tries again worker task script c (stages.Acting i) outcome ended = ready_action half scripts tries again worker task script i c (slice_get script i) outcome refl ended
+ready_stage half scripts tries again worker task script c (stages.Leaving refusal) outcome ended = absurd (cc ended)
 
 -- The second settling.
 ready_progressed : (scripts : List (List Action)) (tries : ℕ) (worker : Standing) (task : Task) (outcome : End) → end_of task.drive ≡ Some outcome → HasStep task.drive ⊎ IsCalled scripts task
@@ -125,7 +127,7 @@ ready_progressed : (scripts : List (List Action)) (tries : ℕ) (worker : Standi
 ready_progressed scripts tries worker task outcome ended (inl steps) = absurd (cc (ended, steps_ended (step_of task.drive) task.drive refl steps))
 ready_progressed scripts tries worker task outcome ended (inr called) =
     subst (λ o. IsReadyTask (option_and_then (λ script. followed scripts worker task script (progress_of script tries task.attempt outcome)) o)) (sym called.there)
-    (ready_stage scripts tries task.attempt.again worker task called.script called.caller task.attempt.stage outcome (ap end_of (sym called.drive) ∙ ended))
+    (ready_stage called.half scripts tries task.attempt.again worker task called.script called.caller task.attempt.stage outcome (ap end_of (sym called.drive) ∙ ended))
 
 ready_in : (scripts : List (List Action)) (tries : ℕ) (worker : Standing) (task : Task) (o : Option End) → worker.task ≡ Some task → end_of task.drive ≡ o → HasStep task.drive ⊎ IsCalled scripts task
     → IsReady (settled_in scripts tries worker task o)
@@ -144,9 +146,9 @@ told_ready scripts tries worker answer =
     ready_at scripts tries once once.task refl (called_at scripts tries told told.task refl)
 
 -- A new worker is ready.
-pub new_ready : (scripts : List (List Action)) (w workers : ℕ) → IsReady (new_worker scripts w workers)
-new_ready scripts w workers =
-    elim (nat_lt w (length scripts)) as (λ b. IsReadyTask (if b then Some (record { script = w; attempt = first_attempt; drive = new_drive w calls.Begin }) else None)) [ true ↦ refl | false ↦ refl ]
+pub new_ready : (scripts : List (List Action)) (w : ℕ) (limits : Sizes) → IsReady (new_worker scripts w limits)
+new_ready scripts w limits =
+    elim (nat_lt w (length scripts)) as (λ b. IsReadyTask (if b then Some (record { script = w; attempt = first_attempt; drive = new_drive limits.half w calls.Begin }) else None)) [ true ↦ refl | false ↦ refl ]
 
 -- The size at this moment leaves a worker its step.
 pub sized_step : (size : ℕ) (worker : Standing) → is_some (step_by (sized_by size worker)) ≡ is_some (step_by worker)
@@ -168,7 +170,7 @@ turn_taken worker task (Ended outcome) is ready taken =
     false≢true (sym (ap is_some taken) ∙ steps)
 
 pub turn_is : (size : ℕ) (worker : Standing) (task : Task) (drive : Drive) (turn : Turn) → worker.task ≡ Some task → drive ≡ sized_of size task.drive → IsReady worker → IsTurnOf drive turn
-    → IsTurnBy (record { number = worker.number; workers = worker.workers; task = Some (record { script = task.script; attempt = task.attempt; drive = drive }) }) (Some turn)
+    → IsTurnBy (record { number = worker.number; limits = worker.limits; task = Some (record { script = task.script; attempt = task.attempt; drive = drive }) }) (Some turn)
 turn_is size worker task drive turn is drive_is ready taken =
-    let after : Standing = record { number = worker.number; workers = worker.workers; task = Some (record { script = task.script; attempt = task.attempt; drive = drive }) } in
+    let after : Standing = record { number = worker.number; limits = worker.limits; task = Some (record { script = task.script; attempt = task.attempt; drive = drive }) } in
     turn_taken after (record { script = task.script; attempt = task.attempt; drive = drive }) turn refl (subst IsReady (sized_is size worker task drive is drive_is) (sized_ready size worker ready)) taken

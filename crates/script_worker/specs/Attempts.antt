@@ -53,9 +53,11 @@ done_at script again Beginning = Next (attempt_at again (Acting 0))
 done_at script again (Acting i) = done_with again i (slice_get script i)
 done_at script again (Leaving refusal) = Over (outcomes.Refused refusal)
 
--- After a busy stripe the script is attempted again, where fewer than `tries` attempts were made again.
+-- After a busy stripe the script is attempted again, where fewer than `tries` attempts were made
+-- again.
 abbrev pub busy_at : ℕ → ℕ → Progress
-busy_at tries again = if nat_lt again tries then Next (attempt_at (again + 1) Beginning) else Over outcomes.Busy
+busy_at tries again =
+    if nat_lt again tries then Next (attempt_at (again + 1) Beginning) else Over outcomes.Busy
 
 -- After a refused action the transaction is aborted; a refused abort or commit ends the script.
 abbrev pub refused_with : ℕ → Option Action → Refusal → Progress
@@ -80,4 +82,5 @@ progress_at script tries again stage (ends.Busy holder) = busy_at tries again
 progress_at script tries again stage (ends.Refused refusal) = refused_at script again stage refusal
 
 abbrev pub progress_of : List Action → ℕ → Attempt → End → Progress
-progress_of script tries attempt outcome = progress_at script tries attempt.again attempt.stage outcome
+progress_of script tries attempt outcome =
+    progress_at script tries attempt.again attempt.stage outcome

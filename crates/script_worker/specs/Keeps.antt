@@ -16,13 +16,16 @@ use Rattle.script_worker.specs.declared.task.Task.{Task}
 use Rattle.script_worker.specs.declared.standing.Standing.{Standing}
 use Rattle.script_worker.specs.Attempts.{call_at}
 
--- Entries that any entries which the actions from this index on ask for make to those of the whole script.
+-- Entries that any entries which the actions from this index on ask for make to those of the whole
+-- script.
 abbrev pub IsFront : List Action → ℕ → List Entry → Type 0
-IsFront script i front = (rest : List Entry) → ArePlayed (drop i script) rest → IsPlayed script (front ++ rest)
+IsFront script i front =
+    (rest : List Entry) → ArePlayed (drop i script) rest → IsPlayed script (front ++ rest)
 
--- The last transaction has the entries of the actions before this index and those that the present call has made, but for
--- changes taken back.
-pub record IsAsFar (script : List Action) (i : ℕ) (drive : Drive) (parts : List (List Entry)) : Type 0 where
+-- The last transaction has the entries of the actions before this index and those that the present
+-- call has made, but for changes taken back.
+pub record IsAsFar (script : List Action) (i : ℕ) (drive : Drive)
+    (parts : List (List Entry)) : Type 0 where
   pub part : List Entry
   pub older : List (List Entry)
   pub parts_are : parts ≡ part ∷ older
@@ -33,29 +36,40 @@ pub record IsAsFar (script : List Action) (i : ℕ) (drive : Drive) (parts : Lis
 -- A transaction that has begun has one entry.
 abbrev pub IsBegun : ℕ → Phase → List (List Entry) → Type 0
 IsBegun w Fresh parts = Unit {0}
-IsBegun w (First (answers.Began t)) parts = (older : List (List Entry)) × (parts ≡ (Began w t ∷ []) ∷ older)
+IsBegun w (First (answers.Began t)) parts =
+    (older : List (List Entry)) × (parts ≡ (Began w t ∷ []) ∷ older)
 IsBegun w (First answer) parts = Unit {0}
 IsBegun w phase parts = ⊥
 
 -- Before its commit a transaction is as far as the whole script, and after it the script is played.
-abbrev pub IsCommitting : ℕ → List (List Action) → ℕ → ℕ → List Action → ℕ → Drive → Phase → List (List Entry) → Type 0
-IsCommitting workers scripts w n script i drive Fresh parts = IsAsFar script i drive parts × HavePlayed workers scripts w n parts
-IsCommitting workers scripts w n script i drive (First answer) parts = HavePlayed workers scripts w (suc n) parts
+abbrev pub IsCommitting : ℕ → List (List Action) → ℕ → ℕ → List Action → ℕ → Drive → Phase
+    → List (List Entry) → Type 0
+IsCommitting workers scripts w n script i drive Fresh parts =
+    IsAsFar script i drive parts × HavePlayed workers scripts w n parts
+IsCommitting workers scripts w n script i drive (First answer) parts =
+    HavePlayed workers scripts w (suc n) parts
 IsCommitting workers scripts w n script i drive phase parts = ⊥
 
 -- While the action of this index is done, a transaction is as far as that.
-abbrev pub IsActing : ℕ → List (List Action) → ℕ → ℕ → List Action → ℕ → Drive → List (List Entry) → Option Action → Type 0
-IsActing workers scripts w n script i drive parts (Some action) = IsAsFar script i drive parts × HavePlayed workers scripts w n parts
-IsActing workers scripts w n script i drive parts None = IsCommitting workers scripts w n script i drive drive.phase parts
+abbrev pub IsActing : ℕ → List (List Action) → ℕ → ℕ → List Action → ℕ → Drive
+    → List (List Entry) → Option Action → Type 0
+IsActing workers scripts w n script i drive parts (Some action) =
+    IsAsFar script i drive parts × HavePlayed workers scripts w n parts
+IsActing workers scripts w n script i drive parts None =
+    IsCommitting workers scripts w n script i drive drive.phase parts
 
 -- At a stage of an attempt at script number n, whose call is on its way.
-abbrev pub IsAt : ℕ → List (List Action) → ℕ → ℕ → List Action → Drive → List (List Entry) → Stage → Type 0
-IsAt workers scripts w n script drive parts Beginning = IsBegun w drive.phase parts × HavePlayed workers scripts w n parts
-IsAt workers scripts w n script drive parts (Acting i) = IsActing workers scripts w n script i drive parts (slice_get script i)
+abbrev pub IsAt : ℕ → List (List Action) → ℕ → ℕ → List Action → Drive → List (List Entry)
+    → Stage → Type 0
+IsAt workers scripts w n script drive parts Beginning =
+    IsBegun w drive.phase parts × HavePlayed workers scripts w n parts
+IsAt workers scripts w n script drive parts (Acting i) =
+    IsActing workers scripts w n script i drive parts (slice_get script i)
 IsAt workers scripts w n script drive parts (Leaving refusal) = HavePlayed workers scripts w n parts
 
 -- The worker is at this script of its own.
-pub record KeepsTask (workers : ℕ) (scripts : List (List Action)) (w : ℕ) (task : Task) (parts : List (List Entry)) : Type 0 where
+pub record KeepsTask (workers : ℕ) (scripts : List (List Action)) (w : ℕ) (task : Task)
+    (parts : List (List Entry)) : Type 0 where
   pub script : List Action
   pub mine : IsScriptOf workers scripts w task.script script
   pub caller : task.drive.caller ≡ w
@@ -68,6 +82,7 @@ KeepsAt workers scripts w None parts = HavePlayed workers scripts w (length scri
 KeepsAt workers scripts w (Some task) parts = KeepsTask workers scripts w task parts
 
 -- The worker's entries in the history are what its scripts ask for so far.
-pub record Keeps (scripts : List (List Action)) (worker : Standing) (seen : List Entry) : Type 0 where
-  pub number : worker.number < worker.workers
-  pub at : KeepsAt worker.workers scripts worker.number worker.task (parts_of seen)
+pub record Keeps (scripts : List (List Action)) (worker : Standing)
+    (seen : List Entry) : Type 0 where
+  pub number : worker.number < worker.limits.callers
+  pub at : KeepsAt worker.limits.callers scripts worker.number worker.task (parts_of seen)

@@ -1,16 +1,18 @@
 -- A worker: the script that it is at, its next step, and where it is once that was answered.
-use Rattle.std.specs.Prelude.{◌≡◌, ℕ, ◌+◌, nat_lt, if◌then◌else◌, List, length, Option, Some, None, is_some, slice_get}
+use Rattle.std.specs.Prelude.{◌≡◌, ℕ, ◌+◌, nat_lt, Bool, if◌then◌else◌, List, length, Option, Some, None, is_some, slice_get}
 use Rattle.std.specs.Option.{option_map, option_and_then, option_or}
 use Rattle.txn_trace.specs.declared.action.Action.{Action}
 use Rattle.txn_trace.specs.declared.answer.Answer.{Answer}
 use Rattle.txn_trace.specs.declared.answer.Answer.TheVariants as answers
 use Rattle.txn_trace.specs.declared.step.Step.{Step}
+use Rattle.txn_trace.specs.Sizes.{Sizes}
 use Rattle.txn_drive.specs.declared.call.Call.TheVariants as calls
 use Rattle.txn_drive.specs.declared.drive.Drive.{Drive}
 use Rattle.txn_drive.specs.declared.«end».End.{End}
 use Rattle.txn_drive.specs.declared.turn.Turn.{Turn}
 use Rattle.txn_drive.specs.declared.turn.Turn.TheVariants.{One, Two, Ended}
 use Rattle.txn_drive.specs.Drives.{new_drive, sized_of, turn_of, told_of, step_of, end_of}
+use Rattle.txn_drive.specs.Turns.{TakesTurn}
 use Rattle.script_worker.specs.declared.attempt.Outcome.{Outcome}
 use Rattle.script_worker.specs.declared.attempt.Progress.{Progress}
 use Rattle.script_worker.specs.declared.attempt.Progress.TheVariants.{Next, Over}
@@ -19,31 +21,45 @@ use Rattle.script_worker.specs.declared.standing.Standing.{Standing}
 use Rattle.script_worker.specs.Attempts.{first_attempt, call_at, progress_of}
 
 -- The first attempt at the script of a number, where there is one.
-abbrev pub started : List (List Action) → ℕ → ℕ → Option Task
-started scripts w n = if nat_lt n (length scripts) then Some (record { script = n; attempt = first_attempt; drive = new_drive w calls.Begin }) else None
+abbrev pub started : Bool → List (List Action) → ℕ → ℕ → Option Task
+started half scripts w n =
+    if nat_lt n (length scripts)
+    then Some (record { script = n; attempt = first_attempt; drive = new_drive half w calls.Begin })
+    else None
 
 -- The worker before its first step.
-abbrev pub new_worker : List (List Action) → ℕ → ℕ → Standing
-new_worker scripts w workers = record { number = w; workers = workers; task = started scripts w w }
+abbrev pub new_worker : List (List Action) → ℕ → Sizes → Standing
+new_worker scripts w limits =
+    record { number = w; limits = limits; task = started limits.half scripts w w }
 
--- What the worker is at after a call of an attempt at a script: the next call, or the next script of its own.
+-- What the worker is at after a call of an attempt at a script: the next call, or the next script
+-- of its own.
 abbrev pub followed : List (List Action) → Standing → Task → List Action → Progress → Option Task
-followed scripts worker task script (Next attempt) = Some (record { script = task.script; attempt = attempt; drive = new_drive worker.number (call_at script attempt.stage) })
-followed scripts worker task script (Over outcome) = started scripts worker.number (task.script + worker.workers)
+followed scripts worker task script (Next attempt) =
+    Some (record {
+      script = task.script;
+      attempt = attempt;
+      drive = new_drive worker.limits.half worker.number (call_at script attempt.stage);
+    })
+followed scripts worker task script (Over outcome) =
+    started worker.limits.half scripts worker.number (task.script + worker.limits.callers)
 
 -- The same of the script of a number, after the call has ended so.
 abbrev pub progressed : List (List Action) → ℕ → Standing → Task → End → Option Task
 progressed scripts tries worker task outcome =
-    option_and_then (λ script. followed scripts worker task script (progress_of script tries task.attempt outcome)) (slice_get scripts task.script)
+    option_and_then (λ script. followed scripts worker task script
+    (progress_of script tries task.attempt outcome)) (slice_get scripts task.script)
 
 -- Where the call has ended, the next one follows.
 abbrev pub settled_in : List (List Action) → ℕ → Standing → Task → Option End → Standing
 settled_in scripts tries worker task None = worker
-settled_in scripts tries worker task (Some outcome) = record worker { task = progressed scripts tries worker task outcome }
+settled_in scripts tries worker task (Some outcome) =
+    record worker { task = progressed scripts tries worker task outcome }
 
 abbrev pub settled_at : List (List Action) → ℕ → Standing → Option Task → Standing
 settled_at scripts tries worker None = worker
-settled_at scripts tries worker (Some task) = settled_in scripts tries worker task (end_of task.drive)
+settled_at scripts tries worker (Some task) =
+    settled_in scripts tries worker task (end_of task.drive)
 
 abbrev pub settled : List (List Action) → ℕ → Standing → Standing
 settled scripts tries worker = settled_at scripts tries worker worker.task
@@ -55,11 +71,14 @@ outcome_of (Over outcome) = Some outcome
 
 -- How the script of a task ended, where it is over once the call has ended so.
 abbrev pub outcome_at : List (List Action) → ℕ → Task → End → Option Outcome
-outcome_at scripts tries task outcome = option_and_then (λ script. outcome_of (progress_of script tries task.attempt outcome)) (slice_get scripts task.script)
+outcome_at scripts tries task outcome =
+    option_and_then (λ script. outcome_of (progress_of script tries task.attempt outcome))
+    (slice_get scripts task.script)
 
 abbrev pub outcome_in : List (List Action) → ℕ → Option Task → Option Outcome
 outcome_in scripts tries None = None
-outcome_in scripts tries (Some task) = option_and_then (outcome_at scripts tries task) (end_of task.drive)
+outcome_in scripts tries (Some task) =
+    option_and_then (outcome_at scripts tries task) (end_of task.drive)
 
 -- How the worker's script ended, where its call has ended and the script is over with it.
 abbrev pub outcome_by : List (List Action) → ℕ → Standing → Option Outcome
@@ -78,14 +97,17 @@ with_drive f worker = record worker { task = with_drive_in f worker.task }
 abbrev pub told_drive : Standing → Answer → Standing
 told_drive worker answer = with_drive (λ drive. told_of drive answer) worker
 
--- The worker that was told an answer. A call may end before its first step, and then the next one follows.
+-- The worker that was told an answer. A call may end before its first step, and then the next one
+-- follows.
 abbrev pub told_by : List (List Action) → ℕ → Standing → Answer → Standing
-told_by scripts tries worker answer = settled scripts tries (settled scripts tries (told_drive worker answer))
+told_by scripts tries worker answer =
+    settled scripts tries (settled scripts tries (told_drive worker answer))
 
 -- How the worker's script ended, where it ended by this answer.
 abbrev pub outcome_told : List (List Action) → ℕ → Standing → Answer → Option Outcome
 outcome_told scripts tries worker answer =
-    option_or (outcome_by scripts tries (told_drive worker answer)) (outcome_by scripts tries (settled scripts tries (told_drive worker answer)))
+    option_or (outcome_by scripts tries (told_drive worker answer))
+    (outcome_by scripts tries (settled scripts tries (told_drive worker answer)))
 
 -- The worker once the table's size at this moment is known.
 abbrev pub sized_by : ℕ → Standing → Standing
@@ -103,10 +125,43 @@ step_by worker = option_and_then (λ task. step_of task.drive) worker.task
 abbrev pub IsReady : Standing → Type 0
 IsReady worker = is_some (step_by worker) ≡ is_some worker.task
 
--- A turn takes the worker's next step; of two steps the second is the one after `placed`. Only a worker with no script left
--- takes none.
+-- A turn takes the worker's next step; of two steps the second is the one after `placed`. Only a
+-- worker with no script left takes none.
 abbrev pub IsTurnBy : Standing → Option Turn → Type 0
 IsTurnBy worker None = worker.task ≡ None
 IsTurnBy worker (Some (One step)) = step_by worker ≡ Some step
-IsTurnBy worker (Some (Two step next)) = (step_by worker ≡ Some step) × (step_by (told_drive worker answers.Placed) ≡ Some next)
+IsTurnBy worker (Some (Two step next)) =
+    (step_by worker ≡ Some step) × (step_by (told_drive worker answers.Placed) ≡ Some next)
 IsTurnBy worker (Some (Ended outcome)) = ⊥
+
+-- What takes a worker's steps, the worker, and how its script ended in this turn.
+pub record Working (X : Type 0) : Type 0 where
+  pub taker : X
+  pub worker : Standing
+  pub outcome : Option Outcome
+
+-- A step of the worker is taken, and the worker is told the answer.
+pub record TakesStep {X : Type 0} (takes : X → Step → Answer → X → Type 0)
+    (scripts : List (List Action)) (tries : ℕ)
+    (old : Working X) (step : Step) (answer : Answer) (new : Working X) : Type 0 where
+  pub taken : takes old.taker step answer new.taker
+  pub told : new.worker ≡ told_by scripts tries old.worker answer
+  pub ended : new.outcome ≡ option_or (outcome_told scripts tries old.worker answer) old.outcome
+
+-- A turn of a worker takes one step at least.
+abbrev pub TakesIn : {X : Type 0} → (X → Step → Answer → X → Type 0) → List (List Action) → ℕ
+    → Working X → Option Turn → Working X → Type 0
+TakesIn takes scripts tries old None new = ⊥
+TakesIn takes scripts tries old (Some (Ended outcome)) new = ⊥
+TakesIn takes scripts tries old (Some turn) new =
+    TakesTurn (TakesStep takes scripts tries) old turn new
+
+-- The next turn of a worker is taken, at this size of the table.
+pub record TakesNext {X : Type 0} (takes : X → Step → Answer → X → Type 0)
+    (size : ℕ) (scripts : List (List Action)) (tries : ℕ)
+    (old : X) (before : Standing) (outcome : Option Outcome) (new : X)
+    (after : Standing) : Type 0 where
+  pub steps : TakesIn takes scripts tries
+      (record { taker = old; worker = sized_by size before; outcome = None })
+      (turn_by (sized_by size before))
+      (record { taker = new; worker = after; outcome = outcome })

@@ -9,7 +9,8 @@ use txn_trace::{Action, Refusal};
 pub enum Stage {
     /// The transaction is to begin.
     Beginning,
-    /// The action of this index, from 0, is to be done; where the script has no such action, the transaction is to commit.
+    /// The action of this index, from 0, is to be done; where the script has no such action, the
+    /// transaction is to commit.
     Acting(usize),
     /// The transaction is to abort, since a call was refused so.
     Leaving(Refusal),
@@ -33,7 +34,8 @@ pub enum Outcome {
     Aborted,
     /// Each attempt found a stripe in another's hands, and is aborted.
     Busy,
-    /// A call was refused so. Its transaction is aborted, or did not begin, but where it is `OutOfStep`.
+    /// A call was refused so. Its transaction is aborted, or did not begin, but where it is
+    /// `OutOfStep`.
     Refused(Refusal),
 }
 
@@ -86,9 +88,9 @@ impl Attempt {
 
     /// What follows once the call that `call` names has ended so. Constant time.
     ///
-    /// A script that found a stripe held is attempted again where fewer than `tries` attempts were made again. After a
-    /// refusal of an operation, a savepoint, a return or help the transaction is aborted; every other refusal, and
-    /// `OutOfStep` of any call, ends the script at once.
+    /// A script that found a stripe held is attempted again where fewer than `tries` attempts were
+    /// made again. After a refusal of an operation, a savepoint, a return or help the transaction
+    /// is aborted; every other refusal, and `OutOfStep` of any call, ends the script at once.
     pub fn progress(self, script: &[Action], tries: u64, end: End) -> Progress
         ensures { result ≡ progress_of script.now tries self end }
     {

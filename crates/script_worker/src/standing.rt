@@ -4,33 +4,33 @@ ghost use Rattle.script_worker.specs.Workers.{new_worker, started, progressed, s
 use crate::attempt::{Attempt, Outcome, Progress};
 use crate::task::Task;
 use txn_drive::{Call, Drive, End};
-use txn_trace::{Answer, Script};
+use txn_trace::{Answer, Limits, Script};
 
 /// Which worker it is and what it is at. Its call may have ended.
 #[derive(Clone, Copy, Debug, PartialEq, Eq)]
 pub struct Standing {
     /// The worker's number, from 0, which is its caller's too.
     pub number: usize,
-    /// How many workers there are.
-    pub workers: usize,
+    /// The limits of the map: as many workers as callers.
+    pub limits: Limits,
     /// The script that it is at; none where no script is left.
     pub task: Option<Task>,
 }
 
 impl Standing {
     /// The worker of this number before its first step.
-    pub(crate) fn new(number: usize, workers: usize, scripts: &[Script]) -> Standing
-        ensures { result ≡ new_worker scripts.now number workers }
+    pub(crate) fn new(number: usize, limits: Limits, scripts: &[Script]) -> Standing
+        ensures { result ≡ new_worker scripts.now number limits }
     {
         Standing {
             number,
-            workers,
-            task: started(number, number, scripts),
+            limits,
+            task: started(number, number, limits, scripts),
         }
     }
 
-    /// The worker that was told an answer to its step, and has its next step; and how its script ended, where it ended by
-    /// this answer.
+    /// The worker that was told an answer to its step, and has its next step; and how its script
+    /// ended, where it ended by this answer.
     pub(crate) fn told(
         self,
         scripts: &[Script],
@@ -41,7 +41,8 @@ impl Standing {
         ensures outcome { result.1 ≡ outcome_told scripts.now tries self answer }
     {
         let (next, first) = self.heard(answer).settled(scripts, tries);
-        // A call of help may end before its first step, and then an abort follows at once, which takes a step.
+        // A call of help may end before its first step, and then an abort follows at once, which
+        // takes a step.
         let (last, second) = next.settled(scripts, tries);
         (last, first.or(second))
     }
@@ -61,7 +62,8 @@ impl Standing {
         }
     }
 
-    /// The worker with its next call, where its call has ended; and how its script ended, where it is over.
+    /// The worker with its next call, where its call has ended; and how its script ended, where it
+    /// is over.
     fn settled(self, scripts: &[Script], tries: u64) -> (Standing, Option<Outcome>)
         ensures worker { result.0 ≡ settled scripts.now tries self }
         ensures outcome { result.1 ≡ outcome_by scripts.now tries self }
@@ -73,10 +75,18 @@ impl Standing {
             return (self, None);
         };
         let (next, outcome) = self.next_task(task, scripts, tries, end);
-        (Standing { task: next, ..self }, outcome)
+        (self.at(next), outcome)
     }
 
-    /// What the worker is at after its call has ended so; and how its script ended, where it is over.
+    /// The same worker at another task.
+    fn at(self, task: Option<Task>) -> Standing
+        ensures { result ≡ record self { task = task } }
+    {
+        Standing { task, ..self }
+    }
+
+    /// What the worker is at after its call has ended so; and how its script ended, where it is
+    /// over.
     fn next_task(
         self,
         task: Task,
@@ -93,7 +103,7 @@ impl Standing {
         match task.attempt.progress(script.actions(), tries, end) {
             Progress::Next(attempt) => {
                 let call = attempt.call(script.actions());
-                let drive = Drive::new(self.number as u64, call);
+                let drive = Drive::new(self.number as u64, call, self.limits);
                 let next = Task {
                     attempt,
                     drive,
@@ -102,22 +112,23 @@ impl Standing {
                 (Some(next), None)
             }
             Progress::Over(outcome) => {
-                let next = task.script.saturating_add(self.workers);
-                (started(self.number, next, scripts), Some(outcome))
+                let next = task.script.saturating_add(self.limits.callers() as usize);
+                let task = started(self.number, next, self.limits, scripts);
+                (task, Some(outcome))
             }
         }
     }
 }
 
 /// The first attempt at the script of this number, where there is one.
-fn started(number: usize, script: usize, scripts: &[Script]) -> Option<Task>
-    ensures { result ≡ started scripts.now number script }
+fn started(number: usize, script: usize, limits: Limits, scripts: &[Script]) -> Option<Task>
+    ensures { result ≡ started limits.half scripts.now number script }
 {
     if script < scripts.len() {
         Some(Task {
             script,
             attempt: Attempt::first(),
-            drive: Drive::new(number as u64, Call::Begin),
+            drive: Drive::new(number as u64, Call::Begin, limits),
         })
     } else {
         None

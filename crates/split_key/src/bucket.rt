@@ -4,22 +4,24 @@ ghost use Rattle.split_key.specs.Split.{IsAncestor, IsPowerOfTwo};
 
 use crate::key::Key;
 
-/// The parent of a bucket other than 0: the bucket with its highest 1 bit cleared. The bucket's keys
-/// were the parent's when the table had half the size at which the bucket came up. Constant time.
+/// The parent of a bucket other than 0: the bucket with its highest 1 bit cleared. The bucket's
+/// keys were the parent's when the table had half the size at which the bucket came up. Constant
+/// time.
 pub fn parent(bucket: u32) -> u32
     requires { 0 < bucket }
     ensures value { result ≡ parent_of bucket }
     ensures highest { IsParent bucket result }
     ensures below { result < bucket }
     ensures order { reversed result < reversed bucket }
-    ensures ancestor { (descendant : ℕ) → IsAncestor bucket descendant → IsAncestor result descendant }
+    ensures ancestor { (descendant : ℕ) →
+        IsAncestor bucket descendant → IsAncestor result descendant }
 {
     bucket - (1 << bucket.ilog2())
 }
 
-/// The bucket of a key in a table of this size, a power of two: the key's lowest bits. The dummies of
-/// the bucket and of all its ancestors stand before the key, so a search for the key may begin at
-/// any of them. Constant time.
+/// The bucket of a key in a table of this size, a power of two: the key's lowest bits. The dummies
+/// of the bucket and of all its ancestors stand before the key, so a search for the key may begin
+/// at any of them. Constant time.
 pub fn bucket_of(key: Key, size: u32) -> u32
     requires { IsPowerOfTwo size }
     ensures value { result ≡ key % size }

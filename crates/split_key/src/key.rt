@@ -55,7 +55,9 @@ impl Key {
     ///
     /// `BadKey` where the number is 2^63 or more.
     pub fn half(number: u64) -> Result<Key, BadKey>
-        ensures { MatchResult result (λ key. (key ≡ number) × (number < 2 ^ 63)) (λ _. 2 ^ 63 ≤ number) }
+        ensures { MatchResult result
+            (λ key. (key ≡ number) × (number < 2 ^ 63))
+            (λ _. 2 ^ 63 ≤ number) }
     {
         if number < HALF {
             Ok(Key { number })

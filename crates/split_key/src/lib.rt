@@ -1,14 +1,14 @@
 //! Split keys: the order in which a split-ordered list keeps the keys and the buckets of a hash
 //! table. It is the recursive split-ordering of Shalev and Shavit, "Split-Ordered Lists: Lock-Free
-//! Extensible Hash Tables" (Journal of the ACM 53(3), 2006), section 2: bits in reverse, dummy nodes,
-//! and parents of buckets.
+//! Extensible Hash Tables" (Journal of the ACM 53(3), 2006), section 2: bits in reverse, dummy
+//! nodes, and parents of buckets.
 //!
-//! A split key is a number's 64 bits in reverse order: a key's with its top bit set first, so that it
-//! is odd, and a bucket's as it is, so that it is even. Sorted by split keys, the keys of one bucket
-//! stand together, whatever power of two the table's size is, and right behind a dummy node of their
-//! bucket: in reverse, the digits of a split key begin with the lowest bits of the key, which say its
-//! bucket. So the list of a table of size 4 with the keys 0 to 7 is as follows, where a number is
-//! shown by its lowest four bits, and a split key by its first four and its last four:
+//! A split key is a number's 64 bits in reverse order: a key's with its top bit set first, so that
+//! it is odd, and a bucket's as it is, so that it is even. Sorted by split keys, the keys of one
+//! bucket stand together, whatever power of two the table's size is, and right behind a dummy node
+//! of their bucket: in reverse, the digits of a split key begin with the lowest bits of the key,
+//! which say its bucket. So the list of a table of size 4 with the keys 0 to 7 is as follows, where
+//! a number is shown by its lowest four bits, and a split key by its first four and its last four:
 //!
 //! ```text
 //!  in the list    bits    split key         bucket at size 2   4   8
@@ -27,20 +27,20 @@
 //! ```
 //!
 //! A table that doubles moves no node. At size 8 the dummy of bucket 4, `0010 .. 0000`, comes right
-//! before key 4, where bucket 0 is split, and the keys 0, 8, 16 and so on stay before it; the dummies
-//! of 6, 5 and 7 come right before the keys 6, 5 and 7. A bucket's parent, which is the bucket without
-//! its highest 1 bit, is where its keys were before it was split off.
+//! before key 4, where bucket 0 is split, and the keys 0, 8, 16 and so on stay before it; the
+//! dummies of 6, 5 and 7 come right before the keys 6, 5 and 7. A bucket's parent, which is the
+//! bucket without its highest 1 bit, is where its keys were before it was split off.
 //!
-//! A key may be any number of 64 bits. The top bit of a key is set before it is reversed, so two keys
-//! that differ there alone, as 1 and 2^63 + 1, share a split key. The order of the list is therefore
-//! that of sort keys: by the split key, and where that is one by the key.
+//! A key may be any number of 64 bits. The top bit of a key is set before it is reversed, so two
+//! keys that differ there alone, as 1 and 2^63 + 1, share a split key. The order of the list is
+//! therefore that of sort keys: by the split key, and where that is one by the key.
 //!
 //! A contract sees a key as its number, and the definitions stand in `specs/Split.antt` and
 //! `specs/Sort.antt`. Proved: each call gives what its definition says; two keys share a split key
-//! exactly where they agree below the top bit; different keys have different sort keys, and different
-//! buckets different split keys; the dummies of a bucket's ancestors stand before its own, and all of
-//! these before each of the bucket's keys; and a `BadKey` prints its text. No call takes memory, and
-//! each takes constant time.
+//! exactly where they agree below the top bit; different keys have different sort keys, and
+//! different buckets different split keys; the dummies of a bucket's ancestors stand before its
+//! own, and all of these before each of the bucket's keys; and a `BadKey` prints its text. No call
+//! takes memory, and each takes constant time.
 #![tactic(auto)]
 
 mod bucket;

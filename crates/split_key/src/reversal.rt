@@ -3,21 +3,22 @@ ghost use Rattle.std.specs.Int.{bit_at};
 ghost use Rattle.split_key.specs.Split.{reversed};
 ghost use Rattle.split_key.specs.Swap.{swapped_place};
 
-/// The word with each two neighbouring groups of `width` bits swapped, where `low` has a 1 at each bit of the lower
-/// group of each two.
+/// The word with each two neighbouring groups of `width` bits swapped, where `low` has a 1 at each
+/// bit of the lower group of each two.
 fn swapped(word: u64, width: u32, low: u64) -> u64
     requires some { 0 < width }
     requires fits { width < 64 }
     requires groups { (place : ℕ) → place < 64 → bit_at low place ≡ 1 - place / width % 2 }
-    ensures { (place : ℕ) → place < 64 → bit_at result place ≡ bit_at word (swapped_place width place) }
+    ensures { (place : ℕ) → place < 64 →
+        bit_at result place ≡ bit_at word (swapped_place width place) }
 {
     (word >> width & low) | ((word & low) << width)
 }
 
 /// The word with its 64 bits in reverse order: bit `i` of the result is bit `63 - i` of the word.
 ///
-/// Bits, pairs of bits, half bytes, bytes, pairs of bytes and halves change places: constant time, thirty operations
-/// without a branch.
+/// Bits, pairs of bits, half bytes, bytes, pairs of bytes and halves change places: constant time,
+/// thirty operations without a branch.
 pub fn reverse(word: u64) -> u64
     ensures value { result ≡ reversed word }
     ensures bits { (place : ℕ) → place < 64 → bit_at result place ≡ bit_at word (63 - place) }

@@ -14,8 +14,8 @@ pub struct SortKey {
 }
 
 impl SortKey {
-    /// Where the node of a key stands, behind the dummy of bucket 0. No other key has its node there.
-    /// Constant time.
+    /// Where the node of a key stands, behind the dummy of bucket 0. No other key has its node
+    /// there. Constant time.
     pub fn regular(key: Key) -> SortKey
         ensures value { result ≡ regular_at key }
         ensures apart { (other : ℕ) → regular_at other ≡ result → other ≡ key }

@@ -1,5 +1,5 @@
 -- Laws of drives: what their steps add to a history, and how an ended drive ended.
-use Rattle.std.proofs.Common.{◌≡◌, ℕ, ◌^◌, nat_lt, true, false, if◌then◌else◌, [], Option, Some, None, refl, subst, ◌∙◌}
+use Rattle.std.proofs.Common.{Bool, ◌≡◌, ℕ, ◌^◌, nat_lt, true, false, if◌then◌else◌, [], Option, Some, None, refl, subst, ◌∙◌}
 use Rattle.std.specs.List.{AllByRecursion}
 use Rattle.txn_trace.specs.declared.step.Step.{Step}
 use Rattle.txn_trace.specs.declared.step.Step.TheVariants.{Begin, Ask, Act, Save, Back, Commit, Abort}
@@ -8,6 +8,7 @@ use Rattle.txn_trace.specs.declared.answer.Answer.TheVariants as answers
 use Rattle.txn_trace.specs.declared.refusal.Refusal.TheVariants.{BadKey}
 use Rattle.txn_trace.specs.History.{caller_of}
 use Rattle.txn_trace.specs.Entries.{entries_of}
+use Rattle.txn_trace.specs.Sizes.{is_bad_key}
 use Rattle.txn_drive.specs.declared.call.Call.{Call}
 use Rattle.txn_drive.specs.declared.call.Call.TheVariants as calls
 use Rattle.txn_drive.specs.declared.drive.Drive.{Drive}
@@ -52,9 +53,9 @@ made-sized size c call (Doubling seen) = refl
 made-sized size c call phase = refl
 
 -- A new drive has made nothing.
-pub made-new : (c : ℕ) (call : Call) → made (new_drive c call) ≡ []
-made-new c (calls.Help key) = elim (nat_lt key (2 ^ 63)) as (λ b. made_in c (calls.Help key) (if b then Doubling 0 else Refused BadKey) ≡ []) [ true ↦ refl | false ↦ refl ]
-made-new c call = refl
+pub made-new : (half : Bool) (c : ℕ) (call : Call) → made (new_drive half c call) ≡ []
+made-new half c (calls.Help key) = elim (is_bad_key half key) as (λ b. made_in c (calls.Help key) (if b then Refused BadKey else Doubling 0) ≡ []) [ true ↦ refl | false ↦ refl ]
+made-new half c call = refl
 
 -- A drive's step adds entries of its caller alone.
 abbrev IsBy : ℕ → Step → Type 0

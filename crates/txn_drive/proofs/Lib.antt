@@ -1,3 +1,4 @@
 pub mod DriveLaws
 pub mod MadeLemmas
+pub mod TurnLemmas
 pub mod WayLemmas

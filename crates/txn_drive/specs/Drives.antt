@@ -1,11 +1,12 @@
 -- The phases of a drive: the step of each, the turn that it takes, and the phase after an answer.
-use Rattle.std.specs.Prelude.{◌≡◌, ℕ, ◌+◌, ◌-◌, ◌^◌, ◌%◌, ◌==◌, nat_lt, ◌&&◌, if◌then◌else◌, Option, Some, None}
+use Rattle.std.specs.Prelude.{◌≡◌, ℕ, ◌+◌, ◌-◌, ◌^◌, ◌%◌, ◌==◌, Bool, nat_lt, ◌&&◌, if◌then◌else◌, Option, Some, None}
 use Rattle.txn_trace.specs.declared.step.Step.{Step}
 use Rattle.txn_trace.specs.declared.step.Step.TheVariants as steps
 use Rattle.txn_trace.specs.declared.answer.Answer.{Answer}
 use Rattle.txn_trace.specs.declared.answer.Answer.TheVariants as answers
 use Rattle.txn_trace.specs.declared.refusal.Refusal.{Refusal}
 use Rattle.txn_trace.specs.declared.refusal.Refusal.TheVariants.{BadKey, NothingToSeek, NoMemory, StampsUsedUp, OutOfStep}
+use Rattle.txn_trace.specs.Sizes.{is_bad_key}
 use Rattle.txn_drive.specs.declared.call.Call.{Call}
 use Rattle.txn_drive.specs.declared.call.Call.TheVariants as calls
 use Rattle.txn_drive.specs.declared.drive.Drive.{Drive}
@@ -20,13 +21,14 @@ use Rattle.txn_drive.specs.declared.turn.Turn.TheVariants.{One, Two, Ended}
 use Rattle.txn_drive.specs.declared.way.Way.{Way}
 use Rattle.txn_drive.specs.Ways.{child_towards}
 
--- A helper's call is first to double the table, where its key is good; any other call is fresh.
-abbrev pub first_phase : Call → Phase
-first_phase (calls.Help key) = if nat_lt key (2 ^ 63) then Doubling 0 else Refused BadKey
-first_phase call = Fresh
+-- A helper's call is first to double the table, where its key is good: any key, or, where half keys
+-- alone are taken, one of them. Any other call is fresh.
+abbrev pub first_phase : Bool → Call → Phase
+first_phase half (calls.Help key) = if is_bad_key half key then Refused BadKey else Doubling 0
+first_phase half call = Fresh
 
-abbrev pub new_drive : ℕ → Call → Drive
-new_drive c call = record { caller = c; call = call; phase = first_phase call }
+abbrev pub new_drive : Bool → ℕ → Call → Drive
+new_drive half c call = record { caller = c; call = call; phase = first_phase half call }
 
 -- The phase once the table's size at this moment is known.
 abbrev pub sized_in : ℕ → Phase → Phase
@@ -70,7 +72,8 @@ end_first call answer = ends.Refused OutOfStep
 
 -- How a return to a level ended that was answered to have returned to a level.
 abbrev pub end_returned : ℕ → ℕ → End
-end_returned level reached = if reached == level then ends.Answered (answers.Returned reached) else ends.Refused OutOfStep
+end_returned level reached =
+    if reached == level then ends.Answered (answers.Returned reached) else ends.Refused OutOfStep
 
 -- How a call ended that an act has ended.
 abbrev pub end_last : Call → Work → Answer → End
@@ -85,7 +88,8 @@ abbrev pub end_helped : Call → End
 end_helped (calls.Help key) = ends.Helped
 end_helped call = ends.Refused OutOfStep
 
--- A step that seeks and the step at the place found: one turn after eight `again` in a row, else two.
+-- A step that seeks and the step at the place found: one turn after eight `again` in a row, else
+-- two.
 abbrev pub paired : ℕ → Step → Step → Turn
 paired again seeking acting = if nat_lt again 8 then One seeking else Two seeking acting
 
@@ -95,7 +99,8 @@ turn_in c call Fresh = One (first_step c call)
 turn_in c call (Seeking work again) = paired again (steps.Seek c) (steps.Act c)
 turn_in c call (Acting work again) = One (steps.Act c)
 turn_in c call (Doubling size) = One (steps.Double size)
-turn_in c call (Initialising way again) = paired again (steps.InitSeek c way.bucket) (steps.InitLink c)
+turn_in c call (Initialising way again) =
+    paired again (steps.InitSeek c way.bucket) (steps.InitLink c)
 turn_in c call (Linking way again) = One (steps.InitLink c)
 turn_in c call (Storing way) = One (steps.InitStore c)
 turn_in c call (First answer) = Ended (end_first call answer)
@@ -111,8 +116,8 @@ turn_of drive = turn_in drive.caller drive.call drive.phase
 abbrev pub one_more : ℕ → ℕ
 one_more again = if nat_lt again 8 then again + 1 else again
 
--- After the first step: an operation that is asked for is sought, after a busy stripe or a leave changes are taken back, and
--- whatever else was answered ends the call.
+-- After the first step: an operation that is asked for is sought, after a busy stripe or a leave
+-- changes are taken back, and whatever else was answered ends the call.
 abbrev pub told_first : Call → Answer → Phase
 told_first (calls.Op op) answers.Asked = Seeking Operation 0
 told_first (calls.Op op) (answers.Busy holder) = Seeking (Busy holder 0) 0
@@ -123,13 +128,15 @@ told_first call answer = First answer
 -- After a seek: the place is there; or no change is left to take back, and then the act ends it.
 abbrev pub told_seek : Work → ℕ → Answer → Phase
 told_seek work again answers.Placed = Acting work again
-told_seek (Busy holder undone) again (answers.Refused NothingToSeek) = Acting (Busy holder undone) again
+told_seek (Busy holder undone) again (answers.Refused NothingToSeek) =
+    Acting (Busy holder undone) again
 told_seek (Leaving undone) again (answers.Refused NothingToSeek) = Acting (Leaving undone) again
 told_seek work again answer = Lost work
 
 -- The phase after this many changes are taken back, where the number is one of 64 bits.
 abbrev pub counted : ℕ → Work → Work → Phase
-counted undone more work = if nat_lt undone (2 ^ 64 - 1) then Seeking more 0 else Last work answers.Undone
+counted undone more work =
+    if nat_lt undone (2 ^ 64 - 1) then Seeking more 0 else Last work answers.Undone
 
 -- After one change more was taken back, the next one is sought.
 abbrev pub undone_more : Work → Phase
@@ -137,19 +144,24 @@ undone_more Operation = Last Operation answers.Undone
 undone_more (Busy holder undone) = counted undone (Busy holder (undone + 1)) (Busy holder undone)
 undone_more (Leaving undone) = counted undone (Leaving (undone + 1)) (Leaving undone)
 
--- After an act: the place did not fit and is sought anew; or one change more is taken back; or the call has ended.
+-- After an act: the place did not fit and is sought anew; or one change more is taken back; or the
+-- call has ended.
 abbrev pub told_act : Work → ℕ → Answer → Phase
 told_act work again answers.Again = Seeking work (one_more again)
 told_act work again answers.Undone = undone_more work
 told_act work again answer = Last work answer
 
--- What follows once the bucket `last`, on the way to a bucket, is initialised: the next bucket on the way, or the end.
+-- What follows once the bucket `last`, on the way to a bucket, is initialised: the next bucket on
+-- the way, or the end.
 abbrev pub towards : ℕ → ℕ → Phase
-towards last bucket = if last == bucket then Helped else Initialising (record { bucket = child_towards last bucket; target = bucket }) 0
+towards last bucket =
+    if last == bucket then Helped
+    else Initialising (record { bucket = child_towards last bucket; target = bucket }) 0
 
 -- The way to the bucket of a key at a size.
 abbrev pub heading : ℕ → ℕ → Phase
-heading key size = if nat_lt 0 size && nat_lt size (2 ^ 32) then towards 0 (key % size) else Refused OutOfStep
+heading key size =
+    if nat_lt 0 size && nat_lt size (2 ^ 32) then towards 0 (key % size) else Refused OutOfStep
 
 -- A helper may want memory or a stamp.
 abbrev pub refused_help : Refusal → Phase
@@ -157,7 +169,8 @@ refused_help NoMemory = Refused NoMemory
 refused_help StampsUsedUp = Refused StampsUsedUp
 refused_help refusal = Refused OutOfStep
 
--- After a doubling, which was to begin at the size seen: the way at the size that the table then has.
+-- After a doubling, which was to begin at the size seen: the way at the size that the table then
+-- has.
 abbrev pub told_help : ℕ → ℕ → Answer → Phase
 told_help key seen (answers.Moved size) = heading key size
 told_help key seen (answers.Doubled size) = heading key size
@@ -205,10 +218,12 @@ told_in call phase answer = Refused OutOfStep
 abbrev pub told_of : Drive → Answer → Drive
 told_of drive answer = record drive { phase = told_in drive.call drive.phase answer }
 
--- A turn takes the step of its drive; of two steps the second is the step after `placed`; an ended drive has none.
+-- A turn takes the step of its drive; of two steps the second is the step after `placed`; an ended
+-- drive has none.
 abbrev pub IsTurnOf : Drive → Turn → Type 0
 IsTurnOf drive (One step) = step_of drive ≡ Some step
-IsTurnOf drive (Two step next) = (step_of drive ≡ Some step) × (step_of (told_of drive answers.Placed) ≡ Some next)
+IsTurnOf drive (Two step next) =
+    (step_of drive ≡ Some step) × (step_of (told_of drive answers.Placed) ≡ Some next)
 IsTurnOf drive (Ended outcome) = step_of drive ≡ None
 
 -- How a turn says that its call has ended, if it says so.

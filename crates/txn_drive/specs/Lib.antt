@@ -1,3 +1,4 @@
 pub mod Drives
 pub mod Made
+pub mod Turns
 pub mod Ways

@@ -62,7 +62,8 @@ made_in c call phase = []
 abbrev pub made : Drive → List Entry
 made drive = made_in drive.caller drive.call drive.phase
 
--- The entries of a call that was refused: none. Of one that was answered what no rule foresees nothing is said here.
+-- The entries of a call that was refused: none. Of one that was answered what no rule foresees
+-- nothing is said here.
 abbrev pub IsRefused : Refusal → List Entry → Type 0
 IsRefused OutOfStep h = Unit {0}
 IsRefused refusal h = h ≡ []
@@ -75,12 +76,16 @@ IsUndone c opening h closing = (undone : ℕ) × (h ≡ opening ∷ undone_by c 
 abbrev pub IsMade : ℕ → Call → End → List Entry → Type 0
 IsMade c call (ends.Refused refusal) h = IsRefused refusal h
 IsMade c calls.Begin (ends.Answered (answers.Began t)) h = h ≡ entries.Began c t ∷ []
-IsMade c (calls.Op op) (ends.Answered (answers.Done reply)) h = h ≡ entries.Asked c op ∷ entries.Did c reply ∷ []
-IsMade c (calls.Op op) (ends.Busy holder) h = IsUndone c (entries.Busy c op holder) h (entries.Aborted c)
+IsMade c (calls.Op op) (ends.Answered (answers.Done reply)) h =
+    h ≡ entries.Asked c op ∷ entries.Did c reply ∷ []
+IsMade c (calls.Op op) (ends.Busy holder) h =
+    IsUndone c (entries.Busy c op holder) h (entries.Aborted c)
 IsMade c calls.Save (ends.Answered (answers.Saved n)) h = h ≡ entries.Saved c ∷ []
-IsMade c (calls.Back level) (ends.Answered (answers.Returned reached)) h = (reached ≡ level) × IsUndone c (entries.Leave c (Some level)) h (entries.Returned c level)
+IsMade c (calls.Back level) (ends.Answered (answers.Returned reached)) h =
+    (reached ≡ level) × IsUndone c (entries.Leave c (Some level)) h (entries.Returned c level)
 IsMade c calls.Commit (ends.Answered (answers.Committed p)) h = h ≡ entries.Committed c p ∷ []
-IsMade c calls.Abort (ends.Answered answers.Aborted) h = IsUndone c (entries.Leave c None) h (entries.Aborted c)
+IsMade c calls.Abort (ends.Answered answers.Aborted) h =
+    IsUndone c (entries.Leave c None) h (entries.Aborted c)
 IsMade c (calls.Help key) ends.Helped h = h ≡ []
 IsMade c call outcome h = ⊥
 

@@ -2,8 +2,7 @@ ghost use Rattle.std.specs.Prelude.{◌≡◌};
 ghost use Rattle.txn_drive.specs.Drives.{first_phase, first_step};
 
 use crate::phase::Phase;
-use split_key::{BadKey, Key};
-use txn_trace::{Op, Refusal, Step};
+use txn_trace::{Limits, Op, Refusal, Step};
 
 /// A call on the map: what a caller wants done.
 #[derive(Clone, Copy, Debug, PartialEq, Eq)]
@@ -26,14 +25,12 @@ pub enum Call {
 
 impl Call {
     /// The phase in which a drive of this call begins. Constant time.
-    pub(crate) fn first_phase(self) -> Phase
-        ensures { result ≡ first_phase self }
+    pub(crate) fn first_phase(self, limits: Limits) -> Phase
+        ensures { result ≡ first_phase limits.half self }
     {
         match self {
-            Call::Help(key) => match Key::new(key) {
-                Ok(_) => Phase::Doubling(0),
-                Err(BadKey) => Phase::Refused(Refusal::BadKey),
-            },
+            Call::Help(key) if limits.is_bad_key(key) => Phase::Refused(Refusal::BadKey),
+            Call::Help(_) => Phase::Doubling(0),
             _ => Phase::Fresh,
         }
     }

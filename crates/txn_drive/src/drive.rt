@@ -8,12 +8,12 @@ use crate::call::Call;
 use crate::end::End;
 use crate::phase::{Phase, Work};
 use crate::turn::{Turn, paired};
-use txn_trace::{Answer, Refusal, Step};
+use txn_trace::{Answer, Limits, Refusal, Step};
 
 /// A caller's call on its way: which step comes next, and what was told so far.
 ///
-/// Begin with `new`; take turns by `turn`, and after each step taken say by `told` how it was answered, until a turn
-/// says `Ended`.
+/// Begin with `new`; take turns by `turn`, and after each step taken say by `told` how it was
+/// answered, until a turn says `Ended`.
 #[derive(Clone, Copy, Debug, PartialEq, Eq)]
 pub struct Drive {
     /// The caller's number, which is also its helper's.
@@ -25,24 +25,25 @@ pub struct Drive {
 }
 
 impl Drive {
-    /// The drive of a caller's call, before its first step. Constant time.
+    /// The drive of a caller's call on a map of these limits, before its first step. Constant time.
     ///
-    /// A call `Help` of a key of 2^63 or more has ended with `Refusal::BadKey`, before any step.
-    pub fn new(caller: u64, call: Call) -> Drive
-        ensures drive { result ≡ new_drive caller call }
+    /// Where the limits take half keys alone, a call `Help` of a key of 2^63 or more has ended with
+    /// `Refusal::BadKey`, before any step.
+    pub fn new(caller: u64, call: Call, limits: Limits) -> Drive
+        ensures drive { result ≡ new_drive limits.half caller call }
         ensures made { made result ≡ [] }
     {
         Drive {
             caller,
             call,
-            phase: call.first_phase(),
+            phase: call.first_phase(limits),
         }
     }
 
     /// The next turn, at the size in buckets that the table has at this moment. Constant time.
     ///
-    /// Only a helper that is to double the table notes the size. A drive whose turn says `Ended` says it at each later turn
-    /// too.
+    /// Only a helper that is to double the table notes the size. A drive whose turn says `Ended`
+    /// says it at each later turn too.
     pub fn turn(&mut self, size: u32) -> Turn
         ensures drive { self.new ≡ sized_of size self.old }
         ensures turn { result ≡ turn_of self.new }
@@ -91,14 +92,15 @@ impl Drive {
         }
     }
 
-    /// Says how the step that the turn named was answered; of a turn of two steps, each step taken. Constant time, but for
-    /// the search of a helper's next bucket, which takes up to 32 rounds.
+    /// Says how the step that the turn named was answered; of a turn of two steps, each step taken.
+    /// Constant time, but for the search of a helper's next bucket, which takes up to 32 rounds.
     ///
-    /// An answer that no rule foresees ends the call with `Refusal::OutOfStep`, and so does any answer that is told once the
-    /// call has ended.
+    /// An answer that no rule foresees ends the call with `Refusal::OutOfStep`, and so does any
+    /// answer that is told once the call has ended.
     pub fn told(&mut self, answer: Answer)
         ensures drive { self.new ≡ told_of self.old answer }
-        ensures made { (step : Step) → step_of self.old ≡ Some step → made self.new ≡ made self.old ++ entries_of step answer }
+        ensures made { (step : Step) → step_of self.old ≡ Some step
+            → made self.new ≡ made self.old ++ entries_of step answer }
     {
         self.phase = self.phase.told(self.call, answer);
     }

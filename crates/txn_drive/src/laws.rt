@@ -4,13 +4,14 @@ ghost use Rattle.std.specs.Prelude.{◌≡◌, ◌≢◌, ℕ, ◌^◌, ◌<◌,
 ghost use Rattle.split_key.specs.Split.{parent_of, IsAncestor};
 ghost use Rattle.txn_drive.specs.Ways.{child_towards};
 
-/// A helper's way to a bucket begins at bucket 0, goes from each bucket to a child of it, and stays on the bucket's
-/// ancestors: so each bucket on the way comes after its parent.
+/// A helper's way to a bucket begins at bucket 0, goes from each bucket to a child of it, and stays
+/// on the bucket's ancestors: so each bucket on the way comes after its parent.
 ///
 /// Does nothing when it runs: its contract is the law.
 pub fn ways()
     ensures root { (bucket : ℕ) → bucket < 2 ^ 32 → IsAncestor 0 bucket }
-    ensures child { (last bucket : ℕ) → bucket < 2 ^ 32 → IsAncestor last bucket → last ≢ bucket → parent_of (child_towards last bucket) ≡ last }
+    ensures child { (last bucket : ℕ) → bucket < 2 ^ 32 → IsAncestor last bucket → last ≢ bucket
+        → parent_of (child_towards last bucket) ≡ last }
     ensures ancestor { (last bucket : ℕ) → IsAncestor (child_towards last bucket) bucket }
     ensures below { (last bucket : ℕ) → child_towards last bucket ≤ bucket }
 {}

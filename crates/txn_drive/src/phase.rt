@@ -11,9 +11,11 @@ use txn_trace::{Answer, Refusal};
 pub enum Work {
     /// The operation that was asked for.
     Operation,
-    /// Changes to take back after a busy stripe: the stripe's holder, how many changes are taken back.
+    /// Changes to take back after a busy stripe: the stripe's holder, how many changes are taken
+    /// back.
     Busy(u64, u64),
-    /// Changes to take back on the way to a level or to the transaction's end: how many are taken back.
+    /// Changes to take back on the way to a level or to the transaction's end: how many are taken
+    /// back.
     Leaving(u64),
 }
 
@@ -47,7 +49,8 @@ pub enum Phase {
 }
 
 impl Phase {
-    /// The phase after an answer to the step of this one. Constant time, but for the search of the next bucket.
+    /// The phase after an answer to the step of this one. Constant time, but for the search of the
+    /// next bucket.
     pub(crate) fn told(self, call: Call, answer: Answer) -> Phase
         ensures { result ≡ told_in call self answer }
     {
@@ -89,7 +92,8 @@ fn told_first(call: Call, answer: Answer) -> Phase
     }
 }
 
-/// After a seek: the place is there, or there is no change left to take back, which the act then says too.
+/// After a seek: the place is there, or there is no change left to take back, which the act then
+/// says too.
 fn told_seek(work: Work, again: u8, answer: Answer) -> Phase
     ensures { result ≡ told_seek work again answer }
 {

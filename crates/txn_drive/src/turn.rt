@@ -1,10 +1,12 @@
 ghost use Rattle.std.specs.Prelude.{◌≡◌};
 ghost use Rattle.txn_drive.specs.Drives.{paired};
+ghost use Rattle.txn_drive.specs.Turns.{HasTaken, MayTake};
 
 use crate::end::End;
-use txn_trace::Step;
+use txn_trace::{Answer, Step};
 
-/// After so many `again` in a row, two steps are one turn, so that no other caller comes between them.
+/// After so many `again` in a row, two steps are one turn, so that no other caller comes between
+/// them.
 pub(crate) const PATIENCE: u8 = 8;
 
 /// What a drive does next.
@@ -12,15 +14,40 @@ pub(crate) const PATIENCE: u8 = 8;
 pub enum Turn {
     /// It takes this step, and is told the answer.
     One(Step),
-    /// It takes the first step and is told the answer, and where that is `placed` it takes the second step in the same
-    /// turn and is told the answer.
+    /// It takes the first step and is told the answer, and where that is `placed` it takes the
+    /// second step in the same turn and is told the answer.
     Two(Step, Step),
     /// It takes no step any more.
     Ended(End),
 }
 
-/// A step that seeks and the step at the place found: two turns, or one after enough `again` in a row. Constant
-/// time.
+impl Turn {
+    /// Takes the turn's steps by `step`, which answers each; of two the second only where the first
+    /// was answered `placed`. Whoever drives the call tells it each answer.
+    ///
+    /// # Cost
+    ///
+    /// That of one or two calls of `step`; none where the call has ended.
+    pub fn take<F: FnMut(Step) -> Answer>(self, step: &mut F)
+        requires { MayTake (λ f s. F.pre f s) (λ f s answer g. F.step f s answer g) step.old self }
+        ensures { HasTaken (λ f s answer g. F.step f s answer g) step.old self step.new }
+    {
+        match self {
+            Turn::One(only) => {
+                step(only);
+            }
+            Turn::Two(first, second) => {
+                if let Answer::Placed = step(first) {
+                    step(second);
+                }
+            }
+            Turn::Ended(_) => {}
+        }
+    }
+}
+
+/// A step that seeks and the step at the place found: two turns, or one after enough `again` in a
+/// row. Constant time.
 pub(crate) fn paired(again: u8, seeking: Step, acting: Step) -> Turn
     ensures { result ≡ paired again seeking acting }
 {

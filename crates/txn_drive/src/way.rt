@@ -4,7 +4,8 @@ ghost use Rattle.txn_drive.specs.Ways.{child_towards};
 
 use split_key::parent;
 
-/// Where a helper is on its way from bucket 0 to a bucket: over all the bucket's ancestors, each after its parent.
+/// Where a helper is on its way from bucket 0 to a bucket: over all the bucket's ancestors, each
+/// after its parent.
 #[derive(Clone, Copy, Debug, PartialEq, Eq)]
 pub struct Way {
     /// The bucket that is initialised now.
@@ -20,7 +21,8 @@ fn parent_or_root(bucket: u32) -> u32
     if bucket == 0 { 0 } else { parent(bucket) }
 }
 
-/// The bucket that comes after `last` on the way to `target`: the target or the ancestor of it whose parent is `last`.
+/// The bucket that comes after `last` on the way to `target`: the target or the ancestor of it
+/// whose parent is `last`.
 ///
 /// Time in proportion to the ancestors between them, of which there are fewer than 32.
 pub(crate) fn next_towards(last: u32, target: u32) -> u32

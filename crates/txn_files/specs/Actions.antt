@@ -1,12 +1,13 @@
 -- The action that an array in JSON is, and the script that an array of them is.
-use Rattle.std.specs.Prelude.{List, Option, Some, if◌then◌else◌, codes}
+use Rattle.std.specs.Prelude.{Bool, true, List, Option, Some, if◌then◌else◌, codes}
+use Rattle.std.specs.List.{list_all}
 use Rattle.std.specs.Result.{result_ok}
 use Rattle.std.specs.Str.{bytes_eq}
 use Rattle.serde_json.specs.Data.{Data}
 use Rattle.txn_trace.specs.declared.action.Action.{Action}
 use Rattle.txn_trace.specs.declared.action.Action.TheVariants.{Op, Save, Back, Help, Abort}
 use Rattle.piece_files.specs.Elements.{◌>>=◌, word_at, one_of, end_of}
-use Rattle.txn_files.specs.Operations.{op_of}
+use Rattle.txn_files.specs.Operations.{is_old_op, op_of}
 use Rattle.piece_files.specs.declared.part.Part.TheVariants as parts
 use Rattle.piece_files.specs.Pieces.{pieces_from}
 
@@ -23,3 +24,12 @@ action_of ds = do
 -- A script: its actions, where each element is one.
 unfoldable pub script_of : List Data → Option (List Action)
 script_of ds = result_ok (pieces_from action_of parts.Script 0 ds)
+
+-- Whether version 1 has an action too.
+abbrev pub is_old_action : Action → Bool
+is_old_action (Op op) = is_old_op op
+is_old_action _ = true
+
+-- Whether version 1 has a script too.
+abbrev pub is_old_script : List Action → Bool
+is_old_script script = list_all is_old_action script

@@ -1,11 +1,11 @@
 -- The entry that an array in JSON is: its name, its caller and what is entered.
-use Rattle.std.specs.Prelude.{ℕ, List, Option, Some, None, if◌then◌else◌, codes}
+use Rattle.std.specs.Prelude.{ℕ, Bool, true, List, Option, Some, None, if◌then◌else◌, codes}
 use Rattle.std.specs.Str.{bytes_eq}
 use Rattle.serde_json.specs.Data.{Data}
 use Rattle.txn_trace.specs.declared.entry.Entry.{Entry}
 use Rattle.txn_trace.specs.declared.entry.Entry.TheVariants.{Began, Asked, Did, Saved, Leave, Undone, Returned, Committed, Busy, Aborted}
 use Rattle.piece_files.specs.Elements.{◌>>=◌, number_at, word_at, one_of, end_of, optional_of}
-use Rattle.txn_files.specs.Operations.{op_at, op_of}
+use Rattle.txn_files.specs.Operations.{is_old_op, op_at, op_of}
 
 -- A caller's operation that found its stripe held, and the holder.
 unfoldable pub busy_of : ℕ → List Data → Option Entry
@@ -35,3 +35,9 @@ entry_of ds = do
   name ← word_at ds
   c ← number_at name.1
   entry_named name.0 c.0 c.1
+
+-- Whether version 1 has an entry too.
+abbrev pub is_old_entry : Entry → Bool
+is_old_entry (Asked c op) = is_old_op op
+is_old_entry (Busy c op x) = is_old_op op
+is_old_entry _ = true

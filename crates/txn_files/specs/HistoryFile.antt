@@ -10,7 +10,7 @@ use Rattle.piece_files.specs.declared.file_fault.FileFault.{FileFault}
 use Rattle.piece_files.specs.declared.file_fault.FileFault.TheVariants.{Member, Limit}
 use Rattle.piece_files.specs.Faults.{◌>>=◌}
 use Rattle.piece_files.specs.Files.{FileKind, contents}
-use Rattle.txn_files.specs.Entries.{entry_of}
+use Rattle.txn_files.specs.Entries.{entry_of, is_old_entry}
 
 -- The largest number that a caller may have.
 abbrev pub max_caller : ℕ
@@ -26,6 +26,7 @@ history_file = record {
   numbers = codes "stripes" ∷ [];
   pieces = codes "entries";
   of = entry_of;
+  is_old = is_old_entry;
   part = parts.Entry;
   most = max_entries;
 }
@@ -37,13 +38,15 @@ is_in_range e = nat_le (caller_of e) max_caller
 
 -- Whether the numbers of a history are in range: a stripe or more, and no more than there may be.
 abbrev pub is_history : ℕ → List Entry → Bool
-is_history stripes entries = nat_le 1 stripes && nat_le stripes max_stripes && list_all is_in_range entries
+is_history stripes entries =
+    nat_le 1 stripes && nat_le stripes max_stripes && list_all is_in_range entries
 
--- The stripes and the entries of a file's one number and its entries.
-unfoldable pub entries_from : List ℕ → List Entry → Result (ℕ × List Entry) FileFault
-entries_from (stripes ∷ []) entries = if is_history stripes entries then Ok (stripes, entries) else Err Limit
-entries_from other entries = Err Member
+-- The stripes, the entries and the version of a file's version, its one number and its entries.
+unfoldable pub entries_from : ℕ → List ℕ → List Entry → Result (ℕ × List Entry × ℕ) FileFault
+entries_from version (stripes ∷ []) entries =
+    if is_history stripes entries then Ok (stripes, entries, version) else Err Limit
+entries_from version other entries = Err Member
 
--- The history file that the bytes are.
-abbrev pub history_of : List ℕ → Result (ℕ × List Entry) FileFault
-history_of bytes = contents history_file bytes >>= λ file. entries_from file.0 file.1
+-- The history file that the bytes are: its stripes, its entries and its version.
+abbrev pub history_of : List ℕ → Result (ℕ × List Entry × ℕ) FileFault
+history_of bytes = contents history_file bytes >>= λ file. entries_from file.0 file.1 file.2

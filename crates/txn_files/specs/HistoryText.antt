@@ -32,7 +32,9 @@ elements_of_entry (Aborted c) = codes "\"aborted\"" ∷ decimal c ∷ []
 abbrev pub entry_text : Entry → List ℕ
 entry_text e = array_text (elements_of_entry e)
 
--- The object of the entries, the stripes and version 1, the names in this order.
-abbrev pub text_of_history : ℕ → List Entry → List ℕ
-text_of_history stripes entries =
-    codes "{\"entries\":" ++ (array_text (map entry_text entries) ++ (codes ",\"stripes\":" ++ (decimal stripes ++ codes ",\"version\":1}")))
+-- The object of the entries, the stripes and the version, the names in this order.
+abbrev pub text_of_history : ℕ → ℕ → List Entry → List ℕ
+text_of_history version stripes entries =
+    codes "{\"entries\":" ++ (array_text (map entry_text entries)
+    ++ (codes ",\"stripes\":" ++ (decimal stripes
+    ++ (codes ",\"version\":" ++ (decimal version ++ codes "}")))))

@@ -1,12 +1,21 @@
 -- An operation as elements in JSON: how it is read, and how it is written.
-use Rattle.std.specs.Prelude.{ℕ, List, [], ◌∷◌, length, ◌==◌, decimal, Option, Some, None, if◌then◌else◌, codes}
+use Rattle.std.specs.Prelude.{ℕ, List, [], ◌∷◌, length, ◌==◌, decimal, Bool, true, false, Option, Some, None, if◌then◌else◌, codes}
 use Rattle.std.specs.Str.{bytes_eq}
 use Rattle.serde_json.specs.Data.{Data}
 use Rattle.txn_trace.specs.declared.op.Op.{Op}
-use Rattle.txn_trace.specs.declared.op.Op.TheVariants.{Put, Take, Get}
-use Rattle.piece_files.specs.Elements.{◌>>=◌, number_at, word_at}
+use Rattle.txn_trace.specs.declared.op.Op.TheVariants.{Put, Take, Get, PutIf}
+use Rattle.piece_files.specs.Elements.{◌>>=◌, number_at, optional_at, word_at}
 
--- The operation that elements begin with, "put", a key and a value, or "take" or "get" and a key, and the elements after it.
+-- Of the operation "put_if" of a key what is expected, null or a number, and the value; and the
+-- elements after it.
+unfoldable pub put_if_at : ℕ → List Data → Option (Op × List Data)
+put_if_at k ds = do
+  expected ← optional_at ds
+  v ← number_at expected.1
+  Some (PutIf k expected.0 v.0, v.1)
+
+-- The operation that elements begin with, and the elements after it: "put", a key and a value;
+-- "take" or "get" and a key; "put_if", a key, what is expected, null or a number, and a value.
 unfoldable pub op_at : List Data → Option (Op × List Data)
 op_at ds = do
   name ← word_at ds
@@ -14,6 +23,7 @@ op_at ds = do
   if bytes_eq name.0 (codes "put") then (number_at k.1 >>= λ v. Some (Put k.0 v.0, v.1))
       else if bytes_eq name.0 (codes "take") then Some (Take k.0, k.1)
       else if bytes_eq name.0 (codes "get") then Some (Get k.0, k.1)
+      else if bytes_eq name.0 (codes "put_if") then put_if_at k.0 k.1
       else None
 
 -- An operation and nothing else.
@@ -22,8 +32,16 @@ op_of ds = do
   op ← op_at ds
   if length op.1 == 0 then Some op.0 else None
 
+-- Whether version 1 has an operation too.
+abbrev pub is_old_op : Op → Bool
+is_old_op (PutIf k expected v) = false
+is_old_op _ = true
+
 -- The elements of an operation, each as a text.
 abbrev pub elements_of_op : Op → List (List ℕ)
 elements_of_op (Put k v) = codes "\"put\"" ∷ decimal k ∷ decimal v ∷ []
 elements_of_op (Take k) = codes "\"take\"" ∷ decimal k ∷ []
 elements_of_op (Get k) = codes "\"get\"" ∷ decimal k ∷ []
+elements_of_op (PutIf k None v) = codes "\"put_if\"" ∷ decimal k ∷ codes "null" ∷ decimal v ∷ []
+elements_of_op (PutIf k (Some expected) v) =
+    codes "\"put_if\"" ∷ decimal k ∷ decimal expected ∷ decimal v ∷ []

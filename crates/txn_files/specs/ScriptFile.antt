@@ -8,7 +8,7 @@ use Rattle.piece_files.specs.declared.file_fault.FileFault.TheVariants.{Member, 
 use Rattle.piece_files.specs.Faults.{◌>>=◌}
 use Rattle.piece_files.specs.Files.{FileKind, contents}
 use Rattle.txn_files.specs.StepFile.{sizes_at}
-use Rattle.txn_files.specs.Actions.{script_of}
+use Rattle.txn_files.specs.Actions.{is_old_script, script_of}
 use Rattle.txn_trace.specs.Work.{Work}
 
 -- How many tries there may be after the first.
@@ -29,6 +29,7 @@ script_file = record {
   numbers = codes "workers" ∷ codes "stripes" ∷ codes "buckets" ∷ codes "tries" ∷ [];
   pieces = codes "scripts";
   of = script_of;
+  is_old = is_old_script;
   part = parts.Script;
   most = max_scripts;
 }
@@ -41,13 +42,15 @@ is_short script = nat_le (length script) max_actions
 abbrev pub are_scripts : ℕ → List (List Action) → Bool
 are_scripts tries scripts = nat_le tries max_tries && list_all is_short scripts
 
--- The work of a file's four numbers and its scripts; the workers are the callers.
-unfoldable pub work_from : List ℕ → List (List Action) → Result Work FileFault
-work_from (workers ∷ stripes ∷ buckets ∷ tries ∷ []) scripts = do
-  sizes ← sizes_at workers stripes buckets
-  if are_scripts tries scripts then Ok (record { sizes = sizes; tries = tries; scripts = scripts }) else Err Limit
-work_from other scripts = Err Member
+-- The work of a file's version, its four numbers and its scripts; the workers are the callers.
+unfoldable pub work_from : ℕ → List ℕ → List (List Action) → Result Work FileFault
+work_from version (workers ∷ stripes ∷ buckets ∷ tries ∷ []) scripts = do
+  sizes ← sizes_at version workers stripes buckets
+  if are_scripts tries scripts
+      then Ok (record { version = version; sizes = sizes; tries = tries; scripts = scripts })
+      else Err Limit
+work_from version other scripts = Err Member
 
 -- The script file that the bytes are.
 abbrev pub scripts_of : List ℕ → Result Work FileFault
-scripts_of bytes = contents script_file bytes >>= λ file. work_from file.0 file.1
+scripts_of bytes = contents script_file bytes >>= λ file. work_from file.0 file.1 file.2

@@ -1,5 +1,5 @@
 -- The step file that bytes are, or its first fault.
-use Rattle.std.specs.Prelude.{ℕ, List, [], ◌∷◌, Result, Ok, Err, codes}
+use Rattle.std.specs.Prelude.{ℕ, true, List, [], ◌∷◌, Result, Ok, Err, codes}
 use Rattle.txn_trace.specs.Sizes.{Sizes, limits_of}
 use Rattle.txn_trace.specs.declared.refusal.Refusal.{Refusal}
 use Rattle.txn_trace.specs.declared.step.Step.{Step}
@@ -8,7 +8,8 @@ use Rattle.piece_files.specs.declared.file_fault.FileFault.{FileFault}
 use Rattle.piece_files.specs.declared.file_fault.FileFault.TheVariants.{Member, Limit}
 use Rattle.piece_files.specs.Faults.{◌>>=◌}
 use Rattle.piece_files.specs.Files.{FileKind, contents}
-use Rattle.txn_files.specs.Steps.{step_of}
+use Rattle.piece_files.specs.Pieces.{in_version}
+use Rattle.txn_files.specs.Steps.{is_old_step, step_of}
 
 -- How many steps a file may have.
 abbrev pub max_steps : ℕ
@@ -20,6 +21,7 @@ step_file = record {
   numbers = codes "callers" ∷ codes "stripes" ∷ codes "buckets" ∷ [];
   pieces = codes "steps";
   of = step_of;
+  is_old = is_old_step;
   part = parts.Step;
   most = max_steps;
 }
@@ -28,15 +30,21 @@ abbrev in_limits : Result Sizes Refusal → Result Sizes FileFault
 in_limits (Ok sizes) = Ok sizes
 in_limits (Err refusal) = Err Limit
 
--- The numbers as limits, where they are in range.
-abbrev pub sizes_at : ℕ → ℕ → ℕ → Result Sizes FileFault
-sizes_at callers stripes buckets = in_limits (limits_of callers stripes buckets)
+-- The limits of a file of this version: those of version 1 take half keys alone.
+abbrev pub with_keys_of : ℕ → Sizes → Sizes
+with_keys_of version sizes = in_version version (record sizes { half = true }) sizes
 
--- The limits and the steps of a file's three numbers and its steps.
-unfoldable pub steps_from : List ℕ → List Step → Result (Sizes × List Step) FileFault
-steps_from (callers ∷ stripes ∷ buckets ∷ []) steps = sizes_at callers stripes buckets >>= λ sizes. Ok (sizes, steps)
-steps_from other steps = Err Member
+-- The numbers of a file as limits, where they are in range.
+abbrev pub sizes_at : ℕ → ℕ → ℕ → ℕ → Result Sizes FileFault
+sizes_at version callers stripes buckets =
+    in_limits (limits_of callers stripes buckets) >>= λ sizes. Ok (with_keys_of version sizes)
+
+-- The limits and the steps of a file's version, its three numbers and its steps.
+unfoldable pub steps_from : ℕ → List ℕ → List Step → Result (Sizes × List Step) FileFault
+steps_from version (callers ∷ stripes ∷ buckets ∷ []) steps =
+    sizes_at version callers stripes buckets >>= λ sizes. Ok (sizes, steps)
+steps_from version other steps = Err Member
 
 -- The step file that the bytes are.
 abbrev pub file_of : List ℕ → Result (Sizes × List Step) FileFault
-file_of bytes = contents step_file bytes >>= λ file. steps_from file.0 file.1
+file_of bytes = contents step_file bytes >>= λ file. steps_from file.0 file.1 file.2

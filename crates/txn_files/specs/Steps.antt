@@ -1,11 +1,11 @@
 -- The step that an array in JSON is: its name, its caller and what it asks for.
-use Rattle.std.specs.Prelude.{ℕ, ◌==◌, List, length, Option, Some, None, if◌then◌else◌, codes}
+use Rattle.std.specs.Prelude.{ℕ, ◌==◌, Bool, true, List, length, Option, Some, None, if◌then◌else◌, codes}
 use Rattle.std.specs.Str.{bytes_eq}
 use Rattle.serde_json.specs.Data.{Data}
 use Rattle.txn_trace.specs.declared.step.Step.{Step}
 use Rattle.txn_trace.specs.declared.step.Step.TheVariants.{Begin, Ask, Seek, Act, Save, Back, Commit, Abort, Sweep, InitSeek, InitLink, InitStore, Double}
 use Rattle.piece_files.specs.Elements.{◌>>=◌, number_at, word_at, one_of, two_of}
-use Rattle.txn_files.specs.Operations.{op_of}
+use Rattle.txn_files.specs.Operations.{is_old_op, op_of}
 
 -- A caller and the operation that it asks for.
 unfoldable pub ask_of : List Data → Option Step
@@ -34,6 +34,12 @@ step_of ds = do
   name ← word_at ds
   if bytes_eq name.0 (codes "ask") then ask_of name.1
       else if bytes_eq name.0 (codes "back") then (two_of name.1 >>= λ cn. Some (Back cn.0 cn.1))
-      else if bytes_eq name.0 (codes "init_seek") then (two_of name.1 >>= λ hb. Some (InitSeek hb.0 hb.1))
+      else if bytes_eq name.0 (codes "init_seek")
+      then (two_of name.1 >>= λ hb. Some (InitSeek hb.0 hb.1))
       else if bytes_eq name.0 (codes "sweep") then (if length name.1 == 0 then Some Sweep else None)
       else (one_of name.1 >>= λ n. numbered_of name.0 n)
+
+-- Whether version 1 has a step too.
+abbrev pub is_old_step : Step → Bool
+is_old_step (Ask c op) = is_old_op op
+is_old_step _ = true

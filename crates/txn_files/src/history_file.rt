@@ -2,10 +2,10 @@ ghost use Rattle.std.specs.Prelude.{◌≡◌, map, true, false};
 ghost use Rattle.std.specs.List.{list_all};
 ghost use Rattle.piece_files.specs.Plain.{data_of};
 ghost use Rattle.piece_files.specs.Faults.{Gives};
-ghost use Rattle.txn_files.specs.Entries.{busy_of, entry_named, entry_of};
+ghost use Rattle.txn_files.specs.Entries.{busy_of, entry_named, entry_of, is_old_entry};
 ghost use Rattle.txn_files.specs.HistoryFile.{max_entries, is_in_range, is_history, entries_from, history_of};
 
-use crate::operation::{leading_op_in, op_in};
+use crate::operation::{is_old_op, leading_op_in, op_in};
 use json::Reader;
 use piece_files::{
     FileFault, Part, PieceKind, Plain, Stop, end_in, number_in, one_in, optional_in,
@@ -20,8 +20,8 @@ const MAX_CALLER: u64 = Limits::MAX_CALLERS - 1;
 /// How many entries a file may have.
 const MAX_ENTRIES: usize = 1_000_000;
 
-/// How many elements the longest entry has: `["busy",0,"put",1,10,2]`.
-const MAX_ELEMENTS: usize = 6;
+/// How many elements the longest entry has: `["busy",0,"put_if",1,10,12,2]`.
+const MAX_ELEMENTS: usize = 7;
 
 #[tactic(auto, unfolding(crate::specs::Entries::busy_of))]
 fn busy_in(caller: u64, values: &[Plain<'_>]) -> Option<Entry>
@@ -84,6 +84,8 @@ impl PieceKind for EntryKind {
 
     ghost of = { entry_of };
 
+    ghost is_old = { is_old_entry };
+
     ghost part = { parts.Entry };
 
     ghost most = { max_entries };
@@ -92,6 +94,13 @@ impl PieceKind for EntryKind {
 
     fn part() -> Part {
         Part::Entry
+    }
+
+    fn is_old(entry: &Entry) -> bool {
+        match *entry {
+            Entry::Asked(_, op) | Entry::Busy(_, op, _) => is_old_op(op),
+            _ => true,
+        }
     }
 
     fn most() -> usize {
@@ -140,37 +149,49 @@ fn is_history(stripes: u64, entries: &[Entry]) -> bool
     1 <= stripes && stripes <= Limits::MAX_STRIPES && are_in_range(entries)
 }
 
-/// The number of stripes and the entries of a file's number and its entries.
+/// The number of stripes, the entries and the version of a file's version, its number and its
+/// entries.
 #[tactic(auto, unfolding(crate::specs::HistoryFile::entries_from))]
-fn entries_in(numbers: [u64; 1], entries: Vec<Entry>) -> Result<(u32, Vec<Entry>), FileFault>
-    ensures { Gives (λ file. (file.0, file.1.items)) result (entries_from numbers entries.items) }
+fn entries_in(
+    version: u64,
+    numbers: [u64; 1],
+    entries: Vec<Entry>,
+) -> Result<(u32, Vec<Entry>, u64), FileFault>
+    ensures { Gives (λ file. (file.0, file.1.items, file.2)) result
+        (entries_from version numbers entries.items) }
 {
     let [stripes] = numbers;
     if is_history(stripes, &entries) {
-        Ok((stripes as u32, entries))
+        Ok((stripes as u32, entries, version))
     } else {
         Err(FileFault::Limit)
     }
 }
 
-/// The number of stripes and the entries of a history file: `{"version":1,"stripes":S,"entries":[..]}`,
-/// where each entry is an array, as `["asked",0,"put",1,10]` or `["did",0,null]`.
+/// The number of stripes, the entries and the version of a history file:
+/// `{"version":V,"stripes":S,"entries":[..]}`, where each entry is an array, as
+/// `["asked",0,"put",1,10]` or `["did",0,null]`. Version 1 has no `put_if`.
 ///
-/// The first fault in this order is the answer:
-/// `Limit` where there are more than 16,777,216 bytes; `NotJson`; `Member` where the value is no
-/// object or one of the three members, in the order above, is missing or of the wrong kind; `Piece`
-/// for the first entry that is none; `Limit` where the version is not 1, the stripes are not 1 to
-/// 4,096, a caller or the holder that an entry names is above 63, or there are more than 1,000,000
-/// entries. `NoMemory` can come in place of any answer.
+/// The first fault in this order is the answer: `Limit` where there are more than 16,777,216 bytes;
+/// `NotJson`; `Member` where the value is no object or one of the three members, in the order
+/// above, is missing or of the wrong kind; `Piece` for the first entry that is none, or in version
+/// 1 has a `put_if`; `Limit` where the version is not 1 or 2, the stripes are not 1 to 4,096, a
+/// caller or the holder that an entry names is above 63, or there are more than 1,000,000 entries.
+/// `NoMemory` can come in place of any answer.
 ///
-/// Other members of the object are passed over, and of a member that is given twice the last counts.
-/// A number is written without a sign, a fraction or an exponent, and is below 2^64. Whether the
-/// history is legal is not asked.
+/// Other members of the object are passed over, and of a member that is given twice the last
+/// counts. A number is written without a sign, a fraction or an exponent, and is below 2^64.
+/// Whether the history is legal is not asked.
 ///
 /// Time and memory are proportional to the number of bytes.
-pub fn read_history(alloc: Global, bytes: &[u8]) -> Result<(u32, Vec<Entry>), FileFault>
-    ensures { Gives (λ file. (file.0, file.1.items)) result (history_of bytes.now) }
+pub fn read_history(alloc: Global, bytes: &[u8]) -> Result<(u32, Vec<Entry>, u64), FileFault>
+    ensures { Gives (λ file. (file.0, file.1.items, file.2)) result (history_of bytes.now) }
 {
-    let (numbers, entries) = read_file::<EntryKind, 1>(alloc, bytes, &["stripes"], "entries")?;
-    entries_in(numbers, entries)
+    let (version, numbers, entries) = read_file::<EntryKind, 1>(
+        alloc,
+        bytes,
+        &["stripes"],
+        "entries",
+    )?;
+    entries_in(version, numbers, entries)
 }

@@ -52,10 +52,10 @@ fn file_with(
 #[test]
 fn every_entry(rt: HostRuntime) -> Result<(), Fail> {
     let text = file_with(&rt, "4096", EVERY_KIND)?;
-    let Ok((stripes, entries)) = read_history(rt.alloc(), text.as_bytes()) else {
+    let Ok((stripes, entries, version)) = read_history(rt.alloc(), text.as_bytes()) else {
         return Err("refused")?;
     };
-    assert_eq!(rt; stripes, 4096);
+    assert_eq!(rt; (stripes, version), (4096, 1));
     assert_eq!(rt; entries.as_slice(), EVERY_ENTRY.as_slice());
     Ok(())
 }
@@ -64,10 +64,10 @@ fn every_entry(rt: HostRuntime) -> Result<(), Fail> {
 fn members_in_any_order(rt: HostRuntime) -> Result<(), Fail> {
     let text =
         " { \"entries\" : [ [ \"undone\" , 3 ] ],\n\"note\":null,\"stripes\":0,\"stripes\":1,\"version\":1}\n";
-    let Ok((stripes, entries)) = read_history(rt.alloc(), text.as_bytes()) else {
+    let Ok((stripes, entries, version)) = read_history(rt.alloc(), text.as_bytes()) else {
         return Err("refused")?;
     };
-    assert_eq!(rt; stripes, 1);
+    assert_eq!(rt; (stripes, version), (1, 1));
     let wanted = [Entry::Undone(3)];
     assert_eq!(rt; entries.as_slice(), wanted.as_slice());
     Ok(())
@@ -75,22 +75,51 @@ fn members_in_any_order(rt: HostRuntime) -> Result<(), Fail> {
 
 #[test]
 fn text_of_a_history(rt: HostRuntime) -> Result<(), Fail> {
-    let text = history_text(rt.alloc(), 4096, &EVERY_ENTRY)?;
+    let text = history_text(rt.alloc(), 1, 4096, &EVERY_ENTRY)?;
     let wanted = format!(in rt.alloc();
         "{{\"entries\":{EVERY_KIND},\"stripes\":4096,\"version\":1}}"
     )?;
     assert_eq!(rt; text.as_str(), wanted.as_str());
     let one = [Entry::Began(0, 1)];
-    let text = history_text(rt.alloc(), 8, &one)?;
+    let text = history_text(rt.alloc(), 1, 8, &one)?;
     assert_eq!(rt;
         text.as_str(),
         "{\"entries\":[[\"began\",0,1]],\"stripes\":8,\"version\":1}"
     );
-    let text = history_text(rt.alloc(), 1, &[])?;
+    let text = history_text(rt.alloc(), 1, 1, &[])?;
     assert_eq!(rt;
         text.as_str(),
         "{\"entries\":[],\"stripes\":1,\"version\":1}"
     );
+    Ok(())
+}
+
+/// A history of version 2, written and read.
+#[test]
+fn history_of_version_2(rt: HostRuntime) -> Result<(), Fail> {
+    let history = [
+        Entry::Asked(0, Op::PutIf(1, None, 5)),
+        Entry::Asked(0, Op::PutIf(u64::MAX, Some(4), 6)),
+        Entry::Busy(1, Op::PutIf(1, Some(0), 7), 0),
+        Entry::Busy(1, Op::PutIf(2, None, 8), 63),
+    ];
+    let wanted = "{\"entries\":[[\"asked\",0,\"put_if\",1,null,5],\
+        [\"asked\",0,\"put_if\",18446744073709551615,4,6],[\"busy\",1,\"put_if\",1,0,7,0],\
+        [\"busy\",1,\"put_if\",2,null,8,63]],\"stripes\":8,\"version\":2}";
+    let text = history_text(rt.alloc(), 2, 8, &history)?;
+    assert_eq!(rt; text.as_str(), wanted);
+    let Ok((stripes, entries, version)) = read_history(rt.alloc(), wanted.as_bytes()) else {
+        return Err("refused")?;
+    };
+    assert_eq!(rt; (stripes, version), (8, 2));
+    assert_eq!(rt; entries.as_slice(), history.as_slice());
+    let text = history_text(rt.alloc(), 1, 8, &history)?;
+    let wrong = Some(FileFault::Piece(Part::Entry, 0));
+    assert_eq!(rt; fault_of(&rt, text.as_bytes()), wrong);
+    let busy = "[[\"began\",0,1],[\"busy\",1,\"put_if\",2,null,8,63]]";
+    let text = file_with(&rt, "8", busy)?;
+    let wrong = Some(FileFault::Piece(Part::Entry, 1));
+    assert_eq!(rt; fault_of(&rt, text.as_bytes()), wrong);
     Ok(())
 }
 
@@ -140,7 +169,7 @@ fn wrong_history_members(rt: HostRuntime) {
             FileFault::Limit,
         ),
         (
-            "{\"version\":2,\"stripes\":8,\"entries\":[]}",
+            "{\"version\":3,\"stripes\":8,\"entries\":[]}",
             FileFault::Limit,
         ),
         (

@@ -4,11 +4,23 @@ ghost use Rattle.std.specs.Prelude.{◌≡◌, ◌++◌, map, option_map, OnOk, 
 ghost use Rattle.std.specs.List.{join_with_byte};
 ghost use Rattle.piece_files.specs.Plain.{data_of};
 ghost use Rattle.txn_files.specs.HistoryText.{comma};
-ghost use Rattle.txn_files.specs.Operations.{op_at, op_of, elements_of_op};
+ghost use Rattle.txn_files.specs.Operations.{is_old_op, op_at, op_of, put_if_at, elements_of_op};
 
-use piece_files::{Plain, number_in, word_in};
+use piece_files::{Plain, leading_optional_in, number_in, word_in};
 use std::alloc::AllocError;
 use txn_trace::Op;
+
+/// Of a `put_if` of this key what is expected and the value, with which the elements begin; and the
+/// elements after it.
+#[tactic(auto, unfolding(crate::specs::Operations::put_if_at))]
+fn leading_put_if_in<'v, 'a>(key: u64, values: &'v [Plain<'a>]) -> Option<(Op, &'v [Plain<'a>])>
+    ensures { option_map (λ x. (x.0, map data_of x.1.now)) result
+        ≡ put_if_at key (map data_of values.now) }
+{
+    let (expected, rest) = leading_optional_in(values)?;
+    let (value, rest) = number_in(rest)?;
+    Some((Op::PutIf(key, expected, value), rest))
+}
 
 /// The operation that the elements begin with, and the elements after it.
 #[tactic(auto, unfolding(crate::specs::Operations::op_at))]
@@ -24,6 +36,8 @@ pub fn leading_op_in<'v, 'a>(values: &'v [Plain<'a>]) -> Option<(Op, &'v [Plain<
         Some((Op::Take(key), rest))
     } else if name == "get" {
         Some((Op::Get(key), rest))
+    } else if name == "put_if" {
+        leading_put_if_in(key, rest)
     } else {
         None
     }
@@ -38,13 +52,25 @@ pub fn op_in(values: &[Plain<'_>]) -> Option<Op>
     if rest.is_empty() { Some(op) } else { None }
 }
 
+/// Whether version 1 has an operation too.
+pub fn is_old_op(op: Op) -> bool
+    ensures { result ≡ is_old_op op }
+{
+    !matches!(op, Op::PutIf(..))
+}
+
 /// Adds the elements of an operation, with a comma between each two.
 pub fn put_op(text: &mut String, op: Op) -> Result<(), AllocError>
-    ensures { OnOk result (string_bytes text.new ≡ string_bytes text.old ++ join_with_byte comma (elements_of_op op)) }
+    ensures { OnOk result (string_bytes text.new
+        ≡ string_bytes text.old ++ join_with_byte comma (elements_of_op op)) }
 {
     match op {
         Op::Put(key, value) => write!(text, "\"put\",{key},{value}"),
         Op::Take(key) => write!(text, "\"take\",{key}"),
         Op::Get(key) => write!(text, "\"get\",{key}"),
+        Op::PutIf(key, None, value) => write!(text, "\"put_if\",{key},null,{value}"),
+        Op::PutIf(key, Some(expected), value) => {
+            write!(text, "\"put_if\",{key},{expected},{value}")
+        }
     }
 }

@@ -2,10 +2,10 @@ ghost use Rattle.std.specs.Prelude.{◌≡◌, map, true, false};
 ghost use Rattle.std.specs.List.{list_all};
 ghost use Rattle.piece_files.specs.Plain.{data_of};
 ghost use Rattle.piece_files.specs.Faults.{Gives};
-ghost use Rattle.txn_files.specs.Actions.{action_of, script_of};
+ghost use Rattle.txn_files.specs.Actions.{action_of, is_old_action, is_old_script, script_of};
 ghost use Rattle.txn_files.specs.ScriptFile.{max_scripts, is_short, are_scripts, work_from, scripts_of};
 
-use crate::operation::op_in;
+use crate::operation::{is_old_op, op_in};
 use crate::step_file::limits_in;
 use json::Reader;
 use piece_files::{
@@ -24,8 +24,8 @@ const MAX_SCRIPTS: usize = 10_000;
 /// How many actions a script may have.
 const MAX_ACTIONS: usize = 10_000;
 
-/// How many elements the longest action has: `["put",1,10]`.
-const MAX_ELEMENTS: usize = 3;
+/// How many elements the longest action has: `["put_if",1,10,12]`.
+const MAX_ELEMENTS: usize = 4;
 
 #[tactic(auto, unfolding(crate::specs::Actions::action_of))]
 fn action_in(values: &[Plain<'_>]) -> Option<Action>
@@ -47,6 +47,16 @@ fn action_in(values: &[Plain<'_>]) -> Option<Action>
     }
 }
 
+/// Whether version 1 has an action too.
+fn is_old_action(action: &Action) -> bool
+    ensures { result ≡ is_old_action action.now }
+{
+    match *action {
+        Action::Op(op) => is_old_op(op),
+        _ => true,
+    }
+}
+
 /// Actions, as pieces of a script. All are kept.
 struct ActionKind;
 
@@ -57,6 +67,8 @@ impl PieceKind for ActionKind {
 
     ghost of = { action_of };
 
+    ghost is_old = { is_old_action };
+
     ghost part = { parts.Script };
 
     ghost most = { 18446744073709551615 };
@@ -65,6 +77,10 @@ impl PieceKind for ActionKind {
 
     fn part() -> Part {
         Part::Script
+    }
+
+    fn is_old(action: &Action) -> bool {
+        is_old_action(action)
     }
 
     fn most() -> usize {
@@ -91,6 +107,8 @@ impl PieceKind for ScriptKind {
 
     ghost of = { script_of };
 
+    ghost is_old = { is_old_script };
+
     ghost part = { parts.Script };
 
     ghost most = { max_scripts };
@@ -99,6 +117,10 @@ impl PieceKind for ScriptKind {
 
     fn part() -> Part {
         Part::Script
+    }
+
+    fn is_old(script: &Script) -> bool {
+        script.actions().iter().all(|action| is_old_action(action))
     }
 
     fn most() -> usize {
@@ -134,40 +156,41 @@ fn are_scripts(tries: u64, scripts: &[Script]) -> bool
     tries <= MAX_TRIES && are_short(scripts)
 }
 
-/// The work of a file's numbers and its scripts.
+/// The work of a file's version, its numbers and its scripts.
 #[tactic(auto, unfolding(crate::specs::ScriptFile::work_from))]
-fn work_in(numbers: [u64; 4], scripts: Vec<Script>) -> Result<Scripts, FileFault>
-    ensures { Gives (λ work. work) result (work_from numbers scripts.items) }
+fn work_in(version: u64, numbers: [u64; 4], scripts: Vec<Script>) -> Result<Scripts, FileFault>
+    ensures { Gives (λ work. work) result (work_from version numbers scripts.items) }
 {
     let [workers, stripes, buckets, tries] = numbers;
-    let limits = limits_in(workers, stripes, buckets)?;
+    let limits = limits_in(version, workers, stripes, buckets)?;
     if are_scripts(tries, &scripts) {
-        Ok(Scripts::new(limits, tries, scripts))
+        Ok(Scripts::new(version, limits, tries, scripts))
     } else {
         Err(FileFault::Limit)
     }
 }
 
 /// What a script file gives workers to do:
-/// `{"version":1,"workers":W,"stripes":S,"buckets":B,"tries":T,"scripts":[[..],..]}`, where each script is
-/// an array of actions, and each action an array, as `["put",1,10]` or `["save"]`.
+/// `{"version":V,"workers":W,"stripes":S,"buckets":B,"tries":T,"scripts":[[..],..]}`, where each
+/// script is an array of actions, and each action an array, as `["put",1,10]` or `["save"]`.
+/// Version 1 has no `put_if`, and its limits take half keys alone.
 ///
-/// The first fault in this order is the answer:
-/// `Limit` where there are more than 16,777,216 bytes; `NotJson`; `Member` where the value is no
-/// object or one of the six members, in the order above, is missing or of the wrong kind; `Piece`
-/// for the first script that is none, with its index; `Limit` where the version is not 1, `Limits::new`
-/// refuses the numbers with the workers as callers, the tries are above 1,000, there are more than
-/// 10,000 scripts, or one of them has more than 10,000 actions. `NoMemory` can come in place of any
+/// The first fault in this order is the answer: `Limit` where there are more than 16,777,216 bytes;
+/// `NotJson`; `Member` where the value is no object or one of the six members, in the order above,
+/// is missing or of the wrong kind; `Piece` for the first script that is none, or in version 1 has
+/// a `put_if`, with its index; `Limit` where the version is not 1 or 2, `Limits::new` refuses the
+/// numbers with the workers as callers, the tries are above 1,000, there are more than 10,000
+/// scripts, or one of them has more than 10,000 actions. `NoMemory` can come in place of any
 /// answer.
 ///
-/// Other members of the object are passed over, and of a member that is given twice the last counts.
-/// A number is written without a sign, a fraction or an exponent, and is below 2^64.
+/// Other members of the object are passed over, and of a member that is given twice the last
+/// counts. A number is written without a sign, a fraction or an exponent, and is below 2^64.
 ///
 /// Time and memory are proportional to the number of bytes.
 pub fn read_scripts(alloc: Global, bytes: &[u8]) -> Result<Scripts, FileFault>
     ensures { Gives (λ work. work) result (scripts_of bytes.now) }
 {
     let names = ["workers", "stripes", "buckets", "tries"];
-    let (numbers, scripts) = read_file::<ScriptKind, 4>(alloc, bytes, &names, "scripts")?;
-    work_in(numbers, scripts)
+    let (version, numbers, scripts) = read_file::<ScriptKind, 4>(alloc, bytes, &names, "scripts")?;
+    work_in(version, numbers, scripts)
 }

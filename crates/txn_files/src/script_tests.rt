@@ -55,6 +55,8 @@ fn every_action(rt: HostRuntime) -> Result<(), Fail> {
         ),
         (1, 2, 8, 3)
     );
+    assert!(rt; limits.has_half_keys(), "version 1");
+    assert_eq!(rt; work.version(), 1);
     let [first, second, third] = work.scripts() else {
         return Err("not three scripts")?;
     };
@@ -73,6 +75,32 @@ fn every_action(rt: HostRuntime) -> Result<(), Fail> {
         Action::Save,
     ];
     assert_eq!(rt; third.actions(), others.as_slice());
+    Ok(())
+}
+
+#[test]
+fn scripts_of_version_2(rt: HostRuntime) -> Result<(), Fail> {
+    let scripts = "[[[\"save\"]],[[\"put_if\",1,null,10],[\"put_if\",18446744073709551615,10,12]]]";
+    let text = file_with(&rt, "2", scripts)?;
+    let Ok(work) = read_scripts(rt.alloc(), text.as_bytes()) else {
+        return Err("refused")?;
+    };
+    assert!(rt; !work.limits().has_half_keys());
+    assert_eq!(rt; work.version(), 2);
+    let [_, script] = work.scripts() else {
+        return Err("not two scripts")?;
+    };
+    let actions = [
+        Action::Op(Op::PutIf(1, None, 10)),
+        Action::Op(Op::PutIf(u64::MAX, Some(10), 12)),
+    ];
+    assert_eq!(rt; script.actions(), actions.as_slice());
+    let wrong = Some(FileFault::Piece(Part::Script, 1));
+    let limit = Some(FileFault::Limit);
+    for (version, wanted) in [("0", limit), ("1", wrong), ("2", None), ("3", limit)] {
+        let text = file_with(&rt, version, scripts)?;
+        assert_eq!(rt; fault_of(&rt, text.as_bytes()), wanted, "version {version}");
+    }
     Ok(())
 }
 
@@ -125,7 +153,7 @@ fn wrong_script_members(rt: HostRuntime) -> Result<(), Fail> {
             FileFault::Limit,
         ),
         (
-            "{@,\"tries\":0,\"scripts\":[],\"version\":2}",
+            "{@,\"tries\":0,\"scripts\":[],\"version\":3}",
             FileFault::Limit,
         ),
         (

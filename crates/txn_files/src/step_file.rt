@@ -1,10 +1,10 @@
 ghost use Rattle.std.specs.Prelude.{◌≡◌, map, true, false};
 ghost use Rattle.piece_files.specs.Plain.{data_of};
 ghost use Rattle.piece_files.specs.Faults.{Gives};
-ghost use Rattle.txn_files.specs.Steps.{ask_of, numbered_of, step_of};
+ghost use Rattle.txn_files.specs.Steps.{ask_of, is_old_step, numbered_of, step_of};
 ghost use Rattle.txn_files.specs.StepFile.{max_steps, sizes_at, steps_from, file_of};
 
-use crate::operation::op_in;
+use crate::operation::{is_old_op, op_in};
 use json::Reader;
 use piece_files::{
     FileFault, Part, PieceKind, Plain, Stop, number_in, one_in, plain_elements, read_file, two_in,
@@ -16,8 +16,8 @@ use txn_trace::{Limits, Step};
 /// How many steps a file may have.
 const MAX_STEPS: usize = 1_000_000;
 
-/// How many elements the longest step has: `["ask",0,"put",1,10]`.
-const MAX_ELEMENTS: usize = 5;
+/// How many elements the longest step has: `["ask",0,"put_if",1,10,12]`.
+const MAX_ELEMENTS: usize = 6;
 
 #[tactic(auto, unfolding(crate::specs::Steps::ask_of))]
 fn ask_in(values: &[Plain<'_>]) -> Option<Step>
@@ -90,6 +90,8 @@ impl PieceKind for StepKind {
 
     ghost of = { step_of };
 
+    ghost is_old = { is_old_step };
+
     ghost part = { parts.Step };
 
     ghost most = { max_steps };
@@ -98,6 +100,13 @@ impl PieceKind for StepKind {
 
     fn part() -> Part {
         Part::Step
+    }
+
+    fn is_old(step: &Step) -> bool {
+        match *step {
+            Step::Ask(_, op) => is_old_op(op),
+            _ => true,
+        }
     }
 
     fn most() -> usize {
@@ -114,43 +123,58 @@ impl PieceKind for StepKind {
     }
 }
 
-/// The limits of these numbers.
-pub fn limits_in(callers: u64, stripes: u64, buckets: u64) -> Result<Limits, FileFault>
-    ensures { Gives (λ limits. limits) result (sizes_at callers stripes buckets) }
+/// The limits of these numbers in a file of this version: those of version 1 take half keys alone.
+pub fn limits_in(
+    version: u64,
+    callers: u64,
+    stripes: u64,
+    buckets: u64,
+) -> Result<Limits, FileFault>
+    ensures { Gives (λ limits. limits) result (sizes_at version callers stripes buckets) }
 {
-    match Limits::new(callers, stripes, buckets) {
-        Ok(limits) => Ok(limits),
-        Err(_) => Err(FileFault::Limit),
+    let Ok(limits) = Limits::new(callers, stripes, buckets) else {
+        return Err(FileFault::Limit);
+    };
+    if version == 1 {
+        Ok(limits.half_keys())
+    } else {
+        Ok(limits)
     }
 }
 
-/// The limits and the steps of a file's numbers and its steps.
+/// The limits and the steps of a file's version, its numbers and its steps.
 #[tactic(auto, unfolding(crate::specs::StepFile::steps_from))]
-fn steps_in(numbers: [u64; 3], steps: Vec<Step>) -> Result<(Limits, Vec<Step>), FileFault>
-    ensures { Gives (λ file. (file.0, file.1.items)) result (steps_from numbers steps.items) }
+fn steps_in(
+    version: u64,
+    numbers: [u64; 3],
+    steps: Vec<Step>,
+) -> Result<(Limits, Vec<Step>), FileFault>
+    ensures { Gives (λ file. (file.0, file.1.items)) result
+        (steps_from version numbers steps.items) }
 {
     let [callers, stripes, buckets] = numbers;
-    let limits = limits_in(callers, stripes, buckets)?;
+    let limits = limits_in(version, callers, stripes, buckets)?;
     Ok((limits, steps))
 }
 
-/// The limits and the steps of a step file: `{"version":1,"callers":C,"stripes":S,"buckets":B,"steps":[..]}`,
-/// where each step is an array, as `["ask",0,"put",1,10]`.
+/// The limits and the steps of a step file:
+/// `{"version":V,"callers":C,"stripes":S,"buckets":B,"steps":[..]}`, where each step is an array,
+/// as `["ask",0,"put",1,10]`. Version 1 has no `put_if`, and its limits take half keys alone.
 ///
-/// The first fault in this order is the answer:
-/// `Limit` where there are more than 16,777,216 bytes; `NotJson`; `Member` where the value is no
-/// object or one of the five members, in the order above, is missing or of the wrong kind; `Piece`
-/// for the first step that is none; `Limit` where the version is not 1, `Limits::new` refuses the
-/// numbers, or there are more than 1,000,000 steps. `NoMemory` can come in place of any answer.
+/// The first fault in this order is the answer: `Limit` where there are more than 16,777,216 bytes;
+/// `NotJson`; `Member` where the value is no object or one of the five members, in the order above,
+/// is missing or of the wrong kind; `Piece` for the first step that is none, or in version 1 a
+/// `put_if`; `Limit` where the version is not 1 or 2, `Limits::new` refuses the numbers, or there
+/// are more than 1,000,000 steps. `NoMemory` can come in place of any answer.
 ///
-/// Other members of the object are passed over, and of a member that is given twice the last counts.
-/// A number is written without a sign, a fraction or an exponent, and is below 2^64.
+/// Other members of the object are passed over, and of a member that is given twice the last
+/// counts. A number is written without a sign, a fraction or an exponent, and is below 2^64.
 ///
 /// Time and memory are proportional to the number of bytes.
 pub fn read_steps(alloc: Global, bytes: &[u8]) -> Result<(Limits, Vec<Step>), FileFault>
     ensures { Gives (λ file. (file.0, file.1.items)) result (file_of bytes.now) }
 {
     let names = ["callers", "stripes", "buckets"];
-    let (numbers, steps) = read_file::<StepKind, 3>(alloc, bytes, &names, "steps")?;
-    steps_in(numbers, steps)
+    let (version, numbers, steps) = read_file::<StepKind, 3>(alloc, bytes, &names, "steps")?;
+    steps_in(version, numbers, steps)
 }

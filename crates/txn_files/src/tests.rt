@@ -29,6 +29,7 @@ fn first_commit(rt: HostRuntime) -> Result<(), Fail> {
         (limits.callers(), limits.stripes(), limits.buckets()),
         (1, 8, 8)
     );
+    assert!(rt; limits.has_half_keys(), "version 1");
     let wanted = [
         Step::Begin(0),
         Step::Ask(0, Op::Put(1, 10)),
@@ -42,7 +43,8 @@ fn first_commit(rt: HostRuntime) -> Result<(), Fail> {
 
 #[test]
 fn every_step(rt: HostRuntime) -> Result<(), Fail> {
-    // White space, numbers at both ends, members in another order, others beside them, and one given twice.
+    // White space, numbers at both ends, members in another order, others beside them, and one
+    // given twice.
     let text = " { \"steps\" : [[\"abort\",18446744073709551615], [\"ask\",7,\"take\",0],\n\
         [\"ask\",0,\"get\",9223372036854775808],[\"ask\",1,\"put\",18446744073709551615,0],\n\
         [\"save\",3],[\"back\",4,2],[\"sweep\"],[\"init_seek\",5,6],[\"init_link\",7],[\"init_store\",8],[\"double\",9]], \"note\" : null,\n\
@@ -68,6 +70,80 @@ fn every_step(rt: HostRuntime) -> Result<(), Fail> {
         Step::Double(9),
     ];
     assert_eq!(rt; steps.as_slice(), wanted.as_slice());
+    Ok(())
+}
+
+/// What a file of this version, whose only steps are these, is refused with, where it is refused.
+fn fault_in_version(
+    rt: &(impl Abort + AllocGlobal),
+    version: u64,
+    steps: &str,
+) -> Result<Option<FileFault>, Fail> {
+    let text = format!(in rt.alloc();
+        "{{\"callers\":1,\"stripes\":8,\"buckets\":8,\"steps\":{steps},\"version\":{version}}}"
+    )?;
+    Ok(fault_of(rt, text.as_bytes()))
+}
+
+#[test]
+fn steps_of_version_2(rt: HostRuntime) -> Result<(), Fail> {
+    let text = "{\"version\":2,\"callers\":1,\"stripes\":8,\"buckets\":8,\"steps\":\
+        [[\"ask\",0,\"put_if\",9223372036854775809,null,11],[\"ask\",0,\"put_if\",1,10,12]]}";
+    let Ok((limits, steps)) = read_steps(rt.alloc(), text.as_bytes()) else {
+        return Err("refused")?;
+    };
+    assert!(rt; !limits.has_half_keys());
+    let wanted = [
+        Step::Ask(0, Op::PutIf(9_223_372_036_854_775_809, None, 11)),
+        Step::Ask(0, Op::PutIf(1, Some(10), 12)),
+    ];
+    assert_eq!(rt; steps.as_slice(), wanted.as_slice());
+    Ok(())
+}
+
+#[test]
+fn put_if_in_each_version(rt: HostRuntime) -> Result<(), Fail> {
+    let steps = "[[\"begin\",0],[\"ask\",0,\"put_if\",1,null,12],[\"commit\",0]]";
+    let wrong = Some(FileFault::Piece(Part::Step, 1));
+    let limit = Some(FileFault::Limit);
+    for (version, wanted) in [(0, limit), (1, wrong), (2, None), (3, limit), (9, limit)] {
+        assert_eq!(rt;
+            fault_in_version(&rt, version, steps)?,
+            wanted,
+            "version {version}"
+        );
+    }
+    let before = "[[\"begin\",0],[\"ask\",0,\"put_if\",1,null,12],[\"start\",0]]";
+    assert_eq!(rt; fault_in_version(&rt, 1, before)?, wrong);
+    assert_eq!(rt;
+        fault_in_version(&rt, 3, before)?,
+        Some(FileFault::Piece(Part::Step, 2))
+    );
+    let behind = "[[\"begin\",0],[\"start\",0],[\"ask\",0,\"put_if\",1,null,12]]";
+    assert_eq!(rt; fault_in_version(&rt, 1, behind)?, wrong);
+    Ok(())
+}
+
+#[test]
+fn wrong_put_ifs(rt: HostRuntime) -> Result<(), Fail> {
+    let wrong = [
+        "[\"ask\",0,\"put_if\",1]",
+        "[\"ask\",0,\"put_if\",1,12]",
+        "[\"ask\",0,\"put_if\",1,10,null]",
+        "[\"ask\",0,\"put_if\",null,10,12]",
+        "[\"ask\",0,\"put_if\",1,\"none\",12]",
+        "[\"ask\",0,\"put_if\",1,true,12]",
+        "[\"ask\",0,\"put_if\",1,-1,12]",
+        "[\"ask\",0,\"put_if\",1,10,12,13]",
+        "[\"put_if\",1,10,12]",
+    ];
+    for step in wrong {
+        let steps = format!(in rt.alloc(); "[{step}]")?;
+        let wanted = Some(FileFault::Piece(Part::Step, 0));
+        for version in 1..=3 {
+            assert_eq!(rt; fault_in_version(&rt, version, &steps)?, wanted, "{step}");
+        }
+    }
     Ok(())
 }
 

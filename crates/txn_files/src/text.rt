@@ -35,7 +35,8 @@ fn put_entry(text: &mut String, entry: &Entry) -> Result<(), AllocError>
 
 /// Each entry after a comma.
 fn put_further_entries(text: &mut String, entries: &[Entry]) -> Result<(), AllocError>
-    ensures { OnOk result (string_bytes text.new ≡ string_bytes text.old ++ flat_map (λ e. comma ∷ entry_text e) entries.now) }
+    ensures { OnOk result (string_bytes text.new
+        ≡ string_bytes text.old ++ flat_map (λ e. comma ∷ entry_text e) entries.now) }
 {
     for entry in entries {
         text.push_str(",")?;
@@ -46,7 +47,8 @@ fn put_further_entries(text: &mut String, entries: &[Entry]) -> Result<(), Alloc
 
 /// The entries with a comma between each two.
 fn put_entries(text: &mut String, entries: &[Entry]) -> Result<(), AllocError>
-    ensures { OnOk result (string_bytes text.new ≡ string_bytes text.old ++ join_with_byte comma (map entry_text entries.now)) }
+    ensures { OnOk result (string_bytes text.new
+        ≡ string_bytes text.old ++ join_with_byte comma (map entry_text entries.now)) }
 {
     let Some((first, rest)) = entries.split_first() else {
         return Ok(());
@@ -55,17 +57,23 @@ fn put_entries(text: &mut String, entries: &[Entry]) -> Result<(), AllocError>
     put_further_entries(text, rest)
 }
 
-/// A history as compact JSON: an object with its entries, its stripes and version 1, in this order,
-/// as `{"entries":[["began",0,1]],"stripes":8,"version":1}`, with no line feed. `read_history` reads
-/// it where it is in range.
+/// A history as compact JSON: an object with its entries, its stripes and the version of the file,
+/// in this order, as `{"entries":[["began",0,1]],"stripes":8,"version":1}`, with no line feed.
+/// `read_history` reads it where it is in range, in version 1 where it has no `put_if`.
 ///
 /// `AllocError` where memory is refused. Time and memory are proportional to the number of entries.
-pub fn history_text(alloc: Global, stripes: u32, entries: &[Entry]) -> Result<String, AllocError>
-    ensures { IfOk result (λ text. string_bytes text ≡ text_of_history stripes entries.now) }
+pub fn history_text(
+    alloc: Global,
+    version: u64,
+    stripes: u32,
+    entries: &[Entry],
+) -> Result<String, AllocError>
+    ensures { IfOk result (λ text.
+        string_bytes text ≡ text_of_history version stripes entries.now) }
 {
     let mut text = String::new(alloc);
     text.push_str("{\"entries\":[")?;
     put_entries(&mut text, entries)?;
-    write!(text, "],\"stripes\":{stripes},\"version\":1}}")?;
+    write!(text, "],\"stripes\":{stripes},\"version\":{version}}}")?;
     Ok(text)
 }

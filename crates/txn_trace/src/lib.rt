@@ -12,10 +12,10 @@
 //! history here.
 //!
 //! Proved: the laws of histories in `proofs/`, entry by entry, for crates above to cite; and, as
-//! the contract of `laws::erased`, that nothing is left of aborted transactions. The code is that of
-//! definitions which crates above share: limits and texts, the entry of a step with its answer, what
-//! an operation and a step need in a history, and a caller's seat, in constant time but for one
-//! allocation of `answer_text` and those of `Seat::reserve_level`.
+//! the contract of `laws::erased`, that nothing is left of aborted transactions. The code is that
+//! of definitions which crates above share: limits and texts, the entry of a step with its answer,
+//! what an operation and a step need in a history, and a caller's seat, in constant time but for
+//! one allocation of `answer_text` and those of `Seat::reserve_level`.
 #![tactic(auto)]
 
 mod action;

@@ -46,8 +46,8 @@ impl Limits {
     /// How many buckets there may be. It is a power of two.
     pub const MAX_BUCKETS: u64 = 65536;
 
-    /// Limits that take every key and are in range: 1 to `MAX_CALLERS` callers, 1 to `MAX_STRIPES` stripes, and as the
-    /// largest size a power of two from 2 to `MAX_BUCKETS` buckets.
+    /// Limits that take every key and are in range: 1 to `MAX_CALLERS` callers, 1 to `MAX_STRIPES`
+    /// stripes, and as the largest size a power of two from 2 to `MAX_BUCKETS` buckets.
     ///
     /// Constant time.
     ///

@@ -114,8 +114,8 @@ impl Seat {
         matches!(self.phase, Phase::Waiting(_)) || self.has_job()
     }
 
-    /// The refusal of a step of its caller, as far as the seat decides it, and the limits which keys
-    /// are taken. Constant time.
+    /// The refusal of a step of its caller, as far as the seat decides it, and the limits which
+    /// keys are taken. Constant time.
     pub fn refusal(&self, limits: Limits, step: Step) -> Option<Refusal>
         ensures { result ≡ refusal_in limits.half self.now.seat step }
     {

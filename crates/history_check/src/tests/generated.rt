@@ -103,7 +103,8 @@ fn next_entry(
     })
 }
 
-/// What comes of an operation in an open transaction: it is asked for, or a holder of its stripe is in the way.
+/// What comes of an operation in an open transaction: it is asked for, or a holder of its stripe is
+/// in the way.
 fn next_operation(history: &[Entry], caller: u64, op: Op, stripes: u64) -> Entry
     requires { 0 < stripes }
 {

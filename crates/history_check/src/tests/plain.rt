@@ -1,7 +1,9 @@
-//! The rules of a legal history word for word, on whole maps: the slow program that the checker is compared with.
+//! The rules of a legal history word for word, on whole maps: the slow program that the checker is
+//! compared with.
 //!
-//! It judges each beginning of a history from nothing. It counts and looks back in the list of entries where the
-//! checker keeps numbers, and it runs each transaction again on copies of maps where the checker keeps one map.
+//! It judges each beginning of a history from nothing. It counts and looks back in the list of
+//! entries where the checker keeps numbers, and it runs each transaction again on copies of maps
+//! where the checker keeps one map.
 
 ghost use Rattle.std.specs.Prelude.{◌<◌};
 
@@ -70,12 +72,16 @@ fn is_change_done(pair: &[Entry]) -> bool {
     match pair {
         [Entry::Asked(_, Op::Put(..)), Entry::Did(..)] => true,
         [Entry::Asked(_, Op::Take(_)), Entry::Did(_, reply)] => reply.is_some(),
-        [Entry::Asked(_, Op::PutIf(_, expected, _)), Entry::Did(_, reply)] => reply == expected,
+        [
+            Entry::Asked(_, Op::PutIf(_, expected, _)),
+            Entry::Did(_, reply),
+        ] => reply == expected,
         _ => false,
     }
 }
 
-/// How many changes stood at each level: none at level 0, then those at each savepoint that is left.
+/// How many changes stood at each level: none at level 0, then those at each savepoint that is
+/// left.
 pub(super) fn kept(alloc: Global, entries: &[Entry]) -> Result<Vec<usize>, AllocError> {
     let mut kept = vec![in alloc; 0usize]?;
     for (i, entry) in entries.iter().enumerate() {
@@ -286,7 +292,8 @@ impl Running {
     }
 }
 
-/// The last map of a transaction that runs alone on these values; none where it has another reply than it would have.
+/// The last map of a transaction that runs alone on these values; none where it has another reply
+/// than it would have.
 fn alone(start: &Values, entries: &[Entry], alloc: Global) -> Result<Option<Values>, AllocError> {
     let mut run = Running::new(alloc, start)?;
     for entry in entries {
@@ -382,7 +389,8 @@ pub(super) fn first_bad(
     Ok(None)
 }
 
-/// The verdict on a history of which this is the first bad entry. A caller is in a transaction from its Began to its end.
+/// The verdict on a history of which this is the first bad entry. A caller is in a transaction from
+/// its Began to its end.
 pub(super) fn verdict(history: &[Entry], bad: Option<(usize, Rule)>) -> Verdict {
     if let Some((entry, rule)) = bad {
         let entry = entry as u64;

@@ -6,6 +6,6 @@ use Rattle.piece_files.proofs.members.members_in.Goals as goal
 
 pub take_value-requires : goal.take_value-requires
 take_value-requires g c =
-    let kind = kind_named c.args.names g.K.PieceKind.of g.K.PieceKind.part g.K.PieceKind.most in
+    let kind = kind_named c.args.names g.K.PieceKind.of g.K.PieceKind.is_old g.K.PieceKind.part g.K.PieceKind.most in
     let same : length kind.numbers ≡ g.row.N = rw length-map c.requires.many in
     (omega arith, (c.requires.many, (c.requires.apart, nothing_found kind g.row.N same)))

@@ -6,7 +6,7 @@ use Rattle.piece_files.proofs.members.take_member.Goals as goal
 
 pub returns-in_ok-found-clause-ok : goal.returns-in_ok-found-clause-ok
 returns-in_ok-found-clause-ok g c =
-    let kind = kind_named c.args.names g.K.PieceKind.of g.K.PieceKind.part g.K.PieceKind.most in
+    let kind = kind_named c.args.names g.K.PieceKind.of g.K.PieceKind.is_old g.K.PieceKind.part g.K.PieceKind.most in
     let w = c.in_ok-found.ensures.ok in
     let f = c.args.found.now in
     let key = c.args.key.now in
@@ -15,7 +15,7 @@ returns-in_ok-found-clause-ok g c =
 
 pub returns-in_ok-found-2-clause-ok : goal.returns-in_ok-found-2-clause-ok
 returns-in_ok-found-2-clause-ok g c =
-    let kind = kind_named c.args.names g.K.PieceKind.of g.K.PieceKind.part g.K.PieceKind.most in
+    let kind = kind_named c.args.names g.K.PieceKind.of g.K.PieceKind.is_old g.K.PieceKind.part g.K.PieceKind.most in
     let w = c.in_ok-found-2.ensures.ok in
     let f = c.args.found.now in
     let key = c.args.key.now in
@@ -24,7 +24,7 @@ returns-in_ok-found-2-clause-ok g c =
 
 pub returns-in_ok-found-3-clause-ok : goal.returns-in_ok-found-3-clause-ok
 returns-in_ok-found-3-clause-ok g c =
-    let kind = kind_named c.args.names g.K.PieceKind.of g.K.PieceKind.part g.K.PieceKind.most in
+    let kind = kind_named c.args.names g.K.PieceKind.of g.K.PieceKind.is_old g.K.PieceKind.part g.K.PieceKind.most in
     let w = c.in_ok-found-3.ensures.ok in
     let f = c.args.found.now in
     let key = c.args.key.now in
@@ -35,7 +35,7 @@ returns-in_ok-found-3-clause-ok g c =
 
 pub returns-in_ok-pass_value-clause-ok : goal.returns-in_ok-pass_value-clause-ok
 returns-in_ok-pass_value-clause-ok g c =
-    let kind = kind_named c.args.names g.K.PieceKind.of g.K.PieceKind.part g.K.PieceKind.most in
+    let kind = kind_named c.args.names g.K.PieceKind.of g.K.PieceKind.is_old g.K.PieceKind.part g.K.PieceKind.most in
     let w = c.in_ok-pass_value.ensures.ok in
     let f = c.args.found.now in
     let key = c.args.key.now in

@@ -10,7 +10,7 @@ abbrev pub invariant-members : goal.invariant-members
 invariant-members g l =
     (n : ℕ) × (old : Members) × (length l.reader ≤ n)
     × (members_at l.depth l.initial.reader ≡ converted (λ ms. of_members ms old) (members (value l.depth) n l.reader))
-    × AreFound (kind_named l.names g.K.PieceKind.of g.K.PieceKind.part g.K.PieceKind.most) l.found.version l.found.numbers l.found.pieces old
+    × AreFound (kind_named l.names g.K.PieceKind.of g.K.PieceKind.is_old g.K.PieceKind.part g.K.PieceKind.most) l.found.version l.found.numbers l.found.pieces old
 
 abbrev pub decreases-members : goal.decreases-members
 decreases-members g l = length l.reader

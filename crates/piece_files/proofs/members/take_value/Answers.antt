@@ -34,6 +34,6 @@ returns-in_ok-pass_value-in-BeginArray g c =
     let f = c.args.found.now in
     let none = is_not_object max_depth (token_of c.in_ok-token.token) c.next.new.self c.pass_value.new.reader w.0 w.1 (grind arith) in
     record {
-      ok = (w.0, ap (value_at max_depth) first ∙ w.1, subst (AreFound (kind_named c.args.names g.K.PieceKind.of g.K.PieceKind.part g.K.PieceKind.most) f.version f.numbers f.pieces) (sym none) c.requires.nothing);
+      ok = (w.0, ap (value_at max_depth) first ∙ w.1, subst (AreFound (kind_named c.args.names g.K.PieceKind.of g.K.PieceKind.is_old g.K.PieceKind.part g.K.PieceKind.most) f.version f.numbers f.pieces) (sym none) c.requires.nothing);
       err = λ e. absurd (grind (arith, e));
     }

@@ -3,7 +3,7 @@ use Rattle.json.specs.Json.{parse_map, after_end_array, value}
 use Rattle.json.specs.Reads.{token_of}
 use Rattle.piece_files.specs.Tokens.{value_at, items_at}
 use Rattle.piece_files.proofs.ElementLists.{before, before-none, nothing_before, one_more}
-use Rattle.piece_files.proofs.Loop.{nothing_read, keep_piece, count_piece, drop_piece, no_piece}
+use Rattle.piece_files.proofs.Loop.{nothing_read, keep_piece, count_piece, drop_piece, no_piece, nothing_old, piece_read_old, drop_piece_old, no_piece_old}
 use Rattle.piece_files.proofs.Turns.{item_turn, item_refused, items_over}
 use Rattle.piece_files.proofs.Values.{value_at-none}
 use Rattle.piece_files.proofs.piece.pieces_in.Goals.{then-count-most+in_ok-push-in-Some, else-count-most}
@@ -11,7 +11,7 @@ use Rattle.piece_files.proofs.piece.pieces_in.Goals as goal
 
 pub pieces-init : goal.pieces-init
 pieces-init g c =
-    (length c.args.reader.now, [], omega arith, nothing_before (items_at c.args.depth c.args.reader.now), omega arith, omega arith, rw c.new-pieces.ensures.items (nothing_read g.K.PieceKind.of g.K.PieceKind.part g.K.PieceKind.most))
+    (length c.args.reader.now, [], omega arith, nothing_before (items_at c.args.depth c.args.reader.now), omega arith, omega arith, rw c.new-pieces.ensures.items (nothing_read g.K.PieceKind.of g.K.PieceKind.part g.K.PieceKind.most), nothing_old g.K.PieceKind.of g.K.PieceKind.is_old g.K.PieceKind.part)
 
 pub returns-in_err-token-clause-err : goal.returns-in_err-token-clause-err
 returns-in_err-token-clause-err g c refused =
@@ -51,6 +51,7 @@ pieces-preserved-then-if-drop-2 g c =
         | then-count-most+in_ok-push-in-Some w ↦ keep_piece g.K.PieceKind.of g.K.PieceKind.part g.K.PieceKind.most c.most-most.result l.are_all l.pieces.items c.if-count-most.pieces.items l.count c.in_ok-count-in-Some.count ds done.ok.0 c.in-Some.piece c.in_ok-read.read c.most-most.ensures c.if-are_all.true w.if-count-most.true (ap (λ v. v.items) w.pieces-is ∙ w.in_ok-push-in-Some.ensures.items) c.in_ok-count-in-Some.ensures.0 c.in-Some.is done.ok.2 l.invariant.6
         | else-count-most w ↦ count_piece g.K.PieceKind.of g.K.PieceKind.part g.K.PieceKind.most c.most-most.result l.are_all l.pieces.items c.if-count-most.pieces.items l.count c.in_ok-count-in-Some.count ds done.ok.0 c.in-Some.piece c.in_ok-read.read c.most-most.ensures c.if-are_all.true w.if-count-most.false (ap (λ v. v.items) w.pieces-is) c.in_ok-count-in-Some.ensures.0 c.in-Some.is done.ok.2 l.invariant.6
       ],
+      rw (c.or-first_new.ensures, c.then_some.ensures, c.is_old.ensures) (piece_read_old g.K.PieceKind.of g.K.PieceKind.is_old g.K.PieceKind.part g.K.PieceKind.most l.are_all l.pieces.items l.count l.first_new ds done.ok.0 c.in-Some.piece c.in_ok-read.read c.if-are_all.true c.in-Some.is done.ok.2 l.invariant.6 l.invariant.7),
     )
 
 pub pieces-preserved-else-if-drop-2 : goal.pieces-preserved-else-if-drop-2
@@ -75,6 +76,7 @@ pieces-preserved-else-if-drop-2 g c =
         | then-count-most+in_ok-push-in-Some w ↦ keep_piece g.K.PieceKind.of g.K.PieceKind.part g.K.PieceKind.most c.most-most.result l.are_all l.pieces.items c.if-count-most.pieces.items l.count c.in_ok-count-in-Some.count ds done.ok.0 c.in-Some.piece c.in_ok-read.read c.most-most.ensures c.if-are_all.true w.if-count-most.true (ap (λ v. v.items) w.pieces-is ∙ w.in_ok-push-in-Some.ensures.items) c.in_ok-count-in-Some.ensures.0 c.in-Some.is done.ok.2 l.invariant.6
         | else-count-most w ↦ count_piece g.K.PieceKind.of g.K.PieceKind.part g.K.PieceKind.most c.most-most.result l.are_all l.pieces.items c.if-count-most.pieces.items l.count c.in_ok-count-in-Some.count ds done.ok.0 c.in-Some.piece c.in_ok-read.read c.most-most.ensures c.if-are_all.true w.if-count-most.false (ap (λ v. v.items) w.pieces-is) c.in_ok-count-in-Some.ensures.0 c.in-Some.is done.ok.2 l.invariant.6
       ],
+      rw (c.or-first_new.ensures, c.then_some.ensures, c.is_old.ensures) (piece_read_old g.K.PieceKind.of g.K.PieceKind.is_old g.K.PieceKind.part g.K.PieceKind.most l.are_all l.pieces.items l.count l.first_new ds done.ok.0 c.in-Some.piece c.in_ok-read.read c.if-are_all.true c.in-Some.is done.ok.2 l.invariant.6 l.invariant.7),
     )
 
 pub pieces-preserved-else-are_all : goal.pieces-preserved-else-are_all
@@ -96,6 +98,7 @@ pieces-preserved-else-are_all g c =
       omega (arith, l.invariant.4, fewer, shorter),
       l.invariant.5,
       drop_piece g.K.PieceKind.of g.K.PieceKind.part g.K.PieceKind.most l.are_all l.pieces.items l.count ds done.ok.0 c.if-are_all.false l.invariant.6,
+      drop_piece_old g.K.PieceKind.of g.K.PieceKind.is_old g.K.PieceKind.part g.K.PieceKind.most l.are_all l.pieces.items l.count l.first_new ds done.ok.0 c.if-are_all.false l.invariant.6 l.invariant.7,
     )
 
 pub pieces-preserved : goal.pieces-preserved
@@ -117,6 +120,7 @@ pieces-preserved g c =
       omega (arith, l.invariant.4, fewer, shorter),
       l.invariant.5,
       no_piece g.K.PieceKind.of g.K.PieceKind.part g.K.PieceKind.most l.are_all l.pieces.items l.count ds done.ok.0 c.in_ok-read.read c.in-None.is done.ok.2 l.invariant.6,
+      no_piece_old g.K.PieceKind.of g.K.PieceKind.is_old g.K.PieceKind.part l.first_new ds done.ok.0 c.in_ok-read.read c.in-None.is done.ok.2 l.invariant.7,
     )
 
 pub returns-clause-ok : goal.returns-clause-ok
@@ -124,7 +128,7 @@ returns-clause-ok g c =
     let l = c.pieces in
     let ds = l.invariant.1 in
     let r = c.take_end_array.new.self in
-    (ds, l.invariant.3 ∙ ap (parse_map (before ds)) (items_over (value c.args.depth) l.invariant.0 l.reader r l.invariant.2 (grind arith)) ∙ ap (λ x. Some (x, r)) (before-none ds), (l.invariant.6.all, l.invariant.6.found, l.invariant.6.counted, l.invariant.6.kept))
+    (ds, l.invariant.3 ∙ ap (parse_map (before ds)) (items_over (value c.args.depth) l.invariant.0 l.reader r l.invariant.2 (grind arith)) ∙ ap (λ x. Some (x, r)) (before-none ds), ((l.invariant.6.all, l.invariant.6.found, l.invariant.6.counted, l.invariant.6.kept), l.invariant.7))
 
 pub returns-clause-range : goal.returns-clause-range
 returns-clause-range g c = c.pieces.invariant.5

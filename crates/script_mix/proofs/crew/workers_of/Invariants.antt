@@ -7,6 +7,6 @@ use Rattle.script_mix.proofs.crew.workers_of.Given as goal
 abbrev pub invariant-loop-number : goal.invariant-loop-number
 invariant-loop-number l = record {
   size : length l.workers.items ≡ l.number;
-  first : l.workers.items ≡ first_crew l.scripts l.count l.number;
-  each : (w : ℕ) (other : Worker) → w < length l.workers.items → IsMember l.scripts l.count [] w (get_or l.workers.items w other);
+  first : l.workers.items ≡ first_crew l.scripts l.limits l.number;
+  each : (w : ℕ) (other : Worker) → w < length l.workers.items → IsMember l.scripts l.limits.callers [] w (get_or l.workers.items w other);
 }

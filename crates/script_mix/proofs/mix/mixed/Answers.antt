@@ -14,15 +14,14 @@ use Rattle.script_mix.proofs.mix.mixed.Goals.{else-loop-turn-test, then-loop-tur
 pub loop-turn-init : goal.loop-turn-init
 loop-turn-init c =
     let core_is : c.in-Ok.core ≡ start c.args.work.now.sizes = c.in-Ok.ensures.ok ∙ ap start c.limits-limits.ensures in
-    let callers : c.callers.result ≡ c.args.work.now.sizes.callers = c.callers.ensures.value ∙ ap (λ (s : Sizes). s.callers) c.limits-limits.ensures in
     record {
       limits = ap (λ (s : State). s.limits) core_is;
-      crew = crew_begins c.scripts.result.now c.args.work.now.scripts c.callers.result c.args.work.now.sizes.callers c.in-Ok.core.history c.in_ok-workers.workers.items c.scripts.ensures callers (sym (ap (λ (s : State). s.history) core_is)) c.in_ok-workers.ensures.crew;
+      crew = crew_begins c.scripts.result.now c.args.work.now.scripts c.limits-limits.result c.args.work.now.sizes c.in-Ok.core.history c.in_ok-workers.workers.items c.scripts.ensures c.limits-limits.ensures (sym (ap (λ (s : State). s.history) core_is)) c.in_ok-workers.ensures.crew;
       turns = (
         [],
         refl,
         begins c.args.work.now c.args.seed c.in-Ok.core c.in_ok-workers.workers.items c.seed_from_u64-generator.result core_is
-            (crew_first c.scripts.result.now c.args.work.now.scripts c.callers.result c.args.work.now.sizes.callers c.in_ok-workers.workers.items c.scripts.ensures callers c.in_ok-workers.ensures.first)
+            (crew_first c.scripts.result.now c.args.work.now.scripts c.limits-limits.result c.args.work.now.sizes c.in_ok-workers.workers.items c.scripts.ensures c.limits-limits.ensures c.in_ok-workers.ensures.first)
             c.seed_from_u64-generator.ensures,
       );
     }
@@ -74,7 +73,7 @@ returns c =
     let (numbers, count, turns) = c.loop-turn.invariant.turns in
     record {
       limits = c.loop-turn.invariant.limits;
-      plays = crew_plays c.args.work.now.scripts c.args.work.now.sizes.callers c.loop-turn.core.limits.stripes c.loop-turn.core.history c.loop-turn.workers.items c.trace-history.ensures.legal c.loop-turn.invariant.crew;
+      plays = crew_plays c.args.work.now.sizes c.args.work.now.scripts c.args.work.now.sizes.callers c.loop-turn.core.limits.stripes c.loop-turn.core.history c.loop-turn.workers.items c.trace-history.ensures.legal c.loop-turn.invariant.crew;
       drawn = numbers;
       last = record { core = c.loop-turn.core; crew = c.loop-turn.workers.items; generator = c.loop-turn.generator };
       core = refl;

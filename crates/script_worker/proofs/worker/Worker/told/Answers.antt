@@ -30,7 +30,7 @@ returns-clause-number c =
     ap (λ (worker : Standing). worker.number) c.told-heard.ensures.worker ∙ (told_same c.args.scripts.now c.args.tries c.self.inside.standing c.args.answer).0
     ∙ ap (λ (worker : Standing). worker.number) c.self.view_is
 
-pub returns-clause-workers : goal.returns-clause-workers
-returns-clause-workers c =
-    ap (λ (worker : Standing). worker.workers) c.told-heard.ensures.worker ∙ (told_same c.args.scripts.now c.args.tries c.self.inside.standing c.args.answer).1
-    ∙ ap (λ (worker : Standing). worker.workers) c.self.view_is
+pub returns-clause-limits : goal.returns-clause-limits
+returns-clause-limits c =
+    ap (λ (worker : Standing). worker.limits) c.told-heard.ensures.worker ∙ (told_same c.args.scripts.now c.args.tries c.self.inside.standing c.args.answer).1
+    ∙ ap (λ (worker : Standing). worker.limits) c.self.view_is

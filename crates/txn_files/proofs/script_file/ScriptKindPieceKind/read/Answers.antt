@@ -11,8 +11,8 @@ pub returns-then-found-clause-ok : goal.returns-then-found-clause-ok
 unfolding script_of
 returns-then-found-clause-ok c =
     let w = c.in_ok-found.ensures.ok in
-    let all : List Action = w.2.0 in
-    let read = ap result_ok (w.2.1 ∙ ap (λ b. outcome parts.Script b all) c.if-found.true) in
-    let few : length all ≤ 18446744073709551615 = omega (arith, w.2.2, c.in_ok-found.ensures.range) in
-    let kept = c.new.ensures ∙ c.shrink_to_fit.ensures.items ∙ w.2.3 ∙ take_all 18446744073709551615 all few in
+    let all : List Action = w.2.0.0 in
+    let read = ap result_ok (w.2.0.1 ∙ ap (λ b. outcome parts.Script b all) c.if-found.true) in
+    let few : length all ≤ 18446744073709551615 = omega (arith, w.2.0.2, c.in_ok-found.ensures.range) in
+    let kept = c.new.ensures ∙ c.shrink_to_fit.ensures.items ∙ w.2.0.3 ∙ take_all 18446744073709551615 all few in
     (w.0, w.1, ap (λ (ps : List Action). Some ps) kept ∙ sym read)

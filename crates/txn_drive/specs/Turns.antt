@@ -1,0 +1,34 @@
+-- What the steps of a turn do to whatever takes them.
+use Rattle.std.specs.Prelude.{◌≡◌}
+use Rattle.txn_trace.specs.declared.answer.Answer.{Answer}
+use Rattle.txn_trace.specs.declared.answer.Answer.TheVariants.{Placed}
+use Rattle.txn_trace.specs.declared.step.Step.{Step}
+use Rattle.txn_drive.specs.declared.turn.Turn.{Turn}
+use Rattle.txn_drive.specs.declared.turn.Turn.TheVariants.{One, Two, Ended}
+
+-- After the first step of two the second is taken where the answer was `placed`.
+abbrev pub TakesSecond : {X : Type 0} → (X → Step → Answer → X → Type 0) → X → Step → Answer → X
+    → Type 0
+TakesSecond takes old second Placed new = (answer : Answer) × takes old second answer new
+TakesSecond takes old second answer new = new ≡ old
+
+-- A turn is taken: its steps and no other.
+abbrev pub TakesTurn : {X : Type 0} → (X → Step → Answer → X → Type 0) → X → Turn → X → Type 0
+TakesTurn takes old (One step) new = (answer : Answer) × takes old step answer new
+TakesTurn {X} takes old (Two first second) new =
+    (answer : Answer) × (between : X) × takes old first answer between
+    × TakesSecond takes between second answer new
+TakesTurn takes old (Ended outcome) new = new ≡ old
+
+-- The same as a record, by which a proof finds what takes the steps.
+pub record HasTaken {X : Type 0} (takes : X → Step → Answer → X → Type 0) (old : X) (turn : Turn)
+    (new : X) : Type 0 where
+  pub steps : TakesTurn takes old turn new
+
+-- The steps of a turn may be taken, the second of two after the answer `placed`.
+abbrev pub MayTake : {X : Type 0} → (X → Step → Type 0) → (X → Step → Answer → X → Type 0) → X
+    → Turn → Type 0
+MayTake may takes old (One step) = may old step
+MayTake {X} may takes old (Two first second) =
+    may old first × ((between : X) → takes old first Placed between → may between second)
+MayTake may takes old (Ended outcome) = Unit {0}
