@@ -47,52 +47,9 @@ use Rattle.boost_core.specs.Machine.{Move}
 use Rattle.boost_core.specs.Sessions.{target_in, IsSoughtAt, KeepsPlaced, Waits, spare_if, times_kept, changes_of, AreDue, StaysIn, AsksIn, MeetsIn}
 use Rattle.boost_core.proofs.Moves.{lacks}
 use Rattle.boost_core.proofs.Spares.{given, spent}
-use Rattle.boost_core.proofs.Refused.{seat_free, ask_open, ask_key, save_open}
+use Rattle.boost_core.proofs.Refused.{seat_free, ask_open, save_open}
 use Rattle.boost_core.proofs.Parting.{idle_cursor, nothing_waits}
-
--- The spare that an operation is given is kept beside the others.
-prepared_covered : (t t' : TableAt) (takes : Bool) (spare : Option SpareAt) → GivesFor t t' takes spare → (others : ℕ → ℕ → ℕ) → IsCovered others t → IsCovered (λ place stamp. others place stamp + times_of spare place stamp) t'
-prepared_covered t t' true None gives others covered = absurd gives
-prepared_covered t t' true (Some spare) gives others covered = given t t' spare others gives covered
-prepared_covered t t' false None gives others covered = λ place stamp.
-    let exact : others place stamp ≡ times_out t' place stamp = subst (IsCovered others) (sym gives) covered place stamp in
-    omega arith
-prepared_covered t t' false (Some spare) gives others covered = absurd gives
-
-pub given_spare : (t t' : TableAt) (takes : Bool) (spare : Option SpareAt) → GivesFor t t' takes spare → is_some spare ≡ takes
-given_spare t t' true None gives = absurd gives
-given_spare t t' true (Some spare) gives = refl
-given_spare t t' false None gives = refl
-given_spare t t' false (Some spare) gives = absurd gives
-
--- The spare is the table's.
-pub given_owned : (t t' : TableAt) (takes : Bool) (spare : Option SpareAt) → GivesFor t t' takes spare → OwnsIf t' spare
-given_owned t t' true None gives = absurd gives
-given_owned t t' true (Some spare) gives = gives.owned
-given_owned t t' false None gives = tt
-given_owned t t' false (Some spare) gives = absurd gives
-
-stamped : (t t' : TableAt) (takes : Bool) (spare : Option SpareAt) → GivesFor t t' takes spare → (not takes || not (last_of t == 2 ^ 64 - 2)) ≡ true
-stamped t t' true None gives = absurd gives
-stamped t t' true (Some spare) gives = ap not (ne_eqb (last_of t) (2 ^ 64 - 2) (λ last. let room = gives.room in omega arith))
-stamped t t' false None gives = refl
-stamped t t' false (Some spare) gives = refl
-
-one_stamp_more : (t t' : TableAt) (takes : Bool) (spare : Option SpareAt) → GivesFor t t' takes spare → last_of t' ≤ last_of t + 1
-one_stamp_more t t' true None gives = absurd gives
-one_stamp_more t t' true (Some spare) gives = let same = gives.last in omega arith
-one_stamp_more t t' false None gives = let same : last_of t' ≡ last_of t = ap last_of gives in omega arith
-one_stamp_more t t' false (Some spare) gives = absurd gives
-
-open_to : (o : Option ℕ) (c : ℕ) → (o ≡ None) ⊎ (o ≡ Some c) → (elim o as (λ _. Bool) [ None ↦ true | Some d ↦ d == c ]) ≡ true
-open_to o c (inl free) = ap (λ (h : Option ℕ). elim h as (λ _. Bool) [ None ↦ true | Some d ↦ d == c ]) free
-open_to o c (inr mine) = ap (λ (h : Option ℕ). elim h as (λ _. Bool) [ None ↦ true | Some d ↦ d == c ]) mine ∙ eq-eqb c c refl
-
-last_rises : (t t' : TableAt) (takes : Bool) (spare : Option SpareAt) → GivesFor t t' takes spare → last_of t ≤ last_of t'
-last_rises t t' true None gives = absurd gives
-last_rises t t' true (Some spare) gives = let same = gives.last in omega arith
-last_rises t t' false None gives = let same : last_of t' ≡ last_of t = ap last_of gives in omega arith
-last_rises t t' false (Some spare) gives = absurd gives
+use Rattle.boost_core.proofs.Given.{prepared_covered, given_spare, stamped, one_stamp_more, open_to, last_rises}
 
 module _ (w : World) (tells : Tells w) (c : ℕ) (x : Session) (at : slice_get w.sessions c ≡ Some x) where
   -- Nothing has changed but room, and the step is refused.
@@ -112,7 +69,7 @@ module _ (w : World) (tells : Tells w) (c : ℕ) (x : Session) (at : slice_get w
       kept = stays.kept;
       waits = subst (λ (q : Phase). Waits q y.pending y.log.room) (sym opened) (subst (λ (o : Option PendingAt). Waits Opened o y.log.room) (sym (stays.waits ∙ nothing_waits w tells c x at Opened opened refl)) tt);
       content = refl;
-      placed = λ cursor key is. is;
+      placed = record { placed = λ cursor key is. is; sound = λ sound. sound };
       sought = subst (λ (o : Option Cursor). IsSoughtAt w.table o (target_in x.seat.seat.phase y.log)) (sym (stays.cursor ∙ idle_cursor w tells c x at Opened opened refl)) tt;
       spares = same_times w.table x y stays.waits stays.jobs;
       largest = refl;
@@ -137,11 +94,11 @@ module _ (w : World) (tells : Tells w) (c : ℕ) (x : Session) (at : slice_get w
   -- Want of memory for a savepoint.
   pub save_refused : refusal_of (state_of w) (steps.Save c) ≡ None → (y : Session) (t' : TableAt) (locks' : List (Option ℕ)) → StaysIn x y → t' ≡ w.table → locks' ≡ w.locks → Called w c x (steps.Save c) (answers.Refused refusals.NoMemory) y t' locks'
   save_refused none y t' locks' stays table same = same_world (Called w c x (steps.Save c) (answers.Refused refusals.NoMemory) y) w.table t' w.locks locks' table same
-      (lacking_called (steps.Save c) refusals.NoMemory none tt (save_open x.seat.seat c (seat_free w tells c x at (steps.Save c) refl none)) y stays refl)
+      (lacking_called (steps.Save c) refusals.NoMemory none tt (save_open w.limits.half x.seat.seat c (seat_free w tells c x at (steps.Save c) refl none)) y stays refl)
 
   module _ (op : Op) (none : refusal_of (state_of w) (steps.Ask c op) ≡ None) where
     opened : x.seat.seat.phase ≡ Opened
-    opened = ask_open x.seat.seat c op (seat_free w tells c x at (steps.Ask c op) refl none)
+    opened = ask_open w.limits.half x.seat.seat c op (seat_free w tells c x at (steps.Ask c op) refl none)
 
     nothing : x.pending ≡ None
     nothing = nothing_waits w tells c x at Opened opened refl
@@ -155,8 +112,7 @@ module _ (w : World) (tells : Tells w) (c : ℕ) (x : Session) (at : slice_get w
         (lacking_called (steps.Ask c op) refusal none (lack why) opened y stays refl)
       where
         may_lack : (refusal : Refusal) → IsRefused w.table op refusal → MayLack (state_of w) (steps.Ask c op) refusal
-        may_lack refusals.BadKey is = absurd (false≢true (sym (ask_key x.seat.seat c op (seat_free w tells c x at (steps.Ask c op) refl none)) ∙ le-leb (2 ^ 63) (key_of op) is))
-        may_lack refusals.StampsUsedUp is = λ i. not (not (is.1 i) || not (is.2 i == 2 ^ 64 - 2))
+        may_lack refusals.StampsUsedUp is = λ i. not (not (is.0 i) || not (is.1 i == 2 ^ 64 - 2))
         may_lack refusals.NoMemory is = tt
         may_lack _ is = absurd is
 

@@ -27,7 +27,8 @@ use Rattle.boost_core.proofs.Grow.{one_of_sum}
 use Rattle.boost_core.proofs.Refused.{index_at, free, seat_free, cursor_free, le_false_lt}
 use Rattle.boost_core.proofs.Parting.{begun_called, saved_called, left_called, committed, withdrawn, returned, ended}
 use Rattle.boost_core.proofs.Asking.{asked_called, busy_called, ask_refused, save_refused}
-use Rattle.boost_core.proofs.Working.{did_called, undone_called, sought_called, again_called}
+use Rattle.boost_core.proofs.Working.{did_called, undone_called}
+use Rattle.boost_core.proofs.Finding.{sought_called, again_called}
 
 -- What is true of a step's own caller is true of the caller whose step it is.
 of_owner : (P : ℕ → Type 0) (d c : ℕ) → Some (Caller d) ≡ Some (Caller c) → P d → P c
@@ -111,7 +112,7 @@ takes w tells c x at step owner none callers some began done = record {
           rejoin (times_in x.log.jobs place stamp) (times_of (spare_if x.pending) place stamp) (all_times w.sessions place stamp) (times_out w.table place stamp) most (tells.spares place stamp),
     );
   };
-  free = seat_free w tells c x at step owner none;
+  free = (w.limits.half, seat_free w tells c x at step owner none);
   placed = cursor_free w tells c x at step owner none;
   owner = (c, owner);
   caller = λ d is.

@@ -225,7 +225,7 @@ pub operated : (old asked sought new : State) (c : ℕ) (op : Op) (first second 
     → Operates old c op second new
 operated old asked sought new c op first second asks seeks cursor acts =
     let is_free = free old c (Ask c op) refl asks.allowed.0 in
-    let opened : (seat_in old.history c).phase ≡ Opened = ask_open (seat_in old.history c) c op is_free.seat in
+    let opened : (seat_in old.history c).phase ≡ Opened = ask_open old.limits.half (seat_in old.history c) c op is_free.seat in
     let seat : seat_in asked.history c ≡ record (seat_in old.history c) { phase = Waiting op } = seat_pushed old.history asked.history c (entry.Asked c op) _ (ap (λ (s : State). s.history) asks.state) refl (ap is_closed opened) (ap (λ q. row (seat_in old.history c) q (entry.Asked c op)) opened) in
     let waits : (seat_in asked.history c).phase ≡ Waiting op = ap (λ (s : Seat). s.phase) seat in
     let within : nat_le asked.limits.callers c ≡ false = ap (λ (s : State). nat_le s.limits.callers c) asks.state ∙ is_free.within in

@@ -1,14 +1,15 @@
 -- What callers have to take back stays due while others work on other keys.
 use Rattle.std.proofs.Common.{◌≡◌, ℕ, ◌+◌, ◌==◌, true, false, cond, List, [], ◌∷◌, ◌++◌, length, Option, Some, None, is_some, refl, sym, ap, subst, ◌∙◌}
-use Rattle.std.specs.Prelude.{IsSome, map, reverse, option_to_list}
+use Rattle.std.specs.Prelude.{IsSome, map, reverse, option_to_list, nat_eq}
+use Rattle.std.specs.Option.{option_eq}
 use Rattle.std.specs.List.{AllByRecursion}
-use Rattle.std.proofs.lemmas.Bool.{cases_eq, eq-eqb, ne_eqb}
+use Rattle.std.proofs.lemmas.Bool.{cases_Bool, cases_eq, eq-eqb, ne_eqb}
 use Rattle.std.proofs.lemmas.List.{reverse-append, append-nil, length_push}
 use mathlib.Core.Logic.{inl, inr}
 use Rattle.map_ops.specs.TableAt.{SpareAt}
 use Rattle.txn_trace.specs.declared.op.Op.{Op}
-use Rattle.txn_trace.specs.declared.op.Op.TheVariants.{Put, Take, Get}
-use Rattle.txn_trace.specs.Map.{Map, get, key_of, reply_of, after}
+use Rattle.txn_trace.specs.declared.op.Op.TheVariants.{Put, Take, Get, PutIf}
+use Rattle.txn_trace.specs.Map.{Map, get, insert, key_of, reply_of, after}
 use Rattle.txn_trace.specs.Now.{set_at}
 use Rattle.txn_trace.specs.Shape.{changes}
 use Rattle.txn_trace.proofs.Maps.{same_map, get-insert-here, get-remove-here}
@@ -62,6 +63,9 @@ abbrev pub NotedIf : Map → Op → Option SpareAt → Option MapJob → Type 0
 NotedIf m op spare None = changes op (reply_of m op) ≡ false
 NotedIf m op spare (Some job) = Noted m op spare job
 
+put_if_due : (m : Map) (k : ℕ) (expected : Option ℕ) (v : ℕ) → option_eq nat_eq (get m k) expected ≡ true → IsSome (get (after m (PutIf k expected v)) k)
+put_if_due m k expected v made = subst (λ (n : Map). IsSome (get n k)) (sym (ap (λ b. cond b (insert m k v) m) made)) (subst (λ o. IsSome o) (sym (get-insert-here m k v)) refl)
+
 put_noted : (m : Map) (k v : ℕ) (spare : Option SpareAt) (o : Option ℕ) → get m k ≡ o → NotedIf m (Put k v) spare (unput k o)
 put_noted m k v spare None is = record { change = ap (λ (o : Option ℕ). (k, o)) (sym is); is_change = refl; due = subst (λ o. IsSome o) (sym (get-insert-here m k v)) refl }
 put_noted m k v spare (Some old) is = record { change = ap (λ (o : Option ℕ). (k, o)) (sym is); is_change = refl; due = subst (λ o. IsSome o) (sym (get-insert-here m k v)) refl }
@@ -71,10 +75,18 @@ take_noted m k None o is there = absurd (cc (there))
 take_noted m k (Some spare) None is there = ap is_some is
 take_noted m k (Some spare) (Some old) is there = record { change = ap (λ (o : Option ℕ). (k, o)) (sym is); is_change = ap is_some is; due = get-remove-here m k }
 
+put_if_noted : (m : Map) (k : ℕ) (expected : Option ℕ) (v : ℕ) (spare : Option SpareAt) → option_eq nat_eq (get m k) expected ≡ true → (o : Option ℕ) → get m k ≡ o → NotedIf m (PutIf k expected v) spare (unput k o)
+put_if_noted m k expected v spare made None is = record { change = ap (λ (o : Option ℕ). (k, o)) (sym is); is_change = made; due = put_if_due m k expected v made }
+put_if_noted m k expected v spare made (Some old) is = record { change = ap (λ (o : Option ℕ). (k, o)) (sym is); is_change = made; due = put_if_due m k expected v made }
+
 pub noted : (m : Map) (op : Op) (spare : Option SpareAt) → is_some spare ≡ takes_node op → NotedIf m op spare (job_of m op spare)
 noted m (Put k v) spare there = put_noted m k v spare (get m k) refl
 noted m (Take k) spare there = take_noted m k spare (get m k) refl there
 noted m (Get k) spare there = refl
+noted m (PutIf k expected v) spare there = elim (cases_Bool (option_eq nat_eq (get m k) expected)) [
+  | inl made ↦ subst (NotedIf m (PutIf k expected v) spare) (sym (ap (λ b. cond b (unput k (get m k)) None) made)) (put_if_noted m k expected v spare made (get m k) refl)
+  | inr same ↦ subst (NotedIf m (PutIf k expected v) spare) (sym (ap (λ b. cond b (unput k (get m k)) None) same)) same
+]
 
 -- The changes of a caller with one job more, or the same.
 pub changes_noted : (m : Map) (op : Op) (spare : Option SpareAt) (jobs : List MapJob) (job : Option MapJob) → NotedIf m op spare job

@@ -226,7 +226,7 @@ module _ (w : World) (tells : Tells w) (c : ℕ) (x y : Session) (at : slice_get
       ];
       sought = λ d s at_d. elim (set_cases w.sessions c d z s within at_d) [
         | inl here ↦ subst (IsSought t') (sym here.1) (subst (λ (q : Seat). IsSoughtAt t' y.cursor (target_in q.phase y.log)) (sym entered) is.sought)
-        | inr other ↦ still_sought_at w.table t' s.cursor (target_of s) is.placed (tells.sought d s other.1)
+        | inr other ↦ still_sought_at w.table t' s.cursor (target_of s) is.placed.placed (tells.sought d s other.1)
       ];
       spares = traded w.table t' w.sessions c x z at is.spares tells.spares;
       fresh = fresh;
@@ -234,6 +234,7 @@ module _ (w : World) (tells : Tells w) (c : ℕ) (x y : Session) (at : slice_get
       holders = λ s below. is.holders s below ∙ sym (is.next.holder_is s);
       largest = is.largest ∙ tells.largest;
       helpers = is.helpers ∙ tells.helpers;
+      sound = is.placed.sound tells.sound;
     }
 
   -- No entry.
@@ -263,7 +264,7 @@ module _ (w : World) (tells : Tells w) (c : ℕ) (x y : Session) (at : slice_get
     ];
     sought = λ d s at_d. elim (set_cases w.sessions c d y s within at_d) [
       | inl here ↦ subst (IsSought t') (sym here.1) (subst (λ (q : Seat). IsSoughtAt t' y.cursor (target_in q.phase y.log)) (sym is.same_seat) is.sought)
-      | inr other ↦ still_sought_at w.table t' s.cursor (target_of s) is.placed (tells.sought d s other.1)
+      | inr other ↦ still_sought_at w.table t' s.cursor (target_of s) is.placed.placed (tells.sought d s other.1)
     ];
     spares = traded w.table t' w.sessions c x y at is.spares tells.spares;
     fresh = fresh;
@@ -271,6 +272,7 @@ module _ (w : World) (tells : Tells w) (c : ℕ) (x y : Session) (at : slice_get
     holders = λ s below. ap (λ ls. held_by ls s) is.same_locks ∙ tells.holders s below;
     largest = is.largest ∙ tells.largest;
     helpers = is.helpers ∙ tells.helpers;
+    sound = is.placed.sound tells.sound;
   }
 
 -- No caller's side changes, and the map stays.
@@ -285,11 +287,12 @@ table_stayed w tells t' placed' same keeps spares largest helpers fresh = record
   content = same ∙ tells.content;
   count = tells.count;
   seated = tells.seated;
-  sought = λ d s at_d. still_sought_at w.table t' s.cursor (target_of s) keeps (tells.sought d s at_d);
+  sought = λ d s at_d. still_sought_at w.table t' s.cursor (target_of s) keeps.placed (tells.sought d s at_d);
   spares = spares;
   fresh = fresh;
   stripes = tells.stripes;
   holders = tells.holders;
   largest = largest ∙ tells.largest;
   helpers = helpers ∙ tells.helpers;
+  sound = keeps.sound tells.sound;
 }

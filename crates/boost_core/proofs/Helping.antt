@@ -10,18 +10,18 @@ use Rattle.map_ops.specs.InitSeek.{InitSeek}
 use Rattle.map_ops.specs.InitSeek.TheVariants as seeks
 use Rattle.map_ops.specs.InitLink.{InitLink}
 use Rattle.map_ops.specs.InitLink.TheVariants as links
-use Rattle.map_ops.specs.InitRefusal.{InitRefusal}
-use Rattle.map_ops.specs.InitRefusal.TheVariants as inits
+use Rattle.bucket_table.specs.declared.answer.InitRefusal.{InitRefusal}
+use Rattle.bucket_table.specs.declared.answer.InitRefusal.TheVariants as inits
 use Rattle.txn_trace.specs.declared.refusal.Refusal.{Refusal}
 use Rattle.txn_trace.specs.declared.refusal.Refusal.TheVariants as refusals
-use Rattle.map_ops.specs.Buckets.{Becomes, Helps, Seeks, Holds, Links, Stores, Doubles, size_after, is_stored, seek_answer, link_answer, store_answer, helper_fits, parent_of}
+use Rattle.map_ops.specs.Buckets.{Becomes, Helps, Seeks, Holds, Links, Stores, Doubles, size_after, is_stored, answered, seek_answer, link_answer, store_answer, helper_fits, parent_of}
 use Rattle.txn_trace.specs.declared.entry.Entry.{Entry}
 use Rattle.txn_trace.specs.declared.step.Step.{Step}
 use Rattle.txn_trace.specs.declared.step.Step.TheVariants as steps
 use Rattle.txn_trace.specs.declared.answer.Answer.TheVariants as answers
 use Rattle.map_ops.specs.TableAt.{TableAt, Help, Nothing, Sought, Dummy, Follows, Keeps, KeepsSpares, content, map_of, regular, size_of, stored_of, linked_of, helps_of, turn_of, last_of, largest_of}
 use Rattle.boost_core.specs.State.{State, Owner, Caller, Helper, is_set, help_in, bucket_at, turn_at as state_turn_at}
-use Rattle.boost_core.specs.Refusals.{refusal_of, refusal_for, has_dummy, has_cursor, has_stamp, lacks_dummy}
+use Rattle.boost_core.specs.Refusals.{refusal_of, has_dummy, has_cursor, has_stamp, lacks_dummy}
 use Rattle.boost_core.specs.Answers.{is_just_placed, may_be_stale}
 use Rattle.boost_core.specs.Machine.{Move}
 use Rattle.boost_core.specs.Core.{World, Tells, IsFresh, state_of, turn_at, nodes_at, gap_by, all_times}
@@ -44,7 +44,7 @@ pub tells_table : (w : World) → Tells w
     → (t' : TableAt) (placed' : Option Owner) → regular t' ≡ regular w.table → Follows w.table t' → KeepsSpares w.table t' → largest_of t' ≡ largest_of w.table → length (helps_of t') ≡ length (helps_of w.table) → IsFresh t' w.sessions placed'
     → Tells (served w t' placed')
 tells_table w tells t' placed' same follows spares largest helpers fresh =
-    table_stayed w tells t' placed' (same_content w.table t' same) follows.placed
+    table_stayed w tells t' placed' (same_content w.table t' same) (record { placed = follows.placed; sound = follows.list.sound })
     (still_covered w.table t' (all_times w.sessions) spares tells.spares) largest helpers fresh
 
 -- Sweep.
@@ -102,15 +102,15 @@ double_tells w tells t' answer doubles follows =
     becomes_tells w tells t' None (size_after (size_of w.table) answer) (stored_of w.table) (linked_of w.table) (helps_of w.table) doubles.becomes refl follows tt
 
 -- The refusal of a helper's step, if it has one.
-abbrev pub refusal_in_result : {A : Type 0} → Result A InitRefusal → Option Refusal
+abbrev pub refusal_in_result : {A : Type 0} → Result A Refusal → Option Refusal
 refusal_in_result (Ok answer) = None
-refusal_in_result (Err refusal) = Some (refusal_for refusal)
+refusal_in_result (Err refusal) = Some refusal
 
 -- Whether there is a helper of this number.
-helper_there : (helps : List Help) (n h : ℕ) (help : Help) → length helps ≡ n → slice_get helps h ≡ Some help → nat_le n h ≡ false
+pub helper_there : (helps : List Help) (n h : ℕ) (help : Help) → length helps ≡ n → slice_get helps h ≡ Some help → nat_le n h ≡ false
 helper_there helps n h help long is = le_false n h (let within = slice_get_within helps h help is in omega arith)
 
-helper_none : (helps : List Help) (n h : ℕ) → length helps ≡ n → slice_get helps h ≡ None → nat_le n h ≡ true
+pub helper_none : (helps : List Help) (n h : ℕ) → length helps ≡ n → slice_get helps h ≡ None → nat_le n h ≡ true
 helper_none helps n h long none = elim (cases_lt h (length helps)) [
   | inl within ↦ absurd (cc (sym none ∙ slice_get-get_or helps h Nothing within))
   | inr past ↦ le-leb n h (omega arith)
@@ -118,13 +118,13 @@ helper_none helps n h long none = elim (cases_lt h (length helps)) [
 
 -- InitSeek.
 seek_tests : (large here above : Bool) → cond large (Some refusals.NoSuchBucket) (cond (not here && not above) (Some refusals.ParentMissing) None)
-    ≡ refusal_in_result (cond {A = Result InitSeek InitRefusal} large (Err inits.NoSuchBucket) (cond here (Ok seeks.Ready) (cond above (Ok seeks.Placed) (Err inits.ParentMissing))))
+    ≡ refusal_in_result (answered (cond {A = Result InitSeek InitRefusal} large (Err inits.NoSuchBucket) (cond here (Ok seeks.Ready) (cond above (Ok seeks.Placed) (Err inits.ParentMissing)))))
 seek_tests true here above = refl
 seek_tests false true above = refl
 seek_tests false false true = refl
 seek_tests false false false = refl
 
-is_set_is : (buckets : List Bool) (bucket : ℕ) → is_set buckets bucket ≡ is_stored buckets bucket
+pub is_set_is : (buckets : List Bool) (bucket : ℕ) → is_set buckets bucket ≡ is_stored buckets bucket
 is_set_is buckets bucket = unwrap_or-slice_get buckets bucket false
 
 pub seek_refusal : (w : World) (helper bucket : ℕ) → length (helps_of w.table) ≡ w.limits.callers
@@ -139,13 +139,13 @@ seek_refusal w helper bucket many = at (slice_get (helps_of w.table) helper) ref
         ∙ (λ i. cond (nat_le (size_of w.table) bucket) (Some refusals.NoSuchBucket) (cond (not (is_set_is (stored_of w.table) bucket i) && not (is_set_is (stored_of w.table) (parent_of bucket) i)) (Some refusals.ParentMissing) None))
         ∙ seek_tests (nat_le (size_of w.table) bucket) (is_stored (stored_of w.table) bucket) (is_stored (stored_of w.table) (parent_of bucket))
 
-seek_ready : (large here above : Bool) → cond {A = Result InitSeek InitRefusal} large (Err inits.NoSuchBucket) (cond here (Ok seeks.Ready) (cond above (Ok seeks.Placed) (Err inits.ParentMissing))) ≡ Ok seeks.Ready → here ≡ true
+seek_ready : (large here above : Bool) → answered (cond {A = Result InitSeek InitRefusal} large (Err inits.NoSuchBucket) (cond here (Ok seeks.Ready) (cond above (Ok seeks.Placed) (Err inits.ParentMissing)))) ≡ Ok seeks.Ready → here ≡ true
 seek_ready true here above is = absurd (cc (is))
 seek_ready false true above is = refl
 seek_ready false false true is = absurd (cc (is))
 seek_ready false false false is = absurd (cc (is))
 
-seek_placed : (large here above : Bool) → cond {A = Result InitSeek InitRefusal} large (Err inits.NoSuchBucket) (cond here (Ok seeks.Ready) (cond above (Ok seeks.Placed) (Err inits.ParentMissing))) ≡ Ok seeks.Placed → not here ≡ true
+seek_placed : (large here above : Bool) → answered (cond {A = Result InitSeek InitRefusal} large (Err inits.NoSuchBucket) (cond here (Ok seeks.Ready) (cond above (Ok seeks.Placed) (Err inits.ParentMissing)))) ≡ Ok seeks.Placed → not here ≡ true
 seek_placed true here above is = absurd (cc (is))
 seek_placed false true above is = absurd (cc (is))
 seek_placed false false above is = refl
@@ -218,171 +218,3 @@ stored_move w t' helper many is stores = record {
   stamp = let same = stores.last in omega arith;
   one_stamp = let same = stores.last in omega arith;
 }
-
--- InitLink. The refusal that a test gives, by the table's answer: want of memory or of stamps stands behind all tests.
-abbrev pub refusal_by_test : Result InitLink InitRefusal → Option Refusal
-refusal_by_test (Ok answer) = None
-refusal_by_test (Err inits.NoMemory) = None
-refusal_by_test (Err inits.StampsUsedUp) = None
-refusal_by_test (Err refusal) = Some (refusal_for refusal)
-
--- What a link is answered for a helper with a cursor.
-abbrev linking : Bool → Bool → Bool → Result InitLink InitRefusal
-linking fitting there used = cond (not fitting) (Ok links.Again) (cond there (Ok links.Present) (cond used (Err inits.StampsUsedUp) (Ok links.Linked)))
-
-linking_test : (fitting there used : Bool) → None ≡ refusal_by_test (linking fitting there used)
-linking_test false there used = refl
-linking_test true true used = refl
-linking_test true false true = refl
-linking_test true false false = refl
-
-linking_again : (fitting there used : Bool) → linking fitting there used ≡ Ok links.Again → fitting ≡ false
-linking_again false there used is = refl
-linking_again true true used is = absurd (cc (is))
-linking_again true false true is = absurd (cc (is))
-linking_again true false false is = absurd (cc (is))
-
-linking_linked : (fitting there used : Bool) → linking fitting there used ≡ Ok links.Linked → (there ≡ false) × (used ≡ false)
-linking_linked false there used is = absurd (cc (is))
-linking_linked true true used is = absurd (cc (is))
-linking_linked true false true is = absurd (cc (is))
-linking_linked true false false is = (refl, refl)
-
-linking_used : (fitting there used : Bool) → linking fitting there used ≡ Err inits.StampsUsedUp → (there ≡ false) × (used ≡ true)
-linking_used false there used is = absurd (cc (is))
-linking_used true true used is = absurd (cc (is))
-linking_used true false true is = (refl, refl)
-linking_used true false false is = absurd (cc (is))
-
--- A helper that no test refuses has a cursor for a bucket.
-pub record HasSought (o : Option Help) (fitting : Bool) (linked : List Bool) (last : ℕ) (result : Result InitLink InitRefusal) : Type 0 where
-  pub bucket : ℕ
-  pub turn : ℕ
-  pub had : o ≡ Some (Sought bucket turn)
-  pub answer : linking fitting (is_stored linked bucket) (last == 2 ^ 64 - 2) ≡ result
-
-pub has_sought : (fitting : Bool) (linked : List Bool) (last : ℕ) (o : Option Help) (result : Result InitLink InitRefusal) → link_answer fitting linked last o ≡ result → refusal_by_test result ≡ None → HasSought o fitting linked last result
-has_sought fitting linked last None result is free = absurd (let e : Some refusals.NoSuchHelper ≡ None = ap refusal_by_test is ∙ free in cc)
-has_sought fitting linked last (Some Nothing) result is free = absurd (let e : Some refusals.HelperOutOfOrder ≡ None = ap refusal_by_test is ∙ free in cc)
-has_sought fitting linked last (Some (Dummy bucket)) result is free = absurd (let e : Some refusals.HelperOutOfOrder ≡ None = ap refusal_by_test is ∙ free in cc)
-has_sought fitting linked last (Some (Sought bucket turn)) result is free = record { bucket = bucket; turn = turn; had = refl; answer = is }
-
-module _ (w : World) (helper : ℕ) (many : length (helps_of w.table) ≡ w.limits.callers) where
-  abbrev before : State
-  before = state_of w
-
-  abbrev answer_now : Result InitLink InitRefusal
-  answer_now = link_answer (helper_fits w.table helper) (linked_of w.table) (last_of w.table) (slice_get (helps_of w.table) helper)
-
-  link_refusal : refusal_of before (steps.InitLink helper) ≡ refusal_by_test answer_now
-  link_refusal = at (slice_get (helps_of w.table) helper) refl
-    where
-      tested : (o : Option Help) → nat_le w.limits.callers helper ≡ not (is_some o) → slice_get (helps_of w.table) helper ≡ o → refusal_of before (steps.InitLink helper) ≡ cond (not (is_some o)) (Some refusals.NoSuchHelper) (cond (not (has_cursor (unwrap_or o Nothing))) (Some refusals.HelperOutOfOrder) None)
-      tested o within is = λ i. cond (within i) (Some refusals.NoSuchHelper) (cond (not (has_cursor (unwrap_or (is i) Nothing))) (Some refusals.HelperOutOfOrder) None)
-
-      at : (o : Option Help) → slice_get (helps_of w.table) helper ≡ o → refusal_of before (steps.InitLink helper) ≡ refusal_by_test (link_answer (helper_fits w.table helper) (linked_of w.table) (last_of w.table) o)
-      at None is = tested None (helper_none (helps_of w.table) w.limits.callers helper many is) is
-      at (Some Nothing) is = tested (Some Nothing) (helper_there (helps_of w.table) w.limits.callers helper Nothing many is) is
-      at (Some (Dummy bucket)) is = tested (Some (Dummy bucket)) (helper_there (helps_of w.table) w.limits.callers helper (Dummy bucket) many is) is
-      at (Some (Sought bucket turn)) is = tested (Some (Sought bucket turn)) (helper_there (helps_of w.table) w.limits.callers helper (Sought bucket turn) many is) is ∙ linking_test (helper_fits w.table helper) (is_stored (linked_of w.table) bucket) (last_of w.table == 2 ^ 64 - 2)
-
-  -- The bucket that the helper sought, and whether its dummy is linked.
-  bucket_had : (help : Help) → slice_get (helps_of w.table) helper ≡ Some help → bucket_at (help_in (helps_of w.table) helper) ≡ bucket_at help
-  bucket_had help had = ap (λ (o : Option Help). bucket_at (unwrap_or o Nothing)) had
-
-  lacks_when : (bucket turn : ℕ) (there : Bool) → slice_get (helps_of w.table) helper ≡ Some (Sought bucket turn) → is_set (linked_of w.table) bucket ≡ there → lacks_dummy before helper ≡ not there
-  lacks_when bucket turn there had is = ap (λ n. not (is_set (linked_of w.table) n)) (bucket_had (Sought bucket turn) had) ∙ ap not is
-
-  -- Want of memory or of stamps, or a refusal by a test.
-  pub link_refused_move : (result : Result InitLink InitRefusal) → (result ≢ Err inits.NoMemory → result ≡ answer_now) → (result ≡ Err inits.NoMemory → answer_now ≡ Ok links.Linked) → (refusal : InitRefusal) → result ≡ Err refusal → (t' : TableAt) → t' ≡ w.table
-      → Move before (steps.InitLink helper) (answers.Refused (refusal_for refusal)) (state_of (served w t' w.placed))
-  link_refused_move result answered no_memory refusal is t' same = subst (λ u. Move before (steps.InitLink helper) (answers.Refused (refusal_for refusal)) (state_of (served w u w.placed))) (sym same) (at refusal is)
-    where
-      by_test : (refusal : InitRefusal) → result ≡ Err refusal → refusal ≢ inits.NoMemory → refusal_by_test (Err refusal) ≡ Some (refusal_for refusal) → Move before (steps.InitLink helper) (answers.Refused (refusal_for refusal)) before
-      by_test refusal is other tested =
-          let now : result ≡ answer_now = answered (λ e. other (let both : Err refusal ≡ Err inits.NoMemory = sym is ∙ e in cc)) in
-          refused before (steps.InitLink helper) (refusal_for refusal) (link_refusal ∙ ap refusal_by_test (sym now ∙ is) ∙ tested)
-
-      at : (refusal : InitRefusal) → result ≡ Err refusal → Move before (steps.InitLink helper) (answers.Refused (refusal_for refusal)) before
-      at inits.NoMemory is =
-          let linked : answer_now ≡ Ok links.Linked = no_memory is in
-          let sought = has_sought (helper_fits w.table helper) (linked_of w.table) (last_of w.table) (slice_get (helps_of w.table) helper) (Ok links.Linked) linked refl in
-          let parts = linking_linked (helper_fits w.table helper) (is_stored (linked_of w.table) sought.bucket) (last_of w.table == 2 ^ 64 - 2) sought.answer in
-          lacks before (steps.InitLink helper) refusals.NoMemory (link_refusal ∙ ap refusal_by_test linked)
-          (and_from (lacks_dummy before helper) (has_stamp before) (lacks_when sought.bucket sought.turn false sought.had (is_set_is (linked_of w.table) sought.bucket ∙ parts.0)) (ap not parts.1))
-      at inits.StampsUsedUp is =
-          let now : answer_now ≡ Err inits.StampsUsedUp = sym (answered (λ e. let both : Err inits.StampsUsedUp ≡ Err inits.NoMemory = sym is ∙ e in cc)) ∙ is in
-          let sought = has_sought (helper_fits w.table helper) (linked_of w.table) (last_of w.table) (slice_get (helps_of w.table) helper) (Err inits.StampsUsedUp) now refl in
-          let parts = linking_used (helper_fits w.table helper) (is_stored (linked_of w.table) sought.bucket) (last_of w.table == 2 ^ 64 - 2) sought.answer in
-          lacks before (steps.InitLink helper) refusals.StampsUsedUp (link_refusal ∙ ap refusal_by_test now)
-          (and_from (lacks_dummy before helper) (not (has_stamp before)) (lacks_when sought.bucket sought.turn false sought.had (is_set_is (linked_of w.table) sought.bucket ∙ parts.0)) (ap (λ b. not (not b)) parts.1))
-      at inits.NoSuchBucket is = by_test inits.NoSuchBucket is (λ e. cc (e)) refl
-      at inits.ParentMissing is = by_test inits.ParentMissing is (λ e. cc (e)) refl
-      at inits.NoSuchHelper is = by_test inits.NoSuchHelper is (λ e. cc (e)) refl
-      at inits.HelperOutOfOrder is = by_test inits.HelperOutOfOrder is (λ e. cc (e)) refl
-
-  -- The cursor did not fit, and is dropped.
-  pub link_again_move : answer_now ≡ Ok links.Again → IsFresh w.table w.sessions w.placed → ((bucket : ℕ) → slice_get (helps_of w.table) helper ≡ Some (Sought bucket (turn_of w.table)) → turn_of w.table < 2 ^ 64 - 1 → ⊥) → (t' : TableAt) → Helps w.table t' helper Nothing → turn_of t' ≡ turn_of w.table
-      → Move before (steps.InitLink helper) answers.Again (state_of (served w t' None))
-  link_again_move is fresh in_turn t' helps turn =
-      let sought = has_sought (helper_fits w.table helper) (linked_of w.table) (last_of w.table) (slice_get (helps_of w.table) helper) (Ok links.Again) is refl in
-      record {
-        allowed = (link_refusal ∙ ap refusal_by_test is, stale sought.bucket sought.turn sought.had (linking_again (helper_fits w.table helper) (is_stored (linked_of w.table) sought.bucket) (last_of w.table == 2 ^ 64 - 2) sought.answer));
-        state = becomes_state w t' None (size_of w.table) (stored_of w.table) (linked_of w.table) (slice_set (helps_of w.table) helper Nothing) helps.becomes;
-        changes = omega arith;
-        list_kept = λ kept. turn;
-        stamp = let same = helps.last in omega arith;
-        one_stamp = let same = helps.last in omega arith;
-      }
-    where
-      not_fresh : helper_fits w.table helper ≡ false → (o : Option Owner) → IsFresh w.table w.sessions o → is_just_placed (Helper helper) o ≡ false
-      not_fresh misfit None fresh = refl
-      not_fresh misfit (Some (Caller d)) fresh = refl
-      not_fresh misfit (Some (Helper d)) fresh = elim (cases_eq helper d) [
-        | inl same ↦ absurd (false≢true (sym misfit ∙ ap (helper_fits w.table) same ∙ fresh))
-        | inr other ↦ ne_eqb helper d other
-      ]
-
-      not_in_turn : (bucket turn : ℕ) → slice_get (helps_of w.table) helper ≡ Some (Sought bucket turn) → (turn == turn_of w.table && nat_lt turn (2 ^ 64 - 1)) ≡ false
-      not_in_turn bucket turn had = elim (cases_Bool (turn == turn_of w.table && nat_lt turn (2 ^ 64 - 1))) [
-        | inr is ↦ is
-        | inl is ↦
-            let parts = and_parts (turn == turn_of w.table) (nat_lt turn (2 ^ 64 - 1)) is in
-            let same : turn ≡ turn_of w.table = eqb-true turn (turn_of w.table) parts.0 in
-            let below : turn < 2 ^ 64 - 1 = ltb-true turn (2 ^ 64 - 1) parts.1 in
-            absurd (in_turn bucket (had ∙ ap (λ n. Some (Sought bucket n)) same) (omega arith))
-      ]
-
-      stale : (bucket turn : ℕ) → slice_get (helps_of w.table) helper ≡ Some (Sought bucket turn) → helper_fits w.table helper ≡ false → may_be_stale before (Helper helper) ≡ true
-      stale bucket turn had misfit =
-          ap (λ (o : Option Help). elim (state_turn_at (unwrap_or o Nothing)) as (λ _. Bool) [ None ↦ false | Some turn ↦ not (is_just_placed (Helper helper) w.placed) && not (turn == turn_of w.table && nat_lt turn (2 ^ 64 - 1)) ]) had
-          ∙ (λ i. not (not_fresh misfit w.placed fresh i) && not (not_in_turn bucket turn had i))
-
-  -- The dummy was linked already.
-  pub link_present_move : answer_now ≡ Ok links.Present → (t' : TableAt) → Holds w.table t' helper → Move before (steps.InitLink helper) answers.Present (state_of (served w t' None))
-  link_present_move is t' holds = record {
-    allowed = (link_refusal ∙ ap refusal_by_test is, ap not (lacks_when holds.bucket holds.turn true holds.had (ap (λ (o : Option Bool). unwrap_or o false) holds.there)));
-    state = becomes_state w t' None (size_of w.table) (stored_of w.table) (linked_of w.table) (slice_set (helps_of w.table) helper (Dummy holds.bucket)) holds.helps.becomes
-        ∙ ap (λ n. record { limits = w.limits; history = w.history ++ []; size = size_of w.table; stored = stored_of w.table; linked = linked_of w.table; nodes = nodes_at t'; changes = turn_of t'; stamp = last_of t'; cursors = map turn_at w.sessions; gaps = map (gap_by t') w.sessions; helpers = slice_set (helps_of w.table) helper (Dummy n); placed = None })
-        (sym (bucket_had (Sought holds.bucket holds.turn) holds.had));
-    changes = let same = holds.kept in omega arith;
-    list_kept = λ kept. holds.kept;
-    stamp = let same = holds.helps.last in omega arith;
-    one_stamp = let same = holds.helps.last in omega arith;
-  }
-
-  -- The dummy is linked now.
-  pub link_linked_move : answer_now ≡ Ok links.Linked → (t' : TableAt) → Links w.table t' helper → turn_of w.table ≤ turn_of t' → Move before (steps.InitLink helper) answers.Linked (state_of (served w t' None))
-  link_linked_move is t' linked turn =
-      let sought = has_sought (helper_fits w.table helper) (linked_of w.table) (last_of w.table) (slice_get (helps_of w.table) helper) (Ok links.Linked) is refl in
-      let parts = linking_linked (helper_fits w.table helper) (is_stored (linked_of w.table) sought.bucket) (last_of w.table == 2 ^ 64 - 2) sought.answer in
-      record {
-        allowed = (link_refusal ∙ ap refusal_by_test is, and_from (lacks_dummy before helper) (has_stamp before) (lacks_when linked.bucket linked.turn false linked.had (ap (λ (o : Option Bool). unwrap_or o false) linked.absent)) (ap not parts.1));
-        state = becomes_state w t' None (size_of w.table) (stored_of w.table) (slice_set (linked_of w.table) linked.bucket true) (slice_set (helps_of w.table) helper (Dummy linked.bucket)) linked.becomes
-            ∙ ap (λ n. record { limits = w.limits; history = w.history ++ []; size = size_of w.table; stored = stored_of w.table; linked = slice_set (linked_of w.table) n true; nodes = nodes_at t'; changes = turn_of t'; stamp = last_of t'; cursors = map turn_at w.sessions; gaps = map (gap_by t') w.sessions; helpers = slice_set (helps_of w.table) helper (Dummy n); placed = None })
-            (sym (bucket_had (Sought linked.bucket linked.turn) linked.had));
-        changes = turn;
-        list_kept = λ kept. absurd (false≢true kept);
-        stamp = let more = linked.last in omega arith;
-        one_stamp = let more = linked.last in omega arith;
-      }

@@ -11,8 +11,8 @@ use Rattle.map_ops.specs.InitSeek.{InitSeek}
 use Rattle.map_ops.specs.InitSeek.TheVariants as seeks
 use Rattle.map_ops.specs.InitLink.{InitLink}
 use Rattle.map_ops.specs.InitLink.TheVariants as links
-use Rattle.map_ops.specs.InitRefusal.{InitRefusal}
-use Rattle.map_ops.specs.InitRefusal.TheVariants as inits
+use Rattle.txn_trace.specs.declared.refusal.Refusal.{Refusal}
+use Rattle.txn_trace.specs.declared.refusal.Refusal.TheVariants as refusals
 use Rattle.map_ops.specs.SweepOutcome.{SweepOutcome}
 use Rattle.map_ops.specs.SweepOutcome.TheVariants as outcomes
 use Rattle.map_ops.specs.Double.{Double}
@@ -25,7 +25,7 @@ use Rattle.boost_core.specs.Nodes.{Keeps, Links, Lists}
 use Rattle.boost_core.specs.Serves as said
 use Rattle.boost_core.specs.Serves.{Serves, Sweeping, Seeking, Linking}
 use Rattle.boost_core.specs.Core.{World, state_of}
-use Rattle.boost_core.proofs.Helping.{has_sought}
+use Rattle.boost_core.proofs.Linking.{has_sought}
 use Rattle.boost_core.proofs.NodeLists as lists
 use Rattle.boost_core.proofs.NodeLists.{seen, clean_seen}
 use Rattle.boost_core.proofs.NodeSteps.{kept, links as linked_node, seeks as sought_from}
@@ -43,7 +43,7 @@ module _ (w w' : World) (home : NamesDummies w.table) where
       let sweeps : Sweeps w.table w'.table outcomes.Clean = subst (Sweeps w.table w'.table) says is.sweeps in
       record { nodes = (clean_seen (nodes_of w.table) (is.clean.0 says), kept w w' sweeps.0); stamp = is.keeps.last }
 
-  sought : (h b : ℕ) (outcome : Result InitSeek InitRefusal) → SeekWrites w.table w'.table b outcome → SeekChanges w.table w'.table h b outcome → Lists (state_of w) (steps.InitSeek h b) (said.sought outcome) (state_of w')
+  sought : (h b : ℕ) (outcome : Result InitSeek Refusal) → SeekWrites w.table w'.table b outcome → SeekChanges w.table w'.table h b outcome → Lists (state_of w) (steps.InitSeek h b) (said.sought outcome) (state_of w')
   sought h b (Ok seeks.Ready) writes changes = record { nodes = kept w w' writes; stamp = changes.0.last }
   sought h b (Ok seeks.Placed) writes changes = record {
     nodes = sought_from w w' writes.start (parent_of b) (home.stored (parent_of b) writes.start writes.parent) (dummy_at b) writes.nodes writes.changes;
@@ -51,7 +51,7 @@ module _ (w w' : World) (home : NamesDummies w.table) where
   }
   sought h b (Err refusal) writes changes = record { nodes = kept w w' writes; stamp = ap last_of changes }
 
-  linked : (h : ℕ) (outcome : Result InitLink InitRefusal) → (outcome ≢ Err inits.NoMemory → outcome ≡ link_answer_of w.table h) → ((bucket turn : ℕ) → slice_get (helps_of w.table) h ≡ Some (Sought bucket turn) → LinkWrites w.table w'.table bucket outcome) → LinkChanges w.table w'.table h outcome
+  linked : (h : ℕ) (outcome : Result InitLink Refusal) → (outcome ≢ Err refusals.NoMemory → outcome ≡ link_answer_of w.table h) → ((bucket turn : ℕ) → slice_get (helps_of w.table) h ≡ Some (Sought bucket turn) → LinkWrites w.table w'.table bucket outcome) → LinkChanges w.table w'.table h outcome
       → Lists (state_of w) (steps.InitLink h) (said.linked outcome) (state_of w')
   linked h (Ok links.Again) says writes changes =
       let had = has_sought (helper_fits w.table h) (linked_of w.table) (last_of w.table) (slice_get (helps_of w.table) h) (Ok links.Again) (sym (says (λ e. cc (e)))) refl in

@@ -1,7 +1,7 @@
 -- What each step does to the nodes, to the change number and to the last stamp.
 use Rattle.std.proofs.Common.{◌≡◌, ℕ, ◌+◌, ◌-◌, ◌%◌, ◌<◌, Bool, true, false, cond, List, [], ◌∷◌, ◌++◌, length, Option, Some, None, Result, Ok, Err, is_some, inl, inr, refl, sym, ap, subst, ◌∙◌, arith}
-use Rattle.std.specs.Prelude.{map, reverse, slice_get, slice_index_or, unwrap_or, nat_lt, IsSome}
-use Rattle.std.specs.Option.{option_map}
+use Rattle.std.specs.Prelude.{map, reverse, slice_get, slice_index_or, unwrap_or, nat_lt, nat_eq, IsSome}
+use Rattle.std.specs.Option.{option_map, option_eq}
 use Rattle.std.proofs.lemmas.Bool.{false≢true, cases_Bool, ltb-true}
 use Rattle.std.proofs.lemmas.List.{length-map, reverse-append}
 use Rattle.std.proofs.lemmas.Option.{slice_get-map, unwrap_or-slice_get}
@@ -12,7 +12,7 @@ use Rattle.list_steps.specs.Seek.{sought}
 use Rattle.bucket_table.specs.Directory as directories
 use Rattle.bucket_table.specs.Dummies.{IsDummyAt, dummy_node}
 use Rattle.txn_trace.specs.declared.op.Op.{Op}
-use Rattle.txn_trace.specs.declared.op.Op.TheVariants.{Put, Take, Get}
+use Rattle.txn_trace.specs.declared.op.Op.TheVariants.{Put, Take, Get, PutIf}
 use Rattle.txn_trace.specs.declared.step.Step.{Step}
 use Rattle.txn_trace.specs.declared.step.Step.TheVariants as steps
 use Rattle.txn_trace.specs.declared.answer.Answer.{Answer}
@@ -34,7 +34,7 @@ use Rattle.map_ops.specs.Nodes as writes
 use Rattle.boost_core.specs.declared.session.Session.{Session}
 use Rattle.boost_core.specs.State.{State, Caller, is_set, seat_in, plain_node, marked_node}
 use Rattle.boost_core.specs.Refusals.{owner_of}
-use Rattle.boost_core.specs.Nodes.{Keeps, Writes, Links, Marks, SeeksFrom, SeeksKey, IsNearest, Changes, Operates, OperatesIn, TakesBack, Touches, Lists, key_in, next_key, newest_key, stamp_after}
+use Rattle.boost_core.specs.Nodes.{Keeps, Writes, Links, Marks, SeeksFrom, SeeksKey, IsNearest, Changes, PutsIf, OpDoes, OpDoesIn, BackDoes, Touches, Lists, key_in, next_key, newest_key, stamp_after}
 use Rattle.boost_core.specs.Sessions.{Does, ActsIn, DoesIn, TakesBackIn, SeeksIn, IsAsked, Rests, Waits, AreDue, key_of_newest, target_in, target_of, changes_of, change_of}
 use Rattle.boost_core.specs.Core.{World, Tells, state_of, node_at, nodes_at}
 use Rattle.boost_core.proofs.NodeLists.{seen, inserted, replaced, written_seen, seeks_from}
@@ -130,14 +130,19 @@ put_changes w w' key value None before is = absurd is
 put_changes w w' key value (Some spare) None is = links w w' (writes.node_for key value spare) refl is
 put_changes w w' key value (Some spare) (Some was) is = written w w' key value is
 
+put_if_changes : (w w' : World) (key value : ℕ) (spare : Option SpareAt) (before : Option ℕ) (made : Bool) → writes.PutIfWrites w.table.list w'.table.list key value spare before made → PutsIf (state_of w) (state_of w') key value before made
+put_if_changes w w' key value spare before true is = put_changes w w' key value spare before is
+put_if_changes w w' key value spare before false is = nothing w w' is
+
 take_changes : (w w' : World) (key : ℕ) (before : Option ℕ) → writes.TakeWrites w.table.list w'.table.list key before → Changes (state_of w) (state_of w') key before None
 take_changes w w' key None is = nothing w w' is
 take_changes w w' key (Some was) is = marks w w' key is
 
-operates : (w w' : World) → content w.table ≡ now w.history → (op : Op) (spare : Option SpareAt) → writes.OpWrites w.table.list w'.table.list op spare (get (content w.table) (key_of op)) → Operates (state_of w) (state_of w') op
+operates : (w w' : World) → content w.table ≡ now w.history → (op : Op) (spare : Option SpareAt) → writes.OpWrites w.table.list w'.table.list op spare (get (content w.table) (key_of op)) → OpDoes (state_of w) (state_of w') op
 operates w w' same (Put key value) spare is = subst (λ (m : Map). Changes (state_of w) (state_of w') key (get m key) (Some value)) same (put_changes w w' key value spare (get (content w.table) key) is)
 operates w w' same (Take key) spare is = subst (λ (m : Map). Changes (state_of w) (state_of w') key (get m key) None) same (take_changes w w' key (get (content w.table) key) is)
 operates w w' same (Get key) spare is = nothing w w' is
+operates w w' same (PutIf key expected value) spare is = subst (λ (m : Map). PutsIf (state_of w) (state_of w') key value (get m key) (option_eq nat_eq (get m key) expected)) same (put_if_changes w w' key value spare (get (content w.table) key) (option_eq nat_eq (get (content w.table) key) expected) is)
 
 unput : (w w' : World) (key : ℕ) (o : Option ℕ) → IsSome o → writes.MarksNode w.table.list w'.table.list key → Changes (state_of w) (state_of w') key o None
 unput w w' key None due is = absurd (false≢true due)
@@ -190,16 +195,16 @@ module _ (w : World) (tells : Tells w) (c : ℕ) (x : Session) (at : slice_get w
   pub sought_key : (w' : World) (y : Session) → NamesDummies w.table → SeeksIn x w.table y w'.table → SeeksKey (state_of w) (state_of w') (next_key (state_of w) c)
   sought_key w' y home is = subst (SeeksKey (state_of w) (state_of w')) (sym (next_is is.key is.target)) (seeks_key w w' home is.key is.near)
 
-  pub done : (w' : World) (reply : Option ℕ) (y : Session) → DoesIn x w.table reply y w'.table → OperatesIn (state_of w) (state_of w') (seat_in w.history c).phase
+  pub done : (w' : World) (reply : Option ℕ) (y : Session) → DoesIn x w.table reply y w'.table → OpDoesIn (state_of w) (state_of w') (seat_in w.history c).phase
   done w' reply y is =
       let waits : Waits x.seat.seat.phase (Some is.pending) x.log.room = subst (λ (o : Option PendingAt). Waits x.seat.seat.phase o x.log.room) is.had (tells.seated c x at).agrees.waits in
-      subst (OperatesIn (state_of w) (state_of w')) (sym (ap (λ (s : Seat). s.phase) here ∙ waiting_op x.seat.seat.phase is.pending x.log.room waits))
+      subst (OpDoesIn (state_of w) (state_of w')) (sym (ap (λ (s : Seat). s.phase) here ∙ waiting_op x.seat.seat.phase is.pending x.log.room waits))
       (operates w w' tells.content is.pending.op is.pending.spare is.writes)
 
-  pub undone : (w' : World) (y : Session) → TakesBackIn x w.table y w'.table → TakesBack (state_of w) (state_of w') (log_of c w.history)
+  pub undone : (w' : World) (y : Session) → TakesBackIn x w.table y w'.table → BackDoes (state_of w) (state_of w') (log_of c w.history)
   undone w' y is =
       let due : AreDue (now w.history) (is.job ∷ reverse y.log.jobs) = subst (AreDue (now w.history)) (ap reverse is.jobs ∙ reverse-append y.log.jobs (is.job ∷ [])) (tells.seated c x at).due in
-      subst (TakesBack (state_of w) (state_of w')) (sym (log_is ∙ changes_last x.log.jobs y.log.jobs is.job is.jobs))
+      subst (BackDoes (state_of w) (state_of w')) (sym (log_is ∙ changes_last x.log.jobs y.log.jobs is.job is.jobs))
       (taken_back w w' is.job due.0 is.writes)
 
   module _ (w' : World) (y : Session) (locks' : List (Option ℕ)) where

@@ -12,7 +12,7 @@ use Rattle.txn_trace.specs.Entries.{entries_of}
 use Rattle.txn_trace.specs.declared.seat.Phase.{Phase}
 use Rattle.txn_trace.specs.declared.seat.Phase.TheVariants.{Closed, Opened, Waiting, LeavingTo, LeavingToEnd}
 use Rattle.txn_trace.specs.Shape.{Seat, RoomySeat, row, own}
-use Rattle.txn_trace.specs.declared.op.Op.TheVariants.{Put, Take, Get}
+use Rattle.txn_trace.specs.declared.op.Op.TheVariants.{Put, Take, Get, PutIf}
 use Rattle.txn_trace.specs.declared.refusal.Refusal.TheVariants.{NoMemory}
 use Rattle.boost_core.specs.Refusals.{refusal_of}
 use Rattle.txn_trace.specs.Owed.{owed_in, owed_by, reserved}
@@ -71,6 +71,7 @@ reserved_few (steps.Begin c) = omega arith
 reserved_few (steps.Ask c (Put k v)) = omega arith
 reserved_few (steps.Ask c (Take k)) = omega arith
 reserved_few (steps.Ask c (Get k)) = omega arith
+reserved_few (steps.Ask c (PutIf k expected v)) = omega arith
 reserved_few (steps.Save c) = omega arith
 reserved_few (steps.Back c n) = omega arith
 reserved_few _ = omega arith

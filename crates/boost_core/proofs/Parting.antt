@@ -97,7 +97,7 @@ module _ (w : World) (tells : Tells w) (c : ℕ) (x : Session) (at : slice_get w
     due = subst (λ (js : List MapJob). AreDue (now w.history) (reverse js)) (sym jobs) (tells.seated c x at).due;
     content = tells.content;
     apart = λ d other k held. refl;
-    placed = λ cursor key is. is;
+    placed = record { placed = λ cursor key is. is; sound = λ sound. sound };
     sought = subst (λ (o : Option Cursor). IsSoughtAt w.table o (target_in seat.phase y.log)) (sym cursor) tt;
     spares = same_times w.table x y pending jobs;
     largest = refl;
@@ -123,7 +123,7 @@ module _ (w : World) (tells : Tells w) (c : ℕ) (x : Session) (at : slice_get w
   -- Begin.
   begun : refusal_of (state_of w) (steps.Begin c) ≡ None → (n : ℕ) (y : Session) → n ≡ w.counts.began + 1 → StaysIn x y → Called w c x (steps.Begin c) (answers.Began n) y w.table w.locks
   begun none n y number stays =
-      let closed = begin_closed x.seat.seat c (seat_free w tells c x at (steps.Begin c) refl none) in
+      let closed = begin_closed w.limits.half x.seat.seat c (seat_free w tells c x at (steps.Begin c) refl none) in
       let level = level_in Closed closed in
       let empty : x.log.jobs ≡ [] = no_jobs x.log.jobs (let same = (tells.seated c x at).agrees.standing in let nil = level.0 in omega arith) in
       let numbered = number ∙ ap (λ k. k + 1) tells.begins in
@@ -141,7 +141,7 @@ module _ (w : World) (tells : Tells w) (c : ℕ) (x : Session) (at : slice_get w
   -- Save.
   saved : refusal_of (state_of w) (steps.Save c) ≡ None → (n : ℕ) (y : Session) → SavesIn n x y → Called w c x (steps.Save c) (answers.Saved n) y w.table w.locks
   saved none n y saves =
-      let opened = save_open x.seat.seat c (seat_free w tells c x at (steps.Save c) refl none) in
+      let opened = save_open w.limits.half x.seat.seat c (seat_free w tells c x at (steps.Save c) refl none) in
       let agrees = (tells.seated c x at).agrees in
       record {
         comes = quiet (entry.Saved c) y (record { phase = x.seat.seat.phase; standing = x.seat.seat.standing; kept = x.seat.seat.kept ++ x.seat.seat.standing ∷ [] }) (log_of c w.history) (serial w.history) (λ s. holder_of w.limits.stripes s w.history) w.locks w.counts
@@ -161,7 +161,7 @@ module _ (w : World) (tells : Tells w) (c : ℕ) (x : Session) (at : slice_get w
   -- Back.
   left : (n : ℕ) → refusal_of (state_of w) (steps.Back c n) ≡ None → (y : Session) → y ≡ record x { cursor = None } → Called w c x (steps.Back c n) answers.Leaving y w.table w.locks
   left n none y is =
-      let free = back_open x.seat.seat c n (seat_free w tells c x at (steps.Back c n) refl none) in
+      let free = back_open w.limits.half x.seat.seat c n (seat_free w tells c x at (steps.Back c n) refl none) in
       let dropped : y.cursor ≡ None = ap (λ (s : Session). s.cursor) is in
       record {
         comes = quiet (entry.Leave c (Some n)) y (record { phase = LeavingTo n; standing = x.seat.seat.standing; kept = x.seat.seat.kept }) (log_of c w.history) (serial w.history) (λ s. holder_of w.limits.stripes s w.history) w.locks w.counts
@@ -177,7 +177,7 @@ module _ (w : World) (tells : Tells w) (c : ℕ) (x : Session) (at : slice_get w
   -- Commit.
   pub committed : refusal_of (state_of w) (steps.Commit c) ≡ None → (p : ℕ) (y : Session) (t' : TableAt) (locks' : List (Option ℕ)) → p ≡ w.counts.committed + 1 → SettlesIn x w.table y t' → Releases c w.locks locks' → Called w c x (steps.Commit c) (answers.Committed p) y t' locks'
   committed none p y t' locks' number settles releases =
-      let opened = commit_open x.seat.seat c (seat_free w tells c x at (steps.Commit c) refl none) in
+      let opened = commit_open w.limits.half x.seat.seat c (seat_free w tells c x at (steps.Commit c) refl none) in
       let nothing = nothing_waits Opened opened refl in
       let runs = rests_runs w.table t' settles.rests in
       let numbered = number ∙ ap (λ k. k + 1) tells.commits in
@@ -230,7 +230,7 @@ module _ (w : World) (tells : Tells w) (c : ℕ) (x : Session) (at : slice_get w
   pub withdrawn : refusal_of (state_of w) (steps.Abort c) ≡ None → (y : Session) (t' : TableAt) → WithdrawsIn x w.table y t' → Called w c x (steps.Abort c) answers.Leaving y t' w.locks
   withdrawn none y t' leaves =
       let runs = rests_runs w.table t' leaves.rests in
-      let parts = abort_runs x.seat.seat c (seat_free w tells c x at (steps.Abort c) refl none) in
+      let parts = abort_runs w.limits.half x.seat.seat c (seat_free w tells c x at (steps.Abort c) refl none) in
       record {
         comes = record {
           seat = record { phase = LeavingToEnd; standing = x.seat.seat.standing; kept = x.seat.seat.kept };

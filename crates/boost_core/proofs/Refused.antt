@@ -51,23 +51,23 @@ lacks_is state c _ owner = refl
 
 -- The refusal of a caller's step.
 pub refusal_parts : (state : State) (c : ℕ) (step : Step) → owner_of step ≡ Some (Caller c)
-    → refusal_of state step ≡ cond (nat_le state.limits.callers c) (Some NoSuchCaller) (or_else (refusal_in (seat_in state.history c) step) (cond (lacks_in (seat_in state.history c) (is_some (turn_in state.cursors c)) step) (Some Unplaced) None))
+    → refusal_of state step ≡ cond (nat_le state.limits.callers c) (Some NoSuchCaller) (or_else (refusal_in state.limits.half (seat_in state.history c) step) (cond (lacks_in (seat_in state.history c) (is_some (turn_in state.cursors c)) step) (Some Unplaced) None))
 refusal_parts state c step owner =
     ap (λ o. first_of (tests_of state o step)) owner
     ∙ ap (cond (nat_le state.limits.callers c) (Some NoSuchCaller))
-    (first_of-append (tests_in (seat_in state.history c) step) ((lacks_cursor state step, Unplaced) ∷ [])
-    ∙ ap (λ b. or_else (refusal_in (seat_in state.history c) step) (cond b (Some Unplaced) None)) (lacks_is state c step owner))
+    (first_of-append (tests_in state.limits.half (seat_in state.history c) step) ((lacks_cursor state step, Unplaced) ∷ [])
+    ∙ ap (λ b. or_else (refusal_in state.limits.half (seat_in state.history c) step) (cond b (Some Unplaced) None)) (lacks_is state c step owner))
 
 -- A step that nothing refuses.
 pub record Free (state : State) (c : ℕ) (step : Step) : Type 0 where
   pub within : nat_le state.limits.callers c ≡ false
-  pub seat : refusal_in (seat_in state.history c) step ≡ None
+  pub seat : refusal_in state.limits.half (seat_in state.history c) step ≡ None
   pub cursor : lacks_in (seat_in state.history c) (is_some (turn_in state.cursors c)) step ≡ false
 
 pub free : (state : State) (c : ℕ) (step : Step) → owner_of step ≡ Some (Caller c) → refusal_of state step ≡ None → Free state c step
 free state c step owner none =
     let first = first_none (nat_le state.limits.callers c) NoSuchCaller _ (sym (refusal_parts state c step owner) ∙ none) in
-    let rest = or_else_none (refusal_in (seat_in state.history c) step) _ first.1 in
+    let rest = or_else_none (refusal_in state.limits.half (seat_in state.history c) step) _ first.1 in
     record { within = first.0; seat = rest.0; cursor = (first_none _ Unplaced None rest.1).0 }
 
 -- The phase where tests say so.
@@ -89,8 +89,8 @@ opened_is (Waiting op) closed leaving waiting = absurd (false≢true (sym waitin
 opened_is (LeavingTo n) closed leaving waiting = absurd (false≢true (sym leaving))
 opened_is LeavingToEnd closed leaving waiting = absurd (false≢true (sym leaving))
 
-pub begin_closed : (s : Seat) (c : ℕ) → refusal_in s (Begin c) ≡ None → s.phase ≡ Closed
-begin_closed s c none =
+pub begin_closed : (half : Bool) (s : Seat) (c : ℕ) → refusal_in half s (Begin c) ≡ None → s.phase ≡ Closed
+begin_closed half s c none =
     let first = first_none (is_leaving s.phase) _ _ none in
     let second = first_none (not (is_closed s.phase)) _ _ first.1 in
     closed_is s.phase (not_false (is_closed s.phase) second.0)
@@ -102,20 +102,17 @@ three_tests s a b c rest none =
     let third = first_none (is_waiting s.phase) c rest second.1 in
     (opened_is s.phase first.0 second.0 third.0, third.1)
 
-pub ask_open : (s : Seat) (c : ℕ) (op : Op) → refusal_in s (Ask c op) ≡ None → s.phase ≡ Opened
-ask_open s c op none = (three_tests s _ _ _ _ none).0
+pub ask_open : (half : Bool) (s : Seat) (c : ℕ) (op : Op) → refusal_in half s (Ask c op) ≡ None → s.phase ≡ Opened
+ask_open half s c op none = (three_tests s _ _ _ _ none).0
 
-pub ask_key : (s : Seat) (c : ℕ) (op : Op) → refusal_in s (Ask c op) ≡ None → nat_le (2 ^ 63) (key_of op) ≡ false
-ask_key s c op none = (first_none _ _ None (three_tests s _ _ _ _ none).1).0
+pub save_open : (half : Bool) (s : Seat) (c : ℕ) → refusal_in half s (Save c) ≡ None → s.phase ≡ Opened
+save_open half s c none = (three_tests s _ _ _ _ none).0
 
-pub save_open : (s : Seat) (c : ℕ) → refusal_in s (Save c) ≡ None → s.phase ≡ Opened
-save_open s c none = (three_tests s _ _ _ _ none).0
+pub commit_open : (half : Bool) (s : Seat) (c : ℕ) → refusal_in half s (Commit c) ≡ None → s.phase ≡ Opened
+commit_open half s c none = (three_tests s _ _ _ _ none).0
 
-pub commit_open : (s : Seat) (c : ℕ) → refusal_in s (Commit c) ≡ None → s.phase ≡ Opened
-commit_open s c none = (three_tests s _ _ _ _ none).0
-
-pub back_open : (s : Seat) (c n : ℕ) → refusal_in s (Back c n) ≡ None → (s.phase ≡ Opened) × (nat_le (length s.kept) n ≡ false)
-back_open s c n none =
+pub back_open : (half : Bool) (s : Seat) (c n : ℕ) → refusal_in half s (Back c n) ≡ None → (s.phase ≡ Opened) × (nat_le (length s.kept) n ≡ false)
+back_open half s c n none =
     let open_so = three_tests s _ _ _ _ none in
     (open_so.0, (first_none _ _ None open_so.1).0)
 
@@ -144,15 +141,15 @@ module _ (w : World) (tells : Tells w) (c : ℕ) (x : Session) (at : slice_get w
 
   -- The refusal of a step is that of the caller's side.
   pub refusal_here : (step : Step) → owner_of step ≡ Some (Caller c) → nat_le w.limits.callers c ≡ false
-      → refusal_of (state_of w) step ≡ or_else (refusal_in x.seat.seat step) (cond (lacks_in x.seat.seat (is_some x.cursor) step) (Some Unplaced) None)
+      → refusal_of (state_of w) step ≡ or_else (refusal_in w.limits.half x.seat.seat step) (cond (lacks_in x.seat.seat (is_some x.cursor) step) (Some Unplaced) None)
   refusal_here step owner within =
       refusal_parts (state_of w) c step owner
-      ∙ ap (λ b. cond b (Some NoSuchCaller) (or_else (refusal_in (seat_in w.history c) step) (cond (lacks_in (seat_in w.history c) (is_some (turn_in (map turn_at w.sessions) c)) step) (Some Unplaced) None))) within
-      ∙ (λ i. or_else (refusal_in (seat_here i) step) (cond (lacks_in (seat_here i) (turn_is_some i) step) (Some Unplaced) None))
+      ∙ ap (λ b. cond b (Some NoSuchCaller) (or_else (refusal_in w.limits.half (seat_in w.history c) step) (cond (lacks_in (seat_in w.history c) (is_some (turn_in (map turn_at w.sessions) c)) step) (Some Unplaced) None))) within
+      ∙ (λ i. or_else (refusal_in w.limits.half (seat_here i) step) (cond (lacks_in (seat_here i) (turn_is_some i) step) (Some Unplaced) None))
 
   -- What nothing refuses, the caller's side does not refuse.
-  pub seat_free : (step : Step) → owner_of step ≡ Some (Caller c) → refusal_of (state_of w) step ≡ None → refusal_in x.seat.seat step ≡ None
-  seat_free step owner none = ap (λ s. refusal_in s step) (sym seat_here) ∙ (free (state_of w) c step owner none).seat
+  pub seat_free : (step : Step) → owner_of step ≡ Some (Caller c) → refusal_of (state_of w) step ≡ None → refusal_in w.limits.half x.seat.seat step ≡ None
+  seat_free step owner none = ap (λ s. refusal_in w.limits.half s step) (sym seat_here) ∙ (free (state_of w) c step owner none).seat
 
   pub cursor_free : (step : Step) → owner_of step ≡ Some (Caller c) → refusal_of (state_of w) step ≡ None → lacks_in x.seat.seat (is_some x.cursor) step ≡ false
   cursor_free step owner none = (λ i. lacks_in (sym seat_here i) (sym turn_is_some i) step) ∙ (free (state_of w) c step owner none).cursor
@@ -192,13 +189,13 @@ at_free w tells c step owner none x is =
     let count : length w.sessions ≡ w.limits.callers = tells.count in
     index_at w.sessions c x (omega arith) is
 
-pub abort_runs : (s : Seat) (c : ℕ) → refusal_in s (Abort c) ≡ None → (is_closed s.phase ≡ false) × (is_leaving s.phase ≡ false)
-abort_runs s c none =
+pub abort_runs : (half : Bool) (s : Seat) (c : ℕ) → refusal_in half s (Abort c) ≡ None → (is_closed s.phase ≡ false) × (is_leaving s.phase ≡ false)
+abort_runs half s c none =
     let first = first_none (is_closed s.phase) _ _ none in
     (first.0, (first_none (is_leaving s.phase) _ None first.1).0)
 
-pub seek_target : (s : Seat) (c : ℕ) → refusal_in s (Seek c) ≡ None → has_target s ≡ true
-seek_target s c none =
+pub seek_target : (half : Bool) (s : Seat) (c : ℕ) → refusal_in half s (Seek c) ≡ None → has_target s ≡ true
+seek_target half s c none =
     let first = first_none (is_closed s.phase) _ _ none in
     not_false (has_target s) (first_none (not (has_target s)) _ None first.1).0
 

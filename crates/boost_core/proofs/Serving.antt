@@ -15,13 +15,12 @@ use Rattle.map_ops.specs.InitSeek.{InitSeek}
 use Rattle.map_ops.specs.InitSeek.TheVariants as seeks
 use Rattle.map_ops.specs.InitLink.{InitLink}
 use Rattle.map_ops.specs.InitLink.TheVariants as links
-use Rattle.map_ops.specs.InitRefusal.{InitRefusal}
+use Rattle.txn_trace.specs.declared.refusal.Refusal.{Refusal}
 use Rattle.map_ops.specs.SweepOutcome.{SweepOutcome}
 use Rattle.map_ops.specs.SweepOutcome.TheVariants as sweeps
 use Rattle.map_ops.specs.Buckets.{Doubles, SeekChanges, LinkChanges, StoreChanges, seek_answer, store_answer, double_answer}
 use Rattle.map_ops.specs.TableAt.{TableAt, Follows, content, size_of, stored_of, helps_of, turn_of, largest_of}
 use Rattle.boost_core.specs.State.{Helper}
-use Rattle.boost_core.specs.Refusals.{refusal_for}
 use Rattle.boost_core.specs.Answers.{IsAnswer}
 use Rattle.boost_core.specs.Placed.{placed_then}
 use Rattle.boost_core.specs.Machine.{Move}
@@ -30,7 +29,8 @@ use Rattle.boost_core.specs.Serves as said
 use Rattle.boost_core.specs.Serves.{Serves, Sweeping, Seeking, Linking, Storing, Doubling}
 use Rattle.boost_core.specs.Core.{World, Tells, state_of}
 use Rattle.boost_core.proofs.Refused.{le_false}
-use Rattle.boost_core.proofs.Helping.{served, sweep_tells, swept_move, clean_move, becomes_tells, becomes_state, double_tells, seek_refusal, refusal_in_result, seek_ready_move, seek_placed_move, helper_refused, store_refusal, stored_move, link_refused_move, link_again_move, link_present_move, link_linked_move}
+use Rattle.boost_core.proofs.Helping.{served, sweep_tells, swept_move, clean_move, becomes_tells, becomes_state, double_tells, seek_refusal, refusal_in_result, seek_ready_move, seek_placed_move, helper_refused, store_refusal, stored_move}
+use Rattle.boost_core.proofs.Linking.{link_refused_move, link_again_move, link_present_move, link_linked_move}
 
 -- What the core then tells, and the move.
 pub record Served (w : World) (step : Step) (answer : Answer) (t' : TableAt) : Type 0 where
@@ -58,7 +58,7 @@ module _ (w : World) (tells : Tells w) (t' : TableAt) (follows : Follows w.table
   swept_by sweeps.Swept answer is says answer_is = subst (λ a. Served w steps.Sweep a t') (sym answer_is) (record { tells = sweep_tells w tells t' is.keeps is.spares follows; move = swept_move w t' is.keeps rises })
   swept_by sweeps.Clean answer is says answer_is = subst (λ a. Served w steps.Sweep a t') (sym answer_is) (record { tells = sweep_tells w tells t' is.keeps is.spares follows; move = clean_move w t' is.keeps (is.turn says) })
 
-  sought_by : (h b : ℕ) (outcome : Result InitSeek InitRefusal) (answer : Answer) → answer ≡ said.sought outcome → outcome ≡ seek_answer (size_of w.table) (stored_of w.table) (slice_get (helps_of w.table) h) b
+  sought_by : (h b : ℕ) (outcome : Result InitSeek Refusal) (answer : Answer) → answer ≡ said.sought outcome → outcome ≡ seek_answer (size_of w.table) (stored_of w.table) (slice_get (helps_of w.table) h) b
       → SeekChanges w.table t' h b outcome → Served w (steps.InitSeek h b) answer t'
   sought_by h b (Ok seeks.Ready) answer answer_is says changes = subst (λ a. Served w (steps.InitSeek h b) a t') (sym answer_is) (record {
     tells = becomes_tells w tells t' None _ _ _ _ changes.0.becomes (length-set _ _ _) follows tt;
@@ -70,10 +70,10 @@ module _ (w : World) (tells : Tells w) (t' : TableAt) (follows : Follows w.table
   })
   sought_by h b (Err refusal) answer answer_is says changes = subst (λ a. Served w (steps.InitSeek h b) a t') (sym answer_is) (record {
     tells = same_tells changes;
-    move = helper_refused w t' (steps.InitSeek h b) (refusal_for refusal) changes (seek_refusal w h b tells.helpers ∙ ap refusal_in_result (sym says));
+    move = helper_refused w t' (steps.InitSeek h b) refusal changes (seek_refusal w h b tells.helpers ∙ ap refusal_in_result (sym says));
   })
 
-  linked_by : (h : ℕ) (outcome : Result InitLink InitRefusal) (answer : Answer) → answer ≡ said.linked outcome → (is : Linking w.table t' h answer) → is.outcome ≡ outcome → Served w (steps.InitLink h) answer t'
+  linked_by : (h : ℕ) (outcome : Result InitLink Refusal) (answer : Answer) → answer ≡ said.linked outcome → (is : Linking w.table t' h answer) → is.outcome ≡ outcome → Served w (steps.InitLink h) answer t'
   linked_by h (Ok links.Again) answer answer_is is says =
       let changes = subst (LinkChanges w.table t' h) says is.changes in
       let now_is = sym (is.says (λ e. let both = sym says ∙ e in cc)) ∙ says in
@@ -102,14 +102,14 @@ module _ (w : World) (tells : Tells w) (t' : TableAt) (follows : Follows w.table
         move = link_refused_move w h tells.helpers is.outcome is.says is.no_memory refusal says t' same;
       })
 
-  stored_by : (h : ℕ) (outcome : Result Unit InitRefusal) (answer : Answer) → answer ≡ said.stored outcome → outcome ≡ store_answer (slice_get (helps_of w.table) h) → StoreChanges w.table t' h outcome → Served w (steps.InitStore h) answer t'
+  stored_by : (h : ℕ) (outcome : Result Unit Refusal) (answer : Answer) → answer ≡ said.stored outcome → outcome ≡ store_answer (slice_get (helps_of w.table) h) → StoreChanges w.table t' h outcome → Served w (steps.InitStore h) answer t'
   stored_by h (Ok done) answer answer_is says stores = subst (λ a. Served w (steps.InitStore h) a t') (sym answer_is) (record {
     tells = becomes_tells w tells t' None _ _ _ _ stores.becomes (length-set _ _ _) follows tt;
     move = stored_move w t' h tells.helpers (sym says) stores;
   })
   stored_by h (Err refusal) answer answer_is says same = subst (λ a. Served w (steps.InitStore h) a t') (sym answer_is) (record {
     tells = same_tells same;
-    move = helper_refused w t' (steps.InitStore h) (refusal_for refusal) same (store_refusal w h tells.helpers ∙ ap refusal_in_result (sym says));
+    move = helper_refused w t' (steps.InitStore h) refusal same (store_refusal w h tells.helpers ∙ ap refusal_in_result (sym says));
   })
 
   -- What a doubling says of the size.

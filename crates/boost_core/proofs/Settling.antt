@@ -22,7 +22,7 @@ rests_same t = record {
     turn = refl;
   };
   last = refl;
-  placed = λ cursor key is. is;
+  placed = record { placed = λ cursor key is. is; sound = λ sound. sound };
 }
 
 pub rests_more : (t0 t t' : TableAt) (spare : Option SpareAt) → Rests t0 t → GivesBack t t' spare → Follows t t' → Rests t0 t'
@@ -41,7 +41,7 @@ rests_more t0 t t' spare rests back follows = record {
     turn = back.nodes.turn ∙ rests.nodes.turn;
   };
   last = back.last ∙ rests.last;
-  placed = λ cursor key is. follows.placed cursor key (rests.placed cursor key is);
+  placed = record { placed = λ cursor key is. follows.placed cursor key (rests.placed.placed cursor key is); sound = λ sound. follows.list.sound (rests.placed.sound sound) };
 }
 
 times_pushed : (jobs jobs' : List MapJob) (job : MapJob) (place stamp : ℕ) → jobs ≡ jobs' ++ job ∷ [] → times_in jobs place stamp ≡ times_in jobs' place stamp + times_of (spare_of_job job) place stamp

@@ -1,10 +1,10 @@
 -- A core in which nothing has happened.
-use Rattle.std.proofs.Common.{◌≡◌, ℕ, ◌+◌, ◌<◌, ◌≤◌, ◌∷◌, true, List, [], length, map, replicate, Option, Some, None, suc, refl, sym, ap, subst, ◌∙◌, arith}
+use Rattle.std.proofs.Common.{◌≡◌, ℕ, ◌+◌, ◌<◌, ◌≤◌, ◌==◌, ◌∷◌, true, List, [], length, map, replicate, Option, Some, None, suc, refl, sym, ap, subst, ◌∙◌, arith}
 use Rattle.std.specs.Prelude.{slice_get, sum_by, reverse}
 use Rattle.std.specs.List.{All}
 use Rattle.std.specs.Option.{option_map}
 use Rattle.std.specs.Int.{is_power_of_two}
-use Rattle.std.proofs.lemmas.Bool.{and_parts, cases_lt}
+use Rattle.std.proofs.lemmas.Bool.{and_parts, cases_Bool, cases_lt, eq-eqb, eqb-true}
 use Rattle.std.proofs.lemmas.List.{length-replicate, get_or-replicate, get_or_past}
 use Rattle.std.proofs.lemmas.List.Elements.{All-nil}
 use Rattle.std.proofs.lemmas.List.Sums.{sum_by-cons}
@@ -20,12 +20,16 @@ use Rattle.txn_trace.specs.History.{caller_of}
 use Rattle.txn_trace.proofs.Judging.{legal_none}
 use Rattle.map_ops.specs.declared.job.MapJob.{MapJob}
 use Rattle.map_ops.specs.Jobs.{PendingAt}
-use Rattle.map_ops.specs.TableAt.{TableAt, Cursor, IsNew, Nothing, cursor_turn}
+use Rattle.node_list.specs.Nodes.{NodeAt, first, first_dummy, node_of}
+use Rattle.node_list.specs.Order.{IsRising, IsSpread}
+use Rattle.node_list.specs.Sound.{IsSound, AllPlain}
+use Rattle.map_ops.specs.TableAt.{TableAt, Cursor, IsNew, Nothing, cursor_turn, nodes_of}
 use Rattle.boost_core.specs.declared.session.Session.{Session}
 use Rattle.boost_core.specs.State.{start}
 use Rattle.boost_core.specs.Spares.{times_of, times_in}
 use Rattle.boost_core.specs.Sessions.{IsIdle, Agrees, Waits, IsSoughtAt, AreDue, level_of, owed_of, target_of, times_kept, spare_if, changes_of}
 use Rattle.boost_core.specs.Core.{World, Tells, state_of, turn_at, node_at, gap_if, gap_by, all_times}
+use Rattle.boost_core.proofs.NodeLists.{node_here, node_later, none_of_none}
 use Rattle.boost_core.proofs.Spares.{none_covered}
 use Rattle.boost_core.proofs.Powers.{IsPower, power_from_test}
 
@@ -55,6 +59,25 @@ none_held stripes s = elim (cases_lt s stripes) [
   | inr past ↦ get_or_past (replicate stripes None) s None (let long = length-replicate {A = Option ℕ} stripes None in omega arith)
 ]
 
+-- A list of one node.
+only_node : (m : NodeAt) (place : ℕ) (n : NodeAt) → node_of (m ∷ []) place ≡ Some n → (m.place ≡ place) × (n ≡ m)
+only_node m place n is = elim (cases_Bool (m.place == place)) [
+  | inl here ↦ (eqb-true m.place place here, sym (node_here m [] place n is here))
+  | inr apart ↦ absurd (none_of_none place n (node_later m [] place (Some n) is apart))
+]
+
+found_only : (m : NodeAt) → node_of (m ∷ []) m.place ≡ Some m
+unfolding node_of
+found_only m = rw (eq-eqb m.place m.place refl) refl
+
+rising_one : (m : NodeAt) → IsRising (m ∷ [])
+unfolding IsRising
+rising_one m = (tt, tt)
+
+spread_one : (m : NodeAt) → IsSpread (m ∷ [])
+unfolding IsSpread
+spread_one m = (tt, tt)
+
 module _ (limits : Sizes) (t : TableAt) (new : IsNew t limits.buckets limits.callers) (sessions : List Session) (count : length sessions ≡ limits.callers) (idle : All IsIdle sessions) where
   is_idle : (s : Session) (c : ℕ) → slice_get sessions c ≡ Some s → IsIdle s
   is_idle s c at = subst IsIdle (get_or_from_slice_get sessions c s s at) (idle c s (slice_get_within sessions c s at))
@@ -71,6 +94,32 @@ module _ (limits : Sizes) (t : TableAt) (new : IsNew t limits.buckets limits.cal
     kept = ap (λ (q : Seat). q.kept) is.seat ∙ sym (ap (λ ks. 0 ∷ ks) is.kept);
     waits = subst (λ (q : Seat). Waits q.phase s.pending s.log.room) (sym is.seat) (subst (λ (o : Option PendingAt). Waits Closed o s.log.room) (sym is.pending) tt);
     level = let none : level_of s.seat.seat.phase ≡ 0 = ap (λ (q : Seat). level_of q.phase) is.seat in omega arith;
+  }
+
+  -- The list of one dummy is sound.
+  one_node : (place : ℕ) (n : NodeAt) → node_of (nodes_of t) place ≡ Some n → (t.list.head ≡ place) × (n ≡ first_dummy t.list.head 0)
+  one_node place n is = only_node (first_dummy t.list.head 0) place n (ap (λ ns. node_of ns place) (sym new.nodes_are) ∙ is)
+
+  first_sound : IsSound t.list
+  first_sound = record {
+    first = record {
+      node = first_dummy t.list.head 0;
+      first = ap first new.nodes_are;
+      is = ap (λ ns. node_of ns t.list.head) new.nodes_are ∙ found_only (first_dummy t.list.head 0);
+      at = refl;
+      kind = refl;
+    };
+    rising = subst IsRising (sym new.nodes_are) (rising_one (first_dummy t.list.head 0));
+    spread = subst IsSpread (sym new.nodes_are) (spread_one (first_dummy t.list.head 0));
+    plain = subst AllPlain (sym new.nodes_are) (λ kind. refl, tt);
+    stamped = record {
+      bound = λ place n is. let none : n.stamp ≡ 0 = ap (λ m. m.stamp) (one_node place n is).1 in omega arith;
+      alone = λ p q n m at_p at_q same. sym (one_node p n at_p).0 ∙ (one_node q m at_q).0;
+      apart = λ place other n is out. absurd (let both : None ≡ Some n.stamp = sym (new.none_out other) ∙ out in cc (both));
+      out_bound = λ place stamp is. absurd (let both : None ≡ Some stamp = sym (new.none_out place) ∙ is in cc (both));
+      out_alone = λ p q stamp at_p at_q. absurd (let both : None ≡ Some stamp = sym (new.none_out p) ∙ at_p in cc (both));
+    };
+    last = let none = new.last_is in omega arith;
   }
 
   pub start_tells : (locks : List (Option ℕ)) → locks ≡ replicate limits.stripes None → Tells (first_world locks)
@@ -96,6 +145,7 @@ module _ (limits : Sizes) (t : TableAt) (new : IsNew t limits.buckets limits.cal
     holders = λ s below. ap (λ ls. held_by ls s) none ∙ none_held limits.stripes s;
     largest = new.largest_is;
     helpers = ap length new.helps_is ∙ length-replicate limits.callers Nothing;
+    sound = first_sound;
   }
 
   pub none_owed : sum_by owed_of sessions ≡ 0

@@ -1,7 +1,7 @@
 -- The steps by which callers work on the map.
 use Rattle.std.proofs.Common.{◌≡◌, ℕ, ◌+◌, ◌-◌, ◌^◌, ◌<◌, ◌≤◌, ◌==◌, ◌&&◌, Bool, true, false, cond, List, [], ◌∷◌, ◌++◌, length, Option, Some, None, is_some, refl, sym, ap, subst, ◌∙◌, arith}
-use Rattle.std.specs.Prelude.{slice_get, slice_set, map, reverse, slice_index, nat_lt, not, option_to_list}
-use Rattle.std.specs.Option.{option_map}
+use Rattle.std.specs.Prelude.{slice_get, slice_set, map, reverse, slice_index, nat_lt, nat_eq, not, option_to_list}
+use Rattle.std.specs.Option.{option_map, option_eq}
 use Rattle.std.specs.List.{AllByRecursion}
 use Rattle.std.proofs.lemmas.Bool.{false≢true, cases_Bool, cases_eq, ne_eqb, and_from, and_parts, eqb-true, ltb-true}
 use Rattle.std.proofs.lemmas.List.{reverse-append, append-nil}
@@ -9,7 +9,7 @@ use Rattle.std.proofs.lemmas.List.Sums.{sum_by_push}
 use Rattle.std.proofs.lemmas.Option.{slice_get_within}
 use mathlib.Core.Logic.{inl, inr}
 use Rattle.txn_trace.specs.declared.op.Op.{Op}
-use Rattle.txn_trace.specs.declared.op.Op.TheVariants.{Put, Take, Get}
+use Rattle.txn_trace.specs.declared.op.Op.TheVariants.{Put, Take, Get, PutIf}
 use Rattle.txn_trace.specs.Map.{get, key_of, reply_of, after}
 use Rattle.txn_trace.specs.Now.{set_at}
 use Rattle.txn_trace.specs.Locks.{stripe_of}
@@ -55,66 +55,7 @@ use Rattle.boost_core.proofs.Spares.{spent, still_covered}
 use Rattle.boost_core.proofs.Due.{NotedIf, noted, changes_noted, due_noted}
 use Rattle.boost_core.proofs.Sides.{IsGoing, going, waiting_op, changes_last}
 use Rattle.boost_core.proofs.Refused.{seat_here, turn_here}
-
-relinked_put : (k : ℕ) (o : Option ℕ) (j v : ℕ) (kept : SpareAt) (spare : Option SpareAt) → Some (Relink j v kept) ≡ unput k o → spare ≡ Some kept
-relinked_put k None j v kept spare is = absurd (cc (is))
-relinked_put k (Some old) j v kept spare is = absurd (cc (is))
-
-relinked_take : (k : ℕ) (o : Option ℕ) (j v : ℕ) (kept : SpareAt) (spare : Option SpareAt) → Some (Relink j v kept) ≡ relink k o spare → spare ≡ Some kept
-relinked_take k None j v kept spare is = absurd (cc (is))
-relinked_take k (Some old) j v kept None is = absurd (cc (is))
-relinked_take k (Some old) j v kept (Some given) is = let same : given ≡ kept = cc (is) in ap Some same
-
--- A job that links a node again has the spare of its operation.
-relinked : (m : Map) (op : Op) (j v : ℕ) (kept : SpareAt) (spare : Option SpareAt) → Some (Relink j v kept) ≡ job_of m op spare → spare ≡ Some kept
-relinked m (Put k w) j v kept spare is = relinked_put k (get m k) j v kept spare is
-relinked m (Take k) j v kept spare is = relinked_take k (get m k) j v kept spare is
-relinked m (Get k) j v kept spare is = absurd (cc (is))
-
--- The spares that a caller keeps once its operation is done.
-spent_covered : (t t' : TableAt) (spare : Option SpareAt) (jobs jobs' : List MapJob) → ((place stamp : ℕ) → times_in jobs' place stamp ≡ times_in jobs place stamp + 0) → Spends t t' spare
-    → (others : ℕ → ℕ → ℕ) → IsCovered (λ place stamp. others place stamp + (times_of spare place stamp + times_in jobs place stamp)) t
-    → IsCovered (λ place stamp. others place stamp + (0 + times_in jobs' place stamp)) t'
-spent_covered t t' spare jobs jobs' same spends others covered place stamp =
-    let after : others place stamp + times_in jobs place stamp ≡ times_out t' place stamp =
-    spent t t' spare (λ p s. others p s + times_in jobs p s) spends (λ p s.
-    let exact : others p s + (times_of spare p s + times_in jobs p s) ≡ times_out t p s = covered p s in
-    regroup (others p s) (times_of spare p s) (times_in jobs p s) (times_out t p s) exact) place stamp in
-    let is = same place stamp in
-    regroup' (others place stamp) (times_in jobs' place stamp) (times_in jobs place stamp) (times_out t' place stamp) is after
-  where
-    regroup : (a b d n : ℕ) → a + (b + d) ≡ n → a + d + b ≡ n
-    regroup a b d n exact = omega arith
-
-    regroup' : (a b d n : ℕ) → b ≡ d + 0 → a + d ≡ n → a + (0 + b) ≡ n
-    regroup' a b d n same exact = omega arith
-
-times_more : (jobs : List MapJob) (job : MapJob) (place stamp : ℕ) → times_in (jobs ++ job ∷ []) place stamp ≡ times_in jobs place stamp + times_of (spare_of_job job) place stamp
-times_more jobs job place stamp = sum_by_push (λ (j : MapJob). times_of (spare_of_job j) place stamp) jobs job
-
-times_same : (jobs : List MapJob) (place stamp : ℕ) → times_in (jobs ++ []) place stamp ≡ times_in jobs place stamp + 0
-times_same jobs place stamp = ap (λ (js : List MapJob). times_in js place stamp) (append-nil jobs) ∙ no_more (times_in jobs place stamp)
-
-relinked_covered : (t t' : TableAt) (spare : Option SpareAt) (kept : SpareAt) (k old : ℕ) (jobs : List MapJob) → spare ≡ Some kept → KeepsSpares t t'
-    → (others : ℕ → ℕ → ℕ) → IsCovered (λ place stamp. others place stamp + (times_of spare place stamp + times_in jobs place stamp)) t
-    → IsCovered (λ place stamp. others place stamp + (0 + times_in (jobs ++ Relink k old kept ∷ []) place stamp)) t'
-relinked_covered t t' spare kept k old jobs is spends others covered place stamp =
-    let exact : others place stamp + (times_of spare place stamp + times_in jobs place stamp) ≡ times_out t' place stamp = still_covered t t' (λ p s. others p s + (times_of spare p s + times_in jobs p s)) spends covered place stamp in
-    let more = times_more jobs (Relink k old kept) place stamp in
-    let same : times_of spare place stamp ≡ times_of (Some kept) place stamp = ap (λ (o : Option SpareAt). times_of o place stamp) is in
-    regroup (others place stamp) (times_of spare place stamp) (times_of (Some kept) place stamp) (times_in jobs place stamp) (times_in (jobs ++ Relink k old kept ∷ []) place stamp) (times_out t' place stamp) same more exact
-  where
-    regroup : (a b d j k n : ℕ) → b ≡ d → k ≡ j + d → a + (b + j) ≡ n → a + (0 + k) ≡ n
-    regroup a b d j k n same more exact = omega arith
-
-done_covered : (t t' : TableAt) (spare : Option SpareAt) (job : Option MapJob) (jobs : List MapJob) (m : Map) (op : Op) → job ≡ job_of m op spare → SpendsFor t t' spare job
-    → (others : ℕ → ℕ → ℕ) → IsCovered (λ place stamp. others place stamp + (times_of spare place stamp + times_in jobs place stamp)) t
-    → IsCovered (λ place stamp. others place stamp + (0 + times_in (jobs ++ option_to_list job) place stamp)) t'
-done_covered t t' spare None jobs m op is spends others covered = spent_covered t t' spare jobs (jobs ++ []) (times_same jobs) spends others covered
-done_covered t t' spare (Some (Unput k)) jobs m op is spends others covered = spent_covered t t' spare jobs (jobs ++ Unput k ∷ []) (times_more jobs (Unput k)) spends others covered
-done_covered t t' spare (Some (Restore k old)) jobs m op is spends others covered = spent_covered t t' spare jobs (jobs ++ Restore k old ∷ []) (times_more jobs (Restore k old)) spends others covered
-done_covered t t' spare (Some (Relink k old kept)) jobs m op is spends others covered =
-    relinked_covered t t' spare kept k old jobs (relinked m op k old kept spare is) spends others covered
+use Rattle.boost_core.proofs.SparesKept.{times_more, times_same, done_covered}
 
 pub keeps_runs : (t t' : TableAt) → Keeps t t' → turn_of t ≤ turn_of t' → Runs t t'
 keeps_runs t t' keeps turn = record {
@@ -326,96 +267,3 @@ module _ (w : World) (tells : Tells w) (c : ℕ) (x : Session) (at : slice_get w
           (undone_runs turn) (λ kept. absurd (false≢true kept));
       fresh = λ seat'. tt;
     }
-
-  -- What a caller acts on next is sought.
-  pub sought_called : refusal_of (state_of w) (steps.Seek c) ≡ None → (y : Session) (t' : TableAt) → SeeksIn x w.table y t' → KeepsPlaced w.table t' → turn_of w.table ≤ turn_of t' → Called w c x (steps.Seek c) answers.Placed y t' w.locks
-  sought_called none y t' seeks keeps turn =
-      let runs = keeps_runs w.table t' seeks.places.keeps turn in
-      record {
-        comes = record {
-          same_seat = ap (λ (s : Session). s.seat.seat) seeks.becomes;
-          jobs = ap (λ (s : Session). s.log.jobs) seeks.becomes;
-          kept = ap (λ (s : Session). s.log.kept) seeks.becomes;
-          waits = subst (λ (s : Session). Waits x.seat.seat.phase s.pending s.log.room) (sym seeks.becomes) (tells.seated c x at).agrees.waits;
-          content = ap map_of seeks.places.keeps.regular;
-          placed = keeps;
-          sought = subst (λ (s : Session). IsSoughtAt t' s.cursor (target_in x.seat.seat.phase s.log)) (sym seeks.becomes) (subst (IsPlacedFor t' seeks.cursor) (sym seeks.target) seeks.places.placed);
-          spares = λ others covered. subst (λ (s : Session). IsCovered (λ p q. others p q + times_kept s p q) t') (sym seeks.becomes) (still_covered w.table t' (λ p q. others p q + times_kept x p q) seeks.places.spares covered);
-          largest = seeks.places.keeps.buckets.largest;
-          helpers = ap length seeks.places.keeps.buckets.helps;
-          same_locks = refl;
-          same_counts = refl;
-        };
-        move = λ seat'. move_is w (world_after w c (seated_as y seat') (w.history ++ []) w.counts t' w.locks (Some (Caller c))) (steps.Seek c) answers.Placed (none, tt)
-            (state_is w (w.history ++ []) (w.history ++ []) w.counts t' (slice_set (map turn_at w.sessions) c (Some (turn_of t'))) (slice_set w.sessions c (seated_as y seat')) w.locks (Some (Caller c)) runs refl
-            (turns_set w.sessions c (seated_as y seat') (Some (turn_of t')) (ap turn_at seeks.becomes ∙ ap Some seeks.places.turn)))
-            runs (λ kept. absurd (false≢true kept));
-        fresh = λ seat' s cursor at_c had. elim (set_cases w.sessions c c (seated_as y seat') s (slice_get_within w.sessions c x at) at_c) [
-          | inl mine ↦
-              let both : Some seeks.cursor ≡ Some cursor = sym (ap (λ (q : Session). q.cursor) mine.1 ∙ ap (λ (q : Session). q.cursor) seeks.becomes) ∙ had in
-              let same : seeks.cursor ≡ cursor = cc (both) in
-              ap (fits t') (sym same) ∙ seeks.places.fits
-          | inr other ↦ absurd (other.0 refl)
-        ];
-      }
-
-  -- The cursor did not fit, and is dropped.
-  module _ (none : refusal_of (state_of w) (steps.Act c) ≡ None) (target : has_target x.seat.seat ≡ true) (y : Session) (drops : Drops x w.table y w.table) where
-    not_fresh : is_just_placed (Caller c) w.placed ≡ false
-    not_fresh = at_placed w.placed tells.fresh
-      where
-        at_placed : (o : Option Owner) → IsFresh w.table w.sessions o → is_just_placed (Caller c) o ≡ false
-        at_placed None fresh = refl
-        at_placed (Some (Helper d)) fresh = refl
-        at_placed (Some (Caller d)) fresh = elim (cases_eq c d) [
-          | inl same ↦ absurd (false≢true (sym drops.stale ∙ fresh x drops.cursor (ap (slice_get w.sessions) (sym same) ∙ at) drops.had))
-          | inr other ↦ ne_eqb c d other
-        ]
-
-    has_key : (target : Option ℕ) → IsPlacedFor w.table drops.cursor target → (key : ℕ) × IsPlaced w.table drops.cursor key
-    has_key None is = absurd is
-    has_key (Some key) is = (key, is)
-
-    not_in_turn : (cursor_turn drops.cursor == turn_of w.table && nat_lt (cursor_turn drops.cursor) (2 ^ 64 - 1)) ≡ false
-    not_in_turn = elim (cases_Bool (cursor_turn drops.cursor == turn_of w.table && nat_lt (cursor_turn drops.cursor) (2 ^ 64 - 1))) [
-      | inr is ↦ is
-      | inl is ↦
-          let parts = and_parts (cursor_turn drops.cursor == turn_of w.table) (nat_lt (cursor_turn drops.cursor) (2 ^ 64 - 1)) is in
-          let same : cursor_turn drops.cursor ≡ turn_of w.table = eqb-true (cursor_turn drops.cursor) (turn_of w.table) parts.0 in
-          let below : cursor_turn drops.cursor < 2 ^ 64 - 1 = ltb-true (cursor_turn drops.cursor) (2 ^ 64 - 1) parts.1 in
-          let placed_for = has_key (target_of x) (subst (λ (o : Option Cursor). IsSoughtAt w.table o (target_of x)) drops.had (tells.sought c x at)) in
-          absurd (false≢true (sym drops.stale ∙ placed_for.1.in_turn (sym same) (subst (λ n. n < 2 ^ 64 - 1) same below)))
-    ]
-
-    stale : may_be_stale (state_of w) (Caller c) ≡ true
-    stale =
-        let turn : turn_in (map turn_at w.sessions) c ≡ Some (cursor_turn drops.cursor) = turn_here w tells c x at ∙ ap (option_map cursor_turn) drops.had in
-        ap (λ (o : Option ℕ). elim o as (λ _. Bool) [ None ↦ false | Some turn ↦ not (is_just_placed (Caller c) w.placed) && not (turn == turn_of w.table && nat_lt turn (2 ^ 64 - 1)) ]) turn
-        ∙ (λ i. not (not_fresh i) && not (not_in_turn i))
-
-    again : Called w c x (steps.Act c) answers.Again y w.table w.locks
-    again = record {
-      comes = record {
-        same_seat = drops.seat;
-        jobs = drops.jobs;
-        kept = drops.kept;
-        waits = subst (λ (o : Option PendingAt). Waits x.seat.seat.phase o y.log.room) (sym drops.waits) (subst (Waits x.seat.seat.phase x.pending) (sym drops.room) (tells.seated c x at).agrees.waits);
-        content = refl;
-        placed = λ cursor key is. is;
-        sought = subst (λ (o : Option Cursor). IsSoughtAt w.table o (target_in x.seat.seat.phase y.log)) (sym drops.dropped) tt;
-        spares = same_times w.table x y drops.waits drops.jobs;
-        largest = refl;
-        helpers = refl;
-        same_locks = refl;
-        same_counts = refl;
-      };
-      move = λ seat'. move_is w (world_after w c (seated_as y seat') (w.history ++ []) w.counts w.table w.locks None) (steps.Act c) answers.Again
-          (none, and_from (has_target (seat_in w.history c)) (may_be_stale (state_of w) (Caller c)) (ap has_target here ∙ target) stale)
-          (state_is w (w.history ++ []) (w.history ++ []) w.counts w.table (slice_set (map turn_at w.sessions) c None) (slice_set w.sessions c (seated_as y seat')) w.locks None (runs_same w.table) refl
-          (turns_set w.sessions c (seated_as y seat') None (ap (option_map cursor_turn) drops.dropped)))
-          (runs_same w.table) (λ kept. refl);
-      fresh = λ seat'. tt;
-    }
-
-  pub again_called : refusal_of (state_of w) (steps.Act c) ≡ None → has_target x.seat.seat ≡ true → (y : Session) (t' : TableAt) → Drops x w.table y t' → Called w c x (steps.Act c) answers.Again y t' w.locks
-  again_called none target y t' drops = subst (λ u. Called w c x (steps.Act c) answers.Again y u w.locks) (sym drops.table) (again none target y (subst (Drops x w.table y) drops.table drops))

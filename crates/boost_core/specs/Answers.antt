@@ -32,12 +32,14 @@ abbrev pub turn_of : State → Owner → Option ℕ
 turn_of state (Caller c) = turn_in state.cursors c
 turn_of state (Helper h) = turn_at (help_in state.helpers h)
 
--- Whether a cursor may be found to fit no longer: not where the last move placed it, nor where its turn is still the list's
--- change number, but where that is the last number.
+-- Whether a cursor may be found to fit no longer: not where the last move placed it, nor where its
+-- turn is still the list's change number, but where that is the last number.
 abbrev pub may_be_stale : State → Owner → Bool
 may_be_stale state owner = elim (turn_of state owner) [
   | None ↦ false
-  | Some turn ↦ not (is_just_placed owner state.placed) && not (turn == state.changes && nat_lt turn (2 ^ 64 - 1))
+  | Some turn ↦
+      not (is_just_placed owner state.placed)
+      && not (turn == state.changes && nat_lt turn (2 ^ 64 - 1))
 ]
 
 -- The reply to the operation that waits is that of a map.
@@ -67,17 +69,26 @@ may_grow state seen = state.size == seen && not (state.size == state.limits.buck
 abbrev pub is_crowded : State → Bool
 is_crowded state = nat_lt (2 * state.size) (count_of (now state.history))
 
--- What each step may be answered where nothing refuses it; a pair that does not stand here never is.
+-- What each step may be answered where nothing refuses it; a pair that does not stand here never
+-- is.
 abbrev pub IsAnswer : State → Step → Answer → Type 0
 IsAnswer state (Begin c) (answers.Began t) = t ≡ how_many is_began state.history + 1
-IsAnswer state (Ask c op) answers.Asked = IsTrue (has_stamp_for state op && is_locked state.limits.stripes state.history (entries.Asked c op))
-IsAnswer state (Ask c op) (answers.Busy x) = IsTrue (has_stamp_for state op && is_locked state.limits.stripes state.history (entries.Busy c op x))
+IsAnswer state (Ask c op) answers.Asked =
+    IsTrue
+    (has_stamp_for state op && is_locked state.limits.stripes state.history (entries.Asked c op))
+IsAnswer state (Ask c op) (answers.Busy x) =
+    IsTrue
+    (has_stamp_for state op && is_locked state.limits.stripes state.history (entries.Busy c op x))
 IsAnswer state (Seek c) answers.Placed = Unit {0}
-IsAnswer state (Act c) answers.Again = IsTrue (has_target (seat_in state.history c) && may_be_stale state (Caller c))
-IsAnswer state (Act c) (answers.Done reply) = IsReply (seat_in state.history c).phase (now state.history) reply
+IsAnswer state (Act c) answers.Again =
+    IsTrue (has_target (seat_in state.history c) && may_be_stale state (Caller c))
+IsAnswer state (Act c) (answers.Done reply) =
+    IsReply (seat_in state.history c).phase (now state.history) reply
 IsAnswer state (Act c) answers.Undone = IsTrue (has_job (seat_in state.history c))
-IsAnswer state (Act c) (answers.Returned n) = IsTrue (not (has_job (seat_in state.history c)) && is_back_at n (seat_in state.history c).phase)
-IsAnswer state (Act c) answers.Aborted = IsTrue (not (has_job (seat_in state.history c)) && is_at_end (seat_in state.history c).phase)
+IsAnswer state (Act c) (answers.Returned n) =
+    IsTrue (not (has_job (seat_in state.history c)) && is_back_at n (seat_in state.history c).phase)
+IsAnswer state (Act c) answers.Aborted =
+    IsTrue (not (has_job (seat_in state.history c)) && is_at_end (seat_in state.history c).phase)
 IsAnswer state (Save c) (answers.Saved n) = n ≡ length (seat_in state.history c).kept
 IsAnswer state (Back c n) answers.Leaving = Unit {0}
 IsAnswer state (Commit c) (answers.Committed p) = p ≡ how_many is_commit state.history + 1
@@ -90,10 +101,13 @@ IsAnswer state (InitLink h) answers.Again = IsTrue (may_be_stale state (Helper h
 IsAnswer state (InitLink h) answers.Present = IsTrue (not (lacks_dummy state h))
 IsAnswer state (InitLink h) answers.Linked = IsTrue (lacks_dummy state h && has_stamp state)
 IsAnswer state (InitStore h) answers.Stored = Unit {0}
-IsAnswer state (Double seen) (answers.Moved size) = (size ≡ state.size) × IsTrue (not (state.size == seen))
-IsAnswer state (Double seen) answers.AtLimit = IsTrue (state.size == seen && state.size == state.limits.buckets)
+IsAnswer state (Double seen) (answers.Moved size) =
+    (size ≡ state.size) × IsTrue (not (state.size == seen))
+IsAnswer state (Double seen) answers.AtLimit =
+    IsTrue (state.size == seen && state.size == state.limits.buckets)
 IsAnswer state (Double seen) answers.Light = IsTrue (may_grow state seen && not (is_crowded state))
-IsAnswer state (Double seen) (answers.Doubled size) = (size ≡ 2 * state.size) × IsTrue (may_grow state seen && is_crowded state)
+IsAnswer state (Double seen) (answers.Doubled size) =
+    (size ≡ 2 * state.size) × IsTrue (may_grow state seen && is_crowded state)
 IsAnswer state step answer = ⊥
 
 -- The callers' cursors after a step and its answer, with the change number that the list then has.
@@ -111,19 +125,23 @@ abbrev pub helpers_after : List Help → Step → Answer → ℕ → List Help
 helpers_after helpers (InitSeek h b) answers.Ready changes = slice_set helpers h Nothing
 helpers_after helpers (InitSeek h b) answers.Placed changes = slice_set helpers h (Sought b changes)
 helpers_after helpers (InitLink h) answers.Again changes = slice_set helpers h Nothing
-helpers_after helpers (InitLink h) answers.Present changes = slice_set helpers h (Dummy (bucket_at (help_in helpers h)))
-helpers_after helpers (InitLink h) answers.Linked changes = slice_set helpers h (Dummy (bucket_at (help_in helpers h)))
+helpers_after helpers (InitLink h) answers.Present changes =
+    slice_set helpers h (Dummy (bucket_at (help_in helpers h)))
+helpers_after helpers (InitLink h) answers.Linked changes =
+    slice_set helpers h (Dummy (bucket_at (help_in helpers h)))
 helpers_after helpers (InitStore h) answers.Stored changes = slice_set helpers h Nothing
 helpers_after helpers step answer changes = helpers
 
 -- The buckets whose dummies are linked after a step and its answer.
 abbrev pub linked_after : State → Step → Answer → List Bool
-linked_after state (InitLink h) answers.Linked = with_bucket state.linked (bucket_at (help_in state.helpers h))
+linked_after state (InitLink h) answers.Linked =
+    with_bucket state.linked (bucket_at (help_in state.helpers h))
 linked_after state step answer = state.linked
 
 -- The stored buckets after a step and its answer.
 abbrev pub stored_after : State → Step → Answer → List Bool
-stored_after state (InitStore h) answers.Stored = with_bucket state.stored (bucket_at (help_in state.helpers h))
+stored_after state (InitStore h) answers.Stored =
+    with_bucket state.stored (bucket_at (help_in state.helpers h))
 stored_after state step answer = state.stored
 
 -- The size after an answer.
@@ -146,8 +164,8 @@ keeps_list answers.Linked = false
 keeps_list answers.Swept = false
 keeps_list answer = true
 
--- The state after a step and its answer, with the change number and the last stamp that there then are. A refusal leaves
--- the state.
+-- The state after a step and its answer, with the change number and the last stamp that there then
+-- are. A refusal leaves the state.
 abbrev pub after : State → Step → Answer → ℕ → ℕ → State
 after state step (answers.Refused refusal) changes stamp = state
 after state step answer changes stamp = record state {

@@ -13,6 +13,7 @@ use Rattle.txn_trace.specs.Locks.{holder_of}
 use Rattle.txn_trace.specs.Legal.{IsLegal}
 use Rattle.key_locks.specs.Locks.{holder_of as held_by}
 use Rattle.node_list.specs.Nodes.{node_of}
+use Rattle.node_list.specs.Sound.{IsSound}
 use Rattle.list_steps.specs.Found.{pred_of, behind}
 use Rattle.map_ops.specs.TableAt.{TableAt, Cursor, NodeAt, nodes_of, content, cursor_turn, fits, size_of, stored_of, linked_of, helps_of, turn_of, last_of, largest_of}
 use Rattle.map_ops.specs.Buckets.{helper_fits}
@@ -22,8 +23,8 @@ use Rattle.boost_core.specs.State.{State, Node, Gap, Owner, Caller, Helper}
 use Rattle.boost_core.specs.Spares.{IsCovered}
 use Rattle.boost_core.specs.Sessions.{owed_of, Agrees, IsSought, times_kept, changes_of, AreDue}
 
--- What a core is made of, but for room: the limits, the history and its counts, the table, each caller's side, the
--- stripes' holders, and whose cursor the last move placed.
+-- What a core is made of, but for room: the limits, the history and its counts, the table, each
+-- caller's side, the stripes' holders, and whose cursor the last move placed.
 pub record World : Type 0 where
   pub limits : Sizes
   pub history : List Entry
@@ -33,7 +34,8 @@ pub record World : Type 0 where
   pub locks : List (Option ℕ)
   pub placed : Option Owner
 
-abbrev pub world_of : Sizes → Vec Entry → Counts → TableAt → Vec Session → List (Option ℕ) → Option Owner → World
+abbrev pub world_of : Sizes → Vec Entry → Counts → TableAt → Vec Session → List (Option ℕ)
+    → Option Owner → World
 world_of limits history counts table sessions locks placed = record {
   limits = limits;
   history = history.items;
@@ -62,7 +64,9 @@ gap_at (Some n) behind = Some (record { before = n.at; behind = option_map (λ m
 
 abbrev pub gap_of : TableAt → Cursor → Option Gap
 gap_of t cursor =
-    if fits t cursor then gap_at (node_of (nodes_of t) (pred_of cursor)) (behind t.list cursor) else None
+    if fits t cursor
+    then gap_at (node_of (nodes_of t) (pred_of cursor)) (behind t.list cursor)
+    else None
 
 abbrev pub gap_if : TableAt → Option Cursor → Option Gap
 gap_if t None = None
@@ -89,7 +93,8 @@ state_of w = record {
   placed = w.placed;
 }
 
--- A caller's side is what the history says: its seat, and its log, which may be taken back from the map as it is now.
+-- A caller's side is what the history says: its seat, and its log, which may be taken back from the
+-- map as it is now.
 pub record IsSeated (history : List Entry) (c : ℕ) (s : Session) : Type 0 where
   pub seat : seat_after (own c history) ≡ Some s.seat.seat
   pub log : log_of c history ≡ changes_of s.log.jobs
@@ -103,10 +108,13 @@ all_times sessions place stamp = sum_by (λ s. times_kept s place stamp) session
 -- The cursor that the last move placed, if it placed one, fits.
 abbrev pub IsFresh : TableAt → List Session → Option Owner → Type 0
 IsFresh t sessions None = Unit {0}
-IsFresh t sessions (Some (Caller c)) = (s : Session) (cursor : Cursor) → slice_get sessions c ≡ Some s → s.cursor ≡ Some cursor → fits t cursor ≡ true
+IsFresh t sessions (Some (Caller c)) =
+    (s : Session) (cursor : Cursor) → slice_get sessions c ≡ Some s → s.cursor ≡ Some cursor
+    → fits t cursor ≡ true
 IsFresh t sessions (Some (Helper h)) = helper_fits t h ≡ true
 
--- The history is legal, and the counts, the stripes' holders, the table and each caller's side are what it says.
+-- The history is legal, and the counts, the stripes' holders, the table and each caller's side are
+-- what it says.
 pub record Tells (w : World) : Type 0 where
   pub legal : IsLegal w.limits.stripes w.history
   pub callers : All (λ entry. caller_of entry < w.limits.callers) w.history
@@ -119,9 +127,11 @@ pub record Tells (w : World) : Type 0 where
   pub spares : IsCovered (all_times w.sessions) w.table
   pub fresh : IsFresh w.table w.sessions w.placed
   pub stripes : length w.locks ≡ w.limits.stripes
-  pub holders : (stripe : ℕ) → stripe < w.limits.stripes → held_by w.locks stripe ≡ holder_of w.limits.stripes stripe w.history
+  pub holders : (stripe : ℕ) → stripe < w.limits.stripes
+      → held_by w.locks stripe ≡ holder_of w.limits.stripes stripe w.history
   pub largest : largest_of w.table ≡ w.limits.buckets
   pub helpers : length (helps_of w.table) ≡ w.limits.callers
+  pub sound : IsSound w.table.list
 
 -- And what the callers owe is counted, and the history has room for it.
 pub record Holds (w : World) (history : Vec Entry) (owed : ℕ) : Type 0 where

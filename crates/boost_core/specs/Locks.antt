@@ -1,4 +1,5 @@
--- The second claim, locks: a stripe of keys belongs to one open transaction at a time, and a caller told Busy is told its holder.
+-- The second claim, locks: a stripe of keys belongs to one open transaction at a time, and a caller
+-- told Busy is told its holder.
 use Rattle.txn_trace.specs.Locks.{LocksHold}
 use Rattle.boost_core.specs.State.{State}
 

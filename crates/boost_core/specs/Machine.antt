@@ -8,17 +8,21 @@ use Rattle.txn_trace.specs.Sizes.{Sizes}
 use Rattle.boost_core.specs.Refusals.{refusal_of, MayLack}
 use Rattle.boost_core.specs.Answers.{IsAnswer, keeps_list, after}
 
--- Whether a step may be answered so: by the first refusal whose test holds, and where none does, by want of memory or of
--- stamps, or by an answer of the step.
+-- Whether a step may be answered so: by the first refusal whose test holds, and where none does, by
+-- want of memory or of stamps, or by an answer of the step.
 abbrev pub IsAllowed : State → Step → Answer → Type 0
-IsAllowed state step (answers.Refused refusal) = (refusal_of state step ≡ Some refusal) ⊎ ((refusal_of state step ≡ None) × MayLack state step refusal)
+IsAllowed state step (answers.Refused refusal) =
+    (refusal_of state step ≡ Some refusal)
+    ⊎ ((refusal_of state step ≡ None) × MayLack state step refusal)
 IsAllowed state step answer = (refusal_of state step ≡ None) × IsAnswer state step answer
 
 -- A step, its answer and the state after it, of whose nodes and cursors `Nodes` says what becomes.
--- The change number never falls, and stays where the list does; the last stamp rises by at most one.
+-- The change number never falls, and stays where the list does; the last stamp rises by at most
+-- one.
 pub record Move (old : State) (step : Step) (answer : Answer) (new : State) : Type 0 where
   pub allowed : IsAllowed old step answer
-  pub state : new ≡ record (after old step answer new.changes new.stamp) { nodes = new.nodes; gaps = new.gaps }
+  pub state : new
+      ≡ record (after old step answer new.changes new.stamp) { nodes = new.nodes; gaps = new.gaps }
   pub changes : old.changes ≤ new.changes
   pub list_kept : keeps_list answer ≡ true → new.changes ≡ old.changes
   pub stamp : old.stamp ≤ new.stamp
@@ -27,7 +31,8 @@ pub record Move (old : State) (step : Step) (answer : Answer) (new : State) : Ty
 -- These answers to these steps, one after the other.
 abbrev pub Moves : State → List Step → List Answer → State → Type 0
 Moves old [] [] new = new ≡ old
-Moves old (step ∷ steps) (answer ∷ answers) new = (between : State) × Move old step answer between × Moves between steps answers new
+Moves old (step ∷ steps) (answer ∷ answers) new =
+    (between : State) × Move old step answer between × Moves between steps answers new
 Moves old steps answers new = ⊥
 
 -- A run: these answers to these steps, from the state in which nothing has happened.

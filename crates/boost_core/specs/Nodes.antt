@@ -1,12 +1,13 @@
 -- What each step does to the linked nodes, to the change number and to the last stamp, and whose
 -- cursors fit.
-use Rattle.std.specs.Prelude.{◌≡◌, ◌≢◌, ℕ, ◌+◌, ◌-◌, ◌%◌, ◌<◌, Bool, true, false, not, List, [], ◌∷◌, ◌++◌, Option, Some, None, is_some, length, filter, if◌then◌else◌}
+use Rattle.std.specs.Prelude.{◌≡◌, ◌≢◌, ℕ, ◌+◌, ◌-◌, ◌%◌, ◌<◌, Bool, true, false, not, List, [], ◌∷◌, ◌++◌, Option, Some, None, is_some, length, filter, nat_eq, if◌then◌else◌}
+use Rattle.std.specs.Option.{option_eq}
 use Rattle.std.specs.List.{AllByRecursion}
 use Rattle.split_key.specs.Split.{ancestor_of}
 use Rattle.split_key.specs.Sort.{IsBefore, IsNotBefore, regular_at, dummy_at}
 use Rattle.node_list.specs.Nodes.{one_more, changes_after}
 use Rattle.txn_trace.specs.declared.op.Op.{Op}
-use Rattle.txn_trace.specs.declared.op.Op.TheVariants.{Put, Take, Get}
+use Rattle.txn_trace.specs.declared.op.Op.TheVariants.{Put, Take, Get, PutIf}
 use Rattle.txn_trace.specs.declared.step.Step.{Step}
 use Rattle.txn_trace.specs.declared.step.Step.TheVariants.{Ask, Seek, Act, Sweep, InitSeek, InitLink}
 use Rattle.txn_trace.specs.declared.answer.Answer.{Answer}
@@ -124,28 +125,36 @@ Changes old new key None (Some value) = Links old new (regular_at key)
 Changes old new key (Some was) None = Marks old new (regular_at key)
 Changes old new key (Some was) (Some value) = Writes old new
 
+-- A put that is made, or not.
+abbrev pub PutsIf : State → State → ℕ → ℕ → Option ℕ → Bool → Type 0
+PutsIf old new key value before true = Changes old new key before (Some value)
+PutsIf old new key value before false = Keeps old new
+
 -- What an operation does. A get does nothing.
-abbrev pub Operates : State → State → Op → Type 0
-Operates old new (Put key value) = Changes old new key (get (now old.history) key) (Some value)
-Operates old new (Take key) = Changes old new key (get (now old.history) key) None
-Operates old new (Get key) = Keeps old new
+abbrev pub OpDoes : State → State → Op → Type 0
+OpDoes old new (Put key value) = Changes old new key (get (now old.history) key) (Some value)
+OpDoes old new (Take key) = Changes old new key (get (now old.history) key) None
+OpDoes old new (Get key) = Keeps old new
+OpDoes old new (PutIf key expected value) =
+    PutsIf old new key value (get (now old.history) key)
+    (option_eq nat_eq (get (now old.history) key) expected)
 
 -- What the operation that waits does.
-abbrev pub OperatesIn : State → State → Phase → Type 0
-OperatesIn old new (Waiting op) = Operates old new op
-OperatesIn old new phase = ⊥
+abbrev pub OpDoesIn : State → State → Phase → Type 0
+OpDoesIn old new (Waiting op) = OpDoes old new op
+OpDoesIn old new phase = ⊥
 
 -- What taking the newest change back does.
-abbrev pub TakesBack : State → State → List (ℕ × Option ℕ) → Type 0
-TakesBack old new [] = ⊥
-TakesBack old new (change ∷ older) =
+abbrev pub BackDoes : State → State → List (ℕ × Option ℕ) → Type 0
+BackDoes old new [] = ⊥
+BackDoes old new (change ∷ older) =
     Changes old new change.0 (get (now old.history) change.0) change.1
 
 -- What a step and its answer do to the nodes and to the change number.
 abbrev pub Touches : State → Step → Answer → State → Type 0
 Touches old (Seek c) answers.Placed new = SeeksKey old new (next_key old c)
-Touches old (Act c) (answers.Done reply) new = OperatesIn old new (seat_in old.history c).phase
-Touches old (Act c) answers.Undone new = TakesBack old new (log_of c old.history)
+Touches old (Act c) (answers.Done reply) new = OpDoesIn old new (seat_in old.history c).phase
+Touches old (Act c) answers.Undone new = BackDoes old new (log_of c old.history)
 Touches old Sweep answers.Swept new = Sweeps old new
 Touches old Sweep answers.Clean new = IsClean old.nodes × Keeps old new
 Touches old (InitSeek h b) answers.Placed new = SeeksFrom old new (parent_of b) (dummy_at b)
@@ -204,3 +213,8 @@ Fits old step answer new = Unit {0}
 abbrev pub KeepsGaps : State → Step → State → Type 0
 KeepsGaps old step new = (c : ℕ) (gap : Gap) → owner_of step ≢ Some (Caller c)
     → gap_in old.gaps c ≡ Some gap → AreNeighbours new.nodes gap → gap_in new.gaps c ≡ Some gap
+
+-- What a step does to the callers' cursors.
+pub record Cursors (old : State) (step : Step) (answer : Answer) (new : State) : Type 0 where
+  pub fits : Fits old step answer new
+  pub keeps : KeepsGaps old step new

@@ -10,8 +10,6 @@ use Rattle.txn_trace.specs.declared.refusal.Refusal.{Refusal}
 use Rattle.txn_trace.specs.declared.refusal.Refusal.TheVariants.{NoSuchCaller, Unplaced, NoSuchBucket, ParentMissing, NoSuchHelper, HelperOutOfOrder, NoMemory, StampsUsedUp}
 use Rattle.txn_trace.specs.Shape.{Seat}
 use Rattle.map_ops.specs.Buckets.{parent_of}
-use Rattle.map_ops.specs.InitRefusal.{InitRefusal}
-use Rattle.map_ops.specs.InitRefusal.TheVariants as inits
 use Rattle.boost_core.specs.State.{State, Owner, Caller, Helper, Help, Sought, Dummy, seat_in, turn_in, help_in, is_set, bucket_at}
 
 -- Whose a step is, if it is a caller's or a helper's.
@@ -37,7 +35,8 @@ lacks_in seat there step = false
 
 -- Whether a step lacks the cursor that it acts on.
 abbrev pub lacks_cursor : State → Step → Bool
-lacks_cursor state (Act c) = lacks_in (seat_in state.history c) (is_some (turn_in state.cursors c)) (Act c)
+lacks_cursor state (Act c) =
+    lacks_in (seat_in state.history c) (is_some (turn_in state.cursors c)) (Act c)
 lacks_cursor state step = false
 
 -- Whether a helper has a cursor.
@@ -50,19 +49,26 @@ abbrev pub has_dummy : Help → Bool
 has_dummy (Dummy bucket) = true
 has_dummy help = false
 
--- The tests of a step that the helper and the buckets decide, each with its refusal, in their order. A bucket that is stored
--- already needs no parent.
+-- The tests of a step that the helper and the buckets decide, each with its refusal, in their
+-- order. A bucket that is stored already needs no parent.
 abbrev pub tests_at : State → Help → Step → List (Bool × Refusal)
-tests_at state help (InitSeek h b) = (nat_le state.size b, NoSuchBucket) ∷ (not (is_set state.stored b) && not (is_set state.stored (parent_of b)), ParentMissing) ∷ []
+tests_at state help (InitSeek h b) =
+    (nat_le state.size b, NoSuchBucket)
+    ∷ (not (is_set state.stored b) && not (is_set state.stored (parent_of b)), ParentMissing) ∷ []
 tests_at state help (InitLink h) = (not (has_cursor help), HelperOutOfOrder) ∷ []
 tests_at state help (InitStore h) = (not (has_dummy help), HelperOutOfOrder) ∷ []
 tests_at state help step = []
 
--- All tests of a step: the number of its caller or helper, then what the seat and the cursor say, or the helper and the buckets.
+-- All tests of a step: the number of its caller or helper, then what the seat and the cursor say,
+-- or the helper and the buckets.
 abbrev pub tests_of : State → Option Owner → Step → List (Bool × Refusal)
 tests_of state None step = []
-tests_of state (Some (Caller c)) step = (nat_le state.limits.callers c, NoSuchCaller) ∷ tests_in (seat_in state.history c) step ++ (lacks_cursor state step, Unplaced) ∷ []
-tests_of state (Some (Helper h)) step = (nat_le state.limits.callers h, NoSuchHelper) ∷ tests_at state (help_in state.helpers h) step
+tests_of state (Some (Caller c)) step =
+    (nat_le state.limits.callers c, NoSuchCaller)
+    ∷ tests_in state.limits.half (seat_in state.history c) step
+    ++ (lacks_cursor state step, Unplaced) ∷ []
+tests_of state (Some (Helper h)) step =
+    (nat_le state.limits.callers h, NoSuchHelper) ∷ tests_at state (help_in state.helpers h) step
 
 -- The refusal of a step: that of its first test that holds.
 abbrev pub refusal_of : State → Step → Option Refusal
@@ -80,7 +86,8 @@ has_stamp_for state op = not (takes_node op) || has_stamp state
 abbrev pub lacks_dummy : State → ℕ → Bool
 lacks_dummy state h = not (is_set state.linked (bucket_at (help_in state.helpers h)))
 
--- Memory may be refused to a step that reserves some, and stamps may be used up. These tests stand behind all others.
+-- Memory may be refused to a step that reserves some, and stamps may be used up. These tests stand
+-- behind all others.
 abbrev pub MayLack : State → Step → Refusal → Type 0
 MayLack state (Begin c) NoMemory = Unit {0}
 MayLack state (Ask c op) NoMemory = Unit {0}
@@ -90,12 +97,3 @@ MayLack state (Back c n) NoMemory = Unit {0}
 MayLack state (InitLink h) NoMemory = IsTrue (lacks_dummy state h && has_stamp state)
 MayLack state (InitLink h) StampsUsedUp = IsTrue (lacks_dummy state h && not (has_stamp state))
 MayLack state step refusal = ⊥
-
--- The refusal of a helper's step, as the table tells it.
-abbrev pub refusal_for : InitRefusal → Refusal
-refusal_for inits.NoSuchBucket = NoSuchBucket
-refusal_for inits.ParentMissing = ParentMissing
-refusal_for inits.NoSuchHelper = NoSuchHelper
-refusal_for inits.HelperOutOfOrder = HelperOutOfOrder
-refusal_for inits.NoMemory = NoMemory
-refusal_for inits.StampsUsedUp = StampsUsedUp

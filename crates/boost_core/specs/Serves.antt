@@ -12,14 +12,13 @@ use Rattle.map_ops.specs.InitSeek.{InitSeek as Sought}
 use Rattle.map_ops.specs.InitSeek.TheVariants as seeks
 use Rattle.map_ops.specs.InitLink.{InitLink as Linked}
 use Rattle.map_ops.specs.InitLink.TheVariants as links
-use Rattle.map_ops.specs.InitRefusal.{InitRefusal}
-use Rattle.map_ops.specs.InitRefusal.TheVariants as inits
+use Rattle.txn_trace.specs.declared.refusal.Refusal.{Refusal}
+use Rattle.txn_trace.specs.declared.refusal.Refusal.TheVariants as refusals
 use Rattle.map_ops.specs.TableAt.{TableAt, SweepOutcome, Keeps, KeepsList, KeepsSpares, IsClean, content, turn_of, size_of, largest_of, stored_of, helps_of}
 use Rattle.map_ops.specs.TableAt as tables
 use Rattle.map_ops.specs.SweepOutcome.TheVariants as outcomes
 use Rattle.map_ops.specs.Changes.{Sweeps}
 use Rattle.map_ops.specs.Buckets.{SeekChanges, SeekWrites, LinkChanges, LinkWrites, StoreChanges, Doubles, seek_answer, link_answer_of, store_answer, double_answer}
-use Rattle.boost_core.specs.Refusals.{refusal_for}
 
 -- Whether a step is no caller's.
 abbrev pub is_served : Step → Bool
@@ -35,20 +34,20 @@ abbrev pub swept : SweepOutcome → Answer
 swept outcomes.Swept = answers.Swept
 swept outcomes.Clean = answers.Clean
 
-abbrev pub sought : Result Sought InitRefusal → Answer
+abbrev pub sought : Result Sought Refusal → Answer
 sought (Ok seeks.Ready) = answers.Ready
 sought (Ok seeks.Placed) = answers.Placed
-sought (Err refusal) = answers.Refused (refusal_for refusal)
+sought (Err refusal) = answers.Refused refusal
 
-abbrev pub linked : Result Linked InitRefusal → Answer
+abbrev pub linked : Result Linked Refusal → Answer
 linked (Ok links.Again) = answers.Again
 linked (Ok links.Present) = answers.Present
 linked (Ok links.Linked) = answers.Linked
-linked (Err refusal) = answers.Refused (refusal_for refusal)
+linked (Err refusal) = answers.Refused refusal
 
-abbrev pub stored : Result Unit InitRefusal → Answer
+abbrev pub stored : Result Unit Refusal → Answer
 stored (Ok done) = answers.Stored
-stored (Err refusal) = answers.Refused (refusal_for refusal)
+stored (Err refusal) = answers.Refused refusal
 
 abbrev pub doubled : Doubled → Answer
 doubled (doubles.Moved size) = answers.Moved size
@@ -56,7 +55,8 @@ doubled doubles.AtLimit = answers.AtLimit
 doubled doubles.Light = answers.Light
 doubled (doubles.Doubled size) = answers.Doubled size
 
--- The first marked node is unlinked and nothing else has changed, or none is marked and nothing has changed.
+-- The first marked node is unlinked and nothing else has changed, or none is marked and nothing has
+-- changed.
 pub record Sweeping (t t' : TableAt) (answer : Answer) : Type 0 where
   pub outcome : SweepOutcome
   pub answer_is : answer ≡ swept outcome
@@ -68,7 +68,7 @@ pub record Sweeping (t t' : TableAt) (answer : Answer) : Type 0 where
 
 -- A helper seeks the place of a bucket's dummy.
 pub record Seeking (t t' : TableAt) (h b : ℕ) (answer : Answer) : Type 0 where
-  pub outcome : Result Sought InitRefusal
+  pub outcome : Result Sought Refusal
   pub answer_is : answer ≡ sought outcome
   pub says : outcome ≡ seek_answer (size_of t) (stored_of t) (slice_get (helps_of t) h) b
   pub changes : SeekChanges t t' h b outcome
@@ -76,17 +76,19 @@ pub record Seeking (t t' : TableAt) (h b : ℕ) (answer : Answer) : Type 0 where
 
 -- A helper links the dummy that it sought.
 pub record Linking (t t' : TableAt) (h : ℕ) (answer : Answer) : Type 0 where
-  pub outcome : Result Linked InitRefusal
+  pub outcome : Result Linked Refusal
   pub answer_is : answer ≡ linked outcome
-  pub says : outcome ≢ Err inits.NoMemory → outcome ≡ link_answer_of t h
-  pub no_memory : outcome ≡ Err inits.NoMemory → link_answer_of t h ≡ Ok links.Linked
-  pub in_turn : (bucket : ℕ) → slice_get (helps_of t) h ≡ Some (tables.Sought bucket (turn_of t)) → turn_of t < 2 ^ 64 - 1 → outcome ≢ Ok links.Again
+  pub says : outcome ≢ Err refusals.NoMemory → outcome ≡ link_answer_of t h
+  pub no_memory : outcome ≡ Err refusals.NoMemory → link_answer_of t h ≡ Ok links.Linked
+  pub in_turn : (bucket : ℕ) → slice_get (helps_of t) h ≡ Some (tables.Sought bucket (turn_of t))
+      → turn_of t < 2 ^ 64 - 1 → outcome ≢ Ok links.Again
   pub changes : LinkChanges t t' h outcome
-  pub writes : (bucket turn : ℕ) → slice_get (helps_of t) h ≡ Some (tables.Sought bucket turn) → LinkWrites t t' bucket outcome
+  pub writes : (bucket turn : ℕ) → slice_get (helps_of t) h ≡ Some (tables.Sought bucket turn)
+      → LinkWrites t t' bucket outcome
 
 -- A helper stores the dummy that it has.
 pub record Storing (t t' : TableAt) (h : ℕ) (answer : Answer) : Type 0 where
-  pub outcome : Result Unit InitRefusal
+  pub outcome : Result Unit Refusal
   pub answer_is : answer ≡ stored outcome
   pub says : outcome ≡ store_answer (slice_get (helps_of t) h)
   pub changes : StoreChanges t t' h outcome

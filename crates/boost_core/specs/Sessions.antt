@@ -1,5 +1,5 @@
 -- What a caller's side says, and what its steps do to it, to the table and to the locks.
-use Rattle.std.specs.Prelude.{◌≡◌, ℕ, ◌+◌, ◌<◌, ◌^◌, ◌≤◌, ◌⊎◌, ◌∷◌, is_some, ◌++◌, true, false, List, [], Option, Some, None, length, map, reverse, take, option_to_list}
+use Rattle.std.specs.Prelude.{◌≡◌, ℕ, ◌+◌, ◌<◌, ◌^◌, ◌≤◌, ◌⊎◌, ◌∷◌, is_some, ◌++◌, Bool, true, false, List, [], Option, Some, None, length, map, reverse, take, option_to_list}
 use Rattle.txn_trace.specs.declared.op.Op.{Op}
 use Rattle.txn_trace.specs.declared.step.Step.{Step}
 use Rattle.txn_trace.specs.declared.step.Step.TheVariants.{Begin, Ask, Seek, Act, Save, Back, Commit, Abort}
@@ -16,6 +16,7 @@ use Rattle.txn_trace.specs.Shape.{Seat, closed_seat}
 use Rattle.txn_trace.specs.Seats.{is_leaving, has_job, has_target, refusal_in}
 use Rattle.undo_log.specs.UndoLog.{Log, kept_at, newest_above}
 use Rattle.key_locks.specs.Locks.{Grants, Refuses, Releases}
+use Rattle.node_list.specs.Sound.{IsSound}
 use Rattle.map_ops.specs.declared.job.MapJob.{MapJob}
 use Rattle.map_ops.specs.Jobs.{PendingAt, takes_node, key_of_job, value_before, spare_of_job, IsDue}
 use Rattle.map_ops.specs.TableAt.{TableAt, Cursor, SpareAt, KeepsNodes, content, IsPlaced, fits, last_of}
@@ -52,14 +53,17 @@ pub record IsIdle (s : Session) : Type 0 where
   pub jobs : s.log.jobs ≡ []
   pub kept : s.log.kept ≡ []
 
--- An operation waits exactly in the phase that says so; it has room for its job, and a spare if it takes a node.
+-- An operation waits exactly in the phase that says so; it has room for its job, and a spare if it
+-- takes a node.
 abbrev pub Waits : Phase → Option PendingAt → ℕ → Type 0
-Waits (Waiting op) (Some pending) room = (pending.op ≡ op) × (0 < room) × (is_some pending.spare ≡ takes_node op)
+Waits (Waiting op) (Some pending) room =
+    (pending.op ≡ op) × (0 < room) × (is_some pending.spare ≡ takes_node op)
 Waits (Waiting op) None room = ⊥
 Waits phase (Some pending) room = ⊥
 Waits phase None room = Unit {0}
 
--- The seat, what waits and the log say the same: as many changes as jobs, the same levels, and the same operation.
+-- The seat, what waits and the log say the same: as many changes as jobs, the same levels, and the
+-- same operation.
 pub record Agrees (s : Session) : Type 0 where
   pub standing : s.seat.seat.standing ≡ length s.log.jobs
   pub kept : s.seat.seat.kept ≡ 0 ∷ s.log.kept
@@ -87,7 +91,8 @@ spare_if (Some pending) = pending.spare
 
 -- How often the caller keeps a spare, for what waits and in its log.
 abbrev pub times_kept : Session → ℕ → ℕ → ℕ
-times_kept s place stamp = times_of (spare_if s.pending) place stamp + times_in s.log.jobs place stamp
+times_kept s place stamp =
+    times_of (spare_if s.pending) place stamp + times_in s.log.jobs place stamp
 
 -- The changes that stand, newest first: of each the key and the value before it.
 abbrev pub change_of : MapJob → ℕ × Option ℕ
@@ -96,7 +101,8 @@ change_of job = (key_of_job job, value_before job)
 abbrev pub changes_of : List MapJob → List (ℕ × Option ℕ)
 changes_of jobs = map change_of (reverse jobs)
 
--- A map shows what each job names as after its change, once the newer ones, which stand before it, have run.
+-- A map shows what each job names as after its change, once the newer ones, which stand before it,
+-- have run.
 abbrev pub AreDue : Map → List MapJob → Type 0
 AreDue m [] = Unit {0}
 AreDue m (job ∷ jobs) = IsDue m job × AreDue (set_at m (key_of_job job) (value_before job)) jobs
@@ -116,13 +122,16 @@ IsSought t s = IsSoughtAt t s.cursor (target_of s)
 
 -- The spares of the log are the table's, each once, beside those that others keep.
 abbrev pub CanSettle : Session → TableAt → Type 0
-CanSettle s t = (others : ℕ → ℕ → ℕ) × IsCovered (λ place stamp. others place stamp + times_in s.log.jobs place stamp) t
+CanSettle s t =
+    (others : ℕ → ℕ → ℕ)
+    × IsCovered (λ place stamp. others place stamp + times_in s.log.jobs place stamp) t
 
 -- The spare of what waits, if it has one, is the table's.
 abbrev pub CanWithdraw : Session → TableAt → Type 0
 CanWithdraw s t = OwnsIf t (spare_if s.pending)
 
--- A caller's side goes with the table: its cursor was placed there, its changes may be taken back there, its spares are out.
+-- A caller's side goes with the table: its cursor was placed there, its changes may be taken back
+-- there, its spares are out.
 pub record GoesWith (s : Session) (t : TableAt) : Type 0 where
   pub agrees : Agrees s
   pub sought : IsSought t s
@@ -130,9 +139,10 @@ pub record GoesWith (s : Session) (t : TableAt) : Type 0 where
   pub withdraws : CanWithdraw s t
   pub settles : CanSettle s t
 
--- Cursors stay placed.
-abbrev pub KeepsPlaced : TableAt → TableAt → Type 0
-KeepsPlaced t t' = (cursor : Cursor) (key : ℕ) → IsPlaced t cursor key → IsPlaced t' cursor key
+-- Cursors stay placed, and what is true of every list stays true.
+pub record KeepsPlaced (t t' : TableAt) : Type 0 where
+  pub placed : (cursor : Cursor) (key : ℕ) → IsPlaced t cursor key → IsPlaced t' cursor key
+  pub sound : IsSound t.list → IsSound t'.list
 
 -- The table is as it was but for its spares, and cursors stay placed.
 pub record Rests (t t' : TableAt) : Type 0 where
@@ -141,7 +151,8 @@ pub record Rests (t t' : TableAt) : Type 0 where
   pub placed : KeepsPlaced t t'
 
 -- The operation is prepared and waits, with room for its job; the stripe is the caller's.
-pub record AsksIn (c stripe : ℕ) (op : Op) (s : Session) (t : TableAt) (locks : List (Option ℕ)) (s' : Session) (t' : TableAt) (locks' : List (Option ℕ)) : Type 0 where
+pub record AsksIn (c stripe : ℕ) (op : Op) (s : Session) (t : TableAt) (locks : List (Option ℕ))
+    (s' : Session) (t' : TableAt) (locks' : List (Option ℕ)) : Type 0 where
   pub pending : PendingAt
   pub prepares : Prepares t t' op pending
   pub grants : Grants c stripe locks locks'
@@ -152,8 +163,11 @@ pub record AsksIn (c stripe : ℕ) (op : Op) (s : Session) (t : TableAt) (locks 
   pub jobs : s'.log.jobs ≡ s.log.jobs
   pub kept : s'.log.kept ≡ s.log.kept
 
--- Another caller holds the stripe: what was prepared is given up, and the caller's side is as it was, but for room.
-pub record MeetsIn (c stripe : ℕ) (op : Op) (holder : ℕ) (s : Session) (t : TableAt) (locks : List (Option ℕ)) (s' : Session) (t' : TableAt) (locks' : List (Option ℕ)) : Type 0 where
+-- Another caller holds the stripe: what was prepared is given up, and the caller's side is as it
+-- was, but for room.
+pub record MeetsIn (c stripe : ℕ) (op : Op) (holder : ℕ) (s : Session) (t : TableAt)
+    (locks : List (Option ℕ)) (s' : Session) (t' : TableAt)
+    (locks' : List (Option ℕ)) : Type 0 where
   pub pending : PendingAt
   pub between : TableAt
   pub prepares : Prepares t between op pending
@@ -173,7 +187,8 @@ pub record StaysIn (s s' : Session) : Type 0 where
   pub jobs : s'.log.jobs ≡ s.log.jobs
   pub kept : s'.log.kept ≡ s.log.kept
 
--- The caller has a cursor for its key, which was sought on the table, and nothing else has changed for it.
+-- The caller has a cursor for its key, which was sought on the table, and nothing else has changed
+-- for it.
 pub record SeeksIn (s : Session) (t : TableAt) (s' : Session) (t' : TableAt) : Type 0 where
   pub key : ℕ
   pub cursor : Cursor
@@ -182,7 +197,8 @@ pub record SeeksIn (s : Session) (t : TableAt) (s' : Session) (t' : TableAt) : T
   pub places : Places t t' key cursor
   pub near : SeeksNear t t' key
 
--- An operation waits that may be done: its cursor was placed for it, its spare is the table's, and there is room for its job.
+-- An operation waits that may be done: its cursor was placed for it, its spare is the table's, and
+-- there is room for its job.
 pub record CanAct (s : Session) (t : TableAt) : Type 0 where
   pub pending : PendingAt
   pub cursor : Cursor
@@ -206,7 +222,8 @@ pub record Drops (s : Session) (t : TableAt) (s' : Session) (t' : TableAt) : Typ
   pub room : s'.log.room ≡ s.log.room
 
 -- The operation that waits is done, and its job is the newest.
-pub record DoesIn (s : Session) (t : TableAt) (reply : Option ℕ) (s' : Session) (t' : TableAt) : Type 0 where
+pub record DoesIn (s : Session) (t : TableAt) (reply : Option ℕ) (s' : Session)
+    (t' : TableAt) : Type 0 where
   pub pending : PendingAt
   pub job : Option MapJob
   pub at : Cursor
@@ -214,14 +231,16 @@ pub record DoesIn (s : Session) (t : TableAt) (reply : Option ℕ) (s' : Session
   pub stood : s.cursor ≡ Some at
   pub fitting : fits t at ≡ true
   pub does : changes.Does t t' pending reply job
-  pub writes : OpWrites t.list t'.list pending.op pending.spare (get (content t) (key_of pending.op))
+  pub writes : OpWrites t.list t'.list pending.op pending.spare
+      (get (content t) (key_of pending.op))
   pub seat : s'.seat.seat ≡ s.seat.seat
   pub waits : s'.pending ≡ None
   pub cursor : s'.cursor ≡ None
   pub jobs : s'.log.jobs ≡ s.log.jobs ++ option_to_list job
   pub kept : s'.log.kept ≡ s.log.kept
 
--- A change is there to take back: its cursor was placed for it, it is due, and its spare is the table's.
+-- A change is there to take back: its cursor was placed for it, it is due, and its spare is the
+-- table's.
 pub record CanUndo (s : Session) (t : TableAt) : Type 0 where
   pub level : level_of s.seat.seat.phase ≤ length s.log.kept
   pub job : MapJob
@@ -253,7 +272,8 @@ pub record CanArrive (s : Session) : Type 0 where
   pub none_above : length s.log.jobs ≤ kept_at s.log.kept (level_of s.seat.seat.phase)
 
 -- It is back at its level: the later savepoints are dropped.
-pub record ReturnsIn (n : ℕ) (s : Session) (locks : List (Option ℕ)) (s' : Session) (locks' : List (Option ℕ)) : Type 0 where
+pub record ReturnsIn (n : ℕ) (s : Session) (locks : List (Option ℕ)) (s' : Session)
+    (locks' : List (Option ℕ)) : Type 0 where
   pub phase : s.seat.seat.phase ≡ LeavingTo n
   pub seat : s'.seat.seat ≡ s.seat.seat
   pub waits : s'.pending ≡ s.pending
@@ -263,7 +283,8 @@ pub record ReturnsIn (n : ℕ) (s : Session) (locks : List (Option ℕ)) (s' : S
   pub locks_stay : locks' ≡ locks
 
 -- It is at the end: its stripes are free.
-pub record EndsIn (c : ℕ) (s : Session) (locks : List (Option ℕ)) (s' : Session) (locks' : List (Option ℕ)) : Type 0 where
+pub record EndsIn (c : ℕ) (s : Session) (locks : List (Option ℕ)) (s' : Session)
+    (locks' : List (Option ℕ)) : Type 0 where
   pub phase : s.seat.seat.phase ≡ LeavingToEnd
   pub seat : s'.seat.seat ≡ s.seat.seat
   pub waits : s'.pending ≡ s.pending
@@ -285,7 +306,9 @@ pub record SavesIn (n : ℕ) (s : Session) (s' : Session) : Type 0 where
 -- What waits is given up, and the cursor is dropped.
 pub record WithdrawsIn (s : Session) (t : TableAt) (s' : Session) (t' : TableAt) : Type 0 where
   pub rests : Rests t t'
-  pub spares : (others : ℕ → ℕ → ℕ) → IsCovered (λ place stamp. others place stamp + times_kept s place stamp) t → IsCovered (λ place stamp. others place stamp + times_kept s' place stamp) t'
+  pub spares : (others : ℕ → ℕ → ℕ)
+      → IsCovered (λ place stamp. others place stamp + times_kept s place stamp) t
+      → IsCovered (λ place stamp. others place stamp + times_kept s' place stamp) t'
   pub seat : s'.seat.seat ≡ s.seat.seat
   pub waits : s'.pending ≡ None
   pub cursor : s'.cursor ≡ None
@@ -294,7 +317,9 @@ pub record WithdrawsIn (s : Session) (t : TableAt) (s' : Session) (t' : TableAt)
 -- All jobs are dropped with their spares, and all savepoints.
 pub record SettlesIn (s : Session) (t : TableAt) (s' : Session) (t' : TableAt) : Type 0 where
   pub rests : Rests t t'
-  pub spares : (others : ℕ → ℕ → ℕ) → IsCovered (λ place stamp. others place stamp + times_in s.log.jobs place stamp) t → IsCovered others t'
+  pub spares : (others : ℕ → ℕ → ℕ)
+      → IsCovered (λ place stamp. others place stamp + times_in s.log.jobs place stamp) t
+      → IsCovered others t'
   pub seat : s'.seat.seat ≡ s.seat.seat
   pub waits : s'.pending ≡ s.pending
   pub cursor : s'.cursor ≡ s.cursor
@@ -308,10 +333,13 @@ Saves s (answers.Refused NoMemory) s' = StaysIn s s'
 Saves s answer s' = ⊥
 
 -- What asking is answered, and what it does.
-abbrev pub IsAsked : ℕ → ℕ → Op → Session → TableAt → List (Option ℕ) → Answer → Session → TableAt → List (Option ℕ) → Type 0
+abbrev pub IsAsked : ℕ → ℕ → Op → Session → TableAt → List (Option ℕ) → Answer → Session → TableAt
+    → List (Option ℕ) → Type 0
 IsAsked c stripe op s t locks answers.Asked s' t' locks' = AsksIn c stripe op s t locks s' t' locks'
-IsAsked c stripe op s t locks (answers.Busy x) s' t' locks' = MeetsIn c stripe op x s t locks s' t' locks'
-IsAsked c stripe op s t locks (answers.Refused refusal) s' t' locks' = ((refusal ≡ NoMemory) ⊎ IsRefused t op refusal) × StaysIn s s' × (t' ≡ t) × (locks' ≡ locks)
+IsAsked c stripe op s t locks (answers.Busy x) s' t' locks' =
+    MeetsIn c stripe op x s t locks s' t' locks'
+IsAsked c stripe op s t locks (answers.Refused refusal) s' t' locks' =
+    ((refusal ≡ NoMemory) ⊎ IsRefused t op refusal) × StaysIn s s' × (t' ≡ t) × (locks' ≡ locks)
 IsAsked c stripe op s t locks answer s' t' locks' = ⊥
 
 -- What an act for the operation that waits is answered, and what it does.
@@ -333,18 +361,24 @@ Arrives c s locks answers.Aborted s' locks' = EndsIn c s locks s' locks'
 Arrives c s locks answer s' locks' = ⊥
 
 -- What an act is answered, and what it does.
-abbrev pub ActsIn : ℕ → Session → TableAt → List (Option ℕ) → Answer → Session → TableAt → List (Option ℕ) → Type 0
-ActsIn c s t locks answers.Again s' t' locks' = (has_target s.seat.seat ≡ true) × Drops s t s' t' × (locks' ≡ locks)
+abbrev pub ActsIn : ℕ → Session → TableAt → List (Option ℕ) → Answer → Session → TableAt
+    → List (Option ℕ) → Type 0
+ActsIn c s t locks answers.Again s' t' locks' =
+    (has_target s.seat.seat ≡ true) × Drops s t s' t' × (locks' ≡ locks)
 ActsIn c s t locks (answers.Done reply) s' t' locks' = DoesIn s t reply s' t' × (locks' ≡ locks)
-ActsIn c s t locks answers.Undone s' t' locks' = (has_job s.seat.seat ≡ true) × TakesBackIn s t s' t' × (locks' ≡ locks)
-ActsIn c s t locks (answers.Returned n) s' t' locks' = (has_job s.seat.seat ≡ false) × ReturnsIn n s locks s' locks' × (t' ≡ t)
-ActsIn c s t locks answers.Aborted s' t' locks' = (has_job s.seat.seat ≡ false) × EndsIn c s locks s' locks' × (t' ≡ t)
+ActsIn c s t locks answers.Undone s' t' locks' =
+    (has_job s.seat.seat ≡ true) × TakesBackIn s t s' t' × (locks' ≡ locks)
+ActsIn c s t locks (answers.Returned n) s' t' locks' =
+    (has_job s.seat.seat ≡ false) × ReturnsIn n s locks s' locks' × (t' ≡ t)
+ActsIn c s t locks answers.Aborted s' t' locks' =
+    (has_job s.seat.seat ≡ false) × EndsIn c s locks s' locks' × (t' ≡ t)
 ActsIn c s t locks answer s' t' locks' = ⊥
 
 -- What is wanted of a caller's side for a step that nothing refuses.
-pub record Takes (stripes : ℕ) (counts : Counts) (step : Step) (s : Session) (t : TableAt) (locks : List (Option ℕ)) : Type 0 where
+pub record Takes (stripes : ℕ) (counts : Counts) (step : Step) (s : Session) (t : TableAt)
+    (locks : List (Option ℕ)) : Type 0 where
   pub goes : GoesWith s t
-  pub free : refusal_in s.seat.seat step ≡ None
+  pub free : (half : Bool) × (refusal_in half s.seat.seat step ≡ None)
   pub placed : lacks_in s.seat.seat (is_some s.cursor) step ≡ false
   pub owner : (c : ℕ) × (owner_of step ≡ Some (Caller c))
   pub caller : (c : ℕ) → owner_of step ≡ Some (Caller c) → c < 64
@@ -353,15 +387,23 @@ pub record Takes (stripes : ℕ) (counts : Counts) (step : Step) (s : Session) (
   pub begins : counts.began < 2 ^ 63
   pub commits : counts.committed < 2 ^ 63
 
--- What each step does to its caller's side, to the table and to the locks, by its answer. The seat stays, but for room: the
--- entry of step and answer is entered there afterwards.
-abbrev pub Does : ℕ → Counts → Step → Session → TableAt → List (Option ℕ) → Answer → Session → TableAt → List (Option ℕ) → Type 0
-Does stripes counts (Begin c) s t locks (answers.Began n) s' t' locks' = (n ≡ counts.began + 1) × StaysIn s s' × (t' ≡ t) × (locks' ≡ locks)
-Does stripes counts (Ask c op) s t locks answer s' t' locks' = IsAsked c (stripe_of stripes (key_of op)) op s t locks answer s' t' locks'
-Does stripes counts (Seek c) s t locks answers.Placed s' t' locks' = SeeksIn s t s' t' × (locks' ≡ locks)
+-- What each step does to its caller's side, to the table and to the locks, by its answer. The seat
+-- stays, but for room: the entry of step and answer is entered there afterwards.
+abbrev pub Does : ℕ → Counts → Step → Session → TableAt → List (Option ℕ) → Answer → Session
+    → TableAt → List (Option ℕ) → Type 0
+Does stripes counts (Begin c) s t locks (answers.Began n) s' t' locks' =
+    (n ≡ counts.began + 1) × StaysIn s s' × (t' ≡ t) × (locks' ≡ locks)
+Does stripes counts (Ask c op) s t locks answer s' t' locks' =
+    IsAsked c (stripe_of stripes (key_of op)) op s t locks answer s' t' locks'
+Does stripes counts (Seek c) s t locks answers.Placed s' t' locks' =
+    SeeksIn s t s' t' × (locks' ≡ locks)
 Does stripes counts (Act c) s t locks answer s' t' locks' = ActsIn c s t locks answer s' t' locks'
-Does stripes counts (Save c) s t locks answer s' t' locks' = Saves s answer s' × (t' ≡ t) × (locks' ≡ locks)
-Does stripes counts (Back c n) s t locks answers.Leaving s' t' locks' = (s' ≡ record s { cursor = None }) × (t' ≡ t) × (locks' ≡ locks)
-Does stripes counts (Commit c) s t locks (answers.Committed p) s' t' locks' = (p ≡ counts.committed + 1) × SettlesIn s t s' t' × Releases c locks locks'
-Does stripes counts (Abort c) s t locks answers.Leaving s' t' locks' = WithdrawsIn s t s' t' × (locks' ≡ locks)
+Does stripes counts (Save c) s t locks answer s' t' locks' =
+    Saves s answer s' × (t' ≡ t) × (locks' ≡ locks)
+Does stripes counts (Back c n) s t locks answers.Leaving s' t' locks' =
+    (s' ≡ record s { cursor = None }) × (t' ≡ t) × (locks' ≡ locks)
+Does stripes counts (Commit c) s t locks (answers.Committed p) s' t' locks' =
+    (p ≡ counts.committed + 1) × SettlesIn s t s' t' × Releases c locks locks'
+Does stripes counts (Abort c) s t locks answers.Leaving s' t' locks' =
+    WithdrawsIn s t s' t' × (locks' ≡ locks)
 Does stripes counts step s t locks answer s' t' locks' = ⊥

@@ -45,8 +45,8 @@ pub record State : Type 0 where
   pub helpers : List Help
   pub placed : Option Owner
 
--- At the beginning nothing has happened, and the table has two buckets, of which the first is stored:
--- its dummy alone is linked.
+-- At the beginning nothing has happened, and the table has two buckets, of which the first is
+-- stored: its dummy alone is linked.
 abbrev pub start : Sizes → State
 start limits = record {
   limits = limits;
@@ -63,7 +63,8 @@ start limits = record {
   placed = None;
 }
 
--- The seat that a caller's entries in a history give it: its phase, its standing changes and its savepoints.
+-- The seat that a caller's entries in a history give it: its phase, its standing changes and its
+-- savepoints.
 abbrev pub seat_in : List Entry → ℕ → Seat
 seat_in history c = unwrap_or (seat_after (own c history)) closed_seat
 

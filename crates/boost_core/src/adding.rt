@@ -5,8 +5,8 @@ ghost use Rattle.boost_core.specs.Adding.{CanAdd, Enters};
 
 use txn_trace::{Entry, Seat};
 
-/// Adds the entry of a step, if it has one, to its caller's seat and to the history, in room that is there. Gives what all
-/// callers then owe.
+/// Adds the entry of a step, if it has one, to its caller's seat and to the history, in room that
+/// is there. Gives what all callers then owe.
 #[inline(always)]
 pub(crate) fn add(
     seat: &mut Seat,
@@ -19,7 +19,9 @@ pub(crate) fn add(
     ensures items { history.new.items ≡ history.old.items ++ option_to_list entry }
     ensures len { vec_len history.new ≡ vec_len history.old + length (option_to_list entry) }
     ensures capacity { vec_capacity history.new ≡ vec_capacity history.old }
-    ensures owed { result ≡ owed - owed_in seat.old.seat.standing seat.old.seat.phase + owed_in seat.new.seat.standing seat.new.seat.phase }
+    ensures owed { result
+        ≡ owed - owed_in seat.old.seat.standing seat.old.seat.phase
+        + owed_in seat.new.seat.standing seat.new.seat.phase }
 {
     let Some(entry) = entry else {
         return owed;

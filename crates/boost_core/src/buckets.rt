@@ -3,9 +3,8 @@ ghost use Rattle.std.specs.Prelude.{◌≡◌, ◌≤◌, true};
 ghost use Rattle.map_ops.specs.TableAt.{turn_of, Follows};
 ghost use Rattle.boost_core.specs.Serves.{is_served, Serves, doubled, linked, sought, stored, swept};
 
-use crate::refusals::refusal_for;
-use map_ops::{Double, InitLink, InitRefusal, InitSeek, SweepOutcome, Table};
-use txn_trace::{Answer, Step};
+use map_ops::{Double, InitLink, InitSeek, SweepOutcome, Table};
+use txn_trace::{Answer, Refusal, Step};
 
 /// Does what a step asks for that is no caller's.
 pub(crate) fn serve(step: Step, table: &mut Table) -> Answer
@@ -42,35 +41,35 @@ fn swept_answer(outcome: SweepOutcome) -> Answer
 }
 
 /// What a seek for a bucket is answered.
-fn sought_answer(outcome: Result<InitSeek, InitRefusal>) -> Answer
+fn sought_answer(outcome: Result<InitSeek, Refusal>) -> Answer
     ensures { result ≡ sought outcome }
 {
     match outcome {
         Ok(InitSeek::Ready) => Answer::Ready,
         Ok(InitSeek::Placed) => Answer::Placed,
-        Err(refusal) => Answer::Refused(refusal_for(refusal)),
+        Err(refusal) => Answer::Refused(refusal),
     }
 }
 
 /// What the link of a dummy is answered.
-fn linked_answer(outcome: Result<InitLink, InitRefusal>) -> Answer
+fn linked_answer(outcome: Result<InitLink, Refusal>) -> Answer
     ensures { result ≡ linked outcome }
 {
     match outcome {
         Ok(InitLink::Again) => Answer::Again,
         Ok(InitLink::Present) => Answer::Present,
         Ok(InitLink::Linked) => Answer::Linked,
-        Err(refusal) => Answer::Refused(refusal_for(refusal)),
+        Err(refusal) => Answer::Refused(refusal),
     }
 }
 
 /// What the store of a dummy is answered.
-fn stored_answer(outcome: Result<(), InitRefusal>) -> Answer
+fn stored_answer(outcome: Result<(), Refusal>) -> Answer
     ensures { result ≡ stored outcome }
 {
     match outcome {
         Ok(()) => Answer::Stored,
-        Err(refusal) => Answer::Refused(refusal_for(refusal)),
+        Err(refusal) => Answer::Refused(refusal),
     }
 }
 

@@ -21,12 +21,14 @@ use std::collections::BTreeMap;
 use std::marker::Model;
 use txn_trace::{Answer, Entry, Limits, Refusal, Step, entry_of};
 
-/// A transactional map for 1 to 64 callers, its history, and where each caller is: boosted transactions (Herlihy and Koskinen,
-/// PPoPP 2008, rules 2 and 3) over a split-ordered hash table (Shalev and Shavit, Journal of the ACM 53(3), 2006, section 2).
+/// A transactional map for 1 to 64 callers, its history, and where each caller is: boosted
+/// transactions (Herlihy and Koskinen, PPoPP 2008, rules 2 and 3) over a split-ordered hash table
+/// (Shalev and Shavit, Journal of the ACM 53(3), 2006, section 2).
 ///
-/// Contracts see the state of the machine, by the words of `specs/State.antt`. Of every value of the type: the history is legal,
-/// the content of the table is what the history gives now, the list is that map in order, each stripe has the holder that the
-/// history names, each caller's log takes back just its standing changes, and the history has room for all that the callers owe.
+/// Contracts see the state of the machine, by the words of `specs/State.antt`. Of every value of
+/// the type: the history is legal, the content of the table is what the history gives now, the list
+/// is that map in order, each stripe has the holder that the history names, each caller's log takes
+/// back just its standing changes, and the history has room for all that the callers owe.
 #[derive(Drop)]
 pub struct Core {
     pub(crate) limits: Limits,
@@ -48,9 +50,12 @@ impl Model for Core {
 
     ghost use Rattle.boost_core.specs.Core.{state_of, world_of, Holds};
 
-    ghost view = { λ c. state_of (world_of c.limits c.history c.counts c.table c.sessions c.locks c.placed) };
+    ghost view = { λ c. state_of
+        (world_of c.limits c.history c.counts c.table c.sessions c.locks c.placed) };
 
-    ghost invariant = { λ c. Holds (world_of c.limits c.history c.counts c.table c.sessions c.locks c.placed) c.history c.owed };
+    ghost invariant = { λ c. Holds
+        (world_of c.limits c.history c.counts c.table c.sessions c.locks c.placed)
+        c.history c.owed };
 }
 
 impl Core {
@@ -60,13 +65,14 @@ impl Core {
     ghost use Rattle.boost_core.specs.Content.{IsContent, IsRegular};
     ghost use Rattle.boost_core.specs.Whole.{IsWhole};
     ghost use Rattle.boost_core.specs.Machine.{Move, Moves};
-    ghost use Rattle.boost_core.specs.Nodes.{IsInOrder, Lists};
+    ghost use Rattle.boost_core.specs.Nodes.{Cursors, IsInOrder, Lists};
     ghost use Rattle.boost_core.specs.Refusals.{owner_of, refusal_of};
     ghost use Rattle.boost_core.specs.Serves.{is_served};
     ghost use Rattle.boost_core.specs.State.{turn_in};
 
-    /// A core in which nothing has happened: no caller has a transaction, and the table has two buckets, of which bucket 0 is
-    /// initialised. Allocates in proportion to the callers, the stripes and the largest number of buckets.
+    /// A core in which nothing has happened: no caller has a transaction, and the table has two
+    /// buckets, of which bucket 0 is initialised. Allocates in proportion to the callers, the
+    /// stripes and the largest number of buckets.
     ///
     /// # Errors
     ///
@@ -99,18 +105,23 @@ impl Core {
         })
     }
 
-    /// Takes one step, which makes a move of the machine: what it is answered, and the state after it, are those that
-    /// `specs/Machine.antt` allows.
+    /// Takes one step, which makes a move of the machine: what it is answered, and the state after
+    /// it, are those that `specs/Machine.antt` allows. What becomes of the linked nodes and of the
+    /// callers' cursors stands in `specs/Nodes.antt`.
     ///
-    /// The first refusal whose test holds is the answer, and a refusal leaves the state as it was. `NoMemory` comes only from
-    /// `Begin`, `Ask`, `Save`, `Back` and `InitLink`, and behind all tests; so no caller wants memory to seek, to act, to commit or
-    /// to abort. `Again` comes only where another step came between the seek and the act, and drops the cursor.
+    /// The first refusal whose test holds is the answer, and a refusal leaves the state as it was.
+    /// `NoMemory` comes only from `Begin`, `Ask`, `Save`, `Back` and `InitLink`, and behind all
+    /// tests; so no caller wants memory to seek, to act, to commit or to abort. `Again` comes
+    /// exactly where the cursor fits no longer, and drops it: so never where the two nodes beside
+    /// it were side by side all the time, whatever was done elsewhere.
     ///
-    /// A seek walks from the nearest initialised bucket on, a commit and the end of an abort take a step for each job and each
-    /// stripe of the transaction, a sweep walks up to the first marked node; each other step takes amortized constant time.
+    /// A seek walks from the nearest initialised bucket on, a commit and the end of an abort take a
+    /// step for each job and each stripe of the transaction, a sweep walks up to the first marked
+    /// node; each other step takes amortized constant time.
     pub fn step(&mut self, step: Step) -> Answer
         ensures moves { Move self.old step result self.new }
         ensures lists { Lists self.old step result self.new }
+        ensures cursors { Cursors self.old step result self.new }
     {
         match step {
             Step::Begin(caller)
@@ -129,12 +140,13 @@ impl Core {
         }
     }
 
-    /// Takes a step of a caller. What it asks for is done on the caller's side, the table and the locks; then the entry is added,
-    /// and whose cursor was placed is noted.
+    /// Takes a step of a caller. What it asks for is done on the caller's side, the table and the
+    /// locks; then the entry is added, and whose cursor was placed is noted.
     pub(crate) fn call(&mut self, caller: u64, step: Step) -> Answer
         requires { owner_of step ≡ Some (Owner.Caller caller) }
         ensures moves { Move self.old step result self.new }
         ensures lists { Lists self.old step result self.new }
+        ensures cursors { Cursors self.old step result self.new }
         ensures cursor { result ≡ Answer.Placed → is_some (turn_in self.new.cursors caller) ≡ true }
     {
         if let Some(refusal) = self.refusal(caller, step) {
@@ -167,6 +179,7 @@ impl Core {
         requires { is_served step ≡ true }
         ensures moves { Move self.old step result self.new }
         ensures lists { Lists self.old step result self.new }
+        ensures cursors { Cursors self.old step result self.new }
     {
         let _size = Table::size(&self.table);
         let answer = serve(step, &mut self.table);
@@ -174,7 +187,8 @@ impl Core {
         answer
     }
 
-    /// Takes the steps one after another, and gives their answers. Room for all answers is made first.
+    /// Takes the steps one after another, and gives their answers. Room for all answers is made
+    /// first.
     ///
     /// # Errors
     ///
@@ -191,15 +205,17 @@ impl Core {
         Ok(answers)
     }
 
-    /// The history: an entry for each step that changed a transaction, oldest first. It is legal: it has the shape of
-    /// transactions, no stripe had two holders, and every transaction has the replies of running alone. Constant time.
+    /// The history: an entry for each step that changed a transaction, oldest first. It is legal:
+    /// it has the shape of transactions, no stripe had two holders, and every transaction has the
+    /// replies of running alone. Constant time.
     pub fn trace(&self) -> &[Entry]
         ensures value { result.now ≡ self.now.history }
         ensures shape { HasShape self.now }
         ensures locks { KeepsLocks self.now }
         ensures replies { KeepsReplies self.now }
         ensures legal { IsLegal self.now.limits.stripes self.now.history }
-        ensures callers { All (λ entry. caller_of entry < self.now.limits.callers) self.now.history }
+        ensures callers { All (λ entry. caller_of entry < self.now.limits.callers)
+            self.now.history }
         ensures whole { IsWhole self.now }
         ensures order { IsInOrder self.now.nodes }
     {
@@ -207,8 +223,9 @@ impl Core {
         &self.history
     }
 
-    /// The map as it is now: what the committed transactions left, with the standing changes of the open ones. Takes a
-    /// step a node and, with n keys, n log n for the map; memory for the pairs twice while it runs.
+    /// The map as it is now: what the committed transactions left, with the standing changes of the
+    /// open ones. Takes a step a node and, with n keys, n log n for the map; memory for the pairs
+    /// twice while it runs.
     ///
     /// # Errors
     ///
@@ -219,8 +236,8 @@ impl Core {
         self.table.content(alloc)
     }
 
-    /// Key and value of each pair of the map as it is now, in the order of the list, which is that of reversed bits. Takes a
-    /// step a node.
+    /// Key and value of each pair of the map as it is now, in the order of the list, which is that
+    /// of reversed bits. Takes a step a node.
     ///
     /// # Errors
     ///
@@ -245,8 +262,9 @@ impl Core {
         self.table.count()
     }
 
-    /// How many entries the history keeps room for: so many that each open transaction can be ended and all its changes taken
-    /// back, without taking memory. It is kept, so this takes constant time.
+    /// How many entries the history keeps room for: so many that each open transaction can be ended
+    /// and all its changes taken back, without taking memory. It is kept, so this takes constant
+    /// time.
     pub fn owed(&self) -> usize
         ensures { result ≡ owed self.now.limits.callers self.now.history }
     {
@@ -263,7 +281,7 @@ impl Core {
             return Some(Refusal::NoSuchCaller);
         }
         let session = &self.sessions[caller as usize];
-        let refusal = session.seat.refusal(step);
+        let refusal = session.seat.refusal(self.limits, step);
         if refusal.is_some() {
             return refusal;
         }

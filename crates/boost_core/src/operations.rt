@@ -26,7 +26,8 @@ impl Session {
     ) -> Answer
         requires caller { caller < 64 }
         requires stripe { stripe < length locks.old }
-        ensures asked { IsAsked caller stripe op self.old table.old locks.old result self.new table.new locks.new }
+        ensures asked { IsAsked caller stripe op self.old table.old locks.old result self.new
+            table.new locks.new }
         ensures rises { turn_of table.old ≤ turn_of table.new }
         ensures placed { KeepsPlaced table.old table.new }
     {
@@ -45,7 +46,8 @@ impl Session {
         ensures stays { StaysIn self.old self.new }
         ensures room { OnOk result (0 < self.new.log.room) }
         ensures ok { IfOk result (Prepares table.old table.new op) }
-        ensures err { IfErr result (λ refusal. (refusal ≡ Refusal.NoMemory) ⊎ IsRefused table.old op refusal) }
+        ensures err { IfErr result
+            (λ refusal. (refusal ≡ Refusal.NoMemory) ⊎ IsRefused table.old op refusal) }
         ensures unchanged { OnErr result (table.new ≡ table.old) }
         ensures placed { KeepsPlaced table.old table.new }
     {
@@ -81,13 +83,16 @@ impl Session {
         Answer::Placed
     }
 
-    /// Acts: does the operation that waits, or takes the newest change back, or is where it leaves to.
+    /// Acts: does the operation that waits, or takes the newest change back, or is where it leaves
+    /// to.
     pub(crate) fn act(&mut self, caller: usize, table: &mut Table, locks: &mut KeyLocks) -> Answer
         requires caller { caller < 64 }
         requires goes { GoesWith self.old table.old }
-        requires free { (is_leaving self.old.seat.seat.phase || is_waiting self.old.seat.seat.phase) ≡ true }
+        requires free { (is_leaving self.old.seat.seat.phase || is_waiting self.old.seat.seat.phase)
+            ≡ true }
         requires placed { (has_target self.old.seat.seat && not (is_some self.old.cursor)) ≡ false }
-        ensures acts { ActsIn caller self.old table.old locks.old result self.new table.new locks.new }
+        ensures acts { ActsIn caller self.old table.old locks.old result self.new table.new
+            locks.new }
         ensures rises { turn_of table.old ≤ turn_of table.new }
         ensures placed { KeepsPlaced table.old table.new }
     {

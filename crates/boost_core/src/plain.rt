@@ -10,15 +10,27 @@ impl Core {
     ghost use Rattle.boost_core.specs.Refusals.{has_job, is_leaving};
     ghost use Rattle.boost_core.specs.State.{seat_in};
 
-    /// Puts a value at a key: asks, seeks and acts. `Again` is never met. One step a node from the nearest bucket on.
+    /// Puts a value at a key: asks, seeks and acts. `Again` is never met. One step a node from the
+    /// nearest bucket on: the table does not grow by itself, since nothing doubles it but `Double`.
     ///
-    /// The answer is `Done` with the reply, or the first that is not `Asked`: `Busy`, where another caller holds the key's stripe and
-    /// this one now leaves to the end, or a refusal, which leaves the state: in this order `NoSuchCaller`, `NotOpen`, `Leaving`,
-    /// `OperationUnfinished`, `BadKey`, `NoMemory` for the history and the log, `StampsUsedUp`, `NoMemory` for the node.
+    /// The answer is `Done` with the reply, or the first that is not `Asked`: `Busy`, where another
+    /// caller holds the key's stripe and this one now leaves to the end, or a refusal, which leaves
+    /// the state: in this order `NoSuchCaller`, `NotOpen`, `Leaving`, `OperationUnfinished`,
+    /// `BadKey` where the limits have half keys and the key is 2^63 or more, `NoMemory` for the
+    /// history and the log, `StampsUsedUp`, `NoMemory` for the node.
     pub fn put(&mut self, caller: u64, key: u64, value: u64) -> Answer
         ensures { Operates self.old caller (Op.Put key value) result self.new }
     {
         self.operate(caller, Op::Put(key, value))
+    }
+
+    /// Puts a value at a key exactly where the key has what is expected, a value or none, by the
+    /// same steps as `put` and with the same refusals. The reply is what the key had, so the value
+    /// was put exactly where the reply is what was expected.
+    pub fn put_if(&mut self, caller: u64, key: u64, expected: Option<u64>, value: u64) -> Answer
+        ensures { Operates self.old caller (Op.PutIf key expected value) result self.new }
+    {
+        self.operate(caller, Op::PutIf(key, expected, value))
     }
 
     /// Takes a key out, by the same steps as `put` and with the same refusals.
@@ -28,18 +40,20 @@ impl Core {
         self.operate(caller, Op::Take(key))
     }
 
-    /// Gets the value at a key, by the same steps as `put` and with the same refusals, but the last two.
+    /// Gets the value at a key, by the same steps as `put` and with the same refusals, but the last
+    /// two.
     pub fn get(&mut self, caller: u64, key: u64) -> Answer
         ensures { Operates self.old caller (Op.Get key) result self.new }
     {
         self.operate(caller, Op::Get(key))
     }
 
-    /// Goes back to a level, a savepoint's number or 0 for the beginning: takes back every later change, newest first, and keeps
-    /// the savepoint of that level. Stripes stay held. A seek and an act for each change.
+    /// Goes back to a level, a savepoint's number or 0 for the beginning: takes back every later
+    /// change, newest first, and keeps the savepoint of that level. Stripes stay held. A seek and
+    /// an act for each change.
     ///
-    /// The answer is `Returned` with the level, or a refusal, which leaves the state: in this order `NoSuchCaller`, `NotOpen`,
-    /// `Leaving`, `OperationUnfinished`, `NoSuchLevel`, `NoMemory`.
+    /// The answer is `Returned` with the level, or a refusal, which leaves the state: in this order
+    /// `NoSuchCaller`, `NotOpen`, `Leaving`, `OperationUnfinished`, `NoSuchLevel`, `NoMemory`.
     pub fn back(&mut self, caller: u64, level: u64) -> Answer
         ensures { Returns self.old caller level result self.new }
     {
@@ -49,11 +63,12 @@ impl Core {
         }
     }
 
-    /// Aborts: withdraws an operation that waits, takes back every change, newest first, gives all stripes back and closes. Goes on
-    /// where the caller leaves to the end already, as after `Busy`. Takes no memory. A seek and an act for each change.
+    /// Aborts: withdraws an operation that waits, takes back every change, newest first, gives all
+    /// stripes back and closes. Goes on where the caller leaves to the end already, as after
+    /// `Busy`. Takes no memory. A seek and an act for each change.
     ///
-    /// The answer is `Aborted`, or a refusal, which leaves the state: in this order `NoSuchCaller`, `NotOpen`, and `Leaving` where the
-    /// caller leaves to a level.
+    /// The answer is `Aborted`, or a refusal, which leaves the state: in this order `NoSuchCaller`,
+    /// `NotOpen`, and `Leaving` where the caller leaves to a level.
     pub fn abort(&mut self, caller: u64) -> Answer
         ensures { Aborts self.old caller result self.new }
     {

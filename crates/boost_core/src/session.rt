@@ -8,7 +8,8 @@ use std::alloc::Global;
 use txn_trace::{Answer, Phase, Seat, Step};
 use undo_log::UndoLog;
 
-/// A caller: its seat, the operation that waits, the cursor of that or of its newest change, and its log.
+/// A caller: its seat, the operation that waits, the cursor of that or of its newest change, and
+/// its log.
 #[derive(Drop)]
 pub struct Session {
     pub(crate) seat: Seat,
@@ -62,7 +63,8 @@ impl Session {
         }
     }
 
-    /// Does what a step of this caller asks for, where nothing refuses it. The seat stays: it enters the entry afterwards.
+    /// Does what a step of this caller asks for, where nothing refuses it. The seat stays: it
+    /// enters the entry afterwards.
     #[inline(always)]
     pub(crate) fn answer(
         &mut self,
@@ -73,7 +75,8 @@ impl Session {
         locks: &mut KeyLocks,
     ) -> Answer
         requires { Takes stripes counts step self.old table.old locks.old }
-        ensures does { Does stripes counts step self.old table.old locks.old result self.new table.new locks.new }
+        ensures does { Does stripes counts step self.old table.old locks.old result self.new
+            table.new locks.new }
         ensures rises { turn_of table.old ≤ turn_of table.new }
         ensures placed { KeepsPlaced table.old table.new }
     {

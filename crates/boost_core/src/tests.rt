@@ -19,6 +19,7 @@ fn core_of(alloc: Global, callers: u64) -> Result<Core, Fail> {
 enum Call {
     Run(Step),
     Put(u64, u64, u64),
+    PutIf(u64, u64, Option<u64>, u64),
     Take(u64, u64),
     Get(u64, u64),
     Back(u64, u64),
@@ -32,6 +33,7 @@ fn called(alloc: Global, core: &mut Core, call: Call) -> Result<Answer, Fail> {
             Ok(answers.first().copied().ok_or("no answer")?)
         }
         Call::Put(caller, key, value) => Ok(core.put(caller, key, value)),
+        Call::PutIf(caller, key, expected, value) => Ok(core.put_if(caller, key, expected, value)),
         Call::Take(caller, key) => Ok(core.take(caller, key)),
         Call::Get(caller, key) => Ok(core.get(caller, key)),
         Call::Back(caller, level) => Ok(core.back(caller, level)),
@@ -140,7 +142,8 @@ fn steps_in_turn(rt: HostRuntime) -> Result<(), Fail> {
     Ok(())
 }
 
-/// An abort from each phase; one that has left to the end goes on, one that has left to a level is refused.
+/// An abort from each phase; one that has left to the end goes on, one that has left to a level is
+/// refused.
 #[test]
 fn aborts(rt: HostRuntime) -> Result<(), Fail> {
     let alloc = rt.alloc();
@@ -258,7 +261,8 @@ fn five_undone(
     Ok(())
 }
 
-/// Also run with each allocation refused in turn: then every caller aborts, for which no memory is wanted.
+/// Also run with each allocation refused in turn: then every caller aborts, for which no memory is
+/// wanted.
 #[test]
 fn five_callers_undone(rt: HostRuntime) -> Result<(), Fail> {
     let alloc = rt.alloc();
@@ -285,8 +289,8 @@ fn five_callers_undone(rt: HostRuntime) -> Result<(), Fail> {
     Ok(())
 }
 
-/// Two for an open transaction and one for each change that stands; two more for a put that waits and one for a get; one
-/// more on the way to a level.
+/// Two for an open transaction and one for each change that stands; two more for a put that waits
+/// and one for a get; one more on the way to a level.
 #[test]
 fn owed_entries(rt: HostRuntime) -> Result<(), Fail> {
     let mut core = core_of(rt.alloc(), 2)?;
@@ -315,8 +319,8 @@ fn owed_entries(rt: HostRuntime) -> Result<(), Fail> {
     Ok(())
 }
 
-/// Each marked node is swept by a sweep of its own. And an act is done at its cursor although the list has changed elsewhere
-/// since its seek, and although another caller has read.
+/// Each marked node is swept by a sweep of its own. And an act is done at its cursor although the
+/// list has changed elsewhere since its seek, and although another caller has read.
 #[test]
 fn sweeps_and_cursors(rt: HostRuntime) -> Result<(), Fail> {
     let alloc = rt.alloc();
@@ -343,5 +347,191 @@ fn sweeps_and_cursors(rt: HostRuntime) -> Result<(), Fail> {
     plays(&rt, alloc, &mut core, &lines)?;
     let pairs = core.regular_list(alloc)?;
     assert_eq!(rt; pairs.as_slice(), [(8, 80), (4, 40), (2, 21)].as_slice());
+    Ok(())
+}
+
+/// What `put` and `put_if` are answered, with keys of 64 bits.
+fn puts_of_wide_keys() -> [(Call, Answer); 7] {
+    [
+        (
+            Call::Put(0, 9_223_372_036_854_775_809, 11),
+            Answer::Done(None),
+        ),
+        (Call::Put(0, 1, 10), Answer::Done(None)),
+        (Call::PutIf(0, 1, None, 12), Answer::Done(Some(10))),
+        (Call::PutIf(0, 1, Some(10), 12), Answer::Done(Some(10))),
+        (Call::PutIf(0, 2, None, 20), Answer::Done(None)),
+        (Call::PutIf(0, 3, Some(5), 6), Answer::Done(None)),
+        (
+            Call::Put(0, 18_446_744_073_709_551_615, 7),
+            Answer::Done(None),
+        ),
+    ]
+}
+
+fn wide_pairs() -> [(u64, u64); 4] {
+    [
+        (2, 20),
+        (1, 12),
+        (9_223_372_036_854_775_809, 11),
+        (18_446_744_073_709_551_615, 7),
+    ]
+}
+
+/// Keys that share a split key stand by their numbers, and a put that expects another value is
+/// none.
+#[test]
+fn keys_of_64_bits(rt: HostRuntime) -> Result<(), Fail> {
+    let alloc = rt.alloc();
+    let mut core = core_of(alloc, 1)?;
+    plays(
+        &rt,
+        alloc,
+        &mut core,
+        &[(Call::Run(Step::Begin(0)), Answer::Began(1))],
+    )?;
+    plays(&rt, alloc, &mut core, &puts_of_wide_keys())?;
+    let commit = [(Call::Run(Step::Commit(0)), Answer::Committed(1))];
+    plays(&rt, alloc, &mut core, &commit)?;
+    assert_eq!(rt; (core.size(), core.count()), (2, 4));
+    let pairs = core.regular_list(alloc)?;
+    assert_eq!(rt; pairs.as_slice(), wide_pairs().as_slice());
+    Ok(())
+}
+
+/// The same by steps, and aborted by steps: five changes are taken back.
+#[test]
+fn wide_keys_aborted(rt: HostRuntime) -> Result<(), Fail> {
+    let alloc = rt.alloc();
+    let mut core = core_of(alloc, 1)?;
+    plays(
+        &rt,
+        alloc,
+        &mut core,
+        &[(Call::Run(Step::Begin(0)), Answer::Began(1))],
+    )?;
+    for (call, wanted) in puts_of_wide_keys() {
+        let op = match call {
+            Call::Put(_, key, value) => Op::Put(key, value),
+            Call::PutIf(_, key, expected, value) => Op::PutIf(key, expected, value),
+            _ => return Err("no put".into()),
+        };
+        assert_eq!(rt; core.step(Step::Ask(0, op)), Answer::Asked);
+        assert_eq!(rt; core.step(Step::Seek(0)), Answer::Placed);
+        assert_eq!(rt; core.step(Step::Act(0)), wanted);
+    }
+    assert_eq!(rt; core.step(Step::Abort(0)), Answer::Leaving);
+    for _ in 0..5 {
+        assert_eq!(rt; core.step(Step::Seek(0)), Answer::Placed);
+        assert_eq!(rt; core.step(Step::Act(0)), Answer::Undone);
+    }
+    assert_eq!(rt; core.step(Step::Act(0)), Answer::Aborted);
+    assert_eq!(rt; (core.size(), core.count()), (2, 0));
+    Ok(())
+}
+
+/// With half keys alone the first key that is refused is 2^63, by every operation.
+#[test]
+fn half_keys(rt: HostRuntime) -> Result<(), Fail> {
+    let alloc = rt.alloc();
+    let limits = Limits::new(1, 8, 8)?.half_keys();
+    let mut core = match Core::new(alloc, limits) {
+        Ok(core) => core,
+        Err(_) => Core::new(alloc, limits)?,
+    };
+    let bad = Answer::Refused(Refusal::BadKey);
+    let lines = [
+        (Call::Run(Step::Begin(0)), Answer::Began(1)),
+        (Call::Put(0, 9_223_372_036_854_775_808, 1), bad),
+        (Call::PutIf(0, 9_223_372_036_854_775_808, None, 1), bad),
+        (Call::Take(0, 9_223_372_036_854_775_808), bad),
+        (Call::Get(0, 18_446_744_073_709_551_615), bad),
+        (
+            Call::Put(0, 9_223_372_036_854_775_807, 2),
+            Answer::Done(None),
+        ),
+        (
+            Call::Get(0, 9_223_372_036_854_775_807),
+            Answer::Done(Some(2)),
+        ),
+    ];
+    plays(&rt, alloc, &mut core, &lines)
+}
+
+/// The key that shares the split key of this one.
+fn partner(key: u64) -> u64 {
+    key + 9_223_372_036_854_775_808
+}
+
+/// Does an operation of a caller on the keys of each pair, the lower one first or the upper one.
+fn on_pairs(
+    rt: &impl Abort,
+    core: &mut Core,
+    caller: u64,
+    upper_first: bool,
+    taken: bool,
+) -> Result<(), Fail> {
+    for key in 0..4 {
+        let own = 2 * key + caller;
+        let both = if upper_first {
+            [partner(own), own]
+        } else {
+            [own, partner(own)]
+        };
+        for each in both {
+            if taken {
+                assert_eq!(rt; core.take(caller, each), Answer::Done(Some(each)));
+            } else {
+                assert_eq!(rt; core.put(caller, each, each), Answer::Done(None));
+            }
+        }
+    }
+    Ok(())
+}
+
+/// Of two callers one puts four pairs of keys that share a split key and commits, the other one
+/// puts four and aborts; then the pairs are taken, which is aborted, and taken back to a savepoint.
+fn pairs_in_order(
+    rt: &impl Abort,
+    alloc: Global,
+    upper_first: bool,
+    taken_first: bool,
+) -> Result<(), Fail> {
+    let mut core = core_of(alloc, 2)?;
+    let begins = [
+        (Call::Run(Step::Begin(0)), Answer::Began(1)),
+        (Call::Run(Step::Begin(1)), Answer::Began(2)),
+    ];
+    plays(rt, alloc, &mut core, &begins)?;
+    on_pairs(rt, &mut core, 0, upper_first, false)?;
+    on_pairs(rt, &mut core, 1, !upper_first, false)?;
+    let ends = [
+        (Call::Run(Step::Commit(0)), Answer::Committed(1)),
+        (Call::Abort(1), Answer::Aborted),
+        (Call::Run(Step::Begin(0)), Answer::Began(3)),
+        (Call::Run(Step::Save(0)), Answer::Saved(1)),
+    ];
+    plays(rt, alloc, &mut core, &ends)?;
+    assert_eq!(rt; core.count(), 8);
+    let before = core.regular_list(alloc)?;
+    on_pairs(rt, &mut core, 0, taken_first, true)?;
+    assert_eq!(rt; core.count(), 0);
+    assert_eq!(rt; core.back(0, 1), Answer::Returned(1));
+    assert_eq!(rt; core.regular_list(alloc)?.as_slice(), before.as_slice());
+    on_pairs(rt, &mut core, 0, !taken_first, true)?;
+    assert_eq!(rt; core.abort(0), Answer::Aborted);
+    assert_eq!(rt; core.regular_list(alloc)?.as_slice(), before.as_slice());
+    Ok(())
+}
+
+/// Keys that share a split key, put, taken, aborted and taken back in either order.
+#[test]
+fn pairs_of_one_split_key(rt: HostRuntime) -> Result<(), Fail> {
+    let alloc = rt.alloc();
+    for upper_first in [false, true] {
+        for taken_first in [false, true] {
+            pairs_in_order(&rt, alloc, upper_first, taken_first)?;
+        }
+    }
     Ok(())
 }

@@ -439,8 +439,8 @@ told_keeps scripts tries worker answer seen step is keeps =
 pub sized_keeps : (size : ℕ) (scripts : List (List Action)) (worker : Standing) (seen : List Entry) → Keeps scripts worker seen → Keeps scripts (sized_by size worker) seen
 sized_keeps size scripts worker seen keeps = record { number = keeps.number; at = task_sized worker.limits.half worker.limits.callers scripts worker.number keeps.number size worker.task (parts_of seen) keeps.at }
 
-pub new_keeps : (scripts : List (List Action)) (w workers : ℕ) → w < workers → Keeps scripts (record { number = w; workers = workers; task = started scripts w w }) []
-new_keeps scripts w workers below = record { number = below; at = keeps_new workers scripts w below }
+pub new_keeps : (scripts : List (List Action)) (w : ℕ) (limits : Sizes) → w < limits.callers → Keeps scripts (new_worker scripts w limits) []
+new_keeps scripts w limits below = record { number = below; at = keeps_new limits.half limits.callers scripts w below }
 
 -- A worker with a step to take stays as it is.
 stays : (scripts : List (List Action)) (tries : ℕ) (worker : Standing) (step : Step) (o : Option Task) → option_and_then (λ (task : Task). step_of task.drive) o ≡ Some step → settled_at scripts tries worker o ≡ worker

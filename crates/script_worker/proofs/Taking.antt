@@ -11,26 +11,30 @@ use Rattle.script_worker.specs.declared.attempt.Outcome.{Outcome}
 use Rattle.script_worker.specs.declared.standing.Standing.{Standing}
 use Rattle.script_worker.specs.Workers.{sized_by, turn_by, IsTurnBy, Working, TakesStep, TakesIn, TakesNext}
 
--- What each step does to a part of whatever takes it, the worker's turn does, where a fact of it stays.
+-- What each step does to a part of whatever takes it, the worker's turn does, where a fact of it stays; and the fact stays.
 takes_in : {X F : Type 0} (takes : X → Step → Answer → X → Type 0) (scripts : List (List Action)) (tries : ℕ) (R : F → Step → Answer → F → Type 0) (I : F → Type 0) (p : F → Working X)
     → (x : F) (t : Turn) (y : F) → IsTurnBy (p x).worker (Some t) → I x → HasTaken R x t y
     → ((x : F) (s : Step) (a : Answer) (y : F) → I x → R x s a y → TakesStep takes scripts tries (p x) s a (p y) × I y)
-    → TakesIn takes scripts tries (p x) (Some t) (p y)
+    → TakesIn takes scripts tries (p x) (Some t) (p y) × I y
 takes_in takes scripts tries R I p x (One s) y is i taken each = turn_maps R (TakesStep takes scripts tries) I p x (One s) y i taken each
 takes_in takes scripts tries R I p x (Two s t) y is i taken each = turn_maps R (TakesStep takes scripts tries) I p x (Two s t) y i taken each
 takes_in takes scripts tries R I p x (Ended outcome) y is i taken each = absurd is
 
 pub takes_next : {X F : Type 0} (takes : X → Step → Answer → X → Type 0) (size : ℕ) (scripts : List (List Action)) (tries : ℕ) (before : Standing)
-    (R : F → Step → Answer → F → Type 0) (I : F → Type 0) (p : F → Working X) (x : F) (t : Turn) (o : Option Turn) (y : F)
-    → (p x).worker ≡ sized_by size before → (p x).outcome ≡ None → o ≡ turn_by (p x).worker → o ≡ Some t → IsTurnBy (p x).worker o → I x → HasTaken R x t y
-    → ((x : F) (s : Step) (a : Answer) (y : F) → I x → R x s a y → TakesStep takes scripts tries (p x) s a (p y) × I y)
-    → TakesNext takes size scripts tries (p x).taker before (p y).outcome (p y).taker (p y).worker
-takes_next {X} takes size scripts tries before R I p x t o y worker none turn some is i taken each = record {
-  steps =
-      subst (λ (w : Standing). TakesIn takes scripts tries (record { taker = (p x).taker; worker = w; outcome = None }) (turn_by w) (p y)) worker
-      (subst (λ (u : Option Outcome). TakesIn takes scripts tries (record { taker = (p x).taker; worker = (p x).worker; outcome = u }) (turn_by (p x).worker) (p y)) none
-      (subst (λ u. TakesIn takes scripts tries (p x) u (p y)) (sym some ∙ turn) (takes_in takes scripts tries R I p x t y (subst (IsTurnBy (p x).worker) some is) i taken each)));
-}
+    (R : F → Step → Answer → F → Type 0) (I : F → F → Type 0) (p : F → Working X) (x : F) (t : Turn) (o : Option Turn) (y : F)
+    → (p x).worker ≡ sized_by size before → (p x).outcome ≡ None → o ≡ turn_by (p x).worker → o ≡ Some t → IsTurnBy (p x).worker o → I x x → HasTaken R x t y
+    → ((z : F) (s : Step) (a : Answer) (y : F) → I x z → R z s a y → TakesStep takes scripts tries (p z) s a (p y) × I x y)
+    → TakesNext takes size scripts tries (p x).taker before (p y).outcome (p y).taker (p y).worker × I x y
+takes_next {X} takes size scripts tries before R I p x t o y worker none turn some is i taken each =
+    let mapped = takes_in takes scripts tries R (I x) p x t y (subst (IsTurnBy (p x).worker) some is) i taken each in (
+      record {
+        steps =
+            subst (λ (w : Standing). TakesIn takes scripts tries (record { taker = (p x).taker; worker = w; outcome = None }) (turn_by w) (p y)) worker
+            (subst (λ (u : Option Outcome). TakesIn takes scripts tries (record { taker = (p x).taker; worker = (p x).worker; outcome = u }) (turn_by (p x).worker) (p y)) none
+            (subst (λ u. TakesIn takes scripts tries (p x) u (p y)) (sym some ∙ turn) mapped.0));
+      },
+      mapped.1,
+    )
 
 -- A worker's turn on whatever takes its steps is one on the part that a step changes so.
 module _ {X F : Type 0} (takes : X → Step → Answer → X → Type 0) (R : F → Step → Answer → F → Type 0) (I : F → Type 0) (p : F → X)
@@ -43,7 +47,7 @@ module _ {X F : Type 0} (takes : X → Step → Answer → X → Type 0) (R : F 
       let mapped = each x.taker s a y.taker i taken.taken in
       (record { taken = mapped.0; told = taken.told; ended = taken.ended }, mapped.1)
 
-  in_maps : (x : Working F) (o : Option Turn) (y : Working F) → I x.taker → TakesIn R scripts tries x o y → TakesIn takes scripts tries (on_part x) o (on_part y)
+  in_maps : (x : Working F) (o : Option Turn) (y : Working F) → I x.taker → TakesIn R scripts tries x o y → TakesIn takes scripts tries (on_part x) o (on_part y) × I y.taker
   in_maps x None y i taken = absurd taken
   in_maps x (Some (Ended outcome)) y i taken = absurd taken
   in_maps x (Some (One s)) y i taken =
@@ -51,12 +55,13 @@ module _ {X F : Type 0} (takes : X → Step → Answer → X → Type 0) (R : F 
   in_maps x (Some (Two s t)) y i taken =
       turn_maps (TakesStep R scripts tries) (TakesStep takes scripts tries) (λ w. I w.taker) on_part x (Two s t) y i (record { steps = taken }) step_maps
 
-  part_next : (size : ℕ) (x : F) (before : Standing) (outcome : Option Outcome) (y : F) (after : Standing) → I x → TakesNext R size scripts tries x before outcome y after → TakesNext takes size scripts tries (p x) before outcome (p y) after
-  part_next size x before outcome y after i taken = record {
-    steps = in_maps (record { taker = x; worker = sized_by size before; outcome = None }) (turn_by (sized_by size before)) (record { taker = y; worker = after; outcome = outcome }) i taken.steps;
-  }
+  part_next : (size : ℕ) (x : F) (before : Standing) (outcome : Option Outcome) (y : F) (after : Standing) → I x → TakesNext R size scripts tries x before outcome y after
+      → TakesNext takes size scripts tries (p x) before outcome (p y) after × I y
+  part_next size x before outcome y after i taken =
+      let mapped = in_maps (record { taker = x; worker = sized_by size before; outcome = None }) (turn_by (sized_by size before)) (record { taker = y; worker = after; outcome = outcome }) i taken.steps in
+      (record { steps = mapped.0 }, mapped.1)
 
-pub next_maps : {X F : Type 0} (takes : X → Step → Answer → X → Type 0) (R : F → Step → Answer → F → Type 0) (I : F → Type 0) (p : F → X)
-    (scripts : List (List Action)) (tries size : ℕ) (x : F) (before : Standing) (outcome : Option Outcome) (y : F) (after : Standing) → I x → TakesNext R size scripts tries x before outcome y after
-    → ((x : F) (s : Step) (a : Answer) (y : F) → I x → R x s a y → takes (p x) s a (p y) × I y) → TakesNext takes size scripts tries (p x) before outcome (p y) after
-next_maps takes R I p scripts tries size x before outcome y after i taken each = part_next takes R I p each scripts tries size x before outcome y after i taken
+pub next_maps : {X F : Type 0} (takes : X → Step → Answer → X → Type 0) (R : F → Step → Answer → F → Type 0) (I : F → F → Type 0) (p : F → X)
+    (scripts : List (List Action)) (tries size : ℕ) (x : F) (before : Standing) (outcome : Option Outcome) (y : F) (after : Standing) → I x x → TakesNext R size scripts tries x before outcome y after
+    → ((z : F) (s : Step) (a : Answer) (y : F) → I x z → R z s a y → takes (p z) s a (p y) × I x y) → TakesNext takes size scripts tries (p x) before outcome (p y) after × I x y
+next_maps takes R I p scripts tries size x before outcome y after i taken each = part_next takes R (I x) p each scripts tries size x before outcome y after i taken

@@ -75,7 +75,14 @@ impl Standing {
             return (self, None);
         };
         let (next, outcome) = self.next_task(task, scripts, tries, end);
-        (Standing { task: next, ..self }, outcome)
+        (self.at(next), outcome)
+    }
+
+    /// The same worker at another task.
+    fn at(self, task: Option<Task>) -> Standing
+        ensures { result ≡ record self { task = task } }
+    {
+        Standing { task, ..self }
     }
 
     /// What the worker is at after its call has ended so; and how its script ended, where it is

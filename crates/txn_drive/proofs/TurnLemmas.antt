@@ -1,5 +1,5 @@
 -- Of turns that are taken.
-use Rattle.std.proofs.Common.{◌≡◌, ap}
+use Rattle.std.proofs.Common.{◌≡◌, ap, sym, subst}
 use Rattle.txn_trace.specs.declared.answer.Answer.{Answer}
 use Rattle.txn_trace.specs.declared.answer.Answer.TheVariants.{Placed}
 use Rattle.txn_trace.specs.declared.step.Step.{Step}
@@ -9,16 +9,20 @@ use Rattle.txn_drive.specs.Turns.{TakesTurn, TakesSecond, HasTaken}
 
 module _ {X Y : Type 0} (R : X → Step → Answer → X → Type 0) (S : Y → Step → Answer → Y → Type 0) (I : X → Type 0) (p : X → Y)
     (each : (x : X) (s : Step) (a : Answer) (y : X) → I x → R x s a y → S (p x) s a (p y) × I y) where
-  second_maps : (x : X) (s : Step) (a : Answer) (y : X) → I x → TakesSecond R x s a y → TakesSecond S (p x) s a (p y)
-  second_maps x s Placed y i (a, takes) = (a, (each x s a y i takes).0)
-  second_maps x s a y i same = ap p same
 
-  steps_map : (x : X) (t : Turn) (y : X) → I x → TakesTurn R x t y → TakesTurn S (p x) t (p y)
-  steps_map x (One s) y i (a, takes) = (a, (each x s a y i takes).0)
-  steps_map x (Two s t) y i (a, z, first, second) = let mapped = each x s a z i first in (a, p z, mapped.0, second_maps z t a y mapped.1 second)
-  steps_map x (Ended outcome) y i same = ap p same
+  second_maps : (x : X) (s : Step) (a : Answer) (y : X) → I x → TakesSecond R x s a y → TakesSecond S (p x) s a (p y) × I y
+  second_maps x s Placed y i (a, takes) = let mapped = each x s a y i takes in ((a, mapped.0), mapped.1)
+  second_maps x s a y i same = (ap p same, subst I (sym same) i)
 
--- What each step does to a part of whatever takes it, the turn does, where a fact of it stays.
+  steps_map : (x : X) (t : Turn) (y : X) → I x → TakesTurn R x t y → TakesTurn S (p x) t (p y) × I y
+  steps_map x (One s) y i (a, takes) = let mapped = each x s a y i takes in ((a, mapped.0), mapped.1)
+  steps_map x (Two s t) y i (a, z, first, second) =
+      let mapped = each x s a z i first in
+      let then = second_maps z t a y mapped.1 second in
+      ((a, p z, mapped.0, then.0), then.1)
+  steps_map x (Ended outcome) y i same = (ap p same, subst I (sym same) i)
+
+-- What each step does to a part of whatever takes it, the turn does, where a fact of it stays; and the fact stays over the turn.
 pub turn_maps : {X Y : Type 0} (R : X → Step → Answer → X → Type 0) (S : Y → Step → Answer → Y → Type 0) (I : X → Type 0) (p : X → Y) (x : X) (t : Turn) (y : X) → I x → HasTaken R x t y
-    → ((x : X) (s : Step) (a : Answer) (y : X) → I x → R x s a y → S (p x) s a (p y) × I y) → TakesTurn S (p x) t (p y)
+    → ((x : X) (s : Step) (a : Answer) (y : X) → I x → R x s a y → S (p x) s a (p y) × I y) → TakesTurn S (p x) t (p y) × I y
 turn_maps R S I p x t y i taken each = steps_map R S I p each x t y i taken.steps

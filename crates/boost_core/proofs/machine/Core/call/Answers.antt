@@ -1,4 +1,4 @@
-use Rattle.std.proofs.Common.{◌≡◌, ◌<◌, ◌++◌, List, Option, sym, ap, subst, ◌∙◌, arith}
+use Rattle.std.proofs.Common.{◌≡◌, ◌<◌, ◌++◌, List, Option, refl, sym, ap, subst, ◌∙◌, arith}
 use Rattle.std.specs.Prelude.{vec_len, vec_capacity, sum_by, option_to_list}
 use Rattle.txn_trace.specs.declared.entry.Entry.{Entry}
 use Rattle.boost_core.specs.declared.counts.Counts.{Counts}
@@ -13,6 +13,7 @@ use Rattle.boost_core.proofs.Moves.{move_of, none_of}
 use Rattle.boost_core.proofs.Starting.{some_stripe, few_callers}
 use Rattle.boost_core.proofs.Grow.{world_after, seated_as}
 use Rattle.boost_core.proofs.NodeSteps.{lists_of, does}
+use Rattle.boost_core.proofs.GapSteps.{cursors_of, does_cursors}
 use Rattle.boost_core.proofs.Called.{called, takes, placed_cursor, turn_there}
 use Rattle.boost_core.proofs.Outcomes.{Called, reserved_few, no_memory, can_add, called_tells, called_owes, called_room, called_move}
 use Rattle.txn_trace.specs.declared.answer.Answer.TheVariants as answers
@@ -78,6 +79,14 @@ returns-clause-lists c =
     let w : World = world_of c.self.inside.limits c.self.inside.history c.self.inside.counts c.self.inside.table c.self.inside.sessions c.self.inside.locks c.self.inside.placed in
     let now : World = world_after w c.args.caller (seated_as c.answer-answer.new.self c.add-self-inside.new.seat) c.add-self-inside.new.history.items c.after-self-inside.result c.answer-answer.new.table c.answer-answer.new.locks c.placed_after-self-inside.result in
     lists_of _ _ _ _ _ c.self.view_is (does w c.self.invariant.tells c.args.caller c.index_mut-session.result.now at now c.answer-answer.new.self c.answer-answer.new.locks c.size-size.ensures.stored c.from-stripes.result c.args.step c.requires c.answer-answer.result c.answer-answer.ensures.does)
+
+pub returns-clause-cursors : goal.returns-clause-cursors
+returns-clause-cursors c =
+    let none = none_of _ _ c.args.step _ c.self.view_is c.refusal.ensures c.in_default.is in
+    let at = at_free _ c.self.invariant.tells c.args.caller c.args.step c.requires none c.index_mut-session.result.now c.index_mut-session.ensures.value in
+    let w : World = world_of c.self.inside.limits c.self.inside.history c.self.inside.counts c.self.inside.table c.self.inside.sessions c.self.inside.locks c.self.inside.placed in
+    let now : World = world_after w c.args.caller (seated_as c.answer-answer.new.self c.add-self-inside.new.seat) c.add-self-inside.new.history.items c.after-self-inside.result c.answer-answer.new.table c.answer-answer.new.locks c.placed_after-self-inside.result in
+    cursors_of _ _ _ _ _ c.self.view_is (does_cursors w c.self.invariant.tells c.args.caller c.index_mut-session.result.now at now c.answer-answer.new.self (seated_as c.answer-answer.new.self c.add-self-inside.new.seat) refl refl (c.answer-answer.ensures.placed.sound c.self.invariant.tells.sound) c.answer-answer.new.locks c.args.step c.requires c.from-stripes.result c.answer-answer.result c.answer-answer.ensures.does)
 
 pub returns-clause-cursor : goal.returns-clause-cursor
 returns-clause-cursor c = λ is_placed.

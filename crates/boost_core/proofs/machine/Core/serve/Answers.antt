@@ -1,4 +1,4 @@
-use Rattle.std.proofs.Common.{Option, sym, subst}
+use Rattle.std.proofs.Common.{Option, refl, sym, subst}
 use Rattle.boost_core.specs.State.{Owner}
 use Rattle.boost_core.specs.Machine.{Move}
 use Rattle.boost_core.specs.Core.{Tells, world_of, state_of}
@@ -6,6 +6,7 @@ use Rattle.boost_core.proofs.Moves.{move_of}
 use Rattle.boost_core.proofs.Helping.{served}
 use Rattle.boost_core.proofs.Serving.{serves}
 use Rattle.boost_core.proofs.NodeSteps.{lists_of}
+use Rattle.boost_core.proofs.GapSteps.{cursors_of, serves_cursors}
 use Rattle.boost_core.proofs.NodeServes.{serves as listed}
 use Rattle.boost_core.proofs.machine.Core.serve.Goals as goal
 
@@ -28,3 +29,8 @@ pub returns-clause-lists : goal.returns-clause-lists
 returns-clause-lists c =
     let w = world_of c.self.inside.limits c.self.inside.history c.self.inside.counts c.self.inside.table c.self.inside.sessions c.self.inside.locks c.self.inside.placed in
     lists_of _ _ _ _ _ c.self.view_is (listed w (served w c.serve-answer.new.table c.placed_after-self-inside.result) c.size-size.ensures.stored c.args.step c.serve-answer.result c.serve-answer.ensures.serves)
+
+pub returns-clause-cursors : goal.returns-clause-cursors
+returns-clause-cursors c =
+    let w = world_of c.self.inside.limits c.self.inside.history c.self.inside.counts c.self.inside.table c.self.inside.sessions c.self.inside.locks c.self.inside.placed in
+    cursors_of _ _ _ _ _ c.self.view_is (serves_cursors w (served w c.serve-answer.new.table c.placed_after-self-inside.result) c.self.invariant.tells (c.serve-answer.ensures.follows.list.sound c.self.invariant.tells.sound) refl c.args.step c.serve-answer.result c.serve-answer.ensures.serves)

@@ -1,0 +1,155 @@
+-- The seek of a caller, and an act at a cursor that fits no longer.
+use Rattle.std.proofs.Common.{◌≡◌, ℕ, ◌+◌, ◌-◌, ◌^◌, ◌<◌, ◌≤◌, ◌==◌, ◌&&◌, Bool, true, false, cond, List, [], ◌∷◌, ◌++◌, length, Option, Some, None, is_some, refl, sym, ap, subst, ◌∙◌, arith}
+use Rattle.std.specs.Prelude.{slice_get, slice_set, map, reverse, slice_index, nat_lt, nat_eq, not, option_to_list}
+use Rattle.std.specs.Option.{option_map, option_eq}
+use Rattle.std.specs.List.{AllByRecursion}
+use Rattle.std.proofs.lemmas.Bool.{false≢true, cases_Bool, cases_eq, ne_eqb, and_from, and_parts, eqb-true, ltb-true}
+use Rattle.std.proofs.lemmas.List.{reverse-append, append-nil}
+use Rattle.std.proofs.lemmas.List.Sums.{sum_by_push}
+use Rattle.std.proofs.lemmas.Option.{slice_get_within}
+use mathlib.Core.Logic.{inl, inr}
+use Rattle.txn_trace.specs.declared.op.Op.{Op}
+use Rattle.txn_trace.specs.declared.op.Op.TheVariants.{Put, Take, Get, PutIf}
+use Rattle.txn_trace.specs.Map.{get, key_of, reply_of, after}
+use Rattle.txn_trace.specs.Now.{set_at}
+use Rattle.txn_trace.specs.Locks.{stripe_of}
+use Rattle.txn_trace.specs.Legal.{runs, is_running}
+use Rattle.txn_trace.specs.Shape.{changes}
+use Rattle.txn_trace.proofs.Acting.{get-after_other}
+use Rattle.txn_trace.proofs.Table.{get-set_at}
+use Rattle.txn_trace.proofs.Held.{waiting_held, log_held, held_apart}
+use Rattle.map_ops.specs.declared.job.MapJob.TheVariants.{Unput, Restore, Relink}
+use Rattle.map_ops.specs.Jobs.{takes_node, key_of_job, value_before, spare_of_job, unput, relink, job_of}
+use Rattle.map_ops.specs.TableAt.{SpareAt, Keeps, KeepsSpares, fits}
+use Rattle.map_ops.specs.Changes.{Spends, SpendsFor}
+use Rattle.txn_trace.specs.declared.entry.Entry.TheVariants as entry
+use Rattle.txn_trace.specs.declared.step.Step.TheVariants as steps
+use Rattle.txn_trace.specs.declared.answer.Answer.TheVariants as answers
+use Rattle.txn_trace.specs.Map.{Map}
+use Rattle.txn_trace.specs.Serial.{serial}
+use Rattle.txn_trace.specs.Now.{now}
+use Rattle.txn_trace.specs.Locks.{holder_of}
+use Rattle.txn_trace.specs.Log.{log_of}
+use Rattle.txn_trace.specs.declared.seat.Phase.{Phase}
+use Rattle.txn_trace.specs.declared.seat.Phase.TheVariants.{Closed, Opened, Waiting, LeavingTo, LeavingToEnd}
+use Rattle.txn_trace.specs.Shape.{Seat}
+use Rattle.txn_trace.specs.Seats.{has_job, has_target}
+use Rattle.txn_trace.proofs.Next.{Next}
+use Rattle.txn_trace.proofs.Entries as laws
+use Rattle.undo_log.specs.UndoLog.{kept_at}
+use Rattle.map_ops.specs.declared.job.MapJob.{MapJob}
+use Rattle.map_ops.specs.Jobs.{PendingAt}
+use Rattle.map_ops.specs.TableAt.{TableAt, Cursor, content, cursor_turn, map_of, turn_of, IsPlaced}
+use Rattle.boost_core.specs.declared.session.Session.{Session}
+use Rattle.boost_core.specs.State.{Owner, Caller, Helper, seat_in, turn_in}
+use Rattle.boost_core.specs.Refusals.{refusal_of}
+use Rattle.boost_core.specs.Spares.{times_of, times_in, times_out, IsCovered}
+use Rattle.boost_core.specs.Core.{World, Tells, IsFresh, state_of, turn_at}
+use Rattle.boost_core.proofs.Numbers.{no_more}
+use Rattle.boost_core.proofs.Moves.{Runs, runs_same, state_is, turns_set}
+use Rattle.boost_core.proofs.Grow.{world_after, seated_as, set_cases}
+use Rattle.boost_core.proofs.Outcomes.{Called, move_is, same_times}
+use Rattle.boost_core.specs.Answers.{IsReply, is_just_placed, may_be_stale}
+use Rattle.boost_core.specs.Sessions.{target_in, target_of, level_of, IsPlacedFor, IsSoughtAt, KeepsPlaced, Waits, spare_if, times_kept, change_of, changes_of, AreDue, SeeksIn, DoesIn, Drops, TakesBackIn}
+use Rattle.boost_core.proofs.Spares.{spent, still_covered}
+use Rattle.boost_core.proofs.Due.{NotedIf, noted, changes_noted, due_noted}
+use Rattle.boost_core.proofs.Sides.{IsGoing, going, waiting_op, changes_last}
+use Rattle.boost_core.proofs.Refused.{seat_here, turn_here}
+use Rattle.boost_core.proofs.Working.{keeps_runs}
+
+module _ (w : World) (tells : Tells w) (c : ℕ) (x : Session) (at : slice_get w.sessions c ≡ Some x) where
+  here : seat_in w.history c ≡ x.seat.seat
+  here = seat_here w tells c x at
+
+  -- What a caller acts on next is sought.
+  pub sought_called : refusal_of (state_of w) (steps.Seek c) ≡ None → (y : Session) (t' : TableAt) → SeeksIn x w.table y t' → KeepsPlaced w.table t' → turn_of w.table ≤ turn_of t' → Called w c x (steps.Seek c) answers.Placed y t' w.locks
+  sought_called none y t' seeks keeps turn =
+      let runs = keeps_runs w.table t' seeks.places.keeps turn in
+      record {
+        comes = record {
+          same_seat = ap (λ (s : Session). s.seat.seat) seeks.becomes;
+          jobs = ap (λ (s : Session). s.log.jobs) seeks.becomes;
+          kept = ap (λ (s : Session). s.log.kept) seeks.becomes;
+          waits = subst (λ (s : Session). Waits x.seat.seat.phase s.pending s.log.room) (sym seeks.becomes) (tells.seated c x at).agrees.waits;
+          content = ap map_of seeks.places.keeps.regular;
+          placed = keeps;
+          sought = subst (λ (s : Session). IsSoughtAt t' s.cursor (target_in x.seat.seat.phase s.log)) (sym seeks.becomes) (subst (IsPlacedFor t' seeks.cursor) (sym seeks.target) seeks.places.placed);
+          spares = λ others covered. subst (λ (s : Session). IsCovered (λ p q. others p q + times_kept s p q) t') (sym seeks.becomes) (still_covered w.table t' (λ p q. others p q + times_kept x p q) seeks.places.spares covered);
+          largest = seeks.places.keeps.buckets.largest;
+          helpers = ap length seeks.places.keeps.buckets.helps;
+          same_locks = refl;
+          same_counts = refl;
+        };
+        move = λ seat'. move_is w (world_after w c (seated_as y seat') (w.history ++ []) w.counts t' w.locks (Some (Caller c))) (steps.Seek c) answers.Placed (none, tt)
+            (state_is w (w.history ++ []) (w.history ++ []) w.counts t' (slice_set (map turn_at w.sessions) c (Some (turn_of t'))) (slice_set w.sessions c (seated_as y seat')) w.locks (Some (Caller c)) runs refl
+            (turns_set w.sessions c (seated_as y seat') (Some (turn_of t')) (ap turn_at seeks.becomes ∙ ap Some seeks.places.turn)))
+            runs (λ kept. absurd (false≢true kept));
+        fresh = λ seat' s cursor at_c had. elim (set_cases w.sessions c c (seated_as y seat') s (slice_get_within w.sessions c x at) at_c) [
+          | inl mine ↦
+              let both : Some seeks.cursor ≡ Some cursor = sym (ap (λ (q : Session). q.cursor) mine.1 ∙ ap (λ (q : Session). q.cursor) seeks.becomes) ∙ had in
+              let same : seeks.cursor ≡ cursor = cc (both) in
+              ap (fits t') (sym same) ∙ seeks.places.fits
+          | inr other ↦ absurd (other.0 refl)
+        ];
+      }
+
+  -- The cursor did not fit, and is dropped.
+  module _ (none : refusal_of (state_of w) (steps.Act c) ≡ None) (target : has_target x.seat.seat ≡ true) (y : Session) (drops : Drops x w.table y w.table) where
+    not_fresh : is_just_placed (Caller c) w.placed ≡ false
+    not_fresh = at_placed w.placed tells.fresh
+      where
+        at_placed : (o : Option Owner) → IsFresh w.table w.sessions o → is_just_placed (Caller c) o ≡ false
+        at_placed None fresh = refl
+        at_placed (Some (Helper d)) fresh = refl
+        at_placed (Some (Caller d)) fresh = elim (cases_eq c d) [
+          | inl same ↦ absurd (false≢true (sym drops.stale ∙ fresh x drops.cursor (ap (slice_get w.sessions) (sym same) ∙ at) drops.had))
+          | inr other ↦ ne_eqb c d other
+        ]
+
+    has_key : (target : Option ℕ) → IsPlacedFor w.table drops.cursor target → (key : ℕ) × IsPlaced w.table drops.cursor key
+    has_key None is = absurd is
+    has_key (Some key) is = (key, is)
+
+    not_in_turn : (cursor_turn drops.cursor == turn_of w.table && nat_lt (cursor_turn drops.cursor) (2 ^ 64 - 1)) ≡ false
+    not_in_turn = elim (cases_Bool (cursor_turn drops.cursor == turn_of w.table && nat_lt (cursor_turn drops.cursor) (2 ^ 64 - 1))) [
+      | inr is ↦ is
+      | inl is ↦
+          let parts = and_parts (cursor_turn drops.cursor == turn_of w.table) (nat_lt (cursor_turn drops.cursor) (2 ^ 64 - 1)) is in
+          let same : cursor_turn drops.cursor ≡ turn_of w.table = eqb-true (cursor_turn drops.cursor) (turn_of w.table) parts.0 in
+          let below : cursor_turn drops.cursor < 2 ^ 64 - 1 = ltb-true (cursor_turn drops.cursor) (2 ^ 64 - 1) parts.1 in
+          let placed_for = has_key (target_of x) (subst (λ (o : Option Cursor). IsSoughtAt w.table o (target_of x)) drops.had (tells.sought c x at)) in
+          absurd (false≢true (sym drops.stale ∙ placed_for.1.in_turn (sym same) (subst (λ n. n < 2 ^ 64 - 1) same below)))
+    ]
+
+    stale : may_be_stale (state_of w) (Caller c) ≡ true
+    stale =
+        let turn : turn_in (map turn_at w.sessions) c ≡ Some (cursor_turn drops.cursor) = turn_here w tells c x at ∙ ap (option_map cursor_turn) drops.had in
+        ap (λ (o : Option ℕ). elim o as (λ _. Bool) [ None ↦ false | Some turn ↦ not (is_just_placed (Caller c) w.placed) && not (turn == turn_of w.table && nat_lt turn (2 ^ 64 - 1)) ]) turn
+        ∙ (λ i. not (not_fresh i) && not (not_in_turn i))
+
+    again : Called w c x (steps.Act c) answers.Again y w.table w.locks
+    again = record {
+      comes = record {
+        same_seat = drops.seat;
+        jobs = drops.jobs;
+        kept = drops.kept;
+        waits = subst (λ (o : Option PendingAt). Waits x.seat.seat.phase o y.log.room) (sym drops.waits) (subst (Waits x.seat.seat.phase x.pending) (sym drops.room) (tells.seated c x at).agrees.waits);
+        content = refl;
+        placed = record { placed = λ cursor key is. is; sound = λ sound. sound };
+        sought = subst (λ (o : Option Cursor). IsSoughtAt w.table o (target_in x.seat.seat.phase y.log)) (sym drops.dropped) tt;
+        spares = same_times w.table x y drops.waits drops.jobs;
+        largest = refl;
+        helpers = refl;
+        same_locks = refl;
+        same_counts = refl;
+      };
+      move = λ seat'. move_is w (world_after w c (seated_as y seat') (w.history ++ []) w.counts w.table w.locks None) (steps.Act c) answers.Again
+          (none, and_from (has_target (seat_in w.history c)) (may_be_stale (state_of w) (Caller c)) (ap has_target here ∙ target) stale)
+          (state_is w (w.history ++ []) (w.history ++ []) w.counts w.table (slice_set (map turn_at w.sessions) c None) (slice_set w.sessions c (seated_as y seat')) w.locks None (runs_same w.table) refl
+          (turns_set w.sessions c (seated_as y seat') None (ap (option_map cursor_turn) drops.dropped)))
+          (runs_same w.table) (λ kept. refl);
+      fresh = λ seat'. tt;
+    }
+
+  pub again_called : refusal_of (state_of w) (steps.Act c) ≡ None → has_target x.seat.seat ≡ true → (y : Session) (t' : TableAt) → Drops x w.table y t' → Called w c x (steps.Act c) answers.Again y t' w.locks
+  again_called none target y t' drops = subst (λ u. Called w c x (steps.Act c) answers.Again y u w.locks) (sym drops.table) (again none target y (subst (Drops x w.table y) drops.table drops))

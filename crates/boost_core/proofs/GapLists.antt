@@ -1,0 +1,242 @@
+-- Two nodes that stand side by side, before and after a change of the list.
+use Rattle.std.proofs.Common.{◌≡◌, ℕ, ◌==◌, ◌&&◌, Bool, true, false, cond, inl, inr, List, [], ◌∷◌, ◌++◌, Option, Some, None, refl, sym, ap, subst, ◌∙◌, arith}
+use Rattle.std.specs.Prelude.{map, not, nat_lt}
+use Rattle.std.specs.Option.{option_map}
+use Rattle.std.specs.List.{AllByRecursion}
+use Rattle.std.proofs.lemmas.Bool.{false≢true, cases_Bool, and_parts, and_from, eq-eqb, eqb-true, ltb-true}
+use Rattle.split_key.specs.Sort.{is_before, IsBefore}
+use Rattle.node_list.specs.Nodes.{NodeAt, node_of, next_of, first, linked_after, changed_at}
+use Rattle.node_list.specs.Order.{IsRising, IsSpread, IsNodeBefore, AbsentFrom}
+use Rattle.list_steps.specs.declared.cursor.Cursor.{Cursor}
+use Rattle.list_steps.specs.declared.cursor.Noted.{Noted}
+use Rattle.list_steps.specs.Found.{pred_of, behind, fits, is_noted, is_next_noted}
+use Rattle.list_steps.specs.Seek.{cleaned, sought}
+use Rattle.list_steps.specs.Steps.{without_first_marked}
+use Rattle.boost_core.specs.State.{Node, SortKey, Gap, plain_node}
+use Rattle.boost_core.specs.Nodes.{StartsAt, AreNeighbours}
+use Rattle.boost_core.specs.Core.{node_at}
+use Rattle.boost_core.proofs.NodeLists.{seen, node_here, node_later, none_of_none}
+
+-- A node that is linked and unmarked is linked there still, with its stamp.
+pub record IsStill (nodes : List NodeAt) (place : ℕ) (n : NodeAt) : Type 0 where
+  pub node : NodeAt
+  pub is : node_of nodes place ≡ Some node
+  pub at : node.at ≡ n.at
+  pub stamp : node.stamp ≡ n.stamp
+
+-- So it is of each unmarked node.
+abbrev pub Stay : List NodeAt → List NodeAt → Type 0
+Stay old new = (place : ℕ) (n : NodeAt) → node_of old place ≡ Some n → n.marked ≡ false → IsStill new place n
+
+pub stay_same : (old new : List NodeAt) → new ≡ old → Stay old new
+stay_same old new same place n is live = record { node = n; is = ap (λ ns. node_of ns place) same ∙ is; at = refl; stamp = refl }
+
+found_here : (m : NodeAt) (rest : List NodeAt) (place : ℕ) → (m.place == place) ≡ true → node_of (m ∷ rest) place ≡ Some m
+unfolding node_of
+found_here m rest place here = rw here refl
+
+found_later : (m : NodeAt) (rest : List NodeAt) (place : ℕ) → (m.place == place) ≡ false → node_of (m ∷ rest) place ≡ node_of rest place
+unfolding node_of
+found_later m rest place apart = rw apart refl
+
+-- Where one node is put before both.
+stay_cons : (m : NodeAt) (old new : List NodeAt) → Stay old new → Stay (m ∷ old) (m ∷ new)
+stay_cons m old new stay place n is live = elim (cases_Bool (m.place == place)) [
+  | inl here ↦ record { node = m; is = found_here m new place here; at = ap (λ k. k.at) (node_here m old place n is here); stamp = ap (λ k. k.stamp) (node_here m old place n is here) }
+  | inr apart ↦
+      let still = stay place n (node_later m old place (Some n) is apart) live in
+      record { node = still.node; is = found_later m new place apart ∙ still.is; at = still.at; stamp = still.stamp }
+]
+
+-- Where a marked node is left out.
+stay_without : (m : NodeAt) (old new : List NodeAt) → m.marked ≡ true → Stay old new → Stay (m ∷ old) new
+stay_without m old new gone stay place n is live = elim (cases_Bool (m.place == place)) [
+  | inl here ↦ absurd (false≢true (sym live ∙ sym (ap (λ k. k.marked) (node_here m old place n is here)) ∙ gone))
+  | inr apart ↦ stay place n (node_later m old place (Some n) is apart) live
+]
+
+pub stay_changed : (nodes : List NodeAt) (place : ℕ) (change : NodeAt → NodeAt) → ((n : NodeAt) → ((change n).place ≡ n.place) × ((change n).at ≡ n.at) × ((change n).stamp ≡ n.stamp)) → Stay nodes (changed_at nodes place change)
+unfolding changed_at
+stay_changed [] place change same = stay_same [] [] refl
+stay_changed (m ∷ rest) place change same = elim (cases_Bool (m.place == place)) [
+  | inl at_place ↦ rw at_place (λ p n is live. elim (cases_Bool (m.place == p)) [
+    | inl here ↦ record {
+      node = change m;
+      is = found_here (change m) rest p (ap (λ q. q == p) (same m).0 ∙ here);
+      at = (same m).1 ∙ ap (λ k. k.at) (node_here m rest p n is here);
+      stamp = (same m).2 ∙ ap (λ k. k.stamp) (node_here m rest p n is here);
+    }
+    | inr apart ↦ record { node = n; is = found_later (change m) rest p (ap (λ q. q == p) (same m).0 ∙ apart) ∙ node_later m rest p (Some n) is apart; at = refl; stamp = refl }
+  ])
+  | inr later ↦ rw later (stay_cons m rest (changed_at rest place change) (stay_changed rest place change same))
+]
+
+-- What is at a place, and what stands behind it, is of the list.
+pub each_at : (P : NodeAt → Type 0) (nodes : List NodeAt) (place : ℕ) (n : NodeAt) → AllByRecursion P nodes → node_of nodes place ≡ Some n → P n
+each_at P [] place n each is = absurd (none_of_none place n is)
+each_at P (m ∷ rest) place n each is = elim (cases_Bool (m.place == place)) [
+  | inl here ↦ subst P (node_here m rest place n is here) each.0
+  | inr apart ↦ each_at P rest place n each.1 (node_later m rest place (Some n) is apart)
+]
+
+pub place_at : (nodes : List NodeAt) (place : ℕ) (n : NodeAt) → node_of nodes place ≡ Some n → n.place ≡ place
+place_at [] place n is = absurd (none_of_none place n is)
+place_at (m ∷ rest) place n is = elim (cases_Bool (m.place == place)) [
+  | inl here ↦ sym (ap (λ k. k.place) (node_here m rest place n is here)) ∙ eqb-true m.place place here
+  | inr apart ↦ place_at rest place n (node_later m rest place (Some n) is apart)
+]
+
+pub next_here : (m : NodeAt) (rest : List NodeAt) (place : ℕ) → (m.place == place) ≡ true → next_of (m ∷ rest) place ≡ first rest
+unfolding next_of
+next_here m rest place here = rw here refl
+
+pub next_later : (m : NodeAt) (rest : List NodeAt) (place : ℕ) → (m.place == place) ≡ false → next_of (m ∷ rest) place ≡ next_of rest place
+unfolding next_of
+next_later m rest place apart = rw apart refl
+
+next_none : (place : ℕ) (n : NodeAt) → next_of [] place ≡ Some n → ⊥
+unfolding next_of
+next_none place n is = cc (is)
+
+first_each : (P : NodeAt → Type 0) (nodes : List NodeAt) (n : NodeAt) → AllByRecursion P nodes → first nodes ≡ Some n → P n
+first_each P [] n each is = absurd (cc (is))
+first_each P (m ∷ rest) n each is = subst P (cc (is)) each.0
+
+pub each_next : (P : NodeAt → Type 0) (nodes : List NodeAt) (place : ℕ) (n : NodeAt) → AllByRecursion P nodes → next_of nodes place ≡ Some n → P n
+each_next P [] place n each is = absurd (next_none place n is)
+each_next P (m ∷ rest) place n each is = elim (cases_Bool (m.place == place)) [
+  | inl here ↦ first_each P rest n each.1 (sym (next_here m rest place here) ∙ is)
+  | inr apart ↦ each_next P rest place n each.1 (sym (next_later m rest place apart) ∙ is)
+]
+
+-- Of nodes at places of their own, the one behind a place is found at its own.
+absent_found : (nodes : List NodeAt) (place : ℕ) (n : NodeAt) → AbsentFrom place nodes → node_of nodes place ≡ Some n → ⊥
+absent_found nodes place n absent is = each_at (λ m. m.place ≡ place → ⊥) nodes place n absent is (place_at nodes place n is)
+
+first_found : (nodes : List NodeAt) (n : NodeAt) → first nodes ≡ Some n → node_of nodes n.place ≡ Some n
+first_found [] n is = absurd (cc (is))
+first_found (m ∷ rest) n is =
+    let same : m ≡ n = cc (is) in
+    found_here m rest n.place (eq-eqb m.place n.place (ap (λ k. k.place) same)) ∙ ap Some same
+
+not_here : (m : NodeAt) (rest : List NodeAt) (n : NodeAt) → AbsentFrom m.place rest → node_of rest n.place ≡ Some n → (m.place == n.place) ≡ false
+not_here m rest n absent is = elim (cases_Bool (m.place == n.place)) [
+  | inl here ↦ absurd (absent_found rest m.place n absent (ap (node_of rest) (eqb-true m.place n.place here) ∙ is))
+  | inr apart ↦ apart
+]
+
+pub next_found : (nodes : List NodeAt) (place : ℕ) (n : NodeAt) → IsSpread nodes → next_of nodes place ≡ Some n → node_of nodes n.place ≡ Some n
+unfolding IsSpread
+next_found [] place n spread is = absurd (next_none place n is)
+next_found (m ∷ rest) place n spread is =
+    let later : node_of rest n.place ≡ Some n = elim (cases_Bool (m.place == place)) [
+      | inl here ↦ first_found rest n (sym (next_here m rest place here) ∙ is)
+      | inr apart ↦ next_found rest place n spread.1 (sym (next_later m rest place apart) ∙ is)
+    ] in
+    found_later m rest n.place (not_here m rest n spread.0 later) ∙ later
+
+linked_here : (m : NodeAt) (rest : List NodeAt) (place : ℕ) (x : NodeAt) → (m.place == place) ≡ true → linked_after (m ∷ rest) place x ≡ m ∷ x ∷ rest
+unfolding linked_after
+linked_here m rest place x here = rw here refl
+
+linked_later : (m : NodeAt) (rest : List NodeAt) (place : ℕ) (x : NodeAt) → (m.place == place) ≡ false → linked_after (m ∷ rest) place x ≡ m ∷ linked_after rest place x
+unfolding linked_after
+linked_later m rest place x apart = rw apart refl
+
+later_spread : (m : NodeAt) (rest : List NodeAt) → IsSpread (m ∷ rest) → IsSpread rest
+unfolding IsSpread
+later_spread m rest spread = spread.1
+
+behind_spread : (m x : NodeAt) (rest : List NodeAt) → IsSpread (m ∷ x ∷ rest) → AbsentFrom x.place rest
+unfolding IsSpread
+behind_spread m x rest spread = spread.1.0
+
+stay_behind : (x : NodeAt) (rest : List NodeAt) → AbsentFrom x.place rest → Stay rest (x ∷ rest)
+stay_behind x rest absent place n is live = record {
+  node = n;
+  is = found_later x rest place (elim (cases_Bool (x.place == place)) [
+    | inl here ↦ absurd (absent_found rest x.place n absent (ap (node_of rest) (eqb-true x.place place here) ∙ is))
+    | inr apart ↦ apart
+  ]) ∙ is;
+  at = refl;
+  stamp = refl;
+}
+
+-- A node more stays out of the way of the others, where all have places of their own.
+pub stay_linked : (nodes : List NodeAt) (place : ℕ) (x : NodeAt) → IsSpread (linked_after nodes place x) → Stay nodes (linked_after nodes place x)
+unfolding linked_after
+stay_linked [] place x spread = stay_same [] [] refl
+stay_linked (m ∷ rest) place x spread = elim (cases_Bool (m.place == place)) [
+  | inl here ↦ rw here (stay_cons m rest (x ∷ rest) (stay_behind x rest (behind_spread m x rest (subst IsSpread (linked_here m rest place x here) spread))))
+  | inr apart ↦ rw apart (stay_cons m rest (linked_after rest place x) (stay_linked rest place x (later_spread m (linked_after rest place x) (subst IsSpread (linked_later m rest place x apart) spread))))
+]
+
+-- Unmarked nodes are not unlinked.
+pub stay_swept : (nodes : List NodeAt) → Stay nodes (without_first_marked nodes)
+unfolding without_first_marked
+stay_swept [] = stay_same [] [] refl
+stay_swept (m ∷ rest) = elim (cases_Bool m.marked) [
+  | inl gone ↦ subst (Stay (m ∷ rest)) (sym (ap (λ b. cond b rest (m ∷ without_first_marked rest)) gone)) (stay_without m rest rest gone (stay_same rest rest refl))
+  | inr live ↦ subst (Stay (m ∷ rest)) (sym (ap (λ b. cond b rest (m ∷ without_first_marked rest)) live)) (stay_cons m rest (without_first_marked rest) (stay_swept rest))
+]
+
+stay_cleaned : (sort : SortKey) (nodes : List NodeAt) → Stay nodes (cleaned sort nodes)
+unfolding cleaned
+stay_cleaned sort [] = stay_same [] [] refl
+stay_cleaned sort (m ∷ rest) = elim (cases_Bool m.marked) [
+  | inl gone ↦ subst (Stay (m ∷ rest)) (sym (ap (λ b. cond b (cleaned sort rest) (cond (is_before m.at sort) (m ∷ cleaned sort rest) (m ∷ rest))) gone)) (stay_without m rest (cleaned sort rest) gone (stay_cleaned sort rest))
+  | inr live ↦ subst (Stay (m ∷ rest)) (sym (ap (λ b. cond b (cleaned sort rest) (cond (is_before m.at sort) (m ∷ cleaned sort rest) (m ∷ rest))) live)) (before (stay_cleaned sort rest) (is_before m.at sort))
+]
+  where
+    before : Stay rest (cleaned sort rest) → (b : Bool) → Stay (m ∷ rest) (cond b (m ∷ cleaned sort rest) (m ∷ rest))
+    before stay true = stay_cons m rest (cleaned sort rest) stay
+    before stay false = stay_same (m ∷ rest) (m ∷ rest) refl
+
+pub stay_sought : (sort : SortKey) (nodes : List NodeAt) (place : ℕ) → Stay nodes (sought nodes place sort)
+unfolding sought
+stay_sought sort [] place = stay_same [] [] refl
+stay_sought sort (m ∷ rest) place = elim (cases_Bool (m.place == place)) [
+  | inl here ↦ rw here (stay_cons m rest (cleaned sort rest) (stay_cleaned sort rest))
+  | inr apart ↦ rw apart (stay_cons m rest (sought rest place sort) (stay_sought sort rest place))
+]
+
+no_less : (k : ℕ) → nat_lt k k ≡ true → ⊥
+no_less k less = let below = ltb-true k k less in omega arith
+
+-- No node stands before itself.
+not_before : (at : SortKey) → IsBefore at at → ⊥
+unfolding is_before
+not_before at is =
+    let same : cond (at.split == at.split) (nat_lt at.key at.key) (nat_lt at.split at.split) ≡ nat_lt at.key at.key = ap (λ b. cond b (nat_lt at.key at.key) (nat_lt at.split at.split)) (eq-eqb at.split at.split refl) in
+    no_less at.key (sym same ∙ is)
+
+pub apart_keys : (a b : SortKey) → a ≡ b → IsBefore a b → ⊥
+apart_keys a b same is = not_before a (subst (IsBefore a) (sym same) is)
+
+later_next : (k : NodeAt) (rest : List NodeAt) (p : ℕ) (n : NodeAt) → AllByRecursion (IsNodeBefore k) rest → next_of (k ∷ rest) p ≡ Some n → IsBefore k.at n.at
+later_next k rest p n each next = elim (cases_Bool (k.place == p)) [
+  | inl here ↦ first_each (IsNodeBefore k) rest n each (sym (next_here k rest p here) ∙ next)
+  | inr apart ↦ each_next (IsNodeBefore k) rest p n each (sym (next_later k rest p apart) ∙ next)
+]
+
+first_one : (rest : List NodeAt) (q : ℕ) (n m : NodeAt) → IsRising rest → first rest ≡ Some n → node_of rest q ≡ Some m → m.at ≡ n.at → m ≡ n
+unfolding IsRising
+first_one [] q n m rising next is same = absurd (cc (next))
+first_one (k ∷ rest) q n m rising next is same =
+    let k_is : k ≡ n = cc (next) in
+    elim (cases_Bool (k.place == q)) [
+      | inl here ↦ sym (node_here k rest q m is here) ∙ k_is
+      | inr apart ↦ absurd (apart_keys n.at m.at (sym same) (subst (λ j. IsBefore j.at m.at) k_is (each_at (IsNodeBefore k) rest q m rising.0 (node_later k rest q (Some m) is apart))))
+    ]
+
+-- In a list that rises nodes of one sort key are one.
+pub one_of_key : (nodes : List NodeAt) (p q : ℕ) (n m : NodeAt) → IsRising nodes → next_of nodes p ≡ Some n → node_of nodes q ≡ Some m → m.at ≡ n.at → m ≡ n
+unfolding IsRising
+one_of_key [] p q n m rising next is same = absurd (next_none p n next)
+one_of_key (k ∷ rest) p q n m rising next is same = elim (cases_Bool (k.place == q)) [
+  | inl here ↦ absurd (apart_keys m.at n.at same (subst (λ j. IsBefore j.at n.at) (node_here k rest q m is here) (later_next k rest p n rising.0 next)))
+  | inr later ↦ elim (cases_Bool (k.place == p)) [
+    | inl at_pred ↦ first_one rest q n m rising.1 (sym (next_here k rest p at_pred) ∙ next) (node_later k rest q (Some m) is later) same
+    | inr apart ↦ one_of_key rest p q n m rising.1 (sym (next_later k rest p apart) ∙ next) (node_later k rest q (Some m) is later) same
+  ]
+]

@@ -1,0 +1,217 @@
+-- The step by which a helper links a dummy.
+use Rattle.std.proofs.Common.{◌≡◌, ◌≢◌, ℕ, ◌-◌, ◌^◌, ◌<◌, ◌≤◌, ◌==◌, ◌&&◌, Bool, true, false, cond, List, [], ◌++◌, length, Option, Some, None, Result, Ok, Err, is_some, refl, sym, ap, subst, ◌∙◌, arith}
+use Rattle.std.specs.Prelude.{slice_get, slice_set, unwrap_or, map, nat_le, nat_lt, not}
+use Rattle.std.proofs.lemmas.Bool.{false≢true, cases_Bool, cases_eq, cases_lt, le-leb, ne_eqb, and_from, and_parts, eqb-true, ltb-true}
+use Rattle.std.proofs.lemmas.List.{append-nil}
+use Rattle.std.proofs.lemmas.Option.{slice_get_within, slice_get-get_or, unwrap_or-slice_get}
+use mathlib.Core.Logic.{inl, inr}
+use Rattle.map_ops.specs.Double.{Double}
+use Rattle.map_ops.specs.InitSeek.{InitSeek}
+use Rattle.map_ops.specs.InitSeek.TheVariants as seeks
+use Rattle.map_ops.specs.InitLink.{InitLink}
+use Rattle.map_ops.specs.InitLink.TheVariants as links
+use Rattle.bucket_table.specs.declared.answer.InitRefusal.{InitRefusal}
+use Rattle.bucket_table.specs.declared.answer.InitRefusal.TheVariants as inits
+use Rattle.txn_trace.specs.declared.refusal.Refusal.{Refusal}
+use Rattle.txn_trace.specs.declared.refusal.Refusal.TheVariants as refusals
+use Rattle.map_ops.specs.Buckets.{Becomes, Helps, Seeks, Holds, Links, Stores, Doubles, size_after, is_stored, answered, seek_answer, link_answer, store_answer, helper_fits, parent_of}
+use Rattle.txn_trace.specs.declared.entry.Entry.{Entry}
+use Rattle.txn_trace.specs.declared.step.Step.{Step}
+use Rattle.txn_trace.specs.declared.step.Step.TheVariants as steps
+use Rattle.txn_trace.specs.declared.answer.Answer.TheVariants as answers
+use Rattle.map_ops.specs.TableAt.{TableAt, Help, Nothing, Sought, Dummy, Follows, Keeps, KeepsSpares, content, map_of, regular, size_of, stored_of, linked_of, helps_of, turn_of, last_of, largest_of}
+use Rattle.boost_core.specs.State.{State, Owner, Caller, Helper, is_set, help_in, bucket_at, turn_at as state_turn_at}
+use Rattle.boost_core.specs.Refusals.{refusal_of, has_dummy, has_cursor, has_stamp, lacks_dummy}
+use Rattle.boost_core.specs.Answers.{is_just_placed, may_be_stale}
+use Rattle.boost_core.specs.Machine.{Move}
+use Rattle.boost_core.specs.Core.{World, Tells, IsFresh, state_of, turn_at, nodes_at, gap_by, all_times}
+use Rattle.boost_core.proofs.Spares.{still_covered}
+use Rattle.boost_core.proofs.Refused.{le_false}
+use Rattle.boost_core.proofs.Grow.{table_stayed}
+use Rattle.boost_core.proofs.Working.{keeps_runs}
+use Rattle.boost_core.proofs.Moves.{refused, lacks, state_is}
+use Rattle.boost_core.proofs.Helping.{served, becomes_state, helper_there, helper_none, is_set_is}
+
+-- InitLink. The refusal that a test gives, by the table's answer: want of memory or of stamps stands behind all tests.
+abbrev pub refusal_by_test : Result InitLink Refusal → Option Refusal
+refusal_by_test (Ok answer) = None
+refusal_by_test (Err refusals.NoMemory) = None
+refusal_by_test (Err refusals.StampsUsedUp) = None
+refusal_by_test (Err refusal) = Some refusal
+
+-- What a link is answered for a helper with a cursor.
+abbrev linking : Bool → Bool → Bool → Result InitLink Refusal
+linking fitting there used = answered (cond {A = Result InitLink InitRefusal} (not fitting) (Ok links.Again) (cond there (Ok links.Present) (cond used (Err inits.StampsUsedUp) (Ok links.Linked))))
+
+linking_test : (fitting there used : Bool) → None ≡ refusal_by_test (linking fitting there used)
+linking_test false there used = refl
+linking_test true true used = refl
+linking_test true false true = refl
+linking_test true false false = refl
+
+linking_again : (fitting there used : Bool) → linking fitting there used ≡ Ok links.Again → fitting ≡ false
+linking_again false there used is = refl
+linking_again true true used is = absurd (cc (is))
+linking_again true false true is = absurd (cc (is))
+linking_again true false false is = absurd (cc (is))
+
+linking_linked : (fitting there used : Bool) → linking fitting there used ≡ Ok links.Linked → (there ≡ false) × (used ≡ false)
+linking_linked false there used is = absurd (cc (is))
+linking_linked true true used is = absurd (cc (is))
+linking_linked true false true is = absurd (cc (is))
+linking_linked true false false is = (refl, refl)
+
+linking_used : (fitting there used : Bool) → linking fitting there used ≡ Err refusals.StampsUsedUp → (there ≡ false) × (used ≡ true)
+linking_used false there used is = absurd (cc (is))
+linking_used true true used is = absurd (cc (is))
+linking_used true false true is = (refl, refl)
+linking_used true false false is = absurd (cc (is))
+
+-- A helper that no test refuses has a cursor for a bucket.
+pub record HasSought (o : Option Help) (fitting : Bool) (linked : List Bool) (last : ℕ) (result : Result InitLink Refusal) : Type 0 where
+  pub bucket : ℕ
+  pub turn : ℕ
+  pub had : o ≡ Some (Sought bucket turn)
+  pub answer : linking fitting (is_stored linked bucket) (last == 2 ^ 64 - 2) ≡ result
+
+pub has_sought : (fitting : Bool) (linked : List Bool) (last : ℕ) (o : Option Help) (result : Result InitLink Refusal) → link_answer fitting linked last o ≡ result → refusal_by_test result ≡ None → HasSought o fitting linked last result
+has_sought fitting linked last None result is free = absurd (let e : Some refusals.NoSuchHelper ≡ None = ap refusal_by_test is ∙ free in cc)
+has_sought fitting linked last (Some Nothing) result is free = absurd (let e : Some refusals.HelperOutOfOrder ≡ None = ap refusal_by_test is ∙ free in cc)
+has_sought fitting linked last (Some (Dummy bucket)) result is free = absurd (let e : Some refusals.HelperOutOfOrder ≡ None = ap refusal_by_test is ∙ free in cc)
+has_sought fitting linked last (Some (Sought bucket turn)) result is free = record { bucket = bucket; turn = turn; had = refl; answer = is }
+
+module _ (w : World) (helper : ℕ) (many : length (helps_of w.table) ≡ w.limits.callers) where
+  abbrev before : State
+  before = state_of w
+
+  abbrev answer_now : Result InitLink Refusal
+  answer_now = link_answer (helper_fits w.table helper) (linked_of w.table) (last_of w.table) (slice_get (helps_of w.table) helper)
+
+  link_refusal : refusal_of before (steps.InitLink helper) ≡ refusal_by_test answer_now
+  link_refusal = at (slice_get (helps_of w.table) helper) refl
+    where
+      tested : (o : Option Help) → nat_le w.limits.callers helper ≡ not (is_some o) → slice_get (helps_of w.table) helper ≡ o → refusal_of before (steps.InitLink helper) ≡ cond (not (is_some o)) (Some refusals.NoSuchHelper) (cond (not (has_cursor (unwrap_or o Nothing))) (Some refusals.HelperOutOfOrder) None)
+      tested o within is = λ i. cond (within i) (Some refusals.NoSuchHelper) (cond (not (has_cursor (unwrap_or (is i) Nothing))) (Some refusals.HelperOutOfOrder) None)
+
+      at : (o : Option Help) → slice_get (helps_of w.table) helper ≡ o → refusal_of before (steps.InitLink helper) ≡ refusal_by_test (link_answer (helper_fits w.table helper) (linked_of w.table) (last_of w.table) o)
+      at None is = tested None (helper_none (helps_of w.table) w.limits.callers helper many is) is
+      at (Some Nothing) is = tested (Some Nothing) (helper_there (helps_of w.table) w.limits.callers helper Nothing many is) is
+      at (Some (Dummy bucket)) is = tested (Some (Dummy bucket)) (helper_there (helps_of w.table) w.limits.callers helper (Dummy bucket) many is) is
+      at (Some (Sought bucket turn)) is = tested (Some (Sought bucket turn)) (helper_there (helps_of w.table) w.limits.callers helper (Sought bucket turn) many is) is ∙ linking_test (helper_fits w.table helper) (is_stored (linked_of w.table) bucket) (last_of w.table == 2 ^ 64 - 2)
+
+  -- The bucket that the helper sought, and whether its dummy is linked.
+  bucket_had : (help : Help) → slice_get (helps_of w.table) helper ≡ Some help → bucket_at (help_in (helps_of w.table) helper) ≡ bucket_at help
+  bucket_had help had = ap (λ (o : Option Help). bucket_at (unwrap_or o Nothing)) had
+
+  lacks_when : (bucket turn : ℕ) (there : Bool) → slice_get (helps_of w.table) helper ≡ Some (Sought bucket turn) → is_set (linked_of w.table) bucket ≡ there → lacks_dummy before helper ≡ not there
+  lacks_when bucket turn there had is = ap (λ n. not (is_set (linked_of w.table) n)) (bucket_had (Sought bucket turn) had) ∙ ap not is
+
+  -- Want of memory or of stamps, or a refusal by a test.
+  pub link_refused_move : (result : Result InitLink Refusal) → (result ≢ Err refusals.NoMemory → result ≡ answer_now) → (result ≡ Err refusals.NoMemory → answer_now ≡ Ok links.Linked) → (refusal : Refusal) → result ≡ Err refusal → (t' : TableAt) → t' ≡ w.table
+      → Move before (steps.InitLink helper) (answers.Refused refusal) (state_of (served w t' w.placed))
+  link_refused_move result says no_memory refusal is t' same = subst (λ u. Move before (steps.InitLink helper) (answers.Refused refusal) (state_of (served w u w.placed))) (sym same) (at refusal is)
+    where
+      by_test : (refusal : Refusal) → result ≡ Err refusal → refusal ≢ refusals.NoMemory → refusal_by_test (Err refusal) ≡ Some refusal → Move before (steps.InitLink helper) (answers.Refused refusal) before
+      by_test refusal is other tested =
+          let now : result ≡ answer_now = says (λ e. other (let both : Err refusal ≡ Err refusals.NoMemory = sym is ∙ e in cc)) in
+          refused before (steps.InitLink helper) refusal (link_refusal ∙ ap refusal_by_test (sym now ∙ is) ∙ tested)
+
+      at : (refusal : Refusal) → result ≡ Err refusal → Move before (steps.InitLink helper) (answers.Refused refusal) before
+      at refusals.NoMemory is =
+          let linked : answer_now ≡ Ok links.Linked = no_memory is in
+          let sought = has_sought (helper_fits w.table helper) (linked_of w.table) (last_of w.table) (slice_get (helps_of w.table) helper) (Ok links.Linked) linked refl in
+          let parts = linking_linked (helper_fits w.table helper) (is_stored (linked_of w.table) sought.bucket) (last_of w.table == 2 ^ 64 - 2) sought.answer in
+          lacks before (steps.InitLink helper) refusals.NoMemory (link_refusal ∙ ap refusal_by_test linked)
+          (and_from (lacks_dummy before helper) (has_stamp before) (lacks_when sought.bucket sought.turn false sought.had (is_set_is (linked_of w.table) sought.bucket ∙ parts.0)) (ap not parts.1))
+      at refusals.StampsUsedUp is =
+          let now : answer_now ≡ Err refusals.StampsUsedUp = sym (says (λ e. let both : Err refusals.StampsUsedUp ≡ Err refusals.NoMemory = sym is ∙ e in cc)) ∙ is in
+          let sought = has_sought (helper_fits w.table helper) (linked_of w.table) (last_of w.table) (slice_get (helps_of w.table) helper) (Err refusals.StampsUsedUp) now refl in
+          let parts = linking_used (helper_fits w.table helper) (is_stored (linked_of w.table) sought.bucket) (last_of w.table == 2 ^ 64 - 2) sought.answer in
+          lacks before (steps.InitLink helper) refusals.StampsUsedUp (link_refusal ∙ ap refusal_by_test now)
+          (and_from (lacks_dummy before helper) (not (has_stamp before)) (lacks_when sought.bucket sought.turn false sought.had (is_set_is (linked_of w.table) sought.bucket ∙ parts.0)) (ap (λ b. not (not b)) parts.1))
+      at refusals.BadKey is = by_test refusals.BadKey is (λ e. cc (e)) refl
+      at refusals.NoSuchCaller is = by_test refusals.NoSuchCaller is (λ e. cc (e)) refl
+      at refusals.NotOpen is = by_test refusals.NotOpen is (λ e. cc (e)) refl
+      at refusals.AlreadyOpen is = by_test refusals.AlreadyOpen is (λ e. cc (e)) refl
+      at refusals.OperationUnfinished is = by_test refusals.OperationUnfinished is (λ e. cc (e)) refl
+      at refusals.Leaving is = by_test refusals.Leaving is (λ e. cc (e)) refl
+      at refusals.Unplaced is = by_test refusals.Unplaced is (λ e. cc (e)) refl
+      at refusals.NothingToSeek is = by_test refusals.NothingToSeek is (λ e. cc (e)) refl
+      at refusals.NoSuchLevel is = by_test refusals.NoSuchLevel is (λ e. cc (e)) refl
+      at refusals.NoSuchBucket is = by_test refusals.NoSuchBucket is (λ e. cc (e)) refl
+      at refusals.ParentMissing is = by_test refusals.ParentMissing is (λ e. cc (e)) refl
+      at refusals.NoSuchHelper is = by_test refusals.NoSuchHelper is (λ e. cc (e)) refl
+      at refusals.HelperOutOfOrder is = by_test refusals.HelperOutOfOrder is (λ e. cc (e)) refl
+      at refusals.OutOfStep is = by_test refusals.OutOfStep is (λ e. cc (e)) refl
+      at refusals.CallersMissing is = by_test refusals.CallersMissing is (λ e. cc (e)) refl
+      at refusals.NoThread is = by_test refusals.NoThread is (λ e. cc (e)) refl
+      at refusals.StaleWord is = by_test refusals.StaleWord is (λ e. cc (e)) refl
+      at refusals.NotJson is = by_test refusals.NotJson is (λ e. cc (e)) refl
+      at refusals.WrongShape is = by_test refusals.WrongShape is (λ e. cc (e)) refl
+      at refusals.Limit is = by_test refusals.Limit is (λ e. cc (e)) refl
+
+  -- The cursor did not fit, and is dropped.
+  pub link_again_move : answer_now ≡ Ok links.Again → IsFresh w.table w.sessions w.placed → ((bucket : ℕ) → slice_get (helps_of w.table) helper ≡ Some (Sought bucket (turn_of w.table)) → turn_of w.table < 2 ^ 64 - 1 → ⊥) → (t' : TableAt) → Helps w.table t' helper Nothing → turn_of t' ≡ turn_of w.table
+      → Move before (steps.InitLink helper) answers.Again (state_of (served w t' None))
+  link_again_move is fresh in_turn t' helps turn =
+      let sought = has_sought (helper_fits w.table helper) (linked_of w.table) (last_of w.table) (slice_get (helps_of w.table) helper) (Ok links.Again) is refl in
+      record {
+        allowed = (link_refusal ∙ ap refusal_by_test is, stale sought.bucket sought.turn sought.had (linking_again (helper_fits w.table helper) (is_stored (linked_of w.table) sought.bucket) (last_of w.table == 2 ^ 64 - 2) sought.answer));
+        state = becomes_state w t' None (size_of w.table) (stored_of w.table) (linked_of w.table) (slice_set (helps_of w.table) helper Nothing) helps.becomes;
+        changes = omega arith;
+        list_kept = λ kept. turn;
+        stamp = let same = helps.last in omega arith;
+        one_stamp = let same = helps.last in omega arith;
+      }
+    where
+      not_fresh : helper_fits w.table helper ≡ false → (o : Option Owner) → IsFresh w.table w.sessions o → is_just_placed (Helper helper) o ≡ false
+      not_fresh misfit None fresh = refl
+      not_fresh misfit (Some (Caller d)) fresh = refl
+      not_fresh misfit (Some (Helper d)) fresh = elim (cases_eq helper d) [
+        | inl same ↦ absurd (false≢true (sym misfit ∙ ap (helper_fits w.table) same ∙ fresh))
+        | inr other ↦ ne_eqb helper d other
+      ]
+
+      not_in_turn : (bucket turn : ℕ) → slice_get (helps_of w.table) helper ≡ Some (Sought bucket turn) → (turn == turn_of w.table && nat_lt turn (2 ^ 64 - 1)) ≡ false
+      not_in_turn bucket turn had = elim (cases_Bool (turn == turn_of w.table && nat_lt turn (2 ^ 64 - 1))) [
+        | inr is ↦ is
+        | inl is ↦
+            let parts = and_parts (turn == turn_of w.table) (nat_lt turn (2 ^ 64 - 1)) is in
+            let same : turn ≡ turn_of w.table = eqb-true turn (turn_of w.table) parts.0 in
+            let below : turn < 2 ^ 64 - 1 = ltb-true turn (2 ^ 64 - 1) parts.1 in
+            absurd (in_turn bucket (had ∙ ap (λ n. Some (Sought bucket n)) same) (omega arith))
+      ]
+
+      stale : (bucket turn : ℕ) → slice_get (helps_of w.table) helper ≡ Some (Sought bucket turn) → helper_fits w.table helper ≡ false → may_be_stale before (Helper helper) ≡ true
+      stale bucket turn had misfit =
+          ap (λ (o : Option Help). elim (state_turn_at (unwrap_or o Nothing)) as (λ _. Bool) [ None ↦ false | Some turn ↦ not (is_just_placed (Helper helper) w.placed) && not (turn == turn_of w.table && nat_lt turn (2 ^ 64 - 1)) ]) had
+          ∙ (λ i. not (not_fresh misfit w.placed fresh i) && not (not_in_turn bucket turn had i))
+
+  -- The dummy was linked already.
+  pub link_present_move : answer_now ≡ Ok links.Present → (t' : TableAt) → Holds w.table t' helper → Move before (steps.InitLink helper) answers.Present (state_of (served w t' None))
+  link_present_move is t' holds = record {
+    allowed = (link_refusal ∙ ap refusal_by_test is, ap not (lacks_when holds.bucket holds.turn true holds.had (ap (λ (o : Option Bool). unwrap_or o false) holds.there)));
+    state = becomes_state w t' None (size_of w.table) (stored_of w.table) (linked_of w.table) (slice_set (helps_of w.table) helper (Dummy holds.bucket)) holds.helps.becomes
+        ∙ ap (λ n. record { limits = w.limits; history = w.history ++ []; size = size_of w.table; stored = stored_of w.table; linked = linked_of w.table; nodes = nodes_at t'; changes = turn_of t'; stamp = last_of t'; cursors = map turn_at w.sessions; gaps = map (gap_by t') w.sessions; helpers = slice_set (helps_of w.table) helper (Dummy n); placed = None })
+        (sym (bucket_had (Sought holds.bucket holds.turn) holds.had));
+    changes = let same = holds.kept in omega arith;
+    list_kept = λ kept. holds.kept;
+    stamp = let same = holds.helps.last in omega arith;
+    one_stamp = let same = holds.helps.last in omega arith;
+  }
+
+  -- The dummy is linked now.
+  pub link_linked_move : answer_now ≡ Ok links.Linked → (t' : TableAt) → Links w.table t' helper → turn_of w.table ≤ turn_of t' → Move before (steps.InitLink helper) answers.Linked (state_of (served w t' None))
+  link_linked_move is t' linked turn =
+      let sought = has_sought (helper_fits w.table helper) (linked_of w.table) (last_of w.table) (slice_get (helps_of w.table) helper) (Ok links.Linked) is refl in
+      let parts = linking_linked (helper_fits w.table helper) (is_stored (linked_of w.table) sought.bucket) (last_of w.table == 2 ^ 64 - 2) sought.answer in
+      record {
+        allowed = (link_refusal ∙ ap refusal_by_test is, and_from (lacks_dummy before helper) (has_stamp before) (lacks_when linked.bucket linked.turn false linked.had (ap (λ (o : Option Bool). unwrap_or o false) linked.absent)) (ap not parts.1));
+        state = becomes_state w t' None (size_of w.table) (stored_of w.table) (slice_set (linked_of w.table) linked.bucket true) (slice_set (helps_of w.table) helper (Dummy linked.bucket)) linked.becomes
+            ∙ ap (λ n. record { limits = w.limits; history = w.history ++ []; size = size_of w.table; stored = stored_of w.table; linked = slice_set (linked_of w.table) n true; nodes = nodes_at t'; changes = turn_of t'; stamp = last_of t'; cursors = map turn_at w.sessions; gaps = map (gap_by t') w.sessions; helpers = slice_set (helps_of w.table) helper (Dummy n); placed = None })
+            (sym (bucket_had (Sought linked.bucket linked.turn) linked.had));
+        changes = turn;
+        list_kept = λ kept. absurd (false≢true kept);
+        stamp = let more = linked.last in omega arith;
+        one_stamp = let more = linked.last in omega arith;
+      }

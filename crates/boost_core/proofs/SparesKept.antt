@@ -1,0 +1,118 @@
+-- The spares that a caller keeps once its operation is done.
+use Rattle.std.proofs.Common.{◌≡◌, ℕ, ◌+◌, ◌-◌, ◌^◌, ◌<◌, ◌≤◌, ◌==◌, ◌&&◌, Bool, true, false, cond, List, [], ◌∷◌, ◌++◌, length, Option, Some, None, is_some, refl, sym, ap, subst, ◌∙◌, arith}
+use Rattle.std.specs.Prelude.{slice_get, slice_set, map, reverse, slice_index, nat_lt, nat_eq, not, option_to_list}
+use Rattle.std.specs.Option.{option_map, option_eq}
+use Rattle.std.specs.List.{AllByRecursion}
+use Rattle.std.proofs.lemmas.Bool.{false≢true, cases_Bool, cases_eq, ne_eqb, and_from, and_parts, eqb-true, ltb-true}
+use Rattle.std.proofs.lemmas.List.{reverse-append, append-nil}
+use Rattle.std.proofs.lemmas.List.Sums.{sum_by_push}
+use Rattle.std.proofs.lemmas.Option.{slice_get_within}
+use mathlib.Core.Logic.{inl, inr}
+use Rattle.txn_trace.specs.declared.op.Op.{Op}
+use Rattle.txn_trace.specs.declared.op.Op.TheVariants.{Put, Take, Get, PutIf}
+use Rattle.txn_trace.specs.Map.{get, key_of, reply_of, after}
+use Rattle.txn_trace.specs.Now.{set_at}
+use Rattle.txn_trace.specs.Locks.{stripe_of}
+use Rattle.txn_trace.specs.Legal.{runs, is_running}
+use Rattle.txn_trace.specs.Shape.{changes}
+use Rattle.txn_trace.proofs.Acting.{get-after_other}
+use Rattle.txn_trace.proofs.Table.{get-set_at}
+use Rattle.txn_trace.proofs.Held.{waiting_held, log_held, held_apart}
+use Rattle.map_ops.specs.declared.job.MapJob.TheVariants.{Unput, Restore, Relink}
+use Rattle.map_ops.specs.Jobs.{takes_node, key_of_job, value_before, spare_of_job, unput, relink, job_of}
+use Rattle.map_ops.specs.TableAt.{SpareAt, Keeps, KeepsSpares, fits}
+use Rattle.map_ops.specs.Changes.{Spends, SpendsFor}
+use Rattle.txn_trace.specs.declared.entry.Entry.TheVariants as entry
+use Rattle.txn_trace.specs.declared.step.Step.TheVariants as steps
+use Rattle.txn_trace.specs.declared.answer.Answer.TheVariants as answers
+use Rattle.txn_trace.specs.Map.{Map}
+use Rattle.txn_trace.specs.Serial.{serial}
+use Rattle.txn_trace.specs.Now.{now}
+use Rattle.txn_trace.specs.Locks.{holder_of}
+use Rattle.txn_trace.specs.Log.{log_of}
+use Rattle.txn_trace.specs.declared.seat.Phase.{Phase}
+use Rattle.txn_trace.specs.declared.seat.Phase.TheVariants.{Closed, Opened, Waiting, LeavingTo, LeavingToEnd}
+use Rattle.txn_trace.specs.Shape.{Seat}
+use Rattle.txn_trace.specs.Seats.{has_job, has_target}
+use Rattle.txn_trace.proofs.Next.{Next}
+use Rattle.txn_trace.proofs.Entries as laws
+use Rattle.undo_log.specs.UndoLog.{kept_at}
+use Rattle.map_ops.specs.declared.job.MapJob.{MapJob}
+use Rattle.map_ops.specs.Jobs.{PendingAt}
+use Rattle.map_ops.specs.TableAt.{TableAt, Cursor, content, cursor_turn, map_of, turn_of, IsPlaced}
+use Rattle.boost_core.specs.declared.session.Session.{Session}
+use Rattle.boost_core.specs.State.{Owner, Caller, Helper, seat_in, turn_in}
+use Rattle.boost_core.specs.Refusals.{refusal_of}
+use Rattle.boost_core.specs.Spares.{times_of, times_in, times_out, IsCovered}
+use Rattle.boost_core.specs.Core.{World, Tells, IsFresh, state_of, turn_at}
+use Rattle.boost_core.proofs.Numbers.{no_more}
+use Rattle.boost_core.specs.Answers.{IsReply, is_just_placed, may_be_stale}
+use Rattle.boost_core.specs.Sessions.{target_in, target_of, level_of, IsPlacedFor, IsSoughtAt, KeepsPlaced, Waits, spare_if, times_kept, change_of, changes_of, AreDue, SeeksIn, DoesIn, Drops, TakesBackIn}
+use Rattle.boost_core.proofs.Spares.{spent, still_covered}
+use Rattle.boost_core.proofs.Due.{NotedIf, noted, changes_noted, due_noted}
+use Rattle.boost_core.proofs.Sides.{IsGoing, going, waiting_op, changes_last}
+use Rattle.boost_core.proofs.Refused.{seat_here, turn_here}
+
+relinked_put : (k : ℕ) (o : Option ℕ) (j v : ℕ) (kept : SpareAt) (spare : Option SpareAt) → Some (Relink j v kept) ≡ unput k o → spare ≡ Some kept
+relinked_put k None j v kept spare is = absurd (cc (is))
+relinked_put k (Some old) j v kept spare is = absurd (cc (is))
+
+relinked_take : (k : ℕ) (o : Option ℕ) (j v : ℕ) (kept : SpareAt) (spare : Option SpareAt) → Some (Relink j v kept) ≡ relink k o spare → spare ≡ Some kept
+relinked_take k None j v kept spare is = absurd (cc (is))
+relinked_take k (Some old) j v kept None is = absurd (cc (is))
+relinked_take k (Some old) j v kept (Some given) is = let same : given ≡ kept = cc (is) in ap Some same
+
+-- A job that links a node again has the spare of its operation.
+relinked : (m : Map) (op : Op) (j v : ℕ) (kept : SpareAt) (spare : Option SpareAt) → Some (Relink j v kept) ≡ job_of m op spare → spare ≡ Some kept
+relinked m (Put k w) j v kept spare is = relinked_put k (get m k) j v kept spare is
+relinked m (Take k) j v kept spare is = relinked_take k (get m k) j v kept spare is
+relinked m (Get k) j v kept spare is = absurd (cc (is))
+relinked m (PutIf k expected w) j v kept spare is = elim (cases_Bool (option_eq nat_eq (get m k) expected)) [
+  | inl made ↦ relinked_put k (get m k) j v kept spare (is ∙ ap (λ b. cond b (unput k (get m k)) None) made)
+  | inr same ↦ absurd (let none : Some (Relink j v kept) ≡ None = is ∙ ap (λ b. cond b (unput k (get m k)) None) same in cc (none))
+]
+
+-- The spares that a caller keeps once its operation is done.
+spent_covered : (t t' : TableAt) (spare : Option SpareAt) (jobs jobs' : List MapJob) → ((place stamp : ℕ) → times_in jobs' place stamp ≡ times_in jobs place stamp + 0) → Spends t t' spare
+    → (others : ℕ → ℕ → ℕ) → IsCovered (λ place stamp. others place stamp + (times_of spare place stamp + times_in jobs place stamp)) t
+    → IsCovered (λ place stamp. others place stamp + (0 + times_in jobs' place stamp)) t'
+spent_covered t t' spare jobs jobs' same spends others covered place stamp =
+    let after : others place stamp + times_in jobs place stamp ≡ times_out t' place stamp =
+    spent t t' spare (λ p s. others p s + times_in jobs p s) spends (λ p s.
+    let exact : others p s + (times_of spare p s + times_in jobs p s) ≡ times_out t p s = covered p s in
+    regroup (others p s) (times_of spare p s) (times_in jobs p s) (times_out t p s) exact) place stamp in
+    let is = same place stamp in
+    regroup' (others place stamp) (times_in jobs' place stamp) (times_in jobs place stamp) (times_out t' place stamp) is after
+  where
+    regroup : (a b d n : ℕ) → a + (b + d) ≡ n → a + d + b ≡ n
+    regroup a b d n exact = omega arith
+
+    regroup' : (a b d n : ℕ) → b ≡ d + 0 → a + d ≡ n → a + (0 + b) ≡ n
+    regroup' a b d n same exact = omega arith
+
+pub times_more : (jobs : List MapJob) (job : MapJob) (place stamp : ℕ) → times_in (jobs ++ job ∷ []) place stamp ≡ times_in jobs place stamp + times_of (spare_of_job job) place stamp
+times_more jobs job place stamp = sum_by_push (λ (j : MapJob). times_of (spare_of_job j) place stamp) jobs job
+
+pub times_same : (jobs : List MapJob) (place stamp : ℕ) → times_in (jobs ++ []) place stamp ≡ times_in jobs place stamp + 0
+times_same jobs place stamp = ap (λ (js : List MapJob). times_in js place stamp) (append-nil jobs) ∙ no_more (times_in jobs place stamp)
+
+relinked_covered : (t t' : TableAt) (spare : Option SpareAt) (kept : SpareAt) (k old : ℕ) (jobs : List MapJob) → spare ≡ Some kept → KeepsSpares t t'
+    → (others : ℕ → ℕ → ℕ) → IsCovered (λ place stamp. others place stamp + (times_of spare place stamp + times_in jobs place stamp)) t
+    → IsCovered (λ place stamp. others place stamp + (0 + times_in (jobs ++ Relink k old kept ∷ []) place stamp)) t'
+relinked_covered t t' spare kept k old jobs is spends others covered place stamp =
+    let exact : others place stamp + (times_of spare place stamp + times_in jobs place stamp) ≡ times_out t' place stamp = still_covered t t' (λ p s. others p s + (times_of spare p s + times_in jobs p s)) spends covered place stamp in
+    let more = times_more jobs (Relink k old kept) place stamp in
+    let same : times_of spare place stamp ≡ times_of (Some kept) place stamp = ap (λ (o : Option SpareAt). times_of o place stamp) is in
+    regroup (others place stamp) (times_of spare place stamp) (times_of (Some kept) place stamp) (times_in jobs place stamp) (times_in (jobs ++ Relink k old kept ∷ []) place stamp) (times_out t' place stamp) same more exact
+  where
+    regroup : (a b d j k n : ℕ) → b ≡ d → k ≡ j + d → a + (b + j) ≡ n → a + (0 + k) ≡ n
+    regroup a b d j k n same more exact = omega arith
+
+pub done_covered : (t t' : TableAt) (spare : Option SpareAt) (job : Option MapJob) (jobs : List MapJob) (m : Map) (op : Op) → job ≡ job_of m op spare → SpendsFor t t' spare job
+    → (others : ℕ → ℕ → ℕ) → IsCovered (λ place stamp. others place stamp + (times_of spare place stamp + times_in jobs place stamp)) t
+    → IsCovered (λ place stamp. others place stamp + (0 + times_in (jobs ++ option_to_list job) place stamp)) t'
+done_covered t t' spare None jobs m op is spends others covered = spent_covered t t' spare jobs (jobs ++ []) (times_same jobs) spends others covered
+done_covered t t' spare (Some (Unput k)) jobs m op is spends others covered = spent_covered t t' spare jobs (jobs ++ Unput k ∷ []) (times_more jobs (Unput k)) spends others covered
+done_covered t t' spare (Some (Restore k old)) jobs m op is spends others covered = spent_covered t t' spare jobs (jobs ++ Restore k old ∷ []) (times_more jobs (Restore k old)) spends others covered
+done_covered t t' spare (Some (Relink k old kept)) jobs m op is spends others covered =
+    relinked_covered t t' spare kept k old jobs (relinked m op k old kept spare is) spends others covered
