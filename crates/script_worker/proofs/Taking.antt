@@ -65,3 +65,10 @@ pub next_maps : {X F : Type 0} (takes : X → Step → Answer → X → Type 0) 
     (scripts : List (List Action)) (tries size : ℕ) (x : F) (before : Standing) (outcome : Option Outcome) (y : F) (after : Standing) → I x x → TakesNext R size scripts tries x before outcome y after
     → ((z : F) (s : Step) (a : Answer) (y : F) → I x z → R z s a y → takes (p z) s a (p y) × I x y) → TakesNext takes size scripts tries (p x) before outcome (p y) after × I x y
 next_maps takes R I p scripts tries size x before outcome y after i taken each = part_next takes R (I x) p each scripts tries size x before outcome y after i taken
+
+-- What is left behind is the same.
+pub next_at : {X : Type 0} (takes : X → Step → Answer → X → Type 0) (size : ℕ) (scripts : List (List Action)) (tries : ℕ) (old : X) (before : Standing) (o p : Option Outcome) (y z : X) (v w : Standing)
+    → TakesNext takes size scripts tries old before o y v → o ≡ p → y ≡ z → v ≡ w → TakesNext takes size scripts tries old before p z w
+next_at takes size scripts tries old before o p y z v w taken o_is y_is v_is =
+    subst (λ x. TakesNext takes size scripts tries old before x z w) o_is
+    (subst (λ x. TakesNext takes size scripts tries old before o x w) y_is (subst (λ (x : Standing). TakesNext takes size scripts tries old before o y x) v_is taken))

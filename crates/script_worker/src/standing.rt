@@ -74,31 +74,22 @@ impl Standing {
         let Some(end) = task.drive.ended() else {
             return (self, None);
         };
-        let (next, outcome) = self.next_task(task, scripts, tries, end);
-        (self.at(next), outcome)
+        self.goes_on(task, scripts, tries, end)
     }
 
-    /// The same worker at another task.
-    fn at(self, task: Option<Task>) -> Standing
-        ensures { result ≡ record self { task = task } }
-    {
-        Standing { task, ..self }
-    }
-
-    /// What the worker is at after its call has ended so; and how its script ended, where it is
-    /// over.
-    fn next_task(
+    /// The worker after its call has ended so; and how its script ended, where it is over.
+    fn goes_on(
         self,
         task: Task,
         scripts: &[Script],
         tries: u64,
         end: End,
-    ) -> (Option<Task>, Option<Outcome>)
-        ensures task { result.0 ≡ progressed scripts.now tries self task end }
+    ) -> (Standing, Option<Outcome>)
+        ensures worker { result.0 ≡ record self { task = progressed scripts.now tries self task end } }
         ensures outcome { result.1 ≡ outcome_at scripts.now tries task end }
     {
         let Some(script) = scripts.get(task.script) else {
-            return (None, None);
+            return (self.at(None), None);
         };
         match task.attempt.progress(script.actions(), tries, end) {
             Progress::Next(attempt) => {
@@ -109,14 +100,21 @@ impl Standing {
                     drive,
                     ..task
                 };
-                (Some(next), None)
+                (self.at(Some(next)), None)
             }
             Progress::Over(outcome) => {
                 let next = task.script.saturating_add(self.limits.callers() as usize);
-                let task = started(self.number, next, self.limits, scripts);
-                (task, Some(outcome))
+                let next = started(self.number, next, self.limits, scripts);
+                (self.at(next), Some(outcome))
             }
         }
+    }
+
+    /// The same worker at another task.
+    fn at(self, task: Option<Task>) -> Standing
+        ensures { result ≡ record self { task = task } }
+    {
+        Standing { task, ..self }
     }
 }
 
