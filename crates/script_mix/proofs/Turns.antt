@@ -142,7 +142,7 @@ module _ (scripts : List (List Action)) (tries : ℕ) where
       → TakesNext Move size scripts tries old before outcome new after → Goes scripts old new before after
   turn_goes size old new before after outcome is keeps takes =
       let goes = turn_goes_in (record { taker = old; worker = sized_by size before; outcome = None }) (turn_by (sized_by size before)) (record { taker = new; worker = after; outcome = outcome }) is
-      (sized_keeps size scripts before (own before.number old.history) keeps) takes in
+      (sized_keeps size scripts before (own before.number old.history) keeps) takes.steps in
       record { limits = goes.limits; number = goes.number; same = goes.same; others = goes.others; keeps = goes.keeps }
 
 -- At the size that the core's table has.

@@ -59,7 +59,9 @@ fn gives_up(rt: &impl Abort, worker: &mut Worker, scripts: &[Script]) -> Option<
 #[test]
 fn every_second_script(rt: HostRuntime) -> Result<(), Fail> {
     let scripts = scripts_of(&rt, &[&[], &[], &[], &[Action::Save], &[]])?;
-    let mut worker = Worker::new(1, limits(&rt, 2), &scripts);
+    let limits = limits(&rt, 2);
+    assert!(rt; 1 < limits.callers());
+    let mut worker = Worker::new(1, limits, &scripts);
     takes(&rt, &mut worker, &scripts, Step::Begin(1), Answer::Began(1));
     let committed = Answer::Committed(1);
     let outcome = last_of(&rt, &mut worker, &scripts, Step::Commit(1), committed);
@@ -78,8 +80,10 @@ fn every_second_script(rt: HostRuntime) -> Result<(), Fail> {
 #[test]
 fn worker_without_scripts(rt: HostRuntime) -> Result<(), Fail> {
     let scripts = scripts_of(&rt, &[&[]])?;
-    assert!(rt; Worker::new(0, limits(&rt, 2), &scripts).is_live());
-    assert!(rt; !Worker::new(1, limits(&rt, 2), &scripts).is_live());
+    let limits = limits(&rt, 2);
+    assert!(rt; 1 < limits.callers());
+    assert!(rt; Worker::new(0, limits, &scripts).is_live());
+    assert!(rt; !Worker::new(1, limits, &scripts).is_live());
     Ok(())
 }
 
@@ -219,6 +223,7 @@ fn turns_are_taken(rt: HostRuntime) -> Result<(), Fail> {
         ),
     ];
     for (wanted, answer, ended) in turns {
+        assert!(rt; worker.is_live());
         let mut taken = None;
         let outcome = worker.take_turn(
             2,

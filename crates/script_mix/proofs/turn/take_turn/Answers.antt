@@ -1,17 +1,17 @@
 use Rattle.std.proofs.Common.{◌≡◌, rules, of_calls, refl}
 use Rattle.boost_core.specs.Machine.{Move}
-use Rattle.script_worker.proofs.Taking.{next_maps}
+use Rattle.script_worker.proofs.Taking.{next_maps, next_at}
 use Rattle.script_mix.proofs.Turns.{turn_goes, took}
 use Rattle.script_mix.proofs.turn.take_turn.Goals as goal
 
 pub returns-clause-takes : goal.returns-clause-takes
 returns-clause-takes c =
-    let takes = next_maps Move _ (λ x f. f.ghost_name ≡ x.ghost_name) (λ f. f.now) c.args.scripts.now c.args.tries _ _ c.args.worker.now _ _ _ refl c.take_turn-_outcome.ensures.takes (λ x s a y i taken. search (rules, of_calls)) in
-    let turn = took c.args.scripts.now c.args.tries _ _ _ _ _ _ c.size.ensures takes.0 in
-    search (rules, turn, takes)
+    let takes = next_maps Move _ (λ x f. f.0.ghost_name ≡ x.0.ghost_name) (λ f. f.0.now) c.args.scripts.now c.args.tries _ _ c.args.worker.now _ _ _ refl c.take_turn-outcome.ensures.takes (λ x s a y i taken. search (rules, of_calls)) in
+    let turn = took c.args.scripts.now c.args.tries _ _ _ _ _ _ c.size-size.ensures takes.0 in
+    (c.take_turn-outcome.result, next_at _ _ _ _ _ _ _ _ _ _ _ _ turn.1 refl (search (rules, takes)) (search (rules, takes)))
 
 pub returns-clause-goes : goal.returns-clause-goes
 returns-clause-goes c =
-    let takes = next_maps Move _ (λ x f. f.ghost_name ≡ x.ghost_name) (λ f. f.now) c.args.scripts.now c.args.tries _ _ c.args.worker.now _ _ _ refl c.take_turn-_outcome.ensures.takes (λ x s a y i taken. search (rules, of_calls)) in
-    let goes = turn_goes c.args.scripts.now c.args.tries _ _ _ _ _ _ c.take_turn-_outcome.ensures.turn c.requires.keeps takes.0 in
-    search (rules, goes, takes)
+    let takes = next_maps Move _ (λ x f. f.0.ghost_name ≡ x.0.ghost_name) (λ f. f.0.now) c.args.scripts.now c.args.tries _ _ c.args.worker.now _ _ _ refl c.take_turn-outcome.ensures.takes (λ x s a y i taken. search (rules, of_calls)) in
+    turn_goes c.args.scripts.now c.args.tries _ _ _ _ _ _ c.take_turn-outcome.ensures.turn c.requires.keeps
+    (next_at _ _ _ _ _ _ _ _ _ _ _ _ takes.0 refl (search (rules, takes)) (search (rules, takes)))
