@@ -8,16 +8,18 @@ use history_check::{Verdict, check};
 use std::alloc::{AllocError, Global};
 use txn_trace::Entry;
 
-/// Whether a history of a map with so many stripes is legal; `None` where a caller's number is 64 or
-/// more, of which the checker knows none.
+/// Whether the history of a map with this number of stripes is legal; `None` where a caller's number
+/// is 64 or more, since the checker knows no such caller.
 ///
 /// # Errors
 ///
 /// `AllocError` where memory is refused.
 pub fn is_legal(alloc: Global, entries: &[Entry], stripes: u64) -> Result<Option<bool>, AllocError>
     requires { 0 < stripes }
-    ensures legal { IfOk result (λ answer. IfSome answer (λ legal. IsTrue legal ↔ IsLegal stripes entries.now)) }
-    ensures known { IfOk result (λ answer. All (λ entry. caller_of entry < 64) entries.now → IsSome answer) }
+    ensures legal { IfOk result (λ answer.
+        IfSome answer (λ legal. IsTrue legal ↔ IsLegal stripes entries.now)) }
+    ensures known { IfOk result (λ answer.
+        All (λ entry. caller_of entry < 64) entries.now → IsSome answer) }
 {
     for entry in entries {
         if entry.caller() >= 64 {

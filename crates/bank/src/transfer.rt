@@ -7,13 +7,16 @@ ghost use Rattle.bank.specs.Transfers.{IsTransfer, IsOpen, CanAbort};
 use boost_core::Core;
 use txn_trace::{Answer, Step};
 
-/// Moves a sum from one account to another, in a transaction of its own, and answers whether it did. An
-/// account without a key has 0. It does not where the first has too little or the second would pass
-/// 2^64 - 1, where another caller holds one of the stripes (ask again later), and where a step is
-/// refused, as one is for want of memory: then the map is as it was.
+/// Moves a sum from one account to another, in a transaction of its own, and answers whether it
+/// did. An account without a key has 0.
+///
+/// Nothing is moved, and the map is as it was, where the first has too little or the second would
+/// pass 2^64 - 1; where another caller holds one of the stripes (try again later); and where a step
+/// is refused, as for want of memory.
 pub fn transfer(core: &mut Core, caller: u64, from: u64, to: u64, sum: u64) -> bool
     requires { from ≢ to }
-    ensures moved { result ≡ true → IsTransfer from to sum (now core.old.history) (now core.new.history) }
+    ensures moved { result ≡ true
+        → IsTransfer from to sum (now core.old.history) (now core.new.history) }
     ensures kept { result ≡ false → now core.new.history ≡ now core.old.history }
 {
     // What the proof rests on: the history is legal.
@@ -28,7 +31,8 @@ pub fn transfer(core: &mut Core, caller: u64, from: u64, to: u64, sum: u64) -> b
     is_moved
 }
 
-/// Reads both accounts, writes both and commits; or answers false, and the transaction is to be aborted.
+/// Reads both accounts, writes both and commits; or answers false: then the transaction is to be
+/// aborted.
 fn move_sum(core: &mut Core, caller: u64, from: u64, to: u64, sum: u64) -> bool
     requires { from ≢ to }
     ensures moved { (base : Map) → IsOpen caller base core.old → result ≡ true

@@ -12,8 +12,8 @@ use txn_trace::{Limits, Refusal, Reply};
 ///
 /// # Errors
 ///
-/// The first `Stop` of its calls: after `Busy` the transaction is aborted and may be begun anew, after
-/// `Refused` it is as it was.
+/// The first `Stop` of its calls: after `Busy` the transaction is aborted and may be begun anew,
+/// after `Refused` it is as it was.
 fn put_and_get<L: Ledger, R: Wait>(
     rt: &R,
     map: &SharedMap<L>,
@@ -31,6 +31,10 @@ fn put_and_get<L: Ledger, R: Wait>(
 }
 
 /// Makes a map for one caller, puts and gets, and closes it: what is put is got.
+///
+/// # Errors
+///
+/// The `Stop` of a call; or `Refused` where memory is refused, or where the map does not close.
 pub fn visit<L: Ledger, R: Wait>(
     rt: &R,
     alloc: Global,
