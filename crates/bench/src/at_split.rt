@@ -4,7 +4,7 @@ ghost use Rattle.node_list.specs.Nodes.{IsRegularAt};
 ghost use Rattle.list_steps.specs.Found.{IsPlaced};
 ghost use Rattle.list_steps.specs.Seek.{IsStart};
 
-use list_steps::{Cursor, link, look, mark, seek, swap};
+use list_steps::{Cursor, link_at, look, mark_at, seek, swap_at};
 use node_list::{Kind, NodeList, NodeRef, SpareFault};
 use split_key::SortKey;
 
@@ -46,7 +46,7 @@ pub(crate) fn put(
     }
     let cursor = seek(list, from, at);
     match look(list, &cursor) {
-        Ok(None) => Ok(Some(link(list, cursor.pred(), spare))),
+        Ok(None) => Ok(Some(link_at(list, cursor.pred(), spare))),
         _ => {
             list.give_back(spare);
             Ok(None)
@@ -74,7 +74,7 @@ pub(crate) fn write(list: &mut NodeList, from: NodeRef, at: SortKey, value: u64)
     }
     let cursor = seek(list, from, at);
     let node = regular_there(list, &cursor)?;
-    Some(swap(list, node, value))
+    Some(swap_at(list, node, value))
 }
 
 /// Marks the regular node with this sort key, and answers its value.
@@ -84,5 +84,5 @@ pub(crate) fn take(list: &mut NodeList, from: NodeRef, at: SortKey) -> Option<u6
     }
     let cursor = seek(list, from, at);
     let node = regular_there(list, &cursor)?;
-    Some(mark(list, node))
+    Some(mark_at(list, node))
 }

@@ -12,7 +12,7 @@ ghost use Rattle.bucket_table.specs.Dummies.{IsBeforeBucket, IsKeyed, has_dummy}
 
 use crate::answer::{Double, InitLink, InitRefusal, InitSeek};
 use crate::helper::Helper;
-use list_steps::{Again, Cursor, link, look, seek};
+use list_steps::{Again, Cursor, link_at, look, seek};
 use node_list::{Kind, NodeList, NodeRef};
 use split_key::{SortKey, parent};
 use std::alloc::{AllocError, Global};
@@ -305,5 +305,5 @@ fn link_dummy(list: &mut NodeList, pred: NodeRef, bucket: u32) -> Result<NodeRef
 {
     let mut spare = list.spare()?;
     spare.fill(SortKey::dummy(bucket), Kind::Dummy, 0);
-    Ok(link(list, pred, spare))
+    Ok(link_at(list, pred, spare))
 }

@@ -4,7 +4,7 @@ ghost use Rattle.bucket_table.specs.Home.{IsHome};
 ghost use Rattle.bucket_table.specs.Dummies.{IsKeyed};
 
 use crate::{Buckets, Double, InitLink, InitRefusal, InitSeek};
-use list_steps::{link, look, seek};
+use list_steps::{link_at, look, seek};
 use node_list::{Kind, NodeList};
 use split_key::{Key, SortKey, bucket_of};
 use std::alloc::{AllocError, Global};
@@ -72,7 +72,7 @@ fn put(list: &mut NodeList, buckets: &Buckets, number: u64) -> Result<(), Fail>
     let Ok(None) = look(list, &cursor) else {
         return Err("the key was there".into());
     };
-    let _ = link(list, cursor.pred(), spare);
+    let _ = link_at(list, cursor.pred(), spare);
     Ok(())
 }
 

@@ -1,15 +1,17 @@
 -- What stands where a cursor fits, and what each step does there.
 use Rattle.std.proofs.Common.{◌≡◌, ℕ, ◌<◌, List, [], ◌∷◌, Option, Some, None, true, false, refl, sym, ◌∙◌, ap, subst, arith}
-use Rattle.node_list.specs.declared.node.Kind.TheVariants.{Regular}
-use Rattle.node_list.specs.Nodes.{NodeAt, Listing, Becomes, Takes, IsRegularAt, node_of, place_of, linked_after, marked_at, written_at}
+use Rattle.std.specs.Prelude.{IsSomeAnd, IsTrue}
+use Rattle.node_list.specs.declared.node.Kind.{Kind}
+use Rattle.node_list.specs.declared.node.Kind.TheVariants.{Dummy, Regular}
+use Rattle.node_list.specs.Nodes.{NodeAt, Listing, Becomes, Takes, IsRegularAt, node_of, is_regular, place_of, linked_after, marked_at, written_at}
 use Rattle.node_list.specs.Order.{IsVacant}
 use Rattle.node_list.specs.Sound.{IsSound}
 use Rattle.list_steps.specs.declared.cursor.Cursor.{Cursor}
 use Rattle.list_steps.specs.Content.{pairs, pair_of, Replaces}
-use Rattle.list_steps.specs.Found.{fits, node_there, pred_of, at_of, IsPlaced}
+use Rattle.list_steps.specs.Found.{fits, node_there, pred_of, at_of, IsPlaced, IsKeyThere}
 use Rattle.list_steps.specs.Steps.{IsAbsent, IsThere, Finds, Links, Marks, Swaps}
 use Rattle.node_list.proofs.OrderLemmas.{some-injective, some-none}
-use Rattle.list_steps.proofs.NodeLemmas.{no_place}
+use Rattle.list_steps.proofs.NodeLemmas.{found_at, no_place}
 use Rattle.list_steps.proofs.OrderLemmas.{none_between}
 use Rattle.list_steps.proofs.ContentLemmas.{pairs_linked, pairs_marked, pairs_written, pairs_contain}
 use Rattle.list_steps.proofs.CursorLemmas.{there, above, low, fits_pred}
@@ -19,7 +21,7 @@ module _ (l : Listing) (c : Cursor) (sound : IsSound l) (placed : IsPlaced l c) 
   pred = fits_pred l c fitting
 
   -- Where no node has the sort key, it belongs right behind the cursor's first node.
-  vacant_where_fits : node_there l c ≡ None → IsVacant l.nodes (pred_of c) (at_of c)
+  pub vacant_where_fits : node_there l c ≡ None → IsVacant l.nodes (pred_of c) (at_of c)
   vacant_where_fits none = record {
     node = pred.0;
     is = pred.1;
@@ -58,6 +60,35 @@ module _ (l : Listing) (c : Cursor) (sound : IsSound l) (placed : IsPlaced l c) 
   pub finds : (found : Option ℕ) → found ≡ place_of (node_there l c) → Finds l c found
   finds None none = absent (no_place (node_there l c) (sym none))
   finds (Some place) is = there_at place is
+
+  -- A node that is there is regular, if it has to be.
+  pub regular_there : (place : ℕ) → IsThere l c place → IsKeyThere l c → IsRegularAt l.nodes place
+  regular_there place here key_there =
+      let P : Option NodeAt → Type 0 = λ o. IsSomeAnd o (λ m. IsTrue (is_regular m.kind)) in
+      let regular : IsSomeAnd (Some here.node) (λ m. IsTrue (is_regular m.kind)) = subst P here.there (key_there fitting) in
+      record { node = here.node; is = here.is; regular = go here.node.kind regular; unmarked = here.unmarked }
+    where
+      go : (k : Kind) → is_regular k ≡ true → k ≡ Regular
+      go Dummy is = cc
+      go Regular is = refl
+
+  -- And it is there.
+  pub none_absent : IsAbsent l c → IsKeyThere l c → ⊥
+  none_absent absent key_there =
+      let P : Option NodeAt → Type 0 = λ o. IsSomeAnd o (λ m. IsTrue (is_regular m.kind)) in
+      let nothing : IsSomeAnd None (λ (m : NodeAt). IsTrue (is_regular m.kind)) = subst P absent.none (key_there fitting) in
+      nothing
+
+-- The place of the node that is there.
+pub place_there : (l : Listing) (c : Cursor) (place : ℕ) → IsThere l c place → IsSomeAnd (node_there l c) (λ n. n.place ≡ place)
+place_there l c place here =
+    let P : Option NodeAt → Type 0 = λ o. IsSomeAnd o (λ n. n.place ≡ place) in
+    subst P (sym here.there) (found_at l.nodes place here.node here.is).here
+
+-- What is so at a place is so of the node that is there.
+pub so_there : (P : ℕ → Type 0) (o : Option NodeAt) (place : ℕ) → IsSomeAnd o (λ n. n.place ≡ place) → P place → IsSomeAnd o (λ n. P n.place)
+so_there P None place is so = absurd is
+so_there P (Some n) place is so = subst P (sym is) so
 
 -- A node that is linked.
 pub links : (old new : Listing) (pred : ℕ) (x : NodeAt) → IsVacant old.nodes pred x.at → Takes old new (linked_after old.nodes pred x) x.place → node_of new.nodes x.place ≡ Some x → Links old new pred x

@@ -85,3 +85,11 @@ with_key (Some n) at = if is_same n.at at then Some n else None
 -- The node of the sort key sought, if it stands where the cursor is.
 abbrev pub node_there : Listing → Cursor → Option NodeAt
 node_there l c = with_key (behind l c) (at_of c)
+
+-- Where the cursor fits, no node has its sort key.
+abbrev pub IsRoomFor : Listing → Cursor → Type 0
+IsRoomFor l c = fits l c ≡ true → node_there l c ≡ None
+
+-- Where the cursor fits, a regular node has its sort key.
+abbrev pub IsKeyThere : Listing → Cursor → Type 0
+IsKeyThere l c = fits l c ≡ true → IsSomeAnd (node_there l c) (λ n. IsTrue (is_regular n.kind))

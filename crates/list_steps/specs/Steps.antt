@@ -1,5 +1,5 @@
 -- What each step on a list does.
-use Rattle.std.specs.Prelude.{◌≡◌, ◌≢◌, ℕ, List, [], ◌∷◌, Option, Some, None, false, Contains, if◌then◌else◌}
+use Rattle.std.specs.Prelude.{◌≡◌, ◌≢◌, ℕ, List, [], ◌∷◌, Option, Some, None, false, Contains, IsSomeAnd, if◌then◌else◌}
 use Rattle.std.specs.List.{AllByRecursion}
 use Rattle.node_list.specs.declared.node.Kind.TheVariants.{Regular}
 use Rattle.node_list.specs.Nodes.{NodeAt, Listing, Becomes, Takes, node_of, linked_after, marked_at, written_at}
@@ -55,6 +55,14 @@ pub record Swaps (old new : Listing) (place was now : ℕ) : Type 0 where
   pub becomes : Becomes old new (written_at old.nodes place now)
   pub content : Replaces (pairs old.nodes) (pairs new.nodes)
       ((node.at.key, was) ∷ []) ((node.at.key, now) ∷ [])
+
+-- The node of the sort key sought, which had this value, is marked.
+abbrev pub MarksThere : Listing → Listing → Cursor → ℕ → Type 0
+MarksThere old new c value = IsSomeAnd (node_there old c) (λ n. Marks old new n.place value)
+
+-- The node of the sort key sought, which had the first value, has the second.
+abbrev pub SwapsThere : Listing → Listing → Cursor → ℕ → ℕ → Type 0
+SwapsThere old new c was now = IsSomeAnd (node_there old c) (λ n. Swaps old new n.place was now)
 
 -- The nodes without the first marked one.
 unfoldable pub without_first_marked : List NodeAt → List NodeAt

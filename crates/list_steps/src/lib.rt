@@ -18,7 +18,8 @@
 //! change of the list keeps what makes it safe (`IsPlaced`, by the lemma `still_placed`).
 //!
 //! A cursor is tested once: where it fits `look` answers the node of the sort key, or that there is
-//! none, and `link`, `mark` and `swap` go by that.
+//! none, and `link_at`, `mark_at` and `swap_at` go by that. `link`, `mark` and `swap` are these behind
+//! a test of their own.
 //!
 //! A contract sees the list as `node_list` does, and its content as `pairs`: key and value of each
 //! regular, unmarked node, in order. A link of a regular node puts its pair in, a mark takes a pair
@@ -37,5 +38,5 @@ mod tests;
 
 pub use cursor::{Again, Cursor};
 pub use search::seek;
-pub use steps::{link, look, mark, swap};
+pub use steps::{link, link_at, look, mark, mark_at, swap, swap_at};
 pub use sweeps::{SweepOutcome, sweep};

@@ -1,11 +1,11 @@
 //! Worked runs of steps.
-ghost use Rattle.std.specs.Prelude.{◌≡◌, ℕ, IfOk};
+ghost use Rattle.std.specs.Prelude.{◌≡◌, ℕ, IfOk, IsTrue};
 ghost use Rattle.split_key.specs.Sort.{IsBefore, dummy_at};
 ghost use Rattle.node_list.specs.Nodes.{IsOut, IsRegularAt, out_at};
 ghost use Rattle.node_list.specs.Follow.{Follows};
-ghost use Rattle.list_steps.specs.Found.{IsPlaced, at_of};
+ghost use Rattle.list_steps.specs.Found.{IsKeyThere, IsPlaced, at_of};
 
-use crate::{Again, Cursor, SweepOutcome, link, look, mark, seek, swap, sweep};
+use crate::{Again, Cursor, SweepOutcome, link, link_at, look, mark, mark_at, seek, swap, sweep};
 use node_list::{Kind, NodeList, NodeRef, Spare, SpareFault};
 use split_key::{Key, SortKey};
 use std::test::Fail;
@@ -61,8 +61,19 @@ fn linked(list: &mut NodeList, cursor: &Cursor, spare: Spare) -> Result<NodeRef,
     ensures follows { Follows list.old list.new }
 {
     match look(list, cursor) {
-        Ok(None) => Ok(link(list, cursor.pred(), spare)),
+        Ok(None) => Ok(link_at(list, cursor.pred(), spare)),
         _ => Err("the cursor does not fit, or the key is there".into()),
+    }
+}
+
+/// Whether a regular node of the sort key sought is there.
+fn is_key_there(list: &NodeList, cursor: &Cursor) -> bool
+    requires { IsPlaced list.now cursor.now }
+    ensures { IsTrue result → IsKeyThere list.now cursor.now }
+{
+    match look(list, cursor) {
+        Ok(Some(node)) => matches!(list.node(node).kind, Kind::Regular),
+        _ => false,
     }
 }
 
@@ -86,15 +97,22 @@ fn list_steps_in_order(rt: HostRuntime) -> Result<(), Fail> {
     let late = seek_from_head(&mut list, at_four);
 
     let spare = regular_spare(&mut list, at_four, 40)?;
-    let four = linked(&mut list, &late, spare)?;
+    assert_eq!(rt; look(&list, &late), Ok(None));
+    let four = link(&mut list, late, spare).map_err(|_| "key 4")?;
 
     let spare = regular_spare(&mut list, at_two, 20)?;
+    let stamp = spare.stamp();
     assert_eq!(rt; look(&list, &early), Err(Again));
+    let Err((Again, spare)) = link(&mut list, early, spare) else {
+        return Err("linked at a stale cursor".into());
+    };
+    assert_eq!(rt; spare.stamp(), stamp);
 
     let cursor = seek_from_head(&mut list, at_two);
-    assert_eq!(rt; cursor.pred(), four);
+    assert_eq!(rt; cursor.pred.place, four);
     assert_eq!(rt; cursor.cur, None);
-    let _ = linked(&mut list, &cursor, spare)?;
+    assert_eq!(rt; look(&list, &cursor), Ok(None));
+    link(&mut list, cursor, spare).map_err(|_| "key 2")?;
     assert_eq!(rt;
         kinds(&list),
         [
@@ -106,9 +124,8 @@ fn list_steps_in_order(rt: HostRuntime) -> Result<(), Fail> {
     );
 
     let cursor = seek_from_head(&mut list, at_four);
-    let there = regular_there(&list, &cursor)?;
-    assert_eq!(rt; there, four);
-    assert_eq!(rt; mark(&mut list, there), 40);
+    assert!(rt; is_key_there(&list, &cursor));
+    assert_eq!(rt; mark(&mut list, cursor), Ok(40));
     assert_eq!(rt;
         kinds(&list),
         [
@@ -134,21 +151,23 @@ fn values_at_a_cursor(rt: HostRuntime) -> Result<(), Fail> {
     let mut list = NodeList::new(rt.alloc(), 0)?;
     let cursor = seek_from_head(&mut list, at_two);
     let spare = regular_spare(&mut list, at_two, 20)?;
-    let new = linked(&mut list, &cursor, spare)?;
+    assert_eq!(rt; look(&list, &cursor), Ok(None));
+    let two = link(&mut list, cursor, spare).map_err(|_| "key 2")?;
 
     let cursor = seek_from_head(&mut list, at_two);
-    let two = regular_there(&list, &cursor)?;
-    assert_eq!(rt; two, new);
-    assert_eq!(rt; swap(&mut list, two, 21), 20);
+    assert!(rt; is_key_there(&list, &cursor));
+    assert_eq!(rt; swap(&mut list, cursor, 21), Ok(20));
     let node = *list.linked_node(two).ok_or("no key 2")?;
     assert_eq!(rt; node.value, 21);
-    // A written value leaves the cursor fitting.
-    let two = regular_there(&list, &cursor)?;
-    assert_eq!(rt; mark(&mut list, two), 21);
+    assert!(rt;
+        is_key_there(&list, &cursor),
+        "a written value leaves the cursor fitting"
+    );
+    assert_eq!(rt; mark(&mut list, cursor), Ok(21));
     assert_eq!(rt; look(&list, &cursor), Err(Again));
     let passing = seek_from_head(&mut list, at(u64::MAX));
     assert_eq!(rt; passing.cur, None);
-    assert_eq!(rt; passing.pred(), list.head());
+    assert_eq!(rt; passing.pred.place, list.head());
     assert_eq!(rt; kinds(&list), [Some((Kind::Dummy, 0)), None, None, None]);
     assert_eq!(rt; list.changes(), 4);
     Ok(())
@@ -168,7 +187,7 @@ fn take(list: &mut NodeList, number: u64) -> Result<u64, Fail> {
     let at = at(number);
     let cursor = seek_from_head(list, at);
     let node = regular_there(list, &cursor)?;
-    Ok(mark(list, node))
+    Ok(mark_at(list, node))
 }
 
 #[test]

@@ -25,7 +25,7 @@ ghost use Rattle.map_ops.specs.Sound.{Belong};
 use crate::job::MapJob;
 use crate::pending::Plan;
 use bucket_table::Buckets;
-use list_steps::{Again, Cursor, link, look, mark, seek, swap};
+use list_steps::{Again, Cursor, link_at, look, mark_at, seek, swap_at};
 use node_list::{Kind, NodeList, NodeRef, Spare, SpareFault};
 use split_key::{Key, SortKey, bucket_of};
 use txn_trace::{Op, Refusal, Reply};
@@ -122,7 +122,7 @@ fn link_key(list: &mut NodeList, pred: NodeRef, key: Key, value: u64, mut spare:
     ensures follows { Follows list.old list.new }
 {
     spare.fill(SortKey::regular(key), Kind::Regular, value);
-    let _ = link(list, pred, spare);
+    let _ = link_at(list, pred, spare);
 }
 
 /// Writes the value of a key that is there, and answers the one that it had.
@@ -139,7 +139,7 @@ fn swap_key(list: &mut NodeList, node: NodeRef, key: Key, value: u64) -> u64
     ensures belong { Belong list.new.nodes }
     ensures follows { Follows list.old list.new }
 {
-    swap(list, node, value)
+    swap_at(list, node, value)
 }
 
 /// Marks the node of a key that is there, and answers its value.
@@ -156,7 +156,7 @@ fn mark_key(list: &mut NodeList, node: NodeRef, key: Key) -> u64
     ensures belong { Belong list.new.nodes }
     ensures follows { Follows list.old list.new }
 {
-    mark(list, node)
+    mark_at(list, node)
 }
 
 /// Gives a spare back.

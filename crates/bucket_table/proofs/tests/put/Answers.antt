@@ -17,7 +17,7 @@ returns-in_default-clause-keyed c = rw (c.seek-cursor.ensures.nodes, c.in_ok-spa
 
 pub returns-clause-home : goal.returns-clause-home
 returns-clause-home c =
-    still_home _ _ c.link.ensures.follows _ (still_home _ _ c.seek-cursor.ensures.follows _ (still_home _ _ c.in_ok-spare.ensures.follows _ c.requires.home))
+    still_home _ _ c.link_at.ensures.follows _ (still_home _ _ c.seek-cursor.ensures.follows _ (still_home _ _ c.in_ok-spare.ensures.follows _ c.requires.home))
 
 -- A regular node where its key belongs.
 regular_keyed : (n : NodeAt) (number : ℕ) → n.at ≡ regular_at number → IsKeyedNode n
@@ -28,11 +28,11 @@ regular_keyed n number at regular =
 pub returns-clause-keyed : goal.returns-clause-keyed
 returns-clause-keyed c =
     let own = regular_keyed (filled c.fill.new.self) c.args.number (ap (λ (s : SpareAt). s.at) c.fill.ensures ∙ c.regular.ensures.value ∙ ap regular_at c.new-key.ensures) in
-    rw (c.link.ensures.links.takes.nodes, c.seek-cursor.ensures.nodes, c.in_ok-spare.ensures.ok.nodes)
+    rw (c.link_at.ensures.links.takes.nodes, c.seek-cursor.ensures.nodes, c.in_ok-spare.ensures.ok.nodes)
     (each_linked IsKeyedNode _ _ (filled c.fill.new.self) own (each_sought IsKeyedNode _ _ _ c.requires.keyed))
 
-pub link-requires-clause-vacant : goal.link-requires-clause-vacant
-link-requires-clause-vacant c =
+pub link_at-requires-clause-vacant : goal.link_at-requires-clause-vacant
+link_at-requires-clause-vacant c =
     let here = rw c.in-Ok-None.field-0-is at c.in-Ok-None.ensures.ok in
     let at = ap (λ (s : SpareAt). s.at) c.fill.ensures ∙ c.regular.ensures.value in
     rw (c.pred.ensures, at, ← c.regular-2.ensures.value, ← c.seek-cursor.ensures.at) here.vacant

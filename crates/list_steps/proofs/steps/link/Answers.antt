@@ -1,7 +1,8 @@
-use Rattle.node_list.specs.Nodes.{filled}
-use Rattle.list_steps.proofs.StepLemmas.{links}
+use Rattle.std.proofs.Common.{sym, ◌∙◌}
+use Rattle.list_steps.proofs.StepLemmas.{vacant_where_fits}
 use Rattle.list_steps.proofs.steps.link.Goals as goal
 
-pub returns-clause-links : goal.returns-clause-links
-returns-clause-links c =
-    links _ _ _ (filled c.args.spare) c.requires.vacant c.link_after.ensures.linked c.link_after.ensures.node
+pub link_at-requires-clause-vacant : goal.link_at-requires-clause-vacant
+link_at-requires-clause-vacant c =
+    let fitting = sym c.is_fitting.ensures.fits ∙ c.if-is_fitting.true in
+    rw c.requires.filled (vacant_where_fits _ _ c.is_fitting.ensures.sound c.requires.placed fitting (c.requires.room fitting))

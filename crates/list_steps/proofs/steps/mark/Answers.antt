@@ -1,9 +1,9 @@
-use Rattle.node_list.proofs.NodesLemmas.{found_linked}
-use Rattle.list_steps.proofs.StepLemmas.{marks}
+use Rattle.std.proofs.Common.{ℕ}
+use Rattle.list_steps.specs.Steps.{Marks}
+use Rattle.list_steps.proofs.StepLemmas.{so_there}
 use Rattle.list_steps.proofs.steps.mark.Goals as goal
 
-pub node-requires : goal.node-requires
-node-requires c = found_linked _ _ _ c.requires.is
-
-pub returns-clause-marks : goal.returns-clause-marks
-returns-clause-marks c = marks _ _ _ _ c.requires c.node.ensures.node c.set_mark.ensures.marked
+pub returns-clause-ok : goal.returns-clause-ok
+returns-clause-ok c =
+    let Done : ℕ → Type 0 = λ place. Marks c.args.list.now c.mark_at.new.list place c.mark_at.result in
+    so_there Done _ _ c.in_ok-node.ensures.node c.mark_at.ensures.marks

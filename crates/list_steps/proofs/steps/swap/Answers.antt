@@ -1,12 +1,9 @@
-use Rattle.node_list.proofs.NodesLemmas.{found_linked}
-use Rattle.list_steps.proofs.StepLemmas.{swaps}
+use Rattle.std.proofs.Common.{ℕ}
+use Rattle.list_steps.specs.Steps.{Swaps}
+use Rattle.list_steps.proofs.StepLemmas.{so_there}
 use Rattle.list_steps.proofs.steps.swap.Goals as goal
 
-pub node-requires : goal.node-requires
-node-requires c = found_linked _ _ _ c.requires.is
-
-pub write-requires : goal.write-requires
-write-requires c = found_linked _ _ _ c.requires.is
-
-pub returns-clause-swaps : goal.returns-clause-swaps
-returns-clause-swaps c = swaps _ _ _ _ c.requires c.node.ensures.node _ c.write.ensures.written
+pub returns-clause-ok : goal.returns-clause-ok
+returns-clause-ok c =
+    let Done : ℕ → Type 0 = λ place. Swaps c.args.list.now c.swap_at.new.list place c.swap_at.result c.args.value in
+    so_there Done _ _ c.in_ok-node.ensures.node c.swap_at.ensures.swaps

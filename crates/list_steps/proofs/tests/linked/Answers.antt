@@ -1,6 +1,6 @@
 use Rattle.list_steps.proofs.tests.linked.Goals as goal
 
-pub link-requires-clause-vacant : goal.link-requires-clause-vacant
-link-requires-clause-vacant c =
+pub link_at-requires-clause-vacant : goal.link_at-requires-clause-vacant
+link_at-requires-clause-vacant c =
     let here = rw c.in-Ok-None.field-0-is at c.in-Ok-None.ensures.ok in
     rw (c.pred.ensures, c.requires.at) here.vacant

@@ -11,25 +11,25 @@ use Rattle.map_ops.proofs.change.link_key.Goals as goal
 abbrev node_at : SortKey → ℕ → SpareAt → NodeAt
 node_at at value spare = record { place = spare.place; at = at; kind = Regular; value = value; stamp = spare.stamp; marked = false }
 
-pub link-requires-clause-vacant : goal.link-requires-clause-vacant
-link-requires-clause-vacant c =
+pub link_at-requires-clause-vacant : goal.link_at-requires-clause-vacant
+link_at-requires-clause-vacant c =
     let at = ap (λ (s : SpareAt). s.at) c.fill.ensures ∙ c.regular.ensures.value in
     rw at c.requires.room.vacant
 
 pub returns-clause-sets : goal.returns-clause-sets
 returns-clause-sets c = λ buckets.
-    subst (λ (v : ℕ). Sets (table_of c.args.list.now buckets) (table_of c.link.new.list buckets) c.args.key (Some v)) (ap (λ (s : SpareAt). s.value) c.fill.ensures)
-    (links_sets c.args.list.now c.link.new.list c.args.key c.requires.sound (c.link.ensures.follows.sound c.requires.sound) c.requires.belong
-    (filled c.fill.new.self) (ap (λ (s : SpareAt). s.kind) c.fill.ensures) refl (ap (λ (s : SpareAt). s.at) c.fill.ensures ∙ c.regular.ensures.value) _ c.requires.room c.link.ensures.links buckets)
+    subst (λ (v : ℕ). Sets (table_of c.args.list.now buckets) (table_of c.link_at.new.list buckets) c.args.key (Some v)) (ap (λ (s : SpareAt). s.value) c.fill.ensures)
+    (links_sets c.args.list.now c.link_at.new.list c.args.key c.requires.sound (c.link_at.ensures.follows.sound c.requires.sound) c.requires.belong
+    (filled c.fill.new.self) (ap (λ (s : SpareAt). s.kind) c.fill.ensures) refl (ap (λ (s : SpareAt). s.at) c.fill.ensures ∙ c.regular.ensures.value) _ c.requires.room c.link_at.ensures.links buckets)
 
 pub returns-clause-belong : goal.returns-clause-belong
 returns-clause-belong c =
-    links_belong c.args.list.now c.link.new.list c.args.key c.requires.sound (c.link.ensures.follows.sound c.requires.sound) c.requires.belong
-    (filled c.fill.new.self) (ap (λ (s : SpareAt). s.kind) c.fill.ensures) refl (ap (λ (s : SpareAt). s.at) c.fill.ensures ∙ c.regular.ensures.value) _ c.link.ensures.links
+    links_belong c.args.list.now c.link_at.new.list c.args.key c.requires.sound (c.link_at.ensures.follows.sound c.requires.sound) c.requires.belong
+    (filled c.fill.new.self) (ap (λ (s : SpareAt). s.kind) c.fill.ensures) refl (ap (λ (s : SpareAt). s.at) c.fill.ensures ∙ c.regular.ensures.value) _ c.link_at.ensures.links
 
 pub returns-clause-writes : goal.returns-clause-writes
 returns-clause-writes c =
     let is = ap filled c.fill.ensures
     ∙ ap (λ (at : SortKey). node_at at c.args.value c.args.spare) c.regular.ensures.value in
-    links_node c.args.list.now c.link.new.list c.args.key c.requires.sound (c.link.ensures.follows.sound c.requires.sound) c.requires.belong
-    _ (filled c.fill.new.self) _ c.requires.room is c.link.ensures.links
+    links_node c.args.list.now c.link_at.new.list c.args.key c.requires.sound (c.link_at.ensures.follows.sound c.requires.sound) c.requires.belong
+    _ (filled c.fill.new.self) _ c.requires.room is c.link_at.ensures.links
