@@ -1,9 +1,10 @@
 //! What a table does at the place of a sort key.
-ghost use Rattle.std.specs.Prelude.{◌≡◌, IsTrue};
-ghost use Rattle.list_steps.specs.Found.{IsKeyThere, IsPlaced};
+ghost use Rattle.std.specs.Prelude.{IfSome, IsTrue};
+ghost use Rattle.node_list.specs.Nodes.{IsRegularAt};
+ghost use Rattle.list_steps.specs.Found.{IsPlaced};
 ghost use Rattle.list_steps.specs.Seek.{IsStart};
 
-use list_steps::{Cursor, link, look, mark, seek, swap};
+use list_steps::{Cursor, link_at, look, mark_at, seek, swap_at};
 use node_list::{Kind, NodeList, NodeRef, SpareFault};
 use split_key::SortKey;
 
@@ -17,15 +18,17 @@ fn is_start(list: &NodeList, from: NodeRef, at: SortKey) -> bool
     }
 }
 
-/// Whether the regular node of the sort key sought is where the cursor is.
-fn is_key_there(list: &NodeList, cursor: &Cursor) -> bool
+/// The regular node of the sort key sought, if it is where the cursor is.
+fn regular_there(list: &NodeList, cursor: &Cursor) -> Option<NodeRef>
     requires { IsPlaced list.now cursor.now }
-    ensures { IsTrue result → IsKeyThere list.now cursor.now }
+    ensures { IfSome result (IsRegularAt list.now.nodes) }
 {
-    match look(list, cursor) {
-        Ok(Some(node)) => matches!(list.node(node).kind, Kind::Regular),
-        _ => false,
+    if let Ok(Some(node)) = look(list, cursor) {
+        if matches!(list.node(node).kind, Kind::Regular) {
+            return Some(node);
+        }
     }
+    None
 }
 
 /// Links a new node, sought from a dummy. `None` where its sort key is there.
@@ -43,7 +46,7 @@ pub(crate) fn put(
     }
     let cursor = seek(list, from, at);
     match look(list, &cursor) {
-        Ok(None) => Ok(link(list, cursor, spare).ok()),
+        Ok(None) => Ok(Some(link_at(list, cursor.pred(), spare))),
         _ => {
             list.give_back(spare);
             Ok(None)
@@ -70,10 +73,8 @@ pub(crate) fn write(list: &mut NodeList, from: NodeRef, at: SortKey, value: u64)
         return None;
     }
     let cursor = seek(list, from, at);
-    if !is_key_there(list, &cursor) {
-        return None;
-    }
-    swap(list, cursor, value).ok()
+    let node = regular_there(list, &cursor)?;
+    Some(swap_at(list, node, value))
 }
 
 /// Marks the regular node with this sort key, and answers its value.
@@ -82,8 +83,6 @@ pub(crate) fn take(list: &mut NodeList, from: NodeRef, at: SortKey) -> Option<u6
         return None;
     }
     let cursor = seek(list, from, at);
-    if !is_key_there(list, &cursor) {
-        return None;
-    }
-    mark(list, cursor).ok()
+    let node = regular_there(list, &cursor)?;
+    Some(mark_at(list, node))
 }

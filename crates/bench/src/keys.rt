@@ -7,16 +7,13 @@ const LOW_BITS: u64 = 0x7fff_ffff_ffff_ffff;
 /// The key at a position of the order. No key comes twice: a product with an odd number modulo a
 /// power of two can be undone, and so can the exclusive or of a number's lower half with its upper
 /// half.
-pub(crate) fn key_at(position: u64) -> Option<Key> {
+pub(crate) fn key_at(position: u64) -> Key {
     let spread = position.wrapping_mul(0x9e37_79b9_7f4a_7c15) & LOW_BITS;
     let folded = spread ^ (spread >> 32);
-    Key::new(folded.wrapping_mul(0xd6e8_feb8_6659_fd93) & LOW_BITS).ok()
+    Key::new(folded.wrapping_mul(0xd6e8_feb8_6659_fd93) & LOW_BITS)
 }
 
 /// The number of the key at a position.
 pub(crate) fn number_at(position: u64) -> u64 {
-    match key_at(position) {
-        Some(key) => key.number(),
-        None => 0,
-    }
+    key_at(position).number()
 }

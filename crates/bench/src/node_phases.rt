@@ -9,9 +9,8 @@ use std::time::Clock;
 fn insert_all(table: &mut NodeTable, keys: u64) -> Result<u64, SpareFault> {
     let mut sum = 0u64;
     for position in 0..keys {
-        if let Some(key) = key_at(position) {
-            sum = sum.wrapping_add(u64::from(table.insert(key, position)?));
-        }
+        let inserted = table.insert(key_at(position), position)?;
+        sum = sum.wrapping_add(u64::from(inserted));
     }
     Ok(sum)
 }
@@ -19,7 +18,7 @@ fn insert_all(table: &mut NodeTable, keys: u64) -> Result<u64, SpareFault> {
 fn get_all(table: &mut NodeTable, keys: u64) -> u64 {
     let mut sum = 0u64;
     for position in 0..keys {
-        let value = key_at(position).and_then(|key| table.get(key));
+        let value = table.get(key_at(position));
         sum = sum.wrapping_add(value.unwrap_or(0));
     }
     sum
@@ -28,7 +27,7 @@ fn get_all(table: &mut NodeTable, keys: u64) -> u64 {
 fn swap_all(table: &mut NodeTable, keys: u64) -> u64 {
     let mut sum = 0u64;
     for position in 0..keys {
-        let was = key_at(position).and_then(|key| table.swap(key, 1));
+        let was = table.swap(key_at(position), 1);
         sum = sum.wrapping_add(was.unwrap_or(0));
     }
     sum
@@ -37,7 +36,7 @@ fn swap_all(table: &mut NodeTable, keys: u64) -> u64 {
 fn mark_all(table: &mut NodeTable, keys: u64) -> u64 {
     let mut sum = 0u64;
     for position in 0..keys {
-        let was = key_at(position).and_then(|key| table.mark(key));
+        let was = table.mark(key_at(position));
         sum = sum.wrapping_add(was.unwrap_or(0));
     }
     sum

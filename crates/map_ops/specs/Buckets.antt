@@ -68,7 +68,8 @@ size_after size Light = size
 size_after size (Doubled now) = now
 
 -- The buckets are so now, and the pairs and the spares are as they were.
-pub record Becomes (old new : TableAt) (size : ℕ) (stored linked : List Bool) (helps : List Help) : Type 0 where
+pub record Becomes (old new : TableAt) (size : ℕ) (stored linked : List Bool)
+    (helps : List Help) : Type 0 where
   pub regular : regular new ≡ regular old
   pub spares : KeepsSpares old new
   pub largest : largest_of new ≡ largest_of old
@@ -79,7 +80,8 @@ pub record Becomes (old new : TableAt) (size : ℕ) (stored linked : List Bool) 
 
 -- A helper has something else, and no node and no stamp is taken.
 pub record Helps (old new : TableAt) (helper : ℕ) (help : Help) : Type 0 where
-  pub becomes : Becomes old new (size_of old) (stored_of old) (linked_of old) (slice_set (helps_of old) helper help)
+  pub becomes : Becomes old new (size_of old) (stored_of old) (linked_of old)
+      (slice_set (helps_of old) helper help)
   pub last : last_of new ≡ last_of old
 
 -- A seek placed a cursor for the bucket: the helper has it, with the change number that there is
@@ -125,7 +127,8 @@ pub record Links (old new : TableAt) (helper : ℕ) : Type 0 where
   pub turn : ℕ
   pub had : slice_get (helps_of old) helper ≡ Some (Sought bucket turn)
   pub absent : slice_get (linked_of old) bucket ≡ Some false
-  pub becomes : Becomes old new (size_of old) (stored_of old) (slice_set (linked_of old) bucket true) (slice_set (helps_of old) helper (Dummy bucket))
+  pub becomes : Becomes old new (size_of old) (stored_of old)
+      (slice_set (linked_of old) bucket true) (slice_set (helps_of old) helper (Dummy bucket))
   pub last : last_of new ≡ last_of old + 1
 
 -- The bucket's dummy is linked, with the next stamp.
@@ -151,7 +154,8 @@ LinkChanges old new helper (Err refusal) = new ≡ old
 pub record Stores (old new : TableAt) (helper : ℕ) : Type 0 where
   pub bucket : ℕ
   pub had : slice_get (helps_of old) helper ≡ Some (Dummy bucket)
-  pub becomes : Becomes old new (size_of old) (slice_set (stored_of old) bucket true) (linked_of old) (slice_set (helps_of old) helper Nothing)
+  pub becomes : Becomes old new (size_of old) (slice_set (stored_of old) bucket true)
+      (linked_of old) (slice_set (helps_of old) helper Nothing)
   pub last : last_of new ≡ last_of old
   pub kept : turn_of new ≡ turn_of old
 
@@ -162,6 +166,7 @@ StoreChanges old new helper (Err refusal) = new ≡ old
 
 -- Only the size changes by a doubling.
 pub record Doubles (old new : TableAt) (answer : Double) : Type 0 where
-  pub becomes : Becomes old new (size_after (size_of old) answer) (stored_of old) (linked_of old) (helps_of old)
+  pub becomes : Becomes old new (size_after (size_of old) answer) (stored_of old) (linked_of old)
+      (helps_of old)
   pub last : last_of new ≡ last_of old
   pub kept : turn_of new ≡ turn_of old

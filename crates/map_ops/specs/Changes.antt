@@ -80,7 +80,8 @@ SpendsFor old new spare None = Spends old new spare
 
 -- The operation is done: its reply and what it leaves are the map's, and the job is there exactly
 -- where it is a change.
-pub record Does (old new : TableAt) (pending : PendingAt) (reply : Option ℕ) (job : Option MapJob) : Type 0 where
+pub record Does (old new : TableAt) (pending : PendingAt) (reply : Option ℕ)
+    (job : Option MapJob) : Type 0 where
   pub reply_is : reply ≡ reply_of (content old) pending.op
   pub content_is : content new ≡ after (content old) pending.op
   pub job_is : job ≡ job_of (content old) pending.op pending.spare
@@ -144,7 +145,8 @@ JobSpare old new None = KeepsSpares old new
 
 -- An operation is done at once: its reply and what it leaves are the map's, and the job is there
 -- exactly where it is a change. Its key is sought, and what it writes is written there.
-pub record Applies (old new : TableAt) (op : Op) (reply : Option ℕ) (job : Option MapJob) : Type 0 where
+pub record Applies (old new : TableAt) (op : Op) (reply : Option ℕ)
+    (job : Option MapJob) : Type 0 where
   pub spare : Option SpareAt
   pub reply_is : reply ≡ reply_of (content old) op
   pub content_is : content new ≡ after (content old) op

@@ -5,6 +5,7 @@ pub use Rattle.node_list.specs.Nodes.{NodeAt, SpareAt}
 use Rattle.node_list.specs.Nodes.{Listing, first_dummy, out_at}
 use Rattle.node_list.specs.Order.{IsRising}
 use Rattle.node_list.specs.Follow as nodes
+use Rattle.node_list.specs.Sound as sound_lists
 pub use Rattle.list_steps.specs.declared.cursor.Cursor.{Cursor}
 pub use Rattle.list_steps.specs.declared.sweeps.SweepOutcome.{SweepOutcome}
 use Rattle.list_steps.specs.Seek.{sought}
@@ -151,6 +152,11 @@ SweepsNodes old new outcome = steps.Sweeps old.list new.list outcome
 -- The linked nodes rise strictly by split key and key.
 abbrev pub IsSplitOrdered : TableAt → Type 0
 IsSplitOrdered t = IsRising (nodes_of t)
+
+-- The list is a sound one: its nodes stand in order and at places of their own, no dummy is marked,
+-- and no stamp is used twice.
+abbrev pub HasSoundList : TableAt → Type 0
+HasSoundList t = sound_lists.IsSound t.list
 
 -- Each initialised bucket, and each helper that has one, names the linked dummy of its bucket.
 abbrev pub NamesDummies : TableAt → Type 0

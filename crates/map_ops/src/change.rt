@@ -1,6 +1,7 @@
 //! What is done to the list of a table. Each contract holds of the table with any buckets.
 //!
-//! A line `let _turn = list.changes();` has the prover know that the change number fits its 64 bits.
+//! A line `let _turn = list.changes();` has the prover know that the change number fits its 64
+//! bits.
 ghost use Rattle.std.specs.Prelude.{◌≡◌, ℕ, ◌<◌, ◌≤◌, ◌^◌, Option, Some, None, is_ok, nat_eq, IfOk, IfErr, OnErr};
 ghost use Rattle.std.specs.Option.{option_eq};
 ghost use Rattle.node_list.specs.Follow.{Follows};
@@ -79,7 +80,8 @@ pub(crate) fn seek_key(list: &mut NodeList, buckets: &Buckets, key: Key) -> Curs
     requires home { IsHome buckets.now list.old }
     requires sound { IsSound list.old }
     requires belong { Belong list.old.nodes }
-    ensures places { Places (table_of list.old buckets.now) (table_of list.new buckets.now) key result }
+    ensures places { Places (table_of list.old buckets.now) (table_of list.new buckets.now)
+        key result }
     ensures near { SeeksNear (table_of list.old buckets.now) (table_of list.new buckets.now) key }
     ensures belong { Belong list.new.nodes }
     ensures rises { list.old.changes ≤ list.new.changes }
@@ -171,7 +173,8 @@ fn give_back(list: &mut NodeList, spare: Spare)
 pub(crate) fn give_up(list: &mut NodeList, plan: Plan)
     requires { (buckets : Directory) → OwnsIf (table_of list.old buckets) (pending_of plan).spare }
     ensures back { (buckets : Directory)
-        → GivesBack (table_of list.old buckets) (table_of list.new buckets) (pending_of plan).spare }
+        → GivesBack (table_of list.old buckets) (table_of list.new buckets)
+            (pending_of plan).spare }
     ensures follows { Follows list.old list.new }
 {
     match plan {

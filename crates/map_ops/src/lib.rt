@@ -3,7 +3,7 @@
 //!
 //! A contract sees a `Table` as its list of nodes and its buckets, and reads of these the
 //! `content`, a finite map, and `regular`, the list of its pairs. Of every value of the type: the
-//! split keys of the linked nodes rise strictly, the list has the pairs of the content in their
+//! sort keys of the linked nodes rise strictly, the list has the pairs of the content in their
 //! order, and each initialised bucket names its linked dummy and has an initialised parent.
 //!
 //! - `apply` answers and leaves what the operation does on that map, and gives a `MapJob` exactly

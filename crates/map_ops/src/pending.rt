@@ -17,7 +17,8 @@ pub(crate) enum Plan {
 
 /// An operation that is prepared: it has what it needs, and memory is not wanted from here on.
 ///
-/// A put, a put under a condition and a take own a spare of the table that prepared them, until they are done or withdrawn.
+/// Every operation but a get owns a spare of the table that prepared it, until it is done or
+/// withdrawn.
 #[derive(Debug, Drop)]
 pub struct Pending {
     plan: Plan,

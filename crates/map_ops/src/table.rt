@@ -47,7 +47,7 @@ impl Model for Table {
 }
 
 impl Table {
-    ghost use Rattle.map_ops.specs.TableAt.{HasParents, IsClean, IsNew, IsPlaced, IsSplitOrdered, Follows, Keeps, KeepsList, KeepsSpares, NamesDummies, Sought, content, helper_fits, regular, helps_of, last_of, largest_of, linked_of, size_of, stored_of, turn_of};
+    ghost use Rattle.map_ops.specs.TableAt.{HasParents, HasSoundList, IsClean, IsNew, IsPlaced, IsSplitOrdered, Follows, Keeps, KeepsList, KeepsSpares, NamesDummies, Sought, content, helper_fits, regular, helps_of, last_of, largest_of, linked_of, size_of, stored_of, turn_of};
     ghost use Rattle.map_ops.specs.Jobs.{IsDue, key_of_job, spare_of_job};
     ghost use Rattle.map_ops.specs.Changes.{ActWrites, Acts, Applies, GivesBack, IsRefused, OwnsIf, Places, Prepares, SeeksAndUndoes, SeeksNear, Sweeps, TakesBack, UndoWrites, Undoes};
     ghost use Rattle.map_ops.specs.Buckets.{Doubles, LinkChanges, LinkWrites, SeekChanges, SeekWrites, StoreChanges, double_answer, link_answer_of, seek_answer, store_answer};
@@ -72,8 +72,8 @@ impl Table {
         Ok(Table { list, buckets })
     }
 
-    /// Prepares an operation: takes the spare that it needs unless it is a get, so that no memory is
-    /// wanted from here on. Content and list stay.
+    /// Prepares an operation: takes the spare that it needs unless it is a get, so that no memory
+    /// is wanted from here on. Content and list stay.
     ///
     /// May allocate a node. Amortised constant time.
     ///
@@ -155,8 +155,8 @@ impl Table {
     }
 
     /// Takes a change back at a cursor that was placed for its key: the key has what it had before
-    /// the change, and every other key what it has now, whatever was changed there since. One node is
-    /// marked, written or linked, and none is unlinked.
+    /// the change, and every other key what it has now, whatever was changed there since. One node
+    /// is marked, written or linked, and none is unlinked.
     ///
     /// `Again` comes exactly where the cursor no longer fits: then nothing has changed, and the job
     /// comes back. Takes no memory. Constant time.
@@ -264,13 +264,15 @@ impl Table {
 
     /// The size: how many buckets there are now. Constant time.
     ///
-    /// Its contract says also what is true of every table: the split keys of the linked nodes rise
-    /// strictly, the list has the pairs of the content in their order, and each initialised bucket
-    /// names its linked dummy and has an initialised parent.
+    /// Its contract says also what is true of every table: the sort keys of the linked nodes rise
+    /// strictly, no two nodes share a place or a stamp, the list has the pairs of the content in
+    /// their order, and each initialised bucket names its linked dummy and has an initialised
+    /// parent.
     pub fn size(&self) -> u32
         ensures size { result ≡ size_of self.now }
         ensures ordered { regular self.now ≡ ordered (content self.now) }
         ensures rising { IsSplitOrdered self.now }
+        ensures list { HasSoundList self.now }
         ensures stored { NamesDummies self.now }
         ensures parents { HasParents self.now }
     {
@@ -324,7 +326,8 @@ impl Table {
     /// table as it was.
     pub fn init_seek(&mut self, helper: u64, bucket: u64) -> Result<InitSeek, Refusal>
         ensures answer { result
-            ≡ seek_answer (size_of self.old) (stored_of self.old) (slice_get (helps_of self.old) helper) bucket }
+            ≡ seek_answer (size_of self.old) (stored_of self.old)
+                (slice_get (helps_of self.old) helper) bucket }
         ensures changes { SeekChanges self.old self.new helper bucket result }
         ensures writes { SeekWrites self.old self.new bucket result }
         ensures rises { turn_of self.old ≤ turn_of self.new }
@@ -389,7 +392,8 @@ impl Table {
     /// memory. Constant time.
     pub fn double(&mut self, seen: u64) -> Double
         ensures answer { result
-            ≡ double_answer (size_of self.old) (largest_of self.old) (count_of (content self.old)) seen }
+            ≡ double_answer (size_of self.old) (largest_of self.old)
+                (count_of (content self.old)) seen }
         ensures changes { Doubles self.old self.new result }
         ensures list { KeepsList self.old self.new }
         ensures follows { Follows self.old self.new }

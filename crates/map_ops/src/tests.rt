@@ -66,6 +66,10 @@ fn each_operation_there_and_back(rt: HostRuntime) -> Result<(), Fail> {
         Op::Take(1),
         Op::Take(5),
         Op::Get(1),
+        Op::PutIf(1, Some(10), 12),
+        Op::PutIf(1, None, 12),
+        Op::PutIf(3, None, 30),
+        Op::PutIf(3, Some(5), 6),
     ] {
         there_and_back(&mut table, op)?;
         shows(&rt, rt.alloc(), &table, &[(1, 10)])?;
@@ -114,6 +118,27 @@ fn keys_of_64_bits(rt: HostRuntime) -> Result<(), Fail> {
             (18446744073709551615, 7),
         ],
     )
+}
+
+/// Two keys that differ by 2^63 have one split key and one bucket: neither is taken for the other.
+#[test]
+fn keys_that_share_a_split_key(rt: HostRuntime) -> Result<(), Fail> {
+    let half = 1 << 63;
+    let mut table = table(rt.alloc())?;
+    for key in 0..16 {
+        assert_eq!(rt; table.apply(Op::Put(half + key, 100 + key))?.0, None);
+        assert_eq!(rt; table.apply(Op::Put(key, key))?.0, None);
+    }
+    for key in 0..16 {
+        assert_eq!(rt; table.apply(Op::Take(key))?.0, Some(key));
+        there_and_back(&mut table, Op::Put(key, 7))?;
+        assert_eq!(rt; table.apply(Op::Get(key))?.0, None);
+        there_and_back(&mut table, Op::Take(half + key))?;
+        there_and_back(&mut table, Op::PutIf(half + key, Some(100 + key), 9))?;
+        assert_eq!(rt; table.apply(Op::Get(half + key))?.0, Some(100 + key));
+    }
+    assert_eq!(rt; table.count(), 16);
+    Ok(())
 }
 
 #[test]

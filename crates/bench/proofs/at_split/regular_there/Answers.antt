@@ -1,5 +1,5 @@
 use Rattle.node_list.proofs.NodesLemmas.{found_linked}
-use Rattle.bench.proofs.at_split.is_key_there.Goals as goal
+use Rattle.bench.proofs.at_split.regular_there.Goals as goal
 
 pub node-requires : goal.node-requires
 node-requires c =
