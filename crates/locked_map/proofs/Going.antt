@@ -36,7 +36,8 @@ use Rattle.txn_drive.specs.Made.{made, made_in, IsMade}
 use Rattle.txn_drive.proofs.MadeLemmas.{made-told_of}
 use Rattle.txn_drive.proofs.DriveLaws.{made_at_end, made-sized}
 use Rattle.boost_core.specs.State.{State, seat_in}
-use Rattle.boost_core.specs.Refusals.{refusal_in, is_closed, is_leaving}
+use Rattle.txn_trace.specs.Seats.{refusal_in}
+use Rattle.boost_core.specs.Refusals.{is_closed, is_leaving}
 use Rattle.boost_core.proofs.Refused.{commit_open, abort_runs}
 use Rattle.locked_map.specs.Noted.{Noted, HasRoomFor, adds_entry, is_save}
 use Rattle.locked_map.specs.Tokens.{Token}
@@ -114,21 +115,21 @@ runs_owe standing seats.LeavingToEnd closed leaving = absurd (false≢true (sym 
 abbrev Starts : ℕ → Call → Phase → Type 0
 Starts c call phase = (made_in c call phase ≡ []) × (may_refuse call NoMemory ≡ true)
 
-no_room_first : (n : Noted) (s : Seat) (c : ℕ) (call : Call) → seat_after n.entries ≡ Some s → owed_by (seat_after n.entries) ≤ n.room → refusal_in s (first_step 0 call) ≡ None → (HasRoomFor n (first_step c call) → ⊥) → Starts c call Fresh
-no_room_first n s c calls.Begin at owes none full = (refl, refl)
-no_room_first n s c (calls.Op op) at owes none full = (refl, refl)
-no_room_first n s c calls.Save at owes none full = (refl, refl)
-no_room_first n s c (calls.Back k) at owes none full = (refl, refl)
-no_room_first n s c calls.Commit at owes none full = absurd (full (room_owed n s (steps.Commit c) at (open_owes s (commit_open s 0 none)) refl refl owes))
-no_room_first n s c calls.Abort at owes none full = let runs = abort_runs s 0 none in absurd (full (room_owed n s (steps.Abort c) at (runs_owe s.standing s.phase runs.0 runs.1) refl refl owes))
-no_room_first n s c (calls.Help key) at owes none full = absurd (full (room_free n (steps.Double 0) refl refl refl owes))
+no_room_first : (n : Noted) (s : Seat) (c : ℕ) (call : Call) (half : Bool) → seat_after n.entries ≡ Some s → owed_by (seat_after n.entries) ≤ n.room → refusal_in half s (first_step 0 call) ≡ None → (HasRoomFor n (first_step c call) → ⊥) → Starts c call Fresh
+no_room_first n s c calls.Begin half at owes none full = (refl, refl)
+no_room_first n s c (calls.Op op) half at owes none full = (refl, refl)
+no_room_first n s c calls.Save half at owes none full = (refl, refl)
+no_room_first n s c (calls.Back k) half at owes none full = (refl, refl)
+no_room_first n s c calls.Commit half at owes none full = absurd (full (room_owed n s (steps.Commit c) at (open_owes s (commit_open half s 0 none)) refl refl owes))
+no_room_first n s c calls.Abort half at owes none full = let runs = abort_runs half s 0 none in absurd (full (room_owed n s (steps.Abort c) at (runs_owe s.standing s.phase runs.0 runs.1) refl refl owes))
+no_room_first n s c (calls.Help key) half at owes none full = absurd (full (room_free n (steps.Double 0) refl refl refl owes))
 
 same_step : {step next : Step} → Some step ≡ Some next → step ≡ next
 same_step is = cc is
 
 no_room_in : (n : Noted) (s : Seat) (c : ℕ) (call : Call) (phase : Phase) (step : Step) → seat_after n.entries ≡ Some s → owed_by (seat_after n.entries) ≤ n.room → Fits s call phase → asked_of (turn_in c call phase) ≡ Some step
     → (HasRoomFor n step → ⊥) → Starts c call phase
-no_room_in n s c call Fresh step at owes fits is full = no_room_first n s c call at owes fits (λ room. full (subst (HasRoomFor n) (same_step is) room))
+no_room_in n s c call Fresh step at owes fits is full = no_room_first n s c call fits.0 at owes fits.1 (λ room. full (subst (HasRoomFor n) (same_step is) room))
 no_room_in n s c call (Seeking work again) step at owes fits is full = absurd (seeks (nat_lt again 8) is)
   where
     seeks : (b : Bool) → asked_of (if b then One (steps.Seek c) else Two (steps.Seek c) (steps.Act c)) ≡ Some step → ⊥

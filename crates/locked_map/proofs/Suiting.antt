@@ -36,7 +36,8 @@ use Rattle.boost_core.specs.State.{State, seat_in, turn_in, help_in, is_set, wit
 use Rattle.map_ops.specs.TableAt as tables
 use Rattle.map_ops.specs.TableAt.{Help}
 use Rattle.txn_trace.specs.Entries.{entries_of}
-use Rattle.boost_core.specs.Refusals.{refusal_in, refusal_of, lacks_in, lacks_dummy, MayLack, has_cursor, has_dummy, has_job, has_target, is_closed, is_leaving, is_waiting}
+use Rattle.txn_trace.specs.Seats.{refusal_in}
+use Rattle.boost_core.specs.Refusals.{refusal_of, lacks_in, lacks_dummy, MayLack, has_cursor, has_dummy, has_job, has_target, is_closed, is_leaving, is_waiting}
 use Rattle.boost_core.specs.Answers.{IsAnswer, IsReply, is_back_at, is_at_end, after}
 use Rattle.boost_core.specs.Machine.{IsAllowed, Move}
 use Rattle.boost_core.specs.Whole.{IsWhole}
@@ -50,7 +51,7 @@ lacks_only : (m : State) (step : Step) (r : Refusal) → refusal_of m step ≡ N
 lacks_only m step r none (inl is) = absurd (let both : None ≡ Some r = sym none ∙ is in cc)
 lacks_only m step r none (inr lack) = lack.1
 
-first_free : (m : State) (c : ℕ) (call : Call) → nat_le m.limits.callers c ≡ false → is_help call ≡ false → refusal_in (seat_in m.history c) (first_step c call) ≡ None → refusal_of m (first_step c call) ≡ None
+first_free : (m : State) (c : ℕ) (call : Call) → nat_le m.limits.callers c ≡ false → is_help call ≡ false → refusal_in m.limits.half (seat_in m.history c) (first_step c call) ≡ None → refusal_of m (first_step c call) ≡ None
 first_free m c calls.Begin within plain none = refusal_parts m c (steps.Begin c) refl ∙ (λ i. cond (within i) (Some refusals.NoSuchCaller) (or_else (none i) None))
 first_free m c (calls.Op op) within plain none = refusal_parts m c (steps.Ask c op) refl ∙ (λ i. cond (within i) (Some refusals.NoSuchCaller) (or_else (none i) None))
 first_free m c calls.Save within plain none = refusal_parts m c (steps.Save c) refl ∙ (λ i. cond (within i) (Some refusals.NoSuchCaller) (or_else (none i) None))
@@ -344,18 +345,18 @@ suits_told m n c s call (Storing way) a within cursors helpers old whole sized f
 suits_told m n c s call phase a within cursors helpers old whole sized few suits fits same move = absurd move
 
 -- A seat refuses the first step of a call to any caller.
-no_caller : (s : Seat) (c : ℕ) (call : Call) → refusal_in s (first_step 0 call) ≡ refusal_in s (first_step c call)
-no_caller s c calls.Begin = refl
-no_caller s c (calls.Op op) = refl
-no_caller s c calls.Save = refl
-no_caller s c (calls.Back n) = refl
-no_caller s c calls.Commit = refl
-no_caller s c calls.Abort = refl
-no_caller s c (calls.Help key) = refl
+no_caller : (half : Bool) (s : Seat) (c : ℕ) (call : Call) → refusal_in half s (first_step 0 call) ≡ refusal_in half s (first_step c call)
+no_caller half s c calls.Begin = refl
+no_caller half s c (calls.Op op) = refl
+no_caller half s c calls.Save = refl
+no_caller half s c (calls.Back n) = refl
+no_caller half s c calls.Commit = refl
+no_caller half s c calls.Abort = refl
+no_caller half s c (calls.Help key) = refl
 
 -- A seat's phase fits where it suits.
 pub suits_fits : (m : State) (c : ℕ) (s : Seat) (call : Call) (phase : Phase) → Suits m s c call phase → Fits s call phase
-suits_fits m c s call Fresh suits = no_caller s c call ∙ suits.0
+suits_fits m c s call Fresh suits = (m.limits.half, no_caller m.limits.half s c call ∙ suits.0)
 suits_fits m c s call (Seeking work again) suits = suits
 suits_fits m c s call (Acting work again) suits = suits.0
 suits_fits m c s call phase suits = tt

@@ -17,14 +17,14 @@ use Rattle.locked_map.specs.declared.stop.Stop.{Stop}
 use Rattle.locked_map.specs.declared.stop.Stop.TheVariants as stops
 
 -- The refusal of a call by the token alone: out of step where it is broken, else that of the seat
--- that its entries give it.
-abbrev pub refused_at : Bool → Option Seat → Call → Option Refusal
-refused_at true seat call = Some OutOfStep
-refused_at false None call = Some OutOfStep
-refused_at false (Some s) call = refusal_in s (first_step 0 call)
+-- that its entries give it, where its map takes half keys alone or all.
+abbrev pub refused_at : Bool → Bool → Option Seat → Call → Option Refusal
+refused_at half true seat call = Some OutOfStep
+refused_at half false None call = Some OutOfStep
+refused_at half false (Some s) call = refusal_in half s (first_step 0 call)
 
 abbrev pub refused_by : {S : Type 0} → Token S → Call → Option Refusal
-refused_by k call = refused_at k.broken (seat_after k.seen) call
+refused_by k call = refused_at k.limits.half k.broken (seat_after k.seen) call
 
 -- A call that its token let pass, and that did what it was asked, or found a stripe held and took
 -- all back: it added what belongs to its end, and the side value followed.

@@ -55,7 +55,7 @@ is_odd call outcome = false
 
 -- A drive has begun where the seat refuses nothing; while it works, the seat has the work's phase.
 abbrev pub Fits : Seat → Call → Phase → Type 0
-Fits s call Fresh = refusal_in s (first_step 0 call) ≡ None
+Fits s call Fresh = (half : Bool) × (refusal_in half s (first_step 0 call) ≡ None)
 Fits s call (Seeking work again) = work_phase call work ≡ Some s.phase
 Fits s call (Acting work again) = work_phase call work ≡ Some s.phase
 Fits s call phase = Unit {0}
@@ -80,7 +80,8 @@ pub record IsOnWay (m : State) (way : Way) : Type 0 where
 
 -- Its caller's seat, cursor and helper are as the drive was last told.
 abbrev pub Suits : State → Seat → ℕ → Call → Phase → Type 0
-Suits m s c call Fresh = (refusal_in s (first_step c call) ≡ None) × (is_help call ≡ false)
+Suits m s c call Fresh =
+    (refusal_in m.limits.half s (first_step c call) ≡ None) × (is_help call ≡ false)
 Suits m s c call (Seeking work again) = work_phase call work ≡ Some s.phase
 Suits m s c call (Acting work again) =
     (work_phase call work ≡ Some s.phase)

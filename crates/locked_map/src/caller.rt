@@ -88,6 +88,13 @@ impl<L: Ledger, S: Side> Caller<L, S> {
         self.number
     }
 
+    /// The limits of its map. Constant time.
+    pub fn limits(&self) -> Limits
+        ensures { result ≡ self.now.limits }
+    {
+        self.limits
+    }
+
     /// The entries that its calls have added, in order. Constant time.
     pub fn seen(&self) -> &[Entry]
         ensures { result.now ≡ self.now.seen }
@@ -155,7 +162,7 @@ impl<L: Ledger, S: Side> Caller<L, S> {
         if self.is_broken {
             return Some(Refusal::OutOfStep);
         }
-        self.seen.refusal(first_step(call))
+        self.seen.refusal(self.limits, first_step(call))
     }
 
     /// The number of the last transaction that it began.

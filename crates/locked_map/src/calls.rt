@@ -61,8 +61,8 @@ impl<L: Ledger> SharedMap<L> {
     ///
     /// - `Refused`, and the transaction is as it was:
     ///   - `OutOfStep` of a token that is broken.
-    ///   - `NotOpen`, `Leaving`, `OperationUnfinished` and `BadKey` (a key of 2^63 or more), the
-    ///     first that holds.
+    ///   - `NotOpen`, `Leaving`, `OperationUnfinished` and `BadKey` (a key of 2^63 or more,
+    ///     where the limits have half keys), the first that holds.
     ///   - Then `NoMemory` where a growth was refused, `StampsUsedUp` where none is left, and
     ///     `OutOfStep`, which breaks the token.
     /// - `Busy` where another caller holds the key's stripe: the transaction is aborted, with all
@@ -94,8 +94,8 @@ impl<L: Ledger> SharedMap<L> {
     ///
     /// - `Refused`, and the transaction is as it was:
     ///   - `OutOfStep` of a token that is broken.
-    ///   - `NotOpen`, `Leaving`, `OperationUnfinished` and `BadKey` (a key of 2^63 or more), the
-    ///     first that holds.
+    ///   - `NotOpen`, `Leaving`, `OperationUnfinished` and `BadKey` (a key of 2^63 or more,
+    ///     where the limits have half keys), the first that holds.
     ///   - Then `NoMemory` where a growth was refused, `StampsUsedUp` where none is left, and
     ///     `OutOfStep`, which breaks the token.
     /// - `Busy` where another caller holds the key's stripe: the transaction is aborted, with all
@@ -119,14 +119,50 @@ impl<L: Ledger> SharedMap<L> {
         self.operate(rt, me, Op::Take(key))
     }
 
+    /// Puts a value at a key where the value before is the one expected, `None` for a key that is
+    /// not there, and answers the value before. It is a change exactly where they are the same.
+    ///
+    /// # Errors
+    ///
+    /// - `Refused`, and the transaction is as it was:
+    ///   - `OutOfStep` of a token that is broken.
+    ///   - `NotOpen`, `Leaving`, `OperationUnfinished` and `BadKey` (a key of 2^63 or more, where
+    ///     the limits have half keys), the first that holds.
+    ///   - Then `NoMemory` where a growth was refused, `StampsUsedUp` where none is left, and
+    ///     `OutOfStep`, which breaks the token.
+    /// - `Busy` where another caller holds the key's stripe: the transaction is aborted, with all
+    ///   its changes taken back, and the side value has the words that it had when the transaction
+    ///   began.
+    ///
+    /// # Cost
+    ///
+    /// Three holds of the lock, and two more for each time that the place found no longer fits.
+    pub fn put_if<S: Side, R: Wait>(
+        &self,
+        rt: &R,
+        me: &mut Caller<L, S>,
+        key: u64,
+        expected: Option<u64>,
+        value: u64,
+    ) -> Result<Reply, Stop>
+        ensures ok { IfOk result (λ reply. me.new.seen ≡ me.old.seen
+            ++ entries.Asked me.old.number (Op.PutIf key expected value)
+            ∷ entries.Did me.old.number reply ∷ []) }
+        ensures side { OnOk result (IsSameSide me.old.side me.new.side) }
+        ensures leaves { Leaves S.words_of me.old (Call.Op (Op.PutIf key expected value))
+            result me.new }
+    {
+        self.operate(rt, me, Op::PutIf(key, expected, value))
+    }
+
     /// Answers the value of a key, if it is there.
     ///
     /// # Errors
     ///
     /// - `Refused`, and the transaction is as it was:
     ///   - `OutOfStep` of a token that is broken.
-    ///   - `NotOpen`, `Leaving`, `OperationUnfinished` and `BadKey` (a key of 2^63 or more), the
-    ///     first that holds.
+    ///   - `NotOpen`, `Leaving`, `OperationUnfinished` and `BadKey` (a key of 2^63 or more,
+    ///     where the limits have half keys), the first that holds.
     ///   - Then `NoMemory` where a growth was refused, `StampsUsedUp` where none is left, and
     ///     `OutOfStep`, which breaks the token.
     /// - `Busy` where another caller holds the key's stripe: the transaction is aborted, with all
@@ -268,7 +304,7 @@ impl<L: Ledger> SharedMap<L> {
     /// `Refused`, and the transaction, if there is one, is as it was; buckets that are initialised
     /// stay so:
     /// - `OutOfStep` of a token that is broken.
-    /// - `BadKey` of a key of 2^63 or more.
+    /// - `BadKey` of a key of 2^63 or more, where the limits have half keys.
     /// - Then `NoMemory` where a growth was refused, `StampsUsedUp` where none is left, and
     ///   `OutOfStep`, which breaks the token.
     ///

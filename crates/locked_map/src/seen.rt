@@ -9,7 +9,7 @@ ghost use Rattle.locked_map.specs.Noted.{HasRoomFor, adds_entry, began_by, last_
 use std::alloc::{AllocError, Global};
 use std::marker::Model;
 use std::sync::ledger::{Book, Ledger, Share};
-use txn_trace::{Answer, Entry, Refusal, Seat, Step, entry_of};
+use txn_trace::{Answer, Entry, Limits, Refusal, Seat, Step, entry_of};
 
 /// The entries that a caller's calls have added, in order, and the seat that they give it.
 ///
@@ -79,12 +79,12 @@ impl<L: Ledger> Seen<L> {
         self.txn
     }
 
-    /// The refusal of a step by the caller's seat alone.
-    pub(crate) fn refusal(&self, step: Step) -> Option<Refusal>
+    /// The refusal of a step by the caller's seat alone, under these limits.
+    pub(crate) fn refusal(&self, limits: Limits, step: Step) -> Option<Refusal>
         ensures { (s : Standing) → seat_after self.now.entries ≡ Some s
-            → result ≡ refusal_in s step }
+            → result ≡ refusal_in limits.half s step }
     {
-        self.seat.refusal(step)
+        self.seat.refusal(limits, step)
     }
 
     /// Makes room for what a step may add, and for all that is owed then.

@@ -95,13 +95,14 @@ impl<L: Ledger> SharedMap<L> {
         call: Call,
         hears: &H,
     ) -> End
-        requires fits { FitsIf (seat_after me.old.seen) call (first_phase call) }
+        requires fits { FitsIf (seat_after me.old.seen) call
+            (first_phase me.old.limits.half call) }
         ensures side { me.new.side ≡ me.old.side }
         ensures caller { IsSameCaller me.old me.new }
         ensures broken { me.new.broken ≡ is_out result }
         ensures run { HasRun me.old.seen me.new.seen me.old.number call result }
     {
-        let mut drive = Drive::new(me.number(), call);
+        let mut drive = Drive::new(me.number(), call, me.limits());
         for _ in rt.forever() {
             let end = me.hold(&mut *self.booked.lock(rt), &mut drive);
             hears.released();
