@@ -171,3 +171,54 @@ impl Play for HelpGrows {
 fn help_grows(rt: HostRuntime) -> Result<(), Fail> {
     play_with(&rt, rt.alloc(), 2, &HelpGrows)
 }
+
+/// Two keys of one split key, and puts under a condition.
+fn put_wide_keys<L: Ledger, R: Wait + Abort>(
+    rt: &R,
+    map: &SharedMap<L>,
+    me: &mut Caller<L, NoSide>,
+) {
+    let wide = 9_223_372_036_854_775_809;
+    assert_eq!(rt; map.begin(rt, me), Ok(1));
+    assert_eq!(rt; map.put(rt, me, wide, 11), Ok(None));
+    assert_eq!(rt; map.put(rt, me, 1, 10), Ok(None));
+    assert_eq!(rt; map.put_if(rt, me, 1, None, 12), Ok(Some(10)));
+    assert_eq!(rt; map.put_if(rt, me, 1, Some(10), 12), Ok(Some(10)));
+    assert_eq!(rt; map.put_if(rt, me, 2, None, 20), Ok(None));
+    assert_eq!(rt; map.put_if(rt, me, 3, Some(5), 6), Ok(None));
+    assert_eq!(rt; map.put(rt, me, u64::MAX, 7), Ok(None));
+    assert_eq!(rt; map.commit(rt, me), Ok(Receipt { txn: 1, place: 1 }));
+}
+
+struct WideKeys;
+
+impl Play for WideKeys {
+    fn play<L: Ledger, R: Wait + Abort>(
+        &self,
+        rt: &R,
+        alloc: Global,
+        map: SharedMap<L>,
+        passes: Vec<Pass<L>>,
+    ) -> Result<(), Fail> {
+        let mut callers = callers_of(alloc, passes)?;
+        let me = callers.first_mut().ok_or("caller 0")?;
+        put_wide_keys(rt, &map, me);
+        let Ok(closed) = map.close(callers) else {
+            return Err("closes".into());
+        };
+        let wanted = [
+            (2, 20),
+            (1, 12),
+            (9_223_372_036_854_775_809, 11),
+            (18_446_744_073_709_551_615, 7),
+        ];
+        let list = closed.core.regular_list(alloc)?;
+        assert!(rt; list.as_slice() == wanted.as_slice());
+        Ok(())
+    }
+}
+
+#[test]
+fn keys_of_64_bits(rt: HostRuntime) -> Result<(), Fail> {
+    play_with(&rt, rt.alloc(), 2, &WideKeys)
+}
