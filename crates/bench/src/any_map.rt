@@ -50,6 +50,13 @@ impl AnyMap for BTreeMap<u64, u64> {
             Op::Put(key, value) => self.insert(key, value).map_err(|_| Refusal::NoMemory),
             Op::Take(key) => Ok(self.remove(&key)),
             Op::Get(key) => Ok(self.get(&key).copied()),
+            Op::PutIf(key, expected, value) => {
+                let before = self.get(&key).copied();
+                if before == expected {
+                    self.insert(key, value).map_err(|_| Refusal::NoMemory)?;
+                }
+                Ok(before)
+            }
         }
     }
 }
@@ -60,6 +67,13 @@ impl AnyMap for HashMap<u64, u64> {
             Op::Put(key, value) => self.insert(key, value).map_err(|_| Refusal::NoMemory),
             Op::Take(key) => Ok(self.remove(&key)),
             Op::Get(key) => Ok(self.get(&key).copied()),
+            Op::PutIf(key, expected, value) => {
+                let before = self.get(&key).copied();
+                if before == expected {
+                    self.insert(key, value).map_err(|_| Refusal::NoMemory)?;
+                }
+                Ok(before)
+            }
         }
     }
 }
