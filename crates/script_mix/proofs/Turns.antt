@@ -36,7 +36,6 @@ use Rattle.script_worker.specs.Keeps.{KeepsAt, Keeps}
 use Rattle.txn_drive.proofs.DriveLaws.{entries_callers}
 use Rattle.script_worker.proofs.Keeping.{keeps_played, told_keeps, told_on, told_same, sized_keeps}
 use Rattle.script_mix.specs.Crews.{IsMember, IsCrew, Goes}
-use Rattle.script_mix.specs.Turns.{TakesTurn}
 
 no_entries : (step : Step) (refusal : Refusal) → entries_of step (answers.Refused refusal) ≡ []
 no_entries (Begin c) refusal = refl
@@ -147,8 +146,8 @@ module _ (scripts : List (List Action)) (tries : ℕ) where
 
 -- At the size that the core's table has.
 pub took : (scripts : List (List Action)) (tries size : ℕ) (old new : State) (before after : Worker) (outcome : Option Outcome) → size ≡ old.size
-    → TakesNext Move size scripts tries old before outcome new after → TakesTurn scripts tries old before new after
-took scripts tries size old new before after outcome is takes = (outcome, subst (λ n. TakesNext Move n scripts tries old before outcome new after) is takes)
+    → TakesNext Move size scripts tries old before outcome new after → TakesNext Move old.size scripts tries old before outcome new after
+took scripts tries size old new before after outcome is takes = subst (λ n. TakesNext Move n scripts tries old before outcome new after) is takes
 
 -- One member goes on, and the others stay as they are.
 pub crew_goes : (scripts : List (List Action)) (count w : ℕ) (old new : State) (crew : List Worker) (before after : Worker) → w < length crew → before ≡ get_or crew w before

@@ -1,5 +1,4 @@
 use Rattle.std.proofs.Common.{◌≡◌, ◌∙◌, inl, inr, ◌%◌, List, [], ◌∷◌, refl, sym, ap, subst, arith}
-use Rattle.txn_trace.specs.Sizes.{Sizes}
 use Rattle.rand_pcg.specs.Pcg.{pcg32}
 use Rattle.boost_core.specs.Machine.{State, start}
 use Rattle.script_worker.specs.declared.worker.Worker.{Worker}
