@@ -2,8 +2,9 @@
 use Rattle.std.specs.Prelude.{ℕ, zero, suc, ◌≡◌, ◌≤◌, List, [], ◌∷◌, map, length}
 use Rattle.undo_log.specs.UndoLog.{Log}
 
--- The value, its words at each level, level 0 first; how many changes can be taken back, and how many of them each
--- level keeps, level 0 first; and how many changes and how many savepoints can be made before memory is taken.
+-- The value, its words at each level, level 0 first; how many changes can be taken back, and how
+-- many of them each level keeps, level 0 first; and how many changes and how many savepoints can be
+-- made before memory is taken.
 pub record Leveled (S : Type 0) : Type 0 where
   pub value : S
   pub levels : List (List ℕ)
@@ -12,7 +13,8 @@ pub record Leveled (S : Type 0) : Type 0 where
   pub room : ℕ
   pub save_room : ℕ
 
--- The words when only the first k jobs are left: what the next one names as before, or the words now.
+-- The words when only the first k jobs are left: what the next one names as before, or the words
+-- now.
 abbrev pub words_at : {J : Type 0} → (J → List ℕ) → List ℕ → List J → ℕ → List ℕ
 words_at before now [] k = now
 words_at before now (job ∷ jobs) zero = before job
@@ -25,7 +27,8 @@ levels_of before now log = map (words_at before now log.jobs) (0 ∷ log.kept)
 -- Each job names as after what the next newer one names as before, and the newest the words now.
 abbrev pub IsChain : {J : Type 0} → (J → List ℕ) → (J → List ℕ) → List ℕ → List J → Type 0
 IsChain before after now [] = Unit {0}
-IsChain before after now (job ∷ jobs) = (after job ≡ words_at before now jobs 0) × IsChain before after now jobs
+IsChain before after now (job ∷ jobs) =
+    (after job ≡ words_at before now jobs 0) × IsChain before after now jobs
 
 -- The numbers never fall, from low to high.
 abbrev pub IsRising : ℕ → List ℕ → ℕ → Type 0
@@ -33,6 +36,7 @@ IsRising low [] high = low ≤ high
 IsRising low (k ∷ ks) high = (low ≤ k) × IsRising k ks high
 
 -- From the words now, the jobs lead back through the words of each level.
-pub record IsUndoable {J : Type 0} (before after : J → List ℕ) (now : List ℕ) (log : Log J) : Type 0 where
+pub record IsUndoable {J : Type 0} (before after : J → List ℕ) (now : List ℕ)
+    (log : Log J) : Type 0 where
   pub chain : IsChain before after now log.jobs
   pub nested : IsRising 0 log.kept (length log.jobs)

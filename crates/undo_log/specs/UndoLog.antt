@@ -1,8 +1,8 @@
 -- What contracts see of an undo log, and which jobs lie above a level.
 use Rattle.std.specs.Prelude.{ℕ, ◌∷◌, ◌-◌, nat_lt, List, length, slice_get, slice_index, Option, None, if◌then◌else◌}
 
--- The jobs, oldest first; how many there were at each savepoint, savepoint 1 first; and how many jobs and
--- how many savepoints can be added before memory is taken.
+-- The jobs, oldest first; how many there were at each savepoint, savepoint 1 first; and how many
+-- jobs and how many savepoints can be added before memory is taken.
 pub record Log (J : Type 0) : Type 0 where
   pub jobs : List J
   pub kept : List ℕ

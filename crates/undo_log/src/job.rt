@@ -1,8 +1,9 @@
 /// The inverse of one change, which is run at most once.
 ///
-/// Its law is the contract of `run`: on a world that shows what the job names as after the change, it gives one that shows what the
-/// job names as before it, and that differs from the first as the job says: `takes_back` names what changes and that nothing else
-/// does. A job that is no longer wanted is dropped.
+/// Its law is the contract of `run`: on a world that shows what the job names as after the change,
+/// it gives one that shows what the job names as before it, and that differs from the first as the
+/// job says: `takes_back` names what changes and that nothing else does. A job that is no longer
+/// wanted is dropped.
 pub trait UndoJob: Drop {
     /// What was changed, as a table of nodes.
     type World;
@@ -13,7 +14,8 @@ pub trait UndoJob: Drop {
     /// Whether a world shows what the job names as before its change.
     ghost shows_before: { Self → Self.World → Type 0 };
 
-    /// Whether the second world is the first without the job's change, with everything else as it was.
+    /// Whether the second world is the first without the job's change, with everything else as it
+    /// was.
     ghost takes_back: { Self → Self.World → Self.World → Type 0 };
 
     /// Takes the change back.

@@ -1,16 +1,20 @@
-//! The undo log of a transaction by boosting (Herlihy and Koskinen, "Transactional Boosting: A Methodology for Highly-Concurrent
-//! Transactional Objects", PPoPP 2008, rule 3, compensating actions): one inverse for each change, run newest first where the
-//! transaction goes back.
+//! The undo log of a transaction by boosting (Herlihy and Koskinen, "Transactional Boosting: A
+//! Methodology for Highly-Concurrent Transactional Objects", PPoPP 2008, rule 3, compensating
+//! actions): one inverse for each change, run newest first where the transaction goes back.
 //!
-//! - `UndoJob`: an inverse. It names what the world shows after its change and before it; run on the one it gives the other.
-//! - `UndoLog`: contracts see its jobs, oldest first, and how many of them each savepoint keeps. Savepoints are numbered 1, 2, ..;
-//!   level 0 is the beginning, which keeps none. Jobs come out newest first, each once, and only above the level that is asked.
-//! - `Side` and `SideValue`: a value of the caller's own, whose changes are taken back by value, each by a job of its own.
-//!   Contracts see its words at each level: a return to a level gives just those, for every side type and every list of changes.
+//! - `UndoJob`: an inverse. It names what the world shows after its change and before it; run on
+//!   the one it gives the other.
+//! - `UndoLog`: contracts see its jobs, oldest first, and how many of them each savepoint keeps.
+//!   Savepoints are numbered 1, 2, ..; level 0 is the beginning, which keeps none. Jobs come out
+//!   newest first, each once, and only above the level that is asked.
+//! - `Side` and `SideValue`: a value of the caller's own, whose changes are taken back by value,
+//!   each by a job of its own. Contracts see its words at each level: a return to a level gives
+//!   just those, for every side type and every list of changes.
 //!
-//! Room is reserved before a change is made, so that going back never wants memory: only `reserve_one`, `save`, `save_room`
-//! and `change` take any. A job costs its own size and a savepoint one word. Each call but `back`, `settle` and `cut` takes
-//! constant time, amortized where room has to grow.
+//! Room is reserved before a change is made, so that going back never wants memory: only
+//! `reserve_one`, `save`, `save_room` and `change` take any. A job costs its own size and a
+//! savepoint one word. Each call but `back`, `settle` and `cut` takes constant time, amortized
+//! where room has to grow.
 #![tactic(auto)]
 
 mod job;

@@ -7,9 +7,10 @@ use std::marker::Model;
 
 /// The inverses of a transaction's changes, and its savepoints.
 ///
-/// Contracts see the `jobs`, oldest first; in `kept` how many jobs there were at each savepoint, savepoint 1 first; and the `room` for
-/// jobs and the `save_room` for savepoints that is there already. A level is the number of a savepoint, or 0, the beginning; a call
-/// that takes one wants one of those that are there.
+/// Contracts see the `jobs`, oldest first; in `kept` how many jobs there were at each savepoint,
+/// savepoint 1 first; and the `room` for jobs and the `save_room` for savepoints that is there
+/// already. A level is the number of a savepoint, or 0, the beginning; a call that takes one wants
+/// one of those that are there.
 #[derive(Drop)]
 pub struct UndoLog<J: UndoJob> {
     jobs: Vec<J>,
@@ -65,8 +66,8 @@ impl<J: UndoJob> UndoLog<J> {
         self.kept.len()
     }
 
-    /// The number of jobs that a return to the level keeps: those that were there at its savepoint, none at level 0.
-    /// Constant time.
+    /// The number of jobs that a return to the level keeps: those that were there at its savepoint,
+    /// none at level 0. Constant time.
     pub fn kept(&self, level: usize) -> usize
         requires { level ≤ length self.now.kept }
         ensures { result ≡ kept_at self.now.kept level }
@@ -77,13 +78,15 @@ impl<J: UndoJob> UndoLog<J> {
         }
     }
 
-    /// Makes room for one more job, if there is none: takes no memory where some is left. The room stays until a job is pushed into it.
+    /// Makes room for one more job, if there is none: takes no memory where some is left. The room
+    /// stays until a job is pushed into it.
     ///
     /// Amortized constant time.
     ///
     /// # Errors
     ///
-    /// `AllocError` where memory is refused, and only where there was no room. Then nothing has changed.
+    /// `AllocError` where memory is refused, and only where there was no room. Then nothing has
+    /// changed.
     pub fn reserve_one(&mut self) -> Result<(), AllocError>
         ensures jobs { self.new.jobs ≡ self.old.jobs }
         ensures kept { self.new.kept ≡ self.old.kept }
@@ -110,13 +113,15 @@ impl<J: UndoJob> UndoLog<J> {
         self.jobs.push_reserved(job);
     }
 
-    /// Makes room for one more savepoint, if there is none, so that the next `save` succeeds: takes no memory where some is left.
+    /// Makes room for one more savepoint, if there is none, so that the next `save` succeeds: takes
+    /// no memory where some is left.
     ///
     /// Amortized constant time.
     ///
     /// # Errors
     ///
-    /// `AllocError` where memory is refused, and only where there was no room. Then nothing has changed.
+    /// `AllocError` where memory is refused, and only where there was no room. Then nothing has
+    /// changed.
     pub fn save_room(&mut self) -> Result<(), AllocError>
         ensures jobs { self.new.jobs ≡ self.old.jobs }
         ensures kept { self.new.kept ≡ self.old.kept }
@@ -132,13 +137,15 @@ impl<J: UndoJob> UndoLog<J> {
         self.kept.reserve(1)
     }
 
-    /// Makes a savepoint here, which keeps all jobs, and gives its number: one more than there were savepoints.
+    /// Makes a savepoint here, which keeps all jobs, and gives its number: one more than there were
+    /// savepoints.
     ///
     /// Amortized constant time.
     ///
     /// # Errors
     ///
-    /// `AllocError` where memory is refused, and only where there was no room for a savepoint. Then nothing has changed.
+    /// `AllocError` where memory is refused, and only where there was no room for a savepoint. Then
+    /// nothing has changed.
     pub fn save(&mut self) -> Result<usize, AllocError>
         ensures jobs { self.new.jobs ≡ self.old.jobs }
         ensures room { self.new.room ≡ self.old.room }
@@ -168,8 +175,9 @@ impl<J: UndoJob> UndoLog<J> {
 
     /// Takes out the newest job, or gives none where only those are left that the level keeps.
     ///
-    /// Savepoints stay, those above the level too, until `cut`. The job's place is room again, in which it may be pushed back.
-    /// A transaction that commits takes out all its jobs so, by level 0, discards them and cuts at 0. Takes no memory, constant time.
+    /// Savepoints stay, those above the level too, until `cut`. The job's place is room again, in
+    /// which it may be pushed back. A transaction that commits takes out all its jobs so, by level
+    /// 0, discards them and cuts at 0. Takes no memory, constant time.
     pub fn pop_above(&mut self, level: usize) -> Option<J>
         requires { level ≤ length self.old.kept }
         ensures newest { result ≡ newest_above self.old level }
@@ -183,7 +191,8 @@ impl<J: UndoJob> UndoLog<J> {
         self.jobs.pop()
     }
 
-    /// Drops the savepoints above the level, once no job above it is left, and keeps the level's own.
+    /// Drops the savepoints above the level, once no job above it is left, and keeps the level's
+    /// own.
     ///
     /// Takes no memory, and time in proportion to the savepoints that are dropped.
     pub fn cut(&mut self, level: usize)

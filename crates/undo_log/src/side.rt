@@ -1,8 +1,10 @@
 use crate::job::UndoJob;
 
-/// A value of the caller's own, kept beside a transaction, whose changes can be taken back, each by a job of its own.
+/// A value of the caller's own, kept beside a transaction, whose changes can be taken back, each by
+/// a job of its own.
 ///
-/// The library makes no such value and looks into none: it sees four words, and a job names those before its change and after it.
+/// The library makes no such value and looks into none: it sees four words, and a job names those
+/// before its change and after it.
 pub trait Side: Drop + Send {
     /// The inverse of one change, which is used up once.
     type Job: Drop + Send;

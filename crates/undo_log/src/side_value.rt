@@ -9,9 +9,10 @@ use std::marker::Model;
 
 /// A side value with the jobs of its changes and its savepoints.
 ///
-/// Contracts see the `value`; in `levels` the words that it had at the beginning and at each savepoint, level 0 first; in `changes` how
-/// many changes can be taken back, each by its job, and in `kept` how many of them each level keeps; and the `room` for changes and the
-/// `save_room` for savepoints that is there already. No words are stored: each job names those that it gives.
+/// Contracts see the `value`; in `levels` the words that it had at the beginning and at each
+/// savepoint, level 0 first; in `changes` how many changes can be taken back, each by its job, and
+/// in `kept` how many of them each level keeps; and the `room` for changes and the `save_room` for
+/// savepoints that is there already. No words are stored: each job names those that it gives.
 #[derive(Drop)]
 pub struct SideValue<S: Side> {
     value: S,
@@ -68,13 +69,14 @@ impl<S: Side> SideValue<S> {
 
     /// Changes the value, and logs the job that takes the change back.
     ///
-    /// The job names the words now as before, and those that `change` gives as after. Calls `change` once, in amortized
-    /// constant time beside it.
+    /// The job names the words now as before, and those that `change` gives as after. Calls
+    /// `change` once, in amortized constant time beside it.
     ///
     /// # Errors
     ///
-    /// `AllocFailed` where memory is refused, and only where there was no room for a change. Then `change` was not called, nothing has
-    /// changed, and the error's `value` is the change and the job that were handed in.
+    /// `AllocFailed` where memory is refused, and only where there was no room for a change. Then
+    /// `change` was not called, nothing has changed, and the error's `value` is the change and the
+    /// job that were handed in.
     pub fn change<F: FnOnce(S) -> S>(
         &mut self,
         change: F,
@@ -82,7 +84,8 @@ impl<S: Side> SideValue<S> {
     ) -> Result<(), AllocFailed<(F, SideJob<S>)>>
         requires before { S.words_of self.old.value ≡ S.before job.job }
         requires callable { F.pre change self.old.value }
-        requires after { (value : S) → F.post change self.old.value value → S.words_of value ≡ S.after job.job }
+        requires after { (value : S) → F.post change self.old.value value
+            → S.words_of value ≡ S.after job.job }
         ensures changed { OnOk result (F.post change self.old.value self.new.value) }
         ensures levels { self.new.levels ≡ self.old.levels }
         ensures changes { OnOk result (self.new.changes ≡ self.old.changes + 1) }
@@ -116,7 +119,8 @@ impl<S: Side> SideValue<S> {
     ///
     /// # Errors
     ///
-    /// `AllocError` where memory is refused, and only where there was no room. Then nothing has changed.
+    /// `AllocError` where memory is refused, and only where there was no room. Then nothing has
+    /// changed.
     pub fn save_room(&mut self) -> Result<(), AllocError>
         ensures value { self.new.value ≡ self.old.value }
         ensures levels { self.new.levels ≡ self.old.levels }
@@ -131,17 +135,20 @@ impl<S: Side> SideValue<S> {
         self.log.save_room()
     }
 
-    /// Makes a savepoint of the value as it is now, and gives its number: one more than there were savepoints.
+    /// Makes a savepoint of the value as it is now, and gives its number: one more than there were
+    /// savepoints.
     ///
     /// Amortized constant time.
     ///
     /// # Errors
     ///
-    /// `AllocError` where memory is refused, and only where there was no room for a savepoint. Then nothing has changed.
+    /// `AllocError` where memory is refused, and only where there was no room for a savepoint. Then
+    /// nothing has changed.
     pub fn save(&mut self) -> Result<usize, AllocError>
         ensures value { self.new.value ≡ self.old.value }
         ensures number { IfOk result (λ level. level ≡ length self.old.levels) }
-        ensures levels { OnOk result (self.new.levels ≡ self.old.levels ++ S.words_of self.old.value ∷ []) }
+        ensures levels { OnOk result (self.new.levels ≡ self.old.levels
+            ++ S.words_of self.old.value ∷ []) }
         ensures changes { self.new.changes ≡ self.old.changes }
         ensures kept { OnOk result (self.new.kept ≡ self.old.kept ++ self.old.changes ∷ []) }
         ensures room { self.new.room ≡ self.old.room }
@@ -154,8 +161,8 @@ impl<S: Side> SideValue<S> {
 
     /// Takes back each change since the level, newest first, and drops the savepoints above it.
     ///
-    /// The value then has the words that it had there. Takes no memory, and time in proportion to the changes and savepoints above the
-    /// level, with one job run for each change.
+    /// The value then has the words that it had there. Takes no memory, and time in proportion to
+    /// the changes and savepoints above the level, with one job run for each change.
     pub fn back(&mut self, level: usize)
         requires { level < length self.old.levels }
         ensures words { slice_get self.old.levels level ≡ Some (S.words_of self.new.value) }
@@ -163,7 +170,8 @@ impl<S: Side> SideValue<S> {
         ensures changes { slice_get self.old.kept level ≡ Some self.new.changes }
         ensures kept { self.new.kept ≡ take (level + 1) self.old.kept }
         ensures room { self.new.room + self.new.changes ≡ self.old.room + self.old.changes }
-        ensures save_room { self.new.save_room + length self.new.kept ≡ self.old.save_room + length self.old.kept }
+        ensures save_room { self.new.save_room + length self.new.kept
+            ≡ self.old.save_room + length self.old.kept }
     {
         while let Some(job) = self.log.pop_above(level) {
             replace_with(
@@ -178,7 +186,8 @@ impl<S: Side> SideValue<S> {
         self.log.cut(level);
     }
 
-    /// Keeps the value, which is level 0 from now on: drops all jobs, none of them run, and all savepoints.
+    /// Keeps the value, which is level 0 from now on: drops all jobs, none of them run, and all
+    /// savepoints.
     ///
     /// Takes no memory, and time in proportion to the jobs and savepoints.
     pub fn settle(&mut self)

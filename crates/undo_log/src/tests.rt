@@ -129,7 +129,8 @@ fn change<S: Side, F: FnOnce(S) -> S>(
 ) -> Option<()>
     requires before { S.words_of side.old.value ≡ S.before job }
     requires callable { F.pre change side.old.value }
-    requires after { (value : S) → F.post change side.old.value value → S.words_of value ≡ S.after job }
+    requires after { (value : S) → F.post change side.old.value value → S.words_of value
+        ≡ S.after job }
     ensures words { IsSome result → S.words_of side.new.value ≡ S.after job }
     ensures levels { side.new.levels ≡ side.old.levels }
 {
@@ -145,7 +146,8 @@ fn change<S: Side, F: FnOnce(S) -> S>(
 /// Makes a savepoint, and asks twice where memory is refused once.
 fn save_side<S: Side>(rt: &impl Abort, side: &mut SideValue<S>) -> Result<usize, Fail>
     ensures value { side.new.value ≡ side.old.value }
-    ensures levels { OnOk result (side.new.levels ≡ side.old.levels ++ S.words_of side.old.value ∷ []) }
+    ensures levels { OnOk result (side.new.levels ≡ side.old.levels
+        ++ S.words_of side.old.value ∷ []) }
 {
     let level = side.level();
     if let Ok(saved) = side.save() {
@@ -174,7 +176,8 @@ fn room_is_made_in_a_new_side_value(rt: HostRuntime) -> Result<(), Fail> {
     Ok(())
 }
 
-/// The words after a change, a savepoint and two more changes, back at the savepoint, and back at the beginning.
+/// The words after a change, a savepoint and two more changes, back at the savepoint, and back at
+/// the beginning.
 fn words_there_and_back<S: Side, A: FnOnce(S) -> S, B: FnOnce(S) -> S, C: FnOnce(S) -> S>(
     rt: &impl Abort,
     alloc: Global,
@@ -187,11 +190,14 @@ fn words_there_and_back<S: Side, A: FnOnce(S) -> S, B: FnOnce(S) -> S, C: FnOnce
     requires second_before { S.after first.1 ≡ S.before second.1 }
     requires third_before { S.after second.1 ≡ S.before third.1 }
     requires first_callable { (value : S) → A.pre first.0 value }
-    requires first_after { (value left : S) → A.post first.0 value left → S.words_of left ≡ S.after first.1 }
+    requires first_after { (value left : S) → A.post first.0 value left → S.words_of left
+        ≡ S.after first.1 }
     requires second_callable { (value : S) → B.pre second.0 value }
-    requires second_after { (value left : S) → B.post second.0 value left → S.words_of left ≡ S.after second.1 }
+    requires second_after { (value left : S) → B.post second.0 value left → S.words_of left
+        ≡ S.after second.1 }
     requires third_callable { (value : S) → C.pre third.0 value }
-    requires third_after { (value left : S) → C.post third.0 value left → S.words_of left ≡ S.after third.1 }
+    requires third_after { (value left : S) → C.post third.0 value left → S.words_of left
+        ≡ S.after third.1 }
 {
     let mut side = SideValue::new(alloc, value);
     change(rt, &mut side, first.0, first.1).ok_or("the first change")?;
@@ -206,7 +212,8 @@ fn words_there_and_back<S: Side, A: FnOnce(S) -> S, B: FnOnce(S) -> S, C: FnOnce
     Ok([there, at_savepoint, side.words()])
 }
 
-/// The words after a change, a savepoint and a return to level 0, with or without a settling before it.
+/// The words after a change, a savepoint and a return to level 0, with or without a settling before
+/// it.
 fn words_back<S: Side, F: FnOnce(S) -> S>(
     rt: &impl Abort,
     alloc: Global,

@@ -11,7 +11,8 @@ pub struct RegisterJob {
     pub after: [u64; 4],
     pub run: Box<dyn FnOnce(Register) -> Register + Send + Drop>,
     pub ghost ready: { (value : Value) → value.words ≡ after → pre run value },
-    pub ghost returns: { (value left : Value) → value.words ≡ after → post run value left → left.words ≡ before },
+    pub ghost returns: { (value left : Value) → value.words ≡ after → post run value left
+        → left.words ≡ before },
 }
 
 impl Side for Register {
