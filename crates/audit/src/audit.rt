@@ -8,8 +8,8 @@ use history_check::{Verdict, check};
 use std::alloc::{AllocError, Global};
 use txn_trace::Entry;
 
-/// Whether the history of a map with this number of stripes is legal; `None` where a caller's number
-/// is 64 or more, since the checker knows no such caller.
+/// Whether the history of a map with this number of stripes is legal; `None` where a caller's
+/// number is 64 or more, since the checker knows no such caller.
 ///
 /// # Errors
 ///

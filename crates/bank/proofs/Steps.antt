@@ -123,7 +123,7 @@ puts old new c base k v x stands (s1, ask, (s2, seek, (s3, did, last))) =
 
 -- An operation with another answer leaves a transaction that can be aborted.
 pub stops : (old new : State) (c : ℕ) (base : Map) (op : Op) (answer : Answer) → IsOpen c base old → ((x : Option ℕ) → answer ≡ answers.Done x → ⊥) → Operates old c op answer new → CanAbort c base new
-stops old new c base op (answers.Refused refusal) stands other move = inl (to_state c base Opened old new move.state stands)
+stops old new c base op (answers.Refused refusal) stands other move = inl (to_state c base Opened _ new move.state stands)
 stops old new c base op (answers.Busy x) stands other move =
     let locked = (and_parts (has_stamp_for old op) _ move.allowed.1).1 in
     inr (to_state c base LeavingToEnd _ new move.state (busy_now old.limits c base old.history op x stands locked))
@@ -135,7 +135,7 @@ pub commits : (old new : State) (c : ℕ) (base : Map) (p : ℕ) → IsOpen c ba
 commits old new c base p stands move = ap now_of move.state ∙ committed_now old.limits c base old.history p stands move.allowed.1
 
 pub not_committed : (old new : State) (c : ℕ) (base : Map) (answer : Answer) → IsOpen c base old → ((p : ℕ) → answer ≡ answers.Committed p → ⊥) → Move old (Commit c) answer new → CanAbort c base new
-not_committed old new c base (answers.Refused refusal) stands other move = inl (to_state c base Opened old new move.state stands)
+not_committed old new c base (answers.Refused refusal) stands other move = inl (to_state c base Opened _ new move.state stands)
 not_committed old new c base (answers.Committed p) stands other move = absurd (other p refl)
 not_committed old new c base _ stands other move = absurd move.allowed.1
 

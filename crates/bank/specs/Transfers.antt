@@ -23,14 +23,15 @@ pub record IsTransfer (from to sum : ℕ) (old new : Map) : Type 0 where
   pub to_more : balance new to ≡ balance old to + sum
   pub others : (k : ℕ) → k ≢ from → k ≢ to → get new k ≡ get old k
 
--- The map after these changes are taken back, the first of them first: of each its key and the value
--- before it.
+-- The map after these changes are taken back, the first of them first: of each its key and the
+-- value before it.
 abbrev pub taken_back : List (ℕ × Option ℕ) → Map → Map
 taken_back [] m = m
 taken_back (job ∷ jobs) m = taken_back jobs (set_at m job.0 job.1)
 
 -- A caller is in this phase, and with its standing changes taken back the map is this one.
-pub record Stands (limits : Sizes) (c : ℕ) (base : Map) (phase : Phase) (h : List Entry) : Type 0 where
+pub record Stands (limits : Sizes) (c : ℕ) (base : Map) (phase : Phase)
+    (h : List Entry) : Type 0 where
   pub within : nat_le limits.callers c ≡ false
   pub legal : IsLegal limits.stripes h
   pub seat : Seat

@@ -10,12 +10,12 @@ returns-in_default-clause-kept c = λ is. not_begun c.args.core.now c.step.new.s
 
 pub returns-then-not-is_moved-clause-kept : goal.returns-then-not-is_moved-clause-kept
 returns-then-not-is_moved-clause-kept c = λ is.
-    let begun = begins c.args.core.now c.step.new.self c.args.caller c.in-Began.field-0 c.trace-history.ensures.legal c.in-Began.ensures in
+    let begun = begins c.args.core.now c.step.new.self c.args.caller c.in-Began.field-0 c.trace-history.ensures.legal c.in-Began.ensures.moves in
     let old = now c.args.core.now.history in
     aborts c.move_sum-is_moved.new.core c.abort.new.self c.args.caller old c.abort.result (c.move_sum-is_moved.ensures.back old begun.0 is) c.abort.ensures
 
 pub returns-else-not-is_moved-clause-moved : goal.returns-else-not-is_moved-clause-moved
 returns-else-not-is_moved-clause-moved c = λ is.
-    let begun = begins c.args.core.now c.step.new.self c.args.caller c.in-Began.field-0 c.trace-history.ensures.legal c.in-Began.ensures in
+    let begun = begins c.args.core.now c.step.new.self c.args.caller c.in-Began.field-0 c.trace-history.ensures.legal c.in-Began.ensures.moves in
     let old = now c.args.core.now.history in
     subst (λ m. IsTransfer c.args.from c.args.to c.args.sum m (now c.move_sum-is_moved.new.core.history)) begun.1 (c.move_sum-is_moved.ensures.moved old begun.0 is)
