@@ -458,21 +458,38 @@ fn half_keys(rt: HostRuntime) -> Result<(), Fail> {
     plays(&rt, alloc, &mut core, &lines)
 }
 
-/// The key that shares the split key of this one.
+/// A caller, and the lower keys of the pairs that it works on.
+#[derive(Clone, Copy, Debug)]
+struct Pairs {
+    caller: u64,
+    keys: [u64; 4],
+}
+
+const FIRST: Pairs = Pairs {
+    caller: 0,
+    keys: [0, 2, 4, 6],
+};
+
+const SECOND: Pairs = Pairs {
+    caller: 1,
+    keys: [1, 3, 5, 7],
+};
+
+/// The key that shares the split key of this one, which is below 2^63.
 fn partner(key: u64) -> u64 {
-    key + 9_223_372_036_854_775_808
+    key | 1 << 63
 }
 
 /// Does an operation of a caller on the keys of each pair, the lower one first or the upper one.
 fn on_pairs(
     rt: &impl Abort,
     core: &mut Core,
-    caller: u64,
+    pairs: Pairs,
     upper_first: bool,
     taken: bool,
 ) -> Result<(), Fail> {
-    for key in 0..4 {
-        let own = 2 * key + caller;
+    let caller = pairs.caller;
+    for own in pairs.keys {
         let both = if upper_first {
             [partner(own), own]
         } else {
@@ -503,8 +520,8 @@ fn pairs_in_order(
         (Call::Run(Step::Begin(1)), Answer::Began(2)),
     ];
     plays(rt, alloc, &mut core, &begins)?;
-    on_pairs(rt, &mut core, 0, upper_first, false)?;
-    on_pairs(rt, &mut core, 1, !upper_first, false)?;
+    on_pairs(rt, &mut core, FIRST, upper_first, false)?;
+    on_pairs(rt, &mut core, SECOND, !upper_first, false)?;
     let ends = [
         (Call::Run(Step::Commit(0)), Answer::Committed(1)),
         (Call::Abort(1), Answer::Aborted),
@@ -514,11 +531,11 @@ fn pairs_in_order(
     plays(rt, alloc, &mut core, &ends)?;
     assert_eq!(rt; core.count(), 8);
     let before = core.regular_list(alloc)?;
-    on_pairs(rt, &mut core, 0, taken_first, true)?;
+    on_pairs(rt, &mut core, FIRST, taken_first, true)?;
     assert_eq!(rt; core.count(), 0);
     assert_eq!(rt; core.back(0, 1), Answer::Returned(1));
     assert_eq!(rt; core.regular_list(alloc)?.as_slice(), before.as_slice());
-    on_pairs(rt, &mut core, 0, !taken_first, true)?;
+    on_pairs(rt, &mut core, FIRST, !taken_first, true)?;
     assert_eq!(rt; core.abort(0), Answer::Aborted);
     assert_eq!(rt; core.regular_list(alloc)?.as_slice(), before.as_slice());
     Ok(())
