@@ -174,7 +174,7 @@ pub(crate) fn give_up(list: &mut NodeList, plan: Plan)
     requires { (buckets : Directory) → OwnsIf (table_of list.old buckets) (pending_of plan).spare }
     ensures back { (buckets : Directory)
         → GivesBack (table_of list.old buckets) (table_of list.new buckets)
-            (pending_of plan).spare }
+        (pending_of plan).spare }
     ensures follows { Follows list.old list.new }
 {
     match plan {

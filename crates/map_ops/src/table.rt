@@ -327,7 +327,7 @@ impl Table {
     pub fn init_seek(&mut self, helper: u64, bucket: u64) -> Result<InitSeek, Refusal>
         ensures answer { result
             ≡ seek_answer (size_of self.old) (stored_of self.old)
-                (slice_get (helps_of self.old) helper) bucket }
+            (slice_get (helps_of self.old) helper) bucket }
         ensures changes { SeekChanges self.old self.new helper bucket result }
         ensures writes { SeekWrites self.old self.new bucket result }
         ensures rises { turn_of self.old ≤ turn_of self.new }
@@ -393,7 +393,7 @@ impl Table {
     pub fn double(&mut self, seen: u64) -> Double
         ensures answer { result
             ≡ double_answer (size_of self.old) (largest_of self.old)
-                (count_of (content self.old)) seen }
+            (count_of (content self.old)) seen }
         ensures changes { Doubles self.old self.new result }
         ensures list { KeepsList self.old self.new }
         ensures follows { Follows self.old self.new }

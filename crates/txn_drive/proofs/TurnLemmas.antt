@@ -9,7 +9,6 @@ use Rattle.txn_drive.specs.Turns.{TakesTurn, TakesSecond, HasTaken}
 
 module _ {X Y : Type 0} (R : X → Step → Answer → X → Type 0) (S : Y → Step → Answer → Y → Type 0) (I : X → Type 0) (p : X → Y)
     (each : (x : X) (s : Step) (a : Answer) (y : X) → I x → R x s a y → S (p x) s a (p y) × I y) where
-
   second_maps : (x : X) (s : Step) (a : Answer) (y : X) → I x → TakesSecond R x s a y → TakesSecond S (p x) s a (p y) × I y
   second_maps x s Placed y i (a, takes) = let mapped = each x s a y i takes in ((a, mapped.0), mapped.1)
   second_maps x s a y i same = (ap p same, subst I (sym same) i)
