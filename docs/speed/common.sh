@@ -30,6 +30,14 @@ build_twin() {
   rustc -O --cfg alike -o "$work/alike" "docs/speed/$1.rs"
 }
 
+# Builds the twin of the whole commands, which is then `plain` in $work. It takes serde_json from the folder that CRATES names.
+build_whole() {
+  local crates=${CRATES:-/usr/share/cargo/registry}
+  quietly cargo build --release --offline --manifest-path docs/speed/whole/Cargo.toml --target-dir "$work/target" \
+    --config 'source.crates-io.replace-with="here"' --config "source.here.directory=\"$crates\""
+  cp "$work/target/release/whole" "$work/plain"
+}
+
 # Writes step files: a line of the input is a file's name and the words of core_steps for it. Their names are $names then.
 write_step_files() {
   local name words

@@ -9,13 +9,10 @@
 # Usage: docs/speed/whole.sh [ROUNDS]
 source "$(dirname "${BASH_SOURCE[0]}")/common.sh"
 rounds=${1:-5}
-crates=${CRATES:-/usr/share/cargo/registry}
 
 quietly ./boostmap check examples/checked.json
 cp crates/boostmap/out/boostmap "$work/proved"
-quietly cargo build --release --offline --manifest-path docs/speed/whole/Cargo.toml --target-dir "$work/target" \
-  --config 'source.crates-io.replace-with="here"' --config "source.here.directory=\"$crates\""
-cp "$work/target/release/whole" "$work/plain"
+build_whole
 
 # Writes the files of a size: 0 is the full one.
 write_files() {

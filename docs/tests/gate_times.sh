@@ -1,10 +1,12 @@
 #!/usr/bin/env bash
-# Runs the gate and prints, for each crate, how many processor seconds its proofs took, its tests' proofs, and its wrong bodies.
-# Nothing else of this user may run `rt` meanwhile. What a process used after it was last looked at, in its last second, is not
-# seen; the last line has what the system counted in all.
-# Usage: docs/tests/gate_times.sh [COMMAND..]; without one .ci/run
-set -euo pipefail
+# Runs a command, and prints after its output how long it took and, for each crate, how many processor
+# seconds its proofs took, its tests' proofs, and its wrong bodies. Its status is the command's.
+# Nothing else on the machine may run `rt` meanwhile. What a process used after it was last looked at,
+# in its last second, is not seen; the last line has what the system counted in all.
+# Usage: docs/tests/gate_times.sh [COMMAND..]; without one rt ci
+set -uo pipefail
 cd "$(dirname "${BASH_SOURCE[0]}")/../.."
+[ $# -gt 0 ] || set -- rt ci
 work=$(mktemp -d)
 trap 'rm -rf "$work"' EXIT
 
@@ -14,7 +16,7 @@ look() {
   while read -r process seconds words; do
     [[ $words =~ rattle\ check.*\ --crate-name\ ([a-z_0-9]+) ]] || continue
     case "$(readlink "/proc/$process/cwd" 2>&1) $words" in
-      /tmp/rt-edit-*) kind=bodies ;;
+      */rt-edit-*) kind=bodies ;;
       *' --test '*) kind=tests ;;
       *) kind=proofs ;;
     esac
@@ -22,17 +24,16 @@ look() {
   done < <(ps -eo pid=,cputimes=,args= -ww)
 }
 
-TIMEFORMAT='%U %S'
-{ time "${@:-.ci/run}" >"$work/log" 2>&1; } 2>"$work/time" &
-gate=$!
-while kill -0 $gate 2>/dev/null; do
+TIMEFORMAT='%R %U %S'
+{ time "$@" 2>&1; } 2>"$work/time" &
+command=$!
+while kill -0 $command 2>/dev/null; do
   look >>"$work/seen"
   sleep 1
 done
-status=0
-wait $gate || status=$?
-tail -1 "$work/log"
-printf '%-16s %8s %8s %8s %8s\n' crate proofs tests bodies all
+wait $command
+status=$?
+printf 'processor seconds\n%-16s %8s %8s %8s %8s\n' crate proofs tests bodies all
 awk '
   # A process that has another crate or kind than before, or fewer seconds, is another one.
   { key = $1 " " $3 " " $4
@@ -46,5 +47,5 @@ awk '
       printf "%-16s %8d %8d %8d %8d\n", crate, sum[crate, "proofs"], sum[crate, "tests"], sum[crate, "bodies"], all
     }
   }' "$work/seen" | sort -k5,5nr
-awk '{ printf "counted in all: %d processor minutes\n", ($1 + $2) / 60 }' "$work/time"
+awk '{ printf "%d minutes by the clock, %d processor minutes\n", $1 / 60, ($2 + $3) / 60 }' "$work/time"
 exit $status

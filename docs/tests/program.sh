@@ -1,8 +1,8 @@
 #!/usr/bin/env bash
 # Runs the built program from outside: each command on each file of examples/, every exit status,
-# standard error to the letter, /dev/stdin, outputs that fail, and little memory. It finds the program
-# where `rt ci` and ./boostmap leave it, or takes its path as its one word. Its last line is
-# 'program: N passed, M failed', and it ends with status 1 where M is not 0.
+# standard error to the letter, /dev/stdin, outputs that fail, and little memory. It finds the
+# program where `rt ci` and ./boostmap leave it, or takes its path as its one word. Its last line
+# is 'program: N passed, M failed', and it ends with status 1 where M is not 0.
 set -uo pipefail
 cd "$(dirname "${BASH_SOURCE[0]}")/../.." || exit 1
 program=${1:-crates/boostmap/out/boostmap}
@@ -18,9 +18,10 @@ passed=0 failed=0
 usage=$(sed -n '/^const USAGE: &str = "/,/^";$/{s/^const USAGE: &str = "//;/^";$/d;p;}' \
   crates/command_line/src/tests.rt)
 
-# What an example prints: the lines of crates/examples/stdout below those words.
+# What an example prints: the lines of crates/examples/stdout below those words. Of one worker `run`
+# prints what `mix` prints.
 shown() {
-  awk -v call="$1" '
+  awk -v call="${1/#run /mix --seed 7 }" '
     /^(replay|mix|check) / { inside = $0 == call; next }
     inside { print }' crates/examples/stdout
 }
@@ -64,8 +65,10 @@ each_command_on_each_example() {
       checked) kind=check ;;
       *) kind=replay ;;
     esac
-    for words in replay 'mix --seed 7' check; do
-      if [ "$words" = "$kind" ]; then
+    for words in replay run 'mix --seed 7' check; do
+      if [ "$words" = run ] && [ "$kind" = 'mix --seed 7' ]; then
+        continue # What threads make of scripts is judged below.
+      elif [ "$words" = "$kind" ]; then
         # The words are several.
         # shellcheck disable=SC2086
         wants 0 "$(shown "$words $file.json")" '' $words "examples/$file.json"
@@ -77,6 +80,21 @@ each_command_on_each_example() {
   done
 }
 
+# What README shows below a line that begins so, to the next empty line or command.
+in_readme() {
+  awk -v first="    $1" '
+    index($0, first) == 1 { inside = 1; next }
+    !/^    [^$]/ { inside = 0 }
+    inside { print substr($0, 5) }' README.md
+}
+
+readme() {
+  wants 0 "began 1"$'\n'"$(in_readme 'began 1')" '' replay examples/first_commit.json
+  wants 0 "$(in_readme '$ ./boostmap run')" '' run examples/first_scripts.json
+  cp "$work/out" "$work/readme.json"
+  wants 0 "$(in_readme '$ ./boostmap check')" '' check "$work/readme.json"
+}
+
 usage_errors() {
   wants 2 '' "$usage"
   wants 2 '' "$usage" help
@@ -85,6 +103,8 @@ usage_errors() {
   wants 2 '' "$usage" replay
   wants 2 '' "$usage" replay examples/first_commit.json examples/first_commit.json
   wants 2 '' "$usage" replay --seed 7 examples/first_commit.json
+  wants 2 '' "$usage" run
+  wants 2 '' "$usage" run --seed 7 examples/scripts.json
   wants 2 '' "$usage" mix examples/scripts.json
   wants 2 '' "$usage" mix --seed +7 examples/scripts.json
   wants 2 '' "$usage" mix --seed 0x7 examples/scripts.json
@@ -117,6 +137,29 @@ seeds() {
   judge 'how many histories four seeds give' 0 3 ''
 }
 
+# What threads make of scripts is open, and each outcome is judged by check: legal, nothing open.
+threads() {
+  wants 0 "$(shown 'run scripts.json')" '' run examples/scripts.json
+  local file workers turn status
+  # Six scripts that meet on two stripes.
+  local put='["put",1,10],["put",2,20]],[["put",2,21],["take",1]],[["put",4,40],["abort"]'
+  local get='["get",1],["save"],["put",3,30],["back",1]],[["take",2],["help",5]],[["get",2]'
+  for workers in 1 2 3 4 5 6; do
+    echo "{\"version\":1,\"workers\":$workers,\"stripes\":2,\"buckets\":8,\"tries\":3," \
+      "\"scripts\":[[$put],[$get]]}" >"$work/workers$workers.json"
+  done
+  for file in examples/first_scripts.json "$work"/workers?.json "$work/two.json"; do
+    for turn in 1 2 3; do
+      run run "$file"
+      status=$(cat "$work/status")
+      "$program" check /dev/stdin <"$work/out" >"$work/line" 2>>"$work/err"
+      sed 's/legal [0-9]* commits/legal N commits/' "$work/line" >"$work/out"
+      echo "$status" >"$work/status"
+      judge "run ${file##*/}, time $turn" 0 'legal N commits 0 open' ''
+    done
+  done
+}
+
 illegal_histories() {
   sed 's/\["did",0,10\]/["did",0,99]/' examples/checked.json >"$work/reply.json"
   wants 1 'illegal entry 12 rule 1' '' check "$work/reply.json"
@@ -137,6 +180,7 @@ refused_files() {
   wants 3 '' 'refused 21 entry 8' check "$work/entry.json"
   sed 's/\["abort"\]/["abort",1]/' examples/first_scripts.json >"$work/script.json"
   wants 3 '' 'refused 21 script 1' mix --seed 7 "$work/script.json"
+  wants 3 '' 'refused 21 script 1' run "$work/script.json"
   sed 's/"callers":2/"callers":"2"/' examples/first_commit.json >"$work/member.json"
   wants 3 '' 'refused 21' replay "$work/member.json"
   sed 's/"callers":2/"callers":65/' examples/first_commit.json >"$work/limit.json"
@@ -166,51 +210,110 @@ shapes_of_files() {
   done <docs/tests/files.tsv
 }
 
-failing_devices() {
-  wants 4 '' 'read failed' replay "$work/missing.json"
-  wants 4 '' 'read failed' check "$work"
-  wants 4 '' 'read failed' mix --seed 7 ''
-  "$program" replay examples/first_commit.json 2>"$work/err" >/dev/full
+# The words of each command, and an example for it.
+commands() {
+  printf '%s\n' 'replay many_callers' 'run scripts' 'mix --seed 7 scripts' 'check checked'
+}
+
+# output WHAT STATUS ERR WORD..: runs the program with the standard output that the call is given.
+output() {
+  "$program" "${@:4}" 2>"$work/err" </dev/null
   echo $? >"$work/status"
   : >"$work/out"
-  judge 'standard output is full' 4 '' 'write failed'
-  "$program" check "$work/reply.json" 2>"$work/err" >&-
-  echo $? >"$work/status"
-  judge 'standard output is closed' 4 '' 'write failed'
-  { sleep 0.2; "$program" mix --seed 7 examples/scripts.json 2>"$work/err"; echo $? >"$work/status"; } | :
-  judge 'the pipe ended before the first byte' 4 '' 'write failed'
-  "$program" replay "$work/cut.json" >"$work/out" 2>/dev/full
+  judge "${*:4}: standard output $1" "$2" '' "$3"
+}
+
+# errors WHAT STATUS WORD..: runs it with the standard error that the call is given.
+errors() {
+  "$program" "${@:3}" >"$work/out" </dev/null
   echo $? >"$work/status"
   : >"$work/err"
-  judge 'standard error is full' 3 '' ''
-  "$program" help >"$work/out" 2>&-
-  echo $? >"$work/status"
-  judge 'standard error is closed' 2 '' ''
-  "$program" check /dev/stdin >"$work/out" 2>"$work/err" <&-
-  echo $? >"$work/status"
-  judge 'standard input is closed' 4 '' 'read failed'
+  judge "${*:3}: standard error $1" "$2" '' ''
+}
+
+failing_devices() {
+  local words file name
+  mkfifo "$work/pipe"
+  exec 7<>"$work/pipe" 8>"$work/pipe" 7>&-
+  while read -r words; do
+    file=examples/${words##* }.json
+    words=${words% *}
+    # The words of a command are several.
+    # shellcheck disable=SC2086
+    {
+      for name in "$work/missing.json" "$work" '' /proc/self/mem; do
+        wants 4 '' 'read failed' $words "$name"
+      done
+      output 'is full' 4 'write failed' $words "$file" >/dev/full
+      output 'is closed' 4 'write failed' $words "$file" >&-
+      output 'is for reading' 4 'write failed' $words "$file" 1</dev/null
+      output 'is a pipe without a reader' 4 'write failed' $words "$file" >&8
+      output 'is full, and not needed' 3 'refused 20' $words "$work/cut.json" >/dev/full
+      errors 'is full' 3 $words "$work/cut.json" 2>/dev/full
+      errors 'is closed' 3 $words "$work/cut.json" 2>&-
+      errors 'is a pipe without a reader' 3 $words "$work/cut.json" 2>&8
+    }
+  done < <(commands)
+  exec 8>&-
+  errors 'is closed' 2 help 2>&-
+}
+
+# What is printed is longer than a pipe holds, and who reads it goes after the first bytes.
+early_pipes() {
+  local words head='{"version":1,"stripes":1,"buckets":2,'
+  {
+    echo "$head"'"callers":1,"steps":[["sweep"]'
+    yes ',["sweep"]' | head -n 20000
+    echo ']}'
+  } >"$work/sweeps.json"
+  {
+    echo "$head"'"workers":1,"tries":0,"scripts":[[["get",1]'
+    yes ',["get",1]' | head -n 5000
+    echo ']]}'
+  } >"$work/gets.json"
+  for words in "replay $work/sweeps.json" "run $work/gets.json" "mix --seed 7 $work/gets.json"; do
+    # shellcheck disable=SC2086
+    {
+      "$program" $words 2>"$work/err"
+      echo $? >"$work/status"
+    } | head -c 10 >"$work/out"
+    : >"$work/out"
+    judge "$words to a pipe that ends early" 4 '' 'write failed'
+  done
 }
 
 standard_input() {
-  "$program" replay /dev/stdin >"$work/out" 2>"$work/err" <examples/many_callers.json
-  echo $? >"$work/status"
-  judge 'a file as standard input' 0 "$(shown 'replay many_callers.json')" ''
-  (cat examples/checked.json; sleep 0.2) | "$program" check /dev/stdin >"$work/out" 2>"$work/err"
-  echo $? >"$work/status"
-  judge 'a pipe as standard input' 0 'legal 2 commits 0 open' ''
-  local at
-  for at in 1 2 3; do
-    head -c $((at * 40)) examples/checked.json
-    sleep 0.1
-  done | "$program" check /dev/stdin >"$work/out" 2>"$work/err"
-  echo $? >"$work/status"
-  judge 'a pipe in pieces that are no history' 3 '' 'refused 20'
+  local words file from at
+  while read -r words; do
+    file=examples/${words##* }.json
+    from=$(shown "${words% *} ${words##* }.json")
+    words=${words% *}
+    # shellcheck disable=SC2086
+    {
+      "$program" $words /dev/stdin >"$work/out" 2>"$work/err" <"$file"
+      echo $? >"$work/status"
+      judge "$words: a file as standard input" 0 "$from" ''
+      (head -c 60 "$file"; sleep 0.1; tail -c +61 "$file") |
+        "$program" $words /dev/stdin >"$work/out" 2>"$work/err"
+      echo $? >"$work/status"
+      judge "$words: a pipe as standard input" 0 "$from" ''
+      for at in 1 2 3; do
+        head -c $((at * 40)) "$file"
+        sleep 0.05
+      done | "$program" $words /dev/stdin >"$work/out" 2>"$work/err"
+      echo $? >"$work/status"
+      judge "$words: a pipe in pieces that are no file" 3 '' 'refused 20'
+      "$program" $words /dev/stdin >"$work/out" 2>"$work/err" <&-
+      echo $? >"$work/status"
+      judge "$words: standard input is closed" 4 '' 'read failed'
+    }
+  done < <(commands)
 }
 
 # With a file of 16 MB and too little memory for it nothing is printed but the line of the fault.
 little_memory() {
   local words limit
-  for words in replay 'mix --seed 7' check; do
+  for words in replay run 'mix --seed 7' check; do
     for limit in 8000 16000 24000 32000; do
       # shellcheck disable=SC2086
       (ulimit -v "$limit"; exec "$program" $words "$work/longest.json") >"$work/out" 2>"$work/err"
@@ -221,12 +324,15 @@ little_memory() {
 }
 
 each_command_on_each_example
+readme
 usage_errors
 seeds
+threads
 illegal_histories
 refused_files
 shapes_of_files
 failing_devices
+early_pipes
 standard_input
 little_memory
 echo "program: $passed passed, $failed failed"

@@ -1,12 +1,13 @@
 //! What is asked of a history.
 ghost use Rattle.std.specs.Prelude.{◌<◌, ◌↔◌, IsTrue, IsSome, IfOk, IfSome};
 ghost use Rattle.std.specs.List.{All};
+ghost use Rattle.txn_trace.specs.declared.holder.Holder.TheVariants.{Now};
 ghost use Rattle.txn_trace.specs.History.{caller_of};
 ghost use Rattle.txn_trace.specs.Legal.{IsLegal};
 
 use history_check::{Verdict, check};
 use std::alloc::{AllocError, Global};
-use txn_trace::Entry;
+use txn_trace::{Entry, Holder};
 
 /// Whether the history of a map with this number of stripes is legal; `None` where a caller's
 /// number is 64 or more, since the checker knows no such caller.
@@ -17,7 +18,7 @@ use txn_trace::Entry;
 pub fn is_legal(alloc: Global, entries: &[Entry], stripes: u64) -> Result<Option<bool>, AllocError>
     requires { 0 < stripes }
     ensures legal { IfOk result (λ answer.
-        IfSome answer (λ legal. IsTrue legal ↔ IsLegal stripes entries.now)) }
+        IfSome answer (λ legal. IsTrue legal ↔ IsLegal Now stripes entries.now)) }
     ensures known { IfOk result (λ answer.
         All (λ entry. caller_of entry < 64) entries.now → IsSome answer) }
 {
@@ -26,6 +27,6 @@ pub fn is_legal(alloc: Global, entries: &[Entry], stripes: u64) -> Result<Option
             return Ok(None);
         }
     }
-    let verdict = check(alloc, entries, stripes)?;
+    let verdict = check(alloc, entries, stripes, Holder::Now)?;
     Ok(Some(matches!(verdict, Verdict::Legal { .. })))
 }

@@ -4,6 +4,7 @@ use Rattle.std.specs.Prelude.{nat_le}
 use Rattle.std.proofs.lemmas.Bool.{false≢true, and_parts, ltb-true, cases_eq, eq-eqb, ne_eqb}
 use Rattle.std.proofs.lemmas.List.{append-nil, append_assoc}
 use mathlib.Core.Logic.{inl, inr}
+use Rattle.txn_trace.specs.declared.holder.Holder.TheVariants.{Now}
 use Rattle.txn_trace.specs.declared.op.Op.{Op}
 use Rattle.txn_trace.specs.declared.op.Op.TheVariants.{Put, Get}
 use Rattle.txn_trace.specs.declared.entry.Entry.{Entry}
@@ -61,7 +62,7 @@ seat_there c h shaped = the_seat (seat_after (own c h)) (seated_on c [] h refl s
 module _ (limits : Sizes) (c : ℕ) (base : Map) (h : List Entry) where
   -- What a law says of one entry more.
   stands_after : (e : Entry) → caller_of e ≡ c → nat_le limits.callers c ≡ false → (seat : Seat) (log : List (ℕ × Option ℕ)) (committed current : Map) (holder : ℕ → Option ℕ)
-      → Next limits.stripes h e seat log committed current holder → taken_back log current ≡ base → Stands limits c base seat.phase (h ++ e ∷ [])
+      → Next Now limits.stripes h e seat log committed current holder → taken_back log current ≡ base → Stands limits c base seat.phase (h ++ e ∷ [])
   stands_after e mine within seat log committed current holder next back = record {
     within = within;
     legal = next.legal;
@@ -71,13 +72,13 @@ module _ (limits : Sizes) (c : ℕ) (base : Map) (h : List Entry) where
     back = subst (λ d. taken_back (log_of d (h ++ e ∷ [])) (now (h ++ e ∷ [])) ≡ base) mine (ap (λ l. taken_back l (now (h ++ e ∷ []))) next.log_is ∙ ap (taken_back log) next.now_is ∙ back);
   }
 
-  pub asked_now : (op : Op) → Stands limits c base Opened h → is_locked limits.stripes h (entry.Asked c op) ≡ true
+  pub asked_now : (op : Op) → Stands limits c base Opened h → is_locked Now limits.stripes h (entry.Asked c op) ≡ true
       → Stands limits c base (Waiting op) (h ++ entry.Asked c op ∷ []) × (now (h ++ entry.Asked c op ∷ []) ≡ now h)
   asked_now op stands locked =
       let next = laws.asked limits.stripes h stands.legal c op stands.seat stands.seat_is stands.phase_is locked in
       (stands_after (entry.Asked c op) refl stands.within _ _ _ _ _ next stands.back, next.now_is)
 
-  pub busy_now : (op : Op) (x : ℕ) → Stands limits c base Opened h → is_locked limits.stripes h (entry.Busy c op x) ≡ true
+  pub busy_now : (op : Op) (x : ℕ) → Stands limits c base Opened h → is_locked Now limits.stripes h (entry.Busy c op x) ≡ true
       → Stands limits c base LeavingToEnd (h ++ entry.Busy c op x ∷ [])
   busy_now op x stands locked =
       stands_after (entry.Busy c op x) refl stands.within _ _ _ _ _ (laws.busy limits.stripes h stands.legal c op x stands.seat stands.seat_is stands.phase_is locked) stands.back
@@ -119,7 +120,7 @@ module _ (limits : Sizes) (c : ℕ) (base : Map) (h : List Entry) where
   pub committed_now : (p : ℕ) → Stands limits c base Opened h → p ≡ how_many is_commit h + 1 → now (h ++ entry.Committed c p ∷ []) ≡ now h
   committed_now p stands numbered = (laws.committed limits.stripes h stands.legal c p stands.seat stands.seat_is stands.phase_is numbered).now_is
 
-pub began_now : (limits : Sizes) (c t : ℕ) (h : List Entry) → nat_le limits.callers c ≡ false → IsLegal limits.stripes h → (seat : Seat) → seat_after (own c h) ≡ Some seat → seat.phase ≡ Closed
+pub began_now : (limits : Sizes) (c t : ℕ) (h : List Entry) → nat_le limits.callers c ≡ false → IsLegal Now limits.stripes h → (seat : Seat) → seat_after (own c h) ≡ Some seat → seat.phase ≡ Closed
     → t ≡ how_many is_began h + 1 → Stands limits c (now h) Opened (h ++ entry.Began c t ∷ []) × (now (h ++ entry.Began c t ∷ []) ≡ now h)
 began_now limits c t h within legal seat seat_is closed numbered =
     let next = laws.began limits.stripes h legal c t seat seat_is closed numbered in

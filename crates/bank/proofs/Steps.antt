@@ -4,6 +4,7 @@ use Rattle.std.specs.Prelude.{nat_le, nat_lt, not, ◌&&◌, unwrap_or}
 use Rattle.std.proofs.lemmas.Bool.{false≢true, and_parts, ltb-true, lt-ltb}
 use Rattle.std.proofs.lemmas.List.{append-nil}
 use mathlib.Core.Logic.{inl, inr, ◌⊎◌}
+use Rattle.txn_trace.specs.declared.holder.Holder.TheVariants.{Now}
 use Rattle.txn_trace.specs.declared.op.Op.{Op}
 use Rattle.txn_trace.specs.declared.op.Op.TheVariants.{Put, Get}
 use Rattle.txn_trace.specs.declared.entry.Entry.{Entry}
@@ -63,7 +64,7 @@ closed_is (LeavingTo n) is = absurd (false≢true is)
 closed_is LeavingToEnd is = absurd (false≢true is)
 
 -- A caller begins.
-pub begins : (old new : State) (c t : ℕ) → IsLegal old.limits.stripes old.history → Move old (Begin c) (answers.Began t) new
+pub begins : (old new : State) (c t : ℕ) → IsLegal Now old.limits.stripes old.history → Move old (Begin c) (answers.Began t) new
     → IsOpen c (now old.history) new × (now new.history ≡ now old.history)
 begins old new c t legal move =
     let tests = first_none (nat_le old.limits.callers c) _ _ move.allowed.0 in

@@ -1,6 +1,7 @@
 -- Transfers between accounts, and transactions of one caller that nothing came between.
 use Rattle.std.specs.Prelude.{ℕ, ◌≡◌, ◌≢◌, ◌+◌, ◌⊎◌, false, List, [], ◌∷◌, Option, Some}
 use Rattle.std.specs.Prelude.{unwrap_or, nat_le}
+use Rattle.txn_trace.specs.declared.holder.Holder.TheVariants.{Now}
 use Rattle.txn_trace.specs.declared.entry.Entry.{Entry}
 use Rattle.txn_trace.specs.declared.seat.Phase.{Phase}
 use Rattle.txn_trace.specs.declared.seat.Phase.TheVariants.{Opened, LeavingToEnd}
@@ -33,7 +34,7 @@ taken_back (job ∷ jobs) m = taken_back jobs (set_at m job.0 job.1)
 pub record Stands (limits : Sizes) (c : ℕ) (base : Map) (phase : Phase)
     (h : List Entry) : Type 0 where
   pub within : nat_le limits.callers c ≡ false
-  pub legal : IsLegal limits.stripes h
+  pub legal : IsLegal Now limits.stripes h
   pub seat : Seat
   pub seat_is : seat_after (own c h) ≡ Some seat
   pub phase_is : seat.phase ≡ phase

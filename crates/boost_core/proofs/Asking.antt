@@ -1,11 +1,12 @@
 -- An operation that is asked for.
-use Rattle.std.proofs.Common.{◌≡◌, ℕ, ◌+◌, ◌-◌, ◌^◌, ◌<◌, ◌≤◌, ◌==◌, ◌||◌, Bool, true, false, cond, List, [], ◌∷◌, ◌++◌, length, Option, Some, None, is_some, refl, sym, ap, subst, ◌∙◌, arith}
+use Rattle.std.proofs.Common.{◌≡◌, ℕ, ◌+◌, ◌-◌, ◌^◌, ◌<◌, ◌==◌, ◌||◌, true, cond, List, [], ◌∷◌, ◌++◌, length, Option, Some, None, refl, sym, ap, subst, ◌∙◌, arith}
 use Rattle.std.specs.Prelude.{slice_get, slice_set, map, reverse, nat_eq, not}
 use Rattle.std.specs.Option.{option_eq, option_map}
-use Rattle.std.proofs.lemmas.Bool.{false≢true, cases_eq, eq-eqb, ne_eqb, and_from, le-leb}
+use Rattle.std.proofs.lemmas.Bool.{false≢true, cases_eq, eq-eqb, ne_eqb, and_from}
 use Rattle.std.proofs.lemmas.List.{append-nil}
 use Rattle.std.proofs.lemmas.Option.{slice_get_within}
 use mathlib.Core.Logic.{inl, inr, ◌⊎◌}
+use Rattle.txn_trace.specs.declared.holder.Holder.TheVariants.{Now}
 use Rattle.txn_trace.specs.declared.op.Op.{Op}
 use Rattle.txn_trace.specs.declared.refusal.Refusal.{Refusal}
 use Rattle.txn_trace.specs.declared.refusal.Refusal.TheVariants as refusals
@@ -14,8 +15,7 @@ use Rattle.txn_trace.specs.Locks.{stripe_of, is_locked}
 use Rattle.txn_trace.proofs.Now.{same_is}
 use Rattle.txn_trace.proofs.Holders.{is_locked-asked, is_locked-busy}
 use Rattle.map_ops.specs.Jobs.{takes_node}
-use Rattle.map_ops.specs.TableAt.{SpareAt}
-use Rattle.map_ops.specs.Changes.{Prepares, GivesFor, IsRefused, OwnsIf}
+use Rattle.map_ops.specs.Changes.{Prepares, IsRefused}
 use Rattle.txn_trace.specs.declared.entry.Entry.TheVariants as entry
 use Rattle.txn_trace.specs.declared.step.Step.{Step}
 use Rattle.txn_trace.specs.declared.step.Step.TheVariants as steps
@@ -32,7 +32,7 @@ use Rattle.txn_trace.proofs.Entries as laws
 use Rattle.key_locks.specs.Locks.{holder_of as held_by}
 use Rattle.map_ops.specs.declared.job.MapJob.{MapJob}
 use Rattle.map_ops.specs.Jobs.{PendingAt}
-use Rattle.map_ops.specs.TableAt.{TableAt, Cursor, cursor_turn, map_of, last_of}
+use Rattle.map_ops.specs.TableAt.{TableAt, Cursor, cursor_turn, map_of}
 use Rattle.boost_core.specs.declared.session.Session.{Session}
 use Rattle.boost_core.specs.State.{Owner, Caller, Helper}
 use Rattle.boost_core.specs.Refusals.{refusal_of}
@@ -46,9 +46,9 @@ use Rattle.boost_core.specs.Refusals.{has_stamp_for, MayLack}
 use Rattle.boost_core.specs.Machine.{Move}
 use Rattle.boost_core.specs.Sessions.{target_in, IsSoughtAt, KeepsPlaced, Waits, spare_if, times_kept, changes_of, AreDue, StaysIn, AsksIn, MeetsIn}
 use Rattle.boost_core.proofs.Moves.{lacks}
-use Rattle.boost_core.proofs.Spares.{given, spent}
+use Rattle.boost_core.proofs.Spares.{spent}
 use Rattle.boost_core.proofs.Refused.{seat_free, ask_open, save_open}
-use Rattle.boost_core.proofs.Parting.{idle_cursor, nothing_waits}
+use Rattle.boost_core.proofs.Quiet.{idle_cursor, nothing_waits}
 use Rattle.boost_core.proofs.Given.{prepared_covered, given_spare, stamped, one_stamp_more, open_to, last_rises}
 
 module _ (w : World) (tells : Tells w) (c : ℕ) (x : Session) (at : slice_get w.sessions c ≡ Some x) where
@@ -151,8 +151,8 @@ module _ (w : World) (tells : Tells w) (c : ℕ) (x : Session) (at : slice_get w
       abbrev holder : ℕ → Option ℕ
       holder s = cond (stripe == s) (Some c) (holder_of w.limits.stripes s w.history)
 
-      locked : is_locked w.limits.stripes w.history (entry.Asked c op) ≡ true
-      locked = is_locked-asked w.limits.stripes w.history c op tells.legal.shape tells.legal.locks ∙ open_to (holder_of w.limits.stripes stripe w.history) c
+      locked : is_locked Now w.limits.stripes w.history (entry.Asked c op) ≡ true
+      locked = is_locked-asked Now w.limits.stripes w.history c op tells.legal.shape tells.legal.locks ∙ open_to (holder_of w.limits.stripes stripe w.history) c
           (subst (λ (o : Option ℕ). (o ≡ None) ⊎ (o ≡ Some c)) (tells.holders stripe within) asks.grants.open_to_caller)
 
       asked_holders : (s : ℕ) → s < w.limits.stripes → held_by locks' s ≡ holder s
@@ -179,7 +179,7 @@ module _ (w : World) (tells : Tells w) (c : ℕ) (x : Session) (at : slice_get w
           committed = serial w.history;
           current = now w.history;
           holder = holder;
-          next = subst (λ l. Next w.limits.stripes w.history (entry.Asked c op) (record { phase = Waiting op; standing = x.seat.seat.standing; kept = x.seat.seat.kept }) l (serial w.history) (now w.history) holder)
+          next = subst (λ l. Next Now w.limits.stripes w.history (entry.Asked c op) (record { phase = Waiting op; standing = x.seat.seat.standing; kept = x.seat.seat.kept }) l (serial w.history) (now w.history) holder)
               ((tells.seated c x at).log ∙ ap changes_of (sym asks.jobs)) (laws.asked w.limits.stripes w.history tells.legal c op x.seat.seat (tells.seated c x at).seat opened locked);
           mine = refl;
           same_seat = asks.seat;
@@ -201,7 +201,7 @@ module _ (w : World) (tells : Tells w) (c : ℕ) (x : Session) (at : slice_get w
           holders = asked_holders;
         };
         move = λ seat'. move_is w (world_after w c (seated_as y seat') (w.history ++ entry.Asked c op ∷ []) w.counts t' locks' None) (steps.Ask c op) answers.Asked
-            (none, and_from (has_stamp_for (state_of w) op) (is_locked w.limits.stripes w.history (entry.Asked c op)) (stamped w.table t' (takes_node op) asks.pending.spare asks.prepares.given) locked)
+            (none, and_from (has_stamp_for (state_of w) op) (is_locked Now w.limits.stripes w.history (entry.Asked c op)) (stamped w.table t' (takes_node op) asks.pending.spare asks.prepares.given) locked)
             (state_is w (w.history ++ entry.Asked c op ∷ []) (w.history ++ entry.Asked c op ∷ []) w.counts t' (map turn_at w.sessions) (slice_set w.sessions c (seated_as y seat')) locks' None (prepared_runs t' asks.pending asks.prepares) refl
             (turns_same w.sessions c x (seated_as y seat') at (ap (option_map cursor_turn) asks.cursor)))
             (prepared_runs t' asks.pending asks.prepares) (λ kept. asks.prepares.nodes.turn);
@@ -210,9 +210,9 @@ module _ (w : World) (tells : Tells w) (c : ℕ) (x : Session) (at : slice_get w
 
     -- Another caller holds the stripe: what was prepared is given up, and the caller leaves to the end.
     module _ (holder : ℕ) (y : Session) (t' : TableAt) (locks' : List (Option ℕ)) (meets : MeetsIn c stripe op holder x w.table w.locks y t' locks') (keeps : KeepsPlaced w.table t') (within : stripe < w.limits.stripes) where
-      held_else : is_locked w.limits.stripes w.history (entry.Busy c op holder) ≡ true
+      held_else : is_locked Now w.limits.stripes w.history (entry.Busy c op holder) ≡ true
       held_else =
-          is_locked-busy w.limits.stripes w.history c op holder tells.legal.shape tells.legal.locks
+          is_locked-busy Now w.limits.stripes w.history c op holder tells.legal.shape tells.legal.locks
           ∙ and_from (not (holder == c)) (option_eq nat_eq (holder_of w.limits.stripes stripe w.history) (Some holder)) (ap not (ne_eqb holder c meets.refuses.by_another))
           (same_is (holder_of w.limits.stripes stripe w.history) (Some holder) (sym (tells.holders stripe within) ∙ meets.refuses.held))
 
@@ -246,7 +246,7 @@ module _ (w : World) (tells : Tells w) (c : ℕ) (x : Session) (at : slice_get w
           committed = serial w.history;
           current = now w.history;
           holder = λ s. holder_of w.limits.stripes s w.history;
-          next = subst (λ l. Next w.limits.stripes w.history (entry.Busy c op holder) (record { phase = LeavingToEnd; standing = x.seat.seat.standing; kept = x.seat.seat.kept }) l (serial w.history) (now w.history) (λ s. holder_of w.limits.stripes s w.history))
+          next = subst (λ l. Next Now w.limits.stripes w.history (entry.Busy c op holder) (record { phase = LeavingToEnd; standing = x.seat.seat.standing; kept = x.seat.seat.kept }) l (serial w.history) (now w.history) (λ s. holder_of w.limits.stripes s w.history))
               ((tells.seated c x at).log ∙ ap changes_of (sym meets.jobs)) (laws.busy w.limits.stripes w.history tells.legal c op holder x.seat.seat (tells.seated c x at).seat opened held_else);
           mine = refl;
           same_seat = meets.seat;
@@ -267,7 +267,7 @@ module _ (w : World) (tells : Tells w) (c : ℕ) (x : Session) (at : slice_get w
           holders = λ s below. ap (λ ls. held_by ls s) meets.refuses.same ∙ tells.holders s below;
         };
         move = λ seat'. move_is w (world_after w c (seated_as y seat') (w.history ++ entry.Busy c op holder ∷ []) w.counts t' locks' None) (steps.Ask c op) (answers.Busy holder)
-            (none, and_from (has_stamp_for (state_of w) op) (is_locked w.limits.stripes w.history (entry.Busy c op holder)) (stamped w.table meets.between (takes_node op) meets.pending.spare meets.prepares.given) held_else)
+            (none, and_from (has_stamp_for (state_of w) op) (is_locked Now w.limits.stripes w.history (entry.Busy c op holder)) (stamped w.table meets.between (takes_node op) meets.pending.spare meets.prepares.given) held_else)
             (state_is w (w.history ++ entry.Busy c op holder ∷ []) (w.history ++ entry.Busy c op holder ∷ []) w.counts t' (map turn_at w.sessions) (slice_set w.sessions c (seated_as y seat')) locks' None busy_runs refl
             (turns_same w.sessions c x (seated_as y seat') at (ap (option_map cursor_turn) meets.cursor)))
             busy_runs (λ kept. meets.back.nodes.turn ∙ meets.prepares.nodes.turn);

@@ -1,21 +1,15 @@
 -- Two nodes that stand side by side, before and after a change of the list.
-use Rattle.std.proofs.Common.{◌≡◌, ℕ, ◌==◌, ◌&&◌, Bool, true, false, cond, inl, inr, List, [], ◌∷◌, ◌++◌, Option, Some, None, refl, sym, ap, subst, ◌∙◌, arith}
-use Rattle.std.specs.Prelude.{map, not, nat_lt}
-use Rattle.std.specs.Option.{option_map}
+use Rattle.std.proofs.Common.{◌≡◌, ℕ, ◌==◌, Bool, true, false, cond, inl, inr, List, [], ◌∷◌, Some, refl, sym, ap, subst, ◌∙◌, arith}
+use Rattle.std.specs.Prelude.{nat_lt}
 use Rattle.std.specs.List.{AllByRecursion}
-use Rattle.std.proofs.lemmas.Bool.{false≢true, cases_Bool, and_parts, and_from, eq-eqb, eqb-true, ltb-true}
+use Rattle.std.proofs.lemmas.Bool.{false≢true, cases_Bool, eq-eqb, eqb-true, ltb-true}
 use Rattle.split_key.specs.Sort.{is_before, IsBefore}
 use Rattle.node_list.specs.Nodes.{NodeAt, node_of, next_of, first, linked_after, changed_at}
 use Rattle.node_list.specs.Order.{IsRising, IsSpread, IsNodeBefore, AbsentFrom}
-use Rattle.list_steps.specs.declared.cursor.Cursor.{Cursor}
-use Rattle.list_steps.specs.declared.cursor.Noted.{Noted}
-use Rattle.list_steps.specs.Found.{pred_of, behind, fits, is_noted, is_next_noted}
 use Rattle.list_steps.specs.Seek.{cleaned, sought}
 use Rattle.list_steps.specs.Steps.{without_first_marked}
-use Rattle.boost_core.specs.State.{Node, SortKey, Gap, plain_node}
-use Rattle.boost_core.specs.Nodes.{StartsAt, AreNeighbours}
-use Rattle.boost_core.specs.Core.{node_at}
-use Rattle.boost_core.proofs.NodeLists.{seen, node_here, node_later, none_of_none}
+use Rattle.boost_core.specs.State.{SortKey}
+use Rattle.boost_core.proofs.NodeLists.{node_here, node_later, none_of_none}
 
 -- A node that is linked and unmarked is linked there still, with its stamp.
 pub record IsStill (nodes : List NodeAt) (place : ℕ) (n : NodeAt) : Type 0 where

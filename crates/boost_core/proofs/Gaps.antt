@@ -1,21 +1,20 @@
 -- The cursors of callers, before and after a step.
-use Rattle.std.proofs.Common.{◌≡◌, ◌≢◌, ℕ, Bool, true, false, cond, inl, inr, List, [], ◌∷◌, ◌++◌, Option, Some, None, is_some, refl, sym, ap, subst, ◌∙◌}
-use Rattle.std.specs.Prelude.{map, slice_get, slice_set, unwrap_or}
+use Rattle.std.proofs.Common.{◌≡◌, ℕ, true, false, cond, inl, inr, List, Option, Some, None, refl, sym, ap, subst, ◌∙◌}
+use Rattle.std.specs.Prelude.{map, slice_get, unwrap_or}
 use Rattle.std.specs.Option.{option_map}
 use Rattle.std.proofs.lemmas.Bool.{cases_Bool}
 use Rattle.std.proofs.lemmas.Option.{slice_get-map}
 use Rattle.split_key.specs.Sort.{IsBefore, IsNotBefore, regular_at}
-use Rattle.node_list.specs.Nodes.{NodeAt, Listing, node_of}
+use Rattle.node_list.specs.Nodes.{NodeAt, node_of}
 use Rattle.node_list.specs.Order.{IsRising, IsSpread}
 use Rattle.list_steps.specs.declared.cursor.Cursor.{Cursor}
 use Rattle.list_steps.specs.declared.cursor.Noted.{Noted}
-use Rattle.list_steps.specs.Found.{pred_of, behind, at_of}
+use Rattle.list_steps.specs.Found.{IsPlaced as IsPlacedIn, pred_of, behind, at_of}
 use Rattle.map_ops.specs.TableAt.{TableAt, IsPlaced, nodes_of, fits}
 use Rattle.boost_core.specs.declared.session.Session.{Session}
-use Rattle.boost_core.specs.State.{Node, SortKey, Gap, gap_in}
+use Rattle.boost_core.specs.State.{SortKey, Gap, Owner, Caller, gap_in, gap_for}
 use Rattle.boost_core.specs.Nodes.{AreNeighbours, IsBetween, StandsAt}
 use Rattle.boost_core.specs.Core.{World, state_of, nodes_at, gap_at, gap_of, gap_if, gap_by}
-use Rattle.boost_core.proofs.NodeLists.{seen}
 use Rattle.boost_core.proofs.GapLists.{Stay, next_found}
 use Rattle.boost_core.proofs.Neighbours.{Fit, NextIs, fit_of, fits_of, key_at, neighbours, still_fits}
 
@@ -42,7 +41,7 @@ no_gap t cursor stale = ap (λ b. cond b (gap_at (node_of (nodes_of t) (pred_of 
 
 -- A cursor fits still where its nodes are side by side.
 module _ (t t' : TableAt) (spread : IsSpread (nodes_of t)) (rising : IsRising (nodes_of t')) (stay : Stay (nodes_of t) (nodes_of t')) (gap : Gap) (near : AreNeighbours (nodes_at t') gap) where
-  cursor_still : (o : Option Cursor) → gap_if t o ≡ Some gap → gap_if t' o ≡ Some gap
+  pub cursor_still : (o : Option Cursor) → gap_if t o ≡ Some gap → gap_if t' o ≡ Some gap
   cursor_still None is = is
   cursor_still (Some cursor) is =
       let parts = gap_parts t cursor gap is in
@@ -67,28 +66,32 @@ gap_kept w w' spread rising stay c gap same is near =
     gap_in_is w'.table w'.sessions c ∙ ap (λ (s : Option Session). unwrap_or (option_map (gap_by w'.table) s) None) same
     ∙ session_still w.table w'.table spread rising stay gap near (slice_get w.sessions c) (sym (gap_in_is w.table w.sessions c) ∙ is)
 
--- A cursor that was placed for a key and fits stands beside the key's place.
-module _ (t : TableAt) (cursor : Cursor) (key : ℕ) (spread : IsSpread (nodes_of t)) (placed : IsPlaced t cursor key) (fit : Fit t.list cursor) where
-  beyond : (o : Option NodeAt) (noted : Option Noted) → behind t.list cursor ≡ o → cursor.cur ≡ noted → NextIs o noted → (at : SortKey) → key_at o ≡ Some at → IsNotBefore at (regular_at key)
-  beyond None noted was cur is at at_is = absurd (cc (at_is))
-  beyond (Some n) None was cur is at at_is = absurd is
-  beyond (Some n) (Some noted) was cur is at at_is =
-      let same : n.at ≡ at = cc (at_is) in
+-- A cursor that was placed for a sort key and fits stands beside its place.
+module _ (t : TableAt) (cursor : Cursor) (at : SortKey) (spread : IsSpread (nodes_of t)) (placed : IsPlacedIn t.list cursor) (at_is : at_of cursor ≡ at) (fit : Fit t.list cursor) where
+  beyond : (o : Option NodeAt) (noted : Option Noted) → behind t.list cursor ≡ o → cursor.cur ≡ noted → NextIs o noted → (next : SortKey) → key_at o ≡ Some next → IsNotBefore next at
+  beyond None noted was cur is next next_is = absurd (cc (next_is))
+  beyond (Some n) None was cur is next next_is = absurd is
+  beyond (Some n) (Some noted) was cur is next next_is =
+      let same : n.at ≡ next = cc (next_is) in
       let found : node_of (nodes_of t) noted.place ≡ Some n = ap (node_of (nodes_of t)) (sym is.0) ∙ next_found (nodes_of t) (pred_of cursor) n spread was in
-      subst (λ k. IsNotBefore k (regular_at key)) same (subst (IsNotBefore n.at) placed.at_is (placed.list.beyond n noted cur found is.1))
+      subst (λ k. IsNotBefore k at) same (subst (IsNotBefore n.at) at_is (placed.beyond n noted cur found is.1))
 
-  pub between : IsBetween (gap_fit t cursor fit) key
+  between : IsBetween (gap_fit t cursor fit) at
   between = record {
-    before = subst (IsBefore fit.pred.at) placed.at_is (placed.list.below fit.pred fit.pred_is fit.stamp);
+    before = subst (IsBefore fit.pred.at) at_is (placed.below fit.pred fit.pred_is fit.stamp);
     behind = beyond (behind t.list cursor) cursor.cur refl refl fit.next;
   }
 
-pub stands : (w' : World) (c key : ℕ) (y : Session) (cursor : Cursor) → slice_get w'.sessions c ≡ Some y → y.cursor ≡ Some cursor → IsSpread (nodes_of w'.table) → IsPlaced w'.table cursor key → fits w'.table cursor ≡ true → StandsAt (state_of w') c key
-stands w' c key y cursor at had spread placed fitting =
+pub stands_at : (w' : World) (owner : Owner) (cursor : Cursor) (at : SortKey) → gap_for (state_of w') owner ≡ gap_of w'.table cursor → IsSpread (nodes_of w'.table) → IsPlacedIn w'.table.list cursor → at_of cursor ≡ at → fits w'.table cursor ≡ true → StandsAt (state_of w') owner at
+stands_at w' owner cursor at is spread placed at_is fitting =
     let fit : Fit w'.table.list cursor = fit_of w'.table.list cursor fitting in
     record {
       gap = gap_fit w'.table cursor fit;
-      has = gap_by_side w'.table w'.sessions c y (Some cursor) at had ∙ gap_here w'.table cursor fit;
+      has = is ∙ gap_here w'.table cursor fit;
       neighbours = neighbours w'.table.list cursor fit;
-      between = between w'.table cursor key spread placed fit;
+      between = between w'.table cursor at spread placed at_is fit;
     }
+
+pub stands : (w' : World) (c key : ℕ) (y : Session) (cursor : Cursor) → slice_get w'.sessions c ≡ Some y → y.cursor ≡ Some cursor → IsSpread (nodes_of w'.table) → IsPlaced w'.table cursor key → fits w'.table cursor ≡ true → StandsAt (state_of w') (Caller c) (regular_at key)
+stands w' c key y cursor at had spread placed fitting =
+    stands_at w' (Caller c) cursor (regular_at key) (gap_by_side w'.table w'.sessions c y (Some cursor) at had) spread placed.list placed.at_is fitting

@@ -1,47 +1,13 @@
 -- The spare that an operation is given, its stamp, and its stripe.
-use Rattle.std.proofs.Common.{◌≡◌, ℕ, ◌+◌, ◌-◌, ◌^◌, ◌<◌, ◌≤◌, ◌==◌, ◌||◌, Bool, true, false, cond, List, [], ◌∷◌, ◌++◌, length, Option, Some, None, is_some, refl, sym, ap, subst, ◌∙◌, arith}
-use Rattle.std.specs.Prelude.{slice_get, slice_set, map, reverse, nat_eq, not}
-use Rattle.std.specs.Option.{option_eq, option_map}
-use Rattle.std.proofs.lemmas.Bool.{false≢true, cases_eq, eq-eqb, ne_eqb, and_from, le-leb}
-use Rattle.std.proofs.lemmas.List.{append-nil}
-use Rattle.std.proofs.lemmas.Option.{slice_get_within}
+use Rattle.std.proofs.Common.{◌≡◌, ℕ, ◌+◌, ◌-◌, ◌^◌, ◌≤◌, ◌==◌, ◌||◌, Bool, true, false, Option, Some, None, is_some, refl, sym, ap, subst, ◌∙◌, arith}
+use Rattle.std.specs.Prelude.{not}
+use Rattle.std.proofs.lemmas.Bool.{eq-eqb, ne_eqb}
 use mathlib.Core.Logic.{inl, inr, ◌⊎◌}
-use Rattle.txn_trace.specs.declared.op.Op.{Op}
-use Rattle.txn_trace.specs.declared.refusal.Refusal.{Refusal}
-use Rattle.txn_trace.specs.declared.refusal.Refusal.TheVariants as refusals
-use Rattle.txn_trace.specs.Map.{key_of}
-use Rattle.txn_trace.specs.Locks.{stripe_of, is_locked}
-use Rattle.txn_trace.proofs.Now.{same_is}
-use Rattle.txn_trace.proofs.Holders.{is_locked-asked, is_locked-busy}
-use Rattle.map_ops.specs.Jobs.{takes_node}
 use Rattle.map_ops.specs.TableAt.{SpareAt}
-use Rattle.map_ops.specs.Changes.{Prepares, GivesFor, IsRefused, OwnsIf}
-use Rattle.txn_trace.specs.declared.entry.Entry.TheVariants as entry
-use Rattle.txn_trace.specs.declared.step.Step.{Step}
-use Rattle.txn_trace.specs.declared.step.Step.TheVariants as steps
-use Rattle.txn_trace.specs.declared.answer.Answer.TheVariants as answers
-use Rattle.txn_trace.specs.Serial.{serial}
-use Rattle.txn_trace.specs.Entries.{entries_of}
-use Rattle.txn_trace.specs.Now.{now}
-use Rattle.txn_trace.specs.Locks.{holder_of}
-use Rattle.txn_trace.specs.declared.seat.Phase.{Phase}
-use Rattle.txn_trace.specs.declared.seat.Phase.TheVariants.{Opened, Waiting, LeavingToEnd}
-use Rattle.txn_trace.specs.Shape.{RoomySeat}
-use Rattle.txn_trace.proofs.Next.{Next}
-use Rattle.txn_trace.proofs.Entries as laws
-use Rattle.key_locks.specs.Locks.{holder_of as held_by}
-use Rattle.map_ops.specs.declared.job.MapJob.{MapJob}
-use Rattle.map_ops.specs.Jobs.{PendingAt}
-use Rattle.map_ops.specs.TableAt.{TableAt, Cursor, cursor_turn, map_of, last_of}
-use Rattle.boost_core.specs.declared.session.Session.{Session}
-use Rattle.boost_core.specs.State.{Owner, Caller, Helper}
-use Rattle.boost_core.specs.Refusals.{refusal_of}
-use Rattle.boost_core.specs.Spares.{times_of, times_in, times_out, IsCovered}
-use Rattle.boost_core.specs.Core.{World, Tells, IsFresh, state_of, turn_at, gap_if}
-use Rattle.boost_core.specs.Refusals.{has_stamp_for, MayLack}
-use Rattle.boost_core.specs.Machine.{Move}
-use Rattle.boost_core.specs.Sessions.{target_in, IsSoughtAt, KeepsPlaced, Waits, spare_if, times_kept, changes_of, AreDue, StaysIn, AsksIn, MeetsIn}
-use Rattle.boost_core.proofs.Spares.{given, spent}
+use Rattle.map_ops.specs.Changes.{GivesFor, OwnsIf}
+use Rattle.map_ops.specs.TableAt.{TableAt, last_of}
+use Rattle.boost_core.specs.Spares.{times_of, times_out, IsCovered}
+use Rattle.boost_core.proofs.Spares.{given}
 
 -- The spare that an operation is given is kept beside the others.
 pub prepared_covered : (t t' : TableAt) (takes : Bool) (spare : Option SpareAt) → GivesFor t t' takes spare → (others : ℕ → ℕ → ℕ) → IsCovered others t → IsCovered (λ place stamp. others place stamp + times_of spare place stamp) t'

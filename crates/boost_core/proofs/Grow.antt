@@ -9,6 +9,7 @@ use Rattle.std.proofs.lemmas.List.Sums.{sum_by-set, get_or-le-sum_by}
 use Rattle.std.proofs.lemmas.List.Elements.{All-push}
 use Rattle.std.proofs.lemmas.Option.{slice_get_within, get_or_from_slice_get, slice_get-get_or}
 use mathlib.Core.Logic.{◌⊎◌, inl, inr}
+use Rattle.txn_trace.specs.declared.holder.Holder.TheVariants.{Now}
 use Rattle.txn_trace.specs.declared.entry.Entry.{Entry}
 use Rattle.txn_trace.specs.Map.{Map, get}
 use Rattle.txn_trace.specs.History.{caller_of, is_began, is_commit}
@@ -94,7 +95,7 @@ closed_due m (job ∷ jobs) none = absurd (omega arith)
 changes_long : (jobs : List MapJob) → length (changes_of jobs) ≡ length jobs
 changes_long jobs = length-map (reverse jobs) change_of ∙ length-reverse jobs
 
-still_due : (stripes : ℕ) (h : List Entry) (d : ℕ) (s : Session) (current : Map) → IsLegal stripes h → IsSeated h d s
+still_due : (stripes : ℕ) (h : List Entry) (d : ℕ) (s : Session) (current : Map) → IsLegal Now stripes h → IsSeated h d s
     → ((k : ℕ) → holder_of stripes (stripe_of stripes k) h ≡ Some d → get current k ≡ get (now h) k) → AreDue current (reverse s.log.jobs)
 still_due stripes h d s current legal is same = at s.seat.seat.phase refl
   where
@@ -123,7 +124,7 @@ pub record Grows (w : World) (c : ℕ) (x y : Session) (t' : TableAt) (locks' : 
   pub committed : Map
   pub current : Map
   pub holder : ℕ → Option ℕ
-  pub next : Next w.limits.stripes w.history e seat (changes_of y.log.jobs) committed current holder
+  pub next : Next Now w.limits.stripes w.history e seat (changes_of y.log.jobs) committed current holder
   pub mine : caller_of e ≡ c
   pub same_seat : y.seat.seat ≡ x.seat.seat
   pub saved : is_saved e ≡ true → 0 < y.seat.room

@@ -1,30 +1,27 @@
 -- The steps of the table and of its helpers.
-use Rattle.std.proofs.Common.{◌≡◌, ◌≢◌, ℕ, ◌-◌, ◌^◌, ◌<◌, ◌≤◌, ◌==◌, ◌&&◌, Bool, true, false, cond, List, [], ◌++◌, length, Option, Some, None, Result, Ok, Err, is_some, refl, sym, ap, subst, ◌∙◌, arith}
-use Rattle.std.specs.Prelude.{slice_get, slice_set, unwrap_or, map, nat_le, nat_lt, not}
-use Rattle.std.proofs.lemmas.Bool.{false≢true, cases_Bool, cases_eq, cases_lt, le-leb, ne_eqb, and_from, and_parts, eqb-true, ltb-true}
+use Rattle.std.proofs.Common.{◌≡◌, ◌≢◌, ℕ, ◌≤◌, ◌&&◌, Bool, true, false, cond, List, [], ◌++◌, length, Option, Some, None, Result, Ok, Err, refl, sym, ap, subst, ◌∙◌, arith}
+use Rattle.std.specs.Prelude.{slice_get, slice_set, unwrap_or, map, nat_le, not}
+use Rattle.std.proofs.lemmas.Bool.{false≢true, cases_lt, le-leb}
 use Rattle.std.proofs.lemmas.List.{append-nil}
 use Rattle.std.proofs.lemmas.Option.{slice_get_within, slice_get-get_or, unwrap_or-slice_get}
 use mathlib.Core.Logic.{inl, inr}
 use Rattle.map_ops.specs.Double.{Double}
 use Rattle.map_ops.specs.InitSeek.{InitSeek}
 use Rattle.map_ops.specs.InitSeek.TheVariants as seeks
-use Rattle.map_ops.specs.InitLink.{InitLink}
-use Rattle.map_ops.specs.InitLink.TheVariants as links
 use Rattle.bucket_table.specs.declared.answer.InitRefusal.{InitRefusal}
 use Rattle.bucket_table.specs.declared.answer.InitRefusal.TheVariants as inits
 use Rattle.txn_trace.specs.declared.refusal.Refusal.{Refusal}
 use Rattle.txn_trace.specs.declared.refusal.Refusal.TheVariants as refusals
-use Rattle.map_ops.specs.Buckets.{Becomes, Helps, Seeks, Holds, Links, Stores, Doubles, size_after, is_stored, answered, seek_answer, link_answer, store_answer, helper_fits, parent_of}
+use Rattle.map_ops.specs.Buckets.{Becomes, Helps, Seeks, Stores, Doubles, size_after, is_stored, answered, seek_answer, store_answer, parent_of, LacksSegment}
 use Rattle.txn_trace.specs.declared.entry.Entry.{Entry}
 use Rattle.txn_trace.specs.declared.step.Step.{Step}
 use Rattle.txn_trace.specs.declared.step.Step.TheVariants as steps
 use Rattle.txn_trace.specs.declared.answer.Answer.TheVariants as answers
 use Rattle.map_ops.specs.TableAt.{TableAt, Help, Nothing, Sought, Dummy, Follows, Keeps, KeepsSpares, content, map_of, regular, size_of, stored_of, linked_of, helps_of, turn_of, last_of, largest_of}
-use Rattle.boost_core.specs.State.{State, Owner, Caller, Helper, is_set, help_in, bucket_at, turn_at as state_turn_at}
-use Rattle.boost_core.specs.Refusals.{refusal_of, has_dummy, has_cursor, has_stamp, lacks_dummy}
-use Rattle.boost_core.specs.Answers.{is_just_placed, may_be_stale}
+use Rattle.boost_core.specs.State.{Owner, Helper, is_set, help_in, bucket_at}
+use Rattle.boost_core.specs.Refusals.{refusal_of, has_dummy}
 use Rattle.boost_core.specs.Machine.{Move}
-use Rattle.boost_core.specs.Core.{World, Tells, IsFresh, state_of, turn_at, nodes_at, gap_by, all_times}
+use Rattle.boost_core.specs.Core.{World, Tells, IsFresh, state_of, turn_at, nodes_at, gap_by, helper_gaps_of, all_times}
 use Rattle.boost_core.proofs.Spares.{still_covered}
 use Rattle.boost_core.proofs.Refused.{le_false}
 use Rattle.boost_core.proofs.Grow.{table_stayed}
@@ -92,8 +89,8 @@ becomes_tells w tells t' placed' size stored linked helps becomes many follows f
 
 -- The state then.
 pub becomes_state : (w : World) (t' : TableAt) (placed' : Option Owner) (size : ℕ) (stored linked : List Bool) (helps : List Help) → Becomes w.table t' size stored linked helps
-    → state_of (served w t' placed') ≡ record { limits = w.limits; history = w.history ++ []; size = size; stored = stored; linked = linked; nodes = nodes_at t'; changes = turn_of t'; stamp = last_of t'; cursors = map turn_at w.sessions; gaps = map (gap_by t') w.sessions; helpers = helps; placed = placed' }
-becomes_state w t' placed' size stored linked helps becomes = λ i. record { limits = w.limits; history = append_none w.history i; size = becomes.size_is i; stored = becomes.stored_is i; linked = becomes.linked_is i; nodes = nodes_at t'; changes = turn_of t'; stamp = last_of t'; cursors = map turn_at w.sessions; gaps = map (gap_by t') w.sessions; helpers = becomes.helps_is i; placed = placed' }
+    → state_of (served w t' placed') ≡ record { limits = w.limits; history = w.history ++ []; size = size; stored = stored; linked = linked; nodes = nodes_at t'; changes = turn_of t'; stamp = last_of t'; cursors = map turn_at w.sessions; gaps = map (gap_by t') w.sessions; helper_gaps = helper_gaps_of t'; helpers = helps; placed = placed' }
+becomes_state w t' placed' size stored linked helps becomes = λ i. record { limits = w.limits; history = append_none w.history i; size = becomes.size_is i; stored = becomes.stored_is i; linked = becomes.linked_is i; nodes = nodes_at t'; changes = turn_of t'; stamp = last_of t'; cursors = map turn_at w.sessions; gaps = map (gap_by t') w.sessions; helper_gaps = helper_gaps_of t'; helpers = becomes.helps_is i; placed = placed' }
 
 -- Double.
 pub double_tells : (w : World) → Tells w
@@ -205,13 +202,37 @@ store_refusal w helper many = at (slice_get (helps_of w.table) helper) refl
         ap (λ b. cond b (Some refusals.NoSuchHelper) (cond (not (has_dummy (help_in (helps_of w.table) helper))) (Some refusals.HelperOutOfOrder) None)) (helper_there (helps_of w.table) w.limits.callers helper help many is)
         ∙ ap (λ (o : Option Help). cond (not (has_dummy (unwrap_or o Nothing))) (Some refusals.HelperOutOfOrder) None) is ∙ held help
 
+-- Where a store is refused memory, no bucket of the helper's segment is stored.
+store_lacks : (w : World) (helper : ℕ) (o : Option Help) → slice_get (helps_of w.table) helper ≡ o → store_answer o ≡ Ok tt
+    → ((bucket : ℕ) → slice_get (helps_of w.table) helper ≡ Some (Dummy bucket) → LacksSegment (stored_of w.table) bucket) → LacksSegment (stored_of w.table) (bucket_at (help_in (helps_of w.table) helper))
+store_lacks w helper None is answer lacks = absurd (cc answer)
+store_lacks w helper (Some Nothing) is answer lacks = absurd (cc answer)
+store_lacks w helper (Some (Sought bucket turn)) is answer lacks = absurd (cc answer)
+store_lacks w helper (Some (Dummy bucket)) is answer lacks =
+    subst (LacksSegment (stored_of w.table)) (sym (ap (λ (o : Option Help). bucket_at (unwrap_or o Nothing)) is)) (lacks bucket is)
+
+abbrev wants_memory : Result Unit Refusal → Bool
+wants_memory (Ok done) = false
+wants_memory (Err refusals.NoMemory) = true
+wants_memory (Err refusal) = false
+
+pub store_refused_move : (w : World) (t' : TableAt) (helper : ℕ) → length (helps_of w.table) ≡ w.limits.callers → (result : Result Unit Refusal) → (result ≢ Err refusals.NoMemory → result ≡ store_answer (slice_get (helps_of w.table) helper))
+    → (result ≡ Err refusals.NoMemory → store_answer (slice_get (helps_of w.table) helper) ≡ Ok tt) → ((bucket : ℕ) → slice_get (helps_of w.table) helper ≡ Some (Dummy bucket) → result ≡ Err refusals.NoMemory → LacksSegment (stored_of w.table) bucket)
+    → (refusal : Refusal) → result ≡ Err refusal → t' ≡ w.table → Move (state_of w) (steps.InitStore helper) (answers.Refused refusal) (state_of (served w t' w.placed))
+store_refused_move w t' helper many result says no_memory lacking refusals.NoMemory is same =
+    subst (λ u. Move (state_of w) (steps.InitStore helper) (answers.Refused refusals.NoMemory) (state_of (served w u w.placed))) (sym same)
+    (lacks (state_of w) (steps.InitStore helper) refusals.NoMemory (store_refusal w helper many ∙ ap refusal_in_result (no_memory is)) (store_lacks w helper (slice_get (helps_of w.table) helper) refl (no_memory is) (λ bucket had. lacking bucket had is)))
+store_refused_move w t' helper many result says no_memory lacking refusal is same =
+    helper_refused w t' (steps.InitStore helper) refusal same
+    (store_refusal w helper many ∙ ap refusal_in_result (sym (says (λ e. false≢true (ap wants_memory (sym is ∙ e)))) ∙ is))
+
 pub stored_move : (w : World) (t' : TableAt) (helper : ℕ) → length (helps_of w.table) ≡ w.limits.callers
     → store_answer (slice_get (helps_of w.table) helper) ≡ Ok tt → Stores w.table t' helper
     → Move (state_of w) (steps.InitStore helper) answers.Stored (state_of (served w t' None))
 stored_move w t' helper many is stores = record {
   allowed = (store_refusal w helper many ∙ ap refusal_in_result is, tt);
   state = becomes_state w t' None (size_of w.table) (slice_set (stored_of w.table) stores.bucket true) (linked_of w.table) (slice_set (helps_of w.table) helper Nothing) stores.becomes
-      ∙ ap (λ n. record { limits = w.limits; history = w.history ++ []; size = size_of w.table; stored = slice_set (stored_of w.table) n true; linked = linked_of w.table; nodes = nodes_at t'; changes = turn_of t'; stamp = last_of t'; cursors = map turn_at w.sessions; gaps = map (gap_by t') w.sessions; helpers = slice_set (helps_of w.table) helper Nothing; placed = None })
+      ∙ ap (λ n. record { limits = w.limits; history = w.history ++ []; size = size_of w.table; stored = slice_set (stored_of w.table) n true; linked = linked_of w.table; nodes = nodes_at t'; changes = turn_of t'; stamp = last_of t'; cursors = map turn_at w.sessions; gaps = map (gap_by t') w.sessions; helper_gaps = helper_gaps_of t'; helpers = slice_set (helps_of w.table) helper Nothing; placed = None })
       (ap (λ (o : Option Help). bucket_at (unwrap_or o Nothing)) (sym stores.had));
   changes = let same = stores.kept in omega arith;
   list_kept = λ kept. stores.kept;

@@ -12,6 +12,7 @@ pub mod Numbers
 pub mod Runs
 pub mod Starting
 pub mod Outcomes
+pub mod Quiet
 pub mod Parting
 pub mod SparesKept
 pub mod Working
@@ -25,9 +26,14 @@ pub mod GapLists
 pub mod Neighbours
 pub mod Gaps
 pub mod Staying
+pub mod HelperGaps
 pub mod GapSteps
+pub mod GapServes
 pub mod Called
 pub mod Helping
 pub mod Linking
 pub mod Serving
 pub mod Calls
+pub mod Ways
+pub mod Driving
+pub mod Helped

@@ -1,35 +1,24 @@
 -- The step by which a helper links a dummy.
 use Rattle.std.proofs.Common.{◌≡◌, ◌≢◌, ℕ, ◌-◌, ◌^◌, ◌<◌, ◌≤◌, ◌==◌, ◌&&◌, Bool, true, false, cond, List, [], ◌++◌, length, Option, Some, None, Result, Ok, Err, is_some, refl, sym, ap, subst, ◌∙◌, arith}
 use Rattle.std.specs.Prelude.{slice_get, slice_set, unwrap_or, map, nat_le, nat_lt, not}
-use Rattle.std.proofs.lemmas.Bool.{false≢true, cases_Bool, cases_eq, cases_lt, le-leb, ne_eqb, and_from, and_parts, eqb-true, ltb-true}
-use Rattle.std.proofs.lemmas.List.{append-nil}
-use Rattle.std.proofs.lemmas.Option.{slice_get_within, slice_get-get_or, unwrap_or-slice_get}
+use Rattle.std.proofs.lemmas.Bool.{false≢true, cases_Bool, cases_eq, ne_eqb, and_from, and_parts, eqb-true, ltb-true}
 use mathlib.Core.Logic.{inl, inr}
-use Rattle.map_ops.specs.Double.{Double}
-use Rattle.map_ops.specs.InitSeek.{InitSeek}
-use Rattle.map_ops.specs.InitSeek.TheVariants as seeks
 use Rattle.map_ops.specs.InitLink.{InitLink}
 use Rattle.map_ops.specs.InitLink.TheVariants as links
 use Rattle.bucket_table.specs.declared.answer.InitRefusal.{InitRefusal}
 use Rattle.bucket_table.specs.declared.answer.InitRefusal.TheVariants as inits
 use Rattle.txn_trace.specs.declared.refusal.Refusal.{Refusal}
 use Rattle.txn_trace.specs.declared.refusal.Refusal.TheVariants as refusals
-use Rattle.map_ops.specs.Buckets.{Becomes, Helps, Seeks, Holds, Links, Stores, Doubles, size_after, is_stored, answered, seek_answer, link_answer, store_answer, helper_fits, parent_of}
-use Rattle.txn_trace.specs.declared.entry.Entry.{Entry}
-use Rattle.txn_trace.specs.declared.step.Step.{Step}
+use Rattle.map_ops.specs.Buckets.{Helps, Holds, Links, is_stored, answered, link_answer, helper_fits, link_answer_of}
 use Rattle.txn_trace.specs.declared.step.Step.TheVariants as steps
 use Rattle.txn_trace.specs.declared.answer.Answer.TheVariants as answers
-use Rattle.map_ops.specs.TableAt.{TableAt, Help, Nothing, Sought, Dummy, Follows, Keeps, KeepsSpares, content, map_of, regular, size_of, stored_of, linked_of, helps_of, turn_of, last_of, largest_of}
+use Rattle.map_ops.specs.TableAt.{TableAt, Help, Nothing, Sought, Dummy, size_of, stored_of, linked_of, helps_of, turn_of, last_of}
 use Rattle.boost_core.specs.State.{State, Owner, Caller, Helper, is_set, help_in, bucket_at, turn_at as state_turn_at}
-use Rattle.boost_core.specs.Refusals.{refusal_of, has_dummy, has_cursor, has_stamp, lacks_dummy}
+use Rattle.boost_core.specs.Refusals.{refusal_of, has_cursor, has_stamp, lacks_dummy}
 use Rattle.boost_core.specs.Answers.{is_just_placed, may_be_stale}
 use Rattle.boost_core.specs.Machine.{Move}
-use Rattle.boost_core.specs.Core.{World, Tells, IsFresh, state_of, turn_at, nodes_at, gap_by, all_times}
-use Rattle.boost_core.proofs.Spares.{still_covered}
-use Rattle.boost_core.proofs.Refused.{le_false}
-use Rattle.boost_core.proofs.Grow.{table_stayed}
-use Rattle.boost_core.proofs.Working.{keeps_runs}
-use Rattle.boost_core.proofs.Moves.{refused, lacks, state_is}
+use Rattle.boost_core.specs.Core.{World, IsFresh, state_of, turn_at, nodes_at, gap_by, helper_gaps_of}
+use Rattle.boost_core.proofs.Moves.{refused, lacks}
 use Rattle.boost_core.proofs.Helping.{served, becomes_state, helper_there, helper_none, is_set_is}
 
 -- InitLink. The refusal that a test gives, by the table's answer: want of memory or of stamps stands behind all tests.
@@ -79,6 +68,21 @@ has_sought fitting linked last None result is free = absurd (let e : Some refusa
 has_sought fitting linked last (Some Nothing) result is free = absurd (let e : Some refusals.HelperOutOfOrder ≡ None = ap refusal_by_test is ∙ free in cc)
 has_sought fitting linked last (Some (Dummy bucket)) result is free = absurd (let e : Some refusals.HelperOutOfOrder ≡ None = ap refusal_by_test is ∙ free in cc)
 has_sought fitting linked last (Some (Sought bucket turn)) result is free = record { bucket = bucket; turn = turn; had = refl; answer = is }
+
+-- A link is answered `again` where the helper's cursor fits no longer, and otherwise only where it fits.
+pub stale_where : (t : TableAt) (helper : ℕ) → link_answer_of t helper ≡ Ok links.Again → helper_fits t helper ≡ false
+stale_where t helper is =
+    let had = has_sought (helper_fits t helper) (linked_of t) (last_of t) (slice_get (helps_of t) helper) (Ok links.Again) is refl in
+    linking_again (helper_fits t helper) (is_stored (linked_of t) had.bucket) (last_of t == 2 ^ 64 - 2) had.answer
+
+pub fits_where : (t : TableAt) (helper : ℕ) (result : Result InitLink Refusal) → link_answer_of t helper ≡ result → refusal_by_test result ≡ None → result ≢ Ok links.Again → helper_fits t helper ≡ true
+fits_where t helper result is free other =
+    let had = has_sought (helper_fits t helper) (linked_of t) (last_of t) (slice_get (helps_of t) helper) result is free in
+    fitting (helper_fits t helper) (is_stored (linked_of t) had.bucket) (last_of t == 2 ^ 64 - 2) had.answer
+  where
+    fitting : (b there used : Bool) → linking b there used ≡ result → b ≡ true
+    fitting false there used is = absurd (other (sym is))
+    fitting true there used is = refl
 
 module _ (w : World) (helper : ℕ) (many : length (helps_of w.table) ≡ w.limits.callers) where
   abbrev before : State
@@ -192,7 +196,7 @@ module _ (w : World) (helper : ℕ) (many : length (helps_of w.table) ≡ w.limi
   link_present_move is t' holds = record {
     allowed = (link_refusal ∙ ap refusal_by_test is, ap not (lacks_when holds.bucket holds.turn true holds.had (ap (λ (o : Option Bool). unwrap_or o false) holds.there)));
     state = becomes_state w t' None (size_of w.table) (stored_of w.table) (linked_of w.table) (slice_set (helps_of w.table) helper (Dummy holds.bucket)) holds.helps.becomes
-        ∙ ap (λ n. record { limits = w.limits; history = w.history ++ []; size = size_of w.table; stored = stored_of w.table; linked = linked_of w.table; nodes = nodes_at t'; changes = turn_of t'; stamp = last_of t'; cursors = map turn_at w.sessions; gaps = map (gap_by t') w.sessions; helpers = slice_set (helps_of w.table) helper (Dummy n); placed = None })
+        ∙ ap (λ n. record { limits = w.limits; history = w.history ++ []; size = size_of w.table; stored = stored_of w.table; linked = linked_of w.table; nodes = nodes_at t'; changes = turn_of t'; stamp = last_of t'; cursors = map turn_at w.sessions; gaps = map (gap_by t') w.sessions; helper_gaps = helper_gaps_of t'; helpers = slice_set (helps_of w.table) helper (Dummy n); placed = None })
         (sym (bucket_had (Sought holds.bucket holds.turn) holds.had));
     changes = let same = holds.kept in omega arith;
     list_kept = λ kept. holds.kept;
@@ -208,7 +212,7 @@ module _ (w : World) (helper : ℕ) (many : length (helps_of w.table) ≡ w.limi
       record {
         allowed = (link_refusal ∙ ap refusal_by_test is, and_from (lacks_dummy before helper) (has_stamp before) (lacks_when linked.bucket linked.turn false linked.had (ap (λ (o : Option Bool). unwrap_or o false) linked.absent)) (ap not parts.1));
         state = becomes_state w t' None (size_of w.table) (stored_of w.table) (slice_set (linked_of w.table) linked.bucket true) (slice_set (helps_of w.table) helper (Dummy linked.bucket)) linked.becomes
-            ∙ ap (λ n. record { limits = w.limits; history = w.history ++ []; size = size_of w.table; stored = stored_of w.table; linked = slice_set (linked_of w.table) n true; nodes = nodes_at t'; changes = turn_of t'; stamp = last_of t'; cursors = map turn_at w.sessions; gaps = map (gap_by t') w.sessions; helpers = slice_set (helps_of w.table) helper (Dummy n); placed = None })
+            ∙ ap (λ n. record { limits = w.limits; history = w.history ++ []; size = size_of w.table; stored = stored_of w.table; linked = slice_set (linked_of w.table) n true; nodes = nodes_at t'; changes = turn_of t'; stamp = last_of t'; cursors = map turn_at w.sessions; gaps = map (gap_by t') w.sessions; helper_gaps = helper_gaps_of t'; helpers = slice_set (helps_of w.table) helper (Dummy n); placed = None })
             (sym (bucket_had (Sought linked.bucket linked.turn) linked.had));
         changes = turn;
         list_kept = λ kept. absurd (false≢true kept);

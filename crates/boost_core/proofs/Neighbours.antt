@@ -1,6 +1,6 @@
 -- A cursor fits still where its two nodes are still side by side.
-use Rattle.std.proofs.Common.{◌≡◌, ℕ, ◌==◌, ◌&&◌, Bool, true, false, cond, inl, inr, List, [], ◌∷◌, ◌++◌, Option, Some, None, refl, sym, ap, subst, ◌∙◌}
-use Rattle.std.specs.Prelude.{map, not}
+use Rattle.std.proofs.Common.{◌≡◌, ℕ, ◌==◌, ◌&&◌, Bool, true, false, inl, inr, List, [], ◌∷◌, ◌++◌, Option, Some, None, refl, sym, ap, subst, ◌∙◌}
+use Rattle.std.specs.Prelude.{not}
 use Rattle.std.specs.Option.{option_map}
 use Rattle.std.specs.List.{AllByRecursion}
 use Rattle.std.proofs.lemmas.Bool.{false≢true, cases_Bool, and_parts, and_from, eq-eqb, eqb-true}
@@ -10,7 +10,7 @@ use Rattle.node_list.specs.Order.{IsRising, IsSpread, IsNodeBefore}
 use Rattle.list_steps.specs.declared.cursor.Cursor.{Cursor}
 use Rattle.list_steps.specs.declared.cursor.Noted.{Noted}
 use Rattle.list_steps.specs.Found.{pred_of, behind, fits, is_noted, is_next_noted}
-use Rattle.boost_core.specs.State.{Node, SortKey, Gap, plain_node}
+use Rattle.boost_core.specs.State.{Node, SortKey, plain_node}
 use Rattle.boost_core.specs.Nodes.{StartsAt, AreNeighbours}
 use Rattle.boost_core.specs.Core.{node_at}
 use Rattle.boost_core.proofs.NodeLists.{seen, node_here, node_later, none_of_none, order_behind}

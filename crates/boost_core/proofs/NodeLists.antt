@@ -1,14 +1,14 @@
 -- What is done to a list of nodes, as the core's contracts see it.
-use Rattle.std.proofs.Common.{◌≡◌, ℕ, ◌==◌, Bool, true, false, cond, inl, inr, List, [], ◌∷◌, ◌++◌, Option, Some, None, length, refl, sym, ap, subst, ◌∙◌}
+use Rattle.std.proofs.Common.{◌≡◌, ℕ, ◌==◌, true, false, cond, inl, inr, List, [], ◌∷◌, ◌++◌, Option, Some, refl, sym, ap, ◌∙◌}
 use Rattle.std.specs.Prelude.{map, not, filter}
 use Rattle.std.specs.List.{AllByRecursion}
 use Rattle.std.proofs.lemmas.Bool.{false≢true, cases_Bool, eq-eqb}
-use Rattle.split_key.specs.Sort.{is_before, IsBefore, regular_at, dummy_at}
-use Rattle.node_list.specs.Nodes.{NodeAt, IsLinked, node_of, linked_after, changed_at, marked_at, written_at}
+use Rattle.split_key.specs.Sort.{is_before, IsBefore}
+use Rattle.node_list.specs.Nodes.{NodeAt, IsLinked, node_of, linked_after, changed_at, written_at}
 use Rattle.node_list.specs.Order.{IsRising, IsNodeBefore}
 use Rattle.list_steps.specs.Seek.{cleaned, sought}
 use Rattle.list_steps.specs.Steps.{without_first_marked}
-use Rattle.boost_core.specs.State.{Node, SortKey, plain_node, marked_node}
+use Rattle.boost_core.specs.State.{Node, SortKey, marked_node}
 use Rattle.boost_core.specs.Nodes.{IsClean, IsInOrder, StopsAt, is_unmarked}
 use Rattle.boost_core.specs.Core.{node_at}
 

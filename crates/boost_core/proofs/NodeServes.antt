@@ -15,13 +15,11 @@ use Rattle.txn_trace.specs.declared.refusal.Refusal.{Refusal}
 use Rattle.txn_trace.specs.declared.refusal.Refusal.TheVariants as refusals
 use Rattle.map_ops.specs.SweepOutcome.{SweepOutcome}
 use Rattle.map_ops.specs.SweepOutcome.TheVariants as outcomes
-use Rattle.map_ops.specs.Double.{Double}
-use Rattle.map_ops.specs.Double.TheVariants as doubles
 use Rattle.map_ops.specs.Changes.{Sweeps}
 use Rattle.map_ops.specs.Buckets.{SeekChanges, SeekWrites, LinkChanges, LinkWrites, helper_fits, link_answer_of, parent_of}
-use Rattle.map_ops.specs.TableAt.{Help, Nothing, Sought, KeepsList, NamesDummies, nodes_of, stored_of, linked_of, helps_of, turn_of, last_of}
-use Rattle.boost_core.specs.State.{State, help_in, bucket_at}
-use Rattle.boost_core.specs.Nodes.{Keeps, Links, Lists}
+use Rattle.map_ops.specs.TableAt.{Help, Nothing, Sought, NamesDummies, nodes_of, linked_of, helps_of, last_of}
+use Rattle.boost_core.specs.State.{help_in, bucket_at}
+use Rattle.boost_core.specs.Nodes.{Links, Lists}
 use Rattle.boost_core.specs.Serves as said
 use Rattle.boost_core.specs.Serves.{Serves, Sweeping, Seeking, Linking}
 use Rattle.boost_core.specs.Core.{World, state_of}

@@ -1,16 +1,16 @@
 -- What each step does to the nodes, to the change number and to the last stamp.
-use Rattle.std.proofs.Common.{◌≡◌, ℕ, ◌+◌, ◌-◌, ◌%◌, ◌<◌, Bool, true, false, cond, List, [], ◌∷◌, ◌++◌, length, Option, Some, None, Result, Ok, Err, is_some, inl, inr, refl, sym, ap, subst, ◌∙◌, arith}
-use Rattle.std.specs.Prelude.{map, reverse, slice_get, slice_index_or, unwrap_or, nat_lt, nat_eq, IsSome}
+use Rattle.std.proofs.Common.{◌≡◌, ℕ, ◌+◌, ◌-◌, ◌%◌, ◌<◌, Bool, true, false, cond, List, [], ◌∷◌, ◌++◌, length, Option, Some, None, is_some, inl, inr, refl, sym, ap, subst, ◌∙◌, arith}
+use Rattle.std.specs.Prelude.{reverse, slice_get, unwrap_or, nat_lt, nat_eq, IsSome}
 use Rattle.std.specs.Option.{option_map, option_eq}
 use Rattle.std.proofs.lemmas.Bool.{false≢true, cases_Bool, ltb-true}
 use Rattle.std.proofs.lemmas.List.{length-map, reverse-append}
 use Rattle.std.proofs.lemmas.Option.{slice_get-map, unwrap_or-slice_get}
 use Rattle.split_key.specs.Split.{ancestor_of}
-use Rattle.split_key.specs.Sort.{regular_at, dummy_at}
+use Rattle.split_key.specs.Sort.{regular_at}
 use Rattle.node_list.specs.Nodes.{NodeAt, changes_after}
 use Rattle.list_steps.specs.Seek.{sought}
 use Rattle.bucket_table.specs.Directory as directories
-use Rattle.bucket_table.specs.Dummies.{IsDummyAt, dummy_node}
+use Rattle.bucket_table.specs.Dummies.{IsDummyAt}
 use Rattle.txn_trace.specs.declared.op.Op.{Op}
 use Rattle.txn_trace.specs.declared.op.Op.TheVariants.{Put, Take, Get, PutIf}
 use Rattle.txn_trace.specs.declared.step.Step.{Step}
@@ -24,19 +24,19 @@ use Rattle.txn_trace.specs.Now.{now}
 use Rattle.txn_trace.specs.Log.{log_of}
 use Rattle.txn_trace.specs.Locks.{stripe_of}
 use Rattle.txn_trace.specs.Shape.{Seat}
-use Rattle.undo_log.specs.UndoLog.{Log, kept_at, newest_above}
+use Rattle.undo_log.specs.UndoLog.{kept_at, newest_above}
 use Rattle.map_ops.specs.declared.job.MapJob.{MapJob}
 use Rattle.map_ops.specs.declared.job.MapJob.TheVariants.{Unput, Restore, Relink}
 use Rattle.map_ops.specs.Jobs.{PendingAt, key_of_job, value_before, takes_node, IsDue}
-use Rattle.map_ops.specs.TableAt.{TableAt, SpareAt, KeepsNodes, KeepsList, NamesDummies, content, nodes_of, size_of, stored_of, helps_of, turn_of, last_of}
+use Rattle.map_ops.specs.TableAt.{TableAt, SpareAt, KeepsNodes, KeepsList, NamesDummies, content, nodes_of, size_of, stored_of, turn_of, last_of}
 use Rattle.map_ops.specs.Changes.{GivesFor, SeeksNear}
 use Rattle.map_ops.specs.Nodes as writes
 use Rattle.boost_core.specs.declared.session.Session.{Session}
-use Rattle.boost_core.specs.State.{State, Caller, is_set, seat_in, plain_node, marked_node}
+use Rattle.boost_core.specs.State.{State, Caller, is_set, seat_in}
 use Rattle.boost_core.specs.Refusals.{owner_of}
-use Rattle.boost_core.specs.Nodes.{Keeps, Writes, Links, Marks, SeeksFrom, SeeksKey, IsNearest, Changes, PutsIf, OpDoes, OpDoesIn, BackDoes, Touches, Lists, key_in, next_key, newest_key, stamp_after}
-use Rattle.boost_core.specs.Sessions.{Does, ActsIn, DoesIn, TakesBackIn, SeeksIn, IsAsked, Rests, Waits, AreDue, key_of_newest, target_in, target_of, changes_of, change_of}
-use Rattle.boost_core.specs.Core.{World, Tells, state_of, node_at, nodes_at}
+use Rattle.boost_core.specs.Nodes.{Keeps, Writes, Links, Marks, SeeksFrom, SeeksKey, IsNearest, Changes, PutsIf, OpDoes, OpDoesIn, BackDoes, Lists, key_in, next_key, newest_key}
+use Rattle.boost_core.specs.Sessions.{Does, ActsIn, DoesIn, TakesBackIn, SeeksIn, IsAsked, Waits, AreDue, key_of_newest, target_in, target_of, changes_of}
+use Rattle.boost_core.specs.Core.{World, Tells, state_of, node_at}
 use Rattle.boost_core.proofs.NodeLists.{seen, inserted, replaced, written_seen, seeks_from}
 use Rattle.boost_core.proofs.Refused.{seat_here}
 use Rattle.boost_core.proofs.Sides.{last_job, at_last, changes_last, waiting_op}

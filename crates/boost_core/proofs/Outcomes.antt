@@ -29,7 +29,7 @@ use Rattle.boost_core.specs.Machine.{Move, IsAllowed}
 use Rattle.boost_core.specs.Adding.{Enters, CanAdd}
 use Rattle.boost_core.specs.Spares.{times_of, times_in, IsCovered}
 use Rattle.boost_core.specs.Sessions.{owed_of, spare_if, times_kept}
-use Rattle.boost_core.specs.Core.{World, Tells, IsFresh, state_of, nodes_at, gap_by}
+use Rattle.boost_core.specs.Core.{World, Tells, IsFresh, state_of, nodes_at, gap_by, helper_gaps_of}
 use Rattle.boost_core.proofs.Moves.{Runs, lacks}
 use Rattle.boost_core.proofs.Grow.{Grows, Stays, world_after, seated_as, row_there, grown, stayed, sum_changed, one_of_sum}
 
@@ -46,7 +46,7 @@ pub record Called (w : World) (c : ℕ) (x : Session) (step : Step) (answer : An
   pub fresh : (seat' : RoomySeat) → IsFresh t' (slice_set w.sessions c (seated_as y seat')) (placed_then w.placed step answer)
 
 -- A move from what it is answered, the state after it, and what happened to the table.
-pub move_is : (w w' : World) (step : Step) (answer : Answer) → IsAllowed (state_of w) step answer → state_of w' ≡ record (after (state_of w) step answer (turn_of w'.table) (last_of w'.table)) { nodes = nodes_at w'.table; gaps = map (gap_by w'.table) w'.sessions } → Runs w.table w'.table
+pub move_is : (w w' : World) (step : Step) (answer : Answer) → IsAllowed (state_of w) step answer → state_of w' ≡ record (after (state_of w) step answer (turn_of w'.table) (last_of w'.table)) { nodes = nodes_at w'.table; gaps = map (gap_by w'.table) w'.sessions; helper_gaps = helper_gaps_of w'.table } → Runs w.table w'.table
     → (keeps_list answer ≡ true → turn_of w'.table ≡ turn_of w.table) → Move (state_of w) step answer (state_of w')
 move_is w w' step answer allowed is runs kept = record {
   allowed = allowed;

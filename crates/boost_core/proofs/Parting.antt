@@ -1,32 +1,29 @@
 -- The steps that begin, part and end transactions.
-use Rattle.std.proofs.Common.{◌≡◌, ℕ, ◌+◌, ◌-◌, ◌<◌, ◌≤◌, Bool, true, false, cond, List, [], ◌∷◌, ◌++◌, length, take, Option, Some, None, refl, sym, ap, subst, ◌∙◌, add-one, arith}
+use Rattle.std.proofs.Common.{◌≡◌, ℕ, ◌+◌, ◌≤◌, true, false, cond, List, [], ◌∷◌, ◌++◌, length, take, Option, Some, None, refl, sym, ap, subst, ◌∙◌, add-one, arith}
 use Rattle.std.specs.Prelude.{slice_get, slice_set, slice_index, map, reverse, nat_eq, nat_lt, not}
-use Rattle.std.specs.Option.{option_eq, option_map}
+use Rattle.std.specs.Option.{option_eq}
 use Prim.Native.Nat.{suc}
 use Rattle.std.proofs.lemmas.Bool.{false≢true, and_from, eq-eqb}
-use Rattle.txn_trace.specs.declared.entry.Entry.{Entry}
+use Rattle.txn_trace.specs.declared.holder.Holder.TheVariants.{Now}
 use Rattle.txn_trace.specs.declared.entry.Entry.TheVariants as entry
 use Rattle.txn_trace.specs.declared.step.Step.TheVariants as steps
 use Rattle.txn_trace.specs.declared.answer.Answer.TheVariants as answers
-use Rattle.txn_trace.specs.Map.{Map}
-use Rattle.txn_trace.specs.History.{caller_of, is_began, is_commit}
 use Rattle.txn_trace.specs.Serial.{serial}
 use Rattle.txn_trace.specs.Now.{now}
 use Rattle.txn_trace.specs.Locks.{holder_of}
 use Rattle.txn_trace.specs.Log.{log_of}
 use Rattle.txn_trace.specs.declared.seat.Phase.{Phase}
 use Rattle.txn_trace.specs.declared.seat.Phase.TheVariants.{Closed, Opened, Waiting, LeavingTo, LeavingToEnd}
-use Rattle.txn_trace.specs.Shape.{Seat, RoomySeat, closed_seat, own}
-use Rattle.txn_trace.specs.Seats.{is_closed, is_waiting, is_leaving, has_job, is_saved}
-use Rattle.txn_trace.proofs.Levels.{IsLevelIn, seat_leveled}
+use Rattle.txn_trace.specs.Shape.{Seat, closed_seat}
+use Rattle.txn_trace.specs.Seats.{is_closed, is_waiting, is_leaving, has_job}
 use Rattle.txn_trace.proofs.Next.{Next}
 use Rattle.txn_trace.proofs.Entries as laws
-use Rattle.undo_log.specs.UndoLog.{Log, kept_at, newest_above}
-use Rattle.key_locks.specs.Locks.{Releases, without_caller, holder_of as held_by}
+use Rattle.txn_trace.proofs.Settled.{settled}
+use Rattle.undo_log.specs.UndoLog.{Log, kept_at}
+use Rattle.key_locks.specs.Locks.{Releases}
 use Rattle.map_ops.specs.declared.job.MapJob.{MapJob}
 use Rattle.map_ops.specs.Jobs.{PendingAt}
-use Rattle.map_ops.specs.TableAt.{TableAt, Cursor, cursor_turn, map_of}
-use Rattle.boost_core.specs.declared.counts.Counts.{Counts}
+use Rattle.map_ops.specs.TableAt.{TableAt, Cursor, map_of}
 use Rattle.boost_core.specs.declared.session.Session.{Session}
 use Rattle.boost_core.specs.State.{seat_in}
 use Rattle.boost_core.specs.Refusals.{refusal_of}
@@ -34,106 +31,30 @@ use Rattle.boost_core.specs.Answers.{is_back_at, is_at_end}
 use Rattle.boost_core.specs.Spares.{times_of, times_in, times_out, IsCovered}
 use Rattle.boost_core.specs.Core.{World, Tells, state_of, turn_at}
 use Rattle.boost_core.proofs.Numbers.{no_more}
-use Rattle.boost_core.proofs.Moves.{runs_same, rests_runs, state_is, turns_same, turns_set}
-use Rattle.boost_core.proofs.Grow.{Grows, world_after, seated_as}
-use Rattle.boost_core.proofs.Outcomes.{Called, move_is, same_times, same_world}
-use Rattle.boost_core.specs.Sessions.{target_in, key_of_newest, IsSoughtAt, Waits, spare_if, times_kept, changes_of, AreDue, StaysIn, SavesIn, ReturnsIn, EndsIn, SettlesIn, WithdrawsIn}
+use Rattle.boost_core.proofs.Moves.{runs_same, rests_runs, state_is}
+use Rattle.boost_core.proofs.Grow.{world_after, seated_as}
+use Rattle.boost_core.proofs.Outcomes.{Called, move_is, same_world}
+use Rattle.boost_core.specs.Sessions.{target_in, IsSoughtAt, Waits, spare_if, times_kept, changes_of, AreDue, StaysIn, SavesIn, ReturnsIn, EndsIn, SettlesIn, WithdrawsIn}
 use Rattle.boost_core.proofs.Settling.{no_jobs}
 use Rattle.boost_core.proofs.Sides.{at_most}
-use Rattle.boost_core.proofs.Refused.{seat_here, seat_free, begin_closed, save_open, back_open, commit_open, abort_runs, no_cursor, le_false_lt}
-
--- The stripes of a caller are free, as the history says after its end.
-released : (c : ℕ) (o : Option ℕ) → without_caller c o ≡ cond (option_eq nat_eq o (Some c)) None o
-released c None = refl
-released c (Some d) = refl
-
--- A level with nothing above it is acted on no more.
-no_newest : (log : Log MapJob) (n : ℕ) → nat_lt (kept_at log.kept n) (length log.jobs) ≡ false → key_of_newest (newest_above log n) ≡ None
-no_newest log n none = ap key_of_newest (ap (λ (more : Bool). cond more (slice_get log.jobs (length log.jobs - 1)) None) none)
+use Rattle.boost_core.proofs.Refused.{seat_here, seat_free, begin_closed, save_open, back_open, commit_open, abort_runs, le_false_lt}
+use Rattle.boost_core.proofs.Quiet.{idle_cursor, nothing_waits, quiet, level_in, log_is, same_turn, no_turn, released_holders, no_newest}
 
 module _ (w : World) (tells : Tells w) (c : ℕ) (x : Session) (at : slice_get w.sessions c ≡ Some x) where
-  -- Where the caller acts on no key, it has no cursor.
-  pub idle_cursor : (q : Phase) → x.seat.seat.phase ≡ q → target_in q x.log ≡ None → x.cursor ≡ None
-  idle_cursor q is none = no_cursor w.table x.cursor (subst (IsSoughtAt w.table x.cursor) (ap (λ p. target_in p x.log) is ∙ none) (tells.sought c x at))
-
-  -- Where it waits for nothing, nothing waits.
-  pub nothing_waits : (q : Phase) → x.seat.seat.phase ≡ q → is_waiting q ≡ false → x.pending ≡ None
-  nothing_waits q is rests = none_then q rests x.pending (subst (λ p. Waits p x.pending x.log.room) is (tells.seated c x at).agrees.waits)
-    where
-      none_then : (q : Phase) → is_waiting q ≡ false → (o : Option PendingAt) → Waits q o x.log.room → o ≡ None
-      none_then q rests None waits = refl
-      none_then Closed rests (Some pending) waits = absurd waits
-      none_then Opened rests (Some pending) waits = absurd waits
-      none_then (Waiting op) rests (Some pending) waits = absurd (false≢true (sym rests))
-      none_then (LeavingTo n) rests (Some pending) waits = absurd waits
-      none_then LeavingToEnd rests (Some pending) waits = absurd waits
-
-  rest_waits : (q : Phase) → is_waiting q ≡ false → (room : ℕ) → Waits q None room
-  rest_waits Closed rests room = tt
-  rest_waits Opened rests room = tt
-  rest_waits (Waiting op) rests room = absurd (false≢true (sym rests))
-  rest_waits (LeavingTo n) rests room = tt
-  rest_waits LeavingToEnd rests room = tt
-
-  released_holders : (locks' : List (Option ℕ)) → Releases c w.locks locks' → (s : ℕ) → s < w.limits.stripes → held_by locks' s ≡ cond (option_eq nat_eq (holder_of w.limits.stripes s w.history) (Some c)) None (holder_of w.limits.stripes s w.history)
-  released_holders locks' releases s below = releases.each s ∙ ap (without_caller c) (tells.holders s below) ∙ released c (holder_of w.limits.stripes s w.history)
-
-  -- A step that leaves the table, what waits and the jobs, and by which the caller has no cursor.
-  quiet : (e : Entry) (y : Session) (seat : Seat) (log : List (ℕ × Option ℕ)) (committed : Map) (holder : ℕ → Option ℕ) (locks' : List (Option ℕ)) (counts' : Counts) → Next w.limits.stripes w.history e seat log committed (now w.history) holder → log ≡ changes_of y.log.jobs
-      → caller_of e ≡ c → y.seat.seat ≡ x.seat.seat → (is_saved e ≡ true → 0 < y.seat.room) → seat.kept ≡ 0 ∷ y.log.kept → is_waiting seat.phase ≡ false → x.pending ≡ None → y.pending ≡ x.pending → y.log.jobs ≡ x.log.jobs → y.cursor ≡ None
-      → counts'.began ≡ w.counts.began + cond (is_began e) 1 0 → counts'.committed ≡ w.counts.committed + cond (is_commit e) 1 0 → length locks' ≡ length w.locks → ((s : ℕ) → s < w.limits.stripes → held_by locks' s ≡ holder s)
-      → Grows w c x y w.table locks' counts' e
-  quiet e y seat log committed holder locks' counts' next log_is mine same saved kept rests nothing pending jobs cursor begins commits long holders = record {
-    seat = seat;
-    committed = committed;
-    current = now w.history;
-    holder = holder;
-    next = subst (λ l. Next w.limits.stripes w.history e seat l committed (now w.history) holder) log_is next;
-    mine = mine;
-    same_seat = same;
-    saved = saved;
-    kept = kept;
-    waits = subst (λ (o : Option PendingAt). Waits seat.phase o y.log.room) (sym (pending ∙ nothing)) (rest_waits seat.phase rests y.log.room);
-    due = subst (λ (js : List MapJob). AreDue (now w.history) (reverse js)) (sym jobs) (tells.seated c x at).due;
-    content = tells.content;
-    apart = λ d other k held. refl;
-    placed = record { placed = λ cursor key is. is; sound = λ sound. sound };
-    sought = subst (λ (o : Option Cursor). IsSoughtAt w.table o (target_in seat.phase y.log)) (sym cursor) tt;
-    spares = same_times w.table x y pending jobs;
-    largest = refl;
-    helpers = refl;
-    begins = begins;
-    commits = commits;
-    long = long;
-    holders = holders;
-  }
-
-  level_in : (q : Phase) → x.seat.seat.phase ≡ q → IsLevelIn q x.seat.seat.standing x.seat.seat.kept
-  level_in q is = subst (λ (p : Phase). IsLevelIn p x.seat.seat.standing x.seat.seat.kept) is (seat_leveled (own c w.history) x.seat.seat (tells.seated c x at).seat).within
-
-  log_is : (y : Session) → y.log.jobs ≡ x.log.jobs → log_of c w.history ≡ changes_of y.log.jobs
-  log_is y jobs = (tells.seated c x at).log ∙ ap changes_of (sym jobs)
-
-  same_turn : (y : Session) → y.cursor ≡ x.cursor → (seat' : RoomySeat) → map turn_at (slice_set w.sessions c (seated_as y seat')) ≡ map turn_at w.sessions
-  same_turn y cursor seat' = turns_same w.sessions c x (seated_as y seat') at (ap (option_map cursor_turn) cursor)
-
-  no_turn : (y : Session) → y.cursor ≡ None → (seat' : RoomySeat) → map turn_at (slice_set w.sessions c (seated_as y seat')) ≡ slice_set (map turn_at w.sessions) c None
-  no_turn y cursor seat' = turns_set w.sessions c (seated_as y seat') None (ap (option_map cursor_turn) cursor)
-
   -- Begin.
   begun : refusal_of (state_of w) (steps.Begin c) ≡ None → (n : ℕ) (y : Session) → n ≡ w.counts.began + 1 → StaysIn x y → Called w c x (steps.Begin c) (answers.Began n) y w.table w.locks
   begun none n y number stays =
       let closed = begin_closed w.limits.half x.seat.seat c (seat_free w tells c x at (steps.Begin c) refl none) in
-      let level = level_in Closed closed in
+      let level = level_in w tells c x at Closed closed in
       let empty : x.log.jobs ≡ [] = no_jobs x.log.jobs (let same = (tells.seated c x at).agrees.standing in let nil = level.0 in omega arith) in
       let numbered = number ∙ ap (λ k. k + 1) tells.begins in
       record {
-        comes = quiet (entry.Began c n) y (record closed_seat { phase = Opened }) [] (serial w.history) (λ s. holder_of w.limits.stripes s w.history) w.locks (record { began = n; committed = w.counts.committed })
+        comes = quiet w tells c x at (entry.Began c n) y (record closed_seat { phase = Opened }) [] (serial w.history) (λ s. holder_of w.limits.stripes s w.history) w.locks (record { began = n; committed = w.counts.committed })
             (laws.began w.limits.stripes w.history tells.legal c n x.seat.seat (tells.seated c x at).seat closed numbered) (ap changes_of (sym (stays.jobs ∙ empty)))
-            refl stays.seat (λ is. absurd (false≢true is)) (sym level.1 ∙ (tells.seated c x at).agrees.kept ∙ ap (λ ks. 0 ∷ ks) (sym stays.kept)) refl (nothing_waits Closed closed refl) stays.waits stays.jobs (stays.cursor ∙ idle_cursor Closed closed refl)
+            refl stays.seat (λ is. absurd (false≢true is)) (sym level.1 ∙ (tells.seated c x at).agrees.kept ∙ ap (λ ks. 0 ∷ ks) (sym stays.kept)) refl (nothing_waits w tells c x at Closed closed refl) stays.waits stays.jobs (stays.cursor ∙ idle_cursor w tells c x at Closed closed refl)
             number (no_more w.counts.committed) refl tells.holders;
         move = λ seat'. move_is w (world_after w c (seated_as y seat') (w.history ++ entry.Began c n ∷ []) (record { began = n; committed = w.counts.committed }) w.table w.locks None) (steps.Begin c) (answers.Began n) (none, numbered)
-            (state_is w (w.history ++ entry.Began c n ∷ []) (w.history ++ entry.Began c n ∷ []) (record { began = n; committed = w.counts.committed }) w.table (map turn_at w.sessions) (slice_set w.sessions c (seated_as y seat')) w.locks None (runs_same w.table) refl (same_turn y stays.cursor seat'))
+            (state_is w (w.history ++ entry.Began c n ∷ []) (w.history ++ entry.Began c n ∷ []) (record { began = n; committed = w.counts.committed }) w.table (map turn_at w.sessions) (slice_set w.sessions c (seated_as y seat')) w.locks None (runs_same w.table) refl (same_turn w tells c x at y stays.cursor seat'))
             (runs_same w.table) (λ kept. refl);
         fresh = λ seat'. tt;
       }
@@ -144,13 +65,13 @@ module _ (w : World) (tells : Tells w) (c : ℕ) (x : Session) (at : slice_get w
       let opened = save_open w.limits.half x.seat.seat c (seat_free w tells c x at (steps.Save c) refl none) in
       let agrees = (tells.seated c x at).agrees in
       record {
-        comes = quiet (entry.Saved c) y (record { phase = x.seat.seat.phase; standing = x.seat.seat.standing; kept = x.seat.seat.kept ++ x.seat.seat.standing ∷ [] }) (log_of c w.history) (serial w.history) (λ s. holder_of w.limits.stripes s w.history) w.locks w.counts
-            (laws.saved w.limits.stripes w.history tells.legal c x.seat.seat (tells.seated c x at).seat opened) (log_is y saves.jobs)
-            refl saves.seat (λ is. saves.room) ((λ i. agrees.kept i ++ agrees.standing i ∷ []) ∙ ap (λ ks. 0 ∷ ks) (sym saves.kept)) (ap is_waiting opened) (nothing_waits Opened opened refl) saves.waits saves.jobs (saves.cursor ∙ idle_cursor Opened opened refl)
+        comes = quiet w tells c x at (entry.Saved c) y (record { phase = x.seat.seat.phase; standing = x.seat.seat.standing; kept = x.seat.seat.kept ++ x.seat.seat.standing ∷ [] }) (log_of c w.history) (serial w.history) (λ s. holder_of w.limits.stripes s w.history) w.locks w.counts
+            (laws.saved w.limits.stripes w.history tells.legal c x.seat.seat (tells.seated c x at).seat opened) (log_is w tells c x at y saves.jobs)
+            refl saves.seat (λ is. saves.room) ((λ i. agrees.kept i ++ agrees.standing i ∷ []) ∙ ap (λ ks. 0 ∷ ks) (sym saves.kept)) (ap is_waiting opened) (nothing_waits w tells c x at Opened opened refl) saves.waits saves.jobs (saves.cursor ∙ idle_cursor w tells c x at Opened opened refl)
             (no_more w.counts.began) (no_more w.counts.committed) refl tells.holders;
         move = λ seat'. move_is w (world_after w c (seated_as y seat') (w.history ++ entry.Saved c ∷ []) w.counts w.table w.locks None) (steps.Save c) (answers.Saved n)
             (none, saves.number ∙ one_more (length x.log.kept) ∙ ap length (sym agrees.kept) ∙ ap (λ (s : Seat). length s.kept) (sym (seat_here w tells c x at)))
-            (state_is w (w.history ++ entry.Saved c ∷ []) (w.history ++ entry.Saved c ∷ []) w.counts w.table (map turn_at w.sessions) (slice_set w.sessions c (seated_as y seat')) w.locks None (runs_same w.table) refl (same_turn y saves.cursor seat'))
+            (state_is w (w.history ++ entry.Saved c ∷ []) (w.history ++ entry.Saved c ∷ []) w.counts w.table (map turn_at w.sessions) (slice_set w.sessions c (seated_as y seat')) w.locks None (runs_same w.table) refl (same_turn w tells c x at y saves.cursor seat'))
             (runs_same w.table) (λ kept. refl);
         fresh = λ seat'. tt;
       }
@@ -164,12 +85,12 @@ module _ (w : World) (tells : Tells w) (c : ℕ) (x : Session) (at : slice_get w
       let free = back_open w.limits.half x.seat.seat c n (seat_free w tells c x at (steps.Back c n) refl none) in
       let dropped : y.cursor ≡ None = ap (λ (s : Session). s.cursor) is in
       record {
-        comes = quiet (entry.Leave c (Some n)) y (record { phase = LeavingTo n; standing = x.seat.seat.standing; kept = x.seat.seat.kept }) (log_of c w.history) (serial w.history) (λ s. holder_of w.limits.stripes s w.history) w.locks w.counts
-            (laws.left_to w.limits.stripes w.history tells.legal c n x.seat.seat (tells.seated c x at).seat free.0 (le_false_lt (length x.seat.seat.kept) n free.1)) (log_is y (ap (λ (s : Session). s.log.jobs) is))
-            refl (ap (λ (s : Session). s.seat.seat) is) (λ saved. absurd (false≢true saved)) ((tells.seated c x at).agrees.kept ∙ ap (λ (s : Session). 0 ∷ s.log.kept) (sym is)) refl (nothing_waits Opened free.0 refl) (ap (λ (s : Session). s.pending) is) (ap (λ (s : Session). s.log.jobs) is) dropped
+        comes = quiet w tells c x at (entry.Leave c (Some n)) y (record { phase = LeavingTo n; standing = x.seat.seat.standing; kept = x.seat.seat.kept }) (log_of c w.history) (serial w.history) (λ s. holder_of w.limits.stripes s w.history) w.locks w.counts
+            (laws.left_to w.limits.stripes w.history tells.legal c n x.seat.seat (tells.seated c x at).seat free.0 (le_false_lt (length x.seat.seat.kept) n free.1)) (log_is w tells c x at y (ap (λ (s : Session). s.log.jobs) is))
+            refl (ap (λ (s : Session). s.seat.seat) is) (λ saved. absurd (false≢true saved)) ((tells.seated c x at).agrees.kept ∙ ap (λ (s : Session). 0 ∷ s.log.kept) (sym is)) refl (nothing_waits w tells c x at Opened free.0 refl) (ap (λ (s : Session). s.pending) is) (ap (λ (s : Session). s.log.jobs) is) dropped
             (no_more w.counts.began) (no_more w.counts.committed) refl tells.holders;
         move = λ seat'. move_is w (world_after w c (seated_as y seat') (w.history ++ entry.Leave c (Some n) ∷ []) w.counts w.table w.locks None) (steps.Back c n) answers.Leaving (none, tt)
-            (state_is w (w.history ++ entry.Leave c (Some n) ∷ []) (w.history ++ entry.Leave c (Some n) ∷ []) w.counts w.table (slice_set (map turn_at w.sessions) c None) (slice_set w.sessions c (seated_as y seat')) w.locks None (runs_same w.table) refl (no_turn y dropped seat'))
+            (state_is w (w.history ++ entry.Leave c (Some n) ∷ []) (w.history ++ entry.Leave c (Some n) ∷ []) w.counts w.table (slice_set (map turn_at w.sessions) c None) (slice_set w.sessions c (seated_as y seat')) w.locks None (runs_same w.table) refl (no_turn w tells c x at y dropped seat'))
             (runs_same w.table) (λ kept. refl);
         fresh = λ seat'. tt;
       }
@@ -178,16 +99,16 @@ module _ (w : World) (tells : Tells w) (c : ℕ) (x : Session) (at : slice_get w
   pub committed : refusal_of (state_of w) (steps.Commit c) ≡ None → (p : ℕ) (y : Session) (t' : TableAt) (locks' : List (Option ℕ)) → p ≡ w.counts.committed + 1 → SettlesIn x w.table y t' → Releases c w.locks locks' → Called w c x (steps.Commit c) (answers.Committed p) y t' locks'
   committed none p y t' locks' number settles releases =
       let opened = commit_open w.limits.half x.seat.seat c (seat_free w tells c x at (steps.Commit c) refl none) in
-      let nothing = nothing_waits Opened opened refl in
+      let nothing = nothing_waits w tells c x at Opened opened refl in
       let runs = rests_runs w.table t' settles.rests in
       let numbered = number ∙ ap (λ k. k + 1) tells.commits in
       record {
         comes = record {
           seat = closed_seat;
-          committed = laws.settled (serial w.history) (now w.history) (log_of c w.history);
+          committed = settled (serial w.history) (now w.history) (log_of c w.history);
           current = now w.history;
           holder = λ s. cond (option_eq nat_eq (holder_of w.limits.stripes s w.history) (Some c)) None (holder_of w.limits.stripes s w.history);
-          next = subst (λ l. Next w.limits.stripes w.history (entry.Committed c p) closed_seat l (laws.settled (serial w.history) (now w.history) (log_of c w.history)) (now w.history) (λ s. cond (option_eq nat_eq (holder_of w.limits.stripes s w.history) (Some c)) None (holder_of w.limits.stripes s w.history)))
+          next = subst (λ l. Next Now w.limits.stripes w.history (entry.Committed c p) closed_seat l (settled (serial w.history) (now w.history) (log_of c w.history)) (now w.history) (λ s. cond (option_eq nat_eq (holder_of w.limits.stripes s w.history) (Some c)) None (holder_of w.limits.stripes s w.history)))
               (ap changes_of (sym settles.jobs)) (laws.committed w.limits.stripes w.history tells.legal c p x.seat.seat (tells.seated c x at).seat opened numbered);
           mine = refl;
           same_seat = settles.seat;
@@ -198,7 +119,7 @@ module _ (w : World) (tells : Tells w) (c : ℕ) (x : Session) (at : slice_get w
           content = ap map_of settles.rests.nodes.regular ∙ tells.content;
           apart = λ d other k held. refl;
           placed = settles.rests.placed;
-          sought = subst (λ (o : Option Cursor). IsSoughtAt t' o None) (sym (settles.cursor ∙ idle_cursor Opened opened refl)) tt;
+          sought = subst (λ (o : Option Cursor). IsSoughtAt t' o None) (sym (settles.cursor ∙ idle_cursor w tells c x at Opened opened refl)) tt;
           spares = λ others covered place stamp.
               let none_kept : times_kept y place stamp ≡ 0 + 0 = λ i. times_of (spare_if ((settles.waits ∙ nothing) i)) place stamp + times_in (settles.jobs i) place stamp in
               let before : IsCovered (λ p s. others p s + times_in x.log.jobs p s) w.table = λ p s.
@@ -212,10 +133,10 @@ module _ (w : World) (tells : Tells w) (c : ℕ) (x : Session) (at : slice_get w
           begins = no_more w.counts.began;
           commits = number;
           long = releases.as_many;
-          holders = released_holders locks' releases;
+          holders = released_holders w tells c x at locks' releases;
         };
         move = λ seat'. move_is w (world_after w c (seated_as y seat') (w.history ++ entry.Committed c p ∷ []) (record { began = w.counts.began; committed = p }) t' locks' None) (steps.Commit c) (answers.Committed p) (none, numbered)
-            (state_is w (w.history ++ entry.Committed c p ∷ []) (w.history ++ entry.Committed c p ∷ []) (record { began = w.counts.began; committed = p }) t' (map turn_at w.sessions) (slice_set w.sessions c (seated_as y seat')) locks' None runs refl (same_turn y settles.cursor seat'))
+            (state_is w (w.history ++ entry.Committed c p ∷ []) (w.history ++ entry.Committed c p ∷ []) (record { began = w.counts.began; committed = p }) t' (map turn_at w.sessions) (slice_set w.sessions c (seated_as y seat')) locks' None runs refl (same_turn w tells c x at y settles.cursor seat'))
             runs (λ kept. settles.rests.nodes.turn);
         fresh = λ seat'. tt;
       }
@@ -237,7 +158,7 @@ module _ (w : World) (tells : Tells w) (c : ℕ) (x : Session) (at : slice_get w
           committed = serial w.history;
           current = now w.history;
           holder = λ s. holder_of w.limits.stripes s w.history;
-          next = subst (λ l. Next w.limits.stripes w.history (entry.Leave c None) (record { phase = LeavingToEnd; standing = x.seat.seat.standing; kept = x.seat.seat.kept }) l (serial w.history) (now w.history) (λ s. holder_of w.limits.stripes s w.history))
+          next = subst (λ l. Next Now w.limits.stripes w.history (entry.Leave c None) (record { phase = LeavingToEnd; standing = x.seat.seat.standing; kept = x.seat.seat.kept }) l (serial w.history) (now w.history) (λ s. holder_of w.limits.stripes s w.history))
               ((tells.seated c x at).log ∙ ap (λ (log : Log MapJob). changes_of log.jobs) (sym leaves.log)) (law x.seat.seat.phase refl parts.0 parts.1);
           mine = refl;
           same_seat = leaves.seat;
@@ -258,12 +179,12 @@ module _ (w : World) (tells : Tells w) (c : ℕ) (x : Session) (at : slice_get w
           holders = tells.holders;
         };
         move = λ seat'. move_is w (world_after w c (seated_as y seat') (w.history ++ entry.Leave c None ∷ []) w.counts t' w.locks None) (steps.Abort c) answers.Leaving (none, tt)
-            (state_is w (w.history ++ entry.Leave c None ∷ []) (w.history ++ entry.Leave c None ∷ []) w.counts t' (slice_set (map turn_at w.sessions) c None) (slice_set w.sessions c (seated_as y seat')) w.locks None runs refl (no_turn y leaves.cursor seat'))
+            (state_is w (w.history ++ entry.Leave c None ∷ []) (w.history ++ entry.Leave c None ∷ []) w.counts t' (slice_set (map turn_at w.sessions) c None) (slice_set w.sessions c (seated_as y seat')) w.locks None runs refl (no_turn w tells c x at y leaves.cursor seat'))
             runs (λ kept. leaves.rests.nodes.turn);
         fresh = λ seat'. tt;
       }
     where
-      law : (q : Phase) → x.seat.seat.phase ≡ q → is_closed q ≡ false → is_leaving q ≡ false → Next w.limits.stripes w.history (entry.Leave c None) (record { phase = LeavingToEnd; standing = x.seat.seat.standing; kept = x.seat.seat.kept }) (log_of c w.history) (serial w.history) (now w.history) (λ s. holder_of w.limits.stripes s w.history)
+      law : (q : Phase) → x.seat.seat.phase ≡ q → is_closed q ≡ false → is_leaving q ≡ false → Next Now w.limits.stripes w.history (entry.Leave c None) (record { phase = LeavingToEnd; standing = x.seat.seat.standing; kept = x.seat.seat.kept }) (log_of c w.history) (serial w.history) (now w.history) (λ s. holder_of w.limits.stripes s w.history)
       law Closed is closed leaving = absurd (false≢true (sym closed))
       law Opened is closed leaving = laws.left_to_end w.limits.stripes w.history tells.legal c x.seat.seat (tells.seated c x at).seat is
       law (Waiting op) is closed leaving = laws.withdrawn w.limits.stripes w.history tells.legal c op x.seat.seat (tells.seated c x at).seat is
@@ -284,19 +205,19 @@ module _ (w : World) (tells : Tells w) (c : ℕ) (x : Session) (at : slice_get w
     -- Back at a level.
     pub returned : (n : ℕ) (y : Session) → ReturnsIn n x w.locks y w.locks → Called w c x (steps.Act c) (answers.Returned n) y w.table w.locks
     returned n y returns =
-        let level = level_in (LeavingTo n) returns.phase in
+        let level = level_in w tells c x at (LeavingTo n) returns.phase in
         let more : nat_lt (kept_at x.log.kept n) (length x.log.jobs) ≡ false = none_above (LeavingTo n) returns.phase in
         let agrees = (tells.seated c x at).agrees in
         let reached : slice_index x.seat.seat.kept n ≡ x.seat.seat.standing =
         ap (λ ks. slice_index ks n) agrees.kept ∙ reach (kept_at x.log.kept n) (length x.log.jobs) (subst (λ ks. slice_index ks n ≤ length x.log.jobs) agrees.kept (subst (λ k. slice_index x.seat.seat.kept n ≤ k) agrees.standing level.1)) (at_most (kept_at x.log.kept n) (length x.log.jobs) more) ∙ sym agrees.standing in
         record {
-          comes = quiet (entry.Returned c n) y (record { phase = Opened; standing = x.seat.seat.standing; kept = take (n + 1) x.seat.seat.kept }) (log_of c w.history) (serial w.history) (λ s. holder_of w.limits.stripes s w.history) w.locks w.counts
-              (laws.returned w.limits.stripes w.history tells.legal c n x.seat.seat (tells.seated c x at).seat returns.phase reached) (log_is y returns.jobs)
-              refl returns.seat (λ is. absurd (false≢true is)) (ap (λ ks. take (n + 1) ks) agrees.kept ∙ ap (λ k. take k (0 ∷ x.log.kept)) (add-one n) ∙ ap (λ ks. 0 ∷ ks) (sym returns.kept)) refl (nothing_waits (LeavingTo n) returns.phase refl) returns.waits returns.jobs
-              (returns.cursor ∙ idle_cursor (LeavingTo n) returns.phase (no_newest x.log n more)) (no_more w.counts.began) (no_more w.counts.committed) refl tells.holders;
+          comes = quiet w tells c x at (entry.Returned c n) y (record { phase = Opened; standing = x.seat.seat.standing; kept = take (n + 1) x.seat.seat.kept }) (log_of c w.history) (serial w.history) (λ s. holder_of w.limits.stripes s w.history) w.locks w.counts
+              (laws.returned w.limits.stripes w.history tells.legal c n x.seat.seat (tells.seated c x at).seat returns.phase reached) (log_is w tells c x at y returns.jobs)
+              refl returns.seat (λ is. absurd (false≢true is)) (ap (λ ks. take (n + 1) ks) agrees.kept ∙ ap (λ k. take k (0 ∷ x.log.kept)) (add-one n) ∙ ap (λ ks. 0 ∷ ks) (sym returns.kept)) refl (nothing_waits w tells c x at (LeavingTo n) returns.phase refl) returns.waits returns.jobs
+              (returns.cursor ∙ idle_cursor w tells c x at (LeavingTo n) returns.phase (no_newest x.log n more)) (no_more w.counts.began) (no_more w.counts.committed) refl tells.holders;
           move = λ seat'. move_is w (world_after w c (seated_as y seat') (w.history ++ entry.Returned c n ∷ []) w.counts w.table w.locks None) (steps.Act c) (answers.Returned n)
               (none, and_from (not (has_job (seat_in w.history c))) (is_back_at n (seat_in w.history c).phase) no_job_here (ap (λ (s : Seat). is_back_at n s.phase) (seat_here w tells c x at) ∙ ap (is_back_at n) returns.phase ∙ eq-eqb n n refl))
-              (state_is w (w.history ++ entry.Returned c n ∷ []) (w.history ++ entry.Returned c n ∷ []) w.counts w.table (map turn_at w.sessions) (slice_set w.sessions c (seated_as y seat')) w.locks None (runs_same w.table) refl (same_turn y returns.cursor seat'))
+              (state_is w (w.history ++ entry.Returned c n ∷ []) (w.history ++ entry.Returned c n ∷ []) w.counts w.table (map turn_at w.sessions) (slice_set w.sessions c (seated_as y seat')) w.locks None (runs_same w.table) refl (same_turn w tells c x at y returns.cursor seat'))
               (runs_same w.table) (λ kept. refl);
           fresh = λ seat'. tt;
         }
@@ -312,13 +233,13 @@ module _ (w : World) (tells : Tells w) (c : ℕ) (x : Session) (at : slice_get w
         let empty : x.log.jobs ≡ [] = no_jobs x.log.jobs (at_most 0 (length x.log.jobs) more) in
         let nil : x.seat.seat.standing ≡ 0 = agrees.standing ∙ ap length empty in
         record {
-          comes = quiet (entry.Aborted c) y closed_seat [] (serial w.history) (λ s. cond (option_eq nat_eq (holder_of w.limits.stripes s w.history) (Some c)) None (holder_of w.limits.stripes s w.history)) locks' w.counts
+          comes = quiet w tells c x at (entry.Aborted c) y closed_seat [] (serial w.history) (λ s. cond (option_eq nat_eq (holder_of w.limits.stripes s w.history) (Some c)) None (holder_of w.limits.stripes s w.history)) locks' w.counts
               (laws.aborted w.limits.stripes w.history tells.legal c x.seat.seat (tells.seated c x at).seat ends.phase nil) (ap changes_of (sym (ends.jobs ∙ empty)))
-              refl ends.seat (λ is. absurd (false≢true is)) (ap (λ ks. 0 ∷ ks) (sym ends.kept)) refl (nothing_waits LeavingToEnd ends.phase refl) ends.waits ends.jobs
-              (ends.cursor ∙ idle_cursor LeavingToEnd ends.phase (no_newest x.log 0 more)) (no_more w.counts.began) (no_more w.counts.committed) ends.releases.as_many (released_holders locks' ends.releases);
+              refl ends.seat (λ is. absurd (false≢true is)) (ap (λ ks. 0 ∷ ks) (sym ends.kept)) refl (nothing_waits w tells c x at LeavingToEnd ends.phase refl) ends.waits ends.jobs
+              (ends.cursor ∙ idle_cursor w tells c x at LeavingToEnd ends.phase (no_newest x.log 0 more)) (no_more w.counts.began) (no_more w.counts.committed) ends.releases.as_many (released_holders w tells c x at locks' ends.releases);
           move = λ seat'. move_is w (world_after w c (seated_as y seat') (w.history ++ entry.Aborted c ∷ []) w.counts w.table locks' None) (steps.Act c) answers.Aborted
               (none, and_from (not (has_job (seat_in w.history c))) (is_at_end (seat_in w.history c).phase) no_job_here (ap (λ (s : Seat). is_at_end s.phase) (seat_here w tells c x at) ∙ ap is_at_end ends.phase))
-              (state_is w (w.history ++ entry.Aborted c ∷ []) (w.history ++ entry.Aborted c ∷ []) w.counts w.table (map turn_at w.sessions) (slice_set w.sessions c (seated_as y seat')) locks' None (runs_same w.table) refl (same_turn y ends.cursor seat'))
+              (state_is w (w.history ++ entry.Aborted c ∷ []) (w.history ++ entry.Aborted c ∷ []) w.counts w.table (map turn_at w.sessions) (slice_set w.sessions c (seated_as y seat')) locks' None (runs_same w.table) refl (same_turn w tells c x at y ends.cursor seat'))
               (runs_same w.table) (λ kept. refl);
           fresh = λ seat'. tt;
         }

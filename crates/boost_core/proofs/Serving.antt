@@ -18,7 +18,7 @@ use Rattle.map_ops.specs.InitLink.TheVariants as links
 use Rattle.txn_trace.specs.declared.refusal.Refusal.{Refusal}
 use Rattle.map_ops.specs.SweepOutcome.{SweepOutcome}
 use Rattle.map_ops.specs.SweepOutcome.TheVariants as sweeps
-use Rattle.map_ops.specs.Buckets.{Doubles, SeekChanges, LinkChanges, StoreChanges, seek_answer, store_answer, double_answer}
+use Rattle.map_ops.specs.Buckets.{Doubles, SeekChanges, LinkChanges, StoreChanges, seek_answer, double_answer}
 use Rattle.map_ops.specs.TableAt.{TableAt, Follows, content, size_of, stored_of, helps_of, turn_of, largest_of}
 use Rattle.boost_core.specs.State.{Helper}
 use Rattle.boost_core.specs.Answers.{IsAnswer}
@@ -29,7 +29,7 @@ use Rattle.boost_core.specs.Serves as said
 use Rattle.boost_core.specs.Serves.{Serves, Sweeping, Seeking, Linking, Storing, Doubling}
 use Rattle.boost_core.specs.Core.{World, Tells, state_of}
 use Rattle.boost_core.proofs.Refused.{le_false}
-use Rattle.boost_core.proofs.Helping.{served, sweep_tells, swept_move, clean_move, becomes_tells, becomes_state, double_tells, seek_refusal, refusal_in_result, seek_ready_move, seek_placed_move, helper_refused, store_refusal, stored_move}
+use Rattle.boost_core.proofs.Helping.{served, sweep_tells, swept_move, clean_move, becomes_tells, becomes_state, double_tells, seek_refusal, refusal_in_result, seek_ready_move, seek_placed_move, helper_refused, store_refused_move, stored_move}
 use Rattle.boost_core.proofs.Linking.{link_refused_move, link_again_move, link_present_move, link_linked_move}
 
 -- What the core then tells, and the move.
@@ -102,15 +102,20 @@ module _ (w : World) (tells : Tells w) (t' : TableAt) (follows : Follows w.table
         move = link_refused_move w h tells.helpers is.outcome is.says is.no_memory refusal says t' same;
       })
 
-  stored_by : (h : ℕ) (outcome : Result Unit Refusal) (answer : Answer) → answer ≡ said.stored outcome → outcome ≡ store_answer (slice_get (helps_of w.table) h) → StoreChanges w.table t' h outcome → Served w (steps.InitStore h) answer t'
-  stored_by h (Ok done) answer answer_is says stores = subst (λ a. Served w (steps.InitStore h) a t') (sym answer_is) (record {
-    tells = becomes_tells w tells t' None _ _ _ _ stores.becomes (length-set _ _ _) follows tt;
-    move = stored_move w t' h tells.helpers (sym says) stores;
-  })
-  stored_by h (Err refusal) answer answer_is says same = subst (λ a. Served w (steps.InitStore h) a t') (sym answer_is) (record {
-    tells = same_tells same;
-    move = helper_refused w t' (steps.InitStore h) refusal same (store_refusal w h tells.helpers ∙ ap refusal_in_result (sym says));
-  })
+  stored_by : (h : ℕ) (outcome : Result Unit Refusal) (answer : Answer) → answer ≡ said.stored outcome → (is : Storing w.table t' h answer) → is.outcome ≡ outcome → Served w (steps.InitStore h) answer t'
+  stored_by h (Ok done) answer answer_is is says =
+      let stores = subst (StoreChanges w.table t' h) says is.changes in
+      let now_is = sym (is.says (λ e. let both = sym says ∙ e in cc)) ∙ says in
+      subst (λ a. Served w (steps.InitStore h) a t') (sym answer_is) (record {
+        tells = becomes_tells w tells t' None _ _ _ _ stores.becomes (length-set _ _ _) follows tt;
+        move = stored_move w t' h tells.helpers now_is stores;
+      })
+  stored_by h (Err refusal) answer answer_is is says =
+      let same = subst (StoreChanges w.table t' h) says is.changes in
+      subst (λ a. Served w (steps.InitStore h) a t') (sym answer_is) (record {
+        tells = same_tells same;
+        move = store_refused_move w t' h tells.helpers is.outcome is.says is.no_memory is.lacks refusal says same;
+      })
 
   -- What a doubling says of the size.
   doubling : (seen : ℕ) (outcome : Double) (one two three : Bool) → (size_of w.table == seen) ≡ one → (size_of w.table == w.limits.buckets) ≡ two → nat_le (count_of (now w.history)) (2 * size_of w.table) ≡ three
@@ -149,6 +154,6 @@ module _ (w : World) (tells : Tells w) (t' : TableAt) (follows : Follows w.table
   serves steps.Sweep answer is = swept_by is.outcome answer is refl is.answer_is
   serves (steps.InitSeek h b) answer is = sought_by h b is.outcome answer is.answer_is is.says is.changes
   serves (steps.InitLink h) answer is = linked_by h is.outcome answer is.answer_is is refl
-  serves (steps.InitStore h) answer is = stored_by h is.outcome answer is.answer_is is.says is.changes
+  serves (steps.InitStore h) answer is = stored_by h is.outcome answer is.answer_is is refl
   serves (steps.Double seen) answer is = doubled_by seen is.outcome answer is.answer_is is.says is.changes
   serves _ answer is = absurd is

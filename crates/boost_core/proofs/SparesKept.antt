@@ -1,57 +1,24 @@
 -- The spares that a caller keeps once its operation is done.
-use Rattle.std.proofs.Common.{◌≡◌, ℕ, ◌+◌, ◌-◌, ◌^◌, ◌<◌, ◌≤◌, ◌==◌, ◌&&◌, Bool, true, false, cond, List, [], ◌∷◌, ◌++◌, length, Option, Some, None, is_some, refl, sym, ap, subst, ◌∙◌, arith}
-use Rattle.std.specs.Prelude.{slice_get, slice_set, map, reverse, slice_index, nat_lt, nat_eq, not, option_to_list}
-use Rattle.std.specs.Option.{option_map, option_eq}
-use Rattle.std.specs.List.{AllByRecursion}
-use Rattle.std.proofs.lemmas.Bool.{false≢true, cases_Bool, cases_eq, ne_eqb, and_from, and_parts, eqb-true, ltb-true}
-use Rattle.std.proofs.lemmas.List.{reverse-append, append-nil}
+use Rattle.std.proofs.Common.{◌≡◌, ℕ, ◌+◌, cond, List, [], ◌∷◌, ◌++◌, Option, Some, None, ap, ◌∙◌, arith}
+use Rattle.std.specs.Prelude.{nat_eq, option_to_list}
+use Rattle.std.specs.Option.{option_eq}
+use Rattle.std.proofs.lemmas.Bool.{cases_Bool}
+use Rattle.std.proofs.lemmas.List.{append-nil}
 use Rattle.std.proofs.lemmas.List.Sums.{sum_by_push}
-use Rattle.std.proofs.lemmas.Option.{slice_get_within}
 use mathlib.Core.Logic.{inl, inr}
 use Rattle.txn_trace.specs.declared.op.Op.{Op}
 use Rattle.txn_trace.specs.declared.op.Op.TheVariants.{Put, Take, Get, PutIf}
-use Rattle.txn_trace.specs.Map.{get, key_of, reply_of, after}
-use Rattle.txn_trace.specs.Now.{set_at}
-use Rattle.txn_trace.specs.Locks.{stripe_of}
-use Rattle.txn_trace.specs.Legal.{runs, is_running}
-use Rattle.txn_trace.specs.Shape.{changes}
-use Rattle.txn_trace.proofs.Acting.{get-after_other}
-use Rattle.txn_trace.proofs.Table.{get-set_at}
-use Rattle.txn_trace.proofs.Held.{waiting_held, log_held, held_apart}
+use Rattle.txn_trace.specs.Map.{get}
 use Rattle.map_ops.specs.declared.job.MapJob.TheVariants.{Unput, Restore, Relink}
-use Rattle.map_ops.specs.Jobs.{takes_node, key_of_job, value_before, spare_of_job, unput, relink, job_of}
-use Rattle.map_ops.specs.TableAt.{SpareAt, Keeps, KeepsSpares, fits}
+use Rattle.map_ops.specs.Jobs.{spare_of_job, unput, relink, job_of}
+use Rattle.map_ops.specs.TableAt.{SpareAt, KeepsSpares}
 use Rattle.map_ops.specs.Changes.{Spends, SpendsFor}
-use Rattle.txn_trace.specs.declared.entry.Entry.TheVariants as entry
-use Rattle.txn_trace.specs.declared.step.Step.TheVariants as steps
-use Rattle.txn_trace.specs.declared.answer.Answer.TheVariants as answers
 use Rattle.txn_trace.specs.Map.{Map}
-use Rattle.txn_trace.specs.Serial.{serial}
-use Rattle.txn_trace.specs.Now.{now}
-use Rattle.txn_trace.specs.Locks.{holder_of}
-use Rattle.txn_trace.specs.Log.{log_of}
-use Rattle.txn_trace.specs.declared.seat.Phase.{Phase}
-use Rattle.txn_trace.specs.declared.seat.Phase.TheVariants.{Closed, Opened, Waiting, LeavingTo, LeavingToEnd}
-use Rattle.txn_trace.specs.Shape.{Seat}
-use Rattle.txn_trace.specs.Seats.{has_job, has_target}
-use Rattle.txn_trace.proofs.Next.{Next}
-use Rattle.txn_trace.proofs.Entries as laws
-use Rattle.undo_log.specs.UndoLog.{kept_at}
 use Rattle.map_ops.specs.declared.job.MapJob.{MapJob}
-use Rattle.map_ops.specs.Jobs.{PendingAt}
-use Rattle.map_ops.specs.TableAt.{TableAt, Cursor, content, cursor_turn, map_of, turn_of, IsPlaced}
-use Rattle.boost_core.specs.declared.session.Session.{Session}
-use Rattle.boost_core.specs.State.{Owner, Caller, Helper, seat_in, turn_in}
-use Rattle.boost_core.specs.Refusals.{refusal_of}
+use Rattle.map_ops.specs.TableAt.{TableAt}
 use Rattle.boost_core.specs.Spares.{times_of, times_in, times_out, IsCovered}
-use Rattle.boost_core.specs.Core.{World, Tells, IsFresh, state_of, turn_at}
 use Rattle.boost_core.proofs.Numbers.{no_more}
-use Rattle.boost_core.specs.Answers.{IsReply, is_just_placed, may_be_stale}
-use Rattle.boost_core.specs.Sessions.{target_in, target_of, level_of, IsPlacedFor, IsSoughtAt, KeepsPlaced, Waits, spare_if, times_kept, change_of, changes_of, AreDue, SeeksIn, DoesIn, Drops, TakesBackIn}
 use Rattle.boost_core.proofs.Spares.{spent, still_covered}
-use Rattle.boost_core.proofs.Due.{NotedIf, noted, changes_noted, due_noted}
-use Rattle.boost_core.proofs.Sides.{IsGoing, going, waiting_op, changes_last}
-use Rattle.boost_core.proofs.Refused.{seat_here, turn_here}
 
 relinked_put : (k : ℕ) (o : Option ℕ) (j v : ℕ) (kept : SpareAt) (spare : Option SpareAt) → Some (Relink j v kept) ≡ unput k o → spare ≡ Some kept
 relinked_put k None j v kept spare is = absurd (cc (is))

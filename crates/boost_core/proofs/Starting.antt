@@ -1,5 +1,5 @@
 -- A core in which nothing has happened.
-use Rattle.std.proofs.Common.{◌≡◌, ℕ, ◌+◌, ◌<◌, ◌≤◌, ◌==◌, ◌∷◌, true, List, [], length, map, replicate, Option, Some, None, suc, refl, sym, ap, subst, ◌∙◌, arith}
+use Rattle.std.proofs.Common.{◌≡◌, ℕ, ◌+◌, ◌<◌, ◌≤◌, ◌==◌, ◌∷◌, true, List, [], length, map, replicate, Option, Some, None, zero, suc, refl, sym, ap, subst, ◌∙◌, arith}
 use Rattle.std.specs.Prelude.{slice_get, sum_by, reverse}
 use Rattle.std.specs.List.{All}
 use Rattle.std.specs.Option.{option_map}
@@ -29,6 +29,7 @@ use Rattle.boost_core.specs.State.{start}
 use Rattle.boost_core.specs.Spares.{times_of, times_in}
 use Rattle.boost_core.specs.Sessions.{IsIdle, Agrees, Waits, IsSoughtAt, AreDue, level_of, owed_of, target_of, times_kept, spare_if, changes_of}
 use Rattle.boost_core.specs.Core.{World, Tells, state_of, turn_at, node_at, gap_if, gap_by, all_times}
+use Rattle.boost_core.proofs.HelperGaps.{idle_cursors}
 use Rattle.boost_core.proofs.NodeLists.{node_here, node_later, none_of_none}
 use Rattle.boost_core.proofs.Spares.{none_covered}
 use Rattle.boost_core.proofs.Powers.{IsPower, power_from_test}
@@ -52,6 +53,10 @@ image_is f b (x ∷ xs) all = λ i. all x 0 refl i ∷ image_is f b xs (λ y k a
 sum_none : {A : Type 0} (f : A → ℕ) (xs : List A) → ((x : A) (k : ℕ) → slice_get xs k ≡ Some x → f x ≡ 0) → sum_by f xs ≡ 0
 sum_none f [] all = refl
 sum_none f (x ∷ xs) all = sum_by-cons f x xs ∙ (λ i. all x 0 refl i + sum_none f xs (λ y k at. all y (suc k) at) i)
+
+none_fit : (t : TableAt) (n : ℕ) → map (gap_if t) (replicate n None) ≡ replicate n None
+none_fit t zero = refl
+none_fit t (suc n) = ap (λ rest. None ∷ rest) (none_fit t n)
 
 none_held : (stripes s : ℕ) → held_by (replicate stripes None) s ≡ None
 none_held stripes s = elim (cases_lt s stripes) [
@@ -163,6 +168,7 @@ module _ (limits : Sizes) (t : TableAt) (new : IsNew t limits.buckets limits.cal
     stamp = new.last_is i;
     cursors = (image_is turn_at None sessions (λ s c at. ap (option_map cursor_turn) (is_idle s c at).cursor) ∙ ap (λ n. replicate n None) count) i;
     gaps = (image_is (gap_by t) None sessions (λ s c at. ap (gap_if t) (is_idle s c at).cursor) ∙ ap (λ n. replicate n None) count) i;
+    helper_gaps = (ap (map (gap_if t)) (idle_cursors t.buckets.helpers limits.callers new.helps_is) ∙ none_fit t limits.callers) i;
     helpers = new.helps_is i;
     placed = None;
   }

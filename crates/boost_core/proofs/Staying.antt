@@ -1,9 +1,8 @@
--- No step unlinks an unmarked node.
-use Rattle.std.proofs.Common.{◌≡◌, ℕ, Bool, true, false, List, Option, Some, None, Result, Ok, Err, refl, sym, ap, subst, ◌∙◌}
+-- No step of a caller unlinks an unmarked node, nor touches the buckets and the helpers.
+use Rattle.std.proofs.Common.{◌≡◌, ℕ, Bool, true, false, List, Option, Some, None, refl, sym, ap, subst, ◌∙◌}
 use Rattle.std.specs.Prelude.{nat_eq}
 use Rattle.std.specs.Option.{option_eq}
-use Rattle.std.specs.List.{slice_get}
-use Rattle.split_key.specs.Sort.{regular_at, dummy_at}
+use Rattle.split_key.specs.Sort.{regular_at}
 use Rattle.node_list.specs.Nodes.{NodeAt, Listing}
 use Rattle.node_list.specs.Order.{IsSpread}
 use Rattle.txn_trace.specs.declared.op.Op.{Op}
@@ -98,3 +97,31 @@ module _ (t t' : TableAt) (spread : IsSpread (nodes_of t')) where
     does_stay stripes counts (steps.Abort d) answers.Leaving is = rested is.0.rests.nodes
     does_stay stripes counts (steps.Abort d) _ is = absurd is
     does_stay stripes counts _ answer is = absurd is
+
+    -- The buckets and the helpers are as they were.
+    acted_buckets : (c : ℕ) (answer : Answer) → ActsIn c x t locks answer y t' locks' → t'.buckets ≡ t.buckets
+    acted_buckets c answers.Again is = ap (λ u. u.buckets) is.1.table
+    acted_buckets c (answers.Done reply) is = is.0.does.buckets.all
+    acted_buckets c answers.Undone is = is.1.back.buckets.all
+    acted_buckets c (answers.Returned n) is = ap (λ u. u.buckets) is.2
+    acted_buckets c answers.Aborted is = ap (λ u. u.buckets) is.2
+    acted_buckets c _ is = absurd is
+
+    pub does_buckets : (stripes : ℕ) (counts : Counts) (step : Step) (answer : Answer) → Does stripes counts step x t locks answer y t' locks' → t'.buckets ≡ t.buckets
+    does_buckets stripes counts (steps.Begin d) (answers.Began n) is = ap (λ u. u.buckets) is.2
+    does_buckets stripes counts (steps.Begin d) _ is = absurd is
+    does_buckets stripes counts (steps.Ask d op) answers.Asked is = is.prepares.nodes.buckets.all
+    does_buckets stripes counts (steps.Ask d op) (answers.Busy holder) is = is.back.nodes.buckets.all ∙ is.prepares.nodes.buckets.all
+    does_buckets stripes counts (steps.Ask d op) (answers.Refused refusal) is = ap (λ u. u.buckets) is.2
+    does_buckets stripes counts (steps.Ask d op) _ is = absurd is
+    does_buckets stripes counts (steps.Seek d) answers.Placed is = is.0.places.keeps.buckets.all
+    does_buckets stripes counts (steps.Seek d) _ is = absurd is
+    does_buckets stripes counts (steps.Act d) answer is = acted_buckets d answer is
+    does_buckets stripes counts (steps.Save d) answer is = ap (λ u. u.buckets) is.1
+    does_buckets stripes counts (steps.Back d n) answers.Leaving is = ap (λ u. u.buckets) is.1
+    does_buckets stripes counts (steps.Back d n) _ is = absurd is
+    does_buckets stripes counts (steps.Commit d) (answers.Committed p) is = is.1.rests.nodes.buckets.all
+    does_buckets stripes counts (steps.Commit d) _ is = absurd is
+    does_buckets stripes counts (steps.Abort d) answers.Leaving is = is.0.rests.nodes.buckets.all
+    does_buckets stripes counts (steps.Abort d) _ is = absurd is
+    does_buckets stripes counts _ answer is = absurd is

@@ -1,15 +1,12 @@
 -- The steps by which callers work on the map.
-use Rattle.std.proofs.Common.{◌≡◌, ℕ, ◌+◌, ◌-◌, ◌^◌, ◌<◌, ◌≤◌, ◌==◌, ◌&&◌, Bool, true, false, cond, List, [], ◌∷◌, ◌++◌, length, Option, Some, None, is_some, refl, sym, ap, subst, ◌∙◌, arith}
-use Rattle.std.specs.Prelude.{slice_get, slice_set, map, reverse, slice_index, nat_lt, nat_eq, not, option_to_list}
-use Rattle.std.specs.Option.{option_map, option_eq}
+use Rattle.std.proofs.Common.{◌≡◌, ℕ, ◌+◌, ◌-◌, ◌<◌, ◌≤◌, true, cond, List, [], ◌∷◌, ◌++◌, length, Option, Some, None, is_some, refl, sym, ap, subst, ◌∙◌, arith}
+use Rattle.std.specs.Prelude.{slice_get, slice_set, map, reverse, slice_index, nat_lt}
+use Rattle.std.specs.Option.{option_map}
 use Rattle.std.specs.List.{AllByRecursion}
-use Rattle.std.proofs.lemmas.Bool.{false≢true, cases_Bool, cases_eq, ne_eqb, and_from, and_parts, eqb-true, ltb-true}
-use Rattle.std.proofs.lemmas.List.{reverse-append, append-nil}
+use Rattle.std.proofs.lemmas.Bool.{false≢true, ne_eqb, ltb-true}
+use Rattle.std.proofs.lemmas.List.{reverse-append}
 use Rattle.std.proofs.lemmas.List.Sums.{sum_by_push}
-use Rattle.std.proofs.lemmas.Option.{slice_get_within}
-use mathlib.Core.Logic.{inl, inr}
-use Rattle.txn_trace.specs.declared.op.Op.{Op}
-use Rattle.txn_trace.specs.declared.op.Op.TheVariants.{Put, Take, Get, PutIf}
+use Rattle.txn_trace.specs.declared.holder.Holder.TheVariants.{Now}
 use Rattle.txn_trace.specs.Map.{get, key_of, reply_of, after}
 use Rattle.txn_trace.specs.Now.{set_at}
 use Rattle.txn_trace.specs.Locks.{stripe_of}
@@ -18,10 +15,8 @@ use Rattle.txn_trace.specs.Shape.{changes}
 use Rattle.txn_trace.proofs.Acting.{get-after_other}
 use Rattle.txn_trace.proofs.Table.{get-set_at}
 use Rattle.txn_trace.proofs.Held.{waiting_held, log_held, held_apart}
-use Rattle.map_ops.specs.declared.job.MapJob.TheVariants.{Unput, Restore, Relink}
-use Rattle.map_ops.specs.Jobs.{takes_node, key_of_job, value_before, spare_of_job, unput, relink, job_of}
-use Rattle.map_ops.specs.TableAt.{SpareAt, Keeps, KeepsSpares, fits}
-use Rattle.map_ops.specs.Changes.{Spends, SpendsFor}
+use Rattle.map_ops.specs.Jobs.{takes_node, key_of_job, value_before, spare_of_job, job_of}
+use Rattle.map_ops.specs.TableAt.{Keeps}
 use Rattle.txn_trace.specs.declared.entry.Entry.TheVariants as entry
 use Rattle.txn_trace.specs.declared.step.Step.TheVariants as steps
 use Rattle.txn_trace.specs.declared.answer.Answer.TheVariants as answers
@@ -33,29 +28,29 @@ use Rattle.txn_trace.specs.Log.{log_of}
 use Rattle.txn_trace.specs.declared.seat.Phase.{Phase}
 use Rattle.txn_trace.specs.declared.seat.Phase.TheVariants.{Closed, Opened, Waiting, LeavingTo, LeavingToEnd}
 use Rattle.txn_trace.specs.Shape.{Seat}
-use Rattle.txn_trace.specs.Seats.{has_job, has_target}
+use Rattle.txn_trace.specs.Seats.{has_job}
 use Rattle.txn_trace.proofs.Next.{Next}
 use Rattle.txn_trace.proofs.Entries as laws
 use Rattle.undo_log.specs.UndoLog.{kept_at}
 use Rattle.map_ops.specs.declared.job.MapJob.{MapJob}
 use Rattle.map_ops.specs.Jobs.{PendingAt}
-use Rattle.map_ops.specs.TableAt.{TableAt, Cursor, content, cursor_turn, map_of, turn_of, IsPlaced}
+use Rattle.map_ops.specs.TableAt.{TableAt, Cursor, content, cursor_turn, turn_of}
 use Rattle.boost_core.specs.declared.session.Session.{Session}
-use Rattle.boost_core.specs.State.{Owner, Caller, Helper, seat_in, turn_in}
+use Rattle.boost_core.specs.State.{seat_in}
 use Rattle.boost_core.specs.Refusals.{refusal_of}
 use Rattle.boost_core.specs.Spares.{times_of, times_in, times_out, IsCovered}
-use Rattle.boost_core.specs.Core.{World, Tells, IsFresh, state_of, turn_at}
+use Rattle.boost_core.specs.Core.{World, Tells, state_of, turn_at}
 use Rattle.boost_core.proofs.Numbers.{no_more}
-use Rattle.boost_core.proofs.Moves.{Runs, runs_same, state_is, turns_set}
-use Rattle.boost_core.proofs.Grow.{world_after, seated_as, set_cases}
-use Rattle.boost_core.proofs.Outcomes.{Called, move_is, same_times}
-use Rattle.boost_core.specs.Answers.{IsReply, is_just_placed, may_be_stale}
-use Rattle.boost_core.specs.Sessions.{target_in, target_of, level_of, IsPlacedFor, IsSoughtAt, KeepsPlaced, Waits, spare_if, times_kept, change_of, changes_of, AreDue, SeeksIn, DoesIn, Drops, TakesBackIn}
-use Rattle.boost_core.proofs.Spares.{spent, still_covered}
+use Rattle.boost_core.proofs.Moves.{Runs, state_is, turns_set}
+use Rattle.boost_core.proofs.Grow.{world_after, seated_as}
+use Rattle.boost_core.proofs.Outcomes.{Called, move_is}
+use Rattle.boost_core.specs.Answers.{IsReply}
+use Rattle.boost_core.specs.Sessions.{target_in, level_of, IsSoughtAt, KeepsPlaced, Waits, spare_if, times_kept, change_of, changes_of, AreDue, DoesIn, TakesBackIn}
+use Rattle.boost_core.proofs.Spares.{spent}
 use Rattle.boost_core.proofs.Due.{NotedIf, noted, changes_noted, due_noted}
 use Rattle.boost_core.proofs.Sides.{IsGoing, going, waiting_op, changes_last}
-use Rattle.boost_core.proofs.Refused.{seat_here, turn_here}
-use Rattle.boost_core.proofs.SparesKept.{times_more, times_same, done_covered}
+use Rattle.boost_core.proofs.Refused.{seat_here}
+use Rattle.boost_core.proofs.SparesKept.{done_covered}
 
 pub keeps_runs : (t t' : TableAt) → Keeps t t' → turn_of t ≤ turn_of t' → Runs t t'
 keeps_runs t t' keeps turn = record {
@@ -113,7 +108,7 @@ module _ (w : World) (tells : Tells w) (c : ℕ) (x : Session) (at : slice_get w
     abbrev did_seat : Seat
     did_seat = record { phase = Opened; standing = cond (changes does.pending.op reply) (x.seat.seat.standing + 1) x.seat.seat.standing; kept = x.seat.seat.kept }
 
-    did_law : Next w.limits.stripes w.history (entry.Did c reply) did_seat (cond (changes does.pending.op reply) ((key_of does.pending.op, reply) ∷ log_of c w.history) (log_of c w.history)) (serial w.history) (after (now w.history) does.pending.op) (λ s. holder_of w.limits.stripes s w.history)
+    did_law : Next Now w.limits.stripes w.history (entry.Did c reply) did_seat (cond (changes does.pending.op reply) ((key_of does.pending.op, reply) ∷ log_of c w.history) (log_of c w.history)) (serial w.history) (after (now w.history) does.pending.op) (λ s. holder_of w.limits.stripes s w.history)
     did_law = laws.did w.limits.stripes w.history tells.legal c does.pending.op reply x.seat.seat (tells.seated c x at).seat phase_was reply_is
 
     did_log : cond (changes does.pending.op reply) ((key_of does.pending.op, reply) ∷ log_of c w.history) (log_of c w.history) ≡ changes_of y.log.jobs
@@ -140,7 +135,7 @@ module _ (w : World) (tells : Tells w) (c : ℕ) (x : Session) (at : slice_get w
         committed = serial w.history;
         current = after (now w.history) does.pending.op;
         holder = λ s. holder_of w.limits.stripes s w.history;
-        next = subst (λ l. Next w.limits.stripes w.history (entry.Did c reply) did_seat l (serial w.history) (after (now w.history) does.pending.op) (λ s. holder_of w.limits.stripes s w.history)) did_log did_law;
+        next = subst (λ l. Next Now w.limits.stripes w.history (entry.Did c reply) did_seat l (serial w.history) (after (now w.history) does.pending.op) (λ s. holder_of w.limits.stripes s w.history)) did_log did_law;
         mine = refl;
         same_seat = does.seat;
         saved = λ is. absurd (false≢true is);
@@ -192,7 +187,7 @@ module _ (w : World) (tells : Tells w) (c : ℕ) (x : Session) (at : slice_get w
         omega arith
 
     undone_law : (q : Phase) → x.seat.seat.phase ≡ q → IsGoing q × (nat_lt (kept_at x.log.kept (level_of q)) (length x.log.jobs) ≡ true)
-        → Next w.limits.stripes w.history (entry.Undone c) undone_seat (changes_of y.log.jobs) (serial w.history) undone_map (λ s. holder_of w.limits.stripes s w.history)
+        → Next Now w.limits.stripes w.history (entry.Undone c) undone_seat (changes_of y.log.jobs) (serial w.history) undone_map (λ s. holder_of w.limits.stripes s w.history)
     undone_law Closed is so = absurd so.0
     undone_law Opened is so = absurd so.0
     undone_law (Waiting op) is so = absurd so.0

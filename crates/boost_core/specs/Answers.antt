@@ -1,5 +1,6 @@
 -- What a step that is not refused may be answered, and the state after it.
 use Rattle.std.specs.Prelude.{◌≡◌, ℕ, ◌+◌, ◌*◌, ◌-◌, ◌^◌, ◌==◌, Bool, true, false, not, nat_lt, ◌&&◌, IsTrue, List, ◌++◌, Option, Some, None, length, slice_set}
+use Rattle.txn_trace.specs.declared.holder.Holder.TheVariants.{Now}
 use Rattle.txn_trace.specs.declared.step.Step.{Step}
 use Rattle.txn_trace.specs.declared.step.Step.TheVariants.{Begin, Ask, Seek, Act, Save, Back, Commit, Abort, Sweep, InitSeek, InitLink, InitStore, Double}
 use Rattle.txn_trace.specs.declared.answer.Answer.{Answer}
@@ -75,10 +76,10 @@ abbrev pub IsAnswer : State → Step → Answer → Type 0
 IsAnswer state (Begin c) (answers.Began t) = t ≡ how_many is_began state.history + 1
 IsAnswer state (Ask c op) answers.Asked =
     IsTrue
-    (has_stamp_for state op && is_locked state.limits.stripes state.history (entries.Asked c op))
+    (has_stamp_for state op && is_locked Now state.limits.stripes state.history (entries.Asked c op))
 IsAnswer state (Ask c op) (answers.Busy x) =
     IsTrue
-    (has_stamp_for state op && is_locked state.limits.stripes state.history (entries.Busy c op x))
+    (has_stamp_for state op && is_locked Now state.limits.stripes state.history (entries.Busy c op x))
 IsAnswer state (Seek c) answers.Placed = Unit {0}
 IsAnswer state (Act c) answers.Again =
     IsTrue (has_target (seat_in state.history c) && may_be_stale state (Caller c))

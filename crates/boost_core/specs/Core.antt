@@ -3,6 +3,7 @@ use Rattle.std.specs.Prelude.{◌≡◌, ℕ, ◌+◌, ◌<◌, ◌≤◌, true,
 use Rattle.std.specs.Option.{option_map}
 use Rattle.std.specs.Global.{Vec}
 use Rattle.std.specs.List.{All}
+use Rattle.txn_trace.specs.declared.holder.Holder.TheVariants.{Now}
 use Rattle.txn_trace.specs.declared.entry.Entry.{Entry}
 use Rattle.txn_trace.specs.Sizes.{Sizes}
 use Rattle.txn_trace.specs.History.{caller_of, is_began, is_commit}
@@ -15,7 +16,7 @@ use Rattle.key_locks.specs.Locks.{holder_of as held_by}
 use Rattle.node_list.specs.Nodes.{node_of}
 use Rattle.node_list.specs.Sound.{IsSound}
 use Rattle.list_steps.specs.Found.{pred_of, behind}
-use Rattle.map_ops.specs.TableAt.{TableAt, Cursor, NodeAt, nodes_of, content, cursor_turn, fits, size_of, stored_of, linked_of, helps_of, turn_of, last_of, largest_of}
+use Rattle.map_ops.specs.TableAt.{TableAt, Cursor, NodeAt, nodes_of, content, cursor_turn, fits, size_of, stored_of, linked_of, helps_of, cursors_of, turn_of, last_of, largest_of}
 use Rattle.map_ops.specs.Buckets.{helper_fits}
 use Rattle.boost_core.specs.declared.counts.Counts.{Counts}
 use Rattle.boost_core.specs.declared.session.Session.{Session}
@@ -76,6 +77,10 @@ gap_if t (Some cursor) = gap_of t cursor
 abbrev pub gap_by : TableAt → Session → Option Gap
 gap_by t s = gap_if t s.cursor
 
+-- Those of each helper's cursor.
+abbrev pub helper_gaps_of : TableAt → List (Option Gap)
+helper_gaps_of t = map (gap_if t) (cursors_of t)
+
 -- The state of the machine.
 abbrev pub state_of : World → State
 state_of w = record {
@@ -89,6 +94,7 @@ state_of w = record {
   stamp = last_of w.table;
   cursors = map turn_at w.sessions;
   gaps = map (gap_by w.table) w.sessions;
+  helper_gaps = helper_gaps_of w.table;
   helpers = helps_of w.table;
   placed = w.placed;
 }
@@ -116,7 +122,7 @@ IsFresh t sessions (Some (Helper h)) = helper_fits t h ≡ true
 -- The history is legal, and the counts, the stripes' holders, the table and each caller's side are
 -- what it says.
 pub record Tells (w : World) : Type 0 where
-  pub legal : IsLegal w.limits.stripes w.history
+  pub legal : IsLegal Now w.limits.stripes w.history
   pub callers : All (λ entry. caller_of entry < w.limits.callers) w.history
   pub begins : w.counts.began ≡ how_many is_began w.history
   pub commits : w.counts.committed ≡ how_many is_commit w.history

@@ -22,7 +22,11 @@ IsAllowed state step answer = (refusal_of state step ≡ None) × IsAnswer state
 pub record Move (old : State) (step : Step) (answer : Answer) (new : State) : Type 0 where
   pub allowed : IsAllowed old step answer
   pub state : new
-      ≡ record (after old step answer new.changes new.stamp) { nodes = new.nodes; gaps = new.gaps }
+      ≡ record (after old step answer new.changes new.stamp) {
+        nodes = new.nodes;
+        gaps = new.gaps;
+        helper_gaps = new.helper_gaps;
+      }
   pub changes : old.changes ≤ new.changes
   pub list_kept : keeps_list answer ≡ true → new.changes ≡ old.changes
   pub stamp : old.stamp ≤ new.stamp

@@ -1,5 +1,5 @@
--- What each step does to the linked nodes, to the change number and to the last stamp, and whose
--- cursors fit.
+-- What each step does to the linked nodes, to the change number and to the last stamp, and which
+-- cursors of callers and helpers fit.
 use Rattle.std.specs.Prelude.{◌≡◌, ◌≢◌, ℕ, ◌+◌, ◌-◌, ◌%◌, ◌<◌, Bool, true, false, not, List, [], ◌∷◌, ◌++◌, Option, Some, None, is_some, length, filter, nat_eq, if◌then◌else◌}
 use Rattle.std.specs.Option.{option_eq}
 use Rattle.std.specs.List.{AllByRecursion}
@@ -19,7 +19,8 @@ use Rattle.txn_trace.specs.Now.{now}
 use Rattle.txn_trace.specs.Log.{log_of}
 use Rattle.map_ops.specs.Jobs.{takes_node}
 use Rattle.map_ops.specs.Buckets.{parent_of}
-use Rattle.boost_core.specs.State.{State, Node, Gap, SortKey, Caller, plain_node, marked_node, seat_in, gap_in, help_in, is_set, bucket_at}
+use Rattle.txn_trace.specs.declared.refusal.Refusal.TheVariants.{NoMemory, StampsUsedUp}
+use Rattle.boost_core.specs.State.{State, Node, Gap, SortKey, Owner, Caller, Helper, plain_node, marked_node, seat_in, gap_for, help_in, is_set, bucket_at}
 use Rattle.boost_core.specs.Refusals.{owner_of}
 
 -- Each node stands before all that follow it.
@@ -188,33 +189,49 @@ pub record AreNeighbours (nodes : List Node) (gap : Gap) : Type 0 where
   pub nodes_are : nodes ≡ front ++ plain_node gap.before ∷ back
   pub next : StartsAt back gap.behind
 
--- The key's place is between the two.
-pub record IsBetween (gap : Gap) (key : ℕ) : Type 0 where
-  pub before : IsBefore gap.before (regular_at key)
-  pub behind : (at : SortKey) → gap.behind ≡ Some at → IsNotBefore at (regular_at key)
+-- The place of this sort key is between the two.
+pub record IsBetween (gap : Gap) (at : SortKey) : Type 0 where
+  pub before : IsBefore gap.before at
+  pub behind : (next : SortKey) → gap.behind ≡ Some next → IsNotBefore next at
 
--- A caller has a cursor that fits, between the two nodes beside the key's place.
-pub record StandsAt (state : State) (c key : ℕ) : Type 0 where
+-- An owner has a cursor that fits.
+abbrev pub HasFit : State → Owner → Type 0
+HasFit state owner = is_some (gap_for state owner) ≡ true
+
+-- It stands between the two nodes beside the place of this sort key.
+pub record StandsAt (state : State) (owner : Owner) (at : SortKey) : Type 0 where
   pub gap : Gap
-  pub has : gap_in state.gaps c ≡ Some gap
+  pub has : gap_for state owner ≡ Some gap
   pub neighbours : AreNeighbours state.nodes gap
-  pub between : IsBetween gap key
+  pub between : IsBetween gap at
 
--- A seek gives a cursor that fits, and an act is answered `again` exactly where it fits no longer.
+-- A seek gives a cursor that fits, and an act of a caller or a link of a helper is answered `again`
+-- exactly where it fits no longer. A link is refused memory or a stamp only where it fits.
 abbrev pub Fits : State → Step → Answer → State → Type 0
-Fits old (Seek c) answers.Placed new = StandsAt new c (next_key old c)
-Fits old (Act c) answers.Again new = gap_in old.gaps c ≡ None
-Fits old (Act c) (answers.Done reply) new = is_some (gap_in old.gaps c) ≡ true
-Fits old (Act c) answers.Undone new = is_some (gap_in old.gaps c) ≡ true
+Fits old (Seek c) answers.Placed new = StandsAt new (Caller c) (regular_at (next_key old c))
+Fits old (Act c) answers.Again new = gap_for old (Caller c) ≡ None
+Fits old (Act c) (answers.Done reply) new = HasFit old (Caller c)
+Fits old (Act c) answers.Undone new = HasFit old (Caller c)
+Fits old (InitSeek h b) answers.Placed new = StandsAt new (Helper h) (dummy_at b)
+Fits old (InitLink h) answers.Again new = gap_for old (Helper h) ≡ None
+Fits old (InitLink h) answers.Present new = HasFit old (Helper h)
+Fits old (InitLink h) answers.Linked new = HasFit old (Helper h)
+Fits old (InitLink h) (answers.Refused NoMemory) new = HasFit old (Helper h)
+Fits old (InitLink h) (answers.Refused StampsUsedUp) new = HasFit old (Helper h)
 Fits old step answer new = Unit {0}
 
--- The cursor of each caller whose step it is not fits still, where its two nodes are still side by
--- side: what is done at a distance costs it nothing.
-abbrev pub KeepsGaps : State → Step → State → Type 0
-KeepsGaps old step new = (c : ℕ) (gap : Gap) → owner_of step ≢ Some (Caller c)
-    → gap_in old.gaps c ≡ Some gap → AreNeighbours new.nodes gap → gap_in new.gaps c ≡ Some gap
+-- Whose cursor a step and its answer may move: its own caller's or helper's, unless it is refused.
+abbrev pub mover_of : Step → Answer → Option Owner
+mover_of step (answers.Refused refusal) = None
+mover_of step answer = owner_of step
 
--- What a step does to the callers' cursors.
+-- The cursor of each other caller and helper fits still, where its two nodes are still side by
+-- side: what is done at a distance costs it nothing.
+abbrev pub KeepsGaps : State → Step → Answer → State → Type 0
+KeepsGaps old step answer new = (owner : Owner) (gap : Gap) → mover_of step answer ≢ Some owner
+    → gap_for old owner ≡ Some gap → AreNeighbours new.nodes gap → gap_for new owner ≡ Some gap
+
+-- What a step does to the cursors of callers and of helpers.
 pub record Cursors (old : State) (step : Step) (answer : Answer) (new : State) : Type 0 where
   pub fits : Fits old step answer new
-  pub keeps : KeepsGaps old step new
+  pub keeps : KeepsGaps old step answer new

@@ -1,11 +1,18 @@
 -- The plain calls: moves of one caller with none between, of which none is answered `again`.
-use Rattle.std.specs.Prelude.{◌≡◌, ℕ, zero, suc, Bool, true, false, List, [], ◌∷◌}
+use Rattle.std.specs.Prelude.{◌≡◌, ℕ, ◌%◌, zero, suc, Bool, true, false, nat_le, List, [], ◌∷◌, Option, Some, Result, Ok, Err}
 use Rattle.txn_trace.specs.declared.op.Op.{Op}
 use Rattle.txn_trace.specs.declared.step.Step.{Step}
 use Rattle.txn_trace.specs.declared.step.Step.TheVariants.{Ask, Seek, Act, Back, Abort}
 use Rattle.txn_trace.specs.declared.answer.Answer.{Answer}
 use Rattle.txn_trace.specs.declared.answer.Answer.TheVariants as answers
-use Rattle.boost_core.specs.State.{State, seat_in}
+use Rattle.txn_trace.specs.declared.refusal.Refusal.{Refusal}
+use Rattle.txn_trace.specs.declared.refusal.Refusal.TheVariants.{NoSuchHelper, BadKey, NoMemory, StampsUsedUp}
+use Rattle.txn_drive.specs.declared.call.Call.TheVariants as calls
+use Rattle.txn_drive.specs.declared.drive.Drive.{Drive}
+use Rattle.txn_drive.specs.declared.«end».End.{End}
+use Rattle.txn_drive.specs.declared.«end».End.TheVariants as ends
+use Rattle.txn_drive.specs.Drives.{new_drive, sized_of, step_of, told_of, end_of}
+use Rattle.boost_core.specs.State.{State, seat_in, is_set}
 use Rattle.boost_core.specs.Answers.{is_at_end}
 use Rattle.boost_core.specs.Machine.{Move, Moves}
 
@@ -55,3 +62,36 @@ Aborts old c answers.Aborted new =
     × Ends left c answers.Aborted new
 Aborts old c answer new =
     (is_at_end (seat_in old.history c).phase ≡ false) × Move old (Abort c) answer new
+
+-- So many moves of a drive, with none of another's between: each is the step that the drive names
+-- at the size of that moment, and the drive is told the answer.
+abbrev pub Drives : ℕ → Drive → State → Drive → State → Type 0
+Drives zero drive old last new = (last ≡ drive) × (new ≡ old)
+Drives (suc moves) drive old last new =
+    (step : Step) × (answer : Answer) × (between : State)
+    × (step_of (sized_of old.size drive) ≡ Some step) × Move old step answer between
+    × Drives moves (told_of (sized_of old.size drive) answer) between last new
+
+-- A caller's call for help, from its first move to this end.
+pub record HelpsTo (outcome : End) (old : State) (c key : ℕ) (new : State) : Type 0 where
+  pub moves : ℕ
+  pub last : Drive
+  pub drives : Drives moves (new_drive old.limits.half c (calls.Help key)) old last new
+  pub ended : end_of last ≡ Some outcome
+
+-- A caller helps: the bucket of the key is initialised then. Or the call is refused, at its
+-- beginning for its key, or later for want of memory or of stamps; or there is no such caller, and
+-- that is all.
+abbrev pub Helps : State → ℕ → ℕ → Result Unit Refusal → State → Type 0
+Helps old c key (Ok done) new =
+    HelpsTo ends.Helped old c key new × (is_set new.stored (key % new.size) ≡ true)
+Helps old c key (Err NoSuchHelper) new = (nat_le old.limits.callers c ≡ true) × (new ≡ old)
+Helps old c key (Err BadKey) new = HelpsTo (ends.Refused BadKey) old c key new
+Helps old c key (Err NoMemory) new = HelpsTo (ends.Refused NoMemory) old c key new
+Helps old c key (Err StampsUsedUp) new = HelpsTo (ends.Refused StampsUsedUp) old c key new
+Helps old c key (Err refusal) new = ⊥
+
+-- What such a call comes to, by how its drive ended.
+abbrev pub outcome_of : Option End → Result Unit Refusal
+outcome_of (Some (ends.Refused refusal)) = Err refusal
+outcome_of outcome = Ok tt

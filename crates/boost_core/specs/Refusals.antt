@@ -9,7 +9,7 @@ use Rattle.txn_trace.specs.declared.step.Step.TheVariants.{Begin, Ask, Seek, Act
 use Rattle.txn_trace.specs.declared.refusal.Refusal.{Refusal}
 use Rattle.txn_trace.specs.declared.refusal.Refusal.TheVariants.{NoSuchCaller, Unplaced, NoSuchBucket, ParentMissing, NoSuchHelper, HelperOutOfOrder, NoMemory, StampsUsedUp}
 use Rattle.txn_trace.specs.Shape.{Seat}
-use Rattle.map_ops.specs.Buckets.{parent_of}
+use Rattle.map_ops.specs.Buckets.{parent_of, LacksSegment}
 use Rattle.boost_core.specs.State.{State, Owner, Caller, Helper, Help, Sought, Dummy, seat_in, turn_in, help_in, is_set, bucket_at}
 
 -- Whose a step is, if it is a caller's or a helper's.
@@ -96,4 +96,6 @@ MayLack state (Save c) NoMemory = Unit {0}
 MayLack state (Back c n) NoMemory = Unit {0}
 MayLack state (InitLink h) NoMemory = IsTrue (lacks_dummy state h && has_stamp state)
 MayLack state (InitLink h) StampsUsedUp = IsTrue (lacks_dummy state h && not (has_stamp state))
+MayLack state (InitStore h) NoMemory =
+    LacksSegment state.stored (bucket_at (help_in state.helpers h))
 MayLack state step refusal = ⊥

@@ -18,7 +18,7 @@ use Rattle.map_ops.specs.TableAt.{TableAt, SweepOutcome, Keeps, KeepsList, Keeps
 use Rattle.map_ops.specs.TableAt as tables
 use Rattle.map_ops.specs.SweepOutcome.TheVariants as outcomes
 use Rattle.map_ops.specs.Changes.{Sweeps}
-use Rattle.map_ops.specs.Buckets.{SeekChanges, SeekWrites, LinkChanges, LinkWrites, StoreChanges, Doubles, seek_answer, link_answer_of, store_answer, double_answer}
+use Rattle.map_ops.specs.Buckets.{SeekChanges, SeekWrites, LinkChanges, LinkWrites, StoreChanges, LacksSegment, Doubles, seek_answer, link_answer_of, store_answer, double_answer}
 
 -- Whether a step is no caller's.
 abbrev pub is_served : Step → Bool
@@ -90,7 +90,10 @@ pub record Linking (t t' : TableAt) (h : ℕ) (answer : Answer) : Type 0 where
 pub record Storing (t t' : TableAt) (h : ℕ) (answer : Answer) : Type 0 where
   pub outcome : Result Unit Refusal
   pub answer_is : answer ≡ stored outcome
-  pub says : outcome ≡ store_answer (slice_get (helps_of t) h)
+  pub says : outcome ≢ Err refusals.NoMemory → outcome ≡ store_answer (slice_get (helps_of t) h)
+  pub no_memory : outcome ≡ Err refusals.NoMemory → store_answer (slice_get (helps_of t) h) ≡ Ok tt
+  pub lacks : (bucket : ℕ) → slice_get (helps_of t) h ≡ Some (tables.Dummy bucket)
+      → outcome ≡ Err refusals.NoMemory → LacksSegment (stored_of t) bucket
   pub changes : StoreChanges t t' h outcome
   pub list : KeepsList t t'
 

@@ -29,8 +29,8 @@ pub record Gap : Type 0 where
 
 -- The limits, the history, the size, for each bucket whether it is stored and whether its dummy is
 -- linked, the linked nodes in order, the list's change number, the last stamp given, for each
--- caller the turn of its cursor and, where that fits, the nodes between which it stands, what each
--- helper has, and whose cursor the last move placed.
+-- caller the turn of its cursor and, where that fits, the nodes between which it stands, the same
+-- nodes for each helper, what each helper has, and whose cursor the last move placed.
 pub record State : Type 0 where
   pub limits : Sizes
   pub history : List Entry
@@ -42,6 +42,7 @@ pub record State : Type 0 where
   pub stamp : ℕ
   pub cursors : List (Option ℕ)
   pub gaps : List (Option Gap)
+  pub helper_gaps : List (Option Gap)
   pub helpers : List Help
   pub placed : Option Owner
 
@@ -59,6 +60,7 @@ start limits = record {
   stamp = 0;
   cursors = replicate limits.callers None;
   gaps = replicate limits.callers None;
+  helper_gaps = replicate limits.callers None;
   helpers = replicate limits.callers Nothing;
   placed = None;
 }
@@ -72,9 +74,14 @@ seat_in history c = unwrap_or (seat_after (own c history)) closed_seat
 abbrev pub turn_in : List (Option ℕ) → ℕ → Option ℕ
 turn_in cursors c = unwrap_or (slice_get cursors c) None
 
--- The nodes between which a caller's cursor stands, if it has one that fits.
+-- The nodes between which one of these cursors stands, if it is there and fits.
 abbrev pub gap_in : List (Option Gap) → ℕ → Option Gap
-gap_in gaps c = unwrap_or (slice_get gaps c) None
+gap_in gaps n = unwrap_or (slice_get gaps n) None
+
+-- The same of an owner's cursor.
+abbrev pub gap_for : State → Owner → Option Gap
+gap_for state (Caller c) = gap_in state.gaps c
+gap_for state (Helper h) = gap_in state.helper_gaps h
 
 -- What a helper has, if there is one of this number.
 abbrev pub help_in : List Help → ℕ → Help

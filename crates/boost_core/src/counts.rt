@@ -14,6 +14,7 @@ impl Counts {
     ghost use Rattle.boost_core.specs.Counts.{counts_after};
 
     /// The counts after an answer, which gives the new number.
+    #[inline(always)]
     pub(crate) fn after(self, answer: Answer) -> Counts
         ensures { result ≡ counts_after self answer }
     {

@@ -18,8 +18,8 @@
 //! a `Drive`.
 //!
 //! A step costs what it does on the table and takes no memory but to begin, to ask, to save, to go
-//! back and to link a bucket: all that an operation and its undoing want is reserved when it is
-//! asked for.
+//! back, to link a bucket and to store the first bucket of a segment: all that an operation and its
+//! undoing want is reserved when it is asked for.
 #![tactic(auto)]
 
 mod adding;

@@ -1,6 +1,7 @@
 //! The core.
 ghost use Rattle.std.specs.Prelude.{◌≡◌, ℕ, ◌<◌, true, is_some, Some, IfOk, IfErr, OnErr, length};
 ghost use Rattle.std.specs.List.{All};
+ghost use Rattle.txn_trace.specs.declared.holder.Holder.TheVariants.{Now};
 ghost use Rattle.txn_trace.specs.Map.{count_of};
 ghost use Rattle.txn_trace.specs.History.{caller_of};
 ghost use Rattle.txn_trace.specs.Now.{now};
@@ -107,13 +108,14 @@ impl Core {
 
     /// Takes one step, which makes a move of the machine: what it is answered, and the state after
     /// it, are those that `specs/Machine.antt` allows. What becomes of the linked nodes and of the
-    /// callers' cursors stands in `specs/Nodes.antt`.
+    /// cursors of callers and helpers stands in `specs/Nodes.antt`.
     ///
     /// The first refusal whose test holds is the answer, and a refusal leaves the state as it was.
-    /// `NoMemory` comes only from `Begin`, `Ask`, `Save`, `Back` and `InitLink`, and behind all
-    /// tests; so no caller wants memory to seek, to act, to commit or to abort. `Again` comes
-    /// exactly where the cursor fits no longer, and drops it: so never where the two nodes beside
-    /// it were side by side all the time, whatever was done elsewhere.
+    /// `NoMemory` comes only from `Begin`, `Ask`, `Save`, `Back`, `InitLink` and `InitStore`,
+    /// behind all tests; so no caller wants memory to seek, to act, to commit or to abort.
+    /// `InitStore` answers it only where no bucket of its segment of 64 is stored. `Again` comes
+    /// exactly where the cursor of the caller or the helper fits no longer, and drops it: so never
+    /// where the two nodes beside it were side by side all the time, whatever was done elsewhere.
     ///
     /// A seek walks from the nearest initialised bucket on, a commit and the end of an abort take a
     /// step for each job and each stripe of the transaction, a sweep walks up to the first marked
@@ -123,15 +125,16 @@ impl Core {
         ensures lists { Lists self.old step result self.new }
         ensures cursors { Cursors self.old step result self.new }
     {
+        // An arm each, so that `call` is compiled for each kind of step by itself.
         match step {
-            Step::Begin(caller)
-            | Step::Ask(caller, _)
-            | Step::Seek(caller)
-            | Step::Act(caller)
-            | Step::Save(caller)
-            | Step::Back(caller, _)
-            | Step::Commit(caller)
-            | Step::Abort(caller) => self.call(caller, step),
+            Step::Begin(caller) => self.call(caller, Step::Begin(caller)),
+            Step::Ask(caller, op) => self.call(caller, Step::Ask(caller, op)),
+            Step::Seek(caller) => self.call(caller, Step::Seek(caller)),
+            Step::Act(caller) => self.call(caller, Step::Act(caller)),
+            Step::Save(caller) => self.call(caller, Step::Save(caller)),
+            Step::Back(caller, level) => self.call(caller, Step::Back(caller, level)),
+            Step::Commit(caller) => self.call(caller, Step::Commit(caller)),
+            Step::Abort(caller) => self.call(caller, Step::Abort(caller)),
             Step::Sweep
             | Step::InitSeek(..)
             | Step::InitLink(_)
@@ -142,6 +145,7 @@ impl Core {
 
     /// Takes a step of a caller. What it asks for is done on the caller's side, the table and the
     /// locks; then the entry is added, and whose cursor was placed is noted.
+    #[inline(always)]
     pub(crate) fn call(&mut self, caller: u64, step: Step) -> Answer
         requires { owner_of step ≡ Some (Owner.Caller caller) }
         ensures moves { Move self.old step result self.new }
@@ -213,7 +217,7 @@ impl Core {
         ensures shape { HasShape self.now }
         ensures locks { KeepsLocks self.now }
         ensures replies { KeepsReplies self.now }
-        ensures legal { IsLegal self.now.limits.stripes self.now.history }
+        ensures legal { IsLegal Now self.now.limits.stripes self.now.history }
         ensures callers { All (λ entry. caller_of entry < self.now.limits.callers)
             self.now.history }
         ensures whole { IsWhole self.now }
@@ -246,6 +250,13 @@ impl Core {
         ensures { IfOk result (λ pairs. IsRegular self.now pairs.items) }
     {
         self.table.regular_list(alloc)
+    }
+
+    /// The limits that it was made with: no step changes them. Constant time.
+    pub fn limits(&self) -> Limits
+        ensures { result ≡ self.now.limits }
+    {
+        self.limits
     }
 
     /// The size: how many buckets there are now. Constant time.

@@ -15,6 +15,7 @@ pub enum Owner {
 }
 
 /// Whose cursor was placed last, after a step and its answer: a refusal leaves what was before.
+#[inline(always)]
 pub(crate) fn placed_after(before: Option<Owner>, step: Step, answer: Answer) -> Option<Owner>
     ensures { result ≡ placed_then before step answer }
 {

@@ -1,17 +1,22 @@
 //! The plain calls: several steps of one caller, with none of another between.
 ghost use Rattle.std.specs.Prelude.{◌≡◌, true, false, nat_le};
+ghost use Rattle.boost_core.specs.Plain.{outcome_of};
 
 use crate::machine::Core;
-use txn_trace::{Answer, Op, Step};
+use txn_drive::{Call, Drive, End, Turn};
+use txn_trace::{Answer, Op, Refusal, Step};
 
 impl Core {
     ghost use Rattle.boost_core.specs.Answers.{end_of, is_at_end};
-    ghost use Rattle.boost_core.specs.Plain.{Aborts, Ends, Operates, Returns};
+    ghost use Rattle.boost_core.specs.Plain.{Aborts, Ends, Helps, Operates, Returns};
     ghost use Rattle.boost_core.specs.Refusals.{has_job, is_leaving};
     ghost use Rattle.boost_core.specs.State.{seat_in};
+    ghost use Rattle.boost_core.specs.Whole.{IsWhole};
+    ghost use Rattle.txn_drive.specs.Drives.{sized_of, step_of};
 
     /// Puts a value at a key: asks, seeks and acts. `Again` is never met. One step a node from the
-    /// nearest bucket on: the table does not grow by itself, since nothing doubles it but `Double`.
+    /// nearest bucket on. Nothing doubles by itself: a table that nobody doubles, by `help` or
+    /// `Double`, is one long list, through which each seek walks.
     ///
     /// The answer is `Done` with the reply, or the first that is not `Asked`: `Busy`, where another
     /// caller holds the key's stripe and this one now leaves to the end, or a refusal, which leaves
@@ -81,6 +86,49 @@ impl Core {
         }
     }
 
+    /// Helps the table to grow, as a call `Help` of a drive does, with none between: doubles it
+    /// where it has more than two keys a bucket, and then initialises the bucket of a key at the
+    /// size that the table has then, the buckets above it first. It needs no transaction, and map
+    /// and history stay. Nothing else doubles a table: call it beside `put`, or each seek walks one
+    /// long list.
+    ///
+    /// # Errors
+    ///
+    /// Buckets that are initialised stay so:
+    /// - `NoSuchHelper` where there is no caller of this number: nothing is done.
+    /// - `BadKey` where the limits have half keys and the key is 2^63 or more: nothing is done.
+    /// - `StampsUsedUp` where none is left, and `NoMemory` where memory is refused.
+    ///
+    /// # Cost
+    ///
+    /// A step to double, and three for each bucket that is initialised, of which there are at most
+    /// 16; a step a node where a bucket is sought.
+    pub fn help(&mut self, caller: u64, key: u64) -> Result<(), Refusal>
+        ensures { Helps self.old caller key result self.new }
+    {
+        if caller >= u64::from(self.limits.callers()) {
+            return Err(Refusal::NoSuchHelper);
+        }
+        let mut drive = Drive::new(caller, Call::Help(key), self.limits);
+        while let Some(step) = self.next_step(&mut drive) {
+            let answer = self.step(step);
+            drive.told(answer);
+        }
+        outcome_of(drive.ended())
+    }
+
+    /// The step that a drive takes next, if it has one, at the size that the table has now.
+    fn next_step(&self, drive: &mut Drive) -> Option<Step>
+        ensures whole { IsWhole self.now }
+        ensures drive { drive.new ≡ sized_of self.now.size drive.old }
+        ensures step { result ≡ step_of drive.new }
+    {
+        match drive.turn(self.table.size()) {
+            Turn::One(step) | Turn::Two(step, _) => Some(step),
+            Turn::Ended(_) => None,
+        }
+    }
+
     /// Asks for an operation, seeks and acts.
     fn operate(&mut self, caller: u64, op: Op) -> Answer
         ensures { Operates self.old caller op result self.new }
@@ -127,5 +175,15 @@ impl Core {
             Some(session) => session.leaves_to_end(),
             None => false,
         }
+    }
+}
+
+/// What a call for help comes to, by how its drive ended.
+fn outcome_of(end: Option<End>) -> Result<(), Refusal>
+    ensures { result ≡ outcome_of end }
+{
+    match end {
+        Some(End::Refused(refusal)) => Err(refusal),
+        _ => Ok(()),
     }
 }

@@ -1,4 +1,7 @@
 //! Worked runs on the core, and what refused memory leaves.
+mod pairs;
+mod plain_map;
+
 use crate::Core;
 use std::alloc::{AllocError, Global};
 use std::process::Abort;
@@ -7,7 +10,11 @@ use txn_trace::{Answer, Entry, Limits, Op, Refusal, Step};
 
 /// A core of so many callers, with 8 stripes and at most 8 buckets.
 fn core_of(alloc: Global, callers: u64) -> Result<Core, Fail> {
-    let limits = Limits::new(callers, 8, 8)?;
+    core_with(alloc, Limits::new(callers, 8, 8)?)
+}
+
+/// A core of these limits. Asks again where memory is refused once.
+fn core_with(alloc: Global, limits: Limits) -> Result<Core, Fail> {
     match Core::new(alloc, limits) {
         Ok(core) => Ok(core),
         Err(_) => Ok(Core::new(alloc, limits)?),
@@ -289,6 +296,77 @@ fn five_callers_undone(rt: HostRuntime) -> Result<(), Fail> {
     Ok(())
 }
 
+/// Takes a step, and takes it once more where it is refused memory.
+fn takes(
+    rt: &impl Abort,
+    alloc: Global,
+    core: &mut Core,
+    step: Step,
+    wanted: Answer,
+) -> Result<(), Fail> {
+    if !took(rt, alloc, core, step, wanted)? {
+        assert_eq!(rt; core.step(step), wanted, "again at {step:?}");
+    }
+    Ok(())
+}
+
+/// Bucket 64 is the first of the second segment, so its store takes memory. Also run with each
+/// allocation refused in turn.
+#[test]
+fn segments(rt: HostRuntime) -> Result<(), Fail> {
+    let alloc = rt.alloc();
+    let mut core = core_with(alloc, Limits::new(1, 8, 128)?)?;
+    takes(&rt, alloc, &mut core, Step::Begin(0), Answer::Began(1))?;
+    for key in 0..129 {
+        let put = Step::Ask(0, Op::Put(key, key));
+        takes(&rt, alloc, &mut core, put, Answer::Asked)?;
+        takes(&rt, alloc, &mut core, Step::Seek(0), Answer::Placed)?;
+        takes(&rt, alloc, &mut core, Step::Act(0), Answer::Done(None))?;
+    }
+    for (seen, size) in [(2, 4), (4, 8), (8, 16), (16, 32), (32, 64), (64, 128)] {
+        let doubled = Answer::Doubled(size);
+        takes(&rt, alloc, &mut core, Step::Double(seen), doubled)?;
+    }
+    let missing = Answer::Refused(Refusal::ParentMissing);
+    let lines = [
+        (Step::Double(128), Answer::AtLimit),
+        (Step::InitSeek(0, 96), missing),
+        (Step::InitSeek(0, 64), Answer::Placed),
+        (Step::InitLink(0), Answer::Linked),
+        (Step::InitStore(0), Answer::Stored),
+        (Step::InitSeek(0, 64), Answer::Ready),
+        (Step::Commit(0), Answer::Committed(1)),
+    ];
+    for (step, wanted) in lines {
+        takes(&rt, alloc, &mut core, step, wanted)?;
+    }
+    assert_eq!(rt; (core.size(), core.count()), (128, 129));
+    Ok(())
+}
+
+/// Nine changes of one transaction, of which eight jobs stand in the caller's log itself: each step
+/// back takes the newest key out, and leaves those before it.
+#[test]
+fn nine_undone_newest_first(rt: HostRuntime) -> Result<(), Fail> {
+    let alloc = rt.alloc();
+    let mut core = core_of(alloc, 1)?;
+    assert_eq!(rt; core.step(Step::Begin(0)), Answer::Began(1));
+    for key in 1..10 {
+        assert_eq!(rt; core.put(0, key, 10), Answer::Done(None));
+    }
+    assert_eq!(rt; core.step(Step::Abort(0)), Answer::Leaving);
+    for key in [9, 8, 7, 6, 5, 4, 3, 2, 1] {
+        assert_eq!(rt; core.step(Step::Seek(0)), Answer::Placed);
+        assert_eq!(rt; core.step(Step::Act(0)), Answer::Undone);
+        let pairs = pairs_of(alloc, &core)?;
+        assert_eq!(rt; (pairs.len() as u64).wrapping_add(1), key);
+        assert!(rt; pairs.iter().all(|pair| pair.0 < key));
+    }
+    assert_eq!(rt; core.step(Step::Act(0)), Answer::Aborted);
+    assert_eq!(rt; (core.size(), core.count()), (2, 0));
+    Ok(())
+}
+
 /// Two for an open transaction and one for each change that stands; two more for a put that waits
 /// and one for a get; one more on the way to a level.
 #[test]
@@ -320,7 +398,8 @@ fn owed_entries(rt: HostRuntime) -> Result<(), Fail> {
 }
 
 /// Each marked node is swept by a sweep of its own. And an act is done at its cursor although the
-/// list has changed elsewhere since its seek, and although another caller has read.
+/// list has changed elsewhere since its seek, and although another caller has read; a helper's
+/// dummy is linked although the list has changed elsewhere.
 #[test]
 fn sweeps_and_cursors(rt: HostRuntime) -> Result<(), Fail> {
     let alloc = rt.alloc();
@@ -343,10 +422,14 @@ fn sweeps_and_cursors(rt: HostRuntime) -> Result<(), Fail> {
         (Call::Put(1, 8, 80), Answer::Done(None)),
         (Call::Get(1, 4), Answer::Done(Some(40))),
         (Call::Run(Step::Act(0)), Answer::Done(None)),
+        (Call::Run(Step::InitSeek(0, 1)), Answer::Placed),
+        (Call::Put(1, 12, 120), Answer::Done(None)),
+        (Call::Run(Step::InitLink(0)), Answer::Linked),
     ];
     plays(&rt, alloc, &mut core, &lines)?;
     let pairs = core.regular_list(alloc)?;
-    assert_eq!(rt; pairs.as_slice(), [(8, 80), (4, 40), (2, 21)].as_slice());
+    let wanted = [(8, 80), (4, 40), (12, 120), (2, 21)];
+    assert_eq!(rt; pairs.as_slice(), wanted.as_slice());
     Ok(())
 }
 
@@ -455,100 +538,54 @@ fn half_keys(rt: HostRuntime) -> Result<(), Fail> {
             Answer::Done(Some(2)),
         ),
     ];
-    plays(&rt, alloc, &mut core, &lines)
-}
-
-/// A caller, and the lower keys of the pairs that it works on.
-#[derive(Clone, Copy, Debug)]
-struct Pairs {
-    caller: u64,
-    keys: [u64; 4],
-}
-
-const FIRST: Pairs = Pairs {
-    caller: 0,
-    keys: [0, 2, 4, 6],
-};
-
-const SECOND: Pairs = Pairs {
-    caller: 1,
-    keys: [1, 3, 5, 7],
-};
-
-/// The key that shares the split key of this one, which is below 2^63.
-fn partner(key: u64) -> u64 {
-    key | 1 << 63
-}
-
-/// Does an operation of a caller on the keys of each pair, the lower one first or the upper one.
-fn on_pairs(
-    rt: &impl Abort,
-    core: &mut Core,
-    pairs: Pairs,
-    upper_first: bool,
-    taken: bool,
-) -> Result<(), Fail> {
-    let caller = pairs.caller;
-    for own in pairs.keys {
-        let both = if upper_first {
-            [partner(own), own]
-        } else {
-            [own, partner(own)]
-        };
-        for each in both {
-            if taken {
-                assert_eq!(rt; core.take(caller, each), Answer::Done(Some(each)));
-            } else {
-                assert_eq!(rt; core.put(caller, each, each), Answer::Done(None));
-            }
-        }
-    }
+    plays(&rt, alloc, &mut core, &lines)?;
+    let helped = core.help(0, 9_223_372_036_854_775_808);
+    assert_eq!(rt; helped, Err(Refusal::BadKey));
     Ok(())
 }
 
-/// Of two callers one puts four pairs of keys that share a split key and commits, the other one
-/// puts four and aborts; then the pairs are taken, which is aborted, and taken back to a savepoint.
-fn pairs_in_order(
-    rt: &impl Abort,
-    alloc: Global,
-    upper_first: bool,
-    taken_first: bool,
-) -> Result<(), Fail> {
-    let mut core = core_of(alloc, 2)?;
-    let begins = [
-        (Call::Run(Step::Begin(0)), Answer::Began(1)),
-        (Call::Run(Step::Begin(1)), Answer::Began(2)),
-    ];
-    plays(rt, alloc, &mut core, &begins)?;
-    on_pairs(rt, &mut core, FIRST, upper_first, false)?;
-    on_pairs(rt, &mut core, SECOND, !upper_first, false)?;
-    let ends = [
-        (Call::Run(Step::Commit(0)), Answer::Committed(1)),
-        (Call::Abort(1), Answer::Aborted),
-        (Call::Run(Step::Begin(0)), Answer::Began(3)),
-        (Call::Run(Step::Save(0)), Answer::Saved(1)),
-    ];
-    plays(rt, alloc, &mut core, &ends)?;
-    assert_eq!(rt; core.count(), 8);
-    let before = core.regular_list(alloc)?;
-    on_pairs(rt, &mut core, FIRST, taken_first, true)?;
-    assert_eq!(rt; core.count(), 0);
-    assert_eq!(rt; core.back(0, 1), Answer::Returned(1));
-    assert_eq!(rt; core.regular_list(alloc)?.as_slice(), before.as_slice());
-    on_pairs(rt, &mut core, FIRST, !taken_first, true)?;
-    assert_eq!(rt; core.abort(0), Answer::Aborted);
-    assert_eq!(rt; core.regular_list(alloc)?.as_slice(), before.as_slice());
-    Ok(())
-}
-
-/// Keys that share a split key, put, taken, aborted and taken back in either order.
+/// A call for help doubles a table with more than two keys a bucket, and initialises the bucket of
+/// its key.
 #[test]
-fn pairs_of_one_split_key(rt: HostRuntime) -> Result<(), Fail> {
-    let alloc = rt.alloc();
-    for upper_first in [false, true] {
-        for taken_first in [false, true] {
-            pairs_in_order(&rt, alloc, upper_first, taken_first)?;
-        }
+fn helps_to_grow(rt: HostRuntime) -> Result<(), Fail> {
+    let mut core = core_of(rt.alloc(), 1)?;
+    assert_eq!(rt; core.step(Step::Begin(0)), Answer::Began(1));
+    let calls = [
+        (0, 2, 0),
+        (1, 2, 1),
+        (2, 2, 0),
+        (3, 2, 1),
+        (4, 4, 0),
+        (5, 4, 1),
+        (6, 4, 2),
+        (7, 4, 3),
+        (8, 8, 0),
+    ];
+    for (key, size, bucket) in calls {
+        assert_eq!(rt; core.put(0, key, key), Answer::Done(None));
+        assert_eq!(rt; core.help(0, key), Ok(()));
+        assert_eq!(rt; core.size(), size, "at {key}");
+        assert_eq!(rt;
+            core.step(Step::InitSeek(0, bucket)),
+            Answer::Ready,
+            "at {key}"
+        );
     }
+    assert_eq!(rt; core.help(1, 0), Err(Refusal::NoSuchHelper));
+    Ok(())
+}
+
+/// 30,000 keys with help before each put, each from a bucket of its own: without help each seek
+/// would walk all keys.
+#[test]
+fn helped_table_stays_fast(rt: HostRuntime) -> Result<(), Fail> {
+    let mut core = Core::new(rt.alloc(), Limits::new(1, 64, 65_536)?)?;
+    assert_eq!(rt; core.step(Step::Begin(0)), Answer::Began(1));
+    for key in 0..30_000 {
+        assert_eq!(rt; core.help(0, key), Ok(()));
+        assert_eq!(rt; core.put(0, key, key), Answer::Done(None));
+    }
+    assert_eq!(rt; core.step(Step::Commit(0)), Answer::Committed(1));
+    assert_eq!(rt; (core.size(), core.count()), (16_384, 30_000));
     Ok(())
 }

@@ -9,6 +9,6 @@ use std::process::ExitCode;
 fn main(rt: HostRuntime) -> ExitCode {
     let mut output = io::writer(&rt);
     let mut errors = rt.stderr();
-    let ending = run(rt.alloc(), &Host::new(&rt), &mut output, &mut errors);
+    let ending = run(&rt, rt.alloc(), &Host::new(&rt), &mut output, &mut errors);
     ExitCode::from(ending.status)
 }

@@ -1,5 +1,7 @@
 -- The line of the verdict on a history file.
-use Rattle.std.specs.Prelude.{◌≡◌, ℕ, Bool, true, false, IsTrue, ◌↔◌, List, ◌++◌, Ok, Err, codes, decimal}
+use Rattle.std.specs.Prelude.{◌≡◌, ℕ, Bool, true, false, IsTrue, ◌↔◌, nat_le, if◌then◌else◌, List, ◌++◌, Ok, Err, codes, decimal}
+use Rattle.txn_trace.specs.declared.holder.Holder.{Holder}
+use Rattle.txn_trace.specs.declared.holder.Holder.TheVariants.{Now, Begun}
 use Rattle.txn_trace.specs.declared.entry.Entry.{Entry}
 use Rattle.txn_trace.specs.Legal.{IsLegal, Verdict, Legal, Illegal, verdict}
 use Rattle.txn_files.specs.FileFault.{FileFault}
@@ -19,14 +21,19 @@ abbrev pub says_legal : Verdict → Bool
 says_legal (Legal commits running) = true
 says_legal (Illegal entry rule) = false
 
+-- Whom a Busy may name in a history file of this version: in versions 1 and 2 a caller that holds
+-- the stripe, after them one that has begun a transaction.
+abbrev pub holder_in : ℕ → Holder
+holder_in version = if nat_le version 2 then Now else Begun
+
 -- The verdict on the history that the bytes are, which says legal exactly where the history is.
 pub record IsJudged (bytes : List ℕ) (outcome : Verdict) : Type 0 where
   pub stripes : ℕ
   pub history : List Entry
   pub version : ℕ
   pub file : history_of bytes ≡ Ok (stripes, history, version)
-  pub right : outcome ≡ verdict stripes history
-  pub sound : IsTrue (says_legal outcome) ↔ IsLegal stripes history
+  pub right : outcome ≡ verdict (holder_in version) stripes history
+  pub sound : IsTrue (says_legal outcome) ↔ IsLegal (holder_in version) stripes history
 
 -- The line of the verdict on the history that the bytes are, and whether that is legal.
 abbrev pub IsJudgement : Bool → List ℕ → List ℕ → Type 0

@@ -1,6 +1,7 @@
 -- The history of a script file whose workers' turns are mixed.
 use Rattle.std.specs.Prelude.{◌≡◌, ℕ, ◌<◌, List, Ok, Err}
 use Rattle.std.specs.List.{All}
+use Rattle.txn_trace.specs.declared.holder.Holder.TheVariants.{Now}
 use Rattle.txn_trace.specs.History.{caller_of}
 use Rattle.txn_trace.specs.Legal.{IsLegal}
 use Rattle.txn_trace.specs.Plays.{PlayScripts}
@@ -18,7 +19,7 @@ use Rattle.boostmap_engine.specs.Report.{line}
 pub record IsMixture (work : Work) (seed : ℕ) (text : List ℕ) : Type 0 where
   pub core : State
   pub mixed : IsMixed work seed core
-  pub legal : IsLegal work.sizes.stripes core.history
+  pub legal : IsLegal Now work.sizes.stripes core.history
   pub callers : All (λ e. caller_of e < work.sizes.callers) core.history
   pub plays : PlayScripts work.sizes.callers work.scripts core.history
   pub whole : text ≡ line (text_of_history work.version work.sizes.stripes core.history)

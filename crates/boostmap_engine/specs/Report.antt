@@ -28,13 +28,15 @@ size_text size count = line (codes "size " ++ (decimal size ++ (codes " count " 
 abbrev pub pairs_text : List (ℕ × ℕ) → List ℕ
 pairs_text pairs = flat_map (λ pair. line (decimal pair.0 ++ (codes " " ++ decimal pair.1))) pairs
 
--- The answers of a run, then the size and the count of its last state, then the pairs of its map in
--- list order.
+-- The size and the count of the last state of a run, then the pairs of its map in list order.
+abbrev pub last_text : State → List ℕ
+last_text last =
+    size_text last.size (count_of (now last.history))
+    ++ pairs_text (ordered (now last.history))
+
+-- The answers of a run, then what its last state has.
 abbrev pub report : List Answer → State → List ℕ
-report answers last =
-    answers_text answers
-    ++ (size_text last.size (count_of (now last.history))
-    ++ pairs_text (ordered (now last.history)))
+report answers last = answers_text answers ++ last_text last
 
 -- A run of these steps, and its report.
 pub record IsReport (sizes : Sizes) (steps : List Step) (text : List ℕ) : Type 0 where

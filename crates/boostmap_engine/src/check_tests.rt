@@ -67,12 +67,35 @@ fn versions_of_histories(rt: HostRuntime) -> Result<(), Fail> {
     let rows = [
         (1, "refused 21 entry 1", 3),
         (2, "legal 0 commits 1 open\n", 0),
-        (3, "refused 22", 3),
+        (3, "legal 0 commits 1 open\n", 0),
+        (4, "refused 22", 3),
         (9, "refused 22", 3),
     ];
     for (version, wanted, status) in rows {
         let text = format!(in rt.alloc();
             "{{\"version\":{version},\"stripes\":8,\"entries\":[[\"began\",0,1],[\"asked\",0,\"put_if\",1,null,5]]}}"
+        )?;
+        let (line, found) = checked(&rt, text.as_bytes())?;
+        assert_eq!(rt; (line.as_str(), found), (wanted, status), "{version}");
+    }
+    Ok(())
+}
+
+/// A Busy that names a caller which holds nothing now: the version says whether it may.
+#[test]
+fn holder_has_begun(rt: HostRuntime) -> Result<(), Fail> {
+    let ended =
+        "[\"began\",0,1],[\"asked\",0,\"put\",1,10],[\"did\",0,null],[\"committed\",0,1],[\"began\",1,2],[\"busy\",1,\"get\",9,0]";
+    let none = "[\"began\",1,1],[\"busy\",1,\"get\",9,0]";
+    let rows = [
+        (3, ended, "legal 1 commits 1 open\n", 0),
+        (2, ended, "illegal entry 5 rule 2\n", 1),
+        (1, ended, "illegal entry 5 rule 2\n", 1),
+        (3, none, "illegal entry 1 rule 2\n", 1),
+    ];
+    for (version, entries, wanted, status) in rows {
+        let text = format!(in rt.alloc();
+            "{{\"version\":{version},\"stripes\":8,\"entries\":[{entries}]}}"
         )?;
         let (line, found) = checked(&rt, text.as_bytes())?;
         assert_eq!(rt; (line.as_str(), found), (wanted, status), "{version}");

@@ -3,6 +3,7 @@ ghost use Rattle.boostmap_engine.specs.Written.{Writes, Leaves};
 ghost use Rattle.boostmap_engine.specs.Report.{IsReportOf, IsNoStepFile};
 ghost use Rattle.boostmap_engine.specs.Judgement.{IsJudgement, IsJudgementOf, IsNoHistoryFile};
 ghost use Rattle.boostmap_engine.specs.Mixture.{IsMixtureOf, IsNoScriptFile};
+ghost use Rattle.boostmap_engine.specs.Threaded.{IsThreadedOf, LeavesThreaded};
 
 use crate::fault::Fault;
 use crate::input::read_input;
@@ -10,8 +11,11 @@ use crate::judgement::{is_legal, judge, line_of};
 use crate::mixture::mixture;
 use crate::output::write_text;
 use crate::report::report;
+use crate::threaded::threaded;
 use std::alloc::Global;
 use std::io::{Read, Write};
+use std::sync::Wait;
+use std::thread::Threads;
 
 /// Reads a step file to its end, runs its steps one after the other on a new core, and writes the
 /// report: the answers, one a line, then `size S count C` with the numbers of buckets and of keys,
@@ -38,7 +42,7 @@ pub fn replay<R: Read, W: Write>(alloc: Global, input: &mut R, output: &mut W) -
         (W.contents output.old) (W.contents output.new)) }
 {
     let bytes = read_input(alloc, input)?;
-    let text = report(alloc, &bytes)?;
+    let text = report(alloc, bytes)?;
     write_text(output, text.as_bytes())
 }
 
@@ -107,5 +111,41 @@ pub fn mix<R: Read, W: Write>(
 {
     let bytes = read_input(alloc, input)?;
     let history = mixture(alloc, seed, &bytes)?;
+    write_text(output, history.as_bytes())
+}
+
+/// Reads a script file to its end, runs its scripts on one map, each worker in a thread of its own,
+/// and writes the history as one line of compact JSON, which ends with a line feed, and nothing
+/// else. The order between workers is open, so that two runs of a file may differ; that the history
+/// is legal is not.
+///
+/// At most 16,777,217 bytes are read, and no call of the reader or the writer is made again after
+/// it failed. Costs what the calls cost, and time and memory in proportion to the file and the
+/// history.
+///
+/// # Errors
+///
+/// At each of them but `Write` nothing is written.
+///
+/// - `Input` where the file is refused.
+/// - `Read` where a read fails.
+/// - `NoMemory` where memory is refused outside a call. A call that is refused memory ends its
+///   script as refused.
+/// - `NoThread` where a thread could not be started; the workers that were started finish.
+/// - `OutOfStep` where the history is not what the workers saw.
+/// - `Write` where a write fails or takes nothing: a proper beginning of the line is written.
+pub fn run<T: Threads + Wait + Sync, R: Read, W: Write>(
+    rt: &T,
+    alloc: Global,
+    input: &mut R,
+    output: &mut W,
+) -> Result<(), Fault>
+    ensures runs { OnOk result (Writes IsThreadedOf (R.remaining input.old)
+        (W.contents output.old) (W.contents output.new)) }
+    ensures fault { IfErr result (LeavesThreaded (R.remaining input.old)
+        (W.contents output.old) (W.contents output.new)) }
+{
+    let bytes = read_input(alloc, input)?;
+    let history = threaded(rt, alloc, &bytes)?;
     write_text(output, history.as_bytes())
 }

@@ -1,14 +1,29 @@
 ghost use Rattle.std.specs.Prelude.{◌≡◌, IfOk, IfErr, string_bytes};
 ghost use Rattle.history_check.specs.Verdicts.{meaning_of};
-ghost use Rattle.boostmap_engine.specs.Judgement.{verdict_line, says_legal, IsJudged, IsNoHistoryFile};
+ghost use Rattle.boostmap_engine.specs.Judgement.{verdict_line, says_legal, holder_in, IsJudged, IsNoHistoryFile};
 ghost use Rattle.boostmap_engine.specs.Written.{HasNone};
 
 use crate::fault::Fault;
 use history_check::{Verdict, check};
 use std::alloc::{AllocError, Global};
 use txn_files::read_history;
+use txn_trace::Holder;
 
-/// The verdict on the history that the bytes are, of whichever version.
+/// The last version of history files in which a Busy names a caller that holds the stripe.
+const LAST_OF_NOW: u64 = 2;
+
+/// Whom a Busy may name in a history file of this version. Constant time.
+fn holder_in(version: u64) -> Holder
+    ensures { result ≡ holder_in version }
+{
+    if version <= LAST_OF_NOW {
+        Holder::Now
+    } else {
+        Holder::Begun
+    }
+}
+
+/// The verdict on the history that the bytes are, by the rule of their version.
 ///
 /// # Cost
 ///
@@ -21,8 +36,8 @@ pub fn judge(alloc: Global, bytes: &[u8]) -> Result<Verdict, Fault>
     ensures ok { IfOk result (λ verdict. IsJudged bytes.now (meaning_of verdict)) }
     ensures err { IfErr result (HasNone IsNoHistoryFile bytes.now) }
 {
-    let (stripes, entries, _version) = read_history(alloc, bytes)?;
-    let verdict = check(alloc, &entries, u64::from(stripes))?;
+    let (stripes, entries, version) = read_history(alloc, bytes)?;
+    let verdict = check(alloc, &entries, u64::from(stripes), holder_in(version))?;
     Ok(verdict)
 }
 

@@ -4,17 +4,19 @@
 //! new core, and writes the report: each step's answer, the size and the count, and the pairs of
 //! the map in list order. `check` judges the history of a history file, and writes the verdict as
 //! one line. `mix` runs the scripts of a script file, its workers' turns mixed as a seed says, and
-//! writes the history.
+//! writes the history; `run` does so with each worker in a thread of its own.
 //!
-//! What they promise (`specs/Report.antt`, `specs/Judgement.antt`, `specs/Mixture.antt`): what was
-//! written is the report of a run of the steps that the bytes are, or the line of the verdict on
-//! the history that they are, or a legal history in which the workers' committed transactions play
-//! the scripts that the bytes are, and nothing else. A file that is refused, a failed read and want
-//! of memory (outside a step) leave nothing written; a failed write leaves a proper beginning of
-//! the text (`specs/Written.antt`).
+//! What they promise (`specs/Report.antt`, `specs/Judgement.antt`, `specs/Mixture.antt`,
+//! `specs/Threaded.antt`): what was written is the report of a run of the steps that the bytes are,
+//! or the line of the verdict on the history that they are, or a legal history: by `mix` one in
+//! which the workers' committed transactions play the scripts that the bytes are, by `run` one that
+//! a run of the scripts in threads has (`HasRunScripts`); and nothing else. A file that is refused,
+//! a failed read, and want of memory (outside a step) or of a thread leave nothing written; a
+//! failed write leaves a proper beginning of the text (`specs/Written.antt`).
 //!
 //! No read and no write is tried again. The whole text is made before the first byte is written, so
-//! memory is needed for the file, what it holds, and the text at once.
+//! memory is needed for what the file holds and the text at once, and but for `replay` for the file
+//! too.
 #![tactic(auto)]
 
 mod engine;
@@ -24,8 +26,9 @@ mod judgement;
 mod mixture;
 mod output;
 mod report;
+mod threaded;
 
-pub use engine::{check, mix, replay};
+pub use engine::{check, mix, replay, run};
 pub use fault::{Fault, Message};
 pub use script_mix::draw;
 
@@ -35,6 +38,10 @@ mod check_tests;
 mod mix_tests;
 #[cfg(test)]
 mod rows;
+#[cfg(test)]
+mod run_tests;
+#[cfg(test)]
+mod samples;
 #[cfg(test)]
 mod streams;
 #[cfg(test)]

@@ -1,26 +1,13 @@
 use super::*;
+use crate::samples::{EMPTY_SCRIPT, ONE_HISTORY, ONE_WORKER, SHORT_HISTORY};
 use crate::streams::{Narrow, Trickle};
 use std::process::Abort;
 use std::test::Fail;
 use txn_files::{FileFault, Part};
 
-/// One worker with two scripts, of which the second aborts.
-const ONE_WORKER: &str =
-    "{\"version\":1,\"workers\":1,\"stripes\":8,\"buckets\":8,\"tries\":0,\"scripts\":[[[\"put\",1,10],[\"save\"],[\"take\",1],[\"back\",1]],[[\"get\",1],[\"abort\"]]]}";
-
-const ONE_HISTORY: &str =
-    "{\"entries\":[[\"began\",0,1],[\"asked\",0,\"put\",1,10],[\"did\",0,null],[\"saved\",0],[\"asked\",0,\"take\",1],[\"did\",0,10],[\"leave\",0,1],[\"undone\",0],[\"returned\",0,1],[\"committed\",0,1],[\"began\",0,2],[\"asked\",0,\"get\",1],[\"did\",0,10],[\"leave\",0,null],[\"aborted\",0]],\"stripes\":8,\"version\":1}\n";
-
 /// Three workers, whose scripts meet on two stripes.
 const THREE_WORKERS: &str =
     "{\"version\":1,\"workers\":3,\"stripes\":2,\"buckets\":8,\"tries\":3,\"scripts\":[[[\"put\",1,10],[\"put\",2,20]],[[\"put\",2,21],[\"take\",1]],[[\"get\",1],[\"save\"],[\"put\",3,30],[\"back\",1]],[[\"take\",2],[\"help\",5]],[[\"put\",4,40],[\"abort\"]],[[\"get\",2]]]}";
-
-/// One worker with an empty script, whose history is short.
-const EMPTY_SCRIPT: &str =
-    "{\"version\":1,\"workers\":1,\"stripes\":8,\"buckets\":8,\"tries\":0,\"scripts\":[[]]}";
-
-const SHORT_HISTORY: &str =
-    "{\"entries\":[[\"began\",0,1],[\"committed\",0,1]],\"stripes\":8,\"version\":1}\n";
 
 /// What `mix` prints of these bytes with this seed.
 fn mixed(rt: &(impl Abort + AllocGlobal), seed: u64, bytes: &[u8]) -> Result<Vec<u8>, Fail> {

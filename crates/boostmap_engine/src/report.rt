@@ -1,19 +1,22 @@
-ghost use Rattle.std.specs.Prelude.{◌≡◌, ◌++◌, OnOk, IfOk, IfErr, string_bytes};
-ghost use Rattle.boostmap_engine.specs.Report.{answers_text, size_text, pairs_text, report, IsReportOf, IsNoStepFile};
+ghost use Rattle.std.specs.Prelude.{◌≡◌, ◌++◌, List, OnOk, IfOk, IfErr, string_bytes};
+ghost use Rattle.txn_trace.specs.declared.answer.Answer.{Answer};
+ghost use Rattle.boost_core.specs.Machine.{Moves};
+ghost use Rattle.boostmap_engine.specs.Report.{answers_text, size_text, pairs_text, last_text, IsReport, IsReportOf, IsNoStepFile};
 ghost use Rattle.boostmap_engine.specs.Written.{HasNone};
 
 use crate::fault::Fault;
 use boost_core::Core;
 use std::alloc::{AllocError, Global};
 use txn_files::read_steps;
-use txn_trace::Answer;
+use txn_trace::{Limits, Step};
 
-/// Puts the answers to the text, one a line.
-fn put_answers(text: &mut String, answers: &[Answer]) -> Result<(), AllocError>
-    ensures { OnOk result (string_bytes text.new ≡ string_bytes text.old
-        ++ answers_text answers.now) }
+/// Takes the steps one after the other, and puts the answer of each to the text, one a line.
+fn put_answers(text: &mut String, core: &mut Core, steps: &[Step]) -> Result<(), AllocError>
+    ensures { OnOk result ((answers : List Answer) × Moves core.old steps.now answers core.new
+        × (string_bytes text.new ≡ string_bytes text.old ++ answers_text answers)) }
 {
-    for answer in answers {
+    for step in steps {
+        let answer = core.step(*step);
         writeln!(text, "{answer}")?;
     }
     Ok(())
@@ -36,20 +39,31 @@ fn put_pairs(text: &mut String, pairs: &[(u64, u64)]) -> Result<(), AllocError>
     Ok(())
 }
 
-/// The answers, one a line, and what a core has after them.
-fn text_of_run(alloc: Global, answers: &[Answer], core: &Core) -> Result<String, AllocError>
-    ensures { IfOk result (λ text. string_bytes text ≡ report answers.now core.now) }
+/// Puts what a core has after its last step to the text.
+fn put_last(text: &mut String, alloc: Global, core: &Core) -> Result<(), AllocError>
+    ensures { OnOk result (string_bytes text.new ≡ string_bytes text.old ++ last_text core.now) }
 {
     let pairs = core.regular_list(alloc)?;
+    put_size(text, core.size(), core.count())?;
+    put_pairs(text, &pairs)
+}
+
+/// The report of a run of these steps on a new core, with no steps left when its end is written.
+fn text_of_run(alloc: Global, limits: Limits, steps: Vec<Step>) -> Result<String, AllocError>
+    ensures { IfOk result (λ text. IsReport limits steps.items (string_bytes text)) }
+{
+    let Ok(mut core) = Core::new(alloc, limits) else {
+        return Err(AllocError);
+    };
     let mut text = String::new(alloc);
-    put_answers(&mut text, answers)?;
-    put_size(&mut text, core.size(), core.count())?;
-    put_pairs(&mut text, &pairs)?;
+    put_answers(&mut text, &mut core, &steps)?;
+    drop(steps);
+    put_last(&mut text, alloc, &core)?;
     Ok(text)
 }
 
 /// The report of the steps that the bytes are, run on a new core, which takes half keys alone where
-/// the file is of version 1.
+/// the file is of version 1. No bytes are left when the first step is taken.
 ///
 /// # Cost
 ///
@@ -58,15 +72,11 @@ fn text_of_run(alloc: Global, answers: &[Answer], core: &Core) -> Result<String,
 /// # Errors
 ///
 /// `Input` where the bytes are no step file; `NoMemory` where memory is refused outside a step.
-pub fn report(alloc: Global, bytes: &[u8]) -> Result<String, Fault>
-    ensures ok { IfOk result (λ text. IsReportOf bytes.now (string_bytes text)) }
-    ensures err { IfErr result (HasNone IsNoStepFile bytes.now) }
+pub fn report(alloc: Global, bytes: Vec<u8>) -> Result<String, Fault>
+    ensures ok { IfOk result (λ text. IsReportOf bytes.items (string_bytes text)) }
+    ensures err { IfErr result (HasNone IsNoStepFile bytes.items) }
 {
-    let (limits, steps) = read_steps(alloc, bytes)?;
-    let Ok(mut core) = Core::new(alloc, limits) else {
-        return Err(Fault::NoMemory);
-    };
-    let answers = core.run(alloc, &steps)?;
-    let text = text_of_run(alloc, &answers, &core)?;
-    Ok(text)
+    let (limits, steps) = read_steps(alloc, &bytes)?;
+    drop(bytes);
+    Ok(text_of_run(alloc, limits, steps)?)
 }

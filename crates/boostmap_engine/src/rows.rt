@@ -38,6 +38,23 @@ fn add(steps: &mut String, answers: &mut String, line: Line) -> Result<(), Fail>
     Ok(())
 }
 
+/// The report of a file with these steps, which have a comma behind each.
+fn replayed(
+    rt: &impl AllocGlobal,
+    version: u64,
+    callers: u64,
+    buckets: u64,
+    steps: &str,
+) -> Result<String, Fail> {
+    let steps = steps.trim_end_matches(',').replace(rt.alloc(), "'", "\"")?;
+    let text = format!(in rt.alloc();
+        "{{\"version\":{version},\"callers\":{callers},\"stripes\":8,\"buckets\":{buckets},\"steps\":[{steps}]}}"
+    )?;
+    let mut output: Vec<u8> = Vec::new(rt.alloc());
+    replay(rt.alloc(), &mut text.as_bytes(), &mut output)?;
+    Ok(String::from_utf8(output).ok().ok_or("no text")?)
+}
+
 /// Replays a file of version 1 with these lines, and compares the report: the answers, and then the
 /// rest.
 fn play(
@@ -65,13 +82,7 @@ fn play_version(
         add(&mut steps, &mut report, *line)?;
     }
     writeln!(report, "{rest}")?;
-    let steps = steps.trim_end_matches(',').replace(rt.alloc(), "'", "\"")?;
-    let text = format!(in rt.alloc();
-        "{{\"version\":{version},\"callers\":{callers},\"stripes\":8,\"buckets\":{buckets},\"steps\":[{steps}]}}"
-    )?;
-    let mut output: Vec<u8> = Vec::new(rt.alloc());
-    replay(rt.alloc(), &mut text.as_bytes(), &mut output)?;
-    let printed = String::from_utf8(output).ok().ok_or("no text")?;
+    let printed = replayed(rt, version, callers, buckets, steps.as_str())?;
     assert_eq!(rt; printed.as_str(), report.as_str());
     Ok(())
 }
@@ -252,6 +263,43 @@ fn bucket_initialisation(rt: HostRuntime) -> Result<(), Fail> {
         lines.push(line)?;
     }
     play(&rt, 2, 8, &lines, FIVE_KEYS_REPORT)
+}
+
+/// The steps that double a table with 129 keys up to 128 buckets, and then initialise bucket 64,
+/// which is the first of the second segment.
+const SEGMENTS: [Line; 14] = [
+    Line::Step("'double',2", "doubled 4"),
+    Line::Step("'double',4", "doubled 8"),
+    Line::Step("'double',8", "doubled 16"),
+    Line::Step("'double',16", "doubled 32"),
+    Line::Step("'double',32", "doubled 64"),
+    Line::Step("'double',64", "doubled 128"),
+    Line::Step("'double',128", "at limit"),
+    Line::Step("'init_seek',0,96", "refused 11"),
+    Line::Step("'init_seek',0,64", "placed"),
+    Line::Step("'init_link',0", "linked"),
+    Line::Step("'init_store',0", "stored"),
+    Line::Step("'init_seek',0,64", "ready"),
+    Line::Step("'commit',0", "committed 1"),
+    Line::Step("'sweep'", "clean"),
+];
+
+#[test]
+fn segments(rt: HostRuntime) -> Result<(), Fail> {
+    let mut steps = String::new(rt.alloc());
+    let mut report = String::new(rt.alloc());
+    add(&mut steps, &mut report, Line::Step("'begin',0", "began 1"))?;
+    for key in 0..129_u64 {
+        write!(steps, "['ask',0,'put',{key},{key}],['seek',0],['act',0],")?;
+        writeln!(report, "asked\nplaced\ndone none")?;
+    }
+    for line in SEGMENTS {
+        add(&mut steps, &mut report, line)?;
+    }
+    writeln!(report, "size 128 count 129\n0 0\n128 128\n64 64\n")?;
+    let printed = replayed(&rt, 1, 1, 128, steps.as_str())?;
+    assert!(rt; printed.starts_with(report.trim_end()));
+    Ok(())
 }
 
 #[test]

@@ -3,3 +3,4 @@ pub mod DummyLemmas
 pub mod HomeLemmas
 pub mod LinkLemmas
 pub mod NearestLemmas
+pub mod SegmentLemmas

@@ -38,7 +38,8 @@ link_answer fitting linked last (Some (Sought bucket changes)) =
 
 -- What a link by the helper of this number is answered, where memory lasts.
 abbrev pub link_answer_at : Directory → Listing → ℕ → Result InitLink InitRefusal
-link_answer_at d l helper = link_answer (cursor_fits l (helper_of d helper)) (has_dummy l.nodes) l.last (help_at d helper)
+link_answer_at d l helper =
+    link_answer (cursor_fits l (helper_of d helper)) (has_dummy l.nodes) l.last (help_at d helper)
 
 -- What a store by a helper that has this is answered.
 abbrev pub store_answer : Option Help → Result Unit InitRefusal

@@ -38,7 +38,8 @@ abbrev pub SeekChanges : Directory → Directory → Listing → Listing → ℕ
     → Result InitSeek InitRefusal → Type 0
 SeekChanges old new before after helper bucket (Ok Ready) = (new ≡ with_helper old helper Idle)
     × (after ≡ before)
-SeekChanges old new before after helper bucket (Ok Placed) = Seeks old new before after helper bucket
+SeekChanges old new before after helper bucket (Ok Placed) =
+    Seeks old new before after helper bucket
 SeekChanges old new before after helper bucket (Err refusal) = (new ≡ old) × (after ≡ before)
 
 -- The helper has the dummy of its bucket, which is linked.

@@ -6,4 +6,5 @@ pub mod Helpers
 pub mod Home
 pub mod Links
 pub mod Refusals
+pub mod Segments
 pub mod Text

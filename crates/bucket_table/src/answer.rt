@@ -39,7 +39,7 @@ pub enum InitRefusal {
     NoSuchHelper,
     /// The helper has no cursor to link at, or no dummy to store.
     HelperOutOfOrder,
-    /// The list could not grow by the dummy: memory was refused.
+    /// Memory was refused: for the list to grow by the dummy, or for the bucket's segment.
     NoMemory,
     /// No stamp is left for the dummy: the list's last one is 2^64 - 2.
     StampsUsedUp,
@@ -58,7 +58,9 @@ impl Display for InitRefusal {
             InitRefusal::HelperOutOfOrder => {
                 f.write_str("the helper has no cursor to link at, or no dummy to store")
             }
-            InitRefusal::NoMemory => f.write_str("the list got no memory for the dummy"),
+            InitRefusal::NoMemory => {
+                f.write_str("no memory for the dummy or for its bucket's segment")
+            },
             InitRefusal::StampsUsedUp => f.write_str("the list has no stamp left for the dummy"),
         }
     }

@@ -1,5 +1,6 @@
 //! The buckets.
-ghost use Rattle.std.specs.Prelude.{◌≡◌, ◌≢◌, ℕ, ◌%◌, ◌<◌, ◌≤◌, ◌^◌, Some, None, Ok, Err, true, length, replicate, IfOk, IfErr};
+ghost use Rattle.std.specs.Prelude.{◌≡◌, ◌≢◌, ℕ, ◌%◌, ◌<◌, ◌≤◌, ◌^◌, Some, None, Ok, Err, true, length, replicate, IfOk, IfErr, OnErr};
+ghost use Rattle.bucket_table.specs.Segments.{LacksSegment};
 ghost use Rattle.node_list.specs.Nodes.{Listing, live_count};
 ghost use Rattle.node_list.specs.Follow.{Follows};
 ghost use Rattle.node_list.specs.Order.{IsVacant};
@@ -11,7 +12,9 @@ ghost use Rattle.bucket_table.specs.Links.{IsUnlinked, LinksAt};
 ghost use Rattle.bucket_table.specs.Dummies.{IsBeforeBucket, IsKeyed, has_dummy};
 
 use crate::answer::{Double, InitLink, InitRefusal, InitSeek};
+use crate::fill::filled;
 use crate::helper::Helper;
+use crate::segments::Segments;
 use list_steps::{Again, Cursor, link_at, look, seek};
 use node_list::{Kind, NodeList, NodeRef};
 use split_key::{SortKey, parent};
@@ -24,7 +27,7 @@ use std::marker::Model;
 #[derive(Drop)]
 pub struct Buckets {
     size: u32,
-    entries: Vec<Option<NodeRef>>,
+    entries: Segments,
     helpers: Vec<Helper>,
 }
 
@@ -33,26 +36,16 @@ impl Model for Buckets {
 
     ghost Value = { Directory };
 
-    ghost view = { λ b. record { size = b.size; entries = b.entries.items; helpers = b.helpers.items } };
+    ghost view = { λ b. record { size = b.size; entries = b.entries; helpers = b.helpers.items } };
 
-    ghost invariant = { λ b. IsSound (record { size = b.size; entries = b.entries.items; helpers = b.helpers.items }) };
-}
-
-/// A vector of so many equal values.
-fn filled<T: Copy>(alloc: Global, count: u32, value: T) -> Result<Vec<T>, AllocError>
-    ensures { IfOk result (λ items. items.items ≡ replicate count value) }
-{
-    let mut items = Vec::with_capacity(alloc, count as usize)?;
-    for _ in 0..count {
-        items.push(value)?;
-    }
-    Ok(items)
+    ghost invariant = { λ b.
+        IsSound (record { size = b.size; entries = b.entries; helpers = b.helpers.items }) };
 }
 
 impl Buckets {
     ghost use Rattle.bucket_table.specs.Directory.{beginning, dummy_of, helper_of, is_stored, limit_of, with_helper, with_dummy, IsSound as IsSoundDirectory, IsInOrder, IsReady, IsNearest};
     ghost use Rattle.bucket_table.specs.declared.helper.Helper.TheVariants.{Seeking};
-    ghost use Rattle.bucket_table.specs.Helpers.{help_at};
+    ghost use Rattle.bucket_table.specs.Helpers.{Dummy, help_at};
     ghost use Rattle.bucket_table.specs.Home.{IsHome};
     ghost use Rattle.bucket_table.specs.Answers.{seek_answer, link_answer_at, store_answer, double_answer};
     ghost use Rattle.bucket_table.specs.Changes.{SeekChanges, LinkChanges, StoreChanges, after_double};
@@ -60,19 +53,17 @@ impl Buckets {
     /// Two buckets, of which bucket 0 is stored with the list's first node, and idle helpers. `max`
     /// is the largest size, in buckets.
     ///
-    /// `AllocError` where memory is refused. Takes memory for `max` entries and for the helpers,
-    /// and time in proportion.
+    /// `AllocError` where memory is refused. Takes memory for the row of segments, for the first
+    /// segment and for the helpers, and time in proportion.
     pub fn new(alloc: Global, max: u32, helpers: u32, list: &NodeList) -> Result<Self, AllocError>
         requires power { IsPowerOfTwo max }
         requires least { 2 ≤ max }
         ensures ok { IfOk result (λ buckets. buckets ≡ beginning max helpers list.now.head) }
         ensures home { IfOk result (λ buckets. IsHome buckets list.now) }
     {
-        let mut entries = filled(alloc, max, None)?;
-        entries[0] = Some(list.head());
         Ok(Buckets {
             size: 2,
-            entries,
+            entries: Segments::new(alloc, max, list.head())?,
             helpers: filled(alloc, helpers, Helper::Idle)?,
         })
     }
@@ -90,7 +81,7 @@ impl Buckets {
         ensures dummy { result ≡ dummy_of self.now bucket }
         ensures sound { IsSoundDirectory self.now }
     {
-        self.entries.get(bucket as usize).copied().flatten()
+        self.entries.get(bucket)
     }
 
     /// The dummy of a bucket, or that of its nearest stored ancestor: a seek for any key of the
@@ -125,12 +116,18 @@ impl Buckets {
             .ok_or(InitRefusal::NoSuchHelper)
     }
 
-    /// Stores a bucket with its dummy.
-    fn set_dummy(&mut self, bucket: u32, dummy: NodeRef)
+    /// Stores a bucket with its dummy, or answers `NoMemory`.
+    fn set_dummy(&mut self, bucket: u32, dummy: NodeRef) -> Result<(), InitRefusal>
         requires { IsReady self.old bucket }
-        ensures { self.new ≡ with_dummy self.old bucket dummy }
+        ensures ok { IfOk result (λ done. self.new ≡ with_dummy self.old bucket dummy) }
+        ensures err { IfErr result (λ refusal. refusal ≡ InitRefusal.NoMemory) }
+        ensures unchanged { OnErr result (self.new ≡ self.old) }
+        ensures lacks { OnErr result (LacksSegment self.old.entries bucket) }
     {
-        self.entries[bucket as usize] = Some(dummy);
+        match self.entries.set(bucket, dummy) {
+            Ok(()) => Ok(()),
+            Err(_) => Err(InitRefusal::NoMemory),
+        }
     }
 
     /// Gives a helper something else.
@@ -256,15 +253,23 @@ impl Buckets {
     /// Stores a helper's dummy as that of its bucket, also where the bucket was stored since; the
     /// helper is idle then.
     ///
-    /// Refused, in this order: `NoSuchHelper`; `HelperOutOfOrder` where the helper has no dummy.
-    /// The helper and the buckets are then as they were. Takes no memory. Constant time.
+    /// Refused, in this order: `NoSuchHelper`; `HelperOutOfOrder` where the helper has no dummy;
+    /// `NoMemory`, only where no bucket of the bucket's segment is stored. The helper, with its
+    /// dummy, and the buckets are then as they were.
+    ///
+    /// Takes memory for the bucket's segment, where it is not there. Constant time.
     pub fn init_store(&mut self, helper: u64) -> Result<(), InitRefusal>
-        ensures answer { result ≡ store_answer (help_at self.old helper) }
+        ensures answer { result ≢ Err InitRefusal.NoMemory
+            → result ≡ store_answer (help_at self.old helper) }
+        ensures no_memory { result ≡ Err InitRefusal.NoMemory
+            → store_answer (help_at self.old helper) ≡ Ok tt }
+        ensures lacks { (bucket : ℕ) → help_at self.old helper ≡ Some (Dummy bucket)
+            → result ≡ Err InitRefusal.NoMemory → LacksSegment self.old.entries bucket }
         ensures changes { StoreChanges self.old self.new helper result }
         ensures home { (list : Listing) → IsHome self.old list → IsHome self.new list }
     {
         let (bucket, dummy) = self.helper(helper)?.holding()?;
-        self.set_dummy(bucket, dummy);
+        self.set_dummy(bucket, dummy)?;
         self.set_helper(helper, Helper::Idle);
         Ok(())
     }
@@ -283,7 +288,7 @@ impl Buckets {
         if u64::from(self.size) != seen {
             return Double::Moved(self.size);
         }
-        if self.size as usize == self.entries.len() {
+        if self.size == self.entries.limit() {
             return Double::AtLimit;
         }
         if list.count() <= 2 * u64::from(self.size) {

@@ -9,9 +9,12 @@
 //! bucket in three steps: it seeks the place of the dummy, links the dummy there unless it is
 //! linked already, and stores it.
 //!
-//! The buckets are a flat array, beside the one list. In the test `nodes_after_initialisation` the
-//! size is 4, the keys are 1 to 5, and all buckets but bucket 2 are stored. The list is in the
-//! order that `split_key` draws:
+//! Beside the one list the buckets are a row of segments, each with the entries of 64 buckets. A
+//! segment is there exactly where one of its buckets is stored: the first from the beginning, and
+//! each other one from the first store of a bucket of its own on, which takes the memory for it. A
+//! contract sees the row as the flat array of its entries. In the test
+//! `nodes_after_initialisation` the size is 4, the keys are 1 to 5, and all buckets but bucket 2
+//! are stored. The list is in the order that `split_key` draws:
 //!
 //! ```text
 //!     buckets            list         bucket of the key
@@ -38,14 +41,17 @@
 //! (`Answers`), a refused call changes nothing, and no call changes the content of the list.
 //! Doubling changes the size alone: no node moves.
 //!
-//! Memory is taken by `Buckets::new` and, for a new dummy, by `Buckets::init_link`. `nearest` walks
-//! up the ancestors of a bucket, of which there are as many as the bucket has 1 bits; `init_seek`
-//! walks the list from the parent's dummy; the other steps take constant time.
+//! Memory is taken by `Buckets::new`, for a new dummy by `Buckets::init_link`, and for a new
+//! segment by `Buckets::init_store`. `nearest` walks up the ancestors of a bucket, of which there
+//! are as many as the bucket has 1 bits; `init_seek` walks the list from the parent's dummy; the
+//! other steps take constant time.
 #![tactic(auto)]
 
 mod answer;
 mod buckets;
+mod fill;
 mod helper;
+mod segments;
 #[cfg(test)]
 mod tests;
 

@@ -275,7 +275,7 @@ fn refusals_in_words(rt: HostRuntime) -> Result<(), Fail> {
         ),
         (
             InitRefusal::NoMemory,
-            "the list got no memory for the dummy",
+            "no memory for the dummy or for its bucket's segment",
         ),
         (
             InitRefusal::StampsUsedUp,

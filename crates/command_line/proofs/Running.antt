@@ -8,9 +8,10 @@ use Rattle.boostmap_engine.specs.declared.fault.Fault.TheVariants as faults
 use Rattle.boostmap_engine.specs.Written.{Writes, Leaves}
 use Rattle.boostmap_engine.specs.Report.{IsReportOf, IsNoStepFile}
 use Rattle.boostmap_engine.specs.Mixture.{IsMixtureOf, IsNoScriptFile}
+use Rattle.boostmap_engine.specs.Threaded.{IsThreadedOf, LeavesThreaded}
 use Rattle.boostmap_engine.specs.Judgement.{IsJudgement, IsJudgementOf, IsNoHistoryFile}
 use Rattle.command_line.specs.declared.words.Call.{Call}
-use Rattle.command_line.specs.declared.words.Call.TheVariants.{Replay, Mix, Check}
+use Rattle.command_line.specs.declared.words.Call.TheVariants.{Replay, Run, Mix, Check}
 use Rattle.command_line.specs.Runs.{Outcome, Does, Runs, RunsNone, file_of}
 
 Keeps-same : (known : Option (List ℕ)) → Keeps known known
@@ -35,9 +36,22 @@ Leaves-unknown IsTextOf IsRefused bytes old new faults.Usage h = h
 Leaves-unknown IsTextOf IsRefused bytes old new faults.NoThread h = h
 Leaves-unknown IsTextOf IsRefused bytes old new faults.OutOfStep h = h
 
+threaded-unknown : (bytes old new : Option (List ℕ)) (fault : Fault) → LeavesThreaded bytes old new fault → LeavesThreaded None old new fault
+threaded-unknown bytes old new (faults.Input fault) h =
+    Leaves-unknown IsThreadedOf IsNoScriptFile bytes old new (faults.Input fault) h
+threaded-unknown bytes old new faults.NoMemory h = h
+threaded-unknown bytes old new faults.Read h = h
+threaded-unknown bytes old new faults.Write h =
+    Leaves-unknown IsThreadedOf IsNoScriptFile bytes old new faults.Write h
+threaded-unknown bytes old new faults.Usage h = h
+threaded-unknown bytes old new faults.NoThread h = h
+threaded-unknown bytes old new faults.OutOfStep h = h
+
 does-unknown : (call : Call) (bytes old new : Option (List ℕ)) (outcome : Outcome) → Does call bytes old new outcome → Does call None old new outcome
 does-unknown (Replay file) bytes old new (Ok well) h = (Writes-unknown _ _ _ _ h.0, h.1)
 does-unknown (Replay file) bytes old new (Err fault) h = Leaves-unknown _ _ _ _ _ fault h
+does-unknown (Run file) bytes old new (Ok well) h = (Writes-unknown _ _ _ _ h.0, h.1)
+does-unknown (Run file) bytes old new (Err fault) h = threaded-unknown bytes old new fault h
 does-unknown (Mix seed file) bytes old new (Ok well) h = (Writes-unknown _ _ _ _ h.0, h.1)
 does-unknown (Mix seed file) bytes old new (Err fault) h = Leaves-unknown _ _ _ _ _ fault h
 does-unknown (Check file) bytes old new (Ok well) h = Writes-unknown _ _ _ _ h

@@ -7,9 +7,10 @@ use Rattle.boostmap_engine.specs.Faults.{status_of, message_of}
 use Rattle.boostmap_engine.specs.Written.{Writes, Leaves}
 use Rattle.boostmap_engine.specs.Report.{line, IsReportOf, IsNoStepFile}
 use Rattle.boostmap_engine.specs.Mixture.{IsMixtureOf, IsNoScriptFile}
+use Rattle.boostmap_engine.specs.Threaded.{IsThreadedOf, LeavesThreaded}
 use Rattle.boostmap_engine.specs.Judgement.{IsJudgement, IsJudgementOf, IsNoHistoryFile}
 use Rattle.command_line.specs.declared.words.Call.{Call}
-use Rattle.command_line.specs.declared.words.Call.TheVariants.{Replay, Mix, Check}
+use Rattle.command_line.specs.declared.words.Call.TheVariants.{Replay, Run, Mix, Check}
 
 -- What a run comes to: whether all is well, or a fault.
 abbrev pub Outcome : Type 0
@@ -18,6 +19,7 @@ Outcome = Result Bool Fault
 -- The name of a call's file.
 abbrev pub file_of : Call → List ℕ
 file_of (Replay file) = file.now
+file_of (Run file) = file.now
 file_of (Mix seed file) = file.now
 file_of (Check file) = file.now
 
@@ -25,6 +27,8 @@ file_of (Check file) = file.now
 abbrev pub Does : Call → Option (List ℕ) → Option (List ℕ) → Option (List ℕ) → Outcome → Type 0
 Does (Replay file) bytes old new (Ok well) = Writes IsReportOf bytes old new × (well ≡ true)
 Does (Replay file) bytes old new (Err fault) = Leaves IsReportOf IsNoStepFile bytes old new fault
+Does (Run file) bytes old new (Ok well) = Writes IsThreadedOf bytes old new × (well ≡ true)
+Does (Run file) bytes old new (Err fault) = LeavesThreaded bytes old new fault
 Does (Mix seed file) bytes old new (Ok well) =
     Writes (IsMixtureOf seed) bytes old new × (well ≡ true)
 Does (Mix seed file) bytes old new (Err fault) =

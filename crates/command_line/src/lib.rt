@@ -2,9 +2,9 @@
 //! with.
 //!
 //! `boostmap replay FILE` runs the steps of a file on a transactional map and prints what came of
-//! it; `boostmap mix --seed N FILE` runs the scripts of a file, its workers' turns mixed as the
-//! seed says, and prints the history; `boostmap check FILE` says whether the recorded history of a
-//! file is legal.
+//! it; `boostmap run FILE` runs the scripts of a file, each worker in a thread of its own, and
+//! prints the history; `boostmap mix --seed N FILE` does so with the workers' turns mixed as the
+//! seed says; `boostmap check FILE` says whether the recorded history of a file is legal.
 //!
 //! `run` does all that the program does, over any system that gives words and opens files, and over
 //! any two writers, so that tests and contracts reach all of it. What it promises

@@ -5,10 +5,13 @@ ghost use Rattle.command_line.specs.Runs.{Does, Runs, Tells, status_after};
 
 use crate::system::System;
 use crate::words::{Call, call_in};
-use boostmap_engine::{Fault, check, mix, replay};
+use boostmap_engine as engine;
+use boostmap_engine::Fault;
 use std::alloc::Global;
 use std::io;
 use std::io::{Read, Write};
+use std::sync::Wait;
+use std::thread::Threads;
 
 /// How a run of the program ended.
 #[derive(Clone, Copy, Debug, PartialEq, Eq)]
@@ -32,7 +35,8 @@ fn memory_or(error: &io::Error, other: Fault) -> Fault
 
 /// Runs the engine of the call's command on its file, which is open. The answer is whether all is
 /// well: only of an illegal history it is not.
-fn run_engine<R: Read, W: Write>(
+fn run_engine<T: Threads + Wait + Sync, R: Read, W: Write>(
+    rt: &T,
     alloc: Global,
     call: Call<'_>,
     input: &mut R,
@@ -43,19 +47,28 @@ fn run_engine<R: Read, W: Write>(
 {
     match call {
         Call::Replay { .. } => {
-            replay(alloc, input, output)?;
+            engine::replay(alloc, input, output)?;
+            Ok(true)
+        }
+        Call::Run { .. } => {
+            engine::run(rt, alloc, input, output)?;
             Ok(true)
         }
         Call::Mix { seed, .. } => {
-            mix(alloc, seed, input, output)?;
+            engine::mix(alloc, seed, input, output)?;
             Ok(true)
         }
-        Call::Check { .. } => check(alloc, input, output),
+        Call::Check { .. } => engine::check(alloc, input, output),
     }
 }
 
 /// Reads the words, opens the file that they name, and runs the engine that they ask for.
-fn run_words<S: System, W: Write>(alloc: Global, system: &S, output: &mut W) -> Result<bool, Fault>
+fn run_words<T: Threads + Wait + Sync, S: System, W: Write>(
+    rt: &T,
+    alloc: Global,
+    system: &S,
+    output: &mut W,
+) -> Result<bool, Fault>
     ensures { Runs (S.bytes system.now) (W.contents output.old) (W.contents output.new) result }
 {
     let words = match system.words(alloc) {
@@ -67,7 +80,7 @@ fn run_words<S: System, W: Write>(alloc: Global, system: &S, output: &mut W) -> 
         Ok(input) => input,
         Err(error) => return Err(memory_or(&error, Fault::Read)),
     };
-    run_engine(alloc, call, &mut input, output)
+    run_engine(rt, alloc, call, &mut input, output)
 }
 
 /// The exit status after a run that came to this. Constant time.
@@ -83,12 +96,14 @@ fn status_of(outcome: &Result<bool, Fault>) -> u8
 
 /// Does all that the program does: reads the words of the call, opens the file that they name, runs
 /// the engine of the command on it, which writes to `output`, and writes the line of a fault to
-/// `errors`. A line that `errors` does not take changes nothing else.
+/// `errors`. A line that `errors` does not take changes nothing else. Only the command `run` starts
+/// threads, by `rt`.
 ///
 /// # Cost
 ///
 /// That of the engine, and time and memory in proportion to the words.
-pub fn run<S: System, W: Write, E: Write>(
+pub fn run<T: Threads + Wait + Sync, S: System, W: Write, E: Write>(
+    rt: &T,
     alloc: Global,
     system: &S,
     output: &mut W,
@@ -99,7 +114,7 @@ pub fn run<S: System, W: Write, E: Write>(
         × (result.status ≡ status_after outcome)
         × Tells (E.contents errors.old) (E.contents errors.new) result.is_told outcome }
 {
-    let outcome = run_words(alloc, system, output);
+    let outcome = run_words(rt, alloc, system, output);
     let is_told = match &outcome {
         Ok(_) => true,
         Err(fault) => errors.writeln(fault.message()).is_ok(),

@@ -3,7 +3,9 @@ use crate::desk::Desk;
 use std::io;
 use std::io::{ErrorKind, Write};
 use std::process::Abort;
+use std::sync::Wait;
 use std::test::Fail;
+use std::thread::Threads;
 
 /// One transaction that commits.
 const STEPS: &[u8] =
@@ -46,9 +48,11 @@ const FILES: &[(&str, &[u8])] = &[
 ];
 
 /// The whole usage, word for word.
-const USAGE: &str = "usage: boostmap replay FILE | boostmap mix --seed N FILE | boostmap check FILE
+const USAGE: &str = "usage: boostmap replay FILE | boostmap run FILE
+       boostmap mix --seed N FILE | boostmap check FILE
 
   replay FILE        runs the steps of a file, and prints answers, size, count and pairs
+  run FILE           runs the scripts of a file, a thread a worker, and prints the history
   mix --seed N FILE  runs the scripts of a file, mixed as N says, and prints the history
   check FILE         says whether a recorded history is legal, or which entry breaks which rule
 
@@ -56,16 +60,20 @@ FILE is the path of a file, and may be /dev/stdin.
 N is a whole number from 0 to 18446744073709551615, in decimal digits.
 
 Exit status: 0 all is well, 1 the history is illegal, 2 a usage error, 3 the file is refused,
-4 no memory, or a read or a write failed. From 3 on one line on standard error says which.
+4 no memory, no thread, a failed read or write, or out of step.
+From 3 on one line on standard error says which.
 
 Example: boostmap check examples/checked.json
 ";
 
 /// What the program wrote to standard output and to standard error, and its status.
-fn ran(rt: &(impl Abort + AllocGlobal), desk: &Desk<'_>) -> Result<(String, String, u8), Fail> {
+fn ran<R: Abort + AllocGlobal + Threads + Wait + Sync>(
+    rt: &R,
+    desk: &Desk<'_>,
+) -> Result<(String, String, u8), Fail> {
     let mut output: Vec<u8> = Vec::new(rt.alloc());
     let mut errors: Vec<u8> = Vec::new(rt.alloc());
-    let ending = run(rt.alloc(), desk, &mut output, &mut errors);
+    let ending = run(rt, rt.alloc(), desk, &mut output, &mut errors);
     assert!(rt; ending.is_told);
     let output = String::from_utf8(output).ok().ok_or("no text")?;
     let errors = String::from_utf8(errors).ok().ok_or("no text")?;
@@ -79,7 +87,10 @@ fn each_command_and_each_status(rt: HostRuntime) -> Result<(), Fail> {
         ("boostmap mix --seed 7 script", HISTORY, "", 0),
         ("boostmap check legal", "legal 1 commits 0 open\n", "", 0),
         ("boostmap check illegal", "illegal entry 2 rule 1\n", "", 1),
-        ("boostmap run steps", "", USAGE, 2),
+        ("boostmap run script", HISTORY, "", 0),
+        ("boostmap run steps", "", "refused 21\n", 3),
+        ("boostmap run missing", "", "read failed\n", 4),
+        ("boostmap walk steps", "", USAGE, 2),
         ("boostmap mix --seed x script", "", USAGE, 2),
         ("boostmap replay bad", "", "refused 21 step 4\n", 3),
         ("boostmap check empty", "", "refused 20\n", 3),
@@ -162,7 +173,7 @@ fn writers_that_fail(rt: HostRuntime) -> Result<(), Fail> {
     for left in 0..=REPORT.len() {
         let mut output = Short { left };
         let mut errors: Vec<u8> = Vec::new(rt.alloc());
-        let ending = run(rt.alloc(), &desk, &mut output, &mut errors);
+        let ending = run(&rt, rt.alloc(), &desk, &mut output, &mut errors);
         if left < REPORT.len() {
             assert_eq!(rt; errors.as_slice(), b"write failed\n".as_slice(), "{left}");
             assert_eq!(rt; ending.status, 4, "{left}");
@@ -177,7 +188,7 @@ fn writers_that_fail(rt: HostRuntime) -> Result<(), Fail> {
     for left in 0..=line {
         let mut output: Vec<u8> = Vec::new(rt.alloc());
         let mut errors = Short { left };
-        let ending = run(rt.alloc(), &desk, &mut output, &mut errors);
+        let ending = run(&rt, rt.alloc(), &desk, &mut output, &mut errors);
         assert_eq!(rt; (output.len(), ending.status), (0, 4), "{left}");
         assert_eq!(rt; ending.is_told, left == line, "{left}");
     }
@@ -230,7 +241,7 @@ impl Write for Page {
 fn refused_allocations(rt: HostRuntime) {
     let desk = Desk::new("boostmap check legal", FILES);
     let (mut output, mut errors) = (Page::new(), Page::new());
-    let ending = run(rt.alloc(), &desk, &mut output, &mut errors);
+    let ending = run(&rt, rt.alloc(), &desk, &mut output, &mut errors);
     assert!(rt; ending.is_told);
     if ending.status == 0 {
         assert_eq!(rt; output.text(), b"legal 1 commits 0 open\n".as_slice());

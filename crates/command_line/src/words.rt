@@ -15,6 +15,11 @@ pub enum Call<'a> {
         /// The file's name.
         file: &'a str,
     },
+    /// To run the scripts of a file, each worker in a thread of its own.
+    Run {
+        /// The file's name.
+        file: &'a str,
+    },
     /// To run the scripts of a file, the workers' turns mixed as a seed says.
     Mix {
         /// What starts the generator that draws the turns.
@@ -34,7 +39,10 @@ impl<'a> Call<'a> {
     pub fn file(self) -> &'a str
         ensures { result.now ≡ file_of self.entry }
     {
-        let (Call::Replay { file } | Call::Mix { file, .. } | Call::Check { file }) = self;
+        let (Call::Replay { file }
+        | Call::Run { file }
+        | Call::Mix { file, .. }
+        | Call::Check { file }) = self;
         file
     }
 }
@@ -50,6 +58,7 @@ fn command_on_file<'a>(alloc: Global, name: &'a str) -> Result<Command<'a>, Allo
 /// The command line of the program.
 fn command<'a>(alloc: Global) -> Result<Command<'a>, AllocError> {
     let replay = command_on_file(alloc, "replay")?;
+    let run = command_on_file(alloc, "run")?;
     let seed = Arg::new(alloc, "seed")
         .long("seed")
         .required(true)
@@ -59,6 +68,7 @@ fn command<'a>(alloc: Global) -> Result<Command<'a>, AllocError> {
     Command::new(alloc, "boostmap")
         .subcommand_required(true)
         .subcommand(replay)?
+        .subcommand(run)?
         .subcommand(mix)?
         .subcommand(check)
 }
@@ -101,6 +111,7 @@ pub fn call_in<'a>(alloc: Global, words: &'a [String]) -> Result<Call<'a>, Fault
     };
     match name {
         "replay" => Ok(Call::Replay { file }),
+        "run" => Ok(Call::Run { file }),
         "mix" => match found.get_str("seed").and_then(|word| seed_in(word)) {
             Some(seed) => Ok(Call::Mix { seed, file }),
             None => Err(Fault::Usage),

@@ -30,6 +30,22 @@ fn calls_of_replay(rt: HostRuntime) -> Result<(), Fail> {
 }
 
 #[test]
+fn calls_of_run(rt: HostRuntime) -> Result<(), Fail> {
+    for text in [
+        "boostmap run a.json",
+        "boostmap run -- a.json",
+        "bin/x run a.json",
+    ] {
+        let words = words_of(&rt, text)?;
+        let Ok(call) = call_in(rt.alloc(), &words) else {
+            return Err("refused")?;
+        };
+        assert_eq!(rt; call, Call::Run { file: "a.json" }, "{text}");
+    }
+    Ok(())
+}
+
+#[test]
 fn calls_of_check(rt: HostRuntime) -> Result<(), Fail> {
     for text in [
         "boostmap check a.json",
@@ -77,7 +93,10 @@ fn other_words(rt: HostRuntime) -> Result<(), Fail> {
         "boostmap replay -x",
         "boostmap Replay a.json",
         "boostmap repla a.json",
-        "boostmap run a.json",
+        "boostmap run",
+        "boostmap run a.json b.json",
+        "boostmap run --seed 7 a.json",
+        "boostmap Run a.json",
         "boostmap mix a.json",
         "boostmap mix --seed 7",
         "boostmap mix --seed a.json",

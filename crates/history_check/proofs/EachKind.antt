@@ -6,6 +6,7 @@ use Rattle.std.proofs.lemmas.Bool.{false≢true, and_parts, eqb-true, ltb-true}
 use mathlib.Core.Logic.{◌⊎◌, inl, inr}
 use Rattle.txn_trace.specs.declared.op.Op.{Op}
 use Rattle.txn_trace.specs.declared.entry.Entry.{Entry}
+use Rattle.txn_trace.specs.declared.holder.Holder.{Holder}
 use Rattle.txn_trace.specs.declared.entry.Entry.TheVariants.{Began, Asked, Did, Saved, Leave, Undone, Returned, Committed, Busy, Aborted}
 use Rattle.txn_trace.specs.Map.{key_of, reply_of, after}
 use Rattle.txn_trace.specs.History.{caller_of, is_began, is_commit}
@@ -21,11 +22,12 @@ use Rattle.txn_trace.proofs.Breaking.{is_right_in, replies_hold-push}
 use Rattle.txn_trace.proofs.Now.{same_option}
 use Rattle.txn_trace.proofs.Next.{Next, is_shaped_is}
 use Rattle.txn_trace.proofs.Entries as entries
+use Rattle.txn_trace.proofs.Settled.{settled}
 use Rattle.history_check.specs.Callers.{goal_of}
 
 -- An entry that breaks no rule is in right shape, has the right reply, and breaks no lock.
-pub breaks_none : (stripes : ℕ) (g : List Entry) (e : Entry) → broken stripes g e ≡ None → (is_shaped g e ≡ true) × (replies_hold (g ++ e ∷ []) ≡ true) × (is_locked stripes g e ≡ true)
-breaks_none stripes g e is = at (is_shaped g e) (replies_hold (g ++ e ∷ [])) (is_locked stripes g e) is
+pub breaks_none : (holder : Holder) (stripes : ℕ) (g : List Entry) (e : Entry) → broken holder stripes g e ≡ None → (is_shaped g e ≡ true) × (replies_hold (g ++ e ∷ []) ≡ true) × (is_locked holder stripes g e ≡ true)
+breaks_none holder stripes g e is = at (is_shaped g e) (replies_hold (g ++ e ∷ [])) (is_locked holder stripes g e) is
   where
     at : (a b c : Bool) → cond {A = Option ℕ} (not a) (Some 3) (cond (not b) (Some 1) (cond (not c) (Some 2) None)) ≡ None → (a ≡ true) × (b ≡ true) × (c ≡ true)
     at false b c h = absurd (cc (h))
@@ -34,9 +36,9 @@ breaks_none stripes g e is = at (is_shaped g e) (replies_hold (g ++ e ∷ [])) (
     at true true true h = (refl, refl, refl)
 
 -- The rule that an entry breaks, by the three tests.
-pub broken_by : (stripes : ℕ) (g : List Entry) (e : Entry) (a b c : Bool) → is_shaped g e ≡ a → replies_hold (g ++ e ∷ []) ≡ b → is_locked stripes g e ≡ c
-    → broken stripes g e ≡ cond {A = Option ℕ} (not a) (Some 3) (cond {A = Option ℕ} (not b) (Some 1) (cond {A = Option ℕ} (not c) (Some 2) None))
-broken_by stripes g e a b c shaped right locked = λ i. cond {A = Option ℕ} (not (shaped i)) (Some 3) (cond {A = Option ℕ} (not (right i)) (Some 1) (cond {A = Option ℕ} (not (locked i)) (Some 2) None))
+pub broken_by : (holder : Holder) (stripes : ℕ) (g : List Entry) (e : Entry) (a b c : Bool) → is_shaped g e ≡ a → replies_hold (g ++ e ∷ []) ≡ b → is_locked holder stripes g e ≡ c
+    → broken holder stripes g e ≡ cond {A = Option ℕ} (not a) (Some 3) (cond {A = Option ℕ} (not b) (Some 1) (cond {A = Option ℕ} (not c) (Some 2) None))
+broken_by holder stripes g e a b c shaped right locked = λ i. cond {A = Option ℕ} (not (shaped i)) (Some 3) (cond {A = Option ℕ} (not (right i)) (Some 1) (cond {A = Option ℕ} (not (locked i)) (Some 2) None))
 
 -- In which phases an entry may stand.
 only_closed : (s : Seat) (q : Phase) (c t : ℕ) → is_some (row s q (Began c t)) ≡ true → q ≡ Closed
@@ -99,72 +101,72 @@ aborted_from : (s : Seat) (q : Phase) (c : ℕ) → is_some (row s q (Aborted c)
 aborted_from s LeavingToEnd c h = (refl, eqb-true s.standing 0 (some_if (s.standing == 0) _ h))
 aborted_from s _ c h = absurd (false≢true h)
 
-module _ (stripes : ℕ) (g : List Entry) (legal : IsLegal stripes g) (c : ℕ) (seat : Seat) (seat_is : seat_after (own c g) ≡ Some seat) where
+module _ {holder : Holder} (stripes : ℕ) (g : List Entry) (legal : IsLegal holder stripes g) (c : ℕ) (seat : Seat) (seat_is : seat_after (own c g) ≡ Some seat) where
   -- What the right shape of an entry of the caller says of its seat.
   pub in_row : (e : Entry) → caller_of e ≡ c → is_shaped g e ≡ true → (is_some (row seat seat.phase e) ≡ true) × (is_numbered g e ≡ true)
   in_row e mine shaped = and_parts (is_some (row seat seat.phase e)) (is_numbered g e) (sym (is_shaped_is g e seat (ap (λ d. seat_after (own d g)) mine ∙ seat_is)) ∙ shaped)
 
-  pub next-began : (t : ℕ) → broken stripes g (Began c t) ≡ None → Next stripes g (Began c t) (record closed_seat { phase = Opened }) [] (serial g) (now g) (λ s. holder_of stripes s g)
+  pub next-began : (t : ℕ) → broken holder stripes g (Began c t) ≡ None → Next holder stripes g (Began c t) (record closed_seat { phase = Opened }) [] (serial g) (now g) (λ s. holder_of stripes s g)
   next-began t fine =
-      let shape = in_row (Began c t) refl (breaks_none stripes g (Began c t) fine).0 in
+      let shape = in_row (Began c t) refl (breaks_none holder stripes g (Began c t) fine).0 in
       entries.began stripes g legal c t seat seat_is (only_closed seat seat.phase c t shape.0) (eqb-true t _ shape.1)
 
   -- The number of a transaction that begins, and the commit number of one that commits.
-  pub number-began : (t : ℕ) → broken stripes g (Began c t) ≡ None → t ≡ how_many is_began g + 1
-  number-began t fine = eqb-true t _ (in_row (Began c t) refl (breaks_none stripes g (Began c t) fine).0).1
+  pub number-began : (t : ℕ) → broken holder stripes g (Began c t) ≡ None → t ≡ how_many is_began g + 1
+  number-began t fine = eqb-true t _ (in_row (Began c t) refl (breaks_none holder stripes g (Began c t) fine).0).1
 
-  pub number-committed : (p : ℕ) → broken stripes g (Committed c p) ≡ None → p ≡ how_many is_commit g + 1
-  number-committed p fine = eqb-true p _ (in_row (Committed c p) refl (breaks_none stripes g (Committed c p) fine).0).1
+  pub number-committed : (p : ℕ) → broken holder stripes g (Committed c p) ≡ None → p ≡ how_many is_commit g + 1
+  number-committed p fine = eqb-true p _ (in_row (Committed c p) refl (breaks_none holder stripes g (Committed c p) fine).0).1
 
-  pub next-asked : (op : Op) → broken stripes g (Asked c op) ≡ None
-      → Next stripes g (Asked c op) (record seat { phase = Waiting op }) (log_of c g) (serial g) (now g) (λ s. cond (stripe_of stripes (key_of op) == s) (Some c) (holder_of stripes s g))
+  pub next-asked : (op : Op) → broken holder stripes g (Asked c op) ≡ None
+      → Next holder stripes g (Asked c op) (record seat { phase = Waiting op }) (log_of c g) (serial g) (now g) (λ s. cond (stripe_of stripes (key_of op) == s) (Some c) (holder_of stripes s g))
   next-asked op fine =
-      let tests = breaks_none stripes g (Asked c op) fine in
+      let tests = breaks_none holder stripes g (Asked c op) fine in
       entries.asked stripes g legal c op seat seat_is (asked_opened seat seat.phase c op (in_row (Asked c op) refl tests.0).0) tests.2
 
-  pub next-busy : (op : Op) (x : ℕ) → broken stripes g (Busy c op x) ≡ None
-      → Next stripes g (Busy c op x) (record seat { phase = LeavingToEnd }) (log_of c g) (serial g) (now g) (λ s. holder_of stripes s g)
+  pub next-busy : (op : Op) (x : ℕ) → broken holder stripes g (Busy c op x) ≡ None
+      → Next holder stripes g (Busy c op x) (record seat { phase = LeavingToEnd }) (log_of c g) (serial g) (now g) (λ s. holder_of stripes s g)
   next-busy op x fine =
-      let tests = breaks_none stripes g (Busy c op x) fine in
+      let tests = breaks_none holder stripes g (Busy c op x) fine in
       entries.busy stripes g legal c op x seat seat_is (busy_opened seat seat.phase c op x (in_row (Busy c op x) refl tests.0).0) tests.2
 
-  pub next-saved : broken stripes g (Saved c) ≡ None
-      → Next stripes g (Saved c) (record seat { kept = seat.kept ++ seat.standing ∷ [] }) (log_of c g) (serial g) (now g) (λ s. holder_of stripes s g)
-  next-saved fine = entries.saved stripes g legal c seat seat_is (saved_opened seat seat.phase c (in_row (Saved c) refl (breaks_none stripes g (Saved c) fine).0).0)
+  pub next-saved : broken holder stripes g (Saved c) ≡ None
+      → Next holder stripes g (Saved c) (record seat { kept = seat.kept ++ seat.standing ∷ [] }) (log_of c g) (serial g) (now g) (λ s. holder_of stripes s g)
+  next-saved fine = entries.saved stripes g legal c seat seat_is (saved_opened seat seat.phase c (in_row (Saved c) refl (breaks_none holder stripes g (Saved c) fine).0).0)
 
-  pub next-leave : (n : Option ℕ) → broken stripes g (Leave c n) ≡ None
-      → Next stripes g (Leave c n) (record seat { phase = goal_of n }) (log_of c g) (serial g) (now g) (λ s. holder_of stripes s g)
-  next-leave None fine = elim (leave_end_from seat seat.phase c (in_row (Leave c None) refl (breaks_none stripes g (Leave c None) fine).0).0) [
+  pub next-leave : (n : Option ℕ) → broken holder stripes g (Leave c n) ≡ None
+      → Next holder stripes g (Leave c n) (record seat { phase = goal_of n }) (log_of c g) (serial g) (now g) (λ s. holder_of stripes s g)
+  next-leave None fine = elim (leave_end_from seat seat.phase c (in_row (Leave c None) refl (breaks_none holder stripes g (Leave c None) fine).0).0) [
     | inl opened ↦ entries.left_to_end stripes g legal c seat seat_is opened
     | inr waits ↦ entries.withdrawn stripes g legal c waits.0 seat seat_is waits.1
   ]
   next-leave (Some n) fine =
-      let from = leave_to_from seat seat.phase c n (in_row (Leave c (Some n)) refl (breaks_none stripes g (Leave c (Some n)) fine).0).0 in
+      let from = leave_to_from seat seat.phase c n (in_row (Leave c (Some n)) refl (breaks_none holder stripes g (Leave c (Some n)) fine).0).0 in
       entries.left_to stripes g legal c n seat seat_is from.0 from.1
 
-  pub next-undone : (job : ℕ × Option ℕ) (jobs : List (ℕ × Option ℕ)) → log_of c g ≡ job ∷ jobs → broken stripes g (Undone c) ≡ None
-      → Next stripes g (Undone c) (record seat { standing = seat.standing - 1 }) jobs (serial g) (set_at (now g) job.0 job.1) (λ s. holder_of stripes s g)
-  next-undone job jobs log_is fine = elim (undone_from seat seat.phase c (in_row (Undone c) refl (breaks_none stripes g (Undone c) fine).0).0) [
+  pub next-undone : (job : ℕ × Option ℕ) (jobs : List (ℕ × Option ℕ)) → log_of c g ≡ job ∷ jobs → broken holder stripes g (Undone c) ≡ None
+      → Next holder stripes g (Undone c) (record seat { standing = seat.standing - 1 }) jobs (serial g) (set_at (now g) job.0 job.1) (λ s. holder_of stripes s g)
+  next-undone job jobs log_is fine = elim (undone_from seat seat.phase c (in_row (Undone c) refl (breaks_none holder stripes g (Undone c) fine).0).0) [
     | inl to ↦ entries.undone_to stripes g legal c to.0 seat seat_is to.1 to.2 job jobs log_is
     | inr end ↦ entries.undone_to_end stripes g legal c seat seat_is end.0 end.1 job jobs log_is
   ]
 
-  pub next-returned : (n : ℕ) → broken stripes g (Returned c n) ≡ None
-      → Next stripes g (Returned c n) (record seat { phase = Opened; kept = take (n + 1) seat.kept }) (log_of c g) (serial g) (now g) (λ s. holder_of stripes s g)
+  pub next-returned : (n : ℕ) → broken holder stripes g (Returned c n) ≡ None
+      → Next holder stripes g (Returned c n) (record seat { phase = Opened; kept = take (n + 1) seat.kept }) (log_of c g) (serial g) (now g) (λ s. holder_of stripes s g)
   next-returned n fine =
-      let from = returned_from seat seat.phase c n (in_row (Returned c n) refl (breaks_none stripes g (Returned c n) fine).0).0 in
+      let from = returned_from seat seat.phase c n (in_row (Returned c n) refl (breaks_none holder stripes g (Returned c n) fine).0).0 in
       entries.returned stripes g legal c n seat seat_is from.0 from.1
 
-  pub next-committed : (p : ℕ) → broken stripes g (Committed c p) ≡ None
-      → Next stripes g (Committed c p) closed_seat [] (entries.settled (serial g) (now g) (log_of c g)) (now g) (λ s. cond (option_eq nat_eq (holder_of stripes s g) (Some c)) None (holder_of stripes s g))
+  pub next-committed : (p : ℕ) → broken holder stripes g (Committed c p) ≡ None
+      → Next holder stripes g (Committed c p) closed_seat [] (settled (serial g) (now g) (log_of c g)) (now g) (λ s. cond (option_eq nat_eq (holder_of stripes s g) (Some c)) None (holder_of stripes s g))
   next-committed p fine =
-      let shape = in_row (Committed c p) refl (breaks_none stripes g (Committed c p) fine).0 in
+      let shape = in_row (Committed c p) refl (breaks_none holder stripes g (Committed c p) fine).0 in
       entries.committed stripes g legal c p seat seat_is (committed_opened seat seat.phase c p shape.0) (eqb-true p _ shape.1)
 
-  pub next-aborted : broken stripes g (Aborted c) ≡ None
-      → Next stripes g (Aborted c) closed_seat [] (serial g) (now g) (λ s. cond (option_eq nat_eq (holder_of stripes s g) (Some c)) None (holder_of stripes s g))
+  pub next-aborted : broken holder stripes g (Aborted c) ≡ None
+      → Next holder stripes g (Aborted c) closed_seat [] (serial g) (now g) (λ s. cond (option_eq nat_eq (holder_of stripes s g) (Some c)) None (holder_of stripes s g))
   next-aborted fine =
-      let from = aborted_from seat seat.phase c (in_row (Aborted c) refl (breaks_none stripes g (Aborted c) fine).0).0 in
+      let from = aborted_from seat seat.phase c (in_row (Aborted c) refl (breaks_none holder stripes g (Aborted c) fine).0).0 in
       entries.aborted stripes g legal c seat seat_is from.0 from.1
 
   -- Where the caller waits for the reply of an operation, a Did has the right shape, and holds the reply of the map now.
@@ -173,9 +175,9 @@ module _ (stripes : ℕ) (g : List Entry) (legal : IsLegal stripes g) (c : ℕ) 
       replies_hold-push stripes g legal (Did c x) shaped
       ∙ ap (λ (o : Option Seat). elim o as (λ o. Bool) [ None ↦ true | Some s ↦ is_right_in g s.phase x ]) seat_is ∙ ap (λ q. is_right_in g q x) waits
 
-  pub next-did : (op : Op) (x : Option ℕ) → seat.phase ≡ Waiting op → broken stripes g (Did c x) ≡ None
-      → Next stripes g (Did c x) (record seat { phase = Opened; standing = cond (changes op x) (seat.standing + 1) seat.standing })
+  pub next-did : (op : Op) (x : Option ℕ) → seat.phase ≡ Waiting op → broken holder stripes g (Did c x) ≡ None
+      → Next holder stripes g (Did c x) (record seat { phase = Opened; standing = cond (changes op x) (seat.standing + 1) seat.standing })
       (cond (changes op x) ((key_of op, x) ∷ log_of c g) (log_of c g)) (serial g) (after (now g) op) (λ s. holder_of stripes s g)
   next-did op x waits fine =
-      let tests = breaks_none stripes g (Did c x) fine in
+      let tests = breaks_none holder stripes g (Did c x) fine in
       entries.did stripes g legal c op x seat seat_is waits (same_option x (reply_of (now g) op) (sym (did_right op x waits tests.0) ∙ tests.1))

@@ -8,6 +8,7 @@ use Rattle.std.proofs.lemmas.List.Sums.{length-filter, sum_by-cons}
 use Rattle.std.proofs.lemmas.List.Elements.{All-head, All-tail}
 use mathlib.Core.Logic.{inl, inr}
 use Rattle.txn_trace.specs.declared.entry.Entry.{Entry}
+use Rattle.txn_trace.specs.declared.holder.Holder.{Holder}
 use Rattle.txn_trace.specs.History.{caller_of}
 use Rattle.txn_trace.specs.Shape.{seat_after, own}
 use Rattle.txn_trace.specs.Legal as legal
@@ -43,8 +44,8 @@ callers_below n (e ∷ h) within all =
     callers_below (max n (caller_of e + 1)) h (omega arith) (All-tail (λ e. caller_of e < 64) e h all)
 
 -- The verdict on a legal history.
-pub verdict-tells : (stripes : ℕ) (h : List Entry) (state : State) (running : ℕ) → Tells stripes h state → running ≡ count_by (λ (caller : Caller). runs (seat_of caller).phase) state.callers.items
-    → legal.Legal state.committed running ≡ verdict stripes h
+pub verdict-tells : {holder : Holder} (stripes : ℕ) (h : List Entry) (state : State) (running : ℕ) → Tells holder stripes h state → running ≡ count_by (λ (caller : Caller). runs (seat_of caller).phase) state.callers.items
+    → legal.Legal state.committed running ≡ verdict holder stripes h
 verdict-tells stripes h state count t count_is =
     let all : length state.callers.items ≡ 64 = sym state.callers.ok.0 ∙ state.all_callers in
     let in_table : count ≡ length (running 64 h) =
@@ -56,9 +57,9 @@ verdict-tells stripes h state count t count_is =
     (λ i. legal.Legal (t.commits i) ((in_table ∙ same) i)) ∙ sym (verdict-legal stripes h t.legal)
 
 -- A bad entry stays the first one.
-pub bad_stays : (stripes : ℕ) (h : List Entry) (e : Entry) (fed : ℕ) (state : State) (bad : Option (ℕ × Rule)) → is_some bad ≡ true → FedWith stripes h fed state bad → FedWith stripes (h ++ e ∷ []) fed state bad
-bad_stays stripes h e fed state None some is = absurd (false≢true some)
-bad_stays stripes h e fed state (Some bad) some is =
+pub bad_stays : (holder : Holder) (stripes : ℕ) (h : List Entry) (e : Entry) (fed : ℕ) (state : State) (bad : Option (ℕ × Rule)) → is_some bad ≡ true → FedWith holder stripes h fed state bad → FedWith holder stripes (h ++ e ∷ []) fed state bad
+bad_stays holder stripes h e fed state None some is = absurd (false≢true some)
+bad_stays holder stripes h e fed state (Some bad) some is =
     let first = first_bad_is stripes h bad.0 (number_of bad.1) is in
     first_bad-found stripes (h ++ e ∷ []) bad.0 (number_of bad.1) (record {
       front = first.front;
@@ -71,11 +72,11 @@ bad_stays stripes h e fed state (Some bad) some is =
     })
 
 -- An entry that breaks a rule after a legal history is the first bad one.
-pub bad_now : (stripes : ℕ) (h : List Entry) (e : Entry) (i rule : ℕ) → IsLegal stripes h → i ≡ length h → broken stripes h e ≡ Some rule → first_bad stripes [] (h ++ e ∷ []) 0 ≡ Some (i, rule)
+pub bad_now : {holder : Holder} (stripes : ℕ) (h : List Entry) (e : Entry) (i rule : ℕ) → IsLegal holder stripes h → i ≡ length h → broken holder stripes h e ≡ Some rule → first_bad holder stripes [] (h ++ e ∷ []) 0 ≡ Some (i, rule)
 bad_now stripes h e i rule is_legal index breaks = first_bad-found stripes (h ++ e ∷ []) i rule (record { front = h; entry = e; back = []; is = refl; index = index; legal = is_legal; breaks = breaks })
 
 -- A verdict says that the history is legal exactly where it is.
-pub says_legal : (stripes : ℕ) (h : List Entry) (v : Verdict) → meaning_of v ≡ verdict stripes h → SaysLegal v ↔ IsLegal stripes h
+pub says_legal : {holder : Holder} (stripes : ℕ) (h : List Entry) (v : Verdict) → meaning_of v ≡ verdict holder stripes h → SaysLegal v ↔ IsLegal holder stripes h
 says_legal stripes h (Legal commits running) is = (
   λ u. elim (legal_or_bad stripes h) [
     | inl fine ↦ fine

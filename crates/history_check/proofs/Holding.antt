@@ -6,9 +6,11 @@ use Rattle.std.proofs.lemmas.Bool.{cases_eq, eq-eqb, ne_eqb}
 use mathlib.Core.Logic.{inl, inr}
 use Rattle.txn_trace.specs.declared.op.Op.{Op}
 use Rattle.txn_trace.specs.declared.entry.Entry.{Entry}
+use Rattle.txn_trace.specs.declared.holder.Holder.{Holder}
+use Rattle.txn_trace.specs.declared.holder.Holder.TheVariants.{Now, Begun}
 use Rattle.txn_trace.specs.declared.entry.Entry.TheVariants.{Asked, Busy}
 use Rattle.txn_trace.specs.Map.{key_of}
-use Rattle.txn_trace.specs.Locks.{stripe_of, holder_of, is_locked}
+use Rattle.txn_trace.specs.Locks.{stripe_of, holder_of, has_begun, is_locked}
 use Rattle.txn_trace.proofs.Holders.{is_locked-asked, is_locked-busy}
 use Rattle.key_locks.specs.Locks as locks
 use Rattle.history_check.specs.declared.state.State.{State}
@@ -30,17 +32,17 @@ not_both x c = elim (cases_eq x c) [
   | inr other ↦ ap (λ b. not (x == c) && b) (ne_eqb c x (λ is. other (sym is))) ∙ and_false (not (x == c))
 ]
 
-named : (x c holder : ℕ) → (holder ≡ c → ⊥) → (not (x == c) && nat_eq holder x) ≡ (holder == x)
-named x c holder by_another = elim (cases_eq x c) [
-  | inl is ↦ ap (λ b. not b && nat_eq holder x) (eq-eqb x c is) ∙ sym (ne_eqb holder x (λ same. by_another (same ∙ is)))
-  | inr other ↦ ap (λ b. not b && nat_eq holder x) (ne_eqb x c other)
+named : (x c other : ℕ) → (other ≡ c → ⊥) → (not (x == c) && nat_eq other x) ≡ (other == x)
+named x c other by_another = elim (cases_eq x c) [
+  | inl is ↦ ap (λ b. not b && nat_eq other x) (eq-eqb x c is) ∙ sym (ne_eqb other x (λ same. by_another (same ∙ is)))
+  | inr apart ↦ ap (λ b. not b && nat_eq other x) (ne_eqb x c apart)
 ]
 
 without : (c : ℕ) (o : Option ℕ) → locks.without_caller c o ≡ cond {A = Option ℕ} (option_eq nat_eq o (Some c)) None o
 without c None = refl
 without c (Some d) = refl
 
-module _ (stripes : ℕ) (h : List Entry) (state : State) (t : Tells stripes h state) (c : ℕ) where
+module _ {holder : Holder} (stripes : ℕ) (h : List Entry) (state : State) (t : Tells holder stripes h state) (c : ℕ) where
   -- A caller's stripes are free when it gives them back.
   pub released : (new : List (Option ℕ)) → locks.Releases c state.locks new → (s : ℕ) → s < stripes → locks.holder_of new s ≡ cond (option_eq nat_eq (holder_of stripes s h) (Some c)) None (holder_of stripes s h)
   released new is s below = is.each s ∙ ap (locks.without_caller c) (t.holders s below) ∙ without c (holder_of stripes s h)
@@ -62,24 +64,29 @@ module _ (stripes : ℕ) (h : List Entry) (state : State) (t : Tells stripes h s
     busy_test x o = not (x == c) && option_eq nat_eq o (Some x)
 
     -- An Asked may stand where the stripe is granted, and not where another caller holds it.
-    pub asked-granted : (new : List (Option ℕ)) → locks.Grants c (key % state.stripes) state.locks new → is_locked stripes h (Asked c op) ≡ true
-    asked-granted new is = is_locked-asked stripes h c op t.legal.shape t.legal.locks ∙ elim is.open_to_caller [
+    pub asked-granted : (new : List (Option ℕ)) → locks.Grants c (key % state.stripes) state.locks new → is_locked holder stripes h (Asked c op) ≡ true
+    asked-granted new is = is_locked-asked holder stripes h c op t.legal.shape t.legal.locks ∙ elim is.open_to_caller [
       | inl none ↦ ap asked_test (sym held ∙ none)
       | inr mine ↦ ap asked_test (sym held ∙ mine) ∙ eq-eqb c c refl
     ]
 
-    pub asked-refused : (holder : ℕ) (new : List (Option ℕ)) → locks.Refuses c (key % state.stripes) holder state.locks new → is_locked stripes h (Asked c op) ≡ false
-    asked-refused holder new is = is_locked-asked stripes h c op t.legal.shape t.legal.locks ∙ ap asked_test (sym held ∙ is.held) ∙ ne_eqb holder c is.by_another
+    pub asked-refused : (other : ℕ) (new : List (Option ℕ)) → locks.Refuses c (key % state.stripes) other state.locks new → is_locked holder stripes h (Asked c op) ≡ false
+    asked-refused other new is = is_locked-asked holder stripes h c op t.legal.shape t.legal.locks ∙ ap asked_test (sym held ∙ is.held) ∙ ne_eqb other c is.by_another
 
-    -- A Busy may stand where another caller holds the stripe, and is the one that it names.
-    pub busy-granted : (x : ℕ) (new : List (Option ℕ)) → locks.Grants c (key % state.stripes) state.locks new → is_locked stripes h (Busy c op x) ≡ false
-    busy-granted x new is = is_locked-busy stripes h c op x t.legal.shape t.legal.locks ∙ elim is.open_to_caller [
+    busy_now : holder ≡ Now → (x : ℕ) → is_locked holder stripes h (Busy c op x) ≡ busy_test x (holder_of stripes (stripe_of stripes (key_of op)) h)
+    busy_now now x =
+        is_locked-busy holder stripes h c op x t.legal.shape t.legal.locks
+        ∙ ap (λ (r : Holder). not (x == c) && elim r as (λ r. Bool) [ Now ↦ option_eq nat_eq (holder_of stripes (stripe_of stripes (key_of op)) h) (Some x) | Begun ↦ has_begun x h ]) now
+
+    -- Where it names a holder of now, a Busy may stand where another caller holds the stripe, and is the one that it names.
+    pub busy-granted : holder ≡ Now → (x : ℕ) (new : List (Option ℕ)) → locks.Grants c (key % state.stripes) state.locks new → is_locked holder stripes h (Busy c op x) ≡ false
+    busy-granted now x new is = busy_now now x ∙ elim is.open_to_caller [
       | inl none ↦ ap (busy_test x) (sym held ∙ none) ∙ and_false (not (x == c))
       | inr mine ↦ ap (busy_test x) (sym held ∙ mine) ∙ not_both x c
     ]
 
-    pub busy-refused : (x holder : ℕ) (new : List (Option ℕ)) → locks.Refuses c (key % state.stripes) holder state.locks new → is_locked stripes h (Busy c op x) ≡ (holder == x)
-    busy-refused x holder new is = is_locked-busy stripes h c op x t.legal.shape t.legal.locks ∙ ap (busy_test x) (sym held ∙ is.held) ∙ named x c holder is.by_another
+    pub busy-refused : holder ≡ Now → (x other : ℕ) (new : List (Option ℕ)) → locks.Refuses c (key % state.stripes) other state.locks new → is_locked holder stripes h (Busy c op x) ≡ (other == x)
+    busy-refused now x other new is = busy_now now x ∙ ap (busy_test x) (sym held ∙ is.held) ∙ named x c other is.by_another
 
     -- A stripe that is granted is the caller's.
     pub granted : (new : List (Option ℕ)) → locks.Grants c (key % state.stripes) state.locks new → (s : ℕ) → s < stripes → locks.holder_of new s ≡ cond (stripe_of stripes (key_of op) == s) (Some c) (holder_of stripes s h)

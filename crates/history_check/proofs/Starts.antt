@@ -1,5 +1,5 @@
 -- The state before the first entry.
-use Rattle.std.proofs.Common.{◌≡◌, ℕ, suc, zero, ◌<◌, List, [], ◌∷◌, refl, ap, sym, ◌∙◌, Some, None, replicate}
+use Rattle.std.proofs.Common.{◌≡◌, ℕ, false, suc, zero, ◌<◌, List, [], ◌∷◌, refl, ap, sym, ◌∙◌, Some, None, replicate}
 use Rattle.std.specs.Prelude.{slice_get}
 use Rattle.std.specs.Option.{IfSome}
 use Rattle.std.specs.List.{All}
@@ -19,15 +19,16 @@ use Rattle.history_check.specs.States.{Sits, Tells}
 
 -- A caller that has done nothing.
 abbrev pub IsFresh : Caller → Type 0
-IsFresh caller = (seat_of caller ≡ closed_seat) × (log_in caller ≡ [])
+IsFresh caller = (seat_of caller ≡ closed_seat) × (log_in caller ≡ []) × (caller.has_begun ≡ false)
 
 fresh_sits : (callers : List Caller) → All IsFresh callers → (c k : ℕ) → IfSome (slice_get callers k) (Sits [] c)
 fresh_sits [] all c k = tt
-fresh_sits (x ∷ xs) all c zero = let fresh = All-head IsFresh x xs all in record { seat = ap Some (sym fresh.0); log = sym fresh.1 }
+fresh_sits (x ∷ xs) all c zero = let fresh = All-head IsFresh x xs all in record { seat = ap Some (sym fresh.0); log = sym fresh.1; begun = sym fresh.2 }
 fresh_sits (x ∷ xs) all c (suc k) = fresh_sits xs (All-tail IsFresh x xs all) c k
 
-pub tells-none : (state : State) → IsEmpty state.values → All IsFresh state.callers.items → state.locks ≡ replicate state.stripes None → state.began ≡ 0 → state.committed ≡ 0 → Tells state.stripes [] state
+pub tells-none : (state : State) → IsEmpty state.values → All IsFresh state.callers.items → state.locks ≡ replicate state.stripes None → state.began ≡ 0 → state.committed ≡ 0 → Tells state.holder state.stripes [] state
 tells-none state no_values fresh no_holders none_began none_committed = record {
+  holder_is = refl;
   stripes_are = refl;
   legal = legal_none state.stripes;
   callers = All-nil (λ e. caller_of e < 64);

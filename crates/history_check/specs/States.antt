@@ -3,9 +3,10 @@ use Rattle.std.specs.Prelude.{◌≡◌, ℕ, ◌<◌, IsTrue, Option, None, Som
 use Rattle.std.specs.List.{All}
 use Rattle.std.specs.Option.{IfSome}
 use Rattle.txn_trace.specs.declared.entry.Entry.{Entry}
+use Rattle.txn_trace.specs.declared.holder.Holder.{Holder}
 use Rattle.txn_trace.specs.History.{caller_of, is_began, is_commit}
 use Rattle.txn_trace.specs.Now.{now}
-use Rattle.txn_trace.specs.Locks.{holder_of}
+use Rattle.txn_trace.specs.Locks.{holder_of, has_begun}
 use Rattle.txn_trace.specs.Log.{log_of}
 use Rattle.txn_trace.specs.Shape.{seat_after, own, how_many, is_shaped}
 use Rattle.txn_trace.specs.Legal.{IsLegal, broken, replies_hold}
@@ -17,16 +18,18 @@ use Rattle.history_check.specs.Callers.{seat_of, log_in}
 use Rattle.history_check.specs.Values.{Has}
 use Rattle.history_check.specs.Verdicts.{number_of}
 
--- The caller has the seat and the log that its entries give it.
+-- The caller has the seat and the log that its entries give it, and says whether it has begun.
 pub record Sits (h : List Entry) (c : ℕ) (caller : Caller) : Type 0 where
   pub seat : seat_after (own c h) ≡ Some (seat_of caller)
   pub log : log_of c h ≡ log_in caller
+  pub begun : has_begun c h ≡ caller.has_begun
 
 -- The entries are a legal history; the counts, the values, the callers and the holders of the
 -- stripes are what it says.
-pub record Tells (stripes : ℕ) (h : List Entry) (state : State) : Type 0 where
+pub record Tells (holder : Holder) (stripes : ℕ) (h : List Entry) (state : State) : Type 0 where
+  pub holder_is : state.holder ≡ holder
   pub stripes_are : state.stripes ≡ stripes
-  pub legal : IsLegal stripes h
+  pub legal : IsLegal holder stripes h
   pub callers : All (λ e. caller_of e < 64) h
   pub begins : state.began ≡ how_many is_began h
   pub commits : state.committed ≡ how_many is_commit h
@@ -38,27 +41,31 @@ pub record Tells (stripes : ℕ) (h : List Entry) (state : State) : Type 0 where
 -- tells one entry more.
 abbrev pub Grows : Entry → State → State → Type 0
 Grows e old new =
-    (stripes : ℕ) (h : List Entry)
-    → Tells stripes h old → broken stripes h e ≡ None → Tells stripes (h ++ e ∷ []) new
+    (holder : Holder) (stripes : ℕ) (h : List Entry)
+    → Tells holder stripes h old → broken holder stripes h e ≡ None
+    → Tells holder stripes (h ++ e ∷ []) new
 
 -- The new state tells what the old one tells.
 abbrev pub Stays : State → State → Type 0
-Stays old new = (stripes : ℕ) (h : List Entry) → Tells stripes h old → Tells stripes h new
+Stays old new =
+    (holder : Holder) (stripes : ℕ) (h : List Entry)
+    → Tells holder stripes h old → Tells holder stripes h new
 
 -- After a history the entry breaks the rule that is named; where none is, the state tells one entry
 -- more.
-abbrev pub Judged : ℕ → List Entry → Entry → Option Rule → State → Type 0
-Judged stripes h e None new = Tells stripes (h ++ e ∷ []) new
-Judged stripes h e (Some rule) new = broken stripes h e ≡ Some (number_of rule)
+abbrev pub Judged : Holder → ℕ → List Entry → Entry → Option Rule → State → Type 0
+Judged holder stripes h e None new = Tells holder stripes (h ++ e ∷ []) new
+Judged holder stripes h e (Some rule) new = broken holder stripes h e ≡ Some (number_of rule)
 
 -- That holds after each history that the old state tells.
 abbrev pub Judges : Entry → State → Option Rule → State → Type 0
 Judges e old rule new =
-    (stripes : ℕ) (h : List Entry) → Tells stripes h old → Judged stripes h e rule new
+    (holder : Holder) (stripes : ℕ) (h : List Entry)
+    → Tells holder stripes h old → Judged holder stripes h e rule new
 
 -- That holds where the entry has the right shape and the right reply.
 abbrev pub JudgesLocks : Entry → State → Option Rule → State → Type 0
 JudgesLocks e old rule new =
-    (stripes : ℕ) (h : List Entry)
-    → Tells stripes h old → IsTrue (is_shaped h e) → IsTrue (replies_hold (h ++ e ∷ []))
-    → Judged stripes h e rule new
+    (holder : Holder) (stripes : ℕ) (h : List Entry)
+    → Tells holder stripes h old → IsTrue (is_shaped h e) → IsTrue (replies_hold (h ++ e ∷ []))
+    → Judged holder stripes h e rule new

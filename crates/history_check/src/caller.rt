@@ -1,5 +1,6 @@
 //! What a caller's entries so far make of it.
-ghost use Rattle.std.specs.Prelude.{◌≡◌, ◌<◌, [], true, reverse, slice_get, vec_len, vec_capacity, is_some, OnOk, OnErr};
+ghost use Rattle.std.specs.Prelude.{◌≡◌, ◌<◌, [], true, false, reverse, slice_get, vec_len, vec_capacity, is_some, OnOk, OnErr};
+ghost use Rattle.txn_trace.specs.History.{is_began};
 ghost use Rattle.txn_trace.specs.Shape.{closed_seat, row};
 ghost use Rattle.txn_trace.specs.Seats.{is_saved};
 ghost use Rattle.txn_trace.specs.Legal.{runs};
@@ -8,11 +9,12 @@ ghost use Rattle.history_check.specs.Logs.{is_did, log_entered};
 use std::alloc::{AllocError, Global};
 use txn_trace::{Entry, Phase, Reply, Seat};
 
-/// A caller: its seat, and of each change that stands its key and the value before it, oldest
-/// first.
+/// A caller: its seat, whether it has begun a transaction, and of each change that stands its key
+/// and the value before it, oldest first.
 #[derive(Drop)]
 pub(crate) struct Caller {
     pub(crate) seat: Seat,
+    pub(crate) has_begun: bool,
     pub(crate) changes: Vec<(u64, Reply)>,
     ghost all_noted: { vec_len changes ≡ seat.seat.standing },
 }
@@ -24,9 +26,11 @@ impl Caller {
     pub(crate) fn new(alloc: Global) -> Caller
         ensures seat { seat_of result ≡ closed_seat }
         ensures log { log_in result ≡ [] }
+        ensures begun { result.has_begun ≡ false }
     {
         Caller {
             seat: Seat::new(alloc),
+            has_begun: false,
             changes: Vec::new(alloc),
         }
     }
@@ -63,6 +67,7 @@ impl Caller {
     pub(crate) fn reserve_change(&mut self) -> Result<(), AllocError>
         ensures seat { seat_of self.new ≡ seat_of self.old }
         ensures log { log_in self.new ≡ log_in self.old }
+        ensures begun { self.new.has_begun ≡ self.old.has_begun }
         ensures ok { OnOk result (vec_len self.new.changes < vec_capacity self.new.changes) }
     {
         self.changes.reserve(1)
@@ -72,6 +77,7 @@ impl Caller {
     pub(crate) fn reserve_level(&mut self) -> Result<(), AllocError>
         ensures seat { seat_of self.new ≡ seat_of self.old }
         ensures log { log_in self.new ≡ log_in self.old }
+        ensures begun { self.new.has_begun ≡ self.old.has_begun }
         ensures ok { OnOk result (0 < self.new.seat.room) }
     {
         self.seat.reserve_level()
@@ -86,10 +92,18 @@ impl Caller {
             Enters entry self.old self.new }
     {
         let phase = self.seat.phase();
+        self.has_begun |= begins(entry);
         if self.seat.enter(entry) {
             note(&mut self.changes, phase, entry);
         }
     }
+}
+
+/// Whether an entry begins a transaction.
+fn begins(entry: Entry) -> bool
+    ensures { result ≡ is_began entry }
+{
+    matches!(entry, Entry::Began(..))
 }
 
 /// Notes a change that an entry makes in this phase, or drops those that it takes back.

@@ -2,17 +2,18 @@
 ghost use Rattle.std.specs.Prelude.{◌≡◌, ℕ, ◌<◌, ◌++◌, [], ◌∷◌, List, IfOk, OnOk, OnErr};
 ghost use Rattle.txn_trace.specs.History.{caller_of};
 ghost use Rattle.txn_trace.specs.Legal.{verdict};
+ghost use Rattle.txn_trace.specs.declared.holder.Holder.{Holder};
 ghost use Rattle.history_check.specs.Verdicts.{meaning_of};
 
 use crate::state::State;
 use crate::verdict::{Rule, Verdict};
 use std::alloc::{AllocError, Global};
-use txn_trace::Entry;
+use txn_trace::{Entry, Holder};
 
 /// A checker that is fed the entries of a history one after another, and keeps none of them.
 ///
-/// A contract sees which entries it was fed, of a map with how many stripes: `IsFed stripes h
-/// checker`.
+/// A contract sees which entries it was fed, of a map with how many stripes, and whom a Busy may
+/// name: `IsFed holder stripes h checker`.
 #[derive(Drop)]
 pub struct Checker {
     state: State,
@@ -25,18 +26,19 @@ pub struct Checker {
 impl Checker {
     ghost use Rattle.history_check.specs.Fed.{IsFed};
 
-    /// A checker of the history of a map with so many stripes, before the first entry.
+    /// A checker of the history of a map with so many stripes, whose Busy entries may name such a
+    /// caller, before the first entry.
     ///
     /// It takes memory for 64 callers and for the stripes.
     ///
     /// # Errors
     ///
     /// `AllocError` where memory is refused.
-    pub fn new(alloc: Global, stripes: u64) -> Result<Checker, AllocError>
+    pub fn new(alloc: Global, stripes: u64, holder: Holder) -> Result<Checker, AllocError>
         requires { 0 < stripes }
-        ensures { IfOk result (IsFed stripes []) }
+        ensures { IfOk result (IsFed holder stripes []) }
     {
-        let state = State::new(alloc, stripes)?;
+        let state = State::new(alloc, stripes, holder)?;
         Ok(Checker {
             state,
             fed: 0,
@@ -56,10 +58,10 @@ impl Checker {
     /// were fed. Then it was fed no entry more, and the same one may be fed again.
     pub fn feed(&mut self, entry: &Entry) -> Result<(), AllocError>
         requires { caller_of entry.now < 64 }
-        ensures ok { OnOk result ((stripes : ℕ) (h : List Entry) →
-            IsFed stripes h self.old → IsFed stripes (h ++ entry.now ∷ []) self.new) }
-        ensures err { OnErr result ((stripes : ℕ) (h : List Entry) →
-            IsFed stripes h self.old → IsFed stripes h self.new) }
+        ensures ok { OnOk result ((holder : Holder) (stripes : ℕ) (h : List Entry) →
+            IsFed holder stripes h self.old → IsFed holder stripes (h ++ entry.now ∷ []) self.new) }
+        ensures err { OnErr result ((holder : Holder) (stripes : ℕ) (h : List Entry) →
+            IsFed holder stripes h self.old → IsFed holder stripes h self.new) }
     {
         if self.bad.is_some() {
             return Ok(());
@@ -76,8 +78,8 @@ impl Checker {
     ///
     /// A fixed number of steps, one for each of 64 callers.
     pub fn verdict(&self) -> Verdict
-        ensures { (stripes : ℕ) (h : List Entry) →
-            IsFed stripes h self.now → meaning_of result ≡ verdict stripes h }
+        ensures { (holder : Holder) (stripes : ℕ) (h : List Entry) →
+            IsFed holder stripes h self.now → meaning_of result ≡ verdict holder stripes h }
     {
         match self.bad {
             Some((entry, rule)) => Verdict::Illegal { entry, rule },

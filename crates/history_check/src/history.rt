@@ -8,9 +8,10 @@ ghost use Rattle.history_check.specs.Verdicts.{meaning_of, SaysLegal};
 use crate::checker::Checker;
 use crate::verdict::Verdict;
 use std::alloc::{AllocError, Global};
-use txn_trace::Entry;
+use txn_trace::{Entry, Holder};
 
-/// Judges a whole history of a map with so many stripes, whose callers are below 64.
+/// Judges a whole history of a map with so many stripes, whose callers are below 64 and whose Busy
+/// entries may name such a caller.
 ///
 /// The verdict is `Legal`, with the number of commits and of callers that are in a transaction at
 /// the end, exactly where the history is legal. Otherwise it is `Illegal`, with the index of the
@@ -25,13 +26,20 @@ use txn_trace::Entry;
 /// # Errors
 ///
 /// `AllocError` where memory is refused.
-pub fn check(alloc: Global, entries: &[Entry], stripes: u64) -> Result<Verdict, AllocError>
+pub fn check(
+    alloc: Global,
+    entries: &[Entry],
+    stripes: u64,
+    holder: Holder,
+) -> Result<Verdict, AllocError>
     requires stripes { 0 < stripes }
     requires callers { All (λ entry. caller_of entry < 64) entries.now }
-    ensures verdict { IfOk result (λ outcome. meaning_of outcome ≡ verdict stripes entries.now) }
-    ensures legal { IfOk result (λ outcome. SaysLegal outcome ↔ IsLegal stripes entries.now) }
+    ensures verdict { IfOk result (λ outcome.
+        meaning_of outcome ≡ verdict holder stripes entries.now) }
+    ensures legal { IfOk result (λ outcome.
+        SaysLegal outcome ↔ IsLegal holder stripes entries.now) }
 {
-    let mut checker = Checker::new(alloc, stripes)?;
+    let mut checker = Checker::new(alloc, stripes, holder)?;
     for entry in entries {
         checker.feed(entry)?;
     }

@@ -6,15 +6,17 @@
 //! `txn_trace`. In the usual terms these are serializability in the order of commits (which open
 //! transactions must have too), strict two-phase locking of stripes, and well-formed callers. The
 //! checker says which histories are legal, and of any other names the first entry that breaks a
-//! rule.
+//! rule. Whom a Busy may name is a parameter (`Holder`): a caller that holds the stripe now, or one
+//! that has begun a transaction before.
 //!
 //! It need not run any transaction again. While a history is legal, open transactions hold
 //! different stripes, so the map as it is now gives the right reply to each of them, as abstract
 //! locks do in Herlihy and Koskinen, "Transactional Boosting" (PPoPP 2008). So the checker keeps
 //! that map, the holder of each stripe, and of each caller its phase, its standing changes with the
-//! values before them and its savepoints: it copies no map and keeps no list of the entries. An
-//! entry costs the logarithm of the number of keys. Memory is in proportion to the stripes, and to
-//! the most keys, changes that can be taken back and savepoints that there are at one time.
+//! values before them, its savepoints and whether it has begun a transaction: it copies no map and
+//! keeps no list of the entries. An entry costs the logarithm of the number of keys. Memory is in
+//! proportion to the stripes, and to the most keys, changes that can be taken back and savepoints
+//! that there are at one time.
 //!
 //! Proved: `check`, and a `Checker` that was fed the same entries, say what the definition
 //! `verdict` of `txn_trace` says, and they say legal exactly where `IsLegal` holds. An entry that

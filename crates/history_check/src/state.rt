@@ -2,6 +2,7 @@
 ghost use Rattle.std.specs.Prelude.{◌≡◌, ℕ, ◌+◌, ◌<◌, ◌==◌, ◌++◌, [], ◌∷◌, List, None, true, length, IsTrue, IfOk, OnOk, OnErr, vec_len, count_by};
 ghost use Rattle.txn_trace.specs.History.{caller_of, is_began, is_commit};
 ghost use Rattle.txn_trace.specs.Shape.{how_many, is_numbered};
+ghost use Rattle.txn_trace.specs.declared.holder.Holder.{Holder};
 
 use crate::caller::Caller;
 use crate::values::{operate, restore};
@@ -9,11 +10,13 @@ use crate::verdict::Rule;
 use key_locks::{CALLERS, KeyLocks, LockAnswer};
 use std::alloc::{AllocError, Global};
 use std::collections::BTreeMap;
-use txn_trace::{Entry, Op, Phase, Reply};
+use txn_trace::{Entry, Holder, Op, Phase, Reply};
 
 /// What a legal history says, as far as the next entry is judged by it.
 #[derive(Drop)]
 pub(crate) struct State {
+    /// Whom a Busy may name.
+    pub(crate) holder: Holder,
     /// How many stripes the keys are shared out to.
     pub(crate) stripes: u64,
     /// How many transactions began.
@@ -33,15 +36,15 @@ pub(crate) struct State {
 
 impl State {
     ghost use Rattle.txn_trace.specs.Legal.{replies_hold, runs};
-    ghost use Rattle.txn_trace.specs.Locks.{is_locked};
+    ghost use Rattle.txn_trace.specs.Locks.{is_locked, has_begun};
     ghost use Rattle.txn_trace.specs.Shape.{is_shaped};
     ghost use Rattle.history_check.specs.Callers.{seat_of};
     ghost use Rattle.history_check.specs.States.{Tells, Grows, Stays, Judges, JudgesLocks};
 
     /// The state before the first entry.
-    pub(crate) fn new(alloc: Global, stripes: u64) -> Result<State, AllocError>
+    pub(crate) fn new(alloc: Global, stripes: u64, holder: Holder) -> Result<State, AllocError>
         requires { 0 < stripes }
-        ensures { IfOk result (Tells stripes []) }
+        ensures { IfOk result (Tells holder stripes []) }
     {
         let mut callers = Vec::with_capacity(alloc, CALLERS)?;
         for _ in 0..CALLERS {
@@ -49,6 +52,7 @@ impl State {
         }
         let locks = KeyLocks::new(alloc, stripes as usize)?;
         Ok(State {
+            holder,
             stripes,
             began: 0,
             committed: 0,
@@ -82,7 +86,7 @@ impl State {
         }
         match *entry {
             Entry::Asked(caller, op) => return Ok(self.ask(caller, op)),
-            Entry::Busy(caller, op, holder) => return Ok(self.find_busy(caller, op, holder)),
+            Entry::Busy(caller, op, named) => return Ok(self.find_busy(caller, op, named)),
             Entry::Began(caller, txn) => self.begin(caller, txn),
             Entry::Did(caller, reply) => self.reply(caller, reply)?,
             Entry::Saved(caller) => self.save(caller)?,
@@ -98,8 +102,8 @@ impl State {
     /// Whether the entry follows the state table, and has the right number.
     fn has_shape(&self, entry: &Entry) -> bool
         requires { caller_of entry.now < 64 }
-        ensures { (stripes : ℕ) (h : List Entry) →
-            Tells stripes h self.now → result ≡ is_shaped h entry.now }
+        ensures { (holder : Holder) (stripes : ℕ) (h : List Entry) →
+            Tells holder stripes h self.now → result ≡ is_shaped h entry.now }
     {
         let caller = entry.caller();
         let is_numbered = has_next_number(self.began, self.committed, entry);
@@ -109,8 +113,8 @@ impl State {
     /// Whether a reply is that of the map as it is now.
     fn is_answered(&self, entry: &Entry) -> bool
         requires { caller_of entry.now < 64 }
-        ensures { (stripes : ℕ) (h : List Entry) →
-            Tells stripes h self.now → IsTrue (is_shaped h entry.now) →
+        ensures { (holder : Holder) (stripes : ℕ) (h : List Entry) →
+            Tells holder stripes h self.now → IsTrue (is_shaped h entry.now) →
             result ≡ replies_hold (h ++ entry.now ∷ []) }
     {
         let Entry::Did(caller, reply) = *entry else {
@@ -146,21 +150,46 @@ impl State {
         }
     }
 
-    /// The stripe of an operation's key is held by another caller, this one.
-    fn find_busy(&mut self, caller: u64, op: Op, holder: u64) -> Option<Rule>
+    /// An operation finds its stripe in the hands of another caller, this one.
+    fn find_busy(&mut self, caller: u64, op: Op, named: u64) -> Option<Rule>
         requires { caller < 64 }
-        ensures { JudgesLocks (Entry.Busy caller op holder) self.old result self.new }
+        ensures { JudgesLocks (Entry.Busy caller op named) self.old result self.new }
     {
-        let stripe = op.key() % self.stripes;
-        match self.locks.lock(caller as usize, stripe as usize) {
-            LockAnswer::Granted => Some(Rule::Locks),
-            LockAnswer::Busy(other) => {
-                if other as u64 != holder {
-                    return Some(Rule::Locks);
+        if !self.may_name(caller, op, named) {
+            return Some(Rule::Locks);
+        }
+        self.callers[caller as usize].enter(Entry::Busy(caller, op, named));
+        None
+    }
+
+    /// Whether a Busy of the caller may name that one. Nothing changes where it may.
+    fn may_name(&mut self, caller: u64, op: Op, named: u64) -> bool
+        requires { caller < 64 }
+        ensures answer { (holder : Holder) (stripes : ℕ) (h : List Entry) →
+            Tells holder stripes h self.old →
+            result ≡ is_locked holder stripes h (Entry.Busy caller op named) }
+        ensures same { IsTrue result → Stays self.old self.new }
+    {
+        match self.holder {
+            Holder::Begun => named != caller && self.has_begun(named),
+            Holder::Now => {
+                let stripe = op.key() % self.stripes;
+                match self.locks.lock(caller as usize, stripe as usize) {
+                    LockAnswer::Granted => false,
+                    LockAnswer::Busy(other) => other as u64 == named,
                 }
-                self.callers[caller as usize].enter(Entry::Busy(caller, op, holder));
-                None
             }
+        }
+    }
+
+    /// Whether a caller has begun a transaction.
+    fn has_begun(&self, caller: u64) -> bool
+        ensures { (holder : Holder) (stripes : ℕ) (h : List Entry) →
+            Tells holder stripes h self.now → result ≡ has_begun caller h }
+    {
+        match self.callers.get(caller as usize) {
+            Some(caller) => caller.has_begun,
+            None => false,
         }
     }
 

@@ -8,7 +8,7 @@ use generated::Draws;
 use std::alloc::{AllocError, Global};
 use std::process::Abort;
 use std::test::Fail;
-use txn_trace::{Entry, Op};
+use txn_trace::{Entry, Holder, Op};
 
 fn illegal(entry: u64, rule: Rule) -> Verdict {
     Verdict::Illegal { entry, rule }
@@ -44,15 +44,20 @@ fn agreed<R: AllocGlobal + Abort>(
     rt: &R,
     entries: &[Entry],
     stripes: u64,
+    holder: Holder,
 ) -> Result<Verdict, AllocError>
     requires { 0 < stripes }
 {
     let alloc = rt.alloc();
-    let bad = plain::first_bad(alloc, entries, stripes)?;
+    let bad = plain::first_bad(alloc, entries, stripes, holder)?;
     let expected = plain::verdict(entries, bad);
     assert!(rt; entries.iter().all(|entry| entry.caller() < 64));
-    assert_eq!(rt; check(alloc, entries, stripes)?, expected, "{entries:?}");
-    let mut checker = Checker::new(alloc, stripes)?;
+    assert_eq!(rt;
+        check(alloc, entries, stripes, holder)?,
+        expected,
+        "{entries:?}"
+    );
+    let mut checker = Checker::new(alloc, stripes, holder)?;
     for (i, entry) in entries.iter().enumerate() {
         assert!(rt; entry.caller() < 64);
         checker.feed(entry)?;
@@ -63,6 +68,18 @@ fn agreed<R: AllocGlobal + Abort>(
 }
 
 /// The verdict, asked for once more where memory is refused.
+fn judged_by<R: AllocGlobal + Abort>(
+    rt: &R,
+    entries: &[Entry],
+    stripes: u64,
+    holder: Holder,
+) -> Result<Verdict, AllocError>
+    requires { 0 < stripes }
+{
+    agreed(rt, entries, stripes, holder).or_else(|_| agreed(rt, entries, stripes, holder))
+}
+
+/// The verdict where a Busy names a holder of now.
 fn judged<R: AllocGlobal + Abort>(
     rt: &R,
     entries: &[Entry],
@@ -70,7 +87,7 @@ fn judged<R: AllocGlobal + Abort>(
 ) -> Result<Verdict, AllocError>
     requires { 0 < stripes }
 {
-    agreed(rt, entries, stripes).or_else(|_| agreed(rt, entries, stripes))
+    judged_by(rt, entries, stripes, Holder::Now)
 }
 
 #[test]
@@ -106,6 +123,30 @@ fn checker_locks(rt: HostRuntime) -> Result<(), Fail> {
     assert_eq!(rt; judged(&rt, &asked, 8)?, illegal(4, Rule::Locks));
     let busy = [Entry::Began(0, 1), Entry::Busy(0, Op::Get(9), 1)];
     assert_eq!(rt; judged(&rt, &busy, 8)?, illegal(1, Rule::Locks));
+    Ok(())
+}
+
+/// A Busy that names a caller whose transaction is over.
+const HOLDER_HAS_BEGUN: [Entry; 6] = [
+    Entry::Began(0, 1),
+    Entry::Asked(0, Op::Put(1, 10)),
+    Entry::Did(0, None),
+    Entry::Committed(0, 1),
+    Entry::Began(1, 2),
+    Entry::Busy(1, Op::Get(9), 0),
+];
+
+#[test]
+fn holder_has_begun(rt: HostRuntime) -> Result<(), Fail> {
+    let begun = judged_by(&rt, &HOLDER_HAS_BEGUN, 8, Holder::Begun)?;
+    assert_eq!(rt; begun, legal(1, 1));
+    let now = judged_by(&rt, &HOLDER_HAS_BEGUN, 8, Holder::Now)?;
+    assert_eq!(rt; now, illegal(5, Rule::Locks));
+    for named in [0, 1, 64, u64::MAX] {
+        let busy = [Entry::Began(1, 1), Entry::Busy(1, Op::Get(9), named)];
+        let begun = judged_by(&rt, &busy, 8, Holder::Begun)?;
+        assert_eq!(rt; begun, illegal(1, Rule::Locks), "of {named}");
+    }
     Ok(())
 }
 
@@ -185,8 +226,8 @@ fn keys_that_share_a_split_key(rt: HostRuntime) -> Result<(), Fail> {
 
 /// Begins to check, once more where that is refused.
 fn started(alloc: Global) -> Result<Checker, AllocError> {
-    match Checker::new(alloc, 8) {
-        Err(_) => Checker::new(alloc, 8),
+    match Checker::new(alloc, 8, Holder::Now) {
+        Err(_) => Checker::new(alloc, 8, Holder::Now),
         checker => checker,
     }
 }
@@ -303,22 +344,28 @@ impl Tally {
 
 /// Draws a legal history from the seed, which must be found so, and gives the verdict on it with
 /// one fault.
-fn spoiled<R: AllocGlobal + Abort>(rt: &R, seed: u64) -> Result<Verdict, AllocError> {
+fn spoiled<R: AllocGlobal + Abort>(
+    rt: &R,
+    seed: u64,
+    holder: Holder,
+) -> Result<Verdict, AllocError> {
     let mut draws = Draws(seed);
     let stripes = draws.below(4) + 1;
     let length = draws.below(31);
-    let mut history = generated::legal_history(rt.alloc(), &mut draws, stripes, length)?;
-    let verdict = agreed(rt, &history, stripes)?;
+    let mut history = generated::legal_history(rt.alloc(), &mut draws, stripes, length, holder)?;
+    let verdict = agreed(rt, &history, stripes, holder)?;
     assert!(rt; matches!(verdict, Verdict::Legal { .. }), "{history:?}");
     generated::spoil(&mut draws, &mut history)?;
-    agreed(rt, &history, stripes)
+    agreed(rt, &history, stripes, holder)
 }
 
 #[test]
 fn agrees_with_the_plain_program(rt: HostRuntime) -> Result<(), Fail> {
     let mut tally = Tally::default();
-    for seed in 0..2000 {
-        tally.count(spoiled(&rt, seed).or_else(|_| spoiled(&rt, seed))?);
+    for seed in 0..1000 {
+        for holder in [Holder::Now, Holder::Begun] {
+            tally.count(spoiled(&rt, seed, holder).or_else(|_| spoiled(&rt, seed, holder))?);
+        }
     }
     assert!(rt; 500 < tally.legal, "legal: {}", tally.legal);
     assert!(rt; 100 < tally.replies, "rule 1: {}", tally.replies);

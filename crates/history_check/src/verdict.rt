@@ -9,7 +9,7 @@ pub enum Rule {
     /// those taken back too.
     Replies = 1,
     /// A stripe of keys belongs to one open transaction at a time: an Asked finds no other holder,
-    /// and a Busy names one.
+    /// and a Busy names another caller that holds the stripe, or that has begun a transaction.
     Locks = 2,
     /// Each caller's entries follow the state table, and transactions and commits are numbered from
     /// 1.

@@ -25,7 +25,8 @@ impl Model for KeyLocks {
 
     ghost view = { λ locks. locks.holders.items };
 
-    ghost invariant = { λ locks. AreChained locks.holders.items locks.older.items locks.newest.items };
+    ghost invariant = { λ locks.
+        AreChained locks.holders.items locks.older.items locks.newest.items };
 }
 
 fn nones(alloc: Global, count: usize) -> Result<Vec<Option<usize>>, AllocError>

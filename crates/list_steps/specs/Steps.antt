@@ -1,7 +1,8 @@
 -- What each step on a list does.
-use Rattle.std.specs.Prelude.{◌≡◌, ◌≢◌, ℕ, List, [], ◌∷◌, Option, Some, None, false, Contains, IsSomeAnd, if◌then◌else◌}
+use Rattle.std.specs.Prelude.{◌≡◌, ◌≢◌, ℕ, List, [], ◌∷◌, Option, Some, None, true, false, Contains, IsSomeAnd, if◌then◌else◌}
 use Rattle.std.specs.List.{AllByRecursion}
 use Rattle.node_list.specs.declared.node.Kind.TheVariants.{Regular}
+use Rattle.split_key.specs.Sort.{IsBefore}
 use Rattle.node_list.specs.Nodes.{NodeAt, Listing, Becomes, Takes, node_of, linked_after, marked_at, written_at}
 use Rattle.node_list.specs.Order.{IsVacant}
 use Rattle.list_steps.specs.declared.cursor.Cursor.{Cursor}
@@ -63,6 +64,12 @@ MarksThere old new c value = IsSomeAnd (node_there old c) (λ n. Marks old new n
 -- The node of the sort key sought, which had the first value, has the second.
 abbrev pub SwapsThere : Listing → Listing → Cursor → ℕ → ℕ → Type 0
 SwapsThere old new c was now = IsSomeAnd (node_there old c) (λ n. Swaps old new n.place was now)
+
+-- A node that all marked ones stand behind is linked here.
+pub record IsBeforeMarks (nodes : List NodeAt) (place : ℕ) : Type 0 where
+  pub node : NodeAt
+  pub is : node_of nodes place ≡ Some node
+  pub before : AllByRecursion (λ n. n.marked ≡ true → IsBefore node.at n.at) nodes
 
 -- The nodes without the first marked one.
 unfoldable pub without_first_marked : List NodeAt → List NodeAt

@@ -46,8 +46,8 @@ pub fn link(list: &mut NodeList, cursor: Cursor, spare: Spare) -> Result<NodeRef
 /// Marks the regular node of the sort key sought, and answers its value. Where the cursor fits,
 /// that node has to be there, as `look` tells.
 ///
-/// Its pair leaves the content. The node stays linked until a seek passes it or a sweep comes to it.
-/// Takes no memory.
+/// Its pair leaves the content. The node stays linked until a seek passes it or a sweep comes to
+/// it. Takes no memory.
 ///
 /// # Errors
 ///

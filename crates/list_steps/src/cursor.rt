@@ -27,7 +27,8 @@ pub struct Cursor {
     pub(crate) changes: u64,
 }
 
-/// The cursor does not fit: the list is not as it noted it. Seek again. It is printed as `the list is not as the cursor noted it`.
+/// The cursor does not fit: the list is not as it noted it. Seek again. It is printed as `the list
+/// is not as the cursor noted it`.
 #[derive(Clone, Copy, Debug, PartialEq, Eq)]
 pub struct Again;
 

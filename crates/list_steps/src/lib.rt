@@ -18,14 +18,18 @@
 //! change of the list keeps what makes it safe (`IsPlaced`, by the lemma `still_placed`).
 //!
 //! A cursor is tested once: where it fits `look` answers the node of the sort key, or that there is
-//! none, and `link_at`, `mark_at` and `swap_at` go by that. `link`, `mark` and `swap` are both at once.
+//! none, and `link_at`, `mark_at` and `swap_at` go by that. `link`, `mark` and `swap` are both at
+//! once.
 //!
 //! A contract sees the list as `node_list` does, and its content as `pairs`: key and value of each
 //! regular, unmarked node, in order. A link of a regular node puts its pair in, a mark takes a pair
 //! out, a swap changes a value; seeks, sweeps and links of dummies keep the content.
 //!
 //! No call takes memory. Each is a fixed number of look-ups, but for two: a seek visits each node
-//! from its start to its place once, and a sweep walks to the first marked node.
+//! from its start to its place once, and a sweep walks to the first marked node: `sweep` from the
+//! first node of the list, `sweep_from` from any node that all marked ones stand behind. Such a one
+//! is each dummy that stands no later than where `NodeList::marks_begin` says (the lemma
+//! `before_marks`).
 #![tactic(auto)]
 
 mod at_cursor;
@@ -40,4 +44,4 @@ pub use at_cursor::{link, mark, swap};
 pub use cursor::{Again, Cursor};
 pub use search::seek;
 pub use steps::{link_at, look, mark_at, swap_at};
-pub use sweeps::{SweepOutcome, sweep};
+pub use sweeps::{SweepOutcome, sweep, sweep_from};

@@ -4,7 +4,7 @@ ghost use Rattle.std.specs.List.{AllByRecursion};
 ghost use Rattle.node_list.specs.Follow.{Follows};
 ghost use Rattle.node_list.specs.Nodes.{IsBeforeMarked, unlinked_after};
 ghost use Rattle.list_steps.specs.Content.{pairs};
-ghost use Rattle.list_steps.specs.Steps.{Sweeps, without_first_marked};
+ghost use Rattle.list_steps.specs.Steps.{IsBeforeMarks, Sweeps, without_first_marked};
 
 use node_list::{NodeList, NodeRef};
 
@@ -17,13 +17,16 @@ pub enum SweepOutcome {
     Clean,
 }
 
-/// The node before the first marked one.
-fn before_first_marked(list: &NodeList) -> NodeRef
-    requires { ¬ AllByRecursion (λ n. n.marked ≡ false) list.now.nodes }
+/// The node before the first marked one, sought from a node that all marked ones stand behind.
+fn before_first_marked(list: &NodeList, start: NodeRef) -> NodeRef
+    requires start { IsBeforeMarks list.now.nodes start }
+    requires some { ¬ AllByRecursion (λ n. n.marked ≡ false) list.now.nodes }
     ensures marked { IsBeforeMarked list.now.nodes result }
     ensures first { unlinked_after list.now.nodes result ≡ without_first_marked list.now.nodes }
 {
-    let mut place = list.head();
+    // What is true of every list.
+    let _changes = list.changes();
+    let mut place = start;
     'walk: while let Some(next) = list.node(place).next {
         if list.node(next).marked {
             return place;
@@ -45,10 +48,24 @@ pub fn sweep(list: &mut NodeList) -> SweepOutcome
     ensures content { pairs list.new.nodes ≡ pairs list.old.nodes }
     ensures follows { Follows list.old list.new }
 {
+    let head = list.head();
+    sweep_from(list, head)
+}
+
+/// Does what `sweep` does, from a node that all marked ones stand behind, so that the walk need not
+/// begin at the first node. The walk from there to the first marked node is the whole cost.
+pub fn sweep_from(list: &mut NodeList, start: NodeRef) -> SweepOutcome
+    requires { IsBeforeMarks list.old.nodes start }
+    ensures clean { (result ≡ SweepOutcome.Clean) ↔
+        AllByRecursion (λ n. n.marked ≡ false) list.old.nodes }
+    ensures sweeps { Sweeps list.old list.new result }
+    ensures content { pairs list.new.nodes ≡ pairs list.old.nodes }
+    ensures follows { Follows list.old list.new }
+{
     if list.marked_count() == 0 {
         return SweepOutcome::Clean;
     }
-    let place = before_first_marked(list);
+    let place = before_first_marked(list, start);
     list.unlink_after(place);
     SweepOutcome::Swept
 }

@@ -7,9 +7,11 @@ ghost use Rattle.list_steps.specs.Found.{IsKeyThere, IsPlaced, at_of};
 
 use crate::{
     Again, Cursor, SweepOutcome, link, link_at, look, mark, mark_at, seek, swap, swap_at, sweep,
+    sweep_from,
 };
 use node_list::{Kind, NodeList, NodeRef, Spare, SpareFault};
-use split_key::{Key, SortKey};
+use split_key::{Key, SortKey, bucket_at};
+use std::alloc::{AllocError, Global};
 use std::test::Fail;
 
 /// Where the node of a key stands.
@@ -207,6 +209,178 @@ fn two_marked_nodes(rt: HostRuntime) -> Result<(), Fail> {
     assert_eq!(rt; list.marked_count(), 1);
     assert_eq!(rt; sweep(&mut list), SweepOutcome::Swept);
     assert_eq!(rt; sweep(&mut list), SweepOutcome::Clean);
+    Ok(())
+}
+
+/// The split keys of 3, 2, 5 and 2^52 begin with 0xc, 0x4, 0xa and 0x0. Each key is sought from the
+/// head, so the node of key 2 is unlinked where key 5 is sought.
+#[test]
+fn where_the_marks_begin(rt: HostRuntime) -> Result<(), Fail> {
+    let mut list = NodeList::new(rt.alloc(), 0)?;
+    put(&mut list, 1 << 52)?;
+    put(&mut list, 2)?;
+    put(&mut list, 5)?;
+    put(&mut list, 3)?;
+    assert_eq!(rt; list.marks_begin(), None);
+    take(&mut list, 3)?;
+    assert_eq!(rt; list.marks_begin(), Some(0xc000_0000_0000_0000));
+    take(&mut list, 2)?;
+    assert_eq!(rt; list.marks_begin(), Some(0x4000_0000_0000_0000));
+    take(&mut list, 5)?;
+    assert_eq!(rt; list.marks_begin(), Some(0xa000_0000_0000_0000));
+    take(&mut list, 1 << 52)?;
+    assert_eq!(rt; list.marks_begin(), Some(0));
+    assert_eq!(rt; sweep(&mut list), SweepOutcome::Swept);
+    assert_eq!(rt; list.marks_begin(), Some(0xa000_0000_0000_0000));
+    Ok(())
+}
+
+/// What a plain list has at a key.
+#[derive(Clone, Copy, Debug, PartialEq, Eq)]
+enum Plain {
+    Absent,
+    Live,
+    Marked,
+}
+
+/// The keys below 8 in the order of the list. The dummy of bucket 1 stands before the fifth.
+const ORDER: [u64; 8] = [0, 4, 2, 6, 1, 5, 3, 7];
+
+/// Unlinks what a seek of the key at a rank unlinks: the marked nodes up to the first unmarked one
+/// that is not below the key.
+fn seek_plainly(plain: &mut [Plain; 8], rank: usize) {
+    for (at, state) in plain.iter_mut().enumerate() {
+        if (at >= rank && *state == Plain::Live) || (at == 4 && rank < 4) {
+            return;
+        }
+        if *state == Plain::Marked {
+            *state = Plain::Absent;
+        }
+    }
+}
+
+/// Unlinks the first marked node.
+fn sweep_plainly(plain: &mut [Plain; 8]) -> SweepOutcome {
+    for state in plain.iter_mut() {
+        if *state == Plain::Marked {
+            *state = Plain::Absent;
+            return SweepOutcome::Swept;
+        }
+    }
+    SweepOutcome::Clean
+}
+
+/// The nodes of a plain list: of each the kind, the key and the mark.
+fn plain_nodes(alloc: Global, plain: &[Plain; 8]) -> Result<Vec<(Kind, u64, bool)>, AllocError> {
+    let mut nodes = Vec::new(alloc);
+    nodes.push((Kind::Dummy, 0, false))?;
+    for (rank, state) in plain.iter().enumerate() {
+        if rank == 4 {
+            nodes.push((Kind::Dummy, 0, false))?;
+        }
+        match (*state, ORDER.get(rank)) {
+            (Plain::Live, Some(key)) => nodes.push((Kind::Regular, *key, false))?,
+            (Plain::Marked, Some(key)) => nodes.push((Kind::Regular, *key, true))?,
+            _ => {}
+        }
+    }
+    Ok(nodes)
+}
+
+/// The first nodes of a list: of each the kind, the key and the mark.
+fn nodes(alloc: Global, list: &NodeList) -> Result<Vec<(Kind, u64, bool)>, AllocError> {
+    let mut nodes = Vec::new(alloc);
+    let mut next = Some(list.head());
+    for _ in 0..12 {
+        let node = next.and_then(|place| list.linked_node(place));
+        if let Some(node) = node {
+            nodes.push((node.kind, node.at.key(), node.marked))?;
+        }
+        next = node.and_then(|node| node.next);
+    }
+    Ok(nodes)
+}
+
+/// Where the marked nodes of a plain list begin. Keys below 8 are in regions of their own.
+fn plain_marks_begin(plain: &[Plain; 8]) -> Option<u64> {
+    for (rank, state) in plain.iter().enumerate() {
+        if *state == Plain::Marked {
+            return Some((rank as u64) << 61);
+        }
+    }
+    None
+}
+
+/// Links the dummy of bucket 1, which must not be there.
+fn dummy_of_1(list: &mut NodeList) -> Result<NodeRef, Fail>
+    ensures follows { Follows list.old list.new }
+{
+    let at = SortKey::dummy(1);
+    let mut spare = list.spare()?;
+    spare.fill(at, Kind::Dummy, 0);
+    let cursor = seek_from_head(list, at);
+    linked(list, &cursor, spare)
+}
+
+/// Sweeps from a dummy where no marked node may stand before it, and else from the head.
+fn sweep_from_dummy(list: &mut NodeList, dummy: NodeRef) -> SweepOutcome {
+    if let Some(split) = list.marks_begin() {
+        let bucket = bucket_at(split, 8);
+        if let Some(node) = list.linked_node(dummy) {
+            if let Kind::Dummy = node.kind {
+                if !SortKey::dummy(bucket).is_before(node.at) {
+                    return sweep_from(list, dummy);
+                }
+            }
+        }
+    }
+    sweep(list)
+}
+
+/// Takes the step that a number says, on a list and on a plain one.
+fn take_step(
+    list: &mut NodeList,
+    plain: &mut [Plain; 8],
+    dummy: NodeRef,
+    drawn: u64,
+) -> Result<(), Fail> {
+    let outcome = match drawn >> 56 & 7 {
+        0 => Some(sweep(list)),
+        1 => Some(sweep_from_dummy(list, dummy)),
+        _ => None,
+    };
+    if let Some(outcome) = outcome {
+        if outcome != sweep_plainly(plain) {
+            return Err("another outcome".into());
+        }
+        return Ok(());
+    }
+    let rank = (drawn >> 61) as usize;
+    seek_plainly(plain, rank);
+    if plain[rank] == Plain::Live {
+        take(list, ORDER[rank])?;
+        plain[rank] = Plain::Marked;
+    } else {
+        put(list, ORDER[rank])?;
+        plain[rank] = Plain::Live;
+    }
+    Ok(())
+}
+
+#[test]
+fn marks_and_sweeps_in_a_drawn_order(rt: HostRuntime) -> Result<(), Fail> {
+    let mut list = NodeList::new(rt.alloc(), 0)?;
+    let dummy = dummy_of_1(&mut list)?;
+    let mut plain = [Plain::Absent; 8];
+    let mut drawn: u64 = 1;
+    for _ in 0..500 {
+        drawn = drawn
+            .wrapping_mul(6_364_136_223_846_793_005)
+            .wrapping_add(1_442_695_040_888_963_407);
+        take_step(&mut list, &mut plain, dummy, drawn)?;
+        assert_eq!(rt; nodes(rt.alloc(), &list)?, plain_nodes(rt.alloc(), &plain)?);
+        assert_eq!(rt; list.marks_begin(), plain_marks_begin(&plain));
+    }
     Ok(())
 }
 

@@ -1,6 +1,13 @@
 pub mod Noting
 pub mod Phases
+pub mod Starting
+pub mod Working
+pub mod Helping
 pub mod Suiting
 pub mod Stepping
+pub mod Quiet
 pub mod Going
+pub mod Room
+pub mod Holding
 pub mod Adding
+pub mod Refusing

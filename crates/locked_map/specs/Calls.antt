@@ -1,34 +1,45 @@
 -- What a shared call leaves of its caller.
-use Rattle.std.specs.Prelude.{ℕ, ◌≡◌, ◌⊎◌, Bool, true, false, List, [], ◌∷◌, ◌++◌, Option, Some, None, Result, Ok, Err}
+use Rattle.std.specs.Prelude.{ℕ, ◌≡◌, ◌⊎◌, if◌then◌else◌, Bool, true, false, List, [], ◌∷◌, ◌++◌, Option, Some, None, is_some, Result, Ok, Err}
+use Rattle.std.specs.Option.{option_or}
 use Rattle.txn_trace.specs.declared.entry.Entry.{Entry}
 use Rattle.txn_trace.specs.declared.refusal.Refusal.{Refusal}
-use Rattle.txn_trace.specs.declared.refusal.Refusal.TheVariants.{NoMemory, OutOfStep}
+use Rattle.txn_trace.specs.declared.refusal.Refusal.TheVariants.{BadKey, NoMemory, OutOfStep}
 use Rattle.txn_trace.specs.Seats.{refusal_in}
 use Rattle.txn_trace.specs.Shape.{Seat, seat_after}
+use Rattle.txn_trace.specs.Sizes.{is_bad_key}
 use Rattle.txn_drive.specs.declared.call.Call.{Call}
+use Rattle.txn_drive.specs.declared.call.Call.TheVariants as calls
 use Rattle.txn_drive.specs.declared.«end».End.{End}
 use Rattle.txn_drive.specs.declared.«end».End.TheVariants as ends
 use Rattle.txn_drive.specs.Drives.{first_step}
 use Rattle.txn_drive.specs.Made.{IsMade}
+use Rattle.locked_map.specs.Holds.{CommitNothing}
 use Rattle.locked_map.specs.Sides.{IsSameSide, Follows}
 use Rattle.locked_map.specs.Suits.{may_refuse}
 use Rattle.locked_map.specs.Tokens.{Token, IsSameCaller}
 use Rattle.locked_map.specs.declared.stop.Stop.{Stop}
 use Rattle.locked_map.specs.declared.stop.Stop.TheVariants as stops
 
+-- The refusal of help by its key, where its map takes half keys alone or all.
+abbrev pub refused_help : Bool → Call → Option Refusal
+refused_help half (calls.Help key) = if is_bad_key half key then Some BadKey else None
+refused_help half call = None
+
 -- The refusal of a call by the token alone: out of step where it is broken, else that of the seat
--- that its entries give it, where its map takes half keys alone or all.
+-- that its entries give it, and then that of help by its key.
 abbrev pub refused_at : Bool → Bool → Option Seat → Call → Option Refusal
 refused_at half true seat call = Some OutOfStep
 refused_at half false None call = Some OutOfStep
-refused_at half false (Some s) call = refusal_in half s (first_step 0 call)
+refused_at half false (Some s) call =
+    option_or (refusal_in half s (first_step 0 call)) (refused_help half call)
 
 abbrev pub refused_by : {S : Type 0} → Token S → Call → Option Refusal
 refused_by k call = refused_at k.limits.half k.broken (seat_after k.seen) call
 
 -- A call that its token let pass, and that did what it was asked, or found a stripe held and took
 -- all back: it added what belongs to its end, and the side value followed.
-pub record Ran {S : Type 0} (words : S → List ℕ) (k : Token S) (call : Call) (outcome : End) (l : Token S) : Type 0 where
+pub record Ran {S : Type 0} (words : S → List ℕ) (k : Token S) (call : Call) (outcome : End)
+    (l : Token S) : Type 0 where
   pub free : refused_by k call ≡ None
   pub whose : IsSameCaller k l
   pub sound : l.broken ≡ false
@@ -38,7 +49,8 @@ pub record Ran {S : Type 0} (words : S → List ℕ) (k : Token S) (call : Call)
   pub side : Follows words outcome k.side l.side
 
 -- A call that its token let pass, and that found no memory or no stamp: it added nothing.
-pub record FoundNone {S : Type 0} (k : Token S) (call : Call) (refusal : Refusal) (l : Token S) : Type 0 where
+pub record FoundNone {S : Type 0} (k : Token S) (call : Call) (refusal : Refusal) (l : Token S) :
+    Type 0 where
   pub may : may_refuse call refusal ≡ true
   pub whose : IsSameCaller k l
   pub sound : l.broken ≡ false
@@ -46,12 +58,13 @@ pub record FoundNone {S : Type 0} (k : Token S) (call : Call) (refusal : Refusal
   pub side : IsSameSide k.side l.side
 
 -- A call that its token let pass, and that fell out of step: it added the entries of its moves,
--- and the token is broken.
+-- none of which commits as long as all that was seen has rows, and the token is broken.
 pub record FellOut {S : Type 0} (k l : Token S) : Type 0 where
   pub whose : IsSameCaller k l
   pub broken : l.broken ≡ true
   pub added : List Entry
   pub entries : l.seen ≡ k.seen ++ added
+  pub quiet : is_some (seat_after l.seen) ≡ true → CommitNothing added
   pub side : IsSameSide k.side l.side
 
 abbrev pub Failed : {S : Type 0} → Token S → Call → Refusal → Token S → Type 0
@@ -80,20 +93,22 @@ abbrev pub Stopped : {S : Type 0} → (S → List ℕ) → Token S → Call → 
 Stopped words k call (stops.Busy holder) l = Ran words k call (ends.Busy holder) l
 Stopped words k call (stops.Refused refusal) l = WasRefused k call refusal l
 
--- A call that did what it was asked: its token let it pass. Its entries and what becomes of the side
--- value are said by each call.
+-- A call that did what it was asked: its token let it pass. Its entries and what becomes of the
+-- side value are said by each call.
 pub record Passed {S : Type 0} (k : Token S) (call : Call) (l : Token S) : Type 0 where
   pub free : refused_by k call ≡ None
   pub whose : IsSameCaller k l
   pub sound : l.broken ≡ false
 
 -- What a call leaves by its result: what it was asked for, or why not.
-abbrev pub LeavesBy : {S T : Type 0} → (S → List ℕ) → Token S → Call → Result T Stop → Token S → Type 0
+abbrev pub LeavesBy : {S T : Type 0} → (S → List ℕ) → Token S → Call → Result T Stop → Token S
+    → Type 0
 LeavesBy words k call (Ok reply) l = Passed k call l
 LeavesBy words k call (Err stop) l = Stopped words k call stop l
 
 -- What each call leaves. After `OutOfStep` every call answers that, and nothing changes any more.
-pub record Leaves {S T : Type 0} (words : S → List ℕ) (k : Token S) (call : Call) (result : Result T Stop) (l : Token S) : Type 0 where
+pub record Leaves {S T : Type 0} (words : S → List ℕ) (k : Token S) (call : Call)
+    (result : Result T Stop) (l : Token S) : Type 0 where
   pub by_result : LeavesBy words k call result l
   pub stays : k.broken ≡ true → (result ≡ Err (stops.Refused OutOfStep)) × (l ≡ k)
 

@@ -26,11 +26,12 @@ abbrev pub back_of : {L S J : Type 0} → Unclosed L S J → List (Token S)
 back_of (Missing map callers) = callers.items
 back_of (Differs core callers) = callers.items
 
--- Why it was not closed: a caller is missing; or the entries of some caller in the history are not
--- those that it saw.
-abbrev pub IsWhy : {L S J : Type 0} → ℕ → List (Token S) → Unclosed L S J → Type 0
-IsWhy count ks (Missing map callers) = IsAllHere count ks → ⊥
-IsWhy count ks (Differs core callers) = All (λ k. IsOwn core.history k) ks → ⊥
+-- Why it was not closed: a caller is missing; or the core has other limits, or the entries of some
+-- caller in the history are not those that it saw.
+abbrev pub IsWhy : {L S J : Type 0} → Sizes → List (Token S) → Unclosed L S J → Type 0
+IsWhy limits ks (Missing map callers) = IsAllHere limits.callers ks → ⊥
+IsWhy limits ks (Differs core callers) =
+    (core.limits ≡ limits) × All (λ k. IsOwn core.history k) ks → ⊥
 
 -- What holds beside: the map that is handed back has its limits; no caller is missing.
 abbrev pub IsBeside : {L S J : Type 0} → Sizes → List (Token S) → Unclosed L S J → Type 0

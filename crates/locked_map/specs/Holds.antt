@@ -1,11 +1,13 @@
 -- What a hold of the lock does to core, token and drive, and what a call has done by its end.
-use Rattle.std.specs.Prelude.{ℕ, ◌≡◌, ◌≢◌, Bool, true, false, not, ◌||◌, List, ◌++◌, Option, Some, None, is_some}
+use Rattle.std.specs.Prelude.{ℕ, ◌≡◌, ◌≢◌, Bool, true, false, not, ◌||◌, List, [], ◌++◌, Option, Some, None, is_some}
+use Rattle.std.specs.List.{filter}
 use Rattle.txn_trace.specs.declared.answer.Answer.{Answer}
 use Rattle.txn_trace.specs.declared.answer.Answer.TheVariants as answers
 use Rattle.txn_trace.specs.declared.entry.Entry.{Entry}
 use Rattle.txn_trace.specs.declared.refusal.Refusal.TheVariants.{NoMemory, OutOfStep}
 use Rattle.txn_trace.specs.declared.step.Step.{Step}
 use Rattle.txn_trace.specs.Entries.{entries_of}
+use Rattle.txn_trace.specs.History.{is_commit}
 use Rattle.txn_trace.specs.Shape.{Seat, seat_after}
 use Rattle.txn_drive.specs.declared.call.Call.{Call}
 use Rattle.txn_drive.specs.declared.drive.Drive.{Drive}
@@ -48,13 +50,15 @@ out_if (Some outcome) = is_out outcome
 
 -- A step is taken: the core makes its move, the drive is told the answer, and the step's entries
 -- are seen.
-pub record Takes (m : State) (seen : List Entry) (d : Drive) (step : Step) (answer : Answer) (n : State) (seen' : List Entry) (e : Drive) : Type 0 where
+pub record Takes (m : State) (seen : List Entry) (d : Drive) (step : Step) (answer : Answer)
+    (n : State) (seen' : List Entry) (e : Drive) : Type 0 where
   pub move : Move m step answer n
   pub told : e ≡ told_of d answer
   pub entries : seen' ≡ seen ++ entries_of step answer
 
 -- After the first step of two the second is taken where the answer was `placed`.
-abbrev pub TakesSecond : State → List Entry → Drive → Step → Answer → State → List Entry → Drive → Type 0
+abbrev pub TakesSecond : State → List Entry → Drive → Step → Answer → State → List Entry → Drive
+    → Type 0
 TakesSecond m seen d step answers.Placed n seen' e =
     (answer : Answer) × Takes m seen d step answer n seen' e
 TakesSecond m seen d step answer n seen' e = (n ≡ m) × (seen' ≡ seen) × (e ≡ d)
@@ -72,7 +76,8 @@ TakesTurn m seen d (Ended outcome) n seen' e = (n ≡ m) × (seen' ≡ seen) × 
 -- A hold that took the drive's turn: the core made the moves of the turn and no other, their
 -- entries are seen and no other, and the drive was told their answers. The token breaks where an
 -- entry has no row, or where the call may not end so.
-pub record TurnHeld {S : Type 0} (m : State) (k : Token S) (d : Drive) (outcome : Option End) (n : State) (l : Token S) (e : Drive) : Type 0 where
+pub record TurnHeld {S : Type 0} (m : State) (k : Token S) (d : Drive) (outcome : Option End)
+    (n : State) (l : Token S) (e : Drive) : Type 0 where
   pub sound : k.broken ≡ false
   pub turn : TakesTurn m k.seen d (turn_of d) n l.seen e
   pub broken : l.broken ≡ (not (is_some (seat_after l.seen)) || odd_if e.call (end_of e))
@@ -81,7 +86,8 @@ pub record TurnHeld {S : Type 0} (m : State) (k : Token S) (d : Drive) (outcome 
   pub limits : l.limits ≡ k.limits
   pub side : l.side ≡ k.side
 
-abbrev pub HeldBy : {S : Type 0} → How → State → Token S → Drive → Option End → State → Token S → Drive → Type 0
+abbrev pub HeldBy : {S : Type 0} → How → State → Token S → Drive → Option End → State → Token S
+    → Drive → Type 0
 HeldBy WasBroken m k d outcome n l e =
     (k.broken ≡ true) × (outcome ≡ Some (ends.Refused OutOfStep)) × (n ≡ m) × (l ≡ k) × (e ≡ d)
 HeldBy HadNoRoom m k d outcome n l e =
@@ -90,7 +96,8 @@ HeldBy TookTurn m k d outcome n l e = TurnHeld m k d outcome n l e
 
 -- What a hold does: the drive is told the size, and its turn is taken, where the token is sound
 -- and has room.
-abbrev pub Held : {S : Type 0} → State → Token S → Drive → Option End → State → Token S → Drive → Type 0
+abbrev pub Held : {S : Type 0} → State → Token S → Drive → Option End → State → Token S → Drive
+    → Type 0
 Held m k d outcome n l e = (how : How) × HeldBy how m k (sized_of m.size d) outcome n l e
 
 -- Core and token are in step.
@@ -112,14 +119,30 @@ abbrev pub MayEnd : Call → End → Type 0
 MayEnd call (ends.Refused OutOfStep) = Unit {0}
 MayEnd call outcome = is_odd call outcome ≡ false
 
--- A call that has ended so: `base` was seen before it.
+-- None of the entries commits.
+abbrev pub CommitNothing : List Entry → Type 0
+CommitNothing es = filter is_commit es ≡ []
+
+-- A call that ends out of step has committed nothing.
+abbrev pub IsQuiet : End → List Entry → Type 0
+IsQuiet (ends.Refused OutOfStep) added = CommitNothing added
+IsQuiet outcome added = Unit {0}
+
+-- A call that has ended so: `base` was seen before it. It is quiet as long as the rule of shape has
+-- a row for each entry that was seen.
 pub record HasRun (base seen : List Entry) (c : ℕ) (call : Call) (outcome : End) : Type 0 where
   pub added : List Entry
   pub entries : seen ≡ base ++ added
   pub made : IsMade c call outcome added
   pub may : MayEnd call outcome
+  pub quiet : is_some (seat_after seen) ≡ true → IsQuiet outcome added
+
+-- A call on its way that may take its next turn: it has committed nothing.
+pub record IsGoing (base seen : List Entry) (d : Drive) : Type 0 where
+  pub on : GoesOn base seen d
+  pub quiet : CommitNothing (made d)
 
 -- What a hold leaves of a call.
 abbrev pub GoesTo : List Entry → List Entry → Drive → Option End → Type 0
-GoesTo base seen d None = GoesOn base seen d
+GoesTo base seen d None = IsGoing base seen d
 GoesTo base seen d (Some outcome) = HasRun base seen d.caller d.call outcome

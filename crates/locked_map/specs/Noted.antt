@@ -25,7 +25,8 @@ pub record Noted : Type 0 where
 
 -- The seat is that of the entries, where each had a row; the transaction is the last one; there is
 -- room for all that the caller owes; and the share, of one part, counts the entries.
-pub record IsNoted (entries : Vec Entry) (seat : RoomySeat) (whole : Bool) (txn parts amount : ℕ) : Type 0 where
+pub record IsNoted (entries : Vec Entry) (seat : RoomySeat) (whole : Bool) (txn parts amount : ℕ) :
+    Type 0 where
   pub fits : whole ≡ is_some (seat_after entries.items)
   pub seated : whole ≡ true → seat_after entries.items ≡ Some seat.seat
   pub last : txn ≡ last_txn entries.items

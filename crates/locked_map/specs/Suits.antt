@@ -3,7 +3,7 @@ use Rattle.std.specs.Prelude.{ℕ, ◌≡◌, ◌<◌, ◌≤◌, Bool, true, fa
 use Rattle.split_key.specs.Split.{parent_of, IsAncestor}
 use Rattle.txn_trace.specs.declared.entry.Entry.{Entry}
 use Rattle.txn_trace.specs.declared.refusal.Refusal.{Refusal}
-use Rattle.txn_trace.specs.declared.refusal.Refusal.TheVariants.{BadKey, NoMemory, StampsUsedUp, OutOfStep}
+use Rattle.txn_trace.specs.declared.refusal.Refusal.TheVariants.{NoMemory, StampsUsedUp, OutOfStep}
 use Rattle.txn_trace.specs.declared.step.Step.TheVariants.{Act}
 use Rattle.txn_trace.specs.Sizes.{Sizes}
 use Rattle.txn_trace.specs.declared.seat.Phase.{Phase as Standing}
@@ -36,14 +36,13 @@ abbrev pub is_help : Call → Bool
 is_help (calls.Help key) = true
 is_help call = false
 
--- With which refusals a call may end whose first test, by the caller's seat, nothing refuses.
+-- With which refusals a call may end that its token lets pass.
 abbrev pub may_refuse : Call → Refusal → Bool
 may_refuse calls.Begin NoMemory = true
 may_refuse (calls.Op op) NoMemory = true
 may_refuse (calls.Op op) StampsUsedUp = true
 may_refuse calls.Save NoMemory = true
 may_refuse (calls.Back n) NoMemory = true
-may_refuse (calls.Help key) BadKey = true
 may_refuse (calls.Help key) NoMemory = true
 may_refuse (calls.Help key) StampsUsedUp = true
 may_refuse call refusal = false
@@ -102,10 +101,11 @@ Suits m s c call (Refused refusal) = is_odd call (ends.Refused refusal) ≡ fals
 
 -- The core has the limits, the caller's entries are what was seen, and the drive is as it was last
 -- told.
-pub record IsInStep (m : State) (limits : Sizes) (c : ℕ) (seen : List Entry) (d : Drive) : Type 0 where
-  pub same_limits : m.limits ≡ limits
-  pub within : c < limits.callers
-  pub same : own c m.history ≡ seen
-  pub mine : d.caller ≡ c
-  pub suits : Suits m (seat_in m.history c) c d.call d.phase
-  pub few : undone_of d.phase ≤ length seen
+pub record IsInStep (m : State) (limits : Sizes) (c : ℕ) (seen : List Entry) (d : Drive) : Type 0
+  where
+    pub same_limits : m.limits ≡ limits
+    pub within : c < limits.callers
+    pub same : own c m.history ≡ seen
+    pub mine : d.caller ≡ c
+    pub suits : Suits m (seat_in m.history c) c d.call d.phase
+    pub few : undone_of d.phase ≤ length seen

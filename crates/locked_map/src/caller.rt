@@ -1,10 +1,11 @@
-ghost use Rattle.std.specs.Prelude.{◌≡◌, ◌≢◌, ◌<◌, false, [], ◌∷◌, List, ◌+◌, IfSome, IfNone, IfErr, OnOk, OnErr};
+ghost use Rattle.std.specs.Prelude.{◌≡◌, ◌≢◌, ◌<◌, true, false, is_some, [], ◌∷◌, List, ◌+◌, IfSome, IfNone, IfErr, OnOk, OnErr};
 ghost use Rattle.txn_trace.specs.declared.entry.Entry.{Entry};
 ghost use Rattle.txn_trace.specs.declared.refusal.Refusal.{Refusal};
+ghost use Rattle.txn_trace.specs.Shape.{seat_after};
 ghost use Rattle.txn_drive.specs.declared.«end».End.{End};
 ghost use Rattle.txn_drive.specs.Drives.{first_step};
-ghost use Rattle.locked_map.specs.Calls.{Failed, refused_by, refused_side};
-ghost use Rattle.locked_map.specs.Holds.{Held, InStep, GoesOn, GoesTo, out_if};
+ghost use Rattle.locked_map.specs.Calls.{Failed, refused_by, refused_help, refused_side};
+ghost use Rattle.locked_map.specs.Holds.{Held, InStep, IsGoing, GoesTo, out_if};
 ghost use Rattle.locked_map.specs.Noted.{last_txn};
 ghost use Rattle.locked_map.specs.Sides.{CanFollow, Follows, IsReadyFor, IsSameSide};
 ghost use Rattle.locked_map.specs.Tokens.{IsSameCaller, IsSameButSide};
@@ -95,9 +96,11 @@ impl<L: Ledger, S: Side> Caller<L, S> {
         self.limits
     }
 
-    /// The entries that its calls have added, in order. Constant time.
+    /// The entries that its calls have added, in order. Unless the token is broken, the rule of
+    /// shape has a row for each. Constant time.
     pub fn seen(&self) -> &[Entry]
-        ensures { result.now ≡ self.now.seen }
+        ensures seen { result.now ≡ self.now.seen }
+        ensures rows { self.now.broken ≡ false → is_some (seat_after self.now.seen) ≡ true }
     {
         self.seen.entries()
     }
@@ -119,7 +122,8 @@ impl<L: Ledger, S: Side> Caller<L, S> {
     ///
     /// The end is `Refused` with
     /// - `OutOfStep` where the token is broken, and then nothing is done; and where the core
-    ///   answers what the token's state excludes, which breaks it;
+    ///   answers what the token's state excludes, or the token would have refused the call, as
+    ///   `help` of a bad key, which breaks it;
     /// - `NoMemory` where room in `seen` is refused, and then no step is taken.
     ///
     /// Core and token that are in step stay so, and then `OutOfStep` is not answered.
@@ -138,7 +142,7 @@ impl<L: Ledger, S: Side> Caller<L, S> {
         ensures in_step { InStep booked.old.core self.old drive.old
             → InStep booked.new.core self.new drive.new
             × IfSome result (λ e. e ≢ End.Refused Refusal.OutOfStep) }
-        ensures goes { (base : List Entry) → GoesOn base self.old.seen drive.old
+        ensures goes { (base : List Entry) → IsGoing base self.old.seen drive.old
             → GoesTo base self.new.seen drive.new result }
     {
         let turn = drive.turn(booked.core.size());
@@ -162,7 +166,8 @@ impl<L: Ledger, S: Side> Caller<L, S> {
         if self.is_broken {
             return Some(Refusal::OutOfStep);
         }
-        self.seen.refusal(self.limits, first_step(call))
+        let by_seat = self.seen.refusal(self.limits, first_step(call));
+        by_seat.or(help_refusal(self.limits, call))
     }
 
     /// The number of the last transaction that it began.
@@ -172,8 +177,8 @@ impl<L: Ledger, S: Side> Caller<L, S> {
         self.seen.txn()
     }
 
-    /// Makes the side value ready for what a call may ask at its end: a save wants room for a level,
-    /// a return the level.
+    /// Makes the side value ready for what a call may ask at its end: a save wants room for a
+    /// level, a return the level.
     ///
     /// # Errors
     ///
@@ -264,5 +269,15 @@ fn first_step(call: Call) -> Step
         Call::Commit => Step::Commit(0),
         Call::Abort => Step::Abort(0),
         Call::Help(_) => Step::Double(0),
+    }
+}
+
+/// The refusal of help by its key.
+fn help_refusal(limits: Limits, call: Call) -> Option<Refusal>
+    ensures { result ≡ refused_help limits.half call }
+{
+    match call {
+        Call::Help(key) if limits.is_bad_key(key) => Some(Refusal::BadKey),
+        _ => None,
     }
 }

@@ -4,15 +4,16 @@
 //! `seen` the entries that it tells of and no other. Before it takes the lock its token tests it:
 //! `refused_by` is the refusal that the token's entries say, in the order that each call lists.
 //! A call that the token refuses leaves the token as it was. Where the core answers what the token
-//! excludes, the call ends with `OutOfStep`: the token is broken, `seen` keeps what it had added, and
-//! `close` compares. Each call has the clauses
+//! excludes, the call ends with `OutOfStep`: the token is broken, `seen` keeps what it had added,
+//! and `close` compares. Each call has the clauses
 //! - `ok`: what it has added, where it did what it was asked;
 //! - `side`: what it has then made of the side value;
-//! - `leaves`: that its token let it pass, or why it did not do it and what it leaves then; and that
-//!   after `OutOfStep` every call answers that and nothing changes any more (`Leaves` in
+//! - `leaves`: that its token let it pass, or why it did not do it and what it leaves then; and
+//!   that after `OutOfStep` every call answers that and nothing changes any more (`Leaves` in
 //!   `specs/Calls.antt`).
-ghost use Rattle.std.specs.Prelude.{◌≡◌, ℕ, ◌+◌, [], ◌∷◌, ◌++◌, None, Some, false, IfOk, IfErr, OnOk};
+ghost use Rattle.std.specs.Prelude.{◌≡◌, ◌↔◌, ℕ, ◌+◌, [], ◌∷◌, ◌++◌, None, Some, true, false, Err, IfOk, IfErr, OnOk};
 ghost use Rattle.txn_trace.specs.declared.entry.Entry.TheVariants as entries;
+ghost use Rattle.txn_trace.specs.Sizes.{is_bad_key};
 ghost use Rattle.txn_drive.specs.Made.{undone_by};
 ghost use Rattle.locked_map.specs.Calls.{Leaves, refused_side};
 ghost use Rattle.locked_map.specs.Noted.{last_txn};
@@ -218,8 +219,8 @@ impl<L: Ledger> SharedMap<L> {
     /// - `OutOfStep` of a token that is broken.
     /// - `NotOpen`, `Leaving`, `OperationUnfinished` and `NoSuchLevel`, the first that holds.
     /// - Then `NoMemory` where a growth was refused, which is before anything is taken back, and
-    ///   `OutOfStep`, which breaks the token. That comes too where the side value has no such level,
-    ///   since a save was made by `hold` alone.
+    ///   `OutOfStep`, which breaks the token. That comes too where the side value has no such
+    ///   level, since a save was made by `hold` alone.
     ///
     /// # Cost
     ///
@@ -311,6 +312,7 @@ impl<L: Ledger> SharedMap<L> {
     /// # Cost
     ///
     /// One hold of the lock to double, and three for each bucket that is initialised.
+    #[tactic(auto, using(crate::proofs::Refusing::help_bad_key))]
     pub fn help<S: Side, R: Wait>(
         &self,
         rt: &R,
@@ -319,8 +321,11 @@ impl<L: Ledger> SharedMap<L> {
     ) -> Result<(), Stop>
         ensures ok { OnOk result (me.new.seen ≡ me.old.seen) }
         ensures side { OnOk result (IsSameSide me.old.side me.new.side) }
+        ensures bad_key { me.old.broken ≡ false → (result ≡ Err (Stop.Refused Refusal.BadKey))
+            ↔ (is_bad_key me.old.limits.half key ≡ true) }
         ensures leaves { Leaves S.words_of me.old (Call.Help key) result me.new }
     {
+        let _seen = me.seen();
         match self.call(rt, me, Call::Help(key))? {
             End::Helped => Ok(()),
             _ => Err(Stop::Refused(Refusal::OutOfStep)),

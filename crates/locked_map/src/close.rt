@@ -1,6 +1,7 @@
 //! Closing a map: its history is compared with what the callers saw.
 ghost use Rattle.std.specs.Prelude.{◌≡◌, ◌+◌, ◌==◌, ◌↔◌, All, IsTrue, IfOk, IfErr, length};
 ghost use Rattle.std.specs.List.{list_any, sum_by};
+ghost use Rattle.txn_trace.specs.declared.holder.Holder.TheVariants.{Now};
 ghost use Rattle.txn_trace.specs.Legal.{IsLegal};
 ghost use Rattle.txn_trace.specs.Shape.{own};
 ghost use Rattle.locked_map.specs.Closes.{AreCounted, IsAllHere, IsBeside, IsCounted, IsOwn, IsWhy, back_of};
@@ -12,22 +13,23 @@ use crate::shared_map::SharedMap;
 use crate::unclosed::Unclosed;
 use boost_core::Core;
 use std::sync::ledger::{Book, Ledger, Share};
-use txn_trace::Entry;
+use txn_trace::{Entry, Limits};
 use undo_log::Side;
 
 impl<L: Ledger> SharedMap<L> {
     /// Takes the core out, once the callers of all numbers are back, and compares its history with
     /// what they saw.
     ///
-    /// With `Ok` the history is legal, each caller's own entries in it are just those that it saw,
-    /// and it has no other entries. The callers come back as they were, in their order, with each
-    /// answer.
+    /// With `Ok` the core has the map's limits, the history is legal, each caller's own entries in
+    /// it are just those that it saw, and it has no other entries. The callers come back as they
+    /// were, in their order, with each answer.
     ///
     /// # Errors
     ///
     /// - `Missing` exactly where a number is missing or was handed in twice.
-    /// - Then `Differs` exactly where some caller's entries in the history are not those that it
-    ///   saw. The history has as many entries as all callers saw, all the same.
+    /// - Then `Differs` exactly where the core has other limits, or some caller's entries in the
+    ///   history are not those that it saw. The history has as many entries as all callers saw, all
+    ///   the same.
     ///
     /// # Cost
     ///
@@ -35,21 +37,23 @@ impl<L: Ledger> SharedMap<L> {
     pub fn close<S: Side>(self, callers: Vec<Caller<L, S>>) -> Result<Closed<L, S>, Unclosed<L, S>>
         requires { self.limits.callers ≡ L.parts }
         ensures callers { IfOk result (λ c. c.callers.items ≡ callers.items) }
-        ensures legal { IfOk result (λ c. IsLegal c.core.limits.stripes c.core.history) }
+        ensures limits { IfOk result (λ c. c.core.limits ≡ self.limits) }
+        ensures legal { IfOk result (λ c. IsLegal Now c.core.limits.stripes c.core.history) }
         ensures own { IfOk result (λ c. All (λ k. IsOwn c.core.history k) callers.items) }
         ensures here { IfOk result (λ c. IsAllHere self.limits.callers callers.items) }
         ensures counted { IfOk result (λ c. AreCounted c.core.history callers.items) }
         ensures back { IfErr result (λ why. back_of why ≡ callers.items) }
-        ensures why { IfErr result (λ why. IsWhy self.limits.callers callers.items why) }
+        ensures why { IfErr result (λ why. IsWhy self.limits callers.items why) }
         ensures beside { IfErr result (λ why. IsBeside self.limits callers.items why) }
         ensures counted_too { IfErr result (λ why. IsCounted callers.items why) }
     {
-        let count = u64::from(self.limits().callers());
+        let limits = self.limits();
+        let count = u64::from(limits.callers());
         if !has_all(callers.as_slice(), count) {
             return Err(Unclosed::Missing(self, callers));
         }
         let booked = self.into_booked();
-        let same = is_all_own(&booked.core, callers.as_slice());
+        let same = is_seen(&booked.core, limits, callers.as_slice());
         let _legal = booked.core.trace();
         let mut callers = callers;
         let core = counted(booked, callers.as_mut_slice());
@@ -81,6 +85,14 @@ fn has<L: Ledger, S: Side>(callers: &[Caller<L, S>], number: u64) -> bool
     ensures { result ≡ list_any (λ k. k.number == number) callers.now }
 {
     callers.iter().any(|k| k.number() == number)
+}
+
+/// Whether a core has these limits, and each caller's entries in its history are what it saw.
+fn is_seen<L: Ledger, S: Side>(core: &Core, limits: Limits, callers: &[Caller<L, S>]) -> bool
+    ensures { IsTrue result ↔ ((core.now.limits ≡ limits)
+        × All (λ k. IsOwn core.now.history k) callers.now) }
+{
+    core.limits() == limits && is_all_own(core, callers)
 }
 
 /// Whether each caller's entries in the history are what it saw.

@@ -44,17 +44,15 @@ fn is_odd(call: Call, end: End) -> bool
     }
 }
 
-/// With which refusals a call may end that its caller's seat lets pass.
+/// With which refusals a call may end that its token lets pass.
 fn may_refuse(call: Call, refusal: Refusal) -> bool
     ensures { result ≡ may_refuse call refusal }
 {
     match call {
         Call::Begin | Call::Save | Call::Back(_) => matches!(refusal, Refusal::NoMemory),
-        Call::Op(_) => matches!(refusal, Refusal::NoMemory | Refusal::StampsUsedUp),
-        Call::Help(_) => matches!(
-            refusal,
-            Refusal::BadKey | Refusal::NoMemory | Refusal::StampsUsedUp
-        ),
+        Call::Op(_) | Call::Help(_) => {
+            matches!(refusal, Refusal::NoMemory | Refusal::StampsUsedUp)
+        }
         Call::Commit | Call::Abort => false,
     }
 }

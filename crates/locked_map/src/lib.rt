@@ -2,7 +2,8 @@
 //!
 //! - A *token*, `Caller`, is one caller. `SharedMap::new` gives a `Pass` for each number, and a
 //!   pass makes the token of its number, once. The calls are made on a `&SharedMap` with a `&mut
-//!   Caller`: `begin`, `put`, `take`, `get`, `save`, `back`, `commit`, `abort`, `help` and `side`.
+//!   Caller`: `begin`, `put`, `take`, `get`, `save`, `back`, `commit`, `abort`, `help` and `side`;
+//!   `run` takes any of them by its value.
 //!   A token keeps in `seen` the entries that its calls have added to the history, and a side value
 //!   of the caller's own, whose changes a transaction takes back with its others.
 //! - A *hold* of the lock is one turn of a call, one step of the core or two. So the steps of other
@@ -31,7 +32,7 @@
 //! ```
 //!
 //! Where a call answers `Busy`, another caller held the key's stripe; the transaction is aborted,
-//! and may be begun anew.
+//! and may be begun anew. A whole program, with threads, is the crate `transfers`.
 #![tactic(auto)]
 
 mod booked;
@@ -57,6 +58,6 @@ pub use closed::Closed;
 pub use no_side::{NoJob, NoSide};
 pub use pass::Pass;
 pub use receipt::Receipt;
-pub use shared_map::SharedMap;
+pub use shared_map::{Released, SharedMap};
 pub use stop::Stop;
 pub use unclosed::Unclosed;

@@ -27,9 +27,9 @@ pub struct SharedMap<L: Ledger> {
     limits: Limits,
 }
 
-/// What a worker does each time that it has let go of the lock.
-pub(crate) trait Released {
-    /// Called after each hold of the lock, which the worker then has no more.
+/// Hears of each hold of the lock, once it is over.
+pub trait Released {
+    /// A hold is over: who calls this has the lock no more.
     fn released(&self);
 }
 
@@ -88,6 +88,7 @@ impl<L: Ledger> SharedMap<L> {
     }
 
     /// Takes the turns of a call, each under a hold of its own, until the call has ended.
+    #[tactic(auto, using(crate::proofs::Quiet::new_quiet))]
     fn drive<S: Side, H: Released, R: Wait>(
         &self,
         rt: &R,
@@ -113,9 +114,17 @@ impl<L: Ledger> SharedMap<L> {
         unreachable!()
     }
 
-    /// Takes a call, unless the token refuses it, and then returns the side value. The end says how
-    /// the call went.
-    pub(crate) fn run<S: Side, H: Released, R: Wait>(
+    /// Takes a call by its value, as `begin`, `put` and the others do by name, and tells `hears` of
+    /// each hold of the lock, once it is over. The end says how the call went.
+    ///
+    /// # Errors
+    ///
+    /// The end is `Refused` or `Busy` where the call of that name answers so.
+    ///
+    /// # Cost
+    ///
+    /// That of the call of that name.
+    pub fn run<S: Side, H: Released, R: Wait>(
         &self,
         rt: &R,
         me: &mut Caller<L, S>,

@@ -1,7 +1,8 @@
 //! Worked runs with real threads.
 mod between;
-mod map_of;
+mod refused;
 mod register;
 mod rows;
+mod setting;
 mod side_rows;
 mod threads;

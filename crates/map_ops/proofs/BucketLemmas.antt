@@ -11,8 +11,8 @@ use Rattle.std.proofs.Math.ListN as lists
 use Rattle.node_list.specs.Nodes.{NodeAt, Listing, out_at}
 use Rattle.node_list.specs.Sound.{IsSound}
 use Rattle.list_steps.specs.Content.{pairs}
-use Rattle.list_steps.specs.Found.{changes_of, fits, pred_of}
-use Rattle.list_steps.proofs.CursorLemmas.{found_fits}
+use Rattle.list_steps.specs.Found.{IsPlaced, at_of, changes_of, fits, pred_of}
+use Rattle.list_steps.proofs.CursorLemmas.{found_fits, found_placed}
 use Rattle.split_key.specs.Sort.{dummy_at}
 use Rattle.split_key.proofs.SplitLemmas.{reversed_even}
 use Rattle.bucket_table.specs.declared.answer.InitSeek.{InitSeek}
@@ -27,9 +27,10 @@ use Rattle.bucket_table.specs.declared.answer.Double.{Double}
 use Rattle.bucket_table.specs.declared.answer.Double.TheVariants.{Moved, AtLimit, Light, Doubled}
 use Rattle.bucket_table.specs.declared.helper.Helper.{Helper}
 use Rattle.bucket_table.specs.declared.helper.Helper.TheVariants.{Idle, Seeking, Holding}
-use Rattle.bucket_table.specs.Directory.{Directory, IsInOrder, limit_of, helper_of, with_helper}
+use Rattle.bucket_table.specs.Directory.{Directory, IsInOrder, limit_of, helper_of, with_dummy, with_helper}
 use Rattle.bucket_table.specs.Directory as directories
 use Rattle.bucket_table.specs.Answers as buckets
+use Rattle.bucket_table.specs.Segments as segments
 use Rattle.bucket_table.specs.Changes as buckets_changes
 use Rattle.bucket_table.specs.Dummies.{has_dummy, dummy_node, IsDummyAt}
 use Rattle.bucket_table.specs.Home.{IsHome, IsHelperHome}
@@ -42,13 +43,16 @@ use Rattle.list_steps.specs.declared.sweeps.SweepOutcome.TheVariants.{Swept, Cle
 use Rattle.list_steps.specs.Steps as steps
 use Rattle.map_ops.specs.Sound.{AllEven, Belong, IsEvenDummy}
 use Rattle.bucket_table.specs.Helpers.{cursor_fits, help_at}
-use Rattle.map_ops.specs.TableAt.{Help, Nothing, Sought, Dummy, help_of, linked_of, table_of, Keeps}
-use Rattle.map_ops.specs.Buckets.{Doubles, Helps, Holds, Links, LinkChanges, SeekChanges, Seeks, Stores, StoreChanges, answered, helper_fits, seek_answer, link_answer, store_answer}
+use Rattle.map_ops.specs.TableAt.{Cursor, Help, Nothing, Sought, Dummy, cursor_in, help_of, linked_of, table_of, Keeps, KeepsAllCursors, KeepsCursors}
+use Rattle.map_ops.specs.Buckets.{Doubles, Helps, IsPlacedFor, LacksSegment, Holds, Links, LinkChanges, SeekChanges, Seeks, Stores, StoreChanges, answered, helper_fits, seek_answer, link_answer, store_answer}
 use Rattle.map_ops.proofs.BelongLemmas.{belong_swept, has_dummy-swept, linked_same}
 use Rattle.map_ops.proofs.KeepLemmas.{same_buckets}
 
-stored_at : (entries : List (Option ℕ)) (bucket : ℕ) → slice_index_or (map is_some entries) bucket false ≡ is_some (slice_index_or entries bucket None)
+pub stored_at : (entries : List (Option ℕ)) (bucket : ℕ) → slice_index_or (map is_some entries) bucket false ≡ is_some (slice_index_or entries bucket None)
 stored_at entries bucket = lists.get_or-map is_some entries bucket None
+
+pub lacks_segment : (entries : List (Option ℕ)) (bucket : ℕ) → segments.LacksSegment entries bucket → LacksSegment (map is_some entries) bucket
+lacks_segment entries bucket lacks other same = stored_at entries other ∙ lacks other same
 
 -- What a seek is answered.
 pub seek_answers : (d : Directory) (helper bucket : ℕ) → answered (buckets.seek_answer d.size (directories.is_stored d) (help_at d helper) bucket) ≡ seek_answer d.size (map is_some d.entries) (slice_get (map help_of d.helpers) helper) bucket
@@ -77,7 +81,13 @@ link_answers l d helper sound =
         let within : bucket < limit_of d = within_limit d helper bucket (Seeking bucket cursor) sound is (λ order. order.within) in
         ap (λ (there : Bool). answered (buckets.link_answer (cursor_fits l (helper_of d helper)) (λ b. there) l.last (Some (Sought bucket (changes_of cursor))))) (sym (linked_at l.nodes (limit_of d) bucket within))
 
--- A helper has something else.
+-- A helper has something else, and the others have their cursors.
+others_with : (old new : Listing) (d e : Directory) (helper : ℕ) (now : Helper) → e.helpers ≡ slice_set d.helpers helper now → KeepsCursors (table_of old d) (table_of new e) helper
+unfolding KeepsCursors
+others_with old new d e helper now is other apart =
+    ap (λ hs. slice_index_or (map cursor_in hs) other None) is ∙ ap (λ cs. slice_index_or cs other None) (map-set cursor_in d.helpers helper now)
+    ∙ get_or-set_other (map cursor_in d.helpers) helper other (cursor_in now) None apart
+
 pub helps_with : (old new : Listing) (d : Directory) (helper : ℕ) (now : Helper) → pairs new.nodes ≡ pairs old.nodes → ((place : ℕ) → out_at new place ≡ out_at old place) → new.last ≡ old.last → ((bucket : ℕ) → has_dummy new.nodes bucket ≡ has_dummy old.nodes bucket)
     → Helps (table_of old d) (table_of new (with_helper d helper now)) helper (help_of now)
 helps_with old new d helper now same out last dummies = record {
@@ -91,7 +101,21 @@ helps_with old new d helper now same out last dummies = record {
     helps_is = map-set help_of d.helpers helper now;
   };
   last = last;
+  others = others_with old new d (with_helper d helper now) helper now refl;
 }
+
+-- It has its new cursor.
+cursor_with : (helpers : List Helper) (helper : ℕ) (now : Helper) → helper < length helpers → slice_index_or (map cursor_in (slice_set helpers helper now)) helper None ≡ cursor_in now
+cursor_with helpers helper now within =
+    lists.get_or-map cursor_in (slice_set helpers helper now) helper Idle ∙ ap cursor_in (get_or-set_same helpers helper now Idle within)
+
+placed_with : (l : Listing) (d : Directory) (helper bucket : ℕ) (cursor : Cursor) → helper < length d.helpers → IsPlaced l cursor → at_of cursor ≡ dummy_at bucket → IsPlacedFor (table_of l (with_helper d helper (Seeking bucket cursor))) helper bucket
+unfolding IsPlacedFor
+placed_with l d helper bucket cursor within placed at = (cursor, cursor_with d.helpers helper (Seeking bucket cursor) within, placed, at)
+
+same_cursors : (l : Listing) (old new : Directory) → new.helpers ≡ old.helpers → KeepsAllCursors (table_of l old) (table_of l new)
+unfolding KeepsAllCursors
+same_cursors l old new same = ap (map cursor_in) same
 
 found_at : (helpers : List Helper) (helper : ℕ) (now : Helper) → helper < length helpers → slice_get (slice_set helpers helper now) helper ≡ Some now
 found_at helpers helper now within =
@@ -100,16 +124,17 @@ found_at helpers helper now within =
 
 -- What a seek changes.
 pub seek_changes : (before after : Listing) (old new : Directory) (helper bucket : ℕ) (result : Result InitSeek InitRefusal) → result ≡ buckets.seek_answer old.size (directories.is_stored old) (help_at old helper) bucket → buckets_changes.SeekChanges old new before after helper bucket result
-    → pairs after.nodes ≡ pairs before.nodes → ((other : ℕ) → has_dummy after.nodes other ≡ has_dummy before.nodes other) → SeekChanges (table_of before old) (table_of after new) helper bucket (answered result)
-seek_changes before after old new helper bucket (Ok Ready) answer changes same dummies =
+    → pairs after.nodes ≡ pairs before.nodes → ((other : ℕ) → has_dummy after.nodes other ≡ has_dummy before.nodes other) → IsSound after → SeekChanges (table_of before old) (table_of after new) helper bucket (answered result)
+seek_changes before after old new helper bucket (Ok Ready) answer changes same dummies sound =
     let Q : Listing → Directory → Type 0 = λ list d. Helps (table_of before old) (table_of list d) helper Nothing × (list.changes ≡ before.changes) in
     subst (λ list. Q list new) (sym changes.1) (subst (λ d. Q before d) (sym changes.0) (helps_with before before old helper Idle refl (λ place. refl) refl (λ other. refl), refl))
-seek_changes before after old new helper bucket (Ok Placed) answer seeks same dummies =
+seek_changes before after old new helper bucket (Ok Placed) answer seeks same dummies sound =
     let Q : Directory → Type 0 = λ d. Seeks (table_of before old) (table_of after d) helper bucket in
     subst Q (sym seeks.now) (record {
       helps = subst (λ (turn : ℕ). Helps (table_of before old) (table_of after (with_helper old helper (Seeking bucket seeks.cursor))) helper (Sought bucket turn)) seeks.found.changes
           (helps_with before after old helper (Seeking bucket seeks.cursor) same seeks.rest.out seeks.rest.last dummies);
       fits = ap (cursor_fits after) (found_at old.helpers helper (Seeking bucket seeks.cursor) (there (helper_of old helper) refl answer)) ∙ found_fits after seeks.cursor seeks.found;
+      placed = placed_with after old helper bucket seeks.cursor (there (helper_of old helper) refl answer) (found_placed after seeks.cursor seeks.found sound) seeks.at;
     })
   where
     there : (o : Option Helper) → helper_of old helper ≡ o → Ok Placed ≡ buckets.seek_answer old.size (directories.is_stored old) (help_at old helper) bucket → helper < length old.helpers
@@ -118,7 +143,7 @@ seek_changes before after old new helper bucket (Ok Placed) answer seeks same du
         refused : ◌≡◌ {A = Result InitSeek InitRefusal} (Ok Placed) (Err NoSuchHelper) → ⊥
         refused is = cc
     there (Some had) is says = slice_get_within old.helpers helper had is
-seek_changes before after old new helper bucket (Err refusal) answer changes same dummies = λ i. table_of (changes.1 i) (changes.0 i)
+seek_changes before after old new helper bucket (Err refusal) answer changes same dummies sound = λ i. table_of (changes.1 i) (changes.0 i)
 
 -- What a store changes.
 pub store_changes : (list : Listing) (old new : Directory) (helper : ℕ) (result : Result Unit InitRefusal) → buckets_changes.StoreChanges old new helper result → StoreChanges (table_of list old) (table_of list new) helper (answered result)
@@ -137,6 +162,7 @@ store_changes list old new helper (Ok done) stores =
         helps_is = map-set help_of old.helpers helper Idle;
       };
       last = refl;
+      others = others_with list list old (with_helper (with_dummy old stores.bucket stores.place) helper Idle) helper Idle refl;
       kept = refl;
     })
 store_changes list old new helper (Err refusal) same = ap (table_of list) same
@@ -146,10 +172,10 @@ pub double_changes : (list : Listing) (old new : Directory) (answer : Double) �
 double_changes list old new answer is = subst (λ (d : Directory). Doubles (table_of list old) (table_of list d) answer) (sym is) (go answer)
   where
     go : (answer : Double) → Doubles (table_of list old) (table_of list (buckets_changes.after_double old answer)) answer
-    go (Moved size) = record { becomes = record { regular = refl; spares = λ place. refl; largest = refl; size_is = refl; stored_is = refl; linked_is = refl; helps_is = refl }; last = refl; kept = refl }
-    go AtLimit = record { becomes = record { regular = refl; spares = λ place. refl; largest = refl; size_is = refl; stored_is = refl; linked_is = refl; helps_is = refl }; last = refl; kept = refl }
-    go Light = record { becomes = record { regular = refl; spares = λ place. refl; largest = refl; size_is = refl; stored_is = refl; linked_is = refl; helps_is = refl }; last = refl; kept = refl }
-    go (Doubled size) = record { becomes = record { regular = refl; spares = λ place. refl; largest = refl; size_is = refl; stored_is = refl; linked_is = refl; helps_is = refl }; last = refl; kept = refl }
+    go (Moved size) = record { becomes = record { regular = refl; spares = λ place. refl; largest = refl; size_is = refl; stored_is = refl; linked_is = refl; helps_is = refl }; last = refl; cursors = same_cursors list old _ refl; kept = refl }
+    go AtLimit = record { becomes = record { regular = refl; spares = λ place. refl; largest = refl; size_is = refl; stored_is = refl; linked_is = refl; helps_is = refl }; last = refl; cursors = same_cursors list old _ refl; kept = refl }
+    go Light = record { becomes = record { regular = refl; spares = λ place. refl; largest = refl; size_is = refl; stored_is = refl; linked_is = refl; helps_is = refl }; last = refl; cursors = same_cursors list old _ refl; kept = refl }
+    go (Doubled size) = record { becomes = record { regular = refl; spares = λ place. refl; largest = refl; size_is = refl; stored_is = refl; linked_is = refl; helps_is = refl }; last = refl; cursors = same_cursors list old _ refl; kept = refl }
 
 -- The linked dummies with one more.
 linked_more : (before after : List NodeAt) (limit bucket : ℕ) → bucket < limit → limit ≤ 2 ^ 32 → ((other : ℕ) → other < 2 ^ 32 → has_dummy after other ≡ ((bucket == other) || has_dummy before other))
@@ -221,6 +247,7 @@ link_changes before after old new helper (Ok Linked) sound answer links same =
         helps_is = map-set help_of old.helpers helper (Holding links.bucket links.place);
       };
       last = links.links.last;
+      others = others_with before after old (with_helper old helper (Holding links.bucket links.place)) helper (Holding links.bucket links.place) refl;
     })
 link_changes before after old new helper (Err refusal) sound answer changes same = λ i. table_of (changes.1 i) (changes.0 i)
 
@@ -278,7 +305,7 @@ sweep_belong old new Swept becomes belong = subst Belong (sym becomes.nodes) (be
 sweep_belong old new Clean is belong = subst (λ (l : Listing). Belong l.nodes) (sym is) belong
 
 -- No other refusal is answered as that of memory.
-pub no_memory_alone : (result : Result InitLink InitRefusal) → answered result ≡ Err refusals.NoMemory → result ≡ Err NoMemory
+pub no_memory_alone : {A : Type 0} (result : Result A InitRefusal) → answered result ≡ Err refusals.NoMemory → result ≡ Err NoMemory
 no_memory_alone (Ok done) is = absurd (cc is)
 no_memory_alone (Err NoMemory) is = refl
 no_memory_alone (Err NoSuchBucket) is = absurd (cc is)

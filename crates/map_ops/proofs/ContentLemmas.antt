@@ -1,7 +1,7 @@
 -- The content of a list of nodes, and what a step at a node does to it.
-use Rattle.std.proofs.Common.{◌≡◌, ◌≢◌, ℕ, ◌<◌, ◌^◌, ◌==◌, inl, inr, List, [], ◌∷◌, ◌++◌, Some, None, Bool, true, false, cond, not, ◌&&◌, ◌+◌, if◌then◌else◌, length, refl, sym, ◌∙◌, ap, subst, arith}
+use Rattle.std.proofs.Common.{◌≡◌, ◌≢◌, ℕ, ◌==◌, inl, inr, List, [], ◌∷◌, ◌++◌, Some, None, Bool, true, false, cond, not, ◌&&◌, ◌+◌, if◌then◌else◌, length, refl, sym, ◌∙◌, ap, subst, arith}
 use Rattle.std.specs.List.{fold, AllByRecursion}
-use Rattle.std.proofs.lemmas.Bool.{cases_eq, cases_lt, eq-eqb, ne_eqb}
+use Rattle.std.proofs.lemmas.Bool.{cases_eq, eq-eqb, ne_eqb}
 use Rattle.std.proofs.lemmas.Bool.Decides.{eqb_tells}
 use Rattle.node_list.specs.declared.node.Kind.{Kind}
 use Rattle.node_list.specs.declared.node.Kind.TheVariants.{Dummy, Regular}
@@ -10,14 +10,14 @@ use Rattle.node_list.specs.Order.{IsNodeBefore, IsRising}
 use Rattle.node_list.proofs.OrderLemmas.{some-injective, some-none, each_found}
 use Rattle.list_steps.specs.Content.{pair_if, pairs, Replaces}
 use Rattle.split_key.specs.declared.sort.SortKey.{SortKey}
-use Rattle.split_key.specs.Split.{split}
 use Rattle.split_key.specs.Sort.{IsBefore, regular_at}
-use Rattle.split_key.proofs.SortLemmas.{before_apart, split_before}
+use Rattle.split_key.proofs.SortLemmas.{before_apart}
 use Rattle.bucket_table.specs.Dummies.{IsKeyed}
 use Rattle.txn_trace.specs.Map.{Map, count_of, empty, get, insert, remove}
 use Rattle.txn_trace.specs.Ordered.{ordered}
 use Rattle.txn_trace.proofs.Maps.{get-insert, same_map}
-use Rattle.txn_trace.proofs.Order.{Rises, IsSortedBySplit, value_at, or_else, or_else_none, split_cmp_tied, sorted-rises, value_at-ordered, ordered_rising, ordered-linked, ordered-written, ordered-unlinked, length-ordered}
+use Rattle.txn_trace.proofs.Order.{Rises, IsSortedBySplit, value_at, or_else, or_else_none, split_cmp_tied, sorted-rises, value_at-ordered, ordered_rising, length-ordered}
+use Rattle.txn_trace.proofs.OrderedPairs.{ordered-linked, ordered-written, ordered-unlinked}
 use Rattle.map_ops.specs.TableAt.{map_of}
 
 -- Where a key belongs before all others, it is not there.

@@ -15,7 +15,7 @@ use Rattle.txn_trace.specs.declared.op.Op.TheVariants.{Put, Take, Get, PutIf}
 use Rattle.std.specs.Prelude.{nat_eq}
 use Rattle.std.specs.Option.{option_eq}
 use Rattle.txn_trace.specs.Map.{get, insert}
-use Rattle.map_ops.specs.declared.job.MapJob.TheVariants.{Unput, Restore, Relink}
+use Rattle.map_ops.specs.declared.job.MapJob.TheVariants.{Relink}
 use Rattle.map_ops.specs.TableAt.{TableAt, content, map_of, table_of, KeepsSpares}
 use Rattle.map_ops.specs.declared.job.MapJob.{MapJob}
 use Rattle.map_ops.specs.Jobs.{unput, relink, key_of_job, value_before, spare_of_job}

@@ -1,10 +1,11 @@
 -- What each call on the buckets of a table answers and changes.
-use Rattle.std.specs.Prelude.{◌≡◌, ℕ, ◌+◌, ◌-◌, Bool, true, false, Option, Some, Result, Ok, Err, List, slice_set, slice_index_or}
+use Rattle.std.specs.Prelude.{◌≡◌, ℕ, ◌+◌, ◌/◌, Bool, true, false, Option, Some, Result, Ok, Err, List, slice_set, slice_index_or}
 use Rattle.std.specs.List.{slice_get}
 pub use Rattle.split_key.specs.Split.{parent_of}
 pub use Rattle.bucket_table.specs.Answers.{double_answer}
 use Rattle.bucket_table.specs.Answers as buckets
 use Rattle.split_key.specs.Sort.{dummy_at}
+use Rattle.list_steps.specs.Found.{IsPlaced, at_of}
 use Rattle.list_steps.specs.Seek.{sought}
 use Rattle.bucket_table.specs.Directory.{dummy_of}
 use Rattle.bucket_table.specs.Dummies.{dummy_node}
@@ -18,13 +19,18 @@ use Rattle.txn_trace.specs.declared.refusal.Refusal.{Refusal}
 use Rattle.txn_trace.specs.declared.refusal.Refusal.TheVariants as refusals
 use Rattle.bucket_table.specs.declared.answer.Double.{Double}
 use Rattle.bucket_table.specs.declared.answer.Double.TheVariants.{Moved, AtLimit, Light, Doubled}
-use Rattle.map_ops.specs.TableAt.{TableAt, Help, Nothing, Sought, Dummy, regular, turn_of, last_of, largest_of, size_of, stored_of, linked_of, helps_of, nodes_of, KeepsList, KeepsSpares}
+use Rattle.map_ops.specs.TableAt.{TableAt, Help, Nothing, Sought, Dummy, regular, turn_of, last_of, largest_of, size_of, stored_of, linked_of, helps_of, nodes_of, Cursor, KeepsAllCursors, KeepsCursors, KeepsList, KeepsSpares, helper_cursor}
 use Rattle.map_ops.specs.Nodes.{IsUnlinking, LinksNode}
 pub use Rattle.map_ops.specs.TableAt.{helper_fits}
 
 -- Whether the bucket is one of these.
 abbrev pub is_stored : List Bool → ℕ → Bool
 is_stored stored bucket = slice_index_or stored bucket false
+
+-- No bucket of this bucket's segment is stored: a segment has 64 buckets in a row.
+abbrev pub LacksSegment : List Bool → ℕ → Type 0
+LacksSegment stored bucket =
+    (other : ℕ) → other / 64 ≡ bucket / 64 → is_stored stored other ≡ false
 
 -- The refusal of a call on buckets, as steps name it.
 abbrev pub refusal_for : InitRefusal → Refusal
@@ -56,7 +62,7 @@ abbrev pub link_answer_of : TableAt → ℕ → Result InitLink Refusal
 link_answer_of t helper =
     link_answer (helper_fits t helper) (linked_of t) (last_of t) (slice_get (helps_of t) helper)
 
--- What a store by a helper that has this is answered.
+-- What a store by a helper that has this is answered, where memory lasts.
 abbrev pub store_answer : Option Help → Result Unit Refusal
 store_answer help = answered (buckets.store_answer help)
 
@@ -83,12 +89,20 @@ pub record Helps (old new : TableAt) (helper : ℕ) (help : Help) : Type 0 where
   pub becomes : Becomes old new (size_of old) (stored_of old) (linked_of old)
       (slice_set (helps_of old) helper help)
   pub last : last_of new ≡ last_of old
+  pub others : KeepsCursors old new helper
+
+-- The cursor of a helper was placed for the dummy of a bucket.
+unfoldable pub IsPlacedFor : TableAt → ℕ → ℕ → Type 0
+IsPlacedFor t helper bucket =
+    (cursor : Cursor) × (helper_cursor t helper ≡ Some cursor)
+    × IsPlaced t.list cursor × (at_of cursor ≡ dummy_at bucket)
 
 -- A seek placed a cursor for the bucket: the helper has it, with the change number that there is
 -- now, and it fits.
 pub record Seeks (old new : TableAt) (helper bucket : ℕ) : Type 0 where
   pub helps : Helps old new helper (Sought bucket (turn_of new))
   pub fits : helper_fits new helper ≡ true
+  pub placed : IsPlacedFor new helper bucket
 
 -- The place of a bucket's dummy was sought from the dummy of the bucket's parent: the marked nodes
 -- between there and the place are unlinked, and no others. The change number grows by one for each.
@@ -130,6 +144,7 @@ pub record Links (old new : TableAt) (helper : ℕ) : Type 0 where
   pub becomes : Becomes old new (size_of old) (stored_of old)
       (slice_set (linked_of old) bucket true) (slice_set (helps_of old) helper (Dummy bucket))
   pub last : last_of new ≡ last_of old + 1
+  pub others : KeepsCursors old new helper
 
 -- The bucket's dummy is linked, with the next stamp.
 pub record LinksDummy (old new : TableAt) (bucket : ℕ) : Type 0 where
@@ -157,6 +172,7 @@ pub record Stores (old new : TableAt) (helper : ℕ) : Type 0 where
   pub becomes : Becomes old new (size_of old) (slice_set (stored_of old) bucket true)
       (linked_of old) (slice_set (helps_of old) helper Nothing)
   pub last : last_of new ≡ last_of old
+  pub others : KeepsCursors old new helper
   pub kept : turn_of new ≡ turn_of old
 
 -- What a store by a helper changes.
@@ -169,4 +185,5 @@ pub record Doubles (old new : TableAt) (answer : Double) : Type 0 where
   pub becomes : Becomes old new (size_after (size_of old) answer) (stored_of old) (linked_of old)
       (helps_of old)
   pub last : last_of new ≡ last_of old
+  pub cursors : KeepsAllCursors old new
   pub kept : turn_of new ≡ turn_of old

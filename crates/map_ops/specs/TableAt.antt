@@ -1,5 +1,5 @@
 -- What a contract sees of a table.
-use Rattle.std.specs.Prelude.{◌≡◌, ◌≢◌, ℕ, ◌<◌, ◌≤◌, ◌-◌, ◌%◌, ◌^◌, Bool, true, false, Option, Some, None, List, [], ◌∷◌, map, is_some, replicate}
+use Rattle.std.specs.Prelude.{◌≡◌, ◌≢◌, ℕ, ◌<◌, ◌≤◌, ◌-◌, ◌%◌, ◌^◌, Bool, true, false, Option, Some, None, List, [], ◌∷◌, map, is_some, replicate, slice_index_or}
 use Rattle.std.specs.List.{AllByRecursion, fold, range_with_len}
 pub use Rattle.node_list.specs.Nodes.{NodeAt, SpareAt}
 use Rattle.node_list.specs.Nodes.{Listing, first_dummy, out_at}
@@ -19,6 +19,8 @@ use Rattle.bucket_table.specs.Dummies.{has_dummy}
 use Rattle.bucket_table.specs.Home.{IsHome}
 pub use Rattle.bucket_table.specs.Helpers.{Help, Nothing, Sought, Dummy, help_of}
 use Rattle.bucket_table.specs.Helpers.{cursor_fits}
+use Rattle.bucket_table.specs.declared.helper.Helper.{Helper}
+use Rattle.bucket_table.specs.declared.helper.Helper.TheVariants.{Idle, Seeking, Holding}
 use Rattle.txn_trace.specs.Map.{Map, empty, insert}
 
 -- The list of nodes and the buckets, of which contracts speak by the words below alone.
@@ -98,6 +100,29 @@ pub record KeepsNodes (old new : TableAt) : Type 0 where
 -- Whether the cursor of the helper of this number fits.
 abbrev pub helper_fits : TableAt → ℕ → Bool
 helper_fits t helper = cursor_fits t.list (helper_of t.buckets helper)
+
+-- The cursor of a helper, if it has one.
+abbrev pub cursor_in : Helper → Option Cursor
+cursor_in Idle = None
+cursor_in (Seeking bucket cursor) = Some cursor
+cursor_in (Holding bucket dummy) = None
+
+-- For each helper, its cursor, if it has one.
+abbrev pub cursors_of : TableAt → List (Option Cursor)
+cursors_of t = map cursor_in t.buckets.helpers
+
+-- The cursor of the helper of this number, if it has one.
+abbrev pub helper_cursor : TableAt → ℕ → Option Cursor
+helper_cursor t helper = slice_index_or (cursors_of t) helper None
+
+-- The cursors of all helpers but this one are as they were.
+unfoldable pub KeepsCursors : TableAt → TableAt → ℕ → Type 0
+KeepsCursors old new helper =
+    (other : ℕ) → other ≢ helper → helper_cursor new other ≡ helper_cursor old other
+
+-- All cursors of helpers are as they were.
+unfoldable pub KeepsAllCursors : TableAt → TableAt → Type 0
+KeepsAllCursors old new = cursors_of new ≡ cursors_of old
 
 -- The stamp of the spare that is out at a place, if one is.
 abbrev pub spare_out : TableAt → ℕ → Option ℕ

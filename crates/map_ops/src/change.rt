@@ -26,12 +26,12 @@ use crate::job::MapJob;
 use crate::pending::Plan;
 use bucket_table::Buckets;
 use list_steps::{Again, Cursor, link_at, look, mark_at, seek, swap_at};
-use node_list::{Kind, NodeList, NodeRef, Spare, SpareFault};
+use node_list::{Kind, NodeList, NodeRef, SpareFault, Unfilled};
 use split_key::{Key, SortKey, bucket_of};
 use txn_trace::{Op, Refusal, Reply};
 
 /// A spare of the list.
-fn give_spare(list: &mut NodeList) -> Result<Spare, Refusal>
+fn give_spare(list: &mut NodeList) -> Result<Unfilled, Refusal>
     requires { IsSound list.old }
     ensures ok { IfOk result (λ spare. (buckets : Directory)
         → GivesOne (table_of list.old buckets) (table_of list.new buckets) spare) }
@@ -41,13 +41,14 @@ fn give_spare(list: &mut NodeList) -> Result<Spare, Refusal>
     ensures follows { Follows list.old list.new }
 {
     match list.spare() {
-        Ok(spare) => Ok(spare),
+        Ok(spare) => Ok(spare.keep()),
         Err(SpareFault::Worn) => Err(Refusal::StampsUsedUp),
         Err(SpareFault::NoMemory) => Err(Refusal::NoMemory),
     }
 }
 
 /// An operation with the spare that it takes.
+#[inline(always)]
 pub(crate) fn plan(list: &mut NodeList, op: Op) -> Result<Plan, Refusal>
     requires { IsSound list.old }
     ensures ok { IfOk result (λ plan. (buckets : Directory)
@@ -108,7 +109,7 @@ pub(crate) fn find(list: &NodeList, cursor: &Cursor, key: Key) -> Result<Option<
 }
 
 /// Links a node of an absent key.
-fn link_key(list: &mut NodeList, pred: NodeRef, key: Key, value: u64, mut spare: Spare)
+fn link_key(list: &mut NodeList, pred: NodeRef, key: Key, value: u64, spare: Unfilled)
     requires sound { IsSound list.old }
     requires belong { Belong list.old.nodes }
     requires room { HasRoom list.old key pred }
@@ -121,8 +122,9 @@ fn link_key(list: &mut NodeList, pred: NodeRef, key: Key, value: u64, mut spare:
     ensures belong { Belong list.new.nodes }
     ensures follows { Follows list.old list.new }
 {
-    spare.fill(SortKey::regular(key), Kind::Regular, value);
-    let _ = link_at(list, pred, spare);
+    let mut node = spare.into_spare();
+    node.fill(SortKey::regular(key), Kind::Regular, value);
+    let _ = link_at(list, pred, node);
 }
 
 /// Writes the value of a key that is there, and answers the one that it had.
@@ -160,13 +162,13 @@ fn mark_key(list: &mut NodeList, node: NodeRef, key: Key) -> u64
 }
 
 /// Gives a spare back.
-fn give_back(list: &mut NodeList, spare: Spare)
+fn give_back(list: &mut NodeList, spare: Unfilled)
     requires { IsOut list.old spare }
     ensures back { (buckets : Directory)
         → GivesBack (table_of list.old buckets) (table_of list.new buckets) (Some spare) }
     ensures follows { Follows list.old list.new }
 {
-    list.give_back(spare);
+    list.give_back(spare.into_spare());
 }
 
 /// Gives up an operation.
@@ -213,7 +215,7 @@ fn put_key(
     there: Option<NodeRef>,
     key: Key,
     value: u64,
-    spare: Spare,
+    spare: Unfilled,
 ) -> (Reply, Option<MapJob>)
     requires sound { IsSound list.old }
     requires belong { Belong list.old.nodes }
@@ -250,7 +252,7 @@ fn put_if_key(
     key: Key,
     expected: Reply,
     value: u64,
-    spare: Spare,
+    spare: Unfilled,
 ) -> (Reply, Option<MapJob>)
     requires sound { IsSound list.old }
     requires belong { Belong list.old.nodes }
@@ -283,7 +285,7 @@ fn take_key(
     pred: NodeRef,
     there: Option<NodeRef>,
     key: Key,
-    spare: Spare,
+    spare: Unfilled,
 ) -> (Reply, Option<MapJob>)
     requires sound { IsSound list.old }
     requires belong { Belong list.old.nodes }
@@ -310,6 +312,7 @@ fn take_key(
 
 /// Does an operation where the node of its key is, or would belong behind `pred`, and answers what
 /// the key had with what takes the change back.
+#[inline(always)]
 pub(crate) fn change(
     list: &mut NodeList,
     plan: Plan,

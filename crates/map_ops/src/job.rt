@@ -1,7 +1,7 @@
 //! Jobs.
 ghost use Rattle.std.specs.Prelude.{◌≡◌};
 
-use node_list::Spare;
+use node_list::Unfilled;
 use split_key::Key;
 
 /// What takes one change back, whatever the table has become since at other keys (an inverse method
@@ -14,7 +14,7 @@ pub enum MapJob {
     /// Gives the key the value that it had.
     Restore(Key, u64),
     /// Puts the key back with the value that it had, with this spare.
-    Relink(Key, u64, Spare),
+    Relink(Key, u64, Unfilled),
 }
 
 impl MapJob {

@@ -19,15 +19,15 @@
 //! - All other calls leave content and list of pairs.
 //!
 //! A prepared change owns the node that it may need, and a take passes it on to its job. So
-//! only `new`, `prepare`, `apply`, `init_link`, `content` and `regular_list` take memory, and none
-//! is wanted to take a change back.
+//! only `new`, `prepare`, `apply`, `init_link`, `init_store`, `content` and `regular_list` take
+//! memory, and none is wanted to take a change back.
 //!
 //! `place` and `place_job` walk from the nearest initialised dummy to the key's place, and so do
 //! `apply` and `take_back`, of which they are a part; `init_seek` walks from the dummy of the
-//! bucket's parent, and `sweep` to the first marked node. `content` and `regular_list` walk the
-//! whole list (`content` also sorts its pairs), and `new` takes time in proportion to `max` and
-//! `callers`. Each other call takes constant time, amortised where it may take memory for a node
-//! (`prepare`, `init_link`).
+//! bucket's parent, and `sweep` from the nearest initialised dummy before the first marked node to
+//! that node. `content` and `regular_list` walk the whole list (`content` also sorts its pairs),
+//! and `new` takes time in proportion to `max / 64` and `callers`. Each other call takes constant
+//! time, amortised where it may take memory for a node (`prepare`, `init_link`).
 #![tactic(auto)]
 
 mod act;
@@ -46,7 +46,7 @@ pub use act::{Act, Undo};
 pub use bucket_table::{Double, InitLink, InitSeek};
 pub use job::MapJob;
 pub use list_steps::{Cursor, SweepOutcome};
-pub use node_list::Spare;
+pub use node_list::Unfilled;
 pub use pending::Pending;
 pub use split_key::Key;
 pub use table::Table;

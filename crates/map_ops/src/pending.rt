@@ -1,7 +1,7 @@
 //! Operations that are prepared.
 ghost use Rattle.std.specs.Prelude.{◌≡◌, is_some};
 
-use node_list::Spare;
+use node_list::Unfilled;
 use split_key::Key;
 use std::marker::Model;
 use txn_trace::Op;
@@ -9,9 +9,9 @@ use txn_trace::Op;
 /// An operation, and the spare that it takes.
 #[derive(Debug, Drop)]
 pub(crate) enum Plan {
-    Put(Key, u64, Spare),
-    Take(Key, Spare),
-    PutIf(Key, Option<u64>, u64, Spare),
+    Put(Key, u64, Unfilled),
+    Take(Key, Unfilled),
+    PutIf(Key, Option<u64>, u64, Unfilled),
     Get(Key),
 }
 

@@ -8,6 +8,8 @@ ghost use Rattle.std.specs.BTreeMap.{get as value_at};
 ghost use Rattle.std.specs.Ordering.{nat_cmp};
 ghost use Rattle.txn_trace.specs.Map.{count_of, get, key_of};
 ghost use Rattle.txn_trace.specs.Ordered.{ordered};
+ghost use Rattle.bucket_table.specs.Home.{IsHome};
+ghost use Rattle.list_steps.specs.Steps.{IsBeforeMarks};
 
 use crate::act::{Act, Undo};
 use crate::change::{change, find, give_up, give_up_job, plan, restore, seek_key};
@@ -16,8 +18,9 @@ use crate::listing::{map_of, pairs_of};
 use crate::pending::Pending;
 use crate::refusals::answered;
 use bucket_table::{Buckets, Double, InitLink, InitSeek};
-use list_steps::{Again, Cursor, SweepOutcome, sweep};
-use node_list::NodeList;
+use list_steps::{Again, Cursor, SweepOutcome, sweep_from};
+use node_list::{NodeList, NodeRef};
+use split_key::bucket_at;
 use std::alloc::{AllocError, Global};
 use std::collections::BTreeMap;
 use std::marker::Model;
@@ -47,16 +50,16 @@ impl Model for Table {
 }
 
 impl Table {
-    ghost use Rattle.map_ops.specs.TableAt.{HasParents, HasSoundList, IsClean, IsNew, IsPlaced, IsSplitOrdered, Follows, Keeps, KeepsList, KeepsSpares, NamesDummies, Sought, content, helper_fits, regular, helps_of, last_of, largest_of, linked_of, size_of, stored_of, turn_of};
+    ghost use Rattle.map_ops.specs.TableAt.{HasParents, HasSoundList, Dummy, IsClean, IsNew, IsPlaced, IsSplitOrdered, Follows, Keeps, KeepsList, KeepsSpares, NamesDummies, Sought, content, helper_fits, regular, helps_of, last_of, largest_of, linked_of, size_of, stored_of, turn_of};
     ghost use Rattle.map_ops.specs.Jobs.{IsDue, key_of_job, spare_of_job};
     ghost use Rattle.map_ops.specs.Changes.{ActWrites, Acts, Applies, GivesBack, IsRefused, OwnsIf, Places, Prepares, SeeksAndUndoes, SeeksNear, Sweeps, TakesBack, UndoWrites, Undoes};
-    ghost use Rattle.map_ops.specs.Buckets.{Doubles, LinkChanges, LinkWrites, SeekChanges, SeekWrites, StoreChanges, double_answer, link_answer_of, seek_answer, store_answer};
+    ghost use Rattle.map_ops.specs.Buckets.{Doubles, LinkChanges, LinkWrites, SeekChanges, SeekWrites, StoreChanges, double_answer, link_answer_of, seek_answer, store_answer, LacksSegment};
 
     /// An empty table of two buckets, of which bucket 0 is initialised, and of so many idle
     /// helpers. It can grow to `max` buckets, a power of two.
     ///
-    /// Allocates an entry a bucket and one a helper, and takes time in proportion to `max` and
-    /// `callers`.
+    /// Allocates a place for each segment of 64 buckets, the first segment, and an entry a helper,
+    /// and takes time in proportion to these.
     ///
     /// # Errors
     ///
@@ -81,6 +84,7 @@ impl Table {
     ///
     /// Unless it is a get, `StampsUsedUp` where the last stamp, 2^64 - 2, is given, and else
     /// `NoMemory` where memory is refused. Each leaves the table as it was.
+    #[inline(always)]
     pub fn prepare(&mut self, op: Op) -> Result<Pending, Refusal>
         ensures ok { IfOk result (Prepares self.old self.new op) }
         ensures err { IfErr result (IsRefused self.old op) }
@@ -113,6 +117,7 @@ impl Table {
     /// `Again` comes exactly where the cursor no longer fits, so never while the change number is
     /// still the cursor's and below 2^64 - 1: then nothing has changed, and the operation comes
     /// back. Takes no memory. Constant time.
+    #[inline(always)]
     pub fn act(&mut self, pending: Pending, cursor: Cursor) -> Act
         requires placed { IsPlaced self.old cursor (key_of pending.op) }
         requires owned { OwnsIf self.old pending.spare }
@@ -298,7 +303,8 @@ impl Table {
     /// Unlinks the first marked node, if one is marked, and nothing else. `Clean` comes exactly
     /// where none is.
     ///
-    /// Takes no memory. One step a node up to there.
+    /// The walk begins at the nearest initialised dummy before the place where the marked nodes
+    /// begin (`NodeList::marks_begin`). Takes no memory. One step a node from there.
     pub fn sweep(&mut self) -> SweepOutcome
         ensures clean { (result ≡ SweepOutcome.Clean) ↔ IsClean self.old }
         ensures sweeps { Sweeps self.old self.new result }
@@ -309,7 +315,8 @@ impl Table {
         ensures follows { Follows self.old self.new }
     {
         let _turn = self.list.changes();
-        sweep(&mut self.list)
+        let start = sweep_start(&self.list, &self.buckets);
+        sweep_from(&mut self.list, start)
     }
 
     /// Seeks the place of a bucket's dummy for a helper, from the dummy of the bucket's parent.
@@ -370,14 +377,20 @@ impl Table {
     /// Stores a helper's dummy as its bucket's, which is initialised from then on, and leaves the
     /// helper idle.
     ///
-    /// Takes no memory. Constant time.
+    /// Takes memory for the bucket's segment where no bucket of it is initialised, and else none.
+    /// Constant time.
     ///
     /// # Errors
     ///
-    /// In this order: `NoSuchHelper`, `HelperOutOfOrder` where the helper has no dummy. Each leaves
-    /// the table as it was.
+    /// In this order: `NoSuchHelper`, `HelperOutOfOrder` where the helper has no dummy, `NoMemory`.
+    /// Each leaves the table as it was, and the helper has its dummy.
     pub fn init_store(&mut self, helper: u64) -> Result<(), Refusal>
-        ensures answer { result ≡ store_answer (slice_get (helps_of self.old) helper) }
+        ensures answer { result ≢ Err Refusal.NoMemory
+            → result ≡ store_answer (slice_get (helps_of self.old) helper) }
+        ensures no_memory { result ≡ Err Refusal.NoMemory
+            → store_answer (slice_get (helps_of self.old) helper) ≡ Ok tt }
+        ensures lacks { (bucket : ℕ) → slice_get (helps_of self.old) helper ≡ Some (Dummy bucket)
+            → result ≡ Err Refusal.NoMemory → LacksSegment (stored_of self.old) bucket }
         ensures changes { StoreChanges self.old self.new helper result }
         ensures list { KeepsList self.old self.new }
         ensures follows { Follows self.old self.new }
@@ -399,5 +412,20 @@ impl Table {
         ensures follows { Follows self.old self.new }
     {
         self.buckets.double(&self.list, seen)
+    }
+}
+
+/// Where a sweep may begin: at the nearest initialised dummy before the place where the marked
+/// nodes begin, or at the first node where none is marked.
+fn sweep_start(list: &NodeList, buckets: &Buckets) -> NodeRef
+    requires { IsHome buckets.now list.now }
+    ensures { IsBeforeMarks list.now.nodes result }
+{
+    // What is true of every list and of all buckets.
+    let _changes = list.changes();
+    let size = buckets.size();
+    match list.marks_begin() {
+        Some(split) => buckets.nearest(bucket_at(split, size)),
+        None => list.head(),
     }
 }

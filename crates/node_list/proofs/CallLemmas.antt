@@ -3,37 +3,36 @@ use Rattle.std.proofs.Common.{◌≡◌, ℕ, ◌+◌, ◌-◌, ◌^◌, ◌<◌
 use Rattle.slab.specs.Slab.{Slab, get, slab_len, Updates, with_value}
 use Rattle.node_list.specs.declared.node.Node.{Node}
 use Rattle.node_list.specs.declared.node.Kind.TheVariants.{Dummy, Regular}
-use Rattle.node_list.specs.declared.slots.Slot.{Slot}
-use Rattle.node_list.specs.declared.slots.Slot.TheVariants.{Linked, Out}
+use Rattle.node_list.specs.Slots.{SlotAt, Linked, Out}
 use Rattle.node_list.specs.Nodes.{NodeAt, SpareAt, IsOut, filled, out_at, node_of, place_of, IsLinked, IsRegularAt, IsBeforeMarked, is_regular, is_live, is_marked, live_count, marked_count, linked_after, unlinked_after, changed_at, marked_at, written_at, one_more, GivesOut, TakesBack, Becomes, Takes}
 use Rattle.node_list.specs.Order.{IsRising}
 use Rattle.node_list.specs.Seen.{seen}
 use Rattle.node_list.specs.Follow.{IsSameNode, Follows}
 use Rattle.node_list.specs.Layout.{stored, nodes_in, listing_of, IsKept}
 use Rattle.node_list.proofs.OrderLemmas.{some-injective}
-use Rattle.node_list.proofs.NodesLemmas.{found_linked, next_linked, linked_more, now_found}
+use Rattle.node_list.proofs.NodesLemmas.{found_linked, next_linked, next_found, linked_more, now_found}
 use Rattle.node_list.proofs.ChainLemmas.{spread, nodes_in_is, nodes_fit, absent_free, linked_node, node_found, next_is}
 use Rattle.node_list.proofs.CountLemmas.{gain, count-linked, count-unlinked, count-changed, live-marked, live-regular, live-fresh, counts_fit}
 use Rattle.node_list.proofs.SlabSteps.{kept, spare_laid_out, spare_stamps, spare_out, spare_was_free, spare_others, back_laid_out, back_stamps, back_gone, back_others, link_absent, link_laid_out, link_stamps, link_gone, link_others, mid_spare, change_laid_out, change_stamps, change_out, unlink_laid_out, unlink_stamps, unlink_out}
 use Rattle.node_list.proofs.FollowLemmas.{sound, gives_out_follows, takes_back_follows, links_follow, changes_follow, unlinks_follow}
 
 -- No more nodes are counted than slots are in use.
-pub counted_fit : (slab : Slab Slot) (head last count marked : ℕ) → IsKept slab head last count marked → count + marked ≤ slab_len slab
+pub counted_fit : (slab : Slab SlotAt) (head last count marked : ℕ) → IsKept slab head last count marked → count + marked ≤ slab_len slab
 counted_fit slab head last count marked is =
     let fits = nodes_fit slab head (nodes_in slab head) is.laid_out in
     omega (arith, fits, counts_fit (nodes_in slab head), is.counted, is.marks)
 
 -- The slot of a linked node.
-pub slot_linked : (slab : Slab Slot) (head last count marked place : ℕ) → IsKept slab head last count marked → IsLinked (nodes_in slab head) place → (node : Node) × (get slab place ≡ Some (Linked node))
+pub slot_linked : (slab : Slab SlotAt) (head last count marked place : ℕ) → IsKept slab head last count marked → IsLinked (nodes_in slab head) place → (node : Node) × (get slab place ≡ Some (Linked node))
 slot_linked slab head last count marked place is linked = linked_node (get slab) (nodes_in slab head) place is.laid_out.chain linked
 
 -- A marked node behind another.
-pub behind_linked : (slab : Slab Slot) (head : ℕ) (pred : ℕ) → IsBeforeMarked (nodes_in slab head) pred → IsLinked (nodes_in slab head) pred
+pub behind_linked : (slab : Slab SlotAt) (head : ℕ) (pred : ℕ) → IsBeforeMarked (nodes_in slab head) pred → IsLinked (nodes_in slab head) pred
 behind_linked slab head pred behind = (next_linked (nodes_in slab head) pred behind.node.place (ap place_of behind.next)).0
 
-module _ (old : Slab Slot) (head changes last count marked : ℕ) (is : IsKept old head last count marked) where
+module _ (old : Slab SlotAt) (head changes last count marked : ℕ) (is : IsKept old head last count marked) where
   -- A spare is given out.
-  pub spared : (new : Slab Slot) (place : ℕ) → last + 1 < 2 ^ 64 - 1 → get old place ≡ None → Updates old new place (Some (Out (last + 1))) → IsKept new head (last + 1) count marked × GivesOut (listing_of old head changes last) (listing_of new head changes (last + 1)) place (last + 1) × Follows (listing_of old head changes last) (listing_of new head changes (last + 1))
+  pub spared : (new : Slab SlotAt) (place : ℕ) → last + 1 < 2 ^ 64 - 1 → get old place ≡ None → Updates old new place (Some (Out (last + 1))) → IsKept new head (last + 1) count marked × GivesOut (listing_of old head changes last) (listing_of new head changes (last + 1)) place (last + 1) × Follows (listing_of old head changes last) (listing_of new head changes (last + 1))
   spared new place below free updates =
       let nodes = nodes_in old head in
       let laid = spare_laid_out old new head place (last + 1) nodes free updates is.laid_out in
@@ -54,7 +53,7 @@ module _ (old : Slab Slot) (head changes last count marked : ℕ) (is : IsKept o
       )
 
   -- A spare is given back.
-  pub taken_back : (new : Slab Slot) (place stamp : ℕ) → out_at (listing_of old head changes last) place ≡ Some stamp → Updates old new place None → IsKept new head last count marked × TakesBack (listing_of old head changes last) (listing_of new head changes last) place × Follows (listing_of old head changes last) (listing_of new head changes last)
+  pub taken_back : (new : Slab SlotAt) (place stamp : ℕ) → out_at (listing_of old head changes last) place ≡ Some stamp → Updates old new place None → IsKept new head last count marked × TakesBack (listing_of old head changes last) (listing_of new head changes last) place × Follows (listing_of old head changes last) (listing_of new head changes last)
   taken_back new place stamp is_out freed =
       let nodes = nodes_in old head in
       let laid = back_laid_out old new head place stamp nodes is_out freed is.laid_out in
@@ -74,7 +73,7 @@ module _ (old : Slab Slot) (head changes last count marked : ℕ) (is : IsKept o
       )
 
   -- A node is changed.
-  module _ (new : Slab Slot) (place : ℕ) (change : NodeAt → NodeAt) (node written : Node)
+  module _ (new : Slab SlotAt) (place : ℕ) (change : NodeAt → NodeAt) (node written : Node)
       (same : (n : NodeAt) → IsSameNode n (change n))
       (stores : (n : NodeAt) (next : Option ℕ) → node ≡ stored n next → written ≡ stored (change n) next)
       (stamp : written.stamp ≡ node.stamp)
@@ -111,7 +110,7 @@ module _ (old : Slab Slot) (head changes last count marked : ℕ) (is : IsKept o
         )
 
   -- A value is written.
-  pub value_written : (new : Slab Slot) (place value : ℕ) (node : Node) → IsLinked (nodes_in old head) place → get old place ≡ Some (Linked node) → new ≡ with_value old place (Linked (record node { value = value })) → IsKept new head last count marked × Becomes (listing_of old head changes last) (listing_of new head (one_more changes) last) (written_at (nodes_in old head) place value) × Follows (listing_of old head changes last) (listing_of new head (one_more changes) last)
+  pub value_written : (new : Slab SlotAt) (place value : ℕ) (node : Node) → IsLinked (nodes_in old head) place → get old place ≡ Some (Linked node) → new ≡ with_value old place (Linked (record node { value = value })) → IsKept new head last count marked × Becomes (listing_of old head changes last) (listing_of new head (one_more changes) last) (written_at (nodes_in old head) place value) × Follows (listing_of old head changes last) (listing_of new head (one_more changes) last)
   value_written new place value node linked is_node new_is =
       changed new place (λ n. record n { value = value }) node (record node { value = value })
       (λ n. record { place = refl; at = refl; kind = refl; stamp = refl })
@@ -125,6 +124,12 @@ module _ (old : Slab Slot) (head changes last count marked : ℕ) (is : IsKept o
       let there = node_found (get old) (nodes_in old head) place node is.laid_out.chain linked is_node in
       let same = some-injective (sym there ∙ regular.is) in
       (ap (λ (v : NodeAt). v.kind) same ∙ regular.regular, ap (λ (v : NodeAt). v.marked) same ∙ regular.unmarked)
+
+  -- So its node there is as it is seen.
+  pub regular_found : (place : ℕ) (node : Node) → IsRegularAt (nodes_in old head) place → get old place ≡ Some (Linked node) → (node_of (nodes_in old head) place ≡ Some (seen place node)) × (node.marked ≡ false)
+  regular_found place node regular is_node =
+      let linked = found_linked (nodes_in old head) place regular.node regular.is in
+      (node_found (get old) (nodes_in old head) place node is.laid_out.chain linked is_node, (regular_seen place node regular is_node).1)
 
   -- An unmarked regular node is counted.
   pub counts_one : (place : ℕ) → IsRegularAt (nodes_in old head) place → 1 ≤ count
@@ -140,7 +145,7 @@ module _ (old : Slab Slot) (head changes last count marked : ℕ) (is : IsKept o
   dummy-not-regular e = cc
 
   -- A node is marked.
-  pub node_marked : (new : Slab Slot) (place : ℕ) (node : Node) → IsRegularAt (nodes_in old head) place → get old place ≡ Some (Linked node) → new ≡ with_value old place (Linked (record node { marked = true })) → IsKept new head last (count - 1) (marked + 1) × Becomes (listing_of old head changes last) (listing_of new head (one_more changes) last) (marked_at (nodes_in old head) place) × Follows (listing_of old head changes last) (listing_of new head (one_more changes) last)
+  pub node_marked : (new : Slab SlotAt) (place : ℕ) (node : Node) → IsRegularAt (nodes_in old head) place → get old place ≡ Some (Linked node) → new ≡ with_value old place (Linked (record node { marked = true })) → IsKept new head last (count - 1) (marked + 1) × Becomes (listing_of old head changes last) (listing_of new head (one_more changes) last) (marked_at (nodes_in old head) place) × Follows (listing_of old head changes last) (listing_of new head (one_more changes) last)
   node_marked new place node regular is_node new_is =
       let linked = found_linked (nodes_in old head) place regular.node regular.is in
       let seen_is = regular_seen place node regular is_node in
@@ -168,6 +173,15 @@ module _ (old : Slab Slot) (head changes last count marked : ℕ) (is : IsKept o
       let place_is = next_is (get old) (nodes_in old head) pred before is.laid_out.chain linked is_before ∙ next in
       linked_node (get old) (nodes_in old head) place is.laid_out.chain (linked_more _ _ (next_linked (nodes_in old head) pred place place_is).1)
 
+  -- Its sort key.
+  pub behind_at : (pred place : ℕ) (before node : Node) (behind : IsBeforeMarked (nodes_in old head) pred) → get old pred ≡ Some (Linked before) → before.next ≡ Some place → get old place ≡ Some (Linked node) → behind.node.at ≡ node.at
+  behind_at pred place before node behind is_before next is_node =
+      let nodes = nodes_in old head in
+      let place_is : behind.node.place ≡ place = some-injective (sym (behind_place pred before behind is_before) ∙ next) in
+      let found : node_of nodes place ≡ Some behind.node = sym (ap (node_of nodes) place_is) ∙ next_found nodes pred behind.node (spread (get old) nodes is.laid_out.chain is.laid_out.rising) behind.next in
+      let there = node_found (get old) nodes place node is.laid_out.chain (found_linked nodes place behind.node found) is_node in
+      ap (λ (v : NodeAt). v.at) (some-injective (sym found ∙ there))
+
   marks_behind : (pred : ℕ) (behind : IsBeforeMarked (nodes_in old head) pred) → marked_count (unlinked_after (nodes_in old head) pred) + 1 ≡ marked_count (nodes_in old head)
   marks_behind pred behind =
       let one : gain is_marked behind.node ≡ 1 = ap (λ (b : Bool). cond {A = ℕ} b 1 0) behind.marked in
@@ -179,7 +193,7 @@ module _ (old : Slab Slot) (head changes last count marked : ℕ) (is : IsKept o
   marks_one pred behind = omega (arith, marks_behind pred behind, is.marks)
 
   -- A marked node is unlinked.
-  pub unlinked : (mid new : Slab Slot) (pred place : ℕ) (before behind : Node) → IsBeforeMarked (nodes_in old head) pred → get old pred ≡ Some (Linked before) → before.next ≡ Some place → get old place ≡ Some (Linked behind) → mid ≡ with_value old pred (Linked (record before { next = behind.next })) → Updates mid new place None → IsKept new head last count (marked - 1) × Becomes (listing_of old head changes last) (listing_of new head (one_more changes) last) (unlinked_after (nodes_in old head) pred) × Follows (listing_of old head changes last) (listing_of new head (one_more changes) last)
+  pub unlinked : (mid new : Slab SlotAt) (pred place : ℕ) (before behind : Node) → IsBeforeMarked (nodes_in old head) pred → get old pred ≡ Some (Linked before) → before.next ≡ Some place → get old place ≡ Some (Linked behind) → mid ≡ with_value old pred (Linked (record before { next = behind.next })) → Updates mid new place None → IsKept new head last count (marked - 1) × Becomes (listing_of old head changes last) (listing_of new head (one_more changes) last) (unlinked_after (nodes_in old head) pred) × Follows (listing_of old head changes last) (listing_of new head (one_more changes) last)
   unlinked mid new pred place before behind is_behind_marked is_before next is_behind mid_is freed =
       let nodes = nodes_in old head in
       let linked = behind_linked old head pred is_behind_marked in
@@ -203,7 +217,7 @@ module _ (old : Slab Slot) (head changes last count marked : ℕ) (is : IsKept o
       )
 
   -- The node of a spare is linked.
-  module _ (mid new : Slab Slot) (pred : ℕ) (before : Node) (s : SpareAt) (next : Option ℕ)
+  module _ (mid new : Slab SlotAt) (pred : ℕ) (before : Node) (s : SpareAt) (next : Option ℕ)
       (is_before : get old pred ≡ Some (Linked before))
       (is_out : IsOut (listing_of old head changes last) s)
       (next_was : next ≡ before.next)

@@ -4,8 +4,7 @@ use Rattle.std.proofs.lemmas.Bool.{cases_eq}
 use Rattle.slab.specs.Slab.{Slab, get}
 use Rattle.node_list.specs.declared.node.Node.{Node}
 use Rattle.node_list.specs.declared.node.Kind.TheVariants.{Dummy}
-use Rattle.node_list.specs.declared.slots.Slot.{Slot}
-use Rattle.node_list.specs.declared.slots.Slot.TheVariants.{Linked, Out}
+use Rattle.node_list.specs.Slots.{SlotAt, Linked, Out}
 use Rattle.node_list.specs.Nodes.{NodeAt, Listing, node_of, out_at, linked_after, unlinked_after, changed_at, GivesOut, TakesBack, Becomes, Takes, IsBeforeMarked}
 use Rattle.node_list.specs.Order.{AbsentFrom, IsSpread}
 use Rattle.node_list.specs.Follow.{IsSameNode, Follows}
@@ -134,7 +133,7 @@ unlinks_follow old new pred spread plain behind now_sound now = record {
 }
 
 -- The stamps of linked nodes and of spares.
-stamped : (slab : Slab Slot) (head changes last : ℕ) → IsLaidOut slab head (nodes_in slab head) → HasStamps slab last → IsStamped (listing_of slab head changes last)
+stamped : (slab : Slab SlotAt) (head changes last : ℕ) → IsLaidOut slab head (nodes_in slab head) → HasStamps slab last → IsStamped (listing_of slab head changes last)
 stamped slab head changes last laid stamps =
     let slot_of : (place : ℕ) (n : NodeAt) → node_of (nodes_in slab head) place ≡ Some n → (node : Node) × (get slab place ≡ Some (Linked node)) × (node.stamp ≡ n.stamp) = λ place n is.
     let linked = found_linked _ place n is in
@@ -162,7 +161,7 @@ stamped slab head changes last laid stamps =
     }
 
 -- What callers may know of a list.
-pub sound : (slab : Slab Slot) (head changes last count marked : ℕ) → IsKept slab head last count marked → IsSound (listing_of slab head changes last)
+pub sound : (slab : Slab SlotAt) (head changes last count marked : ℕ) → IsKept slab head last count marked → IsSound (listing_of slab head changes last)
 sound slab head changes last count marked kept = record {
   first = record {
     node = kept.laid_out.starts.node;

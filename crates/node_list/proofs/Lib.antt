@@ -4,4 +4,7 @@ pub mod CountLemmas
 pub mod FollowLemmas
 pub mod NodesLemmas
 pub mod OrderLemmas
+pub mod RunLemmas
 pub mod SlabSteps
+pub mod TallyLemmas
+pub mod TallySteps

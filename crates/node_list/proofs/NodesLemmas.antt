@@ -2,10 +2,20 @@
 use Rattle.std.proofs.Common.{◌≡◌, ◌≢◌, ℕ, ◌⊎◌, inl, inr, List, [], ◌∷◌, Option, Some, None, true, refl, sym, ◌∙◌, ap, is_some}
 use Rattle.std.proofs.lemmas.Bool.Decides.{eqb_tells}
 use Rattle.split_key.specs.declared.sort.SortKey.{SortKey}
-use Rattle.node_list.specs.Nodes.{NodeAt, node_of, next_of, first, without_first, place_of, IsLinked, linked_after, unlinked_after, changed_at, marked_at, written_at}
+use Rattle.node_list.specs.declared.node.Kind.{Kind}
+use Rattle.node_list.specs.declared.node.Kind.TheVariants.{Dummy}
+use Rattle.node_list.specs.Nodes.{NodeAt, SpareAt, filled, first_dummy, unfilled, node_of, next_of, first, without_first, place_of, IsLinked, linked_after, unlinked_after, changed_at, marked_at, written_at}
 use Rattle.node_list.specs.Order.{AbsentFrom, IsSpread, IsVacant}
 use Rattle.node_list.specs.Follow.{IsSameNode}
 use Rattle.node_list.proofs.OrderLemmas.{some-injective, some-none}
+
+-- A spare that would be the dummy of bucket 0 is as a list gives it.
+pub unfilled_is : (s : SpareAt) → filled s ≡ first_dummy s.place s.stamp → unfilled s.place s.stamp ≡ s
+unfilled_is s is =
+    let with : SortKey → Kind → ℕ → SpareAt = λ at kind value. record { place = s.place; stamp = s.stamp; at = at; kind = kind; value = value } in
+    ap (λ (at : SortKey). with at Dummy 0) (sym (ap (λ (n : NodeAt). n.at) is))
+    ∙ ap (λ (kind : Kind). with s.at kind 0) (sym (ap (λ (n : NodeAt). n.kind) is))
+    ∙ ap (λ (value : ℕ). with s.at s.kind value) (sym (ap (λ (n : NodeAt). n.value) is))
 
 pub same_node : (n : NodeAt) → IsSameNode n n
 same_node n = record { place = refl; at = refl; kind = refl; stamp = refl }

@@ -7,8 +7,7 @@ use Rattle.slab.specs.Slab.{Slab, get, Updates, with_value}
 use Rattle.slab.proofs.SlabLemmas.{Updates-with_value}
 use Rattle.node_list.specs.declared.node.Node.{Node}
 use Rattle.node_list.specs.declared.node.Kind.TheVariants.{Dummy}
-use Rattle.node_list.specs.declared.slots.Slot.{Slot}
-use Rattle.node_list.specs.declared.slots.Slot.TheVariants.{Linked, Out}
+use Rattle.node_list.specs.Slots.{SlotAt, Linked, Out}
 use Rattle.node_list.specs.Nodes.{NodeAt, first_dummy, IsLinked, linked_after, unlinked_after, changed_at, node_of, next_of, place_of, live_count, marked_count}
 use Rattle.node_list.specs.Order.{IsRising, IsSpread}
 use Rattle.node_list.specs.Follow.{IsSameNode}
@@ -18,23 +17,23 @@ use Rattle.node_list.proofs.NodesLemmas.{absent_unlinked, still_linked, now_link
 use Rattle.node_list.proofs.ChainLemmas.{out-not-linked, spread, nodes_in_is, next_is, chain_absent, absent_free, chain_linked, chain_unlinked, chain_changed, starts_linked, starts_unlinked, starts_changed, stamps_set, stamps_kept, stamps_freed}
 
 -- What is out at a place, by its slot.
-pub out_in : (slab : Slab Slot) (place : ℕ) → get_or (map out_stamp slab.slots) place None ≡ out_stamp (get slab place)
+pub out_in : (slab : Slab SlotAt) (place : ℕ) → get_or (map out_stamp slab.slots) place None ≡ out_stamp (get slab place)
 out_in slab place = get_or-map out_stamp slab.slots place None
 
 -- The slot of a spare that is out.
-pub slot_out : (slot : Option Slot) (stamp : ℕ) → out_stamp slot ≡ Some stamp → slot ≡ Some (Out stamp)
+pub slot_out : (slot : Option SlotAt) (stamp : ℕ) → out_stamp slot ≡ Some stamp → slot ≡ Some (Out stamp)
 slot_out None stamp is = absurd (some-none (sym is))
 slot_out (Some (Linked n)) stamp is = absurd (some-none (sym is))
 slot_out (Some (Out t)) stamp is = ap (λ n. Some (Out n)) (some-injective is)
 
 -- A write at a slot in use.
-write_updates : (old new : Slab Slot) (place : ℕ) (was slot : Slot) → get old place ≡ Some was → new ≡ with_value old place slot → Updates old new place (Some slot)
+write_updates : (old new : Slab SlotAt) (place : ℕ) (was slot : SlotAt) → get old place ≡ Some was → new ≡ with_value old place slot → Updates old new place (Some slot)
 write_updates old new place was slot is written = rw written (Updates-with_value old place slot (rw is refl))
 
 -- A new list.
-module _ (old new : Slab Slot) (head stamp : ℕ) (empty : old.slots ≡ []) (updates : Updates old new head (Some (Linked (stored (first_dummy head stamp) None)))) where
+module _ (old new : Slab SlotAt) (head stamp : ℕ) (empty : old.slots ≡ []) (updates : Updates old new head (Some (Linked (stored (first_dummy head stamp) None)))) where
   nothing_at : (place : ℕ) → get old place ≡ None
-  nothing_at place = ap (λ (slots : List (Option Slot)). get_or slots place None) empty
+  nothing_at place = ap (λ (slots : List (Option SlotAt)). get_or slots place None) empty
 
   pub new_laid_out : IsLaidOut new head (first_dummy head stamp ∷ [])
   unfolding IsChain IsRising IsLinked
@@ -61,7 +60,7 @@ module _ (old new : Slab Slot) (head stamp : ℕ) (empty : old.slots ≡ []) (up
   ]
 
 -- A spare is given out.
-module _ (old new : Slab Slot) (head place stamp : ℕ) (nodes : List NodeAt) (free : get old place ≡ None) (updates : Updates old new place (Some (Out stamp))) where
+module _ (old new : Slab SlotAt) (head place stamp : ℕ) (nodes : List NodeAt) (free : get old place ≡ None) (updates : Updates old new place (Some (Out stamp))) where
   pub spare_laid_out : IsLaidOut old head nodes → IsLaidOut new head nodes
   spare_laid_out laid =
       let absent = absent_free (get old) nodes place laid.chain (λ node is. some-none (sym is ∙ free)) in
@@ -91,7 +90,7 @@ module _ (old new : Slab Slot) (head place stamp : ℕ) (nodes : List NodeAt) (f
   spare_others other apart = out_in new other ∙ ap out_stamp (updates.others other apart) ∙ sym (out_in old other)
 
 -- A spare is given back.
-module _ (old new : Slab Slot) (head place stamp : ℕ) (nodes : List NodeAt)
+module _ (old new : Slab SlotAt) (head place stamp : ℕ) (nodes : List NodeAt)
     (is_out : get_or (map out_stamp old.slots) place None ≡ Some stamp)
     (freed : Updates old new place None) where
   back_slot : get old place ≡ Some (Out stamp)
@@ -121,7 +120,7 @@ module _ (old new : Slab Slot) (head place stamp : ℕ) (nodes : List NodeAt)
   back_others other apart = out_in new other ∙ ap out_stamp (freed.others other apart) ∙ sym (out_in old other)
 
 -- A node is linked.
-module _ (old mid new : Slab Slot) (head last pred : ℕ) (nodes : List NodeAt) (x : NodeAt) (before : Node)
+module _ (old mid new : Slab SlotAt) (head last pred : ℕ) (nodes : List NodeAt) (x : NodeAt) (before : Node)
     (laid : IsLaidOut old head nodes) (stamps : HasStamps old last)
     (is_before : get old pred ≡ Some (Linked before))
     (is_out : get_or (map out_stamp old.slots) x.place None ≡ Some x.stamp)
@@ -184,7 +183,7 @@ module _ (old mid new : Slab Slot) (head last pred : ℕ) (nodes : List NodeAt) 
   ]
 
 -- A node is changed.
-module _ (old new : Slab Slot) (head last place : ℕ) (nodes : List NodeAt) (change : NodeAt → NodeAt) (node written : Node)
+module _ (old new : Slab SlotAt) (head last place : ℕ) (nodes : List NodeAt) (change : NodeAt → NodeAt) (node written : Node)
     (laid : IsLaidOut old head nodes) (stamps : HasStamps old last)
     (same : (n : NodeAt) → IsSameNode n (change n))
     (stores : (n : NodeAt) (next : Option ℕ) → node ≡ stored n next → written ≡ stored (change n) next)
@@ -216,7 +215,7 @@ module _ (old new : Slab Slot) (head last place : ℕ) (nodes : List NodeAt) (ch
   ]
 
 -- A node is unlinked.
-module _ (old mid new : Slab Slot) (head last pred place : ℕ) (nodes : List NodeAt) (before behind : Node)
+module _ (old mid new : Slab SlotAt) (head last pred place : ℕ) (nodes : List NodeAt) (before behind : Node)
     (laid : IsLaidOut old head nodes) (stamps : HasStamps old last)
     (linked : IsLinked nodes pred)
     (is_before : get old pred ≡ Some (Linked before))
@@ -264,7 +263,7 @@ module _ (old mid new : Slab Slot) (head last pred place : ℕ) (nodes : List No
   ]
 
 -- The fields are kept with these nodes.
-pub kept : (slab : Slab Slot) (head last count marked : ℕ) (nodes : List NodeAt) → IsLaidOut slab head nodes → HasStamps slab last → last < 2 ^ 64 - 1 → count ≡ live_count nodes → marked ≡ marked_count nodes → IsKept slab head last count marked
+pub kept : (slab : Slab SlotAt) (head last count marked : ℕ) (nodes : List NodeAt) → IsLaidOut slab head nodes → HasStamps slab last → last < 2 ^ 64 - 1 → count ≡ live_count nodes → marked ≡ marked_count nodes → IsKept slab head last count marked
 kept slab head last count marked nodes laid stamps below counted marks =
     let same = nodes_in_is slab head nodes laid in
     record {
@@ -276,11 +275,11 @@ kept slab head last count marked nodes laid stamps below counted marks =
     }
 
 -- A slab that only has more room.
-pub grown : (slab : Slab Slot) (room head : ℕ) → nodes_in (record slab { capacity = room }) head ≡ nodes_in slab head
+pub grown : (slab : Slab SlotAt) (room head : ℕ) → nodes_in (record slab { capacity = room }) head ≡ nodes_in slab head
 unfolding nodes_in
 grown slab room head = refl
 
-pub kept_grown : (slab : Slab Slot) (room head last count marked : ℕ) → IsKept slab head last count marked → IsKept (record slab { capacity = room }) head last count marked
+pub kept_grown : (slab : Slab SlotAt) (room head last count marked : ℕ) → IsKept slab head last count marked → IsKept (record slab { capacity = room }) head last count marked
 kept_grown slab room head last count marked is =
     let laid : IsLaidOut (record slab { capacity = room }) head (nodes_in slab head) = record {
       chain = is.laid_out.chain;
@@ -291,7 +290,7 @@ kept_grown slab room head last count marked is =
     } in
     kept _ head last count marked (nodes_in slab head) laid (record { bound = is.stamps.bound; one_place = is.stamps.one_place }) is.below is.counted is.marks
 
-pub listing_grown : (slab : Slab Slot) (room head changes last : ℕ) → listing_of (record slab { capacity = room }) head changes last ≡ listing_of slab head changes last
+pub listing_grown : (slab : Slab SlotAt) (room head changes last : ℕ) → listing_of (record slab { capacity = room }) head changes last ≡ listing_of slab head changes last
 listing_grown slab room head changes last = rw (grown slab room head) refl
 
 -- The answer of which `ok` hands on a value, or none.

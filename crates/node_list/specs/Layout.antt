@@ -1,16 +1,16 @@
 -- How a list lies in its slab.
-use Rattle.std.specs.Prelude.{◌≡◌, ℕ, ◌<◌, ◌≤◌, ◌-◌, ◌^◌, List, [], ◌∷◌, Option, Some, None, map}
+use Rattle.std.specs.Prelude.{◌≡◌, ℕ, ◌<◌, ◌≤◌, ◌-◌, ◌^◌, List, [], ◌∷◌, Option, Some, None, true, map}
 use Prim.Native.Nat.{zero, suc}
 use Rattle.split_key.specs.Sort.{dummy_at}
 use Rattle.slab.specs.Slab.{Slab, get, slab_len}
 use Rattle.node_list.specs.declared.node.Node.{Node}
 use Rattle.node_list.specs.declared.node.Kind.TheVariants.{Dummy}
-use Rattle.node_list.specs.declared.slots.Slot.{Slot}
-use Rattle.node_list.specs.declared.slots.Slot.TheVariants.{Linked, Out}
+use Rattle.node_list.specs.Slots.{SlotAt, Linked, Out}
 use Rattle.node_list.specs.Nodes.{NodeAt, Listing, IsLinked, first, live_count, marked_count}
 use Rattle.node_list.specs.Order.{IsRising}
 use Rattle.node_list.specs.Seen.{seen}
 use Rattle.node_list.specs.Sound.{AllPlain}
+use Rattle.node_list.specs.Tally.{TallyAt, IsTallied}
 
 -- A node as it is stored, before a next one.
 abbrev pub stored : NodeAt → Option ℕ → Node
@@ -20,17 +20,18 @@ stored n next = record {
   value = n.value;
   stamp = n.stamp;
   marked = n.marked;
+  is_linked = true;
   next = next;
 }
 
 -- The node in a slot, and then the nodes from its next one on.
-abbrev pub step : ℕ → Option Slot → (Option ℕ → List NodeAt) → List NodeAt
+abbrev pub step : ℕ → Option SlotAt → (Option ℕ → List NodeAt) → List NodeAt
 step place None rest = []
 step place (Some (Out stamp)) rest = []
 step place (Some (Linked n)) rest = seen place n ∷ rest n.next
 
 -- The nodes from a place on, so many at most.
-unfoldable pub walk : ℕ → (ℕ → Option Slot) → Option ℕ → List NodeAt
+unfoldable pub walk : ℕ → (ℕ → Option SlotAt) → Option ℕ → List NodeAt
 walk zero at from = []
 walk (suc fuel) at None = []
 walk (suc fuel) at (Some place) = step place (at place) (λ next. walk fuel at next)
@@ -41,27 +42,27 @@ first_place [] = None
 first_place (n ∷ rest) = Some n.place
 
 -- The slots have these nodes, each with the next one's place.
-unfoldable pub IsChain : (ℕ → Option Slot) → List NodeAt → Type 0
+unfoldable pub IsChain : (ℕ → Option SlotAt) → List NodeAt → Type 0
 IsChain at [] = Unit {0}
 IsChain at (n ∷ rest) = (at n.place ≡ Some (Linked (stored n (first_place rest)))) × IsChain at rest
 
 -- The stamp of what lies in a slot.
-abbrev pub slot_stamp : Slot → ℕ
+abbrev pub slot_stamp : SlotAt → ℕ
 slot_stamp (Linked n) = n.stamp
 slot_stamp (Out stamp) = stamp
 
 -- The stamp of the spare that keeps a slot.
-abbrev pub out_stamp : Option Slot → Option ℕ
+abbrev pub out_stamp : Option SlotAt → Option ℕ
 out_stamp None = None
 out_stamp (Some (Linked n)) = None
 out_stamp (Some (Out stamp)) = Some stamp
 
 -- The linked nodes of a slab.
-unfoldable pub nodes_in : Slab Slot → ℕ → List NodeAt
+unfoldable pub nodes_in : Slab SlotAt → ℕ → List NodeAt
 nodes_in slab head = walk (slab_len slab) (get slab) (Some head)
 
 -- What a contract sees of the fields.
-abbrev pub listing_of : Slab Slot → ℕ → ℕ → ℕ → Listing
+abbrev pub listing_of : Slab SlotAt → ℕ → ℕ → ℕ → Listing
 listing_of slab head changes last = record {
   nodes = nodes_in slab head;
   head = head;
@@ -79,7 +80,7 @@ pub record StartsAt (nodes : List NodeAt) (head : ℕ) : Type 0 where
   pub kind : node.kind ≡ Dummy
 
 -- These are the linked nodes.
-pub record IsLaidOut (slab : Slab Slot) (head : ℕ) (nodes : List NodeAt) : Type 0 where
+pub record IsLaidOut (slab : Slab SlotAt) (head : ℕ) (nodes : List NodeAt) : Type 0 where
   pub chain : IsChain (get slab) nodes
   pub starts : StartsAt nodes head
   pub rising : IsRising nodes
@@ -87,15 +88,20 @@ pub record IsLaidOut (slab : Slab Slot) (head : ℕ) (nodes : List NodeAt) : Typ
   pub all : (place : ℕ) (node : Node) → get slab place ≡ Some (Linked node) → IsLinked nodes place
 
 -- No stamp is above the last one, and no two places have one stamp.
-pub record HasStamps (slab : Slab Slot) (last : ℕ) : Type 0 where
-  pub bound : (place : ℕ) (slot : Slot) → get slab place ≡ Some slot → slot_stamp slot ≤ last
-  pub one_place : (p q : ℕ) (s t : Slot) → get slab p ≡ Some s → get slab q ≡ Some t
+pub record HasStamps (slab : Slab SlotAt) (last : ℕ) : Type 0 where
+  pub bound : (place : ℕ) (slot : SlotAt) → get slab place ≡ Some slot → slot_stamp slot ≤ last
+  pub one_place : (p q : ℕ) (s t : SlotAt) → get slab p ≡ Some s → get slab q ≡ Some t
       → slot_stamp s ≡ slot_stamp t → p ≡ q
 
--- The fields of a list.
-pub record IsKept (slab : Slab Slot) (head last count marked : ℕ) : Type 0 where
+-- The fields of a list, but for the counts of marked nodes by region.
+pub record IsKept (slab : Slab SlotAt) (head last count marked : ℕ) : Type 0 where
   pub laid_out : IsLaidOut slab head (nodes_in slab head)
   pub stamps : HasStamps slab last
   pub below : last < 2 ^ 64 - 1
   pub counted : count ≡ live_count (nodes_in slab head)
   pub marks : marked ≡ marked_count (nodes_in slab head)
+
+-- The fields of a list.
+pub record IsWhole (slab : Slab SlotAt) (head last count : ℕ) (marks : TallyAt) : Type 0 where
+  pub kept : IsKept slab head last count marks.total
+  pub tallied : IsTallied marks (nodes_in slab head)

@@ -3,5 +3,7 @@ pub mod Layout
 pub mod Nodes
 pub mod Order
 pub mod Seen
+pub mod Slots
 pub mod Sound
+pub mod Tally
 pub mod Text

@@ -56,6 +56,17 @@ first_dummy place stamp =
       marked = false;
     }
 
+-- A spare as a list gives it: it would be the dummy of bucket 0.
+abbrev pub unfilled : ℕ → ℕ → SpareAt
+unfilled place stamp =
+    record {
+      place = place;
+      stamp = stamp;
+      at = dummy_at 0;
+      kind = Dummy;
+      value = 0;
+    }
+
 -- The stamp of the spare that is out at a place, if there is one.
 abbrev pub out_at : Listing → ℕ → Option ℕ
 out_at l place = slice_index_or l.out place None

@@ -10,15 +10,21 @@
 //!
 //! Each call is a few look-ups in the slab, whatever the length of the list. Only `NodeList::new`
 //! and `NodeList::spare` take memory.
+//!
+//! A sweep has to find the first marked node, and the list may be long before it. So the split keys
+//! are cut into 4,096 regions of one size, and the marked nodes of each region are counted, as are
+//! those of each 64 regions (`Tally`). `NodeList::marks_begin` looks at these counts alone. A mark
+//! counts one more, an unlink one less, so the counts are right after each call.
 #![tactic(auto)]
 
 mod list;
 mod node;
 mod slots;
 mod spare;
+mod tally;
 #[cfg(test)]
 mod tests;
 
 pub use list::NodeList;
 pub use node::{Kind, Node, NodeRef};
-pub use spare::{Spare, SpareFault};
+pub use spare::{Spare, SpareFault, Unfilled};

@@ -1,15 +1,17 @@
 //! The list.
-ghost use Rattle.std.specs.Prelude.{◌≡◌, ◌≢◌, ℕ, ◌+◌, ◌-◌, ◌<◌, ◌≤◌, ◌^◌, ◌↔◌, Some, None, Err, [], ◌∷◌, IfOk, OnErr, IfSome, IfNone, false};
+ghost use Rattle.std.specs.Prelude.{◌≡◌, ◌≢◌, ℕ, ◌+◌, ◌-◌, ◌<◌, ◌≤◌, ◌^◌, ◌↔◌, Some, None, Err, [], ◌∷◌, IfOk, OnErr, IfSome, IfNone, IsSomeAnd, false};
 ghost use Rattle.std.specs.List.{AllByRecursion};
 ghost use Rattle.node_list.specs.Follow.{Follows};
 ghost use Rattle.node_list.specs.Nodes.{out_at, IsOut, filled, first_dummy, IsLinked, IsRegularAt, IsBeforeMarked, node_of, next_of, place_of, live_count, marked_count, one_more, linked_after, unlinked_after, marked_at, written_at, GivesOut, Becomes, Takes, TakesBack};
 ghost use Rattle.node_list.specs.Order.{IsVacant};
 ghost use Rattle.node_list.specs.Seen.{seen};
 ghost use Rattle.node_list.specs.Sound.{IsSound};
+ghost use Rattle.node_list.specs.Tally.{AreMarksFrom, first_marked};
 
 use crate::node::{Kind, Node, NodeRef};
-use crate::slots::{Slot, mark, node_at, replace_next, set_slot, set_value};
+use crate::slots::{Slot, linked_at, mark, node_at, replace_next, set_slot, set_value};
 use crate::spare::{Spare, SpareFault};
+use crate::tally::Tally;
 use slab::Slab;
 use split_key::SortKey;
 use std::alloc::{AllocError, Global};
@@ -19,11 +21,11 @@ use std::marker::Model;
 #[derive(Drop)]
 pub struct NodeList {
     slab: Slab<Slot>,
-    head: usize,
+    head: NodeRef,
     changes: u64,
     last: u64,
     count: u64,
-    marked: u64,
+    marks: Tally,
 }
 
 impl Model for NodeList {
@@ -31,11 +33,11 @@ impl Model for NodeList {
 
     ghost Value = { Listing };
 
-    ghost use Rattle.node_list.specs.Layout.{listing_of, IsKept};
+    ghost use Rattle.node_list.specs.Layout.{listing_of, IsWhole};
 
     ghost view = { λ f. listing_of f.slab f.head f.changes f.last };
 
-    ghost invariant = { λ f. IsKept f.slab f.head f.last f.count f.marked };
+    ghost invariant = { λ f. IsWhole f.slab f.head f.last f.count f.marks };
 }
 
 /// Counts one change more, up to 2^64 - 1.
@@ -48,7 +50,8 @@ fn advance(changes: &mut u64)
 impl NodeList {
     /// The list of the dummy of bucket 0 alone, with this stamp. Its change number is 0.
     ///
-    /// Allocates. Constant time.
+    /// Allocates three times: twice for the counts of marked nodes, which take 33,280 bytes, then for
+    /// the node. Constant time.
     pub fn new(alloc: Global, first_stamp: u64) -> Result<Self, AllocError>
         requires { first_stamp < 2 ^ 64 - 1 }
         ensures nodes { IfOk result (λ list. list.nodes ≡ first_dummy list.head first_stamp ∷ []) }
@@ -56,16 +59,18 @@ impl NodeList {
         ensures changes { IfOk result (λ list. list.changes ≡ 0) }
         ensures last { IfOk result (λ list. list.last ≡ first_stamp) }
     {
+        let marks = Tally::new(alloc)?;
         let mut slab = Slab::new(alloc);
         let node = Node::dummy(SortKey::dummy(0), first_stamp);
-        match slab.insert(Slot::Linked(node)) {
-            Ok(head) => Ok(NodeList {
+        match slab.insert(Slot::linked(node)) {
+            // The first place of a slab is 0.
+            Ok(_) => Ok(NodeList {
                 slab,
-                head,
+                head: NodeRef::new(0),
                 changes: 0,
                 last: first_stamp,
                 count: 0,
-                marked: 0,
+                marks,
             }),
             Err(_) => Err(AllocError),
         }
@@ -75,7 +80,8 @@ impl NodeList {
     /// filled as the dummy of bucket 0.
     ///
     /// `Worn` exactly where the last stamp was 2^64 - 2; then `NoMemory` where the slab could not
-    /// grow. Either leaves the list as it was. May allocate. Amortised constant time.
+    /// grow, or all of 2^32 places are in use. Either leaves the list as it was. May allocate.
+    /// Amortised constant time.
     pub fn spare(&mut self) -> Result<Spare, SpareFault>
         ensures worn { (result ≡ Err SpareFault.Worn) ↔ (self.old.last ≡ 2 ^ 64 - 2) }
         ensures stamp { IfOk result (λ spare. spare.stamp ≡ self.old.last + 1) }
@@ -90,8 +96,11 @@ impl NodeList {
         }
         let stamp = self.last + 1;
         let node = Node::dummy(SortKey::dummy(0), stamp);
-        match self.slab.insert(Slot::Out(stamp)).ok() {
-            Some(place) => {
+        let Ok(place) = u32::try_from(self.slab.vacant_key()) else {
+            return Err(SpareFault::NoMemory);
+        };
+        match self.slab.insert(Slot::out(stamp)).ok() {
+            Some(_) => {
                 self.last = stamp;
                 Ok(Spare::of(NodeRef::new(place), node))
             }
@@ -126,7 +135,7 @@ impl NodeList {
         let next = replace_next(&mut self.slab, pred.place(), Some(place));
         let node = spare.into_node(next);
         let weight = node.kind.weight();
-        set_slot(&mut self.slab, place.place(), Slot::Linked(node));
+        set_slot(&mut self.slab, place.place(), Slot::linked(node));
         // No more nodes are counted than places are in use, so the counts fit.
         let _places = self.slab.len();
         self.count += weight;
@@ -142,10 +151,10 @@ impl NodeList {
         ensures follows { Follows self.old self.new }
     {
         if let Some(node) = node_at(&self.slab, pred.place()).next {
-            let next = node_at(&self.slab, node.place()).next;
-            let _ = replace_next(&mut self.slab, pred.place(), next);
+            let behind = *node_at(&self.slab, node.place());
+            let _ = replace_next(&mut self.slab, pred.place(), behind.next);
             let _ = self.slab.try_remove(node.place());
-            self.marked -= 1;
+            self.marks.take_away(behind.at.split());
             advance(&mut self.changes);
         }
     }
@@ -158,11 +167,12 @@ impl NodeList {
         ensures marked { Becomes self.old self.new (marked_at self.old.nodes node) }
         ensures follows { Follows self.old self.new }
     {
+        let split = node_at(&self.slab, node.place()).at.split();
         mark(&mut self.slab, node.place());
         // No more nodes are counted than places are in use, so the counts fit.
         let _places = self.slab.len();
         self.count -= 1;
-        self.marked += 1;
+        self.marks.add(split);
         advance(&mut self.changes);
     }
 
@@ -195,9 +205,8 @@ impl NodeList {
         ensures next { IfSome result (λ n. place_of (next_of self.now.nodes node) ≡ n.now.next) }
         ensures sound { IsSound self.now }
     {
-        match self.slab.get(node.place()) {
-            Some(Slot::Linked(node)) => Some(node),
-            Some(Slot::Out(_)) => None,
+        match linked_at(&self.slab, node.place()) {
+            Some(node) => Some(node),
             None => None,
         }
     }
@@ -207,7 +216,7 @@ impl NodeList {
         ensures place { result ≡ self.now.head }
         ensures sound { IsSound self.now }
     {
-        NodeRef::new(self.head)
+        self.head
     }
 
     /// The change number: how many links, marks, unlinks and writes there were, and 2^64 - 1 from
@@ -231,6 +240,21 @@ impl NodeList {
         ensures count { result ≡ marked_count self.now.nodes }
         ensures none { (result ≡ 0) ↔ AllByRecursion (λ n. n.marked ≡ false) self.now.nodes }
     {
-        self.marked
+        self.marks.total()
+    }
+
+    /// Where in the order the marked nodes begin, or none exactly where no node is marked: no marked
+    /// node has a split key below it, and the first one has a split key less than 2^52 above it.
+    ///
+    /// # Cost
+    ///
+    /// At most 64 + 64 counts are looked at, whatever the length of the list.
+    pub fn marks_begin(&self) -> Option<u64>
+        ensures none { (result ≡ None) ↔ AllByRecursion (λ n. n.marked ≡ false) self.now.nodes }
+        ensures from { IfSome result (λ split. AreMarksFrom split self.now.nodes) }
+        ensures near { IfSome result (λ split. IsSomeAnd (first_marked self.now.nodes)
+            (λ n. n.at.split < split + 2 ^ 52)) }
+    {
+        self.marks.first()
     }
 }

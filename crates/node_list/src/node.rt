@@ -1,5 +1,5 @@
 //! Nodes, and what names them.
-ghost use Rattle.std.specs.Prelude.{◌≡◌, if◌then◌else◌, None, false};
+ghost use Rattle.std.specs.Prelude.{◌≡◌, if◌then◌else◌, None, true, false};
 ghost use Rattle.node_list.specs.Nodes.{is_regular};
 ghost use Rattle.node_list.specs.declared.node.Kind.TheVariants.{Dummy};
 
@@ -28,10 +28,10 @@ impl Kind {
 }
 
 /// The place of a node. It names that node until the node is unlinked; whether it is the same node
-/// later is told by the stamp.
+/// later is told by the stamp. A place is below 2^32, so that it takes half a word of each node.
 #[derive(Clone, Copy, Debug, PartialEq, Eq)]
 pub struct NodeRef {
-    place: usize,
+    place: u32,
 }
 
 impl Model for NodeRef {
@@ -45,7 +45,7 @@ impl Model for NodeRef {
 }
 
 impl NodeRef {
-    pub(crate) fn new(place: usize) -> Self
+    pub(crate) fn new(place: u32) -> Self
         ensures { result ≡ place }
     {
         NodeRef { place }
@@ -54,7 +54,7 @@ impl NodeRef {
     pub(crate) fn place(self) -> usize
         ensures { result ≡ self }
     {
-        self.place
+        self.place as usize
     }
 }
 
@@ -67,12 +67,14 @@ pub struct Node {
     pub value: u64,
     /// The stamp, which no other node ever had.
     pub stamp: u64,
-    /// A dummy or a regular node. It lies beside the mark, so that both take one word.
+    /// The node behind it.
+    pub next: Option<NodeRef>,
+    /// A dummy or a regular node. It lies beside the two that follow, so that all take one word.
     pub kind: Kind,
     /// Whether the node is taken out of the table, and waits to be unlinked.
     pub marked: bool,
-    /// The node behind it.
-    pub next: Option<NodeRef>,
+    /// Whether the node is linked; else its place is kept for a spare.
+    pub(crate) is_linked: bool,
 }
 
 impl Node {
@@ -84,6 +86,7 @@ impl Node {
           value = 0;
           stamp = stamp;
           marked = false;
+          is_linked = true;
           next = None;
         } }
     {
@@ -92,8 +95,9 @@ impl Node {
             kind: Kind::Dummy,
             value: 0,
             stamp,
-            marked: false,
             next: None,
+            marked: false,
+            is_linked: true,
         }
     }
 }

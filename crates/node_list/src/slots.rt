@@ -1,52 +1,92 @@
 //! What lies at a place of the slab.
-ghost use Rattle.std.specs.Prelude.{◌≡◌, Some, true};
+ghost use Rattle.std.specs.Prelude.{◌≡◌, Some, true, option_copied};
 ghost use Rattle.slab.specs.Slab.{get, with_value, ContainsKey};
 ghost use Rattle.node_list.specs.declared.node.Node.{Node};
-ghost use Rattle.node_list.specs.declared.slots.Slot.TheVariants.{Linked};
+ghost use Rattle.node_list.specs.Slots.{Linked, Out, node_in};
 
 use crate::node::{Node, NodeRef};
 use slab::Slab;
+use split_key::SortKey;
+use std::marker::Model;
+use std::mem::size_of;
 
-/// A linked node, or the stamp of a spare whose place is kept.
-#[derive(Clone, Copy, Debug)]
-pub enum Slot {
-    Linked(Node),
-    Out(u64),
+/// A linked node, or the stamp of a spare whose place is kept. Which of the two it is stands in the
+/// node beside its mark, where an enum would take a word more of each entry.
+#[derive(Drop)]
+pub struct Slot {
+    node: Node,
+}
+
+const _: () = prove!(size_of::<Slot>() == 48);
+
+impl Model for Slot {
+    ghost use Rattle.node_list.specs.Slots.{SlotAt, slot_of};
+
+    ghost Value = { SlotAt };
+
+    ghost view = { λ s. slot_of s.node };
 }
 
 impl Slot {
+    /// A linked node.
+    pub fn linked(node: Node) -> Self
+        requires { node.is_linked ≡ true }
+        ensures { result ≡ Linked node }
+    {
+        Slot { node }
+    }
+
+    /// The stamp of a spare whose place is kept.
+    pub fn out(stamp: u64) -> Self
+        ensures { result ≡ Out stamp }
+    {
+        let mut node = Node::dummy(SortKey::dummy(0), stamp);
+        node.is_linked = false;
+        Slot { node }
+    }
+
+    /// The linked node, if there is one.
+    fn node(&self) -> Option<&Node>
+        ensures { option_copied result ≡ node_in (Some self.now) }
+    {
+        if self.node.is_linked {
+            Some(&self.node)
+        } else {
+            None
+        }
+    }
+
+    /// The linked node that is there.
+    fn linked_node(&self) -> &Node
+        requires { (node : Node) × (self.now ≡ Linked node) }
+        ensures { self.now ≡ Linked result.now }
+    {
+        &self.node
+    }
+
     /// Changes the next of the linked node, and returns the one that it had.
     fn replace_next(&mut self, next: Option<NodeRef>) -> Option<NodeRef>
         ensures was { (node : Node) → self.old ≡ Linked node → result ≡ node.next }
         ensures now { (node : Node) → self.old ≡ Linked node →
             self.new ≡ Linked (record node { next = next }) }
     {
-        match self {
-            Slot::Linked(node) => {
-                let was = node.next;
-                node.next = next;
-                was
-            }
-            Slot::Out(_) => None,
-        }
+        let was = self.node.next;
+        self.node.next = next;
+        was
     }
 
     fn mark(&mut self)
         ensures { (node : Node) → self.old ≡ Linked node →
             self.new ≡ Linked (record node { marked = true }) }
     {
-        if let Slot::Linked(node) = self {
-            node.marked = true;
-        }
+        self.node.marked = true;
     }
 
     fn set_value(&mut self, value: u64)
         ensures { (node : Node) → self.old ≡ Linked node →
             self.new ≡ Linked (record node { value = value }) }
     {
-        if let Slot::Linked(node) = self {
-            node.value = value;
-        }
+        self.node.value = value;
     }
 }
 
@@ -56,8 +96,18 @@ pub fn node_at(slab: &Slab<Slot>, place: usize) -> &Node
     ensures { get slab.now place ≡ Some (Linked result.now) }
 {
     match slab.get(place) {
-        Some(Slot::Linked(node)) => node,
-        _ => unreachable!(),
+        Some(slot) => slot.linked_node(),
+        None => unreachable!(),
+    }
+}
+
+/// The linked node at a place, if there is one.
+pub fn linked_at(slab: &Slab<Slot>, place: usize) -> Option<&Node>
+    ensures { option_copied result ≡ node_in (get slab.now place) }
+{
+    match slab.get(place) {
+        Some(slot) => slot.node(),
+        None => None,
     }
 }
 

@@ -1,7 +1,7 @@
 //! Spares: nodes that are not linked yet.
 ghost use Rattle.std.specs.Prelude.{◌≡◌};
 ghost use Rattle.node_list.specs.Layout.{stored};
-ghost use Rattle.node_list.specs.Nodes.{filled};
+ghost use Rattle.node_list.specs.Nodes.{filled, first_dummy};
 ghost use Rattle.node_list.specs.Text.{fault_text};
 
 use crate::node::{Kind, Node, NodeRef};
@@ -9,6 +9,7 @@ use split_key::SortKey;
 use std::fmt;
 use std::fmt::Display;
 use std::marker::Model;
+use std::mem::size_of;
 
 /// A place that a list keeps for a node, a stamp that was never used before, and what the node will
 /// be filled with.
@@ -17,10 +18,11 @@ use std::marker::Model;
 /// `NodeList::link_after` and `NodeList::give_back` end. A spare that is dropped keeps its place.
 #[derive(Debug, Drop)]
 pub struct Spare {
+    // The kind lies beside the place, so that both take one word.
     place: NodeRef,
+    kind: Kind,
     stamp: u64,
     at: SortKey,
-    kind: Kind,
     value: u64,
 }
 
@@ -36,6 +38,26 @@ impl Model for Spare {
       kind = s.kind;
       value = s.value;
     } };
+}
+
+/// A spare as a list gives it, to be kept until it is filled: its place and its stamp alone, so that
+/// it is small.
+#[derive(Debug, Drop)]
+pub struct Unfilled {
+    stamp: u64,
+    place: NodeRef,
+}
+
+const _: () = prove!(size_of::<Spare>() == 40);
+
+const _: () = prove!(size_of::<Unfilled>() == 16);
+
+impl Model for Unfilled {
+    ghost use Rattle.node_list.specs.Nodes.{SpareAt, unfilled};
+
+    ghost Value = { SpareAt };
+
+    ghost view = { λ s. unfilled s.place s.stamp };
 }
 
 /// Why a list gives no spare. Each is printed as a sentence of its own.
@@ -75,9 +97,9 @@ impl Spare {
     {
         Spare {
             place,
+            kind: node.kind,
             stamp: node.stamp,
             at: node.at,
-            kind: node.kind,
             value: node.value,
         }
     }
@@ -91,8 +113,20 @@ impl Spare {
             kind: self.kind,
             value: self.value,
             stamp: self.stamp,
-            marked: false,
             next,
+            marked: false,
+            is_linked: true,
+        }
+    }
+
+    /// The spare, to be kept until it is filled. Takes no memory.
+    pub fn keep(self) -> Unfilled
+        requires { filled self ≡ first_dummy self.place self.stamp }
+        ensures { result ≡ self }
+    {
+        Unfilled {
+            stamp: self.stamp(),
+            place: self.node(),
         }
     }
 
@@ -117,5 +151,20 @@ impl Spare {
         ensures { result ≡ self.now.stamp }
     {
         self.stamp
+    }
+}
+
+impl Unfilled {
+    /// The spare, to be filled or given back.
+    pub fn into_spare(self) -> Spare
+        ensures { result ≡ self }
+    {
+        Spare {
+            place: self.place,
+            kind: Kind::Dummy,
+            stamp: self.stamp,
+            at: SortKey::dummy(0),
+            value: 0,
+        }
     }
 }

@@ -40,7 +40,9 @@ fn calls_in_turn(rt: HostRuntime) -> Result<(), Fail> {
     assert_eq!(rt; (node.at.key(), node.value, node.stamp), (3, 31, 7));
     assert_eq!(rt; node.kind, Kind::Regular);
     assert!(rt; !node.marked);
+    assert_eq!(rt; list.marks_begin(), None);
     list.set_mark(three);
+    assert_eq!(rt; list.marks_begin(), Some(0xc000_0000_0000_0000));
     assert_eq!(rt;
         (list.count(), list.marked_count(), list.changes()),
         (0, 1, 3)
@@ -55,6 +57,7 @@ fn calls_in_turn(rt: HostRuntime) -> Result<(), Fail> {
         (list.count(), list.marked_count(), list.changes()),
         (0, 0, 4)
     );
+    assert_eq!(rt; list.marks_begin(), None);
     assert!(rt; list.linked_node(three).is_none());
     let spare = list.spare()?;
     assert_eq!(rt; spare.stamp(), 8);

@@ -6,7 +6,7 @@ use Rattle.json.specs.Json.{parse_map}
 use Rattle.serde_json.specs.Data.{Data, Items, no_items, item}
 use Rattle.piece_files.specs.declared.plain.Plain.{Plain}
 use Rattle.piece_files.specs.Plain.{data_of}
-use Rattle.piece_files.specs.Tokens.{is_plain, are_plain, items_from, IsPlain}
+use Rattle.piece_files.specs.Tokens.{is_plain, are_plain, items_from, IsPlain, AreElements}
 
 -- A list of elements before items.
 abbrev pub before : List Data → Items → Items
@@ -69,23 +69,18 @@ plain_last zero ds d lt e h = absurd (omega (arith, lt))
 plain_last (suc n) [] d lt e h = rw e refl
 plain_last (suc n) (x ∷ ds) d lt e h = later (is_plain x) h (λ rest. plain_last n ds d (omega (arith, lt)) e rest)
 
--- What is kept so far.
-abbrev pub AreKept : ℕ → Bool → List Plain → List Data → Type 0
-AreKept most true vs ds = (map data_of vs ≡ ds) × (are_plain most ds ≡ true)
-AreKept most false vs ds = are_plain most ds ≡ false
-
-pub nothing_kept : (most : ℕ) → AreKept most true [] []
+pub nothing_kept : (most : ℕ) → AreElements most true [] []
 unfolding are_plain
 nothing_kept zero = (refl, refl)
 nothing_kept (suc n) = (refl, refl)
 
-pub keep_one : (most : ℕ) (b : Bool) (vs : List Plain) (ds : List Data) (v : Plain) (d : Data) → IsPlain (Some v) d → suc (length vs) ≤ most → AreKept most b vs ds → AreKept most b (vs ++ v ∷ []) (ds ++ d ∷ [])
+pub keep_one : (most : ℕ) (b : Bool) (vs : List Plain) (ds : List Data) (v : Plain) (d : Data) → IsPlain (Some v) d → suc (length vs) ≤ most → AreElements most b vs ds → AreElements most b (vs ++ v ∷ []) (ds ++ d ∷ [])
 keep_one most true vs ds v d e lt h = let few : suc (length ds) ≤ most = rw (← h.0, length-map) lt in (rw (map-append, e.0, h.0) refl, plain_last most ds d few e.1 h.1)
 keep_one most false vs ds v d e lt h = stays_wrong most ds d h
 
-pub keep_no_more : (most : ℕ) (b : Bool) (vs : List Plain) (ds : List Data) (d : Data) → most ≤ length vs → AreKept most b vs ds → AreKept most false vs (ds ++ d ∷ [])
+pub keep_no_more : (most : ℕ) (b : Bool) (vs : List Plain) (ds : List Data) (d : Data) → most ≤ length vs → AreElements most b vs ds → AreElements most false vs (ds ++ d ∷ [])
 keep_no_more most true vs ds d le h = one_too_many most ds d (rw (← h.0, length-map) le)
 keep_no_more most false vs ds d le h = stays_wrong most ds d h
 
-pub keep_none : (most : ℕ) (vs : List Plain) (ds : List Data) (d : Data) → is_plain d ≡ false → AreKept most false vs (ds ++ d ∷ [])
+pub keep_none : (most : ℕ) (vs : List Plain) (ds : List Data) (d : Data) → is_plain d ≡ false → AreElements most false vs (ds ++ d ∷ [])
 keep_none most vs ds d e = wrong_last most ds d e

@@ -40,7 +40,7 @@ all_of (number ∷ numbers) = option_and_then (λ n. option_map (λ ns. n ∷ ns
 
 -- The last version that is read.
 abbrev pub max_version : ℕ
-max_version = 2
+max_version = 3
 
 -- Whether a version is read.
 abbrev pub is_version : ℕ → Bool

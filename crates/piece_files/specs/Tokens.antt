@@ -50,10 +50,10 @@ abbrev pub IsPlain : Option Plain → Data → Type 0
 IsPlain (Some v) d = (data_of v ≡ d) × (is_plain d ≡ true)
 IsPlain None d = is_plain d ≡ false
 
--- The elements, where they are no more than the number and all plain.
-abbrev pub AreElements : ℕ → Option (List Plain) → List Data → Type 0
-AreElements most (Some vs) ds = (map data_of vs ≡ ds) × (are_plain most ds ≡ true)
-AreElements most None ds = are_plain most ds ≡ false
+-- Whether the elements are no more than the number and all plain; these are they then.
+abbrev pub AreElements : ℕ → Bool → List Plain → List Data → Type 0
+AreElements most true vs ds = (map data_of vs ≡ ds) × (are_plain most ds ≡ true)
+AreElements most false vs ds = are_plain most ds ≡ false
 
 -- The items that a list is.
 abbrev pub items_from : List Data → Items

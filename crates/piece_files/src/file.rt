@@ -30,7 +30,7 @@ fn all_numbers<const N: usize>(found: [Option<u64>; N]) -> Option<[u64; N]>
 }
 
 /// The last version that is read.
-const MAX_VERSION: u64 = 2;
+const MAX_VERSION: u64 = 3;
 
 /// Whether a version is read.
 fn is_version(version: u64) -> bool
@@ -82,7 +82,7 @@ fn contents_found<K: PieceKind, const N: usize>(
     }
 }
 
-/// The version, the numbers and the pieces of a file of version 1 or 2: an object in JSON with the
+/// The version, the numbers and the pieces of a file of version 1 to 3: an object in JSON with the
 /// member `version`, a number in each member of `numbers`, and an array of pieces in the member
 /// `pieces`.
 ///
@@ -92,7 +92,7 @@ fn contents_found<K: PieceKind, const N: usize>(
 /// where they are not UTF-8, or no JSON in which arrays and objects nest no deeper than 127 and
 /// each number is in range of a float; `Member` where the value is no object, or a member is
 /// missing or of the wrong kind; `Piece` for the first element of `pieces` that is none, or where
-/// the version is 1 none that version 1 has; `Limit` where the version is not 1 or 2 or there are
+/// the version is 1 none that version 1 has; `Limit` where the version is not 1 to 3 or there are
 /// more pieces than there may be. `NoMemory` where memory was refused: not for the length, nor
 /// where the bytes are not UTF-8.
 ///

@@ -56,9 +56,10 @@ pub(crate) fn plain_value<'a>(
     }
 }
 
-/// The elements of an array, whose bracket was taken from the reader: none where there are more
-/// than `MOST`, or one is neither null, nor a text, nor a whole number below 2^64. The reader is
-/// then behind the bracket that closes the array.
+/// Takes the elements of an array, whose bracket was taken from the reader, into `elements`, in
+/// place of what is there. Answers whether there are at most `MOST`, each of them null, a text, or
+/// a whole number below 2^64; else `elements` has some of them. The reader is then behind the
+/// bracket that closes the array.
 ///
 /// # Errors
 ///
@@ -73,14 +74,15 @@ pub(crate) fn plain_value<'a>(
 pub fn plain_elements<'a, const MOST: usize>(
     reader: &mut Reader<'a>,
     depth: usize,
-) -> Result<Option<ArrayVec<Plain<'a>, MOST>>, Invalid>
-    ensures ok { IfOk result (λ found. (ds : List Data)
+    elements: &mut ArrayVec<Plain<'a>, MOST>,
+) -> Result<bool, Invalid>
+    ensures ok { IfOk result (λ are_plain. (ds : List Data)
         × (items_at depth reader.old ≡ Some (items_from ds, reader.new))
-        × AreElements MOST (option_map (λ v. v.items) found) ds) }
+        × AreElements MOST are_plain elements.new.items ds) }
     ensures err { OnErr result (items_at depth reader.old ≡ None) }
     ensures shorter { OnOk result (length reader.new < length reader.old) }
 {
-    let mut elements = ArrayVec::new();
+    elements.clear();
     let mut are_plain = true;
     'elements: while !reader.take_end_array() {
         let token = reader.next().ok_or(Invalid)?;
@@ -96,9 +98,5 @@ pub fn plain_elements<'a, const MOST: usize>(
             None => are_plain = false,
         }
     }
-    if are_plain {
-        Ok(Some(elements))
-    } else {
-        Ok(None)
-    }
+    Ok(are_plain)
 }

@@ -45,10 +45,11 @@ impl PieceKind for PointKind {
         reader: &mut Reader<'_>,
         depth: usize,
     ) -> Result<Option<(u64, u64)>, Stop> {
-        let elements = plain_elements::<2>(reader, depth)?;
-        match elements {
-            Some(values) => Ok(two_in(&values)),
-            None => Ok(None),
+        let mut elements = ArrayVec::<Plain<'_>, 2>::new();
+        if plain_elements(reader, depth, &mut elements)? {
+            Ok(two_in(&elements))
+        } else {
+            Ok(None)
         }
     }
 }
@@ -139,7 +140,7 @@ fn wrong_drawings(rt: HostRuntime) {
             FileFault::Limit,
         ),
         (
-            "{\"version\":3,\"width\":7,\"points\":[]}",
+            "{\"version\":4,\"width\":7,\"points\":[]}",
             FileFault::Limit,
         ),
         (
@@ -170,7 +171,7 @@ fn pieces_of_version_2(rt: HostRuntime) -> Result<(), Fail> {
         ("[[1,2],[4],[3,0]]", wrong(1), wrong(1), wrong(1)),
         ("[[1,2],[1,2],[1,2],[1,2],[3,0]]", wrong(4), limit, limit),
     ];
-    for (points, in_first, in_second, in_third) in cases {
+    for (points, in_first, in_second, in_another) in cases {
         assert_eq!(rt;
             fault_in_version(rt.alloc(), 1, points)?,
             in_first,
@@ -182,8 +183,8 @@ fn pieces_of_version_2(rt: HostRuntime) -> Result<(), Fail> {
             "{points}"
         );
         assert_eq!(rt;
-            fault_in_version(rt.alloc(), 3, points)?,
-            in_third,
+            fault_in_version(rt.alloc(), 4, points)?,
+            in_another,
             "{points}"
         );
     }
@@ -196,9 +197,10 @@ fn next_elements<'a>(
     reader: &mut Reader<'a>,
 ) -> Result<ArrayVec<Plain<'a>, 4>, Fail> {
     assert!(rt; matches!(reader.next(), Some(Token::BeginArray)));
-    match plain_elements::<4>(reader, 1) {
-        Ok(Some(values)) => Ok(values),
-        Ok(None) => Err("not plain")?,
+    let mut elements = ArrayVec::new();
+    match plain_elements(reader, 1, &mut elements) {
+        Ok(true) => Ok(elements),
+        Ok(false) => Err("not plain")?,
         Err(_) => Err("no JSON")?,
     }
 }

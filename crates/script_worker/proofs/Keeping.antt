@@ -1,13 +1,11 @@
 -- A worker keeps to its scripts with each answer that it is told, and where it goes on.
-use Rattle.std.proofs.Common.{◌≡◌, ℕ, ◌+◌, ◌%◌, ◌<◌, ◌≤◌, nat_lt, Bool, true, false, not, if◌then◌else◌, inl, inr, List, [], ◌∷◌, ◌++◌, length, drop, get_or, Option, Some, None, refl, sym, ap, subst, ◌∙◌, append_assoc, drop-cons, arith}
-use Prim.Native.Nat.{zero, suc}
-use Rattle.std.specs.List.{fold, slice_get, AllByRecursion}
+use Rattle.std.proofs.Common.{[], ◌≡◌, ℕ, ◌+◌, ◌%◌, ◌<◌, ◌≤◌, nat_lt, Bool, true, false, if◌then◌else◌, List, ◌∷◌, ◌++◌, length, drop, get_or, Option, Some, None, refl, sym, ap, subst, ◌∙◌, arith}
+use Prim.Native.Nat.{suc}
+use Rattle.std.specs.List.{fold, slice_get}
 use Rattle.std.specs.Option.{option_and_then}
 use Rattle.std.proofs.lemmas.Bool.{ltb-true}
-use Rattle.std.proofs.lemmas.List.{append-nil, drop_all}
-use Rattle.std.proofs.lemmas.List.Elements.{filter-append}
 use Rattle.std.proofs.lemmas.List.Sums.{fold-append}
-use Rattle.std.proofs.lemmas.Option.{slice_get_within, slice_get_cases, get_or_from_slice_get, slice_get-get_or}
+use Rattle.std.proofs.lemmas.Option.{slice_get_within, slice_get-get_or}
 use Rattle.std.proofs.Math.Nat.{add-mod_right, mod-eq_of_lt}
 use Rattle.txn_trace.specs.declared.action.Action.{Action}
 use Rattle.txn_trace.specs.declared.action.Action.TheVariants as actions
@@ -18,9 +16,8 @@ use Rattle.txn_trace.specs.declared.entry.Entry.TheVariants as entries
 use Rattle.txn_trace.specs.declared.refusal.Refusal.{Refusal}
 use Rattle.txn_trace.specs.declared.refusal.Refusal.TheVariants.{OutOfStep}
 use Rattle.txn_trace.specs.declared.step.Step.{Step}
-use Rattle.txn_trace.specs.declared.step.Step.TheVariants as steps
-use Rattle.txn_trace.specs.Plays.{is_undone, without_undone, ArePlayed, IsPlayed, IsScriptOf, HavePlayed, parts_of, part_after}
-use Rattle.txn_trace.proofs.Playing.{part-began, played_below, played_on, played_commit}
+use Rattle.txn_trace.specs.Plays.{without_undone, ArePlayed, IsScriptOf, HavePlayed, parts_of, part_after}
+use Rattle.txn_trace.proofs.Playing.{played_below}
 use Rattle.txn_trace.specs.Sizes.{Sizes}
 use Rattle.txn_drive.specs.declared.call.Call.{Call}
 use Rattle.txn_drive.specs.declared.call.Call.TheVariants as calls
@@ -28,11 +25,10 @@ use Rattle.txn_drive.specs.declared.drive.Drive.{Drive}
 use Rattle.txn_drive.specs.declared.«end».End.{End}
 use Rattle.txn_drive.specs.declared.«end».End.TheVariants as ends
 use Rattle.txn_drive.specs.declared.phase.Phase.{Phase}
-use Rattle.txn_drive.specs.declared.phase.Phase.TheVariants.{Fresh, First, Doubling}
-use Rattle.txn_drive.specs.Drives.{step_in, step_of, told_in, told_of, turn_in, ended_by, end_of, sized_in, sized_of, new_drive}
+use Rattle.txn_drive.specs.declared.phase.Phase.TheVariants.{Fresh, First}
+use Rattle.txn_drive.specs.Drives.{step_of, turn_in, ended_by, end_of, new_drive}
 use Rattle.txn_trace.specs.Entries.{entries_of}
-use Rattle.txn_drive.specs.Made.{undone_by, made_in, made, IsMade}
-use Rattle.txn_drive.proofs.MadeLemmas.{made-told_of}
+use Rattle.txn_drive.specs.Made.{made, IsMade}
 use Rattle.script_worker.specs.declared.attempt.Stage.{Stage}
 use Rattle.script_worker.specs.declared.attempt.Stage.TheVariants.{Beginning, Acting, Leaving}
 use Rattle.script_worker.specs.declared.attempt.Progress.{Progress}
@@ -41,75 +37,11 @@ use Rattle.script_worker.specs.declared.attempt.Outcome.TheVariants as outcomes
 use Rattle.script_worker.specs.declared.task.Task.{Task}
 use Rattle.script_worker.specs.declared.standing.Standing.{Standing}
 use Rattle.script_worker.specs.Attempts.{attempt_at, call_for, call_of, call_at, done_with, busy_at, refused_with, refused_at, progress_at, progress_of}
-use Rattle.script_worker.specs.Workers.{new_worker, started, followed, progressed, settled_in, settled_at, settled, with_drive_in, told_drive, told_by, sized_by, step_by}
-use Rattle.script_worker.specs.Keeps.{IsFront, IsAsFar, IsBegun, IsCommitting, IsActing, IsAt, KeepsTask, KeepsAt, Keeps}
-use Rattle.txn_drive.proofs.DriveLaws.{goes_on, made_at_end, made-sized, made-new}
-use Rattle.script_worker.proofs.Driving.{IsPlainCall, IsInner, plain_step, plain_entries, part-inner, played_inner}
-
-without_undone-append : (es fs : List Entry) → without_undone (es ++ fs) ≡ without_undone es ++ without_undone fs
-without_undone-append es fs = filter-append (λ e. not (is_undone e)) es fs
-
-without_undone_by : (c k : ℕ) (rest : List Entry) → without_undone (undone_by c k ++ rest) ≡ without_undone rest
-without_undone_by c zero rest = refl
-without_undone_by c (suc k) rest = without_undone_by c k rest
-
--- The script from an action on.
-from_here : (script : List Action) (i : ℕ) (action : Action) → slice_get script i ≡ Some action → drop i script ≡ action ∷ drop (i + 1) script
-from_here script i action is =
-    let within : i < length script = slice_get_within script i action is in
-    let more : suc i ≡ i + 1 = omega arith in
-    drop-cons script i action within ∙ ap (λ (a : Action). a ∷ drop (suc i) script) (get_or_from_slice_get script i action action is) ∙ ap (λ j. action ∷ drop j script) more
-
-none_left : (script : List Action) (i : ℕ) → slice_get script i ≡ None → drop i script ≡ []
-none_left script i is = elim ((slice_get_cases script i).1) [
-  | inl some ↦ absurd (cc (is, some.2))
-  | inr past ↦ drop_all i script past.0
-]
-
-plain_action : (action : Action) → IsPlainCall (call_for action)
-plain_action (actions.Op op) = tt
-plain_action actions.Save = tt
-plain_action (actions.Back n) = tt
-plain_action (actions.Help k) = tt
-plain_action actions.Abort = tt
-
--- A transaction comes as far as its call adds.
-as_far_told : (script : List Action) (i : ℕ) (drive after : Drive) (parts : List (List Entry)) (es : List Entry) → AllByRecursion IsInner es → made after ≡ made drive ++ es
-    → IsAsFar script i drive parts → IsAsFar script i after (fold part_after parts es)
-as_far_told script i drive after parts es inner made_is far = record {
-  part = far.part ++ es;
-  older = far.older;
-  parts_are = ap (λ ps. fold part_after ps es) far.parts_are ∙ part-inner es far.part far.older inner;
-  front = far.front;
-  whole =
-      without_undone-append far.part es ∙ ap (λ xs. xs ++ without_undone es) far.whole ∙ append_assoc far.front (without_undone (made drive)) (without_undone es)
-      ∙ ap (λ xs. far.front ++ xs) (sym (without_undone-append (made drive) es) ∙ ap without_undone (sym made_is));
-  goes = far.goes;
-}
-
--- It is as far where another drive has made the same.
-with_made : (script : List Action) (i : ℕ) (drive after : Drive) (parts : List (List Entry)) → made after ≡ made drive → IsAsFar script i drive parts → IsAsFar script i after parts
-with_made script i drive after parts same far = record {
-  part = far.part;
-  older = far.older;
-  parts_are = far.parts_are;
-  front = far.front;
-  whole = far.whole ∙ ap (λ es. far.front ++ without_undone es) (sym same);
-  goes = far.goes;
-}
-
--- A call that is done has added what its action asks for.
-as_far_next : (script : List Action) (i : ℕ) (drive after : Drive) (parts : List (List Entry)) (added : List Entry) → without_undone (made drive) ≡ added → made after ≡ []
-    → ((rest : List Entry) → ArePlayed (drop (i + 1) script) rest → ArePlayed (drop i script) (added ++ rest))
-    → IsAsFar script i drive parts → IsAsFar script (i + 1) after parts
-as_far_next script i drive after parts added added_is none asked far = record {
-  part = far.part;
-  older = far.older;
-  parts_are = far.parts_are;
-  front = far.front ++ added;
-  whole = far.whole ∙ ap (λ xs. far.front ++ xs) added_is ∙ sym (append-nil (far.front ++ added)) ∙ ap (λ xs. far.front ++ added ++ xs) (ap without_undone (sym none));
-  goes = λ rest plays. subst (IsPlayed script) (sym (append_assoc far.front added rest)) (far.goes (added ++ rest) (asked rest plays));
-}
+use Rattle.script_worker.specs.Workers.{new_worker, started, followed, progressed, settled_in, settled_at, settled, told_drive, told_by, sized_by, step_by}
+use Rattle.script_worker.specs.Keeps.{IsAsFar, IsBegun, IsCommitting, IsActing, IsAt, KeepsTask, KeepsAt, Keeps}
+use Rattle.txn_drive.proofs.DriveLaws.{goes_on, made_at_end, made-new}
+use Rattle.script_worker.proofs.Advancing.{without_undone_by, from_here, with_made, as_far_next}
+use Rattle.script_worker.proofs.Telling.{task_told, task_sized}
 
 module _ (half : Bool) (workers : ℕ) (scripts : List (List Action)) (w : ℕ) (below : w < workers) where
   -- The next script of the worker's, where there is one.
@@ -295,109 +227,6 @@ module _ (half : Bool) (workers : ℕ) (scripts : List (List Action)) (w : ℕ) 
         subst (Follows parts) (sym (progress_is tries again i outcome)) (acting_end tries again i drive outcome parts (slice_get script i) refl call is at)
     follows_end tries again (Leaving reason) drive outcome parts call is at = follows_left tries again reason outcome parts at
 
-    -- What an answer makes of a stage.
-    begin_first : (c : ℕ) (answer : Answer) (parts : List (List Entry)) → c ≡ w → HavePlayed workers scripts w n parts
-        → IsBegun w (First answer) (fold part_after parts (entries_of (steps.Begin c) answer)) × HavePlayed workers scripts w n (fold part_after parts (entries_of (steps.Begin c) answer))
-    begin_first c (answers.Began t) parts mine played =
-        ((parts, part-began parts (entries.Began c t) refl ∙ ap (λ x. (entries.Began x t ∷ []) ∷ parts) mine), played_on workers scripts w n parts (entries.Began c t) refl played)
-    begin_first c answer parts mine played = (tt, played)
-
-    begin_told : (c : ℕ) (call : Call) (phase : Phase) (step : Step) (answer : Answer) (parts : List (List Entry)) → c ≡ w → call ≡ calls.Begin → step_in c call phase ≡ Some step
-        → IsBegun w phase parts → HavePlayed workers scripts w n parts
-        → IsBegun w (told_in call phase answer) (fold part_after parts (entries_of step answer)) × HavePlayed workers scripts w n (fold part_after parts (entries_of step answer))
-    begin_told c calls.Begin Fresh step answer parts mine call is begins played =
-        let same : steps.Begin c ≡ step = cc is in
-        subst (λ s. IsBegun w (First answer) (fold part_after parts (entries_of s answer)) × HavePlayed workers scripts w n (fold part_after parts (entries_of s answer))) same (begin_first c answer parts mine played)
-    begin_told c calls.Begin (First other) step answer parts mine call is begins played = absurd (cc is)
-    begin_told c calls.Begin phase step answer parts mine call is begins played = absurd begins
-    begin_told c call phase step answer parts mine other is begins played = absurd (cc other)
-
-    commit_first : (c i : ℕ) (answer : Answer) (parts : List (List Entry)) (part : List Entry) (older : List (List Entry)) (front : List Entry) → slice_get script i ≡ None → parts ≡ part ∷ older
-        → without_undone part ≡ front → IsFront script i front → HavePlayed workers scripts w n parts
-        → HavePlayed workers scripts w (suc n) (fold part_after parts (entries_of (steps.Commit c) answer))
-    commit_first c i (answers.Committed p) parts part older front none parts_are whole goes played =
-        let end : Entry = entries.Committed c p in
-        subst (λ ps. HavePlayed workers scripts w (suc n) (part_after ps end)) (sym parts_are)
-        (played_commit workers scripts w n (suc n) part older end refl (omega arith) (record {
-          script = script;
-          is = is;
-          plays =
-              subst (IsPlayed script) (sym (without_undone-append part (end ∷ []) ∙ ap (λ es. es ++ end ∷ []) whole))
-              (goes (end ∷ []) (subst (λ s. ArePlayed s (end ∷ [])) (sym (none_left script i none)) tt));
-        }) (subst (HavePlayed workers scripts w n) parts_are played))
-    commit_first c i answer parts part older front none parts_are whole goes played = more_played parts played
-
-    commit_told : (c i : ℕ) (call : Call) (phase : Phase) (drive after : Drive) (step : Step) (answer : Answer) (parts : List (List Entry)) → call ≡ calls.Commit → slice_get script i ≡ None → made drive ≡ made_in c call phase
-        → step_in c call phase ≡ Some step → IsCommitting workers scripts w n script i drive phase parts
-        → IsCommitting workers scripts w n script i after (told_in call phase answer) (fold part_after parts (entries_of step answer))
-    commit_told c i calls.Commit Fresh drive after step answer parts call none made_is is at =
-        let same : steps.Commit c ≡ step = cc is in
-        let far = at.0 in
-        subst (λ s. HavePlayed workers scripts w (suc n) (fold part_after parts (entries_of s answer))) same
-        (commit_first c i answer parts far.part far.older far.front none far.parts_are (far.whole ∙ ap (λ es. far.front ++ without_undone es) made_is ∙ append-nil far.front) far.goes at.1)
-    commit_told c i calls.Commit (First other) drive after step answer parts call none made_is is at = absurd (cc is)
-    commit_told c i calls.Commit phase drive after step answer parts call none made_is is at = absurd at
-    commit_told c i call phase drive after step answer parts other none made_is is at = absurd (cc other)
-
-    acting_told : (i : ℕ) (drive : Drive) (step : Step) (answer : Answer) (parts : List (List Entry)) (o : Option Action) → slice_get script i ≡ o → drive.call ≡ call_of o → step_of drive ≡ Some step
-        → IsActing workers scripts w n script i drive parts o → IsActing workers scripts w n script i (told_of drive answer) (fold part_after parts (entries_of step answer)) o
-    acting_told i drive step answer parts (Some action) here call is at =
-        let inner = plain_entries step answer (plain_step drive step (subst IsPlainCall (sym call) (plain_action action)) is) in
-        (as_far_told script i drive (told_of drive answer) parts (entries_of step answer) inner (made-told_of drive step answer is) at.0, played_inner workers scripts w n (entries_of step answer) parts inner at.1)
-    acting_told i drive step answer parts None here call is at =
-        commit_told drive.caller i drive.call drive.phase drive (told_of drive answer) step answer parts call here refl is at
-
-    told_at : (stage : Stage) (drive : Drive) (step : Step) (answer : Answer) (parts : List (List Entry)) → drive.caller ≡ w → drive.call ≡ call_at script stage → step_of drive ≡ Some step
-        → IsAt workers scripts w n script drive parts stage → IsAt workers scripts w n script (told_of drive answer) (fold part_after parts (entries_of step answer)) stage
-    told_at Beginning drive step answer parts mine call is at = begin_told drive.caller drive.call drive.phase step answer parts mine call is at.0 at.1
-    told_at (Acting i) drive step answer parts mine call is at = acting_told i drive step answer parts (slice_get script i) refl call is at
-    told_at (Leaving reason) drive step answer parts mine call is at =
-        played_inner workers scripts w n (entries_of step answer) parts (plain_entries step answer (plain_step drive step (subst IsPlainCall (sym call) tt) is)) at
-
-    -- What the size at this moment makes of it: nothing.
-    begun_sized : (size : ℕ) (phase : Phase) (parts : List (List Entry)) → IsBegun w phase parts → IsBegun w (sized_in size phase) parts
-    begun_sized size (Doubling seen) parts begins = begins
-    begun_sized size phase parts begins = begins
-
-    far_sized : (size i : ℕ) (drive : Drive) (parts : List (List Entry)) → IsAsFar script i drive parts → IsAsFar script i (sized_of size drive) parts
-    far_sized size i drive parts far = with_made script i drive (sized_of size drive) parts (made-sized size drive.caller drive.call drive.phase) far
-
-    committing_sized : (size i : ℕ) (drive : Drive) (phase : Phase) (parts : List (List Entry)) → IsCommitting workers scripts w n script i drive phase parts
-        → IsCommitting workers scripts w n script i (sized_of size drive) (sized_in size phase) parts
-    committing_sized size i drive Fresh parts at = (far_sized size i drive parts at.0, at.1)
-    committing_sized size i drive (First answer) parts at = at
-    committing_sized size i drive phase parts at = absurd at
-
-    acting_sized : (size i : ℕ) (drive : Drive) (parts : List (List Entry)) (o : Option Action) → IsActing workers scripts w n script i drive parts o → IsActing workers scripts w n script i (sized_of size drive) parts o
-    acting_sized size i drive parts (Some action) at = (far_sized size i drive parts at.0, at.1)
-    acting_sized size i drive parts None at = committing_sized size i drive drive.phase parts at
-
-    sized_at : (size : ℕ) (stage : Stage) (drive : Drive) (parts : List (List Entry)) → IsAt workers scripts w n script drive parts stage → IsAt workers scripts w n script (sized_of size drive) parts stage
-    sized_at size Beginning drive parts at = (begun_sized size drive.phase parts at.0, at.1)
-    sized_at size (Acting i) drive parts at = acting_sized size i drive parts (slice_get script i) at
-    sized_at size (Leaving reason) drive parts at = at
-
-  task_told : (task : Option Task) (step : Step) (answer : Answer) (parts : List (List Entry)) → option_and_then (λ task. step_of task.drive) task ≡ Some step → KeepsAt workers scripts w task parts
-      → KeepsAt workers scripts w (with_drive_in (λ drive. told_of drive answer) task) (fold part_after parts (entries_of step answer))
-  task_told None step answer parts is at = absurd (cc is)
-  task_told (Some task) step answer parts is at = record {
-    script = at.script;
-    mine = at.mine;
-    caller = at.caller;
-    call = at.call;
-    at = told_at task.script at.script at.mine task.attempt.stage task.drive step answer parts at.caller at.call is at.at;
-  }
-
-  task_sized : (size : ℕ) (task : Option Task) (parts : List (List Entry)) → KeepsAt workers scripts w task parts → KeepsAt workers scripts w (with_drive_in (sized_of size) task) parts
-  task_sized size None parts at = at
-  task_sized size (Some task) parts at = record {
-    script = at.script;
-    mine = at.mine;
-    caller = at.caller;
-    call = at.call;
-    at = sized_at task.script at.script at.mine size task.attempt.stage task.drive parts at.at;
-  }
-
 follows_keeps : (scripts : List (List Action)) (worker : Standing) (below : worker.number < worker.limits.callers) (task : Task) (script : List Action) (is : IsScriptOf worker.limits.callers scripts worker.number task.script script) (parts : List (List Entry)) (progress : Progress)
     → Follows worker.limits.half worker.limits.callers scripts worker.number below task.script script is parts progress → KeepsAt worker.limits.callers scripts worker.number (followed scripts worker task script progress) parts
 follows_keeps scripts worker below task script is parts (Next attempt) follows = follows
@@ -452,54 +281,3 @@ told_on scripts tries worker answer step is =
     let told : Standing = told_drive worker answer in
     let once : settled scripts tries told ≡ told = stays scripts tries told step told.task is in
     ap (settled scripts tries) once ∙ once
-
--- What a worker that keeps to its scripts has played so far.
-module _ (workers : ℕ) (scripts : List (List Action)) (w : ℕ) where
-  committing_played : (n : ℕ) (script : List Action) (i : ℕ) (drive : Drive) (phase : Phase) (parts : List (List Entry)) → IsCommitting workers scripts w n script i drive phase parts → HavePlayed workers scripts w (suc n) parts
-  committing_played n script i drive Fresh parts at = played_below workers scripts w n (suc n) parts (omega arith) at.1
-  committing_played n script i drive (First answer) parts at = at
-  committing_played n script i drive phase parts at = absurd at
-
-  acting_played : (n : ℕ) (script : List Action) (i : ℕ) (drive : Drive) (parts : List (List Entry)) (o : Option Action) → IsActing workers scripts w n script i drive parts o → HavePlayed workers scripts w (suc n) parts
-  acting_played n script i drive parts (Some action) at = played_below workers scripts w n (suc n) parts (omega arith) at.1
-  acting_played n script i drive parts None at = committing_played n script i drive drive.phase parts at
-
-  at_played : (n : ℕ) (script : List Action) (drive : Drive) (parts : List (List Entry)) (stage : Stage) → IsAt workers scripts w n script drive parts stage → HavePlayed workers scripts w (suc n) parts
-  at_played n script drive parts Beginning at = played_below workers scripts w n (suc n) parts (omega arith) at.1
-  at_played n script drive parts (Acting i) at = acting_played n script i drive parts (slice_get script i) at
-  at_played n script drive parts (Leaving reason) at = played_below workers scripts w n (suc n) parts (omega arith) at
-
-  task_played : (task : Option Task) (parts : List (List Entry)) → KeepsAt workers scripts w task parts → HavePlayed workers scripts w (length scripts) parts
-  task_played None parts at = at
-  task_played (Some task) parts at =
-      let within : task.script < length scripts = slice_get_within scripts task.script at.script at.mine.there in
-      played_below workers scripts w (suc task.script) (length scripts) parts (omega arith) (at_played task.script at.script task.drive parts task.attempt.stage at.at)
-
-pub keeps_played : (scripts : List (List Action)) (worker : Standing) (seen : List Entry) → Keeps scripts worker seen → HavePlayed worker.limits.callers scripts worker.number (length scripts) (parts_of seen)
-keeps_played scripts worker seen keeps = task_played worker.limits.callers scripts worker.number worker.task (parts_of seen) keeps.at
-
--- The worker whose drive knows the size at this moment.
-pub sized_is : (size : ℕ) (worker : Standing) (task : Task) (drive : Drive) → worker.task ≡ Some task → drive ≡ sized_of size task.drive
-    → sized_by size worker ≡ record { number = worker.number; limits = worker.limits; task = Some (record { script = task.script; attempt = task.attempt; drive = drive }) }
-sized_is size worker task drive is drive_is =
-    let with_task : Option Task → Standing = λ o. record { number = worker.number; limits = worker.limits; task = o } in
-    ap (λ o. with_task (with_drive_in (sized_of size) o)) is ∙ ap (λ d. with_task (Some (record { script = task.script; attempt = task.attempt; drive = d }))) (sym drive_is)
-
--- A worker stays the same one, of the same limits.
-abbrev IsSameOne : Standing → Standing → Type 0
-IsSameOne after before = (after.number ≡ before.number) × (after.limits ≡ before.limits)
-
-settled_in_same : (scripts : List (List Action)) (tries : ℕ) (worker : Standing) (task : Task) (o : Option End) → IsSameOne (settled_in scripts tries worker task o) worker
-settled_in_same scripts tries worker task None = (refl, refl)
-settled_in_same scripts tries worker task (Some outcome) = (refl, refl)
-
-settled_same : (scripts : List (List Action)) (tries : ℕ) (worker : Standing) (o : Option Task) → IsSameOne (settled_at scripts tries worker o) worker
-settled_same scripts tries worker None = (refl, refl)
-settled_same scripts tries worker (Some task) = settled_in_same scripts tries worker task (end_of task.drive)
-
-pub told_same : (scripts : List (List Action)) (tries : ℕ) (worker : Standing) (answer : Answer) → IsSameOne (told_by scripts tries worker answer) worker
-told_same scripts tries worker answer =
-    let told : Standing = told_drive worker answer in
-    let once = settled_same scripts tries told told.task in
-    let twice = settled_same scripts tries (settled scripts tries told) (settled scripts tries told).task in
-    (twice.0 ∙ once.0, twice.1 ∙ once.1)

@@ -1,5 +1,5 @@
 -- A worker with a script left has a step to take.
-use Rattle.std.proofs.Common.{◌≡◌, ℕ, ◌+◌, ◌^◌, nat_lt, Bool, true, false, if◌then◌else◌, List, length, Option, Some, None, inl, inr, ◌⊎◌, refl, sym, ap, subst, ◌∙◌}
+use Rattle.std.proofs.Common.{◌≡◌, ℕ, ◌+◌, nat_lt, Bool, true, false, if◌then◌else◌, List, length, Option, Some, None, inl, inr, ◌⊎◌, refl, sym, ap, subst, ◌∙◌}
 use Rattle.std.specs.Prelude.{is_some, slice_get}
 use Rattle.std.specs.Option.{option_and_then}
 use Rattle.std.proofs.lemmas.Bool.{false≢true}
@@ -29,7 +29,7 @@ use Rattle.script_worker.specs.declared.standing.Standing.{Standing}
 use Rattle.script_worker.specs.Attempts.{first_attempt, call_of, call_at, refused_with, progress_at, progress_of}
 use Rattle.script_worker.specs.Workers.{new_worker, started, with_drive_in, followed, progressed, settled_in, settled_at, settled, told_drive, told_by, sized_by, step_by, IsReady, IsTurnBy}
 use Rattle.txn_drive.proofs.DriveLaws.{goes_on}
-use Rattle.script_worker.proofs.Keeping.{sized_is}
+use Rattle.script_worker.proofs.Remaining.{sized_is}
 
 -- A drive that has not ended has a step to take.
 steps_in : (c : ℕ) (call : Call) (phase : Phase) → ended_by (turn_in c call phase) ≡ None → is_some (step_in c call phase) ≡ true

@@ -1,9 +1,9 @@
 ghost use Rattle.std.specs.Prelude.{◌≡◌};
-ghost use Rattle.script_worker.specs.Workers.{new_worker, started, progressed, settled, told_drive, told_by, outcome_at, outcome_by, outcome_told};
+ghost use Rattle.script_worker.specs.Workers.{new_worker, started, progressed, settled, told_drive, told_by, outcome_at, outcome_by, outcome_told, sized_by, turn_by, IsReady, IsTurnBy};
 
 use crate::attempt::{Attempt, Outcome, Progress};
 use crate::task::Task;
-use txn_drive::{Call, Drive, End};
+use txn_drive::{Call, Drive, End, Turn};
 use txn_trace::{Answer, Limits, Script};
 
 /// Which worker it is and what it is at. Its call may have ended.
@@ -29,92 +29,85 @@ impl Standing {
         }
     }
 
-    /// The worker that was told an answer to its step, and has its next step; and how its script
-    /// ended, where it ended by this answer.
-    pub(crate) fn told(
-        self,
-        scripts: &[Script],
-        tries: u64,
-        answer: Answer,
-    ) -> (Standing, Option<Outcome>)
-        ensures worker { result.0 ≡ told_by scripts.now tries self answer }
-        ensures outcome { result.1 ≡ outcome_told scripts.now tries self answer }
+    /// The next turn, at this size of the table; none where no script is left.
+    pub(crate) fn turn(&mut self, size: u32) -> Option<Turn>
+        ensures worker { self.new ≡ sized_by size self.old }
+        ensures turn { result ≡ turn_by self.new }
+        ensures step { IsReady self.old → IsTurnBy self.new result }
     {
-        let (next, first) = self.heard(answer).settled(scripts, tries);
-        // A call of help may end before its first step, and then an abort follows at once, which
-        // takes a step.
-        let (last, second) = next.settled(scripts, tries);
-        (last, first.or(second))
-    }
-
-    /// The worker whose call was told the answer.
-    fn heard(self, answer: Answer) -> Standing
-        ensures { result ≡ told_drive self answer }
-    {
-        let Some(task) = self.task else {
-            return self;
-        };
-        let mut drive = task.drive;
-        drive.told(answer);
-        Standing {
-            task: Some(Task { drive, ..task }),
-            ..self
+        match &mut self.task {
+            Some(task) => Some(task.drive.turn(size)),
+            None => None,
         }
     }
 
-    /// The worker with its next call, where its call has ended; and how its script ended, where it
-    /// is over.
-    fn settled(self, scripts: &[Script], tries: u64) -> (Standing, Option<Outcome>)
-        ensures worker { result.0 ≡ settled scripts.now tries self }
-        ensures outcome { result.1 ≡ outcome_by scripts.now tries self }
+    /// The worker is told an answer to its step, and has its next step; answers how its script
+    /// ended, where it ended by this answer.
+    pub(crate) fn told(&mut self, scripts: &[Script], tries: u64, answer: Answer) -> Option<Outcome>
+        ensures worker { self.new ≡ told_by scripts.now tries self.old answer }
+        ensures outcome { result ≡ outcome_told scripts.now tries self.old answer }
     {
-        let Some(task) = self.task else {
-            return (self, None);
-        };
-        let Some(end) = task.drive.ended() else {
-            return (self, None);
-        };
-        self.goes_on(task, scripts, tries, end)
+        self.hear(answer);
+        let first = self.settle(scripts, tries);
+        // A call of help may end before its first step, and then an abort follows at once, which
+        // takes a step.
+        let second = self.settle(scripts, tries);
+        first.or(second)
     }
 
-    /// The worker after its call has ended so; and how its script ended, where it is over.
-    fn goes_on(
-        self,
-        task: Task,
-        scripts: &[Script],
-        tries: u64,
-        end: End,
-    ) -> (Standing, Option<Outcome>)
-        ensures worker { result.0 ≡ record self { task = progressed scripts.now tries self task end } }
-        ensures outcome { result.1 ≡ outcome_at scripts.now tries task end }
+    /// The worker's call is told the answer.
+    fn hear(&mut self, answer: Answer)
+        ensures { self.new ≡ told_drive self.old answer }
+    {
+        if let Some(task) = &mut self.task {
+            task.drive.told(answer);
+        }
+    }
+
+    /// Where the worker's call has ended it has its next one; answers how its script ended, where
+    /// it is over.
+    fn settle(&mut self, scripts: &[Script], tries: u64) -> Option<Outcome>
+        ensures worker { self.new ≡ settled scripts.now tries self.old }
+        ensures outcome { result ≡ outcome_by scripts.now tries self.old }
+    {
+        let Some(task) = &self.task else {
+            return None;
+        };
+        let Some(end) = task.drive.ended() else {
+            return None;
+        };
+        let task = *task;
+        self.go_on(task, scripts, tries, end)
+    }
+
+    /// The worker goes on after its call has ended so; answers how its script ended, where it is
+    /// over.
+    fn go_on(&mut self, task: Task, scripts: &[Script], tries: u64, end: End) -> Option<Outcome>
+        ensures worker { self.new
+            ≡ record self.old { task = progressed scripts.now tries self.old task end } }
+        ensures outcome { result ≡ outcome_at scripts.now tries task end }
     {
         let Some(script) = scripts.get(task.script) else {
-            return (self.at(None), None);
+            self.task = None;
+            return None;
         };
         match task.attempt.progress(script.actions(), tries, end) {
             Progress::Next(attempt) => {
                 let call = attempt.call(script.actions());
                 let drive = Drive::new(self.number as u64, call, self.limits);
-                let next = Task {
+                self.task = Some(Task {
                     attempt,
                     drive,
                     ..task
-                };
-                (self.at(Some(next)), None)
+                });
+                None
             }
             Progress::Over(outcome) => {
                 let next = task.script.saturating_add(self.limits.callers() as usize);
-                let next = started(self.number, next, self.limits, scripts);
-                (self.at(next), Some(outcome))
+                self.task = started(self.number, next, self.limits, scripts);
+                Some(outcome)
             }
         }
-    }
-
-    /// The same worker at another task.
-    fn at(self, task: Option<Task>) -> Standing
-        ensures { result ≡ record self { task = task } }
-    {
-        Standing { task, ..self }
     }
 }
 

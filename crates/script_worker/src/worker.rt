@@ -9,7 +9,6 @@ ghost use Rattle.script_worker.specs.Keeps.{Keeps};
 
 use crate::attempt::Outcome;
 use crate::standing::Standing;
-use crate::task::Task;
 use std::marker::Model;
 use txn_drive::Turn;
 use txn_trace::{Answer, Limits, Script, Step};
@@ -79,13 +78,7 @@ impl Worker {
         ensures keeps { (scripts : List (List Action)) (seen : List Entry)
             → Keeps scripts self.old seen → Keeps scripts self.new seen }
     {
-        let Some(task) = self.standing.task else {
-            return None;
-        };
-        let mut drive = task.drive;
-        let turn = drive.turn(size);
-        self.standing.task = Some(Task { drive, ..task });
-        Some(turn)
+        self.standing.turn(size)
     }
 
     /// Takes the next turn, at the size that the table has at this moment: `step` takes each of its
@@ -147,8 +140,6 @@ impl Worker {
             → Keeps scripts.now self.old seen
             → Keeps scripts.now self.new (seen ++ entries_of step answer) }
     {
-        let heard = self.standing.told(scripts, tries, answer);
-        self.standing = heard.0;
-        heard.1
+        self.standing.told(scripts, tries, answer)
     }
 }

@@ -1,12 +1,12 @@
 -- Parents and ancestors of buckets: an ancestor has the bucket's lowest bits, so its dummy stands before the bucket's.
 use Prim.Native.Nat.{zero, suc}
-use Rattle.std.proofs.Common.{◌≡◌, ◌≢◌, ℕ, ◌+◌, ◌*◌, ◌-◌, ◌/◌, ◌%◌, ◌^◌, ◌<◌, ◌≤◌, refl, sym, ◌∙◌, ap, arith, pow-suc, inl, inr}
+use Rattle.std.proofs.Common.{◌≡◌, ◌≢◌, ℕ, ◌+◌, ◌*◌, ◌-◌, ◌/◌, ◌%◌, ◌^◌, ◌<◌, ◌≤◌, refl, sym, ◌∙◌, ap, arith, pow-suc, div-add-mod', add-mul, inl, inr}
 use Rattle.std.proofs.lemmas.Bool.{cases_lt}
 use Rattle.std.proofs.lemmas.Bool.Decides.{leb_tells}
 use Rattle.std.proofs.lemmas.Nat.{pow_pos, mod_below, mod_low, mod-pow-add}
-use Rattle.std.proofs.Math.Nat.{pow-le-pow_right, mod-eq_of_lt, mod-le}
-use Rattle.split_key.specs.Split.{reversed, split, highest_cleared, parent_of, ancestor_of, IsAncestor}
-use Rattle.split_key.proofs.SplitLemmas.{lowest_before, lowest_before_key}
+use Rattle.std.proofs.Math.Nat.{pow-le-pow_right, mod-eq_of_lt, mod-le, mul-le-mul_right}
+use Rattle.split_key.specs.Split.{reversed_low, reversed, split, highest_cleared, parent_of, ancestor_of, IsAncestor}
+use Rattle.split_key.proofs.SplitLemmas.{reversed_low_below, reversed_low_of_zero, reversed_low_append, lowest_before, lowest_before_key}
 
 -- The exponent of a power of two that fits a word.
 pub exponent_below : (bit width : ℕ) → 2 ^ bit < 2 ^ width → bit < width
@@ -104,3 +104,44 @@ ancestor_before_key ancestor key exponent small is =
     let twice = mod_pow_twice key exponent lowest.0 in
     let low : ancestor ≡ key % 2 ^ twice.0 = is.reached ∙ lowest.2 ∙ twice.2 in
     rw low (lowest_before_key twice.0 key (omega (arith, twice.1)))
+
+-- The dummies of a word's lowest bits, and of their ancestors, do not stand behind the word.
+pub ancestor_not_behind : (ancestor word exponent : ℕ) → exponent ≤ 32 → word < 2 ^ 64 → IsAncestor ancestor (word % 2 ^ exponent) → reversed ancestor ≤ reversed word
+ancestor_not_behind ancestor word exponent small fits is =
+    let within = mod_below word (2 ^ exponent) (pow_pos exponent) in
+    let power : 2 ^ exponent ≤ 2 ^ 32 = pow-le-pow_right {n = 2} (omega arith) small in
+    let lowest = ancestor_of_lowest is.steps (word % 2 ^ exponent) (omega arith) in
+    let twice = mod_pow_twice word exponent lowest.0 in
+    let low : ancestor ≡ word % 2 ^ twice.0 = is.reached ∙ lowest.2 ∙ twice.2 in
+    elim (cases_lt word (2 ^ twice.0)) [
+      | inl short ↦ let same : ancestor ≡ word = low ∙ mod-eq_of_lt short in rw same (omega arith)
+      | inr longer ↦ let lower = lowest_before twice.0 word (omega (arith, twice.1)) fits longer in rw low (omega (arith, lower))
+    ]
+
+-- What is not above another and a part of its unit is not above it.
+whole_not_above : (a b unit rest : ℕ) → rest < unit → a * unit ≤ b * unit + rest → a ≤ b
+whole_not_above a b unit rest part below =
+    elim (cases_lt b a) [
+      | inl less ↦
+          let more : suc b * unit ≤ a * unit = mul-le-mul_right unit less in
+          absurd (omega (arith, add-mul b 1 unit, more))
+      | inr within ↦ within
+    ]
+
+-- Of all words of so few bits that do not stand behind a word, its lowest bits stand last.
+pub lowest_is_last : (other word exponent : ℕ) → exponent ≤ 64 → other < 2 ^ exponent → reversed other ≤ reversed word → reversed other ≤ reversed (word % 2 ^ exponent)
+unfolding reversed
+lowest_is_last other word exponent small short below =
+    let above = 64 - exponent in
+    let width : exponent + above ≡ 64 = omega arith in
+    let low = word % 2 ^ exponent in
+    let high = word / 2 ^ exponent in
+    let within = mod_below word (2 ^ exponent) (pow_pos exponent) in
+    let whole = reversed_low_append exponent above high low word within (sym (div-add-mod' word (2 ^ exponent))) in
+    let alone = reversed_low_append exponent above 0 low low within (omega arith) in
+    let of_other = reversed_low_append exponent above 0 other other short (omega arith) in
+    let zero_above = reversed_low_of_zero above in
+    let at : (n : ℕ) → reversed_low 64 n ≡ reversed_low (exponent + above) n = λ n. ap (λ w. reversed_low w n) (sym width) in
+    let last = whole_not_above (reversed_low exponent other) (reversed_low exponent low) (2 ^ above) (reversed_low above high)
+    (reversed_low_below above high) (omega (arith, at other, at word, whole, of_other, zero_above, below)) in
+    omega (arith, at other, at low, alone, of_other, zero_above, mul-le-mul_right (2 ^ above) last)

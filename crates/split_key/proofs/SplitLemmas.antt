@@ -27,7 +27,7 @@ reversed_low_below (suc width) word =
     let rest = reversed_low_below width (word / 2) in
     top_and_rest_below (word % 2) _ (2 ^ width) _ top rest (omega (arith, pow-suc 2 width))
 
-reversed_low_of_zero : (width : ℕ) → reversed_low width 0 ≡ 0
+pub reversed_low_of_zero : (width : ℕ) → reversed_low width 0 ≡ 0
 unfolding reversed_low
 reversed_low_of_zero zero = refl
 reversed_low_of_zero (suc width) = omega (arith, reversed_low_of_zero width)

@@ -1,8 +1,9 @@
-ghost use Rattle.std.specs.Prelude.{◌≡◌, ℕ, ◌%◌, ◌<◌};
+ghost use Rattle.std.specs.Prelude.{◌≡◌, ℕ, ◌%◌, ◌<◌, ◌≤◌};
 ghost use Rattle.split_key.specs.Split.{reversed, split, parent_of, IsParent};
 ghost use Rattle.split_key.specs.Split.{IsAncestor, IsPowerOfTwo};
 
 use crate::key::Key;
+use crate::reversal::reverse;
 
 /// The parent of a bucket other than 0: the bucket with its highest 1 bit cleared. The bucket's
 /// keys were the parent's when the table had half the size at which the bucket came up. Constant
@@ -29,4 +30,18 @@ pub fn bucket_of(key: Key, size: u32) -> u32
     ensures order { (ancestor : ℕ) → IsAncestor ancestor result → reversed ancestor < split key }
 {
     (key.number() & u64::from(size - 1)) as u32
+}
+
+/// The bucket to which a place of the split order belongs, in a table of this size, a power of two:
+/// its dummy has the greatest split key of the table's dummies that is not above `split`. The
+/// dummies of its ancestors are not above `split` either. Constant time.
+pub fn bucket_at(split: u64, size: u32) -> u32
+    requires { IsPowerOfTwo size }
+    ensures value { result ≡ reversed split % size }
+    ensures below { result < size }
+    ensures order { (ancestor : ℕ) → IsAncestor ancestor result → reversed ancestor ≤ split }
+    ensures greatest { (other : ℕ) →
+        other < size → reversed other ≤ split → reversed other ≤ reversed result }
+{
+    (reverse(split) & u64::from(size - 1)) as u32
 }

@@ -51,7 +51,7 @@ mod split;
 #[cfg(test)]
 mod tests;
 
-pub use bucket::{bucket_of, parent};
+pub use bucket::{bucket_at, bucket_of, parent};
 pub use key::{BadKey, Key};
 pub use reversal::reverse;
 pub use sort::SortKey;

@@ -1,4 +1,4 @@
-use crate::{BadKey, Key, SortKey, bucket_of, dummy, parent, regular, reverse};
+use crate::{BadKey, Key, SortKey, bucket_at, bucket_of, dummy, parent, regular, reverse};
 use std::test::Fail;
 
 #[test]
@@ -79,6 +79,29 @@ fn buckets_at_rising_sizes(rt: HostRuntime) {
     let at_eight = bucket_of(key, 8);
     let at_largest = bucket_of(key, 0x8000_0000);
     assert_eq!(rt; [at_two, at_four, at_eight, at_largest], [0, 2, 6, 14]);
+}
+
+#[test]
+fn buckets_of_places_in_the_order(rt: HostRuntime) {
+    let at_eight = [
+        (0x0000_0000_0000_0000, 0),
+        (0x1fff_ffff_ffff_ffff, 0),
+        (0x2000_0000_0000_0000, 4),
+        (0x3fff_ffff_ffff_ffff, 4),
+        (0x4000_0000_0000_0001, 2),
+        (0x7fff_ffff_ffff_ffff, 6),
+        (0x8000_0000_0000_0000, 1),
+        (0xdfff_ffff_ffff_ffff, 3),
+        (0xffff_ffff_ffff_ffff, 7),
+    ];
+    for (split, wanted) in at_eight {
+        assert_eq!(rt; bucket_at(split, 8), wanted, "of {split}");
+    }
+    let last = 0xffff_ffff_ffff_ffff;
+    let at_one = bucket_at(last, 1);
+    let at_two = bucket_at(last, 2);
+    let at_largest = bucket_at(last, 0x8000_0000);
+    assert_eq!(rt; [at_one, at_two, at_largest], [0, 1, 0x7fff_ffff]);
 }
 
 #[test]

@@ -1,5 +1,5 @@
 -- The step file that bytes are, or its first fault.
-use Rattle.std.specs.Prelude.{ℕ, true, List, [], ◌∷◌, Result, Ok, Err, codes}
+use Rattle.std.specs.Prelude.{ℕ, true, List, [], ◌∷◌, nat_le, Result, Ok, Err, if◌then◌else◌, codes}
 use Rattle.txn_trace.specs.Sizes.{Sizes, limits_of}
 use Rattle.txn_trace.specs.declared.refusal.Refusal.{Refusal}
 use Rattle.txn_trace.specs.declared.step.Step.{Step}
@@ -34,10 +34,16 @@ in_limits (Err refusal) = Err Limit
 abbrev pub with_keys_of : ℕ → Sizes → Sizes
 with_keys_of version sizes = in_version version (record sizes { half = true }) sizes
 
--- The numbers of a file as limits, where they are in range.
+-- The last version of the files that say what is to be run: of steps and of scripts.
+abbrev pub max_run_version : ℕ
+max_run_version = 2
+
+-- The numbers of such a file as limits, where they and its version are in range.
 abbrev pub sizes_at : ℕ → ℕ → ℕ → ℕ → Result Sizes FileFault
 sizes_at version callers stripes buckets =
-    in_limits (limits_of callers stripes buckets) >>= λ sizes. Ok (with_keys_of version sizes)
+    if nat_le version max_run_version then
+    (in_limits (limits_of callers stripes buckets) >>= λ sizes. Ok (with_keys_of version sizes))
+    else Err Limit
 
 -- The limits and the steps of a file's version, its three numbers and its steps.
 unfoldable pub steps_from : ℕ → List ℕ → List Step → Result (Sizes × List Step) FileFault

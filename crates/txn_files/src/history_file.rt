@@ -6,6 +6,7 @@ ghost use Rattle.txn_files.specs.Entries.{busy_of, entry_named, entry_of, is_old
 ghost use Rattle.txn_files.specs.HistoryFile.{max_entries, is_in_range, is_history, entries_from, history_of};
 
 use crate::operation::{is_old_op, leading_op_in, op_in};
+use arrayvec::ArrayVec;
 use json::Reader;
 use piece_files::{
     FileFault, Part, PieceKind, Plain, Stop, end_in, number_in, one_in, optional_in,
@@ -109,10 +110,11 @@ impl PieceKind for EntryKind {
 
     #[tactic(auto, using(crate::proofs::PlainPieces::no_entry))]
     fn read(_alloc: Global, reader: &mut Reader<'_>, depth: usize) -> Result<Option<Entry>, Stop> {
-        let elements = plain_elements::<MAX_ELEMENTS>(reader, depth)?;
-        match elements {
-            Some(values) => Ok(entry_in(&values)),
-            None => Ok(None),
+        let mut elements = ArrayVec::<Plain<'_>, MAX_ELEMENTS>::new();
+        if plain_elements(reader, depth, &mut elements)? {
+            Ok(entry_in(&elements))
+        } else {
+            Ok(None)
         }
     }
 }
@@ -175,7 +177,7 @@ fn entries_in(
 /// The first fault in this order is the answer: `Limit` where there are more than 16,777,216 bytes;
 /// `NotJson`; `Member` where the value is no object or one of the three members, in the order
 /// above, is missing or of the wrong kind; `Piece` for the first entry that is none, or in version
-/// 1 has a `put_if`; `Limit` where the version is not 1 or 2, the stripes are not 1 to 4,096, a
+/// 1 has a `put_if`; `Limit` where the version is not 1 to 3, the stripes are not 1 to 4,096, a
 /// caller or the holder that an entry names is above 63, or there are more than 1,000,000 entries.
 /// `NoMemory` can come in place of any answer.
 ///

@@ -123,6 +123,19 @@ fn history_of_version_2(rt: HostRuntime) -> Result<(), Fail> {
     Ok(())
 }
 
+/// Version 3, of history files alone, has the shapes of version 2.
+#[test]
+fn history_of_version_3(rt: HostRuntime) -> Result<(), Fail> {
+    let history = [Entry::Began(1, 1), Entry::Busy(1, Op::PutIf(2, None, 8), 0)];
+    let text = history_text(rt.alloc(), 3, 8, &history)?;
+    let Ok((stripes, entries, version)) = read_history(rt.alloc(), text.as_bytes()) else {
+        return Err("refused")?;
+    };
+    assert_eq!(rt; (stripes, version), (8, 3));
+    assert_eq!(rt; entries.as_slice(), history.as_slice());
+    Ok(())
+}
+
 #[test]
 fn wrong_history_members(rt: HostRuntime) {
     let cases = [
@@ -169,7 +182,7 @@ fn wrong_history_members(rt: HostRuntime) {
             FileFault::Limit,
         ),
         (
-            "{\"version\":3,\"stripes\":8,\"entries\":[]}",
+            "{\"version\":4,\"stripes\":8,\"entries\":[]}",
             FileFault::Limit,
         ),
         (

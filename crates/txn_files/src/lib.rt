@@ -6,9 +6,10 @@
 //! the pieces of a file, are those of `piece_files`; here stands what is a step, an entry, an
 //! action and a script, and which members each kind of file has.
 //!
-//! There are two versions of each file. Version 1 has no `put_if`, and the limits of its step and
-//! script files take half keys alone, which are those below 2^63. A file of any other version has
-//! the shapes of version 2, and is refused only then.
+//! There are two versions of each file, and a third of history files, whose shapes are those of
+//! version 2. Version 1 has no `put_if`, and the limits of its step and script files take half keys
+//! alone, which are those below 2^63. A file of any other version has the shapes of version 2, and
+//! is refused only then.
 //!
 //! Promised: `read_steps`, `read_scripts` and `read_history` compute these functions, or say that
 //! memory was refused. `history_text` writes a history, as `text_of_history` says. Time and memory

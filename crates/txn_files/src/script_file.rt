@@ -7,6 +7,7 @@ ghost use Rattle.txn_files.specs.ScriptFile.{max_scripts, is_short, are_scripts,
 
 use crate::operation::{is_old_op, op_in};
 use crate::step_file::limits_in;
+use arrayvec::ArrayVec;
 use json::Reader;
 use piece_files::{
     FileFault, Part, PieceKind, Plain, Stop, end_in, one_in, pieces_in, plain_elements, read_file,
@@ -89,10 +90,11 @@ impl PieceKind for ActionKind {
 
     #[tactic(auto, using(crate::proofs::PlainPieces::no_action))]
     fn read(_alloc: Global, reader: &mut Reader<'_>, depth: usize) -> Result<Option<Action>, Stop> {
-        let elements = plain_elements::<MAX_ELEMENTS>(reader, depth)?;
-        match elements {
-            Some(values) => Ok(action_in(&values)),
-            None => Ok(None),
+        let mut elements = ArrayVec::<Plain<'_>, MAX_ELEMENTS>::new();
+        if plain_elements(reader, depth, &mut elements)? {
+            Ok(action_in(&elements))
+        } else {
+            Ok(None)
         }
     }
 }

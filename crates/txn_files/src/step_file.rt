@@ -5,6 +5,7 @@ ghost use Rattle.txn_files.specs.Steps.{ask_of, is_old_step, numbered_of, step_o
 ghost use Rattle.txn_files.specs.StepFile.{max_steps, sizes_at, steps_from, file_of};
 
 use crate::operation::{is_old_op, op_in};
+use arrayvec::ArrayVec;
 use json::Reader;
 use piece_files::{
     FileFault, Part, PieceKind, Plain, Stop, number_in, one_in, plain_elements, read_file, two_in,
@@ -115,15 +116,20 @@ impl PieceKind for StepKind {
 
     #[tactic(auto, using(crate::proofs::PlainPieces::no_step))]
     fn read(_alloc: Global, reader: &mut Reader<'_>, depth: usize) -> Result<Option<Step>, Stop> {
-        let elements = plain_elements::<MAX_ELEMENTS>(reader, depth)?;
-        match elements {
-            Some(values) => Ok(step_in(&values)),
-            None => Ok(None),
+        let mut elements = ArrayVec::<Plain<'_>, MAX_ELEMENTS>::new();
+        if plain_elements(reader, depth, &mut elements)? {
+            Ok(step_in(&elements))
+        } else {
+            Ok(None)
         }
     }
 }
 
-/// The limits of these numbers in a file of this version: those of version 1 take half keys alone.
+/// The last version of the files that say what is to be run: of steps and of scripts.
+const MAX_RUN_VERSION: u64 = 2;
+
+/// The limits of these numbers in a step file or script file of this version: those of version 1
+/// take half keys alone.
 pub fn limits_in(
     version: u64,
     callers: u64,
@@ -132,6 +138,9 @@ pub fn limits_in(
 ) -> Result<Limits, FileFault>
     ensures { Gives (λ limits. limits) result (sizes_at version callers stripes buckets) }
 {
+    if version > MAX_RUN_VERSION {
+        return Err(FileFault::Limit);
+    }
     let Ok(limits) = Limits::new(callers, stripes, buckets) else {
         return Err(FileFault::Limit);
     };

@@ -8,6 +8,7 @@ use mathlib.Core.Logic.{inl, inr}
 use Rattle.txn_trace.specs.declared.op.Op.{Op}
 use Rattle.txn_trace.specs.declared.op.Op.TheVariants.{Put, Take, Get, PutIf}
 use Rattle.txn_trace.specs.declared.entry.Entry.{Entry}
+use Rattle.txn_trace.specs.declared.holder.Holder.{Holder}
 use Rattle.txn_trace.specs.declared.entry.Entry.TheVariants.{Did}
 use Rattle.txn_trace.specs.Map.{Map, get, insert, remove, after, reply_of, key_of, is_change}
 use Rattle.txn_trace.specs.History.{of}
@@ -79,7 +80,7 @@ waits_in stripes es m r op run waits =
     subst (WaitsFor (keys_in stripes es)) waits alike'.waits
 
 -- A caller that waits for a reply gets that of the map as it is now.
-module _ (stripes : ℕ) (g : List Entry) (legal : IsLegal stripes g) (c t : ℕ) (op : Op) (x : Option ℕ) (seat : Seat)
+module _ {holder : Holder} (stripes : ℕ) (g : List Entry) (legal : IsLegal holder stripes g) (c t : ℕ) (op : Op) (x : Option ℕ) (seat : Seat)
     (in_t : txn_in g c ≡ Some t) (going : ended t g ≡ false) (seat_is : seat_after (own c g) ≡ Some seat) (waiting : seat.phase ≡ Waiting op)
     (right : x ≡ reply_of (now g) op) (shaped : is_shaped g (Did c x) ≡ true) where
   the_run : (r : Run) × (alone (serial g) (of t g) ≡ Some r)
@@ -106,13 +107,13 @@ module _ (stripes : ℕ) (g : List Entry) (legal : IsLegal stripes g) (c t : ℕ
   last_is = ap (last_map (serial g)) run_is
 
   now_there : get (now g) (key_of op) ≡ get run.last (key_of op)
-  now_there = get-now g (key_of op) ∙ now_at-holder stripes g (key_of op) (are_apart stripes g legal.shape legal.locks) t (running_of g c t in_t going) held ∙ ap (λ m. get m (key_of op)) last_is
+  now_there = get-now g (key_of op) ∙ now_at-holder stripes g (key_of op) (are_apart holder stripes g legal.shape legal.locks) t (running_of g c t in_t going) held ∙ ap (λ m. get m (key_of op)) last_is
 
   goes : alone (serial g) (of t g ++ Did c x ∷ []) ≡ Some (record (with_op run op) { pending = None })
   goes = alone-push (serial g) (of t g) (Did c x) ∙ ap (option_and_then (λ r. act r (Did c x))) run_is ∙ ap (λ p. act_did run p x) waits
       ∙ ap (λ b. cond b (Some (record (with_op run op) { pending = None })) None) (same_is x (reply_of run.last op) (right ∙ now_there))
 
-  pub did_legal : IsLegal stripes (g ++ Did c x ∷ [])
+  pub did_legal : IsLegal holder stripes (g ++ Did c x ∷ [])
   did_legal = legal_push stripes g (Did c x) legal shaped refl
       (replies-push_other g (Did c x) t legal.shape (shape_push g (Did c x) legal.shape shaped) shaped refl in_t
       (legal.replies g ([], append-nil g)) (ap is_some goes))
@@ -123,7 +124,7 @@ module _ (stripes : ℕ) (g : List Entry) (legal : IsLegal stripes g) (c t : ℕ
   pub now-did : now (g ++ Did c x ∷ []) ≡ after (now g) op
   now-did = same_map (now (g ++ Did c x ∷ [])) (after (now g) op) (λ q.
       get-now (g ++ Did c x ∷ []) q
-      ∙ elim (now_at-push stripes g (Did c x) t legal.shape legal.locks (shape_push g (Did c x) legal.shape shaped) (locks_push stripes g (Did c x) legal.locks refl) shaped refl in_t q refl (running_of g c t in_t going)) [
+      ∙ elim (now_at-push holder stripes g (Did c x) t legal.shape legal.locks (shape_push g (Did c x) legal.shape shaped) (locks_push holder stripes g (Did c x) legal.locks refl) shaped refl in_t q refl (running_of g c t in_t going)) [
         | inl w ↦ w.0 ∙ sym (get-now g q) ∙ sym (get-after_other (now g) op q (λ same. false≢true (sym w.1 ∙ ap (keys_in stripes (of t g)) same ∙ held)))
         | inr w ↦ w.0 ∙ ap (λ m. get m q) changed
             ∙ sym (get-after_same (now g) run.last op q (get-now g q ∙ w.1 ∙ ap (λ m. get m q) last_is) now_there)

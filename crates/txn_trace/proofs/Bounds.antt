@@ -7,6 +7,7 @@ use Rattle.std.proofs.lemmas.Bool.{false≢true, cases_eq, false_from_ne_true}
 use mathlib.Core.Logic.{◌⊎◌, inl, inr}
 use Rattle.txn_trace.specs.declared.op.Op.{Op}
 use Rattle.txn_trace.specs.declared.entry.Entry.{Entry}
+use Rattle.txn_trace.specs.declared.holder.Holder.{Holder}
 use Rattle.txn_trace.specs.declared.entry.Entry.TheVariants.{Began, Asked, Did, Undone, Returned, Aborted}
 use Rattle.txn_trace.specs.Map.{Map, get, after, reply_of, is_change}
 use Rattle.txn_trace.specs.History.{of}
@@ -18,9 +19,10 @@ use Rattle.txn_trace.specs.Shape.{is_shaped}
 use Rattle.txn_trace.specs.Legal.{IsLegal}
 use Rattle.txn_trace.proofs.Maps.{same_map}
 use Rattle.txn_trace.proofs.Pushes.{txn_at}
-use Rattle.txn_trace.proofs.Callers.{Callers, callers_of, ended, ended_in, not_ended_before}
+use Rattle.txn_trace.proofs.Callers.{Callers, ended}
+use Rattle.txn_trace.proofs.Shaped.{callers_of, ended_in, not_ended_before}
 use Rattle.txn_trace.proofs.Stripes.{keys_in, are_apart}
-use Rattle.txn_trace.proofs.Now.{Holder, now_at-free, now_at-holder, holder_or_none}
+use Rattle.txn_trace.proofs.Now.{KeyHolder, now_at-free, now_at-holder, holder_or_none}
 use Rattle.txn_trace.proofs.Table.{get-now}
 use Rattle.txn_trace.proofs.Judging.{shape_push, locks_push}
 use Rattle.txn_trace.proofs.Others.{now_at-push_mine, now_at-push_else, serial_is, entries_stay}
@@ -68,7 +70,7 @@ unchanged_run m es r run none =
     subst (λ ms. first_map r.last ms ≡ m) none is
 
 -- A transaction that begins.
-module _ (stripes : ℕ) (g : List Entry) (legal : IsLegal stripes g) (c t : ℕ) (shaped : is_shaped g (Began c t) ≡ true) (at : txn_at g (Began c t) ≡ Some t) where
+module _ {holder : Holder} (stripes : ℕ) (g : List Entry) (legal : IsLegal holder stripes g) (c t : ℕ) (shaped : is_shaped g (Began c t) ≡ true) (at : txn_at g (Began c t) ≡ Some t) where
   callers : Callers g
   callers = callers_of g legal.shape
 
@@ -81,14 +83,14 @@ module _ (stripes : ℕ) (g : List Entry) (legal : IsLegal stripes g) (c t : ℕ
   pub now-began : now (g ++ Began c t ∷ []) ≡ now g
   now-began = same_map (now (g ++ Began c t ∷ [])) (now g) (λ k. get-now (g ++ Began c t ∷ []) k ∙ at_key k (holder_or_none stripes g k callers) ∙ sym (get-now g k))
     where
-      at_key : (k : ℕ) → Holder stripes g k ⊎ ((u : ℕ) → ended u g ≡ false → keys_in stripes (of u g) k ≡ false) → now_at (g ++ Began c t ∷ []) k ≡ now_at g k
-      at_key k (inl w) = now_at-push_else stripes g (Began c t) t legal.shape legal.locks (shape_push g (Began c t) legal.shape shaped) (locks_push stripes g (Began c t) legal.locks refl) shaped refl at k w.txn w.running
+      at_key : (k : ℕ) → KeyHolder stripes g k ⊎ ((u : ℕ) → ended u g ≡ false → keys_in stripes (of u g) k ≡ false) → now_at (g ++ Began c t ∷ []) k ≡ now_at g k
+      at_key k (inl w) = now_at-push_else holder stripes g (Began c t) t legal.shape legal.locks (shape_push g (Began c t) legal.shape shaped) (locks_push holder stripes g (Began c t) legal.locks refl) shaped refl at k w.txn w.running
           (λ same. false≢true (sym (ap (λ es. keys_in stripes es k) (ap (λ x. of x g) same ∙ none)) ∙ w.held)) w.held
-      at_key k (inr free) = now_at-push_mine stripes g (Began c t) t legal.shape legal.locks (shape_push g (Began c t) legal.shape shaped) (locks_push stripes g (Began c t) legal.locks refl) shaped refl at k refl (λ u going away. free u going)
+      at_key k (inr free) = now_at-push_mine holder stripes g (Began c t) t legal.shape legal.locks (shape_push g (Began c t) legal.shape shaped) (locks_push holder stripes g (Began c t) legal.locks refl) shaped refl at k refl (λ u going away. free u going)
           ∙ ap (λ m. get m k) last_is ∙ sym (now_at-free stripes g k free)
 
 -- A transaction that aborts, with no change left.
-module _ (stripes : ℕ) (g : List Entry) (legal : IsLegal stripes g) (c t : ℕ) (shaped : is_shaped g (Aborted c) ≡ true) (at : txn_at g (Aborted c) ≡ Some t) (empty_run : map_after (serial g) (of t g) ≡ serial g) where
+module _ {holder : Holder} (stripes : ℕ) (g : List Entry) (legal : IsLegal holder stripes g) (c t : ℕ) (shaped : is_shaped g (Aborted c) ≡ true) (at : txn_at g (Aborted c) ≡ Some t) (empty_run : map_after (serial g) (of t g) ≡ serial g) where
   gone : (u : ℕ) → ended u (g ++ Aborted c ∷ []) ≡ false → u ≢ t
   gone u goes same = false≢true (sym goes ∙ ap (λ x. ended x (g ++ Aborted c ∷ [])) same ∙ ended_in g (Aborted c) (callers_of g legal.shape) shaped t at)
 
@@ -105,12 +107,12 @@ module _ (stripes : ℕ) (g : List Entry) (legal : IsLegal stripes g) (c t : ℕ
   pub now-aborted : now (g ++ Aborted c ∷ []) ≡ now g
   now-aborted = same_map (now (g ++ Aborted c ∷ [])) (now g) (λ k. get-now (g ++ Aborted c ∷ []) k ∙ at_key k (holder_or_none stripes g k (callers_of g legal.shape)) ∙ sym (get-now g k))
     where
-      at_key : (k : ℕ) → Holder stripes g k ⊎ ((u : ℕ) → ended u g ≡ false → keys_in stripes (of u g) k ≡ false) → now_at (g ++ Aborted c ∷ []) k ≡ now_at g k
+      at_key : (k : ℕ) → KeyHolder stripes g k ⊎ ((u : ℕ) → ended u g ≡ false → keys_in stripes (of u g) k ≡ false) → now_at (g ++ Aborted c ∷ []) k ≡ now_at g k
       at_key k (inl w) = elim (cases_eq w.txn t) [
         | inl same ↦
-            free_after k (λ u going away. false_from_ne_true _ (λ is. away (are_apart stripes g legal.shape legal.locks u w.txn (stripe_of stripes k) going w.running.going is w.held ∙ same)))
+            free_after k (λ u going away. false_from_ne_true _ (λ is. away (are_apart holder stripes g legal.shape legal.locks u w.txn (stripe_of stripes k) going w.running.going is w.held ∙ same)))
             ∙ ap (λ m. get m k) (sym empty_run) ∙ ap (λ x. get (map_after (serial g) (of x g)) k) (sym same)
-            ∙ sym (now_at-holder stripes g k (are_apart stripes g legal.shape legal.locks) w.txn w.running w.held)
-        | inr away ↦ now_at-push_else stripes g (Aborted c) t legal.shape legal.locks (shape_push g (Aborted c) legal.shape shaped) (locks_push stripes g (Aborted c) legal.locks refl) shaped refl at k w.txn w.running away w.held
+            ∙ sym (now_at-holder stripes g k (are_apart holder stripes g legal.shape legal.locks) w.txn w.running w.held)
+        | inr away ↦ now_at-push_else holder stripes g (Aborted c) t legal.shape legal.locks (shape_push g (Aborted c) legal.shape shaped) (locks_push holder stripes g (Aborted c) legal.locks refl) shaped refl at k w.txn w.running away w.held
       ]
       at_key k (inr free) = free_after k (λ u going away. free u going) ∙ sym (now_at-free stripes g k free)

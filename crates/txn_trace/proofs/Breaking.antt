@@ -7,6 +7,7 @@ use Rattle.std.proofs.lemmas.List.{append-nil}
 use mathlib.Core.Logic.{inl, inr}
 use Rattle.txn_trace.specs.declared.op.Op.{Op}
 use Rattle.txn_trace.specs.declared.entry.Entry.{Entry}
+use Rattle.txn_trace.specs.declared.holder.Holder.{Holder}
 use Rattle.txn_trace.specs.declared.entry.Entry.TheVariants.{Began, Asked, Did, Saved, Leave, Undone, Returned, Committed, Busy, Aborted}
 use Rattle.txn_trace.specs.Map.{get, key_of, reply_of}
 use Rattle.txn_trace.specs.History.{caller_of, is_began, is_commit, of}
@@ -20,7 +21,8 @@ use Rattle.txn_trace.specs.declared.seat.Phase.TheVariants.{Closed, Waiting}
 use Rattle.txn_trace.specs.Shape.{Seat, row, seat_after, own, is_numbered, is_shaped, IsShaped}
 use Rattle.txn_trace.specs.Legal.{IsLegal, replies_hold, broken, runs}
 use Rattle.txn_trace.proofs.Pushes.{txn_at, of-push_in, alone-push}
-use Rattle.txn_trace.proofs.Callers.{callers_of, is_end, ended, ended_in, shaped_seat, shaped_number}
+use Rattle.txn_trace.proofs.Callers.{is_end, ended, shaped_seat, shaped_number}
+use Rattle.txn_trace.proofs.Shaped.{callers_of, ended_in}
 use Rattle.txn_trace.proofs.Stripes.{keys_in, are_apart}
 use Rattle.txn_trace.proofs.Local.{WaitsFor}
 use Rattle.txn_trace.proofs.Now.{running_of, now_at-holder, open_going, same_option, replies-push_commit}
@@ -71,7 +73,7 @@ no_reply : (r : Run) (e : Entry) → is_did e ≡ false → IsReply r e
 no_reply r (Did c x) d = absurd (false≢true (sym d))
 no_reply r _ d = tt
 
-module _ (stripes : ℕ) (g : List Entry) (legal : IsLegal stripes g) (e : Entry) (shaped : is_shaped g e ≡ true) where
+module _ {holder : Holder} (stripes : ℕ) (g : List Entry) (legal : IsLegal holder stripes g) (e : Entry) (shaped : is_shaped g e ≡ true) where
   abbrev parts : Shaped g e
   parts = shaped_by g e legal.shape shaped
 
@@ -117,7 +119,7 @@ module _ (stripes : ℕ) (g : List Entry) (legal : IsLegal stripes g) (e : Entry
         some None is = absurd is
         some (Some r) is = refl
 
-holds_after : (stripes : ℕ) (g : List Entry) (legal : IsLegal stripes g) (e : Entry) → is_shaped g e ≡ true → is_did e ≡ false → RepliesHoldAt (g ++ e ∷ [])
+holds_after : {holder : Holder} (stripes : ℕ) (g : List Entry) (legal : IsLegal holder stripes g) (e : Entry) → is_shaped g e ≡ true → is_did e ≡ false → RepliesHoldAt (g ++ e ∷ [])
 holds_after stripes g legal (Began c t) shaped d =
     let p = shaped_by g (Began c t) legal.shape shaped in
     let closed : p.before.phase ≡ Closed = only_closed p.before.phase (ap is_some p.goes) in
@@ -126,8 +128,8 @@ holds_after stripes g legal (Began c t) shaped d =
     only_closed : (q : Phase) → is_some (row (shaped_by g (Began c t) legal.shape shaped).before q (Began c t)) ≡ true → q ≡ Closed
     only_closed Closed h = refl
     only_closed _ h = absurd (false≢true h)
-holds_after stripes g legal (Committed c p) shaped d =
-    replies-push_commit stripes g (Committed c p) (t stripes g legal (Committed c p) shaped refl) legal.shape legal.locks (shape_push g (Committed c p) legal.shape shaped) shaped refl
+holds_after {holder} stripes g legal (Committed c p) shaped d =
+    replies-push_commit holder stripes g (Committed c p) (t stripes g legal (Committed c p) shaped refl) legal.shape legal.locks (shape_push g (Committed c p) legal.shape shaped) shaped refl
     (at stripes g legal (Committed c p) shaped refl) (not_ended stripes g legal (Committed c p) shaped refl) (legal.replies g ([], append-nil g))
 holds_after stripes g legal (Aborted c) shaped d = holds_if stripes g legal (Aborted c) shaped refl refl refl
 holds_after stripes g legal (Did c x) shaped d = absurd (false≢true (sym d))
@@ -143,9 +145,9 @@ waits_for s (Waiting op) c x h = (op, refl)
 waits_for s _ c x h = absurd (false≢true h)
 
 -- A caller that waits gets the right reply, and no other.
-did_holds : (stripes : ℕ) (g : List Entry) (legal : IsLegal stripes g) (c : ℕ) (x : Option ℕ) (shaped : is_shaped g (Did c x) ≡ true) (op : Op)
+did_holds : {holder : Holder} (stripes : ℕ) (g : List Entry) (legal : IsLegal holder stripes g) (c : ℕ) (x : Option ℕ) (shaped : is_shaped g (Did c x) ≡ true) (op : Op)
     → (shaped_by g (Did c x) legal.shape shaped).before.phase ≡ Waiting op → replies_hold (g ++ Did c x ∷ []) ≡ option_eq nat_eq x (reply_of (now g) op)
-did_holds stripes g legal c x shaped op waits = elim (cases_Bool (option_eq nat_eq x (reply_of (now g) op))) [
+did_holds {holder} stripes g legal c x shaped op waits = elim (cases_Bool (option_eq nat_eq x (reply_of (now g) op))) [
   | inl right ↦
       replies_hold_from (g ++ e ∷ []) ((did stripes g legal c op x p.before p.is waits (same_option x (reply_of (now g) op) right)).legal.replies (g ++ e ∷ []) ([], append-nil (g ++ e ∷ []))) ∙ sym right
   | inr wrong ↦ false_from_ne_true _ (λ holds. refuted wrong (RepliesHoldAt-from (g ++ e ∷ []) (shape_push g e legal.shape shaped) holds)) ∙ sym wrong
@@ -174,7 +176,7 @@ did_holds stripes g legal c x shaped op waits = elim (cases_Bool (option_eq nat_
 
     same_reply : reply_of (now g) op ≡ reply_of last.last op
     same_reply =
-        get-now g (key_of op) ∙ now_at-holder stripes g (key_of op) (are_apart stripes g legal.shape legal.locks) txn_t (running_of g c txn_t at_t (not_ended stripes g legal e shaped refl)) held
+        get-now g (key_of op) ∙ now_at-holder stripes g (key_of op) (are_apart holder stripes g legal.shape legal.locks) txn_t (running_of g c txn_t at_t (not_ended stripes g legal e shaped refl)) held
         ∙ ap (λ m. get m (key_of op)) (last_is stripes g legal e p.before p.next p.is p.goes p.numbered (active stripes g legal e shaped refl))
 
     acts_none : option_eq nat_eq x (reply_of (now g) op) ≡ false → act last e ≡ None
@@ -190,7 +192,7 @@ did_holds stripes g legal c x shaped op waits = elim (cases_Bool (option_eq nat_
         false≢true (sym (ap is_some none) ∙ runs_on)
 
 -- After a legal history an entry in right shape breaks the rule of replies exactly where it is a Did with a wrong reply.
-pub replies_hold-push : (stripes : ℕ) (g : List Entry) → IsLegal stripes g → (e : Entry) → is_shaped g e ≡ true → replies_hold (g ++ e ∷ []) ≡ is_right g e
+pub replies_hold-push : {holder : Holder} (stripes : ℕ) (g : List Entry) → IsLegal holder stripes g → (e : Entry) → is_shaped g e ≡ true → replies_hold (g ++ e ∷ []) ≡ is_right g e
 replies_hold-push stripes g legal (Did c x) shaped =
     let p = shaped_by g (Did c x) legal.shape shaped in
     let w = waits_for p.before p.before.phase c x (ap is_some p.goes) in
@@ -207,11 +209,11 @@ replies_hold-push stripes g legal (Busy c op x) shaped = replies_hold_from (g ++
 replies_hold-push stripes g legal (Aborted c) shaped = replies_hold_from (g ++ Aborted c ∷ []) (holds_after stripes g legal (Aborted c) shaped refl)
 
 -- The rule that an entry breaks after a legal history, by its shape, the map now and the holders of stripes.
-pub broken_is : (stripes : ℕ) (g : List Entry) → IsLegal stripes g → (e : Entry)
-    → broken stripes g e ≡ cond {A = Option ℕ} (not (is_shaped g e)) (Some 3) (cond {A = Option ℕ} (not (is_right g e)) (Some 1) (cond {A = Option ℕ} (not (is_locked stripes g e)) (Some 2) None))
-broken_is stripes g legal e = elim (cases_Bool (is_shaped g e)) [
-  | inl shaped ↦ ap (λ b. cond {A = Option ℕ} (not (is_shaped g e)) (Some 3) (cond {A = Option ℕ} (not b) (Some 1) (cond {A = Option ℕ} (not (is_locked stripes g e)) (Some 2) None))) (replies_hold-push stripes g legal e shaped)
+pub broken_is : {holder : Holder} (stripes : ℕ) (g : List Entry) → IsLegal holder stripes g → (e : Entry)
+    → broken holder stripes g e ≡ cond {A = Option ℕ} (not (is_shaped g e)) (Some 3) (cond {A = Option ℕ} (not (is_right g e)) (Some 1) (cond {A = Option ℕ} (not (is_locked holder stripes g e)) (Some 2) None))
+broken_is {holder} stripes g legal e = elim (cases_Bool (is_shaped g e)) [
+  | inl shaped ↦ ap (λ b. cond {A = Option ℕ} (not (is_shaped g e)) (Some 3) (cond {A = Option ℕ} (not b) (Some 1) (cond {A = Option ℕ} (not (is_locked holder stripes g e)) (Some 2) None))) (replies_hold-push stripes g legal e shaped)
   | inr unshaped ↦
-      ap (λ b. cond {A = Option ℕ} (not b) (Some 3) (cond {A = Option ℕ} (not (replies_hold (g ++ e ∷ []))) (Some 1) (cond {A = Option ℕ} (not (is_locked stripes g e)) (Some 2) None))) unshaped
-      ∙ sym (ap (λ b. cond {A = Option ℕ} (not b) (Some 3) (cond {A = Option ℕ} (not (is_right g e)) (Some 1) (cond {A = Option ℕ} (not (is_locked stripes g e)) (Some 2) None))) unshaped)
+      ap (λ b. cond {A = Option ℕ} (not b) (Some 3) (cond {A = Option ℕ} (not (replies_hold (g ++ e ∷ []))) (Some 1) (cond {A = Option ℕ} (not (is_locked holder stripes g e)) (Some 2) None))) unshaped
+      ∙ sym (ap (λ b. cond {A = Option ℕ} (not b) (Some 3) (cond {A = Option ℕ} (not (is_right g e)) (Some 1) (cond {A = Option ℕ} (not (is_locked holder stripes g e)) (Some 2) None))) unshaped)
 ]

@@ -1,20 +1,18 @@
 -- The callers of a history of the right shape: each is in one transaction at most, and runs exactly while that is open.
-use Rattle.std.proofs.Common.{◌≡◌, ℕ, ◌-◌, take, slice_index, ◌+◌, ◌≤◌, Bool, true, false, cond, not, ◌&&◌, ◌||◌, ◌==◌, List, [], ◌∷◌, ◌++◌, length, refl, ap, sym, subst, ◌∙◌, Some, None, Option, is_some, arith, append_assoc}
+use Rattle.std.proofs.Common.{[], ◌≡◌, ℕ, ◌-◌, take, slice_index, ◌+◌, ◌≤◌, Bool, true, false, cond, not, ◌&&◌, ◌||◌, ◌==◌, List, ◌∷◌, ◌++◌, length, refl, ap, sym, subst, ◌∙◌, Some, None, Option, is_some, arith}
 use Rattle.std.specs.Option.{option_and_then}
 use Rattle.std.specs.Prelude.{nat_lt}
 use Rattle.std.specs.List.{fold, AllByRecursion}
-use Rattle.std.proofs.lemmas.Bool.{false≢true, eqb-true, eq-eqb, and_parts, cases_eq, ne_eqb, or_left}
-use Rattle.std.proofs.lemmas.List.{append-nil}
-use mathlib.Core.List.{IsPrefix}
+use Rattle.std.proofs.lemmas.Bool.{false≢true, eqb-true, eq-eqb, and_parts, cases_eq, ne_eqb}
 use mathlib.Core.Logic.{◌⊎◌, inl, inr}
 use Rattle.txn_trace.specs.declared.entry.Entry.{Entry}
 use Rattle.txn_trace.specs.declared.entry.Entry.TheVariants.{Began, Asked, Did, Saved, Leave, Undone, Returned, Committed, Busy, Aborted}
-use Rattle.txn_trace.specs.History.{Line, caller_of, is_began, is_commit, is_abort, txn_after, lines_of, of, ends_in, is_committed, is_aborted, is_open}
+use Rattle.txn_trace.specs.History.{Line, caller_of, is_began, is_commit, is_abort, txn_after, lines_of, of, ends_in, is_open}
 use Rattle.txn_trace.specs.declared.seat.Phase.{Phase}
 use Rattle.txn_trace.specs.declared.seat.Phase.TheVariants.{Closed, Opened, Waiting, LeavingTo, LeavingToEnd}
-use Rattle.txn_trace.specs.Shape.{Seat, row, seat_after, closed_seat, own, how_many, is_shaped, is_numbered, IsShaped}
+use Rattle.txn_trace.specs.Shape.{Seat, row, seat_after, closed_seat, own, how_many, is_shaped, is_numbered}
 use Rattle.txn_trace.specs.Legal.{runs, is_running}
-use Rattle.txn_trace.proofs.Pushes.{txn_in, txn_at, lines_of-push, txn_in-push, of-push_in, of-push_out, ends_in-push, seat_after-push, own-push_in, own-push_out, how_many-push}
+use Rattle.txn_trace.proofs.Pushes.{txn_in, txn_at, txn_in-push, seat_after-push, own-push_in, how_many-push}
 
 abbrev pub is_end : Entry → Bool
 is_end e = is_commit e || is_abort e
@@ -23,7 +21,7 @@ is_end e = is_commit e || is_abort e
 abbrev pub ended : ℕ → List Entry → Bool
 ended t g = ends_in is_end (of t g)
 
-ends_either : (es : List Entry) (a b : Bool) → fold (λ x e. is_end e) (a || b) es ≡ (fold (λ x e. is_commit e) a es || fold (λ x e. is_abort e) b es)
+pub ends_either : (es : List Entry) (a b : Bool) → fold (λ x e. is_end e) (a || b) es ≡ (fold (λ x e. is_commit e) a es || fold (λ x e. is_abort e) b es)
 ends_either [] a b = refl
 ends_either (e ∷ es) a b = ends_either es (is_commit e) (is_abort e)
 
@@ -92,7 +90,7 @@ pub in_or_out : (o : Option ℕ) (t : ℕ) → (o ≡ Some t) ⊎ (o ≡ Some t 
 in_or_out None t = inr (λ is. cc (is))
 in_or_out (Some u) t = elim (cases_eq u t) [ inl same ↦ inl (ap Some same) | inr other ↦ inr (λ is. other (some_same u t is)) ]
 
-more : (g : List Entry) (e : Entry) → how_many is_began g ≤ how_many is_began (g ++ e ∷ [])
+pub more : (g : List Entry) (e : Entry) → how_many is_began g ≤ how_many is_began (g ++ e ∷ [])
 more g e = omega (arith, how_many-push is_began g e)
 
 pub shaped_seat : (g : List Entry) (e : Entry) → is_shaped g e ≡ true → is_some (option_and_then (λ s. row s s.phase e) (seat_after (own (caller_of e) g))) ≡ true
@@ -108,7 +106,7 @@ began_or_not (Began c t) = inl refl
 began_or_not _ = inr refl
 
 -- After a shaped entry, its transaction's number is in range; and where it begins, the number is new.
-number_in : (g : List Entry) (e : Entry) (t : ℕ) → Callers g → is_shaped g e ≡ true → txn_at g e ≡ Some t → t ≤ how_many is_began (g ++ e ∷ [])
+pub number_in : (g : List Entry) (e : Entry) (t : ℕ) → Callers g → is_shaped g e ≡ true → txn_at g e ≡ Some t → t ≤ how_many is_began (g ++ e ∷ [])
 number_in g e t callers shaped at = elim (began_or_not e) [
   | inl b ↦
       let n = began_number g e t b (shaped_number g e shaped) (at_is g e t at) in
@@ -188,7 +186,7 @@ pub not_equal : (a b : ℕ) → (a ≡ b → ⊥) → (b == a) ≡ false
 not_equal a b h = ne_eqb b a (λ k. h (sym k))
 
 -- A caller that does not begin stays in its transaction.
-txn_stays : (g : List Entry) (e : Entry) (x t : ℕ) → (is_began e ≡ true → x ≡ caller_of e → ⊥) → txn_in g x ≡ Some t → txn_in (g ++ e ∷ []) x ≡ Some t
+pub txn_stays : (g : List Entry) (e : Entry) (x t : ℕ) → (is_began e ≡ true → x ≡ caller_of e → ⊥) → txn_in g x ≡ Some t → txn_in (g ++ e ∷ []) x ≡ Some t
 txn_stays g e x t other is = ap (λ f. f x) (txn_in-push g e) ∙ at e other
   where
     at : (f : Entry) → (is_began f ≡ true → x ≡ caller_of f → ⊥) → txn_after (txn_in g) f x ≡ Some t
@@ -198,128 +196,3 @@ txn_stays g e x t other is = ap (λ f. f x) (txn_in-push g e) ∙ at e other
 pub ByRecursion-append : {X : Type 0} (P Q : X → Type 0) → ((x : X) → P x → Q x) → (xs ys : List X) → AllByRecursion P xs → AllByRecursion Q ys → AllByRecursion Q (xs ++ ys)
 ByRecursion-append P Q to [] ys ps qs = qs
 ByRecursion-append P Q to (x ∷ xs) ys ps qs = (to x ps.0, ByRecursion-append P Q to xs ys ps.1 qs)
-
-module _ (g : List Entry) (e : Entry) (callers : Callers g) (shaped : is_shaped g e ≡ true) where
-  pub ended_in : (t : ℕ) → txn_at g e ≡ Some t → ended t (g ++ e ∷ []) ≡ is_end e
-  ended_in t at = ap (ends_in is_end) (of-push_in t g e at) ∙ ends_in-push is_end (of t g) e
-
-  pub ended_out : (t : ℕ) → (txn_at g e ≡ Some t → ⊥) → ended t (g ++ e ∷ []) ≡ ended t g
-  ended_out t out = ap (ends_in is_end) (of-push_out t g e out)
-
-  -- An ended transaction stays so, and one that has not ended had not.
-  pub ended_stays : (t : ℕ) → ended t g ≡ true → of t (g ++ e ∷ []) ≡ of t g
-  ended_stays t done = of-push_out t g e (not_after_end g e t callers shaped done)
-
-  pub not_ended_before : (t : ℕ) → ended t (g ++ e ∷ []) ≡ false → ended t g ≡ false
-  not_ended_before t is = elim (ended t g) as (λ b. ended t g ≡ b → b ≡ false) [
-    | true ↦ λ done. absurd (false≢true (sym is ∙ ap (ends_in is_end) (ended_stays t done) ∙ done))
-    | false ↦ λ k. refl
-  ] refl
-
-  pub step : (c t : ℕ) → txn_in (g ++ e ∷ []) c ≡ Some t → ((c ≡ caller_of e) × (txn_at g e ≡ Some t)) ⊎ ((c ≡ caller_of e → ⊥) × (txn_in g c ≡ Some t))
-  step c t is = after_is g e c t (subst (λ f. f c ≡ Some t) (txn_in-push g e) is)
-
-  pub same : (d t : ℕ) → txn_at g e ≡ Some t → txn_in g d ≡ Some t → caller_of e ≡ d
-  same d t at js = elim (began_or_not e) [
-    | inl b ↦
-        let n = began_number g e t b (shaped_number g e shaped) (at_is g e t at) in
-        let m = callers.numbers d t js in
-        absurd (omega arith)
-    | inr b ↦ callers.one (caller_of e) d t (not_began_is g e t b (at_is g e t at)) js
-  ]
-
-  pub seat_of_mine : (c : ℕ) → c ≡ caller_of e → seat_after (own c (g ++ e ∷ [])) ≡ option_and_then (λ s. row s s.phase e) (seat_after (own (caller_of e) g))
-  seat_of_mine c mine = ap (λ x. seat_after (own x (g ++ e ∷ []))) mine ∙ ap seat_after (own-push_in (caller_of e) g e refl) ∙ seat_after-push (own (caller_of e) g) e
-
-  pub seat_of_other : (c : ℕ) → (c ≡ caller_of e → ⊥) → seat_after (own c (g ++ e ∷ [])) ≡ seat_after (own c g)
-  seat_of_other c other = ap seat_after (own-push_out c g e (not_equal c (caller_of e) other))
-
-  -- Where the transaction of the entry has ended with it, or has not.
-  closed_push : (c t : ℕ) → txn_in (g ++ e ∷ []) c ≡ Some t → ended t (g ++ e ∷ []) ≡ true → seat_after (own c (g ++ e ∷ [])) ≡ Some closed_seat
-  closed_push c t is done = elim (in_or_out (txn_at g e) t) [
-    | inl at ↦
-        let ends : is_end e ≡ true = sym (ended_in t at) ∙ done in
-        let mine : c ≡ caller_of e = elim (step c t is) [ inl w ↦ w.0 | inr w ↦ sym (same c t at w.1) ] in
-        seat_of_mine c mine ∙ end_closes e (seat_after (own (caller_of e) g)) ends (shaped_seat g e shaped)
-    | inr out ↦ elim (step c t is) [
-      | inl w ↦ absurd (out w.1)
-      | inr w ↦ seat_of_other c w.0 ∙ callers.closed c t w.1 (sym (ended_out t out) ∙ done)
-    ]
-  ]
-
-  running_push : (c t : ℕ) → txn_in (g ++ e ∷ []) c ≡ Some t → ended t (g ++ e ∷ []) ≡ false → is_running (seat_after (own c (g ++ e ∷ []))) ≡ true
-  running_push c t is not_done = elim (in_or_out (txn_at g e) t) [
-    | inl at ↦
-        let goes : is_end e ≡ false = sym (ended_in t at) ∙ not_done in
-        let mine : c ≡ caller_of e = elim (step c t is) [ inl w ↦ w.0 | inr w ↦ sym (same c t at w.1) ] in
-        ap is_running (seat_of_mine c mine) ∙ other_runs e (seat_after (own (caller_of e) g)) goes (shaped_seat g e shaped)
-    | inr out ↦ elim (step c t is) [
-      | inl w ↦ absurd (out w.1)
-      | inr w ↦ ap is_running (seat_of_other c w.0) ∙ callers.running c t w.1 (not_ended_before t not_done)
-    ]
-  ]
-
-  owned_push : (line : Line) → IsOwned g line → IsOwned (g ++ e ∷ []) line
-  owned_push line is t txn not_done =
-      let before : ended t g ≡ false = not_ended_before t not_done in
-      let in_it = is t txn before in
-      txn_stays g e (caller_of line.entry) t (λ b mine. false≢true (
-      sym (began_was_closed e (seat_after (own (caller_of e) g)) b (shaped_seat g e shaped))
-      ∙ sym (ap (λ x. is_running (seat_after (own x g))) mine) ∙ callers.running (caller_of line.entry) t in_it before)) in_it
-
-  owned_last : IsOwned (g ++ e ∷ []) (record { txn = txn_at g e; entry = e })
-  owned_last t txn not_done = ap (λ f. f (caller_of e)) (txn_in-push g e) ∙ txn
-
-  pub callers_push : Callers (g ++ e ∷ [])
-  callers_push = record {
-    numbers = λ c t is. elim (step c t is) [
-      | inl w ↦ number_in g e t callers shaped w.1
-      | inr w ↦ let n = callers.numbers c t w.1 in omega (arith, more g e)
-    ];
-    ended_numbers = λ t is. elim (in_or_out (txn_at g e) t) [
-      | inl at ↦ number_in g e t callers shaped at
-      | inr out ↦ let n = callers.ended_numbers t (sym (ended_out t out) ∙ is) in omega (arith, more g e)
-    ];
-    one = λ c d t is js. elim (step c t is) [
-      | inl w ↦ elim (step d t js) [
-        | inl v ↦ w.0 ∙ sym v.0
-        | inr v ↦ w.0 ∙ same d t w.1 v.1
-      ]
-      | inr w ↦ elim (step d t js) [
-        | inl v ↦ sym (v.0 ∙ same c t v.1 w.1)
-        | inr v ↦ callers.one c d t w.1 v.1
-      ]
-    ];
-    closed = closed_push;
-    running = running_push;
-    owned = subst (AllByRecursion (IsOwned (g ++ e ∷ []))) (sym (lines_of-push g e)) (ByRecursion-append (IsOwned g) (IsOwned (g ++ e ∷ [])) owned_push (lines_of g) _ callers.owned (owned_last, tt));
-  }
-
-pub first_of_rest : (g rest : List Entry) (e : Entry) → IsShaped (g ++ e ∷ rest) → is_shaped g e ≡ true
-first_of_rest g rest e shape = shape g e (rest, append_assoc g (e ∷ []) rest)
-
-pub callers_all : (g rest : List Entry) → Callers g → IsShaped (g ++ rest) → Callers (g ++ rest)
-callers_all g [] callers shape = subst Callers (sym (append-nil g)) callers
-callers_all g (e ∷ rest) callers shape =
-    subst Callers (append_assoc g (e ∷ []) rest)
-    (callers_all (g ++ e ∷ []) rest (callers_push g e callers (first_of_rest g rest e shape)) (subst IsShaped (sym (append_assoc g (e ∷ []) rest)) shape))
-
-pub callers_of : (h : List Entry) → IsShaped h → Callers h
-callers_of h shape = callers_all [] h callers_none shape
-
--- A transaction that has ended has all its entries.
-pub ended_whole : (t : ℕ) (g rest : List Entry) → Callers g → IsShaped (g ++ rest) → ended t g ≡ true → of t (g ++ rest) ≡ of t g
-ended_whole t g [] callers shape done = ap (of t) (append-nil g)
-ended_whole t g (e ∷ rest) callers shape done =
-    let shaped = first_of_rest g rest e shape in
-    let out : of t (g ++ e ∷ []) ≡ of t g = ended_stays g e callers shaped t done in
-    ap (of t) (sym (append_assoc g (e ∷ []) rest))
-    ∙ ended_whole t (g ++ e ∷ []) rest (callers_push g e callers shaped) (subst IsShaped (sym (append_assoc g (e ∷ []) rest)) shape) (ap (ends_in is_end) out ∙ done)
-    ∙ out
-
--- A beginning of a history of the right shape has it.
-pub shape_front : (h g : List Entry) → IsShaped h → IsPrefix g h → IsShaped g
-shape_front h g shape p k e q = shape k e (q.0 ++ p.0, sym (append_assoc (k ++ e ∷ []) q.0 p.0) ∙ ap (λ w. w ++ p.0) q.1 ∙ p.1)
-
-pub committed_ended : (t : ℕ) (g : List Entry) → is_committed t g ≡ true → ended t g ≡ true
-committed_ended t g is = ends_either (of t g) false false ∙ or_left (is_committed t g) (is_aborted t g) is

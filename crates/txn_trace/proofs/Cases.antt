@@ -1,11 +1,10 @@
 -- Worked histories, by computing: their verdicts, their maps, and what is left of them without what aborted.
-use Rattle.std.proofs.Common.{◌≡◌, ℕ, ◌^◌, ◌-◌, List, [], ◌∷◌, ◌++◌, Some, None, Option, refl, sym, subst, take, map, arith, lit≤, lit<}
+use Rattle.std.proofs.Common.{[], ◌≡◌, ℕ, ◌^◌, ◌-◌, List, ◌∷◌, ◌++◌, Some, None, Option, refl, take, map}
 use Rattle.split_key.specs.Split.{split, reversed, reversed_low}
 use Rattle.txn_trace.specs.declared.op.Op.{Op}
-use Rattle.txn_trace.specs.declared.op.Op.TheVariants.{Put, Take, Get, PutIf}
-use Rattle.txn_trace.specs.declared.action.Action.{Action}
-use Rattle.txn_trace.specs.declared.action.Action.TheVariants as actions
+use Rattle.txn_trace.specs.declared.op.Op.TheVariants.{Put, Take, Get}
 use Rattle.txn_trace.specs.declared.entry.Entry.{Entry}
+use Rattle.txn_trace.specs.declared.holder.Holder.TheVariants.{Now}
 use Rattle.txn_trace.specs.declared.entry.Entry.TheVariants.{Began, Asked, Did, Saved, Leave, Undone, Returned, Committed, Busy, Aborted}
 use Rattle.txn_trace.specs.Map.{Map, empty, insert}
 use Rattle.txn_trace.specs.Ordered.{ordered}
@@ -16,14 +15,13 @@ use Rattle.txn_trace.specs.Log.{log_of}
 use Rattle.txn_trace.specs.Legal.{IsLegal, verdict, Legal, Illegal}
 use Rattle.txn_trace.specs.Erase.{erase}
 use Rattle.txn_trace.specs.Owed.{owed}
-use Rattle.txn_trace.specs.Plays.{Plays, commits_of, PlayRising, PlayScripts}
 use Rattle.txn_trace.proofs.Judging.{legal_iff}
 
 -- A put is taken back by an abort.
 abbrev abort_takes_back : List Entry
 abort_takes_back = Began 0 1 ∷ Asked 0 (Put 1 10) ∷ Did 0 None ∷ Leave 0 None ∷ Undone 0 ∷ Aborted 0 ∷ []
 
-abort_takes_back_verdict : verdict 8 abort_takes_back ≡ Legal 0 0
+abort_takes_back_verdict : verdict Now 8 abort_takes_back ≡ Legal 0 0
 abort_takes_back_verdict = refl
 
 abort_takes_back_done : (now (take 3 abort_takes_back)).rows ≡ (1, 10) ∷ []
@@ -45,7 +43,7 @@ abort_takes_back_erased = refl
 abbrev busy_aborts : List Entry
 busy_aborts = Began 0 1 ∷ Asked 0 (Put 1 10) ∷ Did 0 None ∷ Began 1 2 ∷ Busy 1 (Get 9) 0 ∷ Aborted 1 ∷ []
 
-busy_aborts_verdict : verdict 8 busy_aborts ≡ Legal 0 1
+busy_aborts_verdict : verdict Now 8 busy_aborts ≡ Legal 0 1
 busy_aborts_verdict = refl
 
 busy_aborts_now : (now busy_aborts).rows ≡ (1, 10) ∷ []
@@ -63,7 +61,7 @@ savepoints = Began 0 1 ∷ Asked 0 (Put 1 10) ∷ Did 0 None ∷ Saved 0 ∷ Ask
     ∷ Leave 0 (Some 1) ∷ Undone 0 ∷ Undone 0 ∷ Returned 0 1 ∷ Asked 0 (Get 1) ∷ Did 0 (Some 10) ∷ Leave 0 (Some 1) ∷ Returned 0 1 ∷ Asked 0 (Get 1) ∷ Did 0 (Some 10)
     ∷ Leave 0 (Some 0) ∷ Undone 0 ∷ Returned 0 0 ∷ Asked 0 (Get 1) ∷ Did 0 None ∷ Committed 0 1 ∷ []
 
-savepoints_verdict : verdict 8 savepoints ≡ Legal 1 0
+savepoints_verdict : verdict Now 8 savepoints ≡ Legal 1 0
 savepoints_verdict = refl
 
 savepoints_taken : (now (take 9 savepoints)).rows ≡ []
@@ -86,7 +84,7 @@ abbrev aborted_take_restores : List Entry
 aborted_take_restores = Began 0 1 ∷ Asked 0 (Put 3 30) ∷ Did 0 None ∷ Committed 0 1 ∷ Began 0 2 ∷ Asked 0 (Take 3) ∷ Did 0 (Some 30) ∷ Began 1 3 ∷ Busy 1 (Get 3) 0 ∷ Aborted 1
     ∷ Leave 0 None ∷ Undone 0 ∷ Aborted 0 ∷ Began 1 4 ∷ Asked 1 (Get 3) ∷ Did 1 (Some 30) ∷ Committed 1 2 ∷ []
 
-aborted_take_restores_verdict : verdict 8 aborted_take_restores ≡ Legal 2 0
+aborted_take_restores_verdict : verdict Now 8 aborted_take_restores ≡ Legal 2 0
 aborted_take_restores_verdict = refl
 
 aborted_take_restores_done : (now (take 7 aborted_take_restores)).rows ≡ []
@@ -115,7 +113,7 @@ aborted_take_restores_owed_busy = refl
 abbrev withdrawn_put : List Entry
 withdrawn_put = Began 0 1 ∷ Asked 0 (Put 1 10) ∷ Leave 0 None ∷ Aborted 0 ∷ []
 
-withdrawn_put_verdict : verdict 8 withdrawn_put ≡ Legal 0 0
+withdrawn_put_verdict : verdict Now 8 withdrawn_put ≡ Legal 0 0
 withdrawn_put_verdict = refl
 
 withdrawn_put_now : (now (take 3 withdrawn_put)).rows ≡ []
@@ -125,7 +123,7 @@ withdrawn_put_now = refl
 abbrev round : (ℕ → Entry) → List Entry
 round entry = entry 0 ∷ entry 1 ∷ entry 2 ∷ []
 
-abbrev asked_and_done : ℕ → Op → Option ℕ → List Entry
+abbrev pub asked_and_done : ℕ → Op → Option ℕ → List Entry
 asked_and_done c op x = Asked c op ∷ Did c x ∷ []
 
 abbrev callers_undone : List Entry
@@ -135,7 +133,7 @@ callers_undone =
     ++ asked_and_done 2 (Put 3 20) (Some 10) ++ asked_and_done 2 (Take 3) (Some 20)
     ++ round (λ c. Leave c None) ++ round (λ c. Undone c) ++ round (λ c. Undone c) ++ round (λ c. Undone c) ++ round (λ c. Aborted c)
 
-callers_undone_verdict : verdict 8 callers_undone ≡ Legal 0 0
+callers_undone_verdict : verdict Now 8 callers_undone ≡ Legal 0 0
 callers_undone_verdict = refl
 
 callers_undone_taken : (now (take 24 callers_undone)).rows ≡ []
@@ -166,10 +164,10 @@ callers_undone_free = refl
 abbrev crossed : List Entry
 crossed = Began 0 1 ∷ Began 1 2 ∷ Asked 0 (Put 2 20) ∷ Asked 1 (Put 4 40) ∷ Did 1 None ∷ Did 0 None ∷ Committed 1 1 ∷ Committed 0 2 ∷ []
 
-crossed_verdict : verdict 8 crossed ≡ Legal 2 0
+crossed_verdict : verdict Now 8 crossed ≡ Legal 2 0
 crossed_verdict = refl
 
-crossed_open : verdict 8 (take 7 crossed) ≡ Legal 1 1
+crossed_open : verdict Now 8 (take 7 crossed) ≡ Legal 1 1
 crossed_open = refl
 
 crossed_ordered : ordered (now crossed) ≡ (4, 40) ∷ (2, 20) ∷ []
@@ -180,7 +178,7 @@ crossed_ordered = refl
 abbrev handed_on : List Entry
 handed_on = Began 1 1 ∷ Began 0 2 ∷ Asked 0 (Put 1 10) ∷ Did 0 None ∷ Committed 0 1 ∷ Asked 1 (Put 1 11) ∷ Did 1 (Some 10) ∷ Committed 1 2 ∷ []
 
-handed_on_verdict : verdict 8 handed_on ≡ Legal 2 0
+handed_on_verdict : verdict Now 8 handed_on ≡ Legal 2 0
 handed_on_verdict = refl
 
 handed_on_serial : (serial handed_on).rows ≡ (1, 11) ∷ []
@@ -199,68 +197,68 @@ checker_replies_right = checker_replies_front ++ Undone 1 ∷ Aborted 1 ∷ Bega
 abbrev checker_replies_not_undone : List Entry
 checker_replies_not_undone = checker_replies_front ++ Aborted 1 ∷ Began 0 3 ∷ Asked 0 (Get 1) ∷ Did 0 (Some 99) ∷ Committed 0 2 ∷ []
 
-checker_replies_verdict : verdict 8 checker_replies ≡ Illegal 12 1
+checker_replies_verdict : verdict Now 8 checker_replies ≡ Illegal 12 1
 checker_replies_verdict = refl
 
-checker_replies_right_verdict : verdict 8 checker_replies_right ≡ Legal 2 0
+checker_replies_right_verdict : verdict Now 8 checker_replies_right ≡ Legal 2 0
 checker_replies_right_verdict = refl
 
-checker_replies_not_undone_verdict : verdict 8 checker_replies_not_undone ≡ Illegal 8 3
+checker_replies_not_undone_verdict : verdict Now 8 checker_replies_not_undone ≡ Illegal 8 3
 checker_replies_not_undone_verdict = refl
 
 -- The same, entry by entry.
-fed_entry_by_entry_10 : verdict 8 (take 10 checker_replies) ≡ Legal 1 0
+fed_entry_by_entry_10 : verdict Now 8 (take 10 checker_replies) ≡ Legal 1 0
 fed_entry_by_entry_10 = refl
 
-fed_entry_by_entry_11 : verdict 8 (take 11 checker_replies) ≡ Legal 1 1
+fed_entry_by_entry_11 : verdict Now 8 (take 11 checker_replies) ≡ Legal 1 1
 fed_entry_by_entry_11 = refl
 
-fed_entry_by_entry_12 : verdict 8 (take 12 checker_replies) ≡ Legal 1 1
+fed_entry_by_entry_12 : verdict Now 8 (take 12 checker_replies) ≡ Legal 1 1
 fed_entry_by_entry_12 = refl
 
-fed_entry_by_entry_13 : verdict 8 (take 13 checker_replies) ≡ Illegal 12 1
+fed_entry_by_entry_13 : verdict Now 8 (take 13 checker_replies) ≡ Illegal 12 1
 fed_entry_by_entry_13 = refl
 
-fed_entry_by_entry_14 : verdict 8 (take 14 checker_replies) ≡ Illegal 12 1
+fed_entry_by_entry_14 : verdict Now 8 (take 14 checker_replies) ≡ Illegal 12 1
 fed_entry_by_entry_14 = refl
 
 -- A stripe is taken from its holder, and a Busy names one that holds nothing.
-checker_locks_asked : verdict 8 (Began 0 1 ∷ Asked 0 (Put 1 10) ∷ Did 0 None ∷ Began 1 2 ∷ Asked 1 (Get 9) ∷ []) ≡ Illegal 4 2
+checker_locks_asked : verdict Now 8 (Began 0 1 ∷ Asked 0 (Put 1 10) ∷ Did 0 None ∷ Began 1 2 ∷ Asked 1 (Get 9) ∷ []) ≡ Illegal 4 2
 checker_locks_asked = refl
 
-checker_locks_busy : verdict 8 (Began 0 1 ∷ Busy 0 (Get 9) 1 ∷ []) ≡ Illegal 1 2
+checker_locks_busy : verdict Now 8 (Began 0 1 ∷ Busy 0 (Get 9) 1 ∷ []) ≡ Illegal 1 2
 checker_locks_busy = refl
 
-checker_locks_busy_itself : verdict 8 (Began 0 1 ∷ Asked 0 (Put 1 10) ∷ Did 0 None ∷ Busy 0 (Get 9) 0 ∷ []) ≡ Illegal 3 2
+checker_locks_busy_itself : verdict Now 8 (Began 0 1 ∷ Asked 0 (Put 1 10) ∷ Did 0 None ∷ Busy 0 (Get 9) 0 ∷ []) ≡ Illegal 3 2
 checker_locks_busy_itself = refl
 
 -- Forged histories.
-forged_none : verdict 8 [] ≡ Legal 0 0
+forged_none : verdict Now 8 [] ≡ Legal 0 0
 forged_none = refl
 
-forged_undone : verdict 8 (Undone 0 ∷ []) ≡ Illegal 0 3
+forged_undone : verdict Now 8 (Undone 0 ∷ []) ≡ Illegal 0 3
 forged_undone = refl
 
-forged_place : verdict 8 (Began 0 1 ∷ Committed 0 2 ∷ []) ≡ Illegal 1 3
+forged_place : verdict Now 8 (Began 0 1 ∷ Committed 0 2 ∷ []) ≡ Illegal 1 3
 forged_place = refl
 
-forged_number : verdict 8 (Began 0 1 ∷ Began 1 3 ∷ []) ≡ Illegal 1 3
+forged_number : verdict Now 8 (Began 0 1 ∷ Began 1 3 ∷ []) ≡ Illegal 1 3
 forged_number = refl
 
-forged_level : verdict 8 (Began 0 1 ∷ Leave 0 (Some 1) ∷ []) ≡ Illegal 1 3
+forged_level : verdict Now 8 (Began 0 1 ∷ Leave 0 (Some 1) ∷ []) ≡ Illegal 1 3
 forged_level = refl
 
-forged_reply : verdict 8 (Began 0 1 ∷ Asked 0 (Get 5) ∷ Did 0 (Some 7) ∷ Leave 0 None ∷ []) ≡ Illegal 2 1
+forged_reply : verdict Now 8 (Began 0 1 ∷ Asked 0 (Get 5) ∷ Did 0 (Some 7) ∷ Leave 0 None ∷ []) ≡ Illegal 2 1
 forged_reply = refl
 
 -- Two keys that share a stripe of eight, but not one of sixteen.
 abbrev forged_stripes : List Entry
 forged_stripes = Began 0 1 ∷ Asked 0 (Get 1) ∷ Began 1 2 ∷ Asked 1 (Get 9) ∷ []
 
-forged_stripes_verdict : verdict 8 forged_stripes ≡ Illegal 3 2
+forged_stripes_verdict : verdict Now 8 forged_stripes ≡ Illegal 3 2
 forged_stripes_verdict = refl
 
-forged_stripes_more_stripes_verdict : verdict 16 forged_stripes ≡ Legal 0 2
+forged_stripes_more_stripes_verdict : verdict Now 16 forged_stripes ≡ Legal 0 2
 forged_stripes_more_stripes_verdict = refl
 
 -- Split keys, and maps in the order of them.
@@ -290,95 +288,11 @@ unfolding split reversed reversed_low
 ordered_last = refl
 
 -- So the definition of legal histories is met, and excludes some.
-aborted_take_restores_legal : IsLegal 8 aborted_take_restores
+aborted_take_restores_legal : IsLegal Now 8 aborted_take_restores
 aborted_take_restores_legal = (legal_iff 8 aborted_take_restores).1 refl
 
-savepoints_legal : IsLegal 8 savepoints
+savepoints_legal : IsLegal Now 8 savepoints
 savepoints_legal = (legal_iff 8 savepoints).1 refl
 
-checker_replies_not_legal : IsLegal 8 checker_replies → ⊥
+checker_replies_not_legal : IsLegal Now 8 checker_replies → ⊥
 checker_replies_not_legal legal = cc ((legal_iff 8 checker_replies).0 legal)
-
--- One worker plays a script, and then aborts one.
-abbrev one_worker : List Entry
-one_worker = Began 0 1 ∷ Asked 0 (Put 1 10) ∷ Did 0 None ∷ Saved 0 ∷ Asked 0 (Take 1) ∷ Did 0 (Some 10) ∷ Leave 0 (Some 1) ∷ Undone 0 ∷ Returned 0 1 ∷ Committed 0 1
-    ∷ Began 0 2 ∷ Asked 0 (Get 1) ∷ Did 0 (Some 10) ∷ Leave 0 None ∷ Aborted 0 ∷ []
-
-abbrev first_script : List Action
-first_script = actions.Op (Put 1 10) ∷ actions.Save ∷ actions.Op (Take 1) ∷ actions.Back 1 ∷ []
-
-abbrev second_script : List Action
-second_script = actions.Op (Get 1) ∷ actions.Abort ∷ []
-
-one_worker_verdict : verdict 8 one_worker ≡ Legal 1 0
-one_worker_verdict = refl
-
-one_worker_first : Plays 1 first_script one_worker
-one_worker_first = (refl, (refl, (refl, refl, tt)))
-
-one_worker_first_other_script : Plays 1 second_script one_worker → ⊥
-one_worker_first_other_script plays = cc (plays.0)
-
-one_worker_first_without_the_return : Plays 1 (actions.Op (Put 1 10) ∷ actions.Save ∷ actions.Op (Take 1) ∷ []) one_worker → ⊥
-one_worker_first_without_the_return plays = plays.1.1
-
-one_worker_second : Plays 2 second_script one_worker → ⊥
-one_worker_second plays = plays.1
-
-one_worker_second_without_the_abort : Plays 2 (actions.Op (Get 1) ∷ []) one_worker → ⊥
-one_worker_second_without_the_abort plays = plays.1
-
-one_worker_helps : Plays 1 (actions.Help 5 ∷ first_script) one_worker
-one_worker_helps = one_worker_first
-
-one_worker_commits : commits_of 0 one_worker ≡ 1 ∷ []
-one_worker_commits = refl
-
-one_worker_no_other : commits_of 1 one_worker ≡ []
-one_worker_no_other = refl
-
-one_worker_scripts : PlayScripts 1 (first_script ∷ second_script ∷ []) one_worker
-one_worker_scripts c below = let is : c ≡ 0 = omega arith in
-    let P : ℕ → Type 0 = λ c. PlayRising 1 (first_script ∷ second_script ∷ []) c one_worker 0 2 (commits_of c one_worker) in
-    subst P (sym is) (0, first_script, lit≤ tt, lit< tt, record { mine = refl; there = refl }, one_worker_first, tt)
-
--- Two keys that share a split key, and a put_if that changes and one that does not.
-abbrev two_of_one_split_key : List Entry
-two_of_one_split_key =
-    Began 0 1 ∷ asked_and_done 0 (Put 9223372036854775809 11) None ++ asked_and_done 0 (Put 1 10) None ++ asked_and_done 0 (PutIf 1 None 12) (Some 10)
-    ++ asked_and_done 0 (PutIf 1 (Some 10) 12) (Some 10) ++ asked_and_done 0 (PutIf 2 None 20) None ++ asked_and_done 0 (PutIf 3 (Some 5) 6) None
-    ++ asked_and_done 0 (Put 18446744073709551615 7) None
-
-abbrev keys_of_64_bits : List Entry
-keys_of_64_bits = two_of_one_split_key ++ Committed 0 1 ∷ []
-
-keys_of_64_bits_verdict : verdict 8 keys_of_64_bits ≡ Legal 1 0
-keys_of_64_bits_verdict = refl
-
-keys_of_64_bits_ordered : ordered (now keys_of_64_bits) ≡ (2, 20) ∷ (1, 12) ∷ (9223372036854775809, 11) ∷ (18446744073709551615, 7) ∷ []
-unfolding split reversed reversed_low
-keys_of_64_bits_ordered = refl
-
-abbrev keys_of_64_bits_leave : List Entry
-keys_of_64_bits_leave = two_of_one_split_key ++ Leave 0 None ∷ Undone 0 ∷ Undone 0 ∷ Undone 0 ∷ Undone 0 ∷ []
-
-keys_of_64_bits_undone : verdict 8 (keys_of_64_bits_leave ++ Undone 0 ∷ Aborted 0 ∷ []) ≡ Legal 0 0
-keys_of_64_bits_undone = refl
-
-keys_of_64_bits_not_undone : verdict 8 (keys_of_64_bits_leave ++ Aborted 0 ∷ []) ≡ Illegal 20 3
-keys_of_64_bits_not_undone = refl
-
-keys_of_64_bits_left : (now (keys_of_64_bits_leave ++ Undone 0 ∷ Aborted 0 ∷ [])).rows ≡ []
-keys_of_64_bits_left = refl
-
-abbrev put_if_history_front : List Entry
-put_if_history_front = Began 0 1 ∷ asked_and_done 0 (PutIf 1 None 5) None ++ asked_and_done 0 (PutIf 1 (Some 4) 6) (Some 5) ++ Leave 0 None ∷ Undone 0 ∷ []
-
-put_if_history : verdict 8 (put_if_history_front ++ Aborted 0 ∷ []) ≡ Legal 0 0
-put_if_history = refl
-
-put_if_history_undone_twice : verdict 8 (put_if_history_front ++ Undone 0 ∷ Aborted 0 ∷ []) ≡ Illegal 7 3
-put_if_history_undone_twice = refl
-
-put_if_history_erased : erase (put_if_history_front ++ Aborted 0 ∷ []) ≡ []
-put_if_history_erased = refl

@@ -12,7 +12,8 @@ use Rattle.txn_trace.specs.History.{caller_of, is_began, is_commit, is_open, txn
 use Rattle.txn_trace.specs.Shape.{Seat, row, seat_after, own, how_many, is_shaped, IsShaped}
 use Rattle.txn_trace.specs.Legal.{is_running, callers_in, running}
 use Rattle.txn_trace.proofs.Pushes.{txn_in, txn_at, how_many-push}
-use Rattle.txn_trace.proofs.Callers.{Callers, callers_of, is_end, ended, is_open-ended, ended_in, ended_out, not_after_end, shaped_seat, shaped_number, began_or_not, began_number, at_is, not_began_is, some_same, seat_of_mine, seat_of_other, other_runs, end_closes, began_was_closed, end_not_began}
+use Rattle.txn_trace.proofs.Callers.{Callers, is_end, ended, is_open-ended, not_after_end, shaped_seat, shaped_number, began_or_not, began_number, at_is, not_began_is, some_same, other_runs, end_closes, began_was_closed, end_not_began}
+use Rattle.txn_trace.proofs.Shaped.{callers_of, ended_in, ended_out, seat_of_mine, seat_of_other}
 use Rattle.txn_trace.proofs.Steps.{txns_of-push, commits_are, are_listed}
 use Rattle.txn_trace.proofs.Inductions.{by_entries}
 use Rattle.txn_trace.proofs.Running.{has_txn}

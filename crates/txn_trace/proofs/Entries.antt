@@ -1,13 +1,14 @@
 -- Each kind of entry after a legal history: under which conditions it is legal, and what the history says after it.
-use Rattle.std.proofs.Common.{drop, ◌≡◌, ℕ, ◌+◌, ◌-◌, ◌<◌, ◌==◌, Bool, true, false, cond, List, [], ◌∷◌, ◌++◌, take, length, slice_index, refl, ap, sym, subst, ◌∙◌, Some, None, Option, is_some, arith}
+use Rattle.std.proofs.Common.{[], drop, ◌≡◌, ℕ, ◌+◌, ◌-◌, ◌<◌, ◌==◌, Bool, true, cond, List, ◌∷◌, ◌++◌, take, length, slice_index, refl, ap, sym, subst, ◌∙◌, Some, None, Option, is_some, arith}
 use Rattle.std.specs.Option.{option_eq}
 use Rattle.std.specs.Prelude.{nat_eq}
-use Rattle.std.specs.List.{fold, list_any}
-use Rattle.std.proofs.lemmas.Bool.{or_parts, or_cases, cases_Bool, eqb-true, lt-ltb, false≢true, and_from, eq-eqb, cases_eq, ne_eqb}
+use Rattle.std.specs.List.{list_any}
+use Rattle.std.proofs.lemmas.Bool.{cases_Bool, lt-ltb, and_from, eq-eqb, cases_eq, ne_eqb}
 use Rattle.std.proofs.lemmas.List.{append-nil}
 use mathlib.Core.Logic.{inl, inr}
 use Rattle.txn_trace.specs.declared.op.Op.{Op}
 use Rattle.txn_trace.specs.declared.entry.Entry.{Entry}
+use Rattle.txn_trace.specs.declared.holder.Holder.{Holder}
 use Rattle.txn_trace.specs.declared.entry.Entry.TheVariants.{Began, Asked, Did, Saved, Leave, Undone, Returned, Committed, Busy, Aborted}
 use Rattle.txn_trace.specs.Map.{Map, get, key_of, reply_of, after}
 use Rattle.txn_trace.specs.History.{is_began, is_commit, of}
@@ -21,7 +22,7 @@ use Rattle.txn_trace.specs.Log.{Log, log_after, log_of, log_did}
 use Rattle.txn_trace.specs.Legal.{IsLegal, runs}
 use Rattle.txn_trace.proofs.Maps.{same_map}
 use Rattle.txn_trace.proofs.Pushes.{txn_in, txn_at}
-use Rattle.txn_trace.proofs.Callers.{callers_of}
+use Rattle.txn_trace.proofs.Shaped.{callers_of}
 use Rattle.txn_trace.proofs.Stripes.{keys_in, are_apart}
 use Rattle.txn_trace.proofs.Now.{running_of, now_at-holder, serial-commit, replies-push_commit, now_at-push_commit}
 use Rattle.txn_trace.proofs.Table.{get-set_at, get-now}
@@ -34,64 +35,65 @@ use Rattle.txn_trace.proofs.Bounds.{now-began, now-aborted, unchanged_run, first
 use Rattle.txn_trace.proofs.Logs.{PhaseLogged, seat_logged}
 use Rattle.txn_trace.proofs.Holders.{holder_of-other, holder_of-end, holder_of-asked}
 use Rattle.txn_trace.proofs.Next.{Next, seat-other, log_of-other, txn, in_txn, going, at_txn, run, run_is, run_fits, run_logs, last_is, shaped_by_row, next_seat, next_log, legal_next, serial_next, quiet_next, still_next}
+use Rattle.txn_trace.proofs.Settled.{settled, settled_out, settled_in, same_as_first, named_passes}
 
 abbrev is_active : Seat → Type 0
 is_active seat = runs seat.phase ≡ true
 
 -- Asked: an open caller asks where no other holds the stripe. The stripe is the caller's from now on.
-pub asked : (stripes : ℕ) (g : List Entry) → IsLegal stripes g → (c : ℕ) (op : Op) (seat : Seat) → seat_after (own c g) ≡ Some seat → seat.phase ≡ Opened → is_locked stripes g (Asked c op) ≡ true
-    → Next stripes g (Asked c op) (record seat { phase = Waiting op }) (log_of c g) (serial g) (now g) (λ s. cond (stripe_of stripes (key_of op) == s) (Some c) (holder_of stripes s g))
-asked stripes g legal c op seat seat_is opened locked =
+pub asked : {holder : Holder} (stripes : ℕ) (g : List Entry) → IsLegal holder stripes g → (c : ℕ) (op : Op) (seat : Seat) → seat_after (own c g) ≡ Some seat → seat.phase ≡ Opened → is_locked holder stripes g (Asked c op) ≡ true
+    → Next holder stripes g (Asked c op) (record seat { phase = Waiting op }) (log_of c g) (serial g) (now g) (λ s. cond (stripe_of stripes (key_of op) == s) (Some c) (holder_of stripes s g))
+asked {holder} stripes g legal c op seat seat_is opened locked =
     let next : Seat = record seat { phase = Waiting op } in
     let goes : row seat seat.phase (Asked c op) ≡ Some next = ap (λ q. row seat q (Asked c op)) opened in
     let active : is_active seat = ap runs opened in
     quiet_next stripes g legal (Asked c op) seat next seat_is goes refl active (λ s. cond (stripe_of stripes (key_of op) == s) (Some c) (holder_of stripes s g)) refl locked
-    (holder_of-asked stripes g c (txn stripes g legal (Asked c op) seat next seat_is goes refl active) op (callers_of g legal.shape) (shaped_by_row stripes g legal (Asked c op) seat next seat_is goes refl) locked
+    (holder_of-asked holder stripes g c (txn stripes g legal (Asked c op) seat next seat_is goes refl active) op (callers_of g legal.shape) (shaped_by_row stripes g legal (Asked c op) seat next seat_is goes refl) locked
     (at_txn stripes g legal (Asked c op) seat next seat_is goes refl active refl))
 
 -- Saved: an open caller sets a savepoint at the changes that stand.
-pub saved : (stripes : ℕ) (g : List Entry) → IsLegal stripes g → (c : ℕ) (seat : Seat) → seat_after (own c g) ≡ Some seat → seat.phase ≡ Opened
-    → Next stripes g (Saved c) (record seat { kept = seat.kept ++ seat.standing ∷ [] }) (log_of c g) (serial g) (now g) (λ s. holder_of stripes s g)
+pub saved : {holder : Holder} (stripes : ℕ) (g : List Entry) → IsLegal holder stripes g → (c : ℕ) (seat : Seat) → seat_after (own c g) ≡ Some seat → seat.phase ≡ Opened
+    → Next holder stripes g (Saved c) (record seat { kept = seat.kept ++ seat.standing ∷ [] }) (log_of c g) (serial g) (now g) (λ s. holder_of stripes s g)
 saved stripes g legal c seat seat_is opened =
     still_next stripes g legal (Saved c) seat (record seat { kept = seat.kept ++ seat.standing ∷ [] }) seat_is (ap (λ q. row seat q (Saved c)) opened) refl (ap runs opened) refl refl (λ s. refl)
 
 -- Leave to the end: an open caller aborts.
-pub left_to_end : (stripes : ℕ) (g : List Entry) → IsLegal stripes g → (c : ℕ) (seat : Seat) → seat_after (own c g) ≡ Some seat → seat.phase ≡ Opened
-    → Next stripes g (Leave c None) (record seat { phase = LeavingToEnd }) (log_of c g) (serial g) (now g) (λ s. holder_of stripes s g)
+pub left_to_end : {holder : Holder} (stripes : ℕ) (g : List Entry) → IsLegal holder stripes g → (c : ℕ) (seat : Seat) → seat_after (own c g) ≡ Some seat → seat.phase ≡ Opened
+    → Next holder stripes g (Leave c None) (record seat { phase = LeavingToEnd }) (log_of c g) (serial g) (now g) (λ s. holder_of stripes s g)
 left_to_end stripes g legal c seat seat_is opened =
     still_next stripes g legal (Leave c None) seat (record seat { phase = LeavingToEnd }) seat_is (ap (λ q. row seat q (Leave c None)) opened) refl (ap runs opened) refl refl (λ s. refl)
 
 -- The same of a caller whose operation has no reply yet: it is withdrawn.
-pub withdrawn : (stripes : ℕ) (g : List Entry) → IsLegal stripes g → (c : ℕ) (op : Op) (seat : Seat) → seat_after (own c g) ≡ Some seat → seat.phase ≡ Waiting op
-    → Next stripes g (Leave c None) (record seat { phase = LeavingToEnd }) (log_of c g) (serial g) (now g) (λ s. holder_of stripes s g)
+pub withdrawn : {holder : Holder} (stripes : ℕ) (g : List Entry) → IsLegal holder stripes g → (c : ℕ) (op : Op) (seat : Seat) → seat_after (own c g) ≡ Some seat → seat.phase ≡ Waiting op
+    → Next holder stripes g (Leave c None) (record seat { phase = LeavingToEnd }) (log_of c g) (serial g) (now g) (λ s. holder_of stripes s g)
 withdrawn stripes g legal c op seat seat_is waits =
     still_next stripes g legal (Leave c None) seat (record seat { phase = LeavingToEnd }) seat_is (ap (λ q. row seat q (Leave c None)) waits) refl (ap runs waits) refl refl (λ s. refl)
 
 -- Leave to a level: an open caller goes back to one of its levels.
-pub left_to : (stripes : ℕ) (g : List Entry) → IsLegal stripes g → (c n : ℕ) (seat : Seat) → seat_after (own c g) ≡ Some seat → seat.phase ≡ Opened → n < length seat.kept
-    → Next stripes g (Leave c (Some n)) (record seat { phase = LeavingTo n }) (log_of c g) (serial g) (now g) (λ s. holder_of stripes s g)
+pub left_to : {holder : Holder} (stripes : ℕ) (g : List Entry) → IsLegal holder stripes g → (c n : ℕ) (seat : Seat) → seat_after (own c g) ≡ Some seat → seat.phase ≡ Opened → n < length seat.kept
+    → Next holder stripes g (Leave c (Some n)) (record seat { phase = LeavingTo n }) (log_of c g) (serial g) (now g) (λ s. holder_of stripes s g)
 left_to stripes g legal c n seat seat_is opened within =
     still_next stripes g legal (Leave c (Some n)) seat (record seat { phase = LeavingTo n }) seat_is
     (ap (λ q. row seat q (Leave c (Some n))) opened ∙ ap (λ b. cond b (Some (record seat { phase = LeavingTo n })) None) (lt-ltb n (length seat.kept) within)) refl (ap runs opened) refl refl (λ s. refl)
 
 -- Returned: a caller that leaves to a level is there where just the changes of that level stand. Later savepoints are dropped.
-pub returned : (stripes : ℕ) (g : List Entry) → IsLegal stripes g → (c n : ℕ) (seat : Seat) → seat_after (own c g) ≡ Some seat → seat.phase ≡ LeavingTo n → slice_index seat.kept n ≡ seat.standing
-    → Next stripes g (Returned c n) (record seat { phase = Opened; kept = take (n + 1) seat.kept }) (log_of c g) (serial g) (now g) (λ s. holder_of stripes s g)
+pub returned : {holder : Holder} (stripes : ℕ) (g : List Entry) → IsLegal holder stripes g → (c n : ℕ) (seat : Seat) → seat_after (own c g) ≡ Some seat → seat.phase ≡ LeavingTo n → slice_index seat.kept n ≡ seat.standing
+    → Next holder stripes g (Returned c n) (record seat { phase = Opened; kept = take (n + 1) seat.kept }) (log_of c g) (serial g) (now g) (λ s. holder_of stripes s g)
 returned stripes g legal c n seat seat_is leaving reached =
     let next : Seat = record seat { phase = Opened; kept = take (n + 1) seat.kept } in
     still_next stripes g legal (Returned c n) seat next seat_is
     (ap (λ q. row seat q (Returned c n)) leaving ∙ ap (λ b. cond b (Some next) None) (and_from (n == n) _ (eq-eqb n n refl) (eq-eqb _ _ reached))) refl (ap runs leaving) refl refl (λ s. refl)
 
 -- Busy: an open caller finds the stripe in the hands of another, and aborts.
-pub busy : (stripes : ℕ) (g : List Entry) → IsLegal stripes g → (c : ℕ) (op : Op) (x : ℕ) (seat : Seat) → seat_after (own c g) ≡ Some seat → seat.phase ≡ Opened → is_locked stripes g (Busy c op x) ≡ true
-    → Next stripes g (Busy c op x) (record seat { phase = LeavingToEnd }) (log_of c g) (serial g) (now g) (λ s. holder_of stripes s g)
+pub busy : {holder : Holder} (stripes : ℕ) (g : List Entry) → IsLegal holder stripes g → (c : ℕ) (op : Op) (x : ℕ) (seat : Seat) → seat_after (own c g) ≡ Some seat → seat.phase ≡ Opened → is_locked holder stripes g (Busy c op x) ≡ true
+    → Next holder stripes g (Busy c op x) (record seat { phase = LeavingToEnd }) (log_of c g) (serial g) (now g) (λ s. holder_of stripes s g)
 busy stripes g legal c op x seat seat_is opened locked =
     still_next stripes g legal (Busy c op x) seat (record seat { phase = LeavingToEnd }) seat_is (ap (λ q. row seat q (Busy c op x)) opened) refl (ap runs opened) refl locked (λ s. refl)
 
 -- Began: a closed caller begins the next transaction.
-pub began : (stripes : ℕ) (g : List Entry) → IsLegal stripes g → (c t : ℕ) (seat : Seat) → seat_after (own c g) ≡ Some seat → seat.phase ≡ Closed → t ≡ how_many is_began g + 1
-    → Next stripes g (Began c t) (record closed_seat { phase = Opened }) [] (serial g) (now g) (λ s. holder_of stripes s g)
-began stripes g legal c t seat seat_is closed numbered =
+pub began : {holder : Holder} (stripes : ℕ) (g : List Entry) → IsLegal holder stripes g → (c t : ℕ) (seat : Seat) → seat_after (own c g) ≡ Some seat → seat.phase ≡ Closed → t ≡ how_many is_began g + 1
+    → Next holder stripes g (Began c t) (record closed_seat { phase = Opened }) [] (serial g) (now g) (λ s. holder_of stripes s g)
+began {holder} stripes g legal c t seat seat_is closed numbered =
     let e : Entry = Began c t in
     let next : Seat = record closed_seat { phase = Opened } in
     let goes : row seat seat.phase e ≡ Some next = ap (λ q. row seat q e) closed in
@@ -101,7 +103,7 @@ began stripes g legal c t seat seat_is closed numbered =
     let at : txn_at g e ≡ Some t = ap (λ b. cond b (Some t) (txn_in g c)) (eq-eqb c c refl) in
     let none : of t g ≡ [] = none_before g e callers shaped (are_seated g legal.shape) t refl at in
     let shape_after = shape_push g e legal.shape shaped in
-    let locks_after = locks_push stripes g e legal.locks refl in
+    let locks_after = locks_push holder stripes g e legal.locks refl in
     record {
       legal = legal_push stripes g e legal shaped refl
           (replies-push_other g e t legal.shape shape_after shaped refl at (legal.replies g ([], append-nil g))
@@ -112,13 +114,13 @@ began stripes g legal c t seat seat_is closed numbered =
       other_logs = λ d other. log_of-other d g e other;
       serial_is = serial_is g e t legal.shape shape_after shaped refl at;
       now_is = now-began stripes g legal c t shaped at;
-      holder_is = λ s. holder_of-other stripes g e callers shaped legal.shape legal.locks s refl refl;
+      holder_is = λ s. holder_of-other holder stripes g e callers shaped legal.shape legal.locks s refl refl;
     }
 
 -- Aborted: a caller that leaves to the end is closed where no change stands. Its stripes are given back.
-pub aborted : (stripes : ℕ) (g : List Entry) → IsLegal stripes g → (c : ℕ) (seat : Seat) → seat_after (own c g) ≡ Some seat → seat.phase ≡ LeavingToEnd → seat.standing ≡ 0
-    → Next stripes g (Aborted c) closed_seat [] (serial g) (now g) (λ s. cond (option_eq nat_eq (holder_of stripes s g) (Some c)) None (holder_of stripes s g))
-aborted stripes g legal c seat seat_is leaving none =
+pub aborted : {holder : Holder} (stripes : ℕ) (g : List Entry) → IsLegal holder stripes g → (c : ℕ) (seat : Seat) → seat_after (own c g) ≡ Some seat → seat.phase ≡ LeavingToEnd → seat.standing ≡ 0
+    → Next holder stripes g (Aborted c) closed_seat [] (serial g) (now g) (λ s. cond (option_eq nat_eq (holder_of stripes s g) (Some c)) None (holder_of stripes s g))
+aborted {holder} stripes g legal c seat seat_is leaving none =
     let e : Entry = Aborted c in
     let goes : row seat seat.phase e ≡ Some closed_seat = ap (λ q. row seat q e) leaving ∙ ap (λ b. cond b (Some closed_seat) None) (eq-eqb seat.standing 0 none) in
     let active : is_active seat = ap runs leaving in
@@ -135,7 +137,7 @@ aborted stripes g legal c seat seat_is leaving none =
       other_logs = λ d other. log_of-other d g e other;
       serial_is = serial_next stripes g legal e seat closed_seat seat_is goes refl active refl refl refl;
       now_is = now-aborted stripes g legal c _ shaped at (last_is stripes g legal e seat closed_seat seat_is goes refl active ∙ unchanged);
-      holder_is = λ s. holder_of-end stripes g e (callers_of g legal.shape) shaped legal.shape legal.locks s _ refl at;
+      holder_is = λ s. holder_of-end holder stripes g e (callers_of g legal.shape) shaped legal.shape legal.locks s _ refl at;
     }
   where
     no_elements : {A : Type 0} (xs : List A) → length xs ≡ 0 → xs ≡ []
@@ -143,10 +145,10 @@ aborted stripes g legal c seat seat_is leaving none =
     no_elements (x ∷ xs) is = absurd (omega arith)
 
 -- Did: a caller that waits gets the reply of the map now, which changes as the operation does. A change is noted in the log.
-pub did : (stripes : ℕ) (g : List Entry) → IsLegal stripes g → (c : ℕ) (op : Op) (x : Option ℕ) (seat : Seat) → seat_after (own c g) ≡ Some seat → seat.phase ≡ Waiting op → x ≡ reply_of (now g) op
-    → Next stripes g (Did c x) (record seat { phase = Opened; standing = cond (changes op x) (seat.standing + 1) seat.standing })
+pub did : {holder : Holder} (stripes : ℕ) (g : List Entry) → IsLegal holder stripes g → (c : ℕ) (op : Op) (x : Option ℕ) (seat : Seat) → seat_after (own c g) ≡ Some seat → seat.phase ≡ Waiting op → x ≡ reply_of (now g) op
+    → Next holder stripes g (Did c x) (record seat { phase = Opened; standing = cond (changes op x) (seat.standing + 1) seat.standing })
     (cond (changes op x) ((key_of op, x) ∷ log_of c g) (log_of c g)) (serial g) (after (now g) op) (λ s. holder_of stripes s g)
-did stripes g legal c op x seat seat_is waits right =
+did {holder} stripes g legal c op x seat seat_is waits right =
     let e : Entry = Did c x in
     let next : Seat = record seat { phase = Opened; standing = cond (changes op x) (seat.standing + 1) seat.standing } in
     let goes : row seat seat.phase e ≡ Some next = ap (λ q. row seat q e) waits in
@@ -164,7 +166,7 @@ did stripes g legal c op x seat seat_is waits right =
       other_logs = λ d other. log_of-other d g e other;
       serial_is = serial_next stripes g legal e seat next seat_is goes refl active refl refl refl;
       now_is = now-did stripes g legal c _ op x seat in_txn going seat_is waits right shaped;
-      holder_is = λ s. holder_of-other stripes g e (callers_of g legal.shape) shaped legal.shape legal.locks s refl refl;
+      holder_is = λ s. holder_of-other holder stripes g e (callers_of g legal.shape) shaped legal.shape legal.locks s refl refl;
     }
 
 -- A caller's log is as long as the number of its standing changes.
@@ -175,10 +177,10 @@ earlier_map : (keys : ℕ → Bool) (job : ℕ × Option ℕ) (jobs : List (ℕ 
 earlier_map keys job jobs last [] is = absurd is
 earlier_map keys job jobs last (m ∷ ms) is = (m, ms, refl)
 
-undone_by : (stripes : ℕ) (g : List Entry) (legal : IsLegal stripes g) (c : ℕ) (seat : Seat) (seat_is : seat_after (own c g) ≡ Some seat) (active : is_active seat)
+undone_by : {holder : Holder} (stripes : ℕ) (g : List Entry) (legal : IsLegal holder stripes g) (c : ℕ) (seat : Seat) (seat_is : seat_after (own c g) ≡ Some seat) (active : is_active seat)
     → row seat seat.phase (Undone c) ≡ Some (record seat { standing = seat.standing - 1 }) → (job : ℕ × Option ℕ) (jobs : List (ℕ × Option ℕ)) → log_of c g ≡ job ∷ jobs
-    → Next stripes g (Undone c) (record seat { standing = seat.standing - 1 }) jobs (serial g) (set_at (now g) job.0 job.1) (λ s. holder_of stripes s g)
-undone_by stripes g legal c seat seat_is active goes job jobs log_is =
+    → Next holder stripes g (Undone c) (record seat { standing = seat.standing - 1 }) jobs (serial g) (set_at (now g) job.0 job.1) (λ s. holder_of stripes s g)
+undone_by {holder} stripes g legal c seat seat_is active goes job jobs log_is =
     let e : Entry = Undone c in
     let next : Seat = record seat { standing = seat.standing - 1 } in
     let shaped = shaped_by_row stripes g legal e seat next seat_is goes refl in
@@ -204,21 +206,21 @@ undone_by stripes g legal c seat seat_is active goes job jobs log_is =
         | inr other ↦ get-now_undone_other stripes g legal c t the_run job jobs before.0 before.1 in_txn going run_is before.2 logged' shaped q other
             ∙ sym (get-set_at (now g) job.0 job.1 q ∙ ap (λ b. cond b job.1 (get (now g) q)) (ne_eqb q job.0 other))
       ]);
-      holder_is = λ s. holder_of-other stripes g e (callers_of g legal.shape) shaped legal.shape legal.locks s refl refl;
+      holder_is = λ s. holder_of-other holder stripes g e (callers_of g legal.shape) shaped legal.shape legal.locks s refl refl;
     }
 
 -- Undone to a level: where more changes stand than at the level, the newest is taken back. Its key has what it had before, and every other key what it has.
-pub undone_to : (stripes : ℕ) (g : List Entry) → IsLegal stripes g → (c n : ℕ) (seat : Seat) → seat_after (own c g) ≡ Some seat → seat.phase ≡ LeavingTo n → slice_index seat.kept n < seat.standing
+pub undone_to : {holder : Holder} (stripes : ℕ) (g : List Entry) → IsLegal holder stripes g → (c n : ℕ) (seat : Seat) → seat_after (own c g) ≡ Some seat → seat.phase ≡ LeavingTo n → slice_index seat.kept n < seat.standing
     → (job : ℕ × Option ℕ) (jobs : List (ℕ × Option ℕ)) → log_of c g ≡ job ∷ jobs
-    → Next stripes g (Undone c) (record seat { standing = seat.standing - 1 }) jobs (serial g) (set_at (now g) job.0 job.1) (λ s. holder_of stripes s g)
+    → Next holder stripes g (Undone c) (record seat { standing = seat.standing - 1 }) jobs (serial g) (set_at (now g) job.0 job.1) (λ s. holder_of stripes s g)
 undone_to stripes g legal c n seat seat_is leaving more job jobs log_is =
     undone_by stripes g legal c seat seat_is (ap runs leaving)
     (ap (λ q. row seat q (Undone c)) leaving ∙ ap (λ b. cond b (Some (record seat { standing = seat.standing - 1 })) None) (lt-ltb (slice_index seat.kept n) seat.standing more)) job jobs log_is
 
 -- Undone to the end: the same of a caller that takes all its changes back.
-pub undone_to_end : (stripes : ℕ) (g : List Entry) → IsLegal stripes g → (c : ℕ) (seat : Seat) → seat_after (own c g) ≡ Some seat → seat.phase ≡ LeavingToEnd → 0 < seat.standing
+pub undone_to_end : {holder : Holder} (stripes : ℕ) (g : List Entry) → IsLegal holder stripes g → (c : ℕ) (seat : Seat) → seat_after (own c g) ≡ Some seat → seat.phase ≡ LeavingToEnd → 0 < seat.standing
     → (job : ℕ × Option ℕ) (jobs : List (ℕ × Option ℕ)) → log_of c g ≡ job ∷ jobs
-    → Next stripes g (Undone c) (record seat { standing = seat.standing - 1 }) jobs (serial g) (set_at (now g) job.0 job.1) (λ s. holder_of stripes s g)
+    → Next holder stripes g (Undone c) (record seat { standing = seat.standing - 1 }) jobs (serial g) (set_at (now g) job.0 job.1) (λ s. holder_of stripes s g)
 undone_to_end stripes g legal c seat seat_is leaving some job jobs log_is =
     undone_by stripes g legal c seat seat_is (ap runs leaving)
     (ap (λ q. row seat q (Undone c)) leaving ∙ ap (λ b. cond b (Some (record seat { standing = seat.standing - 1 })) None) (lt-ltb 0 seat.standing some)) job jobs log_is
@@ -231,48 +233,11 @@ newest g c seat seat_is some = at (log_of c g) refl
     at [] is = let none : seat.standing ≡ 0 = sym (length-log_of g c seat seat_is) ∙ ap length is in absurd (omega arith)
     at (job ∷ jobs) is = (job, jobs, is)
 
--- The map with the changes of a log: each of its keys has what another map has there.
-abbrev pub settled : Map → Map → List (ℕ × Option ℕ) → Map
-settled base current jobs = fold (λ m job. set_at m job.0 (get current job.0)) base jobs
-
-settled_out : (current : Map) (k : ℕ) (jobs : List (ℕ × Option ℕ)) (base : Map) → list_any (λ job. k == job.0) jobs ≡ false → get (settled base current jobs) k ≡ get base k
-settled_out current k [] base out = refl
-settled_out current k (job ∷ jobs) base out =
-    let parts = or_parts (k == job.0) _ out in
-    settled_out current k jobs (set_at base job.0 (get current job.0)) parts.1 ∙ get-set_at base job.0 (get current job.0) k ∙ ap (λ b. cond b (get current job.0) (get base k)) parts.0
-
-settled_in : (current : Map) (k : ℕ) (jobs : List (ℕ × Option ℕ)) (base : Map) → list_any (λ job. k == job.0) jobs ≡ true → get (settled base current jobs) k ≡ get current k
-settled_in current k [] base there = absurd (false≢true there)
-settled_in current k (job ∷ jobs) base there = elim (cases_Bool (list_any (λ (j : ℕ × Option ℕ). k == j.0) jobs)) [
-  | inl later ↦ settled_in current k jobs (set_at base job.0 (get current job.0)) later
-  | inr not_later ↦
-      let here : (k == job.0) ≡ true = elim (or_cases (k == job.0) _ there) [ inl h ↦ h | inr h ↦ absurd (false≢true (sym not_later ∙ h)) ] in
-      settled_out current k jobs (set_at base job.0 (get current job.0)) not_later ∙ get-set_at base job.0 (get current job.0) k ∙ ap (λ b. cond b (get current job.0) (get base k)) here
-      ∙ ap (get current) (sym (eqb-true k job.0 here))
-]
-
--- A key that no change names is as in the first map; one that some change names passes.
-same_as_first : (keys : ℕ → Bool) (k : ℕ) (jobs : List (ℕ × Option ℕ)) (last : Map) (ms : List Map) → IsLogged keys jobs last ms → list_any (λ job. k == job.0) jobs ≡ false → get last k ≡ get (first_map last ms) k
-same_as_first keys k [] last [] is out = refl
-same_as_first keys k [] last (m ∷ ms) is out = absurd is
-same_as_first keys k (job ∷ jobs) last [] is out = absurd is
-same_as_first keys k (job ∷ jobs) last (m ∷ ms) is out =
-    let parts = or_parts (k == job.0) _ out in
-    sym (is.2 k (λ same. false≢true (sym parts.0 ∙ eq-eqb k job.0 same))) ∙ same_as_first keys k jobs m ms is.3 parts.1
-
-named_passes : (keys : ℕ → Bool) (k : ℕ) (jobs : List (ℕ × Option ℕ)) (last : Map) (ms : List Map) → IsLogged keys jobs last ms → list_any (λ job. k == job.0) jobs ≡ true → keys k ≡ true
-named_passes keys k [] last ms is there = absurd (false≢true there)
-named_passes keys k (job ∷ jobs) last [] is there = absurd is
-named_passes keys k (job ∷ jobs) last (m ∷ ms) is there = elim (or_cases (k == job.0) _ there) [
-  | inl here ↦ ap keys (eqb-true k job.0 here) ∙ is.0
-  | inr later ↦ named_passes keys k jobs m ms is.3 later
-]
-
 -- Committed: an open caller commits, at the next place. The map now stays; the committed map takes over the caller's standing
 -- changes. Its stripes are given back.
-pub committed : (stripes : ℕ) (g : List Entry) → IsLegal stripes g → (c p : ℕ) (seat : Seat) → seat_after (own c g) ≡ Some seat → seat.phase ≡ Opened → p ≡ how_many is_commit g + 1
-    → Next stripes g (Committed c p) closed_seat [] (settled (serial g) (now g) (log_of c g)) (now g) (λ s. cond (option_eq nat_eq (holder_of stripes s g) (Some c)) None (holder_of stripes s g))
-committed stripes g legal c p seat seat_is opened numbered =
+pub committed : {holder : Holder} (stripes : ℕ) (g : List Entry) → IsLegal holder stripes g → (c p : ℕ) (seat : Seat) → seat_after (own c g) ≡ Some seat → seat.phase ≡ Opened → p ≡ how_many is_commit g + 1
+    → Next holder stripes g (Committed c p) closed_seat [] (settled (serial g) (now g) (log_of c g)) (now g) (λ s. cond (option_eq nat_eq (holder_of stripes s g) (Some c)) None (holder_of stripes s g))
+committed {holder} stripes g legal c p seat seat_is opened numbered =
     let e : Entry = Committed c p in
     let goes : row seat seat.phase e ≡ Some closed_seat = ap (λ q. row seat q e) opened in
     let active : is_active seat = ap runs opened in
@@ -293,16 +258,16 @@ committed stripes g legal c p seat seat_is opened numbered =
       | inl there ↦
           let held = named_passes keys k (log_of c g) the_run.last the_run.earlier logs.standing there in
           sym (settled_in (now g) k (log_of c g) (serial g) there ∙ get-now g k
-          ∙ now_at-holder stripes g k (are_apart stripes g legal.shape legal.locks) t (running_of g c t in_t not_ended) held ∙ ap (λ m. get m k) last_so)
+          ∙ now_at-holder stripes g k (are_apart holder stripes g legal.shape legal.locks) t (running_of g c t in_t not_ended) held ∙ ap (λ m. get m k) last_so)
       | inr out ↦ same_as_first keys k (log_of c g) the_run.last the_run.earlier logs.standing out ∙ ap (λ m. get m k) first_is ∙ sym (settled_out (now g) k (log_of c g) (serial g) out)
     ] in
     record {
-      legal = legal_push stripes g e legal shaped refl (replies-push_commit stripes g e t legal.shape legal.locks shape_after shaped refl at not_ended (legal.replies g ([], append-nil g)));
+      legal = legal_push stripes g e legal shaped refl (replies-push_commit holder stripes g e t legal.shape legal.locks shape_after shaped refl at not_ended (legal.replies g ([], append-nil g)));
       seat_is = next_seat stripes g legal e seat closed_seat seat_is goes number;
       other_seats = λ d other. seat-other d g e other;
       log_is = next_log stripes g legal e seat closed_seat seat_is goes number;
       other_logs = λ d other. log_of-other d g e other;
-      serial_is = serial-commit stripes g e t legal.shape legal.locks shape_after shaped refl at not_ended ∙ last_so ∙ same_map the_run.last (settled (serial g) (now g) (log_of c g)) at_key;
-      now_is = same_map (now (g ++ e ∷ [])) (now g) (λ k. get-now (g ++ e ∷ []) k ∙ now_at-push_commit stripes g e t legal.shape legal.locks shape_after shaped refl at not_ended k ∙ sym (get-now g k));
-      holder_is = λ s. holder_of-end stripes g e (callers_of g legal.shape) shaped legal.shape legal.locks s t refl at;
+      serial_is = serial-commit holder stripes g e t legal.shape legal.locks shape_after shaped refl at not_ended ∙ last_so ∙ same_map the_run.last (settled (serial g) (now g) (log_of c g)) at_key;
+      now_is = same_map (now (g ++ e ∷ [])) (now g) (λ k. get-now (g ++ e ∷ []) k ∙ now_at-push_commit holder stripes g e t legal.shape legal.locks shape_after shaped refl at not_ended k ∙ sym (get-now g k));
+      holder_is = λ s. holder_of-end holder stripes g e (callers_of g legal.shape) shaped legal.shape legal.locks s t refl at;
     }

@@ -15,7 +15,7 @@ use Rattle.txn_trace.specs.Shape.{IsShaped}
 use Rattle.txn_trace.specs.Erase.{erase}
 use Rattle.txn_trace.proofs.Lists.{filter_within, fold_filter}
 use Rattle.txn_trace.proofs.Erasing.{kept, kept_of, kept_lines, no_txn, of-kept_in, of-kept_out, txns_of-kept, committed_not_aborted, serial-kept, now-kept}
-use Rattle.txn_trace.proofs.Callers.{callers_of, ended_whole, committed_ended, shape_front}
+use Rattle.txn_trace.proofs.Shaped.{callers_of, ended_whole, committed_ended, shape_front}
 
 -- A beginning of what is kept is what is kept of a beginning.
 kept_prefix : (keep : Option ℕ → Bool) (before : ℕ → Option ℕ) (h g' : List Entry) → IsPrefix g' (kept keep before h) → (g : List Entry) × IsPrefix g h × (kept keep before g ≡ g')

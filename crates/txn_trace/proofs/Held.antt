@@ -8,6 +8,7 @@ use Rattle.std.proofs.lemmas.List.{append-nil}
 use mathlib.Core.Logic.{inl, inr}
 use Rattle.txn_trace.specs.declared.op.Op.{Op}
 use Rattle.txn_trace.specs.declared.entry.Entry.{Entry}
+use Rattle.txn_trace.specs.declared.holder.Holder.{Holder}
 use Rattle.txn_trace.specs.Map.{Map, get, key_of}
 use Rattle.txn_trace.specs.Now.{now, now_at}
 use Rattle.txn_trace.specs.History.{is_open, is_commit, Line, caller_of, lines_of, is_of, of}
@@ -19,7 +20,8 @@ use Rattle.txn_trace.specs.Shape.{Seat, seat_after, own, IsShaped, is_shaped}
 use Rattle.txn_trace.specs.Log.{log_after, log_of}
 use Rattle.txn_trace.specs.Legal.{IsLegal, runs, is_running}
 use Rattle.txn_trace.proofs.Pushes.{txn_in, txn_at, of_is}
-use Rattle.txn_trace.proofs.Callers.{same as same_caller, not_after_end, Callers, callers_of, IsOwned, ended}
+use Rattle.txn_trace.proofs.Callers.{not_after_end, Callers, IsOwned, ended}
+use Rattle.txn_trace.proofs.Shaped.{callers_of, same as same_caller}
 use Rattle.txn_trace.proofs.Local.{WaitsFor}
 use Rattle.txn_trace.proofs.Stripes.{are_apart, untouched, holds, keys_in}
 use Rattle.txn_trace.proofs.Now.{open_going, going_open, running_of, now_at-push_commit}
@@ -61,10 +63,10 @@ module _ (stripes s : ℕ) (g : List Entry) (c t : ℕ) (callers : Callers g) (i
       ]) refl asks
 
 -- A caller holds each stripe that its open transaction has asked for.
-pub held_by : (stripes : ℕ) (g : List Entry) → IsShaped g → LocksHold stripes g → (c t s : ℕ) → txn_in g c ≡ Some t → ended t g ≡ false → holds stripes s (of t g) ≡ true → holder_of stripes s g ≡ Some c
-held_by stripes g shape locks c t s in_t going held =
+pub held_by : (holder : Holder) (stripes : ℕ) (g : List Entry) → IsShaped g → LocksHold holder stripes g → (c t s : ℕ) → txn_in g c ≡ Some t → ended t g ≡ false → holds stripes s (of t g) ≡ true → holder_of stripes s g ≡ Some c
+held_by holder stripes g shape locks c t s in_t going held =
     let callers = callers_of g shape in
-    first_of_same c (holders stripes s g) (one_holder stripes g shape locks s) (among_holders stripes s g c t callers in_t going (lines_of g) callers.owned held)
+    first_of_same c (holders stripes s g) (one_holder holder stripes g shape locks s) (among_holders stripes s g c t callers in_t going (lines_of g) callers.owned held)
 
 abbrev pub AllHeldBy : ℕ → List Entry → ℕ → List (ℕ × Option ℕ) → Type 0
 AllHeldBy stripes g c jobs = AllByRecursion (λ (job : ℕ × Option ℕ). holder_of stripes (stripe_of stripes job.0) g ≡ Some c) jobs
@@ -74,7 +76,7 @@ jobs_pass keys P to [] last ms is = tt
 jobs_pass keys P to (job ∷ jobs) last [] is = absurd is
 jobs_pass keys P to (job ∷ jobs) last (m ∷ ms) is = (to job.0 is.0, jobs_pass keys P to jobs m ms is.3)
 
-module _ (stripes : ℕ) (g : List Entry) (legal : IsLegal stripes g) (c : ℕ) (active : is_running (seat_after (own c g)) ≡ true) where
+module _ {holder : Holder} (stripes : ℕ) (g : List Entry) (legal : IsLegal holder stripes g) (c : ℕ) (active : is_running (seat_after (own c g)) ≡ true) where
   there : Running g c
   there = running_txn g legal.shape c active
 
@@ -84,7 +86,7 @@ module _ (stripes : ℕ) (g : List Entry) (legal : IsLegal stripes g) (c : ℕ) 
       (found.0, are_logged stripes g legal.shape c there.txn there.in_it there.going (serial g) found.0 found.1)
 
   key_held : (k : ℕ) → keys_in stripes (of there.txn g) k ≡ true → holder_of stripes (stripe_of stripes k) g ≡ Some c
-  key_held k = held_by stripes g legal.shape legal.locks c there.txn (stripe_of stripes k) there.in_it there.going
+  key_held k = held_by holder stripes g legal.shape legal.locks c there.txn (stripe_of stripes k) there.in_it there.going
 
   running_log_held : AllHeldBy stripes g c (log_of c g)
   running_log_held = jobs_pass (keys_in stripes (of there.txn g)) (λ k. holder_of stripes (stripe_of stripes k) g ≡ Some c) key_held (log_of c g) log_and_run.0.last log_and_run.0.earlier log_and_run.1.standing
@@ -93,12 +95,12 @@ module _ (stripes : ℕ) (g : List Entry) (legal : IsLegal stripes g) (c : ℕ) 
   running_waits_held op pending = key_held (key_of op) (subst (WaitsFor (keys_in stripes (of there.txn g))) (sym log_and_run.1.pending ∙ pending) log_and_run.1.waits)
 
 -- In a legal history a caller that waits holds the stripe of its operation.
-pub waiting_held : (stripes : ℕ) (g : List Entry) → IsLegal stripes g → (c : ℕ) (op : Op) (seat : Seat) → seat_after (own c g) ≡ Some seat → seat.phase ≡ Waiting op → holder_of stripes (stripe_of stripes (key_of op)) g ≡ Some c
+pub waiting_held : {holder : Holder} (stripes : ℕ) (g : List Entry) → IsLegal holder stripes g → (c : ℕ) (op : Op) (seat : Seat) → seat_after (own c g) ≡ Some seat → seat.phase ≡ Waiting op → holder_of stripes (stripe_of stripes (key_of op)) g ≡ Some c
 waiting_held stripes g legal c op seat seat_is waits =
     running_waits_held stripes g legal c (ap is_running seat_is ∙ ap runs waits) op (subst (λ q. PhaseLogged q (log_after (own c g))) waits (seat_logged (own c g) seat seat_is).phase)
 
 -- In a legal history a caller in a transaction holds the stripe of each of its standing changes.
-pub log_held : (stripes : ℕ) (g : List Entry) → IsLegal stripes g → (c : ℕ) → is_running (seat_after (own c g)) ≡ true → AllHeldBy stripes g c (log_of c g)
+pub log_held : {holder : Holder} (stripes : ℕ) (g : List Entry) → IsLegal holder stripes g → (c : ℕ) → is_running (seat_after (own c g)) ≡ true → AllHeldBy stripes g c (log_of c g)
 log_held stripes g legal c active = running_log_held stripes g legal c active
 
 -- Keys of stripes that two callers hold are different.
@@ -162,9 +164,9 @@ pub holder_running : (stripes : ℕ) (g : List Entry) → IsShaped g → (s c : 
 holder_running stripes g shape s c held = let there = holder_txn stripes g shape s c held in (callers_of g shape).running c there.txn there.in_it there.going
 
 -- An entry leaves the value now of each key whose stripe another caller holds.
-pub get-now_held : (stripes : ℕ) (g : List Entry) (e : Entry) → IsLegal stripes g → IsLegal stripes (g ++ e ∷ []) → (k d : ℕ) → holder_of stripes (stripe_of stripes k) g ≡ Some d → d ≢ caller_of e
+pub get-now_held : {holder : Holder} (stripes : ℕ) (g : List Entry) (e : Entry) → IsLegal holder stripes g → IsLegal holder stripes (g ++ e ∷ []) → (k d : ℕ) → holder_of stripes (stripe_of stripes k) g ≡ Some d → d ≢ caller_of e
     → get (now (g ++ e ∷ [])) k ≡ get (now g) k
-get-now_held stripes g e legal after k d held other = get-now (g ++ e ∷ []) k ∙ at_key ∙ sym (get-now g k)
+get-now_held {holder} stripes g e legal after k d held other = get-now (g ++ e ∷ []) k ∙ at_key ∙ sym (get-now g k)
   where
     shaped : is_shaped g e ≡ true
     shaped = after.shape g e ([], append-nil (g ++ e ∷ []))
@@ -186,15 +188,15 @@ get-now_held stripes g e legal after k d held other = get-now (g ++ e ∷ []) k 
 
     at_key : now_at (g ++ e ∷ []) k ≡ now_at g k
     at_key = elim (cases_Bool (is_commit e)) [
-      | inr goes ↦ now_at-push_else stripes g e mine.0 legal.shape legal.locks after.shape after.locks shaped goes mine.1 k owner.txn (running_of g d owner.txn owner.in_it owner.going) apart owner.held
-      | inl commits ↦ now_at-push_commit stripes g e mine.0 legal.shape legal.locks after.shape shaped commits mine.1 not_ended k
+      | inr goes ↦ now_at-push_else holder stripes g e mine.0 legal.shape legal.locks after.shape after.locks shaped goes mine.1 k owner.txn (running_of g d owner.txn owner.in_it owner.going) apart owner.held
+      | inl commits ↦ now_at-push_commit holder stripes g e mine.0 legal.shape legal.locks after.shape shaped commits mine.1 not_ended k
     ]
 
 -- At a key at most one open transaction's last map differs from the committed map.
-pub one_differs : (stripes : ℕ) (g : List Entry) → IsLegal stripes g → (k t u : ℕ) → is_open t g ≡ true → is_open u g ≡ true
+pub one_differs : {holder : Holder} (stripes : ℕ) (g : List Entry) → IsLegal holder stripes g → (k t u : ℕ) → is_open t g ≡ true → is_open u g ≡ true
     → get (map_after (serial g) (of t g)) k ≢ get (serial g) k → get (map_after (serial g) (of u g)) k ≢ get (serial g) k → t ≡ u
-one_differs stripes g legal k t u open_t open_u differs_t differs_u =
-    are_apart stripes g legal.shape legal.locks t u (stripe_of stripes k) (going_open t g open_t) (going_open u g open_u) (asks_if t differs_t) (asks_if u differs_u)
+one_differs {holder} stripes g legal k t u open_t open_u differs_t differs_u =
+    are_apart holder stripes g legal.shape legal.locks t u (stripe_of stripes k) (going_open t g open_t) (going_open u g open_u) (asks_if t differs_t) (asks_if u differs_u)
   where
     asks_if : (v : ℕ) → get (map_after (serial g) (of v g)) k ≢ get (serial g) k → keys_in stripes (of v g) k ≡ true
     asks_if v differs = elim (cases_Bool (keys_in stripes (of v g) k)) [

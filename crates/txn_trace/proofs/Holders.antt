@@ -9,14 +9,17 @@ use Rattle.std.proofs.lemmas.List.Elements.{filter-append}
 use mathlib.Core.Logic.{◌⊎◌, inl, inr}
 use Rattle.txn_trace.specs.declared.op.Op.{Op}
 use Rattle.txn_trace.specs.declared.entry.Entry.{Entry}
+use Rattle.txn_trace.specs.declared.holder.Holder.{Holder}
+use Rattle.txn_trace.specs.declared.holder.Holder.TheVariants.{Now, Begun}
 use Rattle.txn_trace.specs.declared.entry.Entry.TheVariants.{Asked, Busy}
 use Rattle.txn_trace.specs.Map.{key_of}
 use Rattle.txn_trace.specs.History.{Line, caller_of, is_open, lines_of}
-use Rattle.txn_trace.specs.Locks.{stripe_of, asks_in, is_in_open, holders, holder_of, is_locked, LocksHold}
+use Rattle.txn_trace.specs.Locks.{stripe_of, asks_in, is_in_open, holders, holder_of, has_begun, is_locked, LocksHold}
 use Rattle.txn_trace.specs.Shape.{is_shaped, IsShaped}
 use Rattle.txn_trace.proofs.Lists.{map_one}
 use Rattle.txn_trace.proofs.Pushes.{txn_in, txn_at, lines_of-push}
-use Rattle.txn_trace.proofs.Callers.{Callers, IsOwned, is_end, ended, is_open-ended, ended_in, ended_out, not_ended_before, in_or_out, end_not_began, at_is, not_began_is, some_same}
+use Rattle.txn_trace.proofs.Callers.{Callers, IsOwned, is_end, ended, is_open-ended, in_or_out, end_not_began, at_is, not_began_is, some_same}
+use Rattle.txn_trace.proofs.Shaped.{ended_in, ended_out, not_ended_before}
 use Rattle.txn_trace.proofs.Now.{any-filter_back, going_open}
 use Rattle.txn_trace.proofs.Inductions.{by_locked_entries}
 use Rattle.txn_trace.proofs.Running.{has_txn}
@@ -159,10 +162,10 @@ first_any [] d is = absurd (cc (is))
 first_any (x ∷ xs) d is = or_left _ _ (eq-eqb x d (some_same x d is))
 
 -- In right shape, with the rule of locks, no two callers hold a stripe.
-pub one_holder : (stripes : ℕ) (g : List Entry) → IsShaped g → LocksHold stripes g → (s : ℕ) → AreSame (holders stripes s g)
-one_holder stripes g shape locks s = by_locked_entries stripes (λ h. AreSame (holders stripes s h)) step (λ c d there also. absurd (false≢true there)) g shape locks
+pub one_holder : (holder : Holder) (stripes : ℕ) (g : List Entry) → IsShaped g → LocksHold holder stripes g → (s : ℕ) → AreSame (holders stripes s g)
+one_holder holder stripes g shape locks s = by_locked_entries holder stripes (λ h. AreSame (holders stripes s h)) step (λ c d there also. absurd (false≢true there)) g shape locks
   where
-    asked : (g : List Entry) (e : Entry) → Callers g → is_shaped g e ≡ true → is_locked stripes g e ≡ true → AreSame (holders stripes s g) → is_end e ≡ false → asks_in stripes s e ≡ true → (o : Option ℕ) → txn_at g e ≡ o → AreSame (holders stripes s (g ++ e ∷ []))
+    asked : (g : List Entry) (e : Entry) → Callers g → is_shaped g e ≡ true → is_locked holder stripes g e ≡ true → AreSame (holders stripes s g) → is_end e ≡ false → asks_in stripes s e ≡ true → (o : Option ℕ) → txn_at g e ≡ o → AreSame (holders stripes s (g ++ e ∷ []))
     asked g e callers shaped locked was goes asks None at =
         let same : holders stripes s (g ++ e ∷ []) ≡ holders stripes s g =
         holders-split stripes s g e
@@ -175,7 +178,7 @@ one_holder stripes g shape locks s = by_locked_entries stripes (λ h. AreSame (h
         all : list_all (λ x. x == caller_of e) (holders stripes s g) ≡ true
         all = from e asks locked
           where
-            from : (f : Entry) → asks_in stripes s f ≡ true → is_locked stripes g f ≡ true → list_all (λ x. x == caller_of f) (holders stripes s g) ≡ true
+            from : (f : Entry) → asks_in stripes s f ≡ true → is_locked holder stripes g f ≡ true → list_all (λ x. x == caller_of f) (holders stripes s g) ≡ true
             from (Asked c op) there alone = subst (λ r. list_all (λ x. x == c) (holders stripes r g) ≡ true) (eqb-true (stripe_of stripes (key_of op)) s there) alone
             from _ there alone = absurd (false≢true there)
 
@@ -191,7 +194,7 @@ one_holder stripes g shape locks s = by_locked_entries stripes (λ h. AreSame (h
         λ x is. (any-filter_back (λ y. not (y == caller_of e)) x (holders stripes s g) (subst (λ xs. list_any (λ y. y == x) xs ≡ true) (holders-end stripes g e callers shaped s t ends at) is)).0 in
         was c d (back c there) (back d also)
 
-    step : (g : List Entry) (e : Entry) → IsShaped g → Callers g → is_shaped g e ≡ true → is_locked stripes g e ≡ true → AreSame (holders stripes s g) → AreSame (holders stripes s (g ++ e ∷ []))
+    step : (g : List Entry) (e : Entry) → IsShaped g → Callers g → is_shaped g e ≡ true → is_locked holder stripes g e ≡ true → AreSame (holders stripes s g) → AreSame (holders stripes s (g ++ e ∷ []))
     step g e shape callers shaped locked was = elim (cases_Bool (is_end e)) as (λ b. AreSame (holders stripes s (g ++ e ∷ []))) [
       | inl ends ↦ let there = has_txn g e shape shaped in ended_one g e callers shaped was ends there.0 there.1
       | inr goes ↦ elim (cases_Bool (asks_in stripes s e)) [
@@ -206,9 +209,9 @@ all_from_same c xs same there (y ∷ ys) within =
     and_from (y == c) _ (eq-eqb y c (same y c (within y (or_left _ _ (eq-eqb y y refl))) there)) (all_from_same c xs same there ys (λ z is. within z (or_right (y == z) _ is)))
 
 -- An Asked may stand where no caller holds the stripe, or the same one.
-pub is_locked-asked : (stripes : ℕ) (g : List Entry) (c : ℕ) (op : Op) → IsShaped g → LocksHold stripes g
-    → is_locked stripes g (Asked c op) ≡ elim (holder_of stripes (stripe_of stripes (key_of op)) g) [ None ↦ true | Some d ↦ d == c ]
-is_locked-asked stripes g c op shape locks = at (holders stripes (stripe_of stripes (key_of op)) g) (one_holder stripes g shape locks (stripe_of stripes (key_of op)))
+pub is_locked-asked : (holder : Holder) (stripes : ℕ) (g : List Entry) (c : ℕ) (op : Op) → IsShaped g → LocksHold holder stripes g
+    → is_locked holder stripes g (Asked c op) ≡ elim (holder_of stripes (stripe_of stripes (key_of op)) g) [ None ↦ true | Some d ↦ d == c ]
+is_locked-asked holder stripes g c op shape locks = at (holders stripes (stripe_of stripes (key_of op)) g) (one_holder holder stripes g shape locks (stripe_of stripes (key_of op)))
   where
     at : (xs : List ℕ) → AreSame xs → list_all (λ x. x == c) xs ≡ elim (slice_get xs 0) as (λ o. Bool) [ None ↦ true | Some d ↦ d == c ]
     at [] same = refl
@@ -217,10 +220,11 @@ is_locked-asked stripes g c op shape locks = at (holders stripes (stripe_of stri
       | inr other ↦ ap (λ b. b && list_all (λ x. x == c) xs) (ne_eqb x c other) ∙ sym (ne_eqb x c other)
     ]
 
--- A Busy may stand where the caller that it names is another one and holds the stripe.
-pub is_locked-busy : (stripes : ℕ) (g : List Entry) (c : ℕ) (op : Op) (x : ℕ) → IsShaped g → LocksHold stripes g
-    → is_locked stripes g (Busy c op x) ≡ (not (x == c) && option_eq nat_eq (holder_of stripes (stripe_of stripes (key_of op)) g) (Some x))
-is_locked-busy stripes g c op x shape locks = ap (λ b. not (x == c) && b) (at (holders stripes (stripe_of stripes (key_of op)) g) (one_holder stripes g shape locks (stripe_of stripes (key_of op))))
+-- A Busy may stand where the caller that it names is another one, and holds the stripe or has begun a transaction.
+pub is_locked-busy : (holder : Holder) (stripes : ℕ) (g : List Entry) (c : ℕ) (op : Op) (x : ℕ) → IsShaped g → LocksHold holder stripes g
+    → is_locked holder stripes g (Busy c op x) ≡ (not (x == c) && elim holder [ Now ↦ option_eq nat_eq (holder_of stripes (stripe_of stripes (key_of op)) g) (Some x) | Begun ↦ has_begun x g ])
+is_locked-busy Begun stripes g c op x shape locks = refl
+is_locked-busy Now stripes g c op x shape locks = ap (λ b. not (x == c) && b) (at (holders stripes (stripe_of stripes (key_of op)) g) (one_holder Now stripes g shape locks (stripe_of stripes (key_of op))))
   where
     at : (xs : List ℕ) → AreSame xs → list_any (λ y. y == x) xs ≡ option_eq nat_eq (slice_get xs 0) (Some x)
     at [] same = refl
@@ -229,14 +233,14 @@ is_locked-busy stripes g c op x shape locks = ap (λ b. not (x == c) && b) (at (
       | inr other ↦ false_from_ne_true _ (λ there. other (same y x (or_left _ _ (eq-eqb y y refl)) there)) ∙ sym (ne_eqb y x other)
     ]
 
-module _ (stripes : ℕ) (g : List Entry) (e : Entry) (callers : Callers g) (shaped : is_shaped g e ≡ true) (shape : IsShaped g) (locks : LocksHold stripes g) where
+module _ (holder : Holder) (stripes : ℕ) (g : List Entry) (e : Entry) (callers : Callers g) (shaped : is_shaped g e ≡ true) (shape : IsShaped g) (locks : LocksHold holder stripes g) where
   -- An entry that asks for nothing and ends nothing leaves each holder.
   pub holder_of-other : (s : ℕ) → is_end e ≡ false → asks_in stripes s e ≡ false → holder_of stripes s (g ++ e ∷ []) ≡ holder_of stripes s g
   holder_of-other s goes asks = ap (λ xs. slice_get xs 0) (holders-other stripes g e callers shaped s goes asks)
 
   -- A transaction's end gives its caller's stripes back.
   pub holder_of-end : (s t : ℕ) → is_end e ≡ true → txn_at g e ≡ Some t → holder_of stripes s (g ++ e ∷ []) ≡ cond (option_eq nat_eq (holder_of stripes s g) (Some (caller_of e))) None (holder_of stripes s g)
-  holder_of-end s t ends at = ap (λ xs. slice_get xs 0) (holders-end stripes g e callers shaped s t ends at) ∙ from (holders stripes s g) (one_holder stripes g shape locks s)
+  holder_of-end s t ends at = ap (λ xs. slice_get xs 0) (holders-end stripes g e callers shaped s t ends at) ∙ from (holders stripes s g) (one_holder holder stripes g shape locks s)
     where
       c : ℕ
       c = caller_of e
@@ -259,9 +263,9 @@ module _ (stripes : ℕ) (g : List Entry) (e : Entry) (callers : Callers g) (sha
       ]
 
 -- An Asked takes its stripe, and leaves the others.
-pub holder_of-asked : (stripes : ℕ) (g : List Entry) (c t : ℕ) (op : Op) → Callers g → is_shaped g (Asked c op) ≡ true → is_locked stripes g (Asked c op) ≡ true → txn_at g (Asked c op) ≡ Some t
+pub holder_of-asked : (holder : Holder) (stripes : ℕ) (g : List Entry) (c t : ℕ) (op : Op) → Callers g → is_shaped g (Asked c op) ≡ true → is_locked holder stripes g (Asked c op) ≡ true → txn_at g (Asked c op) ≡ Some t
     → (s : ℕ) → holder_of stripes s (g ++ Asked c op ∷ []) ≡ cond (stripe_of stripes (key_of op) == s) (Some c) (holder_of stripes s g)
-holder_of-asked stripes g c t op callers shaped locked at s = elim (cases_Bool (stripe_of stripes (key_of op) == s)) [
+holder_of-asked holder stripes g c t op callers shaped locked at s = elim (cases_Bool (stripe_of stripes (key_of op) == s)) [
   | inl here ↦
       let all : list_all (λ x. x == c) (holders stripes s g) ≡ true = subst (λ r. list_all (λ x. x == c) (holders stripes r g) ≡ true) (eqb-true (stripe_of stripes (key_of op)) s here) locked in
       ap (λ xs. slice_get xs 0) (holders-asked stripes g (Asked c op) callers shaped s t refl at here) ∙ first (holders stripes s g) all ∙ sym (ap (λ b. cond b (Some c) (holder_of stripes s g)) here)

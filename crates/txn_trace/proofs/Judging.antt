@@ -7,6 +7,7 @@ use Rattle.std.proofs.lemmas.List.{append-nil}
 use mathlib.Core.Logic.{◌⊎◌, inl, inr}
 use mathlib.Core.List.{IsPrefix}
 use Rattle.txn_trace.specs.declared.entry.Entry.{Entry}
+use Rattle.txn_trace.specs.declared.holder.Holder.{Holder}
 use Rattle.txn_trace.specs.History.{Line, caller_of, lines_of, is_of, is_began, of, txns_of, is_open, open_txns}
 use Rattle.txn_trace.specs.Alone.{alone}
 use Rattle.txn_trace.specs.Serial.{serial}
@@ -15,7 +16,8 @@ use Rattle.txn_trace.specs.Locks.{LocksHold, is_locked}
 use Rattle.txn_trace.specs.Shape.{is_shaped, IsShaped}
 use Rattle.txn_trace.specs.Legal.{IsLegal, replies_hold, broken, first_bad}
 use Rattle.txn_trace.proofs.Pushes.{txn_in, of_is}
-use Rattle.txn_trace.proofs.Callers.{callers_of, IsOwned, ended}
+use Rattle.txn_trace.proofs.Callers.{IsOwned, ended}
+use Rattle.txn_trace.proofs.Shaped.{callers_of}
 use Rattle.txn_trace.proofs.Steps.{are_listed}
 use Rattle.txn_trace.proofs.Now.{any-filter, going_open}
 
@@ -43,14 +45,14 @@ last_same (z ∷ g) (w ∷ h) x y is =
     (cc (heads, rest.0), rest.1)
 
 -- One entry more is legal where it breaks no rule.
-pub legal_push : (stripes : ℕ) (h : List Entry) (e : Entry) → IsLegal stripes h → is_shaped h e ≡ true → is_locked stripes h e ≡ true → RepliesHoldAt (h ++ e ∷ []) → IsLegal stripes (h ++ e ∷ [])
-legal_push stripes h e legal shaped locked hold = record {
+pub legal_push : {holder : Holder} (stripes : ℕ) (h : List Entry) (e : Entry) → IsLegal holder stripes h → is_shaped h e ≡ true → is_locked holder stripes h e ≡ true → RepliesHoldAt (h ++ e ∷ []) → IsLegal holder stripes (h ++ e ∷ [])
+legal_push {holder} stripes h e legal shaped locked hold = record {
   replies = λ g p. elim (prefix_push g h e p) [ inl q ↦ legal.replies g q | inr q ↦ subst RepliesHoldAt (sym q) hold ];
   locks = λ g f p. elim (prefix_push (g ++ f ∷ []) h e p) [
     | inl q ↦ legal.locks g f q
     | inr q ↦
         let same = last_same g h f e q in
-        subst (λ k. is_locked stripes k f ≡ true) (sym same.0) (subst (λ x. is_locked stripes h x ≡ true) (sym same.1) locked)
+        subst (λ k. is_locked holder stripes k f ≡ true) (sym same.0) (subst (λ x. is_locked holder stripes h x ≡ true) (sym same.1) locked)
   ];
   shape = λ g f p. elim (prefix_push (g ++ f ∷ []) h e p) [
     | inl q ↦ legal.shape g f q
@@ -98,8 +100,8 @@ RepliesHoldAt-from g shape holds t is_open_there =
     ]
 
 -- An entry that breaks no rule.
-not_broken : (stripes : ℕ) (g : List Entry) (e : Entry) → broken stripes g e ≡ None → (is_shaped g e ≡ true) × (replies_hold (g ++ e ∷ []) ≡ true) × (is_locked stripes g e ≡ true)
-not_broken stripes g e is = at (is_shaped g e) (replies_hold (g ++ e ∷ [])) (is_locked stripes g e) is
+not_broken : (holder : Holder) (stripes : ℕ) (g : List Entry) (e : Entry) → broken holder stripes g e ≡ None → (is_shaped g e ≡ true) × (replies_hold (g ++ e ∷ []) ≡ true) × (is_locked holder stripes g e ≡ true)
+not_broken holder stripes g e is = at (is_shaped g e) (replies_hold (g ++ e ∷ [])) (is_locked holder stripes g e) is
   where
     at : (a b c : Bool) → cond {A = Option ℕ} (not a) (Some 3) (cond (not b) (Some 1) (cond (not c) (Some 2) None)) ≡ None → (a ≡ true) × (b ≡ true) × (c ≡ true)
     at false b c h = absurd (cc (h))
@@ -107,8 +109,8 @@ not_broken stripes g e is = at (is_shaped g e) (replies_hold (g ++ e ∷ [])) (i
     at true true false h = absurd (cc (h))
     at true true true h = (refl, refl, refl)
 
-breaks_none : (stripes : ℕ) (g : List Entry) (e : Entry) → is_shaped g e ≡ true → replies_hold (g ++ e ∷ []) ≡ true → is_locked stripes g e ≡ true → broken stripes g e ≡ None
-breaks_none stripes g e a b c = rw (a, b, c) refl
+breaks_none : (holder : Holder) (stripes : ℕ) (g : List Entry) (e : Entry) → is_shaped g e ≡ true → replies_hold (g ++ e ∷ []) ≡ true → is_locked holder stripes g e ≡ true → broken holder stripes g e ≡ None
+breaks_none holder stripes g e a b c = rw (a, b, c) refl
 
 pub shape_push : (g : List Entry) (e : Entry) → IsShaped g → is_shaped g e ≡ true → IsShaped (g ++ e ∷ [])
 shape_push h e shape shaped g f p = elim (prefix_push (g ++ f ∷ []) h e p) [
@@ -118,33 +120,33 @@ shape_push h e shape shaped g f p = elim (prefix_push (g ++ f ∷ []) h e p) [
       subst (λ k. is_shaped k f ≡ true) (sym same.0) (subst (λ x. is_shaped h x ≡ true) (sym same.1) shaped)
 ]
 
-pub locks_push : (stripes : ℕ) (g : List Entry) (e : Entry) → LocksHold stripes g → is_locked stripes g e ≡ true → LocksHold stripes (g ++ e ∷ [])
-locks_push stripes h e locks locked g f p = elim (prefix_push (g ++ f ∷ []) h e p) [
+pub locks_push : (holder : Holder) (stripes : ℕ) (g : List Entry) (e : Entry) → LocksHold holder stripes g → is_locked holder stripes g e ≡ true → LocksHold holder stripes (g ++ e ∷ [])
+locks_push holder stripes h e locks locked g f p = elim (prefix_push (g ++ f ∷ []) h e p) [
   | inl q ↦ locks g f q
   | inr q ↦
       let same = last_same g h f e q in
-      subst (λ k. is_locked stripes k f ≡ true) (sym same.0) (subst (λ x. is_locked stripes h x ≡ true) (sym same.1) locked)
+      subst (λ k. is_locked holder stripes k f ≡ true) (sym same.0) (subst (λ x. is_locked holder stripes h x ≡ true) (sym same.1) locked)
 ]
 
-pub legal_from : (stripes : ℕ) (g h : List Entry) (i : ℕ) → IsLegal stripes g → first_bad stripes g h i ≡ None → IsLegal stripes (g ++ h)
-legal_from stripes g [] i legal none = subst (IsLegal stripes) (sym (append-nil g)) legal
-legal_from stripes g (e ∷ h) i legal none =
-    (elim (broken stripes g e) as (λ o. broken stripes g e ≡ o → (elim o as (λ o. Option (ℕ × ℕ)) [ Some rule ↦ Some (i, rule) | None ↦ first_bad stripes (g ++ e ∷ []) h (i + 1) ]) ≡ None → IsLegal stripes (g ++ e ∷ h)) [
+pub legal_from : {holder : Holder} (stripes : ℕ) (g h : List Entry) (i : ℕ) → IsLegal holder stripes g → first_bad holder stripes g h i ≡ None → IsLegal holder stripes (g ++ h)
+legal_from {holder} stripes g [] i legal none = subst (IsLegal holder stripes) (sym (append-nil g)) legal
+legal_from {holder} stripes g (e ∷ h) i legal none =
+    (elim (broken holder stripes g e) as (λ o. broken holder stripes g e ≡ o → (elim o as (λ o. Option (ℕ × ℕ)) [ Some rule ↦ Some (i, rule) | None ↦ first_bad holder stripes (g ++ e ∷ []) h (i + 1) ]) ≡ None → IsLegal holder stripes (g ++ e ∷ h)) [
       | Some rule ↦ λ is bad. absurd (cc (bad))
       | None ↦ λ is rest.
-          let good = not_broken stripes g e is in
+          let good = not_broken holder stripes g e is in
           let hold = RepliesHoldAt-from (g ++ e ∷ []) (shape_push g e legal.shape good.0) good.1 in
-          subst (IsLegal stripes) (append_assoc g (e ∷ []) h) (legal_from stripes (g ++ e ∷ []) h (i + 1) (legal_push stripes g e legal good.0 good.2 hold) rest)
+          subst (IsLegal holder stripes) (append_assoc g (e ∷ []) h) (legal_from stripes (g ++ e ∷ []) h (i + 1) (legal_push stripes g e legal good.0 good.2 hold) rest)
     ]) refl none
 
-pub none_bad : (stripes : ℕ) (g h : List Entry) (i : ℕ) → IsLegal stripes (g ++ h) → first_bad stripes g h i ≡ None
+pub none_bad : {holder : Holder} (stripes : ℕ) (g h : List Entry) (i : ℕ) → IsLegal holder stripes (g ++ h) → first_bad holder stripes g h i ≡ None
 none_bad stripes g [] i legal = refl
-none_bad stripes g (e ∷ h) i legal =
+none_bad {holder} stripes g (e ∷ h) i legal =
     let p : IsPrefix (g ++ e ∷ []) (g ++ e ∷ h) = (h, append_assoc g (e ∷ []) h) in
-    let good = breaks_none stripes g e (legal.shape g e p) (replies_hold_from (g ++ e ∷ []) (legal.replies (g ++ e ∷ []) p)) (legal.locks g e p) in
-    rw (good, first_bad) (none_bad stripes (g ++ e ∷ []) h (i + 1) (subst (IsLegal stripes) (sym (append_assoc g (e ∷ []) h)) legal))
+    let good = breaks_none holder stripes g e (legal.shape g e p) (replies_hold_from (g ++ e ∷ []) (legal.replies (g ++ e ∷ []) p)) (legal.locks g e p) in
+    rw (good, first_bad) (none_bad stripes (g ++ e ∷ []) h (i + 1) (subst (IsLegal holder stripes) (sym (append_assoc g (e ∷ []) h)) legal))
 
-pub legal_none : (stripes : ℕ) → IsLegal stripes []
+pub legal_none : {holder : Holder} (stripes : ℕ) → IsLegal holder stripes []
 legal_none stripes = record {
   replies = λ g p t o. nothing g p t;
   locks = λ g e p. absurd (not_empty g e p);
@@ -160,5 +162,5 @@ legal_none stripes = record {
     nothing (x ∷ g) p t = absurd (cc (p.1))
 
 -- A history is legal exactly where the search finds no bad entry.
-pub legal_iff : (stripes : ℕ) (h : List Entry) → IsLegal stripes h ↔ (first_bad stripes [] h 0 ≡ None)
+pub legal_iff : {holder : Holder} (stripes : ℕ) (h : List Entry) → IsLegal holder stripes h ↔ (first_bad holder stripes [] h 0 ≡ None)
 legal_iff stripes h = (λ legal. none_bad stripes [] h 0 legal, λ none. legal_from stripes [] h 0 (legal_none stripes) none)

@@ -18,7 +18,8 @@ use Rattle.txn_trace.specs.declared.seat.Phase.TheVariants.{Closed, Opened, Wait
 use Rattle.txn_trace.specs.Shape.{Seat, row, seat_after, closed_seat, changes, own, is_shaped, IsShaped}
 use Rattle.txn_trace.specs.Log.{Log, no_log, log_did, log_step, log_after}
 use Rattle.txn_trace.proofs.Pushes.{txn_in, txn_at, of-push_in, of-push_out, own-push_in, own-push_out, alone-push}
-use Rattle.txn_trace.proofs.Callers.{Callers, is_end, ended, ended_in, not_ended_before, in_or_out, step, same, began_or_not, at_is, not_began_is, not_equal}
+use Rattle.txn_trace.proofs.Callers.{Callers, is_end, ended, in_or_out, began_or_not, at_is, not_began_is, not_equal}
+use Rattle.txn_trace.proofs.Shaped.{ended_in, not_ended_before, step, same}
 use Rattle.txn_trace.proofs.Local.{WaitsFor, AsksFor}
 use Rattle.txn_trace.proofs.Stripes.{keys_in}
 use Rattle.txn_trace.proofs.Now.{same_option}

@@ -5,6 +5,7 @@ use Rattle.std.specs.Prelude.{nat_eq}
 use Rattle.std.proofs.lemmas.Bool.{false≢true, and_from}
 use Rattle.std.proofs.lemmas.List.{append-nil}
 use Rattle.txn_trace.specs.declared.entry.Entry.{Entry}
+use Rattle.txn_trace.specs.declared.holder.Holder.{Holder}
 use Rattle.txn_trace.specs.declared.entry.Entry.TheVariants.{Began, Asked, Did, Saved, Leave, Returned, Busy}
 use Rattle.txn_trace.specs.Map.{Map}
 use Rattle.txn_trace.specs.History.{caller_of, is_began, is_commit, of}
@@ -16,7 +17,8 @@ use Rattle.txn_trace.specs.Shape.{Seat, row, seat_after, own, is_numbered, is_sh
 use Rattle.txn_trace.specs.Log.{Log, log_after, log_of, log_step}
 use Rattle.txn_trace.specs.Legal.{IsLegal, runs, is_running}
 use Rattle.txn_trace.proofs.Pushes.{of-push_in, of-push_out, txn_in, txn_at, alone-push, own-push_in, own-push_out, seat_after-push}
-use Rattle.txn_trace.proofs.Callers.{Callers, callers_of, is_end, ended, not_equal}
+use Rattle.txn_trace.proofs.Callers.{Callers, is_end, ended, not_equal}
+use Rattle.txn_trace.proofs.Shaped.{callers_of}
 use Rattle.txn_trace.proofs.Running.{Running, running_txn}
 use Rattle.txn_trace.proofs.Stripes.{keys_in}
 use Rattle.txn_trace.proofs.Now.{IsRunning, running_of, open_going}
@@ -29,15 +31,15 @@ use Rattle.txn_trace.proofs.Holders.{holder_of-other}
 
 -- What a history with one more entry says: it is legal; the caller of the entry has this seat and this log, and each
 -- other caller what it had; the committed map and the map now are these, and this is who holds each stripe.
-pub record Next (stripes : ℕ) (g : List Entry) (e : Entry) (seat : Seat) (log : List (ℕ × Option ℕ)) (committed current : Map) (holder : ℕ → Option ℕ) : Type 0 where
-  pub legal : IsLegal stripes (g ++ e ∷ [])
+pub record Next (holder : Holder) (stripes : ℕ) (g : List Entry) (e : Entry) (seat : Seat) (log : List (ℕ × Option ℕ)) (committed current : Map) (held : ℕ → Option ℕ) : Type 0 where
+  pub legal : IsLegal holder stripes (g ++ e ∷ [])
   pub seat_is : seat_after (own (caller_of e) (g ++ e ∷ [])) ≡ Some seat
   pub other_seats : (d : ℕ) → d ≢ caller_of e → seat_after (own d (g ++ e ∷ [])) ≡ seat_after (own d g)
   pub log_is : log_of (caller_of e) (g ++ e ∷ []) ≡ log
   pub other_logs : (d : ℕ) → d ≢ caller_of e → log_of d (g ++ e ∷ []) ≡ log_of d g
   pub serial_is : serial (g ++ e ∷ []) ≡ committed
   pub now_is : now (g ++ e ∷ []) ≡ current
-  pub holder_is : (s : ℕ) → holder_of stripes s (g ++ e ∷ []) ≡ holder s
+  pub holder_is : (s : ℕ) → holder_of stripes s (g ++ e ∷ []) ≡ held s
 
 -- An entry of another caller changes no entries of one's own, nor one's seat, nor one's log.
 pub own-other : (d : ℕ) (g : List Entry) (e : Entry) → d ≢ caller_of e → own d (g ++ e ∷ []) ≡ own d g
@@ -105,7 +107,7 @@ some_fits : (s : Seat) (o : Option Run) → FitsAfter (Some s) o → is_some o �
 some_fits s None fits = absurd fits
 some_fits s (Some r) fits = refl
 
-module _ (stripes : ℕ) (g : List Entry) (legal : IsLegal stripes g) (e : Entry) (seat next : Seat) (seat_is : seat_after (own (caller_of e) g) ≡ Some seat) (goes : row seat seat.phase e ≡ Some next) (numbered : is_numbered g e ≡ true) where
+module _ {holder : Holder} (stripes : ℕ) (g : List Entry) (legal : IsLegal holder stripes g) (e : Entry) (seat next : Seat) (seat_is : seat_after (own (caller_of e) g) ≡ Some seat) (goes : row seat seat.phase e ≡ Some next) (numbered : is_numbered g e ≡ true) where
   pub callers : Callers g
   callers = callers_of g legal.shape
 
@@ -170,19 +172,19 @@ module _ (stripes : ℕ) (g : List Entry) (legal : IsLegal stripes g) (e : Entry
     last_is = ap (last_map (serial g)) run_is
 
     -- An entry that commits nothing is legal where the run goes on.
-    pub legal_next : (r : Run) → act run e ≡ Some r → is_began e ≡ false → is_commit e ≡ false → is_locked stripes g e ≡ true → IsLegal stripes (g ++ e ∷ [])
+    pub legal_next : (r : Run) → act run e ≡ Some r → is_began e ≡ false → is_commit e ≡ false → is_locked holder stripes g e ≡ true → IsLegal holder stripes (g ++ e ∷ [])
     legal_next r acts began commit locked = legal_push stripes g e legal shaped_by_row locked
         (replies-push_other g e txn legal.shape shape_next shaped_by_row commit (at_txn began)
         (legal.replies g ([], append-nil g)) (ap is_some (run_next r acts)))
 
     -- It leaves the committed map.
-    pub serial_next : is_began e ≡ false → is_commit e ≡ false → is_locked stripes g e ≡ true → serial (g ++ e ∷ []) ≡ serial g
+    pub serial_next : is_began e ≡ false → is_commit e ≡ false → is_locked holder stripes g e ≡ true → serial (g ++ e ∷ []) ≡ serial g
     serial_next began commit locked = serial_is g e txn legal.shape shape_next shaped_by_row commit (at_txn began)
 
     -- A quiet entry leaves both maps and the log.
-    pub quiet_next : (holder : ℕ → Option ℕ) → is_quiet e ≡ true → is_locked stripes g e ≡ true → ((s : ℕ) → holder_of stripes s (g ++ e ∷ []) ≡ holder s)
-        → Next stripes g e next (log_of (caller_of e) g) (serial g) (now g) holder
-    quiet_next holder quiet locked holds =
+    pub quiet_next : (held : ℕ → Option ℕ) → is_quiet e ≡ true → is_locked holder stripes g e ≡ true → ((s : ℕ) → holder_of stripes s (g ++ e ∷ []) ≡ held s)
+        → Next holder stripes g e next (log_of (caller_of e) g) (serial g) (now g) held
+    quiet_next held quiet locked holds =
         let kind = quiet_goes e quiet in
         let fits : FitsAfter (Some next) (act run e) = subst (λ o. FitsAfter o (act run e)) goes (fits_act seat run e seat.phase refl kind.0 kind.1 run_fits (quiet_reply run e quiet) (ap is_some goes)) in
         let after = the_some (act run e) (some_fits next (act run e) fits) in
@@ -195,16 +197,16 @@ module _ (stripes : ℕ) (g : List Entry) (legal : IsLegal stripes g) (e : Entry
           log_is = next_log ∙ quiet_log (log_after (own (caller_of e) g)) e quiet;
           other_logs = λ d other. log_of-other d g e other;
           serial_is = serial_next kind.0 kind.2 locked;
-          now_is = now-push_same stripes g e txn legal.shape legal.locks shape_next (locks_push stripes g e legal.locks locked) shaped_by_row kind.2 (at_txn kind.0) kind.1 is_running_txn same_last;
+          now_is = now-push_same holder stripes g e txn legal.shape legal.locks shape_next (locks_push holder stripes g e legal.locks locked) shaped_by_row kind.2 (at_txn kind.0) kind.1 is_running_txn same_last;
           holder_is = holds;
         }
 
     -- One that asks for nothing leaves each holder too.
-    pub still_next : is_quiet e ≡ true → is_locked stripes g e ≡ true → ((s : ℕ) → asks_in stripes s e ≡ false) → Next stripes g e next (log_of (caller_of e) g) (serial g) (now g) (λ s. holder_of stripes s g)
-    still_next quiet locked asks = quiet_next (λ s. holder_of stripes s g) quiet locked (λ s. holder_of-other stripes g e callers shaped_by_row legal.shape legal.locks s (quiet_goes e quiet).1 (asks s))
+    pub still_next : is_quiet e ≡ true → is_locked holder stripes g e ≡ true → ((s : ℕ) → asks_in stripes s e ≡ false) → Next holder stripes g e next (log_of (caller_of e) g) (serial g) (now g) (λ s. holder_of stripes s g)
+    still_next quiet locked asks = quiet_next (λ s. holder_of stripes s g) quiet locked (λ s. holder_of-other holder stripes g e callers shaped_by_row legal.shape legal.locks s (quiet_goes e quiet).1 (asks s))
 
 -- Under an entry that commits nothing the run of another transaction stays, and that of the entry's transaction acts on it.
-pub run-other : (stripes : ℕ) (g : List Entry) → IsLegal stripes g → (e : Entry) (t u : ℕ) → is_shaped g e ≡ true → is_commit e ≡ false → txn_at g e ≡ Some t → u ≢ t
+pub run-other : {holder : Holder} (stripes : ℕ) (g : List Entry) → IsLegal holder stripes g → (e : Entry) (t u : ℕ) → is_shaped g e ≡ true → is_commit e ≡ false → txn_at g e ≡ Some t → u ≢ t
     → alone (serial (g ++ e ∷ [])) (of u (g ++ e ∷ [])) ≡ alone (serial g) (of u g)
 run-other stripes g legal e t u shaped commit at away =
     ap (λ m. alone m (of u (g ++ e ∷ []))) (serial_is g e t legal.shape (shape_push g e legal.shape shaped) shaped commit at)
@@ -213,7 +215,7 @@ run-other stripes g legal e t u shaped commit at away =
     same : Some u ≡ Some t → u ≡ t
     same is = cc (is)
 
-pub run-own : (stripes : ℕ) (g : List Entry) → IsLegal stripes g → (e : Entry) (t : ℕ) → is_shaped g e ≡ true → is_commit e ≡ false → txn_at g e ≡ Some t
+pub run-own : {holder : Holder} (stripes : ℕ) (g : List Entry) → IsLegal holder stripes g → (e : Entry) (t : ℕ) → is_shaped g e ≡ true → is_commit e ≡ false → txn_at g e ≡ Some t
     → alone (serial (g ++ e ∷ [])) (of t (g ++ e ∷ [])) ≡ option_and_then (λ r. act r e) (alone (serial g) (of t g))
 run-own stripes g legal e t shaped commit at =
     ap (λ m. alone m (of t (g ++ e ∷ []))) (serial_is g e t legal.shape (shape_push g e legal.shape shaped) shaped commit at)

@@ -6,6 +6,7 @@ use Rattle.std.specs.List.{filter, list_any, AllByRecursion}
 use Rattle.std.proofs.lemmas.Bool.{false≢true, eq-eqb, eqb-true, cases_Bool, cases_eq, or_left, or_right, or_cases, false_from_ne_true}
 use mathlib.Core.Logic.{◌⊎◌, inl, inr}
 use Rattle.txn_trace.specs.declared.entry.Entry.{Entry}
+use Rattle.txn_trace.specs.declared.holder.Holder.{Holder}
 use Rattle.txn_trace.specs.Map.{Map, get}
 use Rattle.txn_trace.specs.History.{Line, caller_of, is_began, is_commit, is_abort, lines_of, is_of, of, txns_of, ends_in, is_open, open_txns}
 use Rattle.txn_trace.specs.Alone.{alone, map_after}
@@ -16,7 +17,8 @@ use Rattle.txn_trace.specs.Locks.{stripe_of, asks_in, LocksHold}
 use Rattle.txn_trace.specs.Shape.{is_shaped, IsShaped}
 use Rattle.txn_trace.specs.Legal.{running}
 use Rattle.txn_trace.proofs.Pushes.{txn_in, txn_at, of_is, of-push_in, of-push_out}
-use Rattle.txn_trace.proofs.Callers.{Callers, callers_of, IsOwned, is_end, ended, is_open-ended, ended_in, not_ended_before}
+use Rattle.txn_trace.proofs.Callers.{Callers, IsOwned, is_end, ended, is_open-ended}
+use Rattle.txn_trace.proofs.Shaped.{callers_of, ended_in, not_ended_before}
 use Rattle.txn_trace.proofs.Steps.{are_listed, txns_of-push, any-append_left, serial-push_commit, map_after-commit}
 use Rattle.txn_trace.proofs.Stripes.{keys_in, Apart, are_apart, untouched, touched, runs_there}
 
@@ -117,7 +119,7 @@ owner_in stripes s u g going (l ∷ ls) owned asks =
     ]) refl asks
 
 -- A running transaction that holds the stripe of a key, or none does.
-pub record Holder (stripes : ℕ) (g : List Entry) (k : ℕ) : Type 0 where
+pub record KeyHolder (stripes : ℕ) (g : List Entry) (k : ℕ) : Type 0 where
   pub txn : ℕ
   pub running : IsRunning g txn
   pub held : keys_in stripes (of txn g) k ≡ true
@@ -143,7 +145,7 @@ any-filter_back p t (x ∷ xs) there =
       | false ↦ λ is h. (or_right (x == t) _ (any-filter_back p t xs h).0, (any-filter_back p t xs h).1)
     ]) refl there
 
-pub holder_or_none : (stripes : ℕ) (g : List Entry) (k : ℕ) → Callers g → Holder stripes g k ⊎ ((u : ℕ) → ended u g ≡ false → keys_in stripes (of u g) k ≡ false)
+pub holder_or_none : (stripes : ℕ) (g : List Entry) (k : ℕ) → Callers g → KeyHolder stripes g k ⊎ ((u : ℕ) → ended u g ≡ false → keys_in stripes (of u g) k ≡ false)
 holder_or_none stripes g k callers = elim (found_in stripes g k (open_txns g)) [
   | inr w ↦
       let there = any-filter_back (λ u. is_open u g) w.0 (txns_of is_began g) w.2 in
@@ -155,12 +157,12 @@ holder_or_none stripes g k callers = elim (found_in stripes g k (open_txns g)) [
 ]
 
 -- One entry more, which commits t.
-module _ (stripes : ℕ) (g : List Entry) (e : Entry) (t : ℕ) (shape : IsShaped g) (locks : LocksHold stripes g) (shape_after : IsShaped (g ++ e ∷ [])) (shaped : is_shaped g e ≡ true) (commit : is_commit e ≡ true) (at : txn_at g e ≡ Some t) (going : ended t g ≡ false) where
+module _ (holder : Holder) (stripes : ℕ) (g : List Entry) (e : Entry) (t : ℕ) (shape : IsShaped g) (locks : LocksHold holder stripes g) (shape_after : IsShaped (g ++ e ∷ [])) (shaped : is_shaped g e ≡ true) (commit : is_commit e ≡ true) (at : txn_at g e ≡ Some t) (going : ended t g ≡ false) where
   callers : Callers g
   callers = callers_of g shape
 
   apart : Apart stripes g
-  apart = are_apart stripes g shape locks
+  apart = are_apart holder stripes g shape locks
 
   pub serial-commit : serial (g ++ e ∷ []) ≡ map_after (serial g) (of t g)
   serial-commit = serial-push_commit g e callers shape shaped shape_after t commit at ∙ ap (map_after (serial g)) (of-push_in t g e at) ∙ map_after-commit (serial g) (of t g) e commit

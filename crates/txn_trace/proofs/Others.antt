@@ -4,6 +4,7 @@ use Rattle.std.specs.List.{list_any}
 use Rattle.std.proofs.lemmas.Bool.{false_from_ne_true, cases_eq}
 use mathlib.Core.Logic.{◌⊎◌, inl, inr}
 use Rattle.txn_trace.specs.declared.entry.Entry.{Entry}
+use Rattle.txn_trace.specs.declared.holder.Holder.{Holder}
 use Rattle.txn_trace.specs.Map.{get}
 use Rattle.txn_trace.specs.History.{caller_of, is_began, is_commit, of, txns_of, ends_in}
 use Rattle.txn_trace.specs.Alone.{alone, map_after}
@@ -15,7 +16,8 @@ use Rattle.txn_trace.specs.Shape.{is_shaped, IsShaped}
 use Rattle.txn_trace.specs.Legal.{running}
 use Rattle.txn_trace.proofs.Maps.{same_map}
 use Rattle.txn_trace.proofs.Pushes.{txn_at, txn_in-push, of-push_in, of-push_out}
-use Rattle.txn_trace.proofs.Callers.{Callers, callers_of, is_end, ended, ended_in, not_ended_before}
+use Rattle.txn_trace.proofs.Callers.{Callers, is_end, ended}
+use Rattle.txn_trace.proofs.Shaped.{callers_of, ended_in, not_ended_before}
 use Rattle.txn_trace.proofs.Steps.{txns_of-push, any-append_left, serial-push_other}
 use Rattle.txn_trace.proofs.Stripes.{keys_in, are_apart}
 use Rattle.txn_trace.proofs.Now.{IsRunning, running_of, now_at-mine, now_at-holder, holder_or_none, open_going, going_open}
@@ -45,7 +47,7 @@ module _ (g : List Entry) (e : Entry) (t : ℕ) (shape : IsShaped g) (shape_afte
         (hold u (open_going u g (not_ended_before g e callers shaped u (going_open u (g ++ e ∷ []) is_open_after))))
   ])
 
-module _ (stripes : ℕ) (g : List Entry) (e : Entry) (t : ℕ) (shape : IsShaped g) (locks : LocksHold stripes g) (shape_after : IsShaped (g ++ e ∷ [])) (locks_after : LocksHold stripes (g ++ e ∷ [])) (shaped : is_shaped g e ≡ true) (other : is_commit e ≡ false) (at : txn_at g e ≡ Some t) where
+module _ (holder : Holder) (stripes : ℕ) (g : List Entry) (e : Entry) (t : ℕ) (shape : IsShaped g) (locks : LocksHold holder stripes g) (shape_after : IsShaped (g ++ e ∷ [])) (locks_after : LocksHold holder stripes (g ++ e ∷ [])) (shaped : is_shaped g e ≡ true) (other : is_commit e ≡ false) (at : txn_at g e ≡ Some t) where
   same_committed : serial (g ++ e ∷ []) ≡ serial g
   same_committed = serial_is g e t shape shape_after shaped other at
 
@@ -58,12 +60,12 @@ module _ (stripes : ℕ) (g : List Entry) (e : Entry) (t : ℕ) (shape : IsShape
   -- A key of another's stripe stays.
   pub now_at-push_else : (k w : ℕ) → IsRunning g w → w ≢ t → keys_in stripes (of w g) k ≡ true → now_at (g ++ e ∷ []) k ≡ now_at g k
   now_at-push_else k w running away held =
-      now_at-holder stripes (g ++ e ∷ []) k (are_apart stripes (g ++ e ∷ []) shape_after locks_after) w
+      now_at-holder stripes (g ++ e ∷ []) k (are_apart holder stripes (g ++ e ∷ []) shape_after locks_after) w
       (record { began = subst (λ ts. list_any (λ x. x == w) ts ≡ true) (sym (txns_of-push is_began g e)) (any-append_left (λ x. x == w) (txns_of is_began g) _ running.began); going = ap (ends_in is_end) (stay w away) ∙ running.going })
       (ap (λ es. keys_in stripes es k) (stay w away) ∙ held)
       ∙ ap (λ m. get (map_after m (of w (g ++ e ∷ []))) k) same_committed
       ∙ ap (λ es. get (map_after (serial g) es) k) (stay w away)
-      ∙ sym (now_at-holder stripes g k (are_apart stripes g shape locks) w running held)
+      ∙ sym (now_at-holder stripes g k (are_apart holder stripes g shape locks) w running held)
 
   -- Any other key is as in the transaction's last map.
   pub now_at-push_mine : (k : ℕ) → is_end e ≡ false → ((u : ℕ) → ended u g ≡ false → u ≢ t → keys_in stripes (of u g) k ≡ false) → now_at (g ++ e ∷ []) k ≡ get (map_after (serial g) (of t g ++ e ∷ [])) k
@@ -82,11 +84,11 @@ module _ (stripes : ℕ) (g : List Entry) (e : Entry) (t : ℕ) (shape : IsShape
     | inl w ↦ elim (cases_eq w.txn t) [
       | inl same ↦
           let none : (u : ℕ) → ended u g ≡ false → u ≢ t → keys_in stripes (of u g) k ≡ false =
-          λ u going away. false_from_ne_true _ (λ is. away (are_apart stripes g shape locks u w.txn (stripe_of stripes k) going w.running.going is w.held ∙ same)) in
+          λ u going away. false_from_ne_true _ (λ is. away (are_apart holder stripes g shape locks u w.txn (stripe_of stripes k) going w.running.going is w.held ∙ same)) in
           inr (now_at-push_mine k goes none, now_at-mine stripes g k t running none)
       | inr away ↦ inl (
         now_at-push_else k w.txn w.running away w.held,
-        false_from_ne_true _ (λ is. away (are_apart stripes g shape locks w.txn t (stripe_of stripes k) w.running.going running.going w.held is)),
+        false_from_ne_true _ (λ is. away (are_apart holder stripes g shape locks w.txn t (stripe_of stripes k) w.running.going running.going w.held is)),
       )
     ]
     | inr none ↦ inr (now_at-push_mine k goes (λ u going away. none u going), now_at-mine stripes g k t running (λ u going away. none u going))

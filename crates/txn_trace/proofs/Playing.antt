@@ -13,7 +13,8 @@ use Rattle.txn_trace.specs.History.{Line, caller_of, is_began, is_commit, lines_
 use Rattle.txn_trace.specs.Shape.{own, is_shaped, IsShaped}
 use Rattle.txn_trace.specs.Plays.{without_undone, IsPlayed, is_commit_of, commits_of, IsScriptOf, PlayRising, PlayScripts, part_after, parts_of, PlaysPart, HavePlayed}
 use Rattle.txn_trace.proofs.Pushes.{txn_in, txn_at, of-push_in, of-push_out, own-push_in, own-push_out, ends_in-push}
-use Rattle.txn_trace.proofs.Callers.{Callers, at_is, began_or_not, not_began_is, not_equal, not_after_end, ended_stays, step, same as one_caller, committed_ended}
+use Rattle.txn_trace.proofs.Callers.{Callers, at_is, began_or_not, not_began_is, not_equal, not_after_end}
+use Rattle.txn_trace.proofs.Shaped.{ended_stays, committed_ended, step, same as one_caller}
 use Rattle.txn_trace.proofs.Steps.{AreCommitted, are_committed, txns_of-push}
 use Rattle.txn_trace.proofs.Inductions.{by_entries}
 use Rattle.txn_trace.proofs.Running.{has_txn}

@@ -9,7 +9,8 @@ use Rattle.txn_trace.specs.History.{caller_of, is_began, txn_after}
 use Rattle.txn_trace.specs.Shape.{Seat, row, closed_seat, seat_after, own, is_shaped, IsShaped}
 use Rattle.txn_trace.specs.Legal.{is_running}
 use Rattle.txn_trace.proofs.Pushes.{txn_in, txn_at, txn_in-push}
-use Rattle.txn_trace.proofs.Callers.{Callers, callers_of, ended, shaped_seat, closed_begins, seat_of_mine, seat_of_other, began_or_not}
+use Rattle.txn_trace.proofs.Callers.{Callers, ended, shaped_seat, closed_begins, began_or_not}
+use Rattle.txn_trace.proofs.Shaped.{callers_of, seat_of_mine, seat_of_other}
 use Rattle.txn_trace.proofs.Inductions.{by_entries}
 
 -- In right shape each caller has a seat.

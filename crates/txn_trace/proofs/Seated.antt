@@ -14,7 +14,8 @@ use Rattle.txn_trace.specs.declared.seat.Phase.{Phase}
 use Rattle.txn_trace.specs.declared.seat.Phase.TheVariants.{Closed, Opened}
 use Rattle.txn_trace.specs.Shape.{Seat, row, seat_after, closed_seat, own, is_shaped, IsShaped}
 use Rattle.txn_trace.proofs.Pushes.{txn_in, txn_at, of-push_in, of-push_out, alone-push}
-use Rattle.txn_trace.proofs.Callers.{Callers, callers_none, callers_push, is_end, ended, ended_in, not_ended_before, in_or_out, step, same, seat_of_mine, seat_of_other, shaped_seat, shaped_number, began_or_not, began_number, at_is, not_began_is}
+use Rattle.txn_trace.proofs.Callers.{Callers, callers_none, is_end, ended, in_or_out, shaped_seat, shaped_number, began_or_not, began_number, at_is, not_began_is}
+use Rattle.txn_trace.proofs.Shaped.{callers_push, ended_in, not_ended_before, seat_of_mine, seat_of_other, step, same}
 use Rattle.txn_trace.proofs.Now.{same_option}
 use Rattle.txn_trace.proofs.Judging.{empty_or_owned}
 use Rattle.txn_trace.proofs.Fits.{Fits, FitsAfter, IsReply, fits_act, fits_start}

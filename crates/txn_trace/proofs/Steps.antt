@@ -16,7 +16,8 @@ use Rattle.txn_trace.specs.Serial.{serial}
 use Rattle.txn_trace.specs.Shape.{is_shaped, IsShaped}
 use Rattle.txn_trace.proofs.Lists.{fold_filter}
 use Rattle.txn_trace.proofs.Pushes.{txn_in, txn_at, lines_of-push, txn_in-push, of-push_in, ends_in-push, alone-push}
-use Rattle.txn_trace.proofs.Callers.{Callers, callers_none, callers_push, ended_stays, committed_ended, after_is, began_or_not, not_began_is, at_is, ByRecursion-append}
+use Rattle.txn_trace.proofs.Callers.{Callers, callers_none, after_is, began_or_not, not_began_is, at_is, ByRecursion-append}
+use Rattle.txn_trace.proofs.Shaped.{callers_push, ended_stays, committed_ended}
 
 abbrev pub AreCommitted : List Entry → List ℕ → Type 0
 AreCommitted g ts = AllByRecursion (λ t. is_committed t g ≡ true) ts

@@ -5,6 +5,7 @@ use Rattle.std.proofs.lemmas.Bool.{false≢true, eq-eqb, eqb-true, or_left, or_r
 use Rattle.std.proofs.lemmas.List.{append-nil}
 use mathlib.Core.Logic.{◌⊎◌, inl, inr}
 use Rattle.txn_trace.specs.declared.entry.Entry.{Entry}
+use Rattle.txn_trace.specs.declared.holder.Holder.{Holder}
 use Rattle.txn_trace.specs.declared.entry.Entry.TheVariants.{Asked}
 use Rattle.txn_trace.specs.Map.{Map, get, key_of, keys}
 use Rattle.txn_trace.specs.History.{Line, caller_of, lines_of, is_of, of}
@@ -12,7 +13,8 @@ use Rattle.txn_trace.specs.Alone.{Run, alone, map_after, last_map}
 use Rattle.txn_trace.specs.Locks.{stripe_of, asks_in, is_in_open, is_locked, LocksHold}
 use Rattle.txn_trace.specs.Shape.{is_shaped, IsShaped}
 use Rattle.txn_trace.proofs.Pushes.{txn_in, txn_at, of_is, of-push_in, of-push_out}
-use Rattle.txn_trace.proofs.Callers.{Callers, callers_none, callers_push, IsOwned, ended, is_open-ended, in_or_out, not_ended_before}
+use Rattle.txn_trace.proofs.Callers.{Callers, callers_none, IsOwned, ended, is_open-ended, in_or_out}
+use Rattle.txn_trace.proofs.Shaped.{callers_push, not_ended_before}
 use Rattle.txn_trace.proofs.Local.{AsksFor, AllAskFor, RunsAlike, alone_alike}
 
 -- The entries ask for a key of the stripe.
@@ -62,16 +64,16 @@ any-push p (x ∷ es) e is = elim (or_cases (p x) _ is) [
 ]
 
 -- An entry that asks for a key of a stripe is of the transaction that holds it.
-asked_by : (stripes s t u : ℕ) (g : List Entry) (e : Entry) → Callers g → is_locked stripes g e ≡ true → txn_at g e ≡ Some t → asks_in stripes s e ≡ true
+asked_by : (holder : Holder) (stripes s t u : ℕ) (g : List Entry) (e : Entry) → Callers g → is_locked holder stripes g e ≡ true → txn_at g e ≡ Some t → asks_in stripes s e ≡ true
     → ended u g ≡ false → holds stripes s (of u g) ≡ true → t ≡ u
-asked_by stripes s t u g (Asked c op) callers locked at asks going held =
+asked_by holder stripes s t u g (Asked c op) callers locked at asks going held =
     let stripe : s ≡ stripe_of stripes (key_of op) = sym (eqb-true _ s asks) in
     let mine : txn_in g c ≡ Some u = holder_is stripes (stripe_of stripes (key_of op)) c u g going (lines_of g) callers.owned (subst (λ r. holds stripes r (of u g) ≡ true) stripe held) locked in
     cc (at, mine)
-asked_by stripes s t u g _ callers locked at asks going held = absurd (false≢true asks)
+asked_by holder stripes s t u g _ callers locked at asks going held = absurd (false≢true asks)
 
-pub apart_push : (stripes : ℕ) (g : List Entry) (e : Entry) → Callers g → is_shaped g e ≡ true → is_locked stripes g e ≡ true → Apart stripes g → Apart stripes (g ++ e ∷ [])
-apart_push stripes g e callers shaped locked apart t u s going_t going_u holds_t holds_u =
+pub apart_push : (holder : Holder) (stripes : ℕ) (g : List Entry) (e : Entry) → Callers g → is_shaped g e ≡ true → is_locked holder stripes g e ≡ true → Apart stripes g → Apart stripes (g ++ e ∷ [])
+apart_push holder stripes g e callers shaped locked apart t u s going_t going_u holds_t holds_u =
     let before_t = not_ended_before g e callers shaped t going_t in
     let before_u = not_ended_before g e callers shaped u going_u in
     elim (in_or_out (txn_at g e) t) [
@@ -81,7 +83,7 @@ apart_push stripes g e callers shaped locked apart t u s going_t going_u holds_t
             let held : holds stripes s (of u g) ≡ true = ap (holds stripes s) (sym (of-push_out u g e out_u)) ∙ holds_u in
             elim (any-push (asks_in stripes s) (of t g) e (ap (holds stripes s) (sym (of-push_in t g e in_t)) ∙ holds_t)) [
               | inl old ↦ apart t u s before_t before_u old held
-              | inr asks ↦ asked_by stripes s t u g e callers locked in_t asks before_u held
+              | inr asks ↦ asked_by holder stripes s t u g e callers locked in_t asks before_u held
             ]
       ]
       | inr out_t ↦
@@ -89,23 +91,23 @@ apart_push stripes g e callers shaped locked apart t u s going_t going_u holds_t
           elim (in_or_out (txn_at g e) u) [
             | inl in_u ↦ elim (any-push (asks_in stripes s) (of u g) e (ap (holds stripes s) (sym (of-push_in u g e in_u)) ∙ holds_u)) [
               | inl old ↦ apart t u s before_t before_u held old
-              | inr asks ↦ sym (asked_by stripes s u t g e callers locked in_u asks before_t held)
+              | inr asks ↦ sym (asked_by holder stripes s u t g e callers locked in_u asks before_t held)
             ]
             | inr out_u ↦ apart t u s before_t before_u held (ap (holds stripes s) (sym (of-push_out u g e out_u)) ∙ holds_u)
           ]
     ]
 
-pub apart_all : (stripes : ℕ) (g rest : List Entry) → Callers g → Apart stripes g → IsShaped (g ++ rest) → LocksHold stripes (g ++ rest) → Apart stripes (g ++ rest)
-apart_all stripes g [] callers apart shape locks = subst (Apart stripes) (sym (append-nil g)) apart
-apart_all stripes g (e ∷ rest) callers apart shape locks =
+pub apart_all : (holder : Holder) (stripes : ℕ) (g rest : List Entry) → Callers g → Apart stripes g → IsShaped (g ++ rest) → LocksHold holder stripes (g ++ rest) → Apart stripes (g ++ rest)
+apart_all holder stripes g [] callers apart shape locks = subst (Apart stripes) (sym (append-nil g)) apart
+apart_all holder stripes g (e ∷ rest) callers apart shape locks =
     let shaped = shape g e (rest, append_assoc g (e ∷ []) rest) in
     let locked = locks g e (rest, append_assoc g (e ∷ []) rest) in
     let back = sym (append_assoc g (e ∷ []) rest) in
     subst (Apart stripes) (append_assoc g (e ∷ []) rest)
-    (apart_all stripes (g ++ e ∷ []) rest (callers_push g e callers shaped) (apart_push stripes g e callers shaped locked apart) (subst IsShaped back shape) (subst (LocksHold stripes) back locks))
+    (apart_all holder stripes (g ++ e ∷ []) rest (callers_push g e callers shaped) (apart_push holder stripes g e callers shaped locked apart) (subst IsShaped back shape) (subst (LocksHold holder stripes) back locks))
 
-pub are_apart : (stripes : ℕ) (g : List Entry) → IsShaped g → LocksHold stripes g → Apart stripes g
-are_apart stripes g shape locks = apart_all stripes [] g callers_none (λ t u s a b h k. absurd (false≢true h)) shape locks
+pub are_apart : (holder : Holder) (stripes : ℕ) (g : List Entry) → IsShaped g → LocksHold holder stripes g → Apart stripes g
+are_apart holder stripes g shape locks = apart_all holder stripes [] g callers_none (λ t u s a b h k. absurd (false≢true h)) shape locks
 
 asks_more : (keys wide : ℕ → Bool) → ((k : ℕ) → keys k ≡ true → wide k ≡ true) → (es : List Entry) → AllAskFor keys es → AllAskFor wide es
 asks_more keys wide to [] all = tt

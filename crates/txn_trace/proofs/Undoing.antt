@@ -7,6 +7,7 @@ use Rattle.std.proofs.lemmas.List.{append-nil}
 use mathlib.Core.Logic.{◌⊎◌, inl, inr}
 use Rattle.txn_trace.specs.declared.op.Op.{Op}
 use Rattle.txn_trace.specs.declared.entry.Entry.{Entry}
+use Rattle.txn_trace.specs.declared.holder.Holder.{Holder}
 use Rattle.txn_trace.specs.declared.entry.Entry.TheVariants.{Undone}
 use Rattle.txn_trace.specs.Map.{Map, get, after, reply_of, key_of, is_change, keys}
 use Rattle.txn_trace.specs.History.{of}
@@ -41,13 +42,13 @@ any-push_same p [] e is = ap (λ b. b || false) is
 any-push_same p (x ∷ es) e is = ap (λ b. p x || b) (any-push_same p es e is)
 
 -- A caller that leaves takes its newest change back.
-module _ (stripes : ℕ) (g : List Entry) (legal : IsLegal stripes g) (c t : ℕ) (run : Run) (job : ℕ × Option ℕ) (jobs : List (ℕ × Option ℕ)) (m : Map) (ms : List Map)
+module _ {holder : Holder} (stripes : ℕ) (g : List Entry) (legal : IsLegal holder stripes g) (c t : ℕ) (run : Run) (job : ℕ × Option ℕ) (jobs : List (ℕ × Option ℕ)) (m : Map) (ms : List Map)
     (in_t : txn_in g c ≡ Some t) (going : ended t g ≡ false) (run_is : alone (serial g) (of t g) ≡ Some run) (earlier : run.earlier ≡ m ∷ ms)
     (logged : IsLogged (keys_in stripes (of t g)) (job ∷ jobs) run.last (m ∷ ms)) (shaped : is_shaped g (Undone c) ≡ true) where
   goes : alone (serial g) (of t g ++ Undone c ∷ []) ≡ Some (record run { last = m; earlier = ms })
   goes = alone-push (serial g) (of t g) (Undone c) ∙ ap (option_and_then (λ r. act r (Undone c))) run_is ∙ ap (act_undone run) earlier
 
-  pub undone_legal : IsLegal stripes (g ++ Undone c ∷ [])
+  pub undone_legal : IsLegal holder stripes (g ++ Undone c ∷ [])
   undone_legal = legal_push stripes g (Undone c) legal shaped refl
       (replies-push_other g (Undone c) t legal.shape (shape_push g (Undone c) legal.shape shaped) shaped refl in_t
       (legal.replies g ([], append-nil g)) (ap is_some goes))
@@ -60,7 +61,7 @@ module _ (stripes : ℕ) (g : List Entry) (legal : IsLegal stripes g) (c t : ℕ
 
   each : (q : ℕ) → ((now_at (g ++ Undone c ∷ []) q ≡ now_at g q) × (keys_in stripes (of t g) q ≡ false))
       ⊎ ((now_at (g ++ Undone c ∷ []) q ≡ get (map_after (serial g) (of t g ++ Undone c ∷ [])) q) × (now_at g q ≡ get (map_after (serial g) (of t g)) q))
-  each q = now_at-push stripes g (Undone c) t legal.shape legal.locks (shape_push g (Undone c) legal.shape shaped) (locks_push stripes g (Undone c) legal.locks refl) shaped refl in_t q refl (running_of g c t in_t going)
+  each q = now_at-push holder stripes g (Undone c) t legal.shape legal.locks (shape_push g (Undone c) legal.shape shaped) (locks_push holder stripes g (Undone c) legal.locks refl) shaped refl in_t q refl (running_of g c t in_t going)
 
   -- The key of the newest job has what it had before.
   pub get-now_undone : get (now (g ++ Undone c ∷ [])) job.0 ≡ job.1

@@ -4,6 +4,7 @@ use Rattle.std.proofs.lemmas.List.{append-nil}
 use Rattle.std.specs.Prelude.{◌↔◌}
 use mathlib.Core.Logic.{◌⊎◌, inl, inr}
 use Rattle.txn_trace.specs.declared.entry.Entry.{Entry}
+use Rattle.txn_trace.specs.declared.holder.Holder.{Holder}
 use Rattle.txn_trace.specs.History.{is_commit}
 use Rattle.txn_trace.specs.Shape.{how_many}
 use Rattle.txn_trace.specs.Legal.{IsLegal, broken, first_bad, callers_in, running, Legal, Illegal, verdict}
@@ -11,78 +12,78 @@ use Rattle.txn_trace.proofs.Judging.{legal_iff, legal_from, legal_none, none_bad
 
 -- The i-th entry is the first that breaks a rule, and this is the rule: the entries before it are a legal history, after
 -- which it breaks the rule.
-pub record IsFirstBad (stripes : ℕ) (h : List Entry) (i rule : ℕ) : Type 0 where
+pub record IsFirstBad (holder : Holder) (stripes : ℕ) (h : List Entry) (i rule : ℕ) : Type 0 where
   pub front : List Entry
   pub entry : Entry
   pub back : List Entry
   pub is : h ≡ front ++ entry ∷ back
   pub index : i ≡ length front
-  pub legal : IsLegal stripes front
-  pub breaks : broken stripes front entry ≡ Some rule
+  pub legal : IsLegal holder stripes front
+  pub breaks : broken holder stripes front entry ≡ Some rule
 
-legal_after : (stripes : ℕ) (g : List Entry) (e : Entry) → IsLegal stripes g → broken stripes g e ≡ None → IsLegal stripes (g ++ e ∷ [])
+legal_after : {holder : Holder} (stripes : ℕ) (g : List Entry) (e : Entry) → IsLegal holder stripes g → broken holder stripes g e ≡ None → IsLegal holder stripes (g ++ e ∷ [])
 legal_after stripes g e legal fine = legal_from stripes g (e ∷ []) 0 legal (rw (fine, first_bad) refl)
 
 same_pair : (j r i rule : ℕ) → ◌≡◌ {A = Option (ℕ × ℕ)} (Some (j, r)) (Some (i, rule)) → (j ≡ i) × (r ≡ rule)
 same_pair j r i rule is = let pair : ◌≡◌ {A = ℕ × ℕ} (j, r) (i, rule) = cc (is) in (ap (λ (p : ℕ × ℕ). p.0) pair, ap (λ (p : ℕ × ℕ). p.1) pair)
 
-bad_from : (stripes : ℕ) (g h : List Entry) (j i rule : ℕ) → IsLegal stripes g → j ≡ length g → first_bad stripes g h j ≡ Some (i, rule) → IsFirstBad stripes (g ++ h) i rule
+bad_from : {holder : Holder} (stripes : ℕ) (g h : List Entry) (j i rule : ℕ) → IsLegal holder stripes g → j ≡ length g → first_bad holder stripes g h j ≡ Some (i, rule) → IsFirstBad holder stripes (g ++ h) i rule
 bad_from stripes g [] j i rule legal index bad = absurd (cc (bad))
-bad_from stripes g (e ∷ h) j i rule legal index bad =
-    (elim (broken stripes g e) as (λ o. broken stripes g e ≡ o → (elim o as (λ o. Option (ℕ × ℕ)) [ Some r ↦ Some (j, r) | None ↦ first_bad stripes (g ++ e ∷ []) h (j + 1) ]) ≡ Some (i, rule) → IsFirstBad stripes (g ++ e ∷ h) i rule) [
+bad_from {holder} stripes g (e ∷ h) j i rule legal index bad =
+    (elim (broken holder stripes g e) as (λ o. broken holder stripes g e ≡ o → (elim o as (λ o. Option (ℕ × ℕ)) [ Some r ↦ Some (j, r) | None ↦ first_bad holder stripes (g ++ e ∷ []) h (j + 1) ]) ≡ Some (i, rule) → IsFirstBad holder stripes (g ++ e ∷ h) i rule) [
       | Some r ↦ λ is here.
           let same = same_pair j r i rule here in
           record { front = g; entry = e; back = h; is = refl; index = sym same.0 ∙ index; legal = legal; breaks = is ∙ ap Some same.1 }
       | None ↦ λ is later.
           let longer : j + 1 ≡ length (g ++ e ∷ []) = (let n = length-append g (e ∷ []) in omega arith) in
-          let next : IsFirstBad stripes ((g ++ e ∷ []) ++ h) i rule = bad_from stripes (g ++ e ∷ []) h (j + 1) i rule (legal_after stripes g e legal is) longer later in
-          subst (λ w. IsFirstBad stripes w i rule) (append_assoc g (e ∷ []) h) next
+          let next : IsFirstBad holder stripes ((g ++ e ∷ []) ++ h) i rule = bad_from stripes (g ++ e ∷ []) h (j + 1) i rule (legal_after stripes g e legal is) longer later in
+          subst (λ w. IsFirstBad holder stripes w i rule) (append_assoc g (e ∷ []) h) next
     ]) refl bad
 
 -- The entry that the search finds is the first bad one.
-pub first_bad_is : (stripes : ℕ) (h : List Entry) (i rule : ℕ) → first_bad stripes [] h 0 ≡ Some (i, rule) → IsFirstBad stripes h i rule
+pub first_bad_is : {holder : Holder} (stripes : ℕ) (h : List Entry) (i rule : ℕ) → first_bad holder stripes [] h 0 ≡ Some (i, rule) → IsFirstBad holder stripes h i rule
 first_bad_is stripes h i rule bad = bad_from stripes [] h 0 i rule (legal_none stripes) refl bad
 
-fine_head : (stripes : ℕ) (g : List Entry) (e : Entry) (h : List Entry) (j : ℕ) → first_bad stripes g (e ∷ h) j ≡ None → broken stripes g e ≡ None
-fine_head stripes g e h j none =
-    (elim (broken stripes g e) as (λ o. (elim o as (λ o. Option (ℕ × ℕ)) [ Some r ↦ Some (j, r) | None ↦ first_bad stripes (g ++ e ∷ []) h (j + 1) ]) ≡ None → o ≡ None) [
+fine_head : (holder : Holder) (stripes : ℕ) (g : List Entry) (e : Entry) (h : List Entry) (j : ℕ) → first_bad holder stripes g (e ∷ h) j ≡ None → broken holder stripes g e ≡ None
+fine_head holder stripes g e h j none =
+    (elim (broken holder stripes g e) as (λ o. (elim o as (λ o. Option (ℕ × ℕ)) [ Some r ↦ Some (j, r) | None ↦ first_bad holder stripes (g ++ e ∷ []) h (j + 1) ]) ≡ None → o ≡ None) [
       | Some r ↦ λ is. absurd (cc (is))
       | None ↦ λ is. refl
     ]) none
 
-found_after : (stripes : ℕ) (g front : List Entry) (e : Entry) (back : List Entry) (j rule : ℕ) → IsLegal stripes (g ++ front) → broken stripes (g ++ front) e ≡ Some rule → first_bad stripes g (front ++ e ∷ back) j ≡ Some (j + length front, rule)
-found_after stripes g [] e back j rule legal breaks =
-    let here : broken stripes g e ≡ Some rule = subst (λ w. broken stripes w e ≡ Some rule) (append-nil g) breaks in
+found_after : {holder : Holder} (stripes : ℕ) (g front : List Entry) (e : Entry) (back : List Entry) (j rule : ℕ) → IsLegal holder stripes (g ++ front) → broken holder stripes (g ++ front) e ≡ Some rule → first_bad holder stripes g (front ++ e ∷ back) j ≡ Some (j + length front, rule)
+found_after {holder} stripes g [] e back j rule legal breaks =
+    let here : broken holder stripes g e ≡ Some rule = subst (λ w. broken holder stripes w e ≡ Some rule) (append-nil g) breaks in
     let index : j ≡ j + 0 = omega arith in
     rw (here, first_bad) (ap (λ i. Some (i, rule)) index)
-found_after stripes g (f ∷ front) e back j rule legal breaks =
-    let fine : broken stripes g f ≡ None = fine_head stripes g f front j (none_bad stripes g (f ∷ front) j legal) in
+found_after {holder} stripes g (f ∷ front) e back j rule legal breaks =
+    let fine : broken holder stripes g f ≡ None = fine_head holder stripes g f front j (none_bad stripes g (f ∷ front) j legal) in
     let assoc : (g ++ f ∷ []) ++ front ≡ g ++ f ∷ front = append_assoc g (f ∷ []) front in
-    let later = found_after stripes (g ++ f ∷ []) front e back (j + 1) rule (subst (IsLegal stripes) (sym assoc) legal) (subst (λ w. broken stripes w e ≡ Some rule) (sym assoc) breaks) in
+    let later = found_after stripes (g ++ f ∷ []) front e back (j + 1) rule (subst (IsLegal holder stripes) (sym assoc) legal) (subst (λ w. broken holder stripes w e ≡ Some rule) (sym assoc) breaks) in
     let index : j + 1 + length front ≡ j + suc (length front) = omega arith in
     rw (fine, first_bad) (later ∙ ap (λ i. Some (i, rule)) index)
 
 -- The first bad entry is the one that the search finds.
-pub first_bad-found : (stripes : ℕ) (h : List Entry) (i rule : ℕ) → IsFirstBad stripes h i rule → first_bad stripes [] h 0 ≡ Some (i, rule)
-first_bad-found stripes h i rule bad =
+pub first_bad-found : {holder : Holder} (stripes : ℕ) (h : List Entry) (i rule : ℕ) → IsFirstBad holder stripes h i rule → first_bad holder stripes [] h 0 ≡ Some (i, rule)
+first_bad-found {holder} stripes h i rule bad =
     let index : 0 + length bad.front ≡ i = (let n = bad.index in omega arith) in
-    ap (λ w. first_bad stripes [] w 0) bad.is ∙ found_after stripes [] bad.front bad.entry bad.back 0 rule bad.legal bad.breaks ∙ ap (λ n. Some (n, rule)) index
+    ap (λ w. first_bad holder stripes [] w 0) bad.is ∙ found_after stripes [] bad.front bad.entry bad.back 0 rule bad.legal bad.breaks ∙ ap (λ n. Some (n, rule)) index
 
 -- The verdict on a legal history, and on any other.
-pub verdict-legal : (stripes : ℕ) (h : List Entry) → IsLegal stripes h → verdict stripes h ≡ Legal (how_many is_commit h) (length (running (callers_in h) h))
+pub verdict-legal : {holder : Holder} (stripes : ℕ) (h : List Entry) → IsLegal holder stripes h → verdict holder stripes h ≡ Legal (how_many is_commit h) (length (running (callers_in h) h))
 verdict-legal stripes h legal = rw ((legal_iff stripes h).0 legal, verdict) refl
 
-pub verdict-illegal : (stripes : ℕ) (h : List Entry) (i rule : ℕ) → IsFirstBad stripes h i rule → verdict stripes h ≡ Illegal i rule
+pub verdict-illegal : {holder : Holder} (stripes : ℕ) (h : List Entry) (i rule : ℕ) → IsFirstBad holder stripes h i rule → verdict holder stripes h ≡ Illegal i rule
 verdict-illegal stripes h i rule bad = rw (first_bad-found stripes h i rule bad, verdict) refl
 
 -- A history is legal, or has a first bad entry.
-pub legal_or_bad : (stripes : ℕ) (h : List Entry) → IsLegal stripes h ⊎ ((i rule : ℕ) × IsFirstBad stripes h i rule)
-legal_or_bad stripes h = from (first_bad stripes [] h 0) refl
+pub legal_or_bad : {holder : Holder} (stripes : ℕ) (h : List Entry) → IsLegal holder stripes h ⊎ ((i rule : ℕ) × IsFirstBad holder stripes h i rule)
+legal_or_bad {holder} stripes h = from (first_bad holder stripes [] h 0) refl
   where
-    from : (o : Option (ℕ × ℕ)) → first_bad stripes [] h 0 ≡ o → IsLegal stripes h ⊎ ((i rule : ℕ) × IsFirstBad stripes h i rule)
+    from : (o : Option (ℕ × ℕ)) → first_bad holder stripes [] h 0 ≡ o → IsLegal holder stripes h ⊎ ((i rule : ℕ) × IsFirstBad holder stripes h i rule)
     from None is = inl ((legal_iff stripes h).1 is)
     from (Some bad) is = inr (bad.0, bad.1, first_bad_is stripes h bad.0 bad.1 is)
 
 -- After a legal history one more entry is legal exactly where it breaks no rule.
-pub legal-push : (stripes : ℕ) (g : List Entry) → IsLegal stripes g → (e : Entry) → IsLegal stripes (g ++ e ∷ []) ↔ (broken stripes g e ≡ None)
-legal-push stripes g legal e = (λ after. fine_head stripes g e [] 0 (none_bad stripes g (e ∷ []) 0 after), λ fine. legal_after stripes g e legal fine)
+pub legal-push : {holder : Holder} (stripes : ℕ) (g : List Entry) → IsLegal holder stripes g → (e : Entry) → IsLegal holder stripes (g ++ e ∷ []) ↔ (broken holder stripes g e ≡ None)
+legal-push {holder} stripes g legal e = (λ after. fine_head holder stripes g e [] 0 (none_bad stripes g (e ∷ []) 0 after), λ fine. legal_after stripes g e legal fine)

@@ -2,6 +2,7 @@
 use Rattle.std.specs.Prelude.{ℕ, ◌+◌, Bool, true, false, not, Option, Some, None, is_some, List, [], ◌∷◌, ◌++◌, length, max, if◌then◌else◌}
 use Rattle.std.specs.List.{filter, fold, list_all, range_with_len}
 use Rattle.txn_trace.specs.declared.entry.Entry.{Entry}
+use Rattle.txn_trace.specs.declared.holder.Holder.{Holder}
 use Rattle.txn_trace.specs.History.{caller_of, is_commit, of, open_txns}
 use Rattle.txn_trace.specs.Alone.{alone}
 use Rattle.txn_trace.specs.Serial.{serial}
@@ -11,10 +12,11 @@ use Rattle.txn_trace.specs.declared.seat.Phase.{Phase}
 use Rattle.txn_trace.specs.declared.seat.Phase.TheVariants.{Closed}
 use Rattle.txn_trace.specs.Shape.{Seat, seat_after, own, how_many, is_shaped, IsShaped}
 
--- A history is legal where its replies and its locks hold and it has the right shape.
-pub record IsLegal (stripes : ℕ) (h : List Entry) : Type 0 where
+-- A history is legal where its replies hold, its locks do, for Busy entries that name such a
+-- caller, and it has the right shape.
+pub record IsLegal (holder : Holder) (stripes : ℕ) (h : List Entry) : Type 0 where
   pub replies : RepliesHold h
-  pub locks : LocksHold stripes h
+  pub locks : LocksHold holder stripes h
   pub shape : IsShaped h
 
 -- Whether each open transaction has the replies of running alone.
@@ -23,19 +25,19 @@ replies_hold g = list_all (λ t. is_some (alone (serial g) (of t g))) (open_txns
 
 -- The rule that an entry breaks after g: 3, shape; else the lesser of 1, replies, and 2, locks;
 -- None where it breaks none.
-abbrev pub broken : ℕ → List Entry → Entry → Option ℕ
-broken stripes g e =
+abbrev pub broken : Holder → ℕ → List Entry → Entry → Option ℕ
+broken holder stripes g e =
     if not (is_shaped g e) then Some 3 else
     if not (replies_hold (g ++ e ∷ [])) then Some 1 else
-    if not (is_locked stripes g e) then Some 2 else None
+    if not (is_locked holder stripes g e) then Some 2 else None
 
 -- Of the entries h that come after g, the i-th and following ones, the first that breaks a rule,
 -- and the rule.
-abbrev pub first_bad : ℕ → List Entry → List Entry → ℕ → Option (ℕ × ℕ)
-first_bad stripes g [] i = None
-first_bad stripes g (e ∷ h) i = elim (broken stripes g e) [
+abbrev pub first_bad : Holder → ℕ → List Entry → List Entry → ℕ → Option (ℕ × ℕ)
+first_bad holder stripes g [] i = None
+first_bad holder stripes g (e ∷ h) i = elim (broken holder stripes g e) [
   | Some rule ↦ Some (i, rule)
-  | None ↦ first_bad stripes (g ++ e ∷ []) h (i + 1)
+  | None ↦ first_bad holder stripes (g ++ e ∷ []) h (i + 1)
 ]
 
 -- Whether a phase is one of a transaction.
@@ -63,8 +65,8 @@ pub data Verdict : Type 0 where
   Illegal : ℕ → ℕ → Verdict
 
 -- The verdict on a history.
-abbrev pub verdict : ℕ → List Entry → Verdict
-verdict stripes h = elim (first_bad stripes [] h 0) [
+abbrev pub verdict : Holder → ℕ → List Entry → Verdict
+verdict holder stripes h = elim (first_bad holder stripes [] h 0) [
   | None ↦ Legal (how_many is_commit h) (length (running (callers_in h) h))
   | Some bad ↦ Illegal bad.0 bad.1
 ]

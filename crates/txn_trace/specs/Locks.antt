@@ -4,8 +4,10 @@ use Rattle.std.specs.List.{filter, list_any, list_all}
 use mathlib.Core.List.{IsPrefix}
 use Rattle.txn_trace.specs.declared.entry.Entry.{Entry}
 use Rattle.txn_trace.specs.declared.entry.Entry.TheVariants.{Asked, Busy}
+use Rattle.txn_trace.specs.declared.holder.Holder.{Holder}
+use Rattle.txn_trace.specs.declared.holder.Holder.TheVariants.{Now, Begun}
 use Rattle.txn_trace.specs.Map.{key_of}
-use Rattle.txn_trace.specs.History.{Line, caller_of, lines_of, is_open}
+use Rattle.txn_trace.specs.History.{Line, caller_of, is_began, lines_of, is_open}
 
 -- The stripe of a key, where there are so many stripes.
 abbrev pub stripe_of : ℕ → ℕ → ℕ
@@ -30,16 +32,26 @@ holders stripes s h =
 abbrev pub holder_of : ℕ → ℕ → List Entry → Option ℕ
 holder_of stripes s h = slice_get (holders stripes s h) 0
 
+-- Whether a caller has begun a transaction.
+abbrev pub has_begun : ℕ → List Entry → Bool
+has_begun c g = list_any (λ e. is_began e && caller_of e == c) g
+
+-- Whether a Busy on a key of the stripe may name x after g: one that holds the stripe now, or one
+-- that has begun a transaction.
+abbrev pub may_name : Holder → ℕ → ℕ → List Entry → ℕ → Bool
+may_name Now stripes s g x = list_any (λ y. y == x) (holders stripes s g)
+may_name Begun stripes s g x = has_begun x g
+
 -- Whether an entry may stand after g: an Asked where no other caller holds the stripe, a Busy where
--- the named one is another and does.
-abbrev pub is_locked : ℕ → List Entry → Entry → Bool
-is_locked stripes g (Asked c op) =
+-- the named one is another and may be named.
+abbrev pub is_locked : Holder → ℕ → List Entry → Entry → Bool
+is_locked holder stripes g (Asked c op) =
     list_all (λ x. x == c) (holders stripes (stripe_of stripes (key_of op)) g)
-is_locked stripes g (Busy c op x) =
-    not (x == c) && list_any (λ y. y == x) (holders stripes (stripe_of stripes (key_of op)) g)
-is_locked stripes g _ = true
+is_locked holder stripes g (Busy c op x) =
+    not (x == c) && may_name holder stripes (stripe_of stripes (key_of op)) g x
+is_locked holder stripes g _ = true
 
 -- That holds of each entry after the beginning before it.
-abbrev pub LocksHold : ℕ → List Entry → Type 0
-LocksHold stripes h =
-    (g : List Entry) (e : Entry) → IsPrefix (g ++ e ∷ []) h → IsTrue (is_locked stripes g e)
+abbrev pub LocksHold : Holder → ℕ → List Entry → Type 0
+LocksHold holder stripes h =
+    (g : List Entry) (e : Entry) → IsPrefix (g ++ e ∷ []) h → IsTrue (is_locked holder stripes g e)

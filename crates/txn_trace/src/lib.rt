@@ -21,6 +21,7 @@
 mod action;
 mod answer;
 mod entry;
+mod holder;
 pub mod laws;
 mod limits;
 mod op;
@@ -34,6 +35,7 @@ mod tests;
 pub use action::Action;
 pub use answer::{Answer, answer_text};
 pub use entry::Entry;
+pub use holder::Holder;
 pub use limits::Limits;
 pub use op::{Op, Reply};
 pub use refusal::Refusal;

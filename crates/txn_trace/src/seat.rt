@@ -1,4 +1,7 @@
 //! What a caller's own entries make of it.
+//!
+//! What each step asks of the seat is compiled into the step (`inline(always)`), where the kind of
+//! step is known: most of the seat's tests then take no instruction.
 ghost use Rattle.std.specs.Prelude.{◌≡◌, ℕ, ◌+◌, ◌-◌, ◌<◌, ◌≤◌, ◌^◌, true, false, is_some, length, slice_get, slice_index, Some, OnOk, OnErr};
 ghost use Rattle.txn_trace.specs.declared.seat.Phase.TheVariants.{Opened};
 ghost use Rattle.txn_trace.specs.Shape.{row, capacity, closed_seat};
@@ -116,6 +119,7 @@ impl Seat {
 
     /// The refusal of a step of its caller, as far as the seat decides it, and the limits which
     /// keys are taken. Constant time.
+    #[inline(always)]
     pub fn refusal(&self, limits: Limits, step: Step) -> Option<Refusal>
         ensures { result ≡ refusal_in limits.half self.now.seat step }
     {
@@ -177,6 +181,7 @@ impl Seat {
 
     /// How many entries its caller may add without a new reservation: its reply, the undoing of
     /// each change that stands, and the end. Constant time.
+    #[inline(always)]
     pub fn owed(&self) -> u64
         requires { owed_in self.now.seat.standing self.now.seat.phase < 2 ^ 64 }
         ensures { result ≡ owed_in self.now.seat.standing self.now.seat.phase }
@@ -210,6 +215,7 @@ impl Seat {
 
     /// Whether an entry may come next: whether the rule of shape has a row for it here. Constant
     /// time.
+    #[inline(always)]
     pub fn allows(&self, entry: &Entry) -> bool
         ensures { result ≡ is_some (row self.now.seat self.now.seat.phase entry.now) }
     {
@@ -249,6 +255,7 @@ impl Seat {
     ///
     /// A `Saved` takes one of the room, and a savepoint that is dropped gives one back.
     /// Constant time.
+    #[inline(always)]
     pub fn enter(&mut self, entry: Entry) -> bool
         requires standing { self.old.seat.standing < 2 ^ 64 - 1 }
         requires room { is_saved entry ≡ true → 0 < self.old.room }
@@ -279,6 +286,7 @@ impl Seat {
     }
 
     /// The operation that waits has its reply.
+    #[inline(always)]
     fn reply(&mut self, reply: Reply)
         requires { self.old.seat.standing < 2 ^ 64 - 1 }
         ensures seat { (c : ℕ) →

@@ -90,6 +90,7 @@ impl Step {
 }
 
 /// The entry that a step with its answer adds to the history, if it adds one. Constant time.
+#[inline(always)]
 pub fn entry_of(step: Step, answer: Answer) -> Option<Entry>
     ensures { option_to_list result ≡ entries_of step answer }
 {

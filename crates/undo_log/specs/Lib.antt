@@ -1,2 +1,3 @@
+pub mod InlineJobs
 pub mod SideValue
 pub mod UndoLog

@@ -1,7 +1,8 @@
 ghost use Rattle.std.specs.Prelude.{◌≡◌, ◌+◌, ◌-◌, ◌<◌, ◌≤◌, ◌↔◌, [], ◌∷◌, ◌++◌, length, take, IsTrue, IsOk, IsSome, IfOk, OnOk, OnErr, option_to_list, option_copied};
 ghost use Rattle.undo_log.specs.UndoLog.{kept_at, newest_above};
 
-use crate::job::UndoJob;
+use crate::inline_jobs::InlineJobs;
+use crate::store::JobStore;
 use std::alloc::{AllocError, Global};
 use std::marker::Model;
 
@@ -11,36 +12,47 @@ use std::marker::Model;
 /// savepoint 1 first; and the `room` for jobs and the `save_room` for savepoints that is there
 /// already. A level is the number of a savepoint, or 0, the beginning; a call that takes one wants
 /// one of those that are there.
+///
+/// `S` says where the jobs are kept, and its `inline` how many of them take no memory.
 #[derive(Drop)]
-pub struct UndoLog<J: UndoJob> {
-    jobs: Vec<J>,
+pub struct JobLog<S: JobStore> {
+    jobs: S,
     kept: Vec<usize>,
 }
 
-impl<J: UndoJob> Model for UndoLog<J> {
+/// A log whose first eight jobs stand in itself: a transaction of up to eight changes takes no
+/// memory for their inverses.
+///
+/// # Cost
+///
+/// Eight places, used or not, of the size of a job and 8 bytes more each, and 40 bytes. A log that
+/// has grown keeps the allocation of its jobs.
+pub type UndoLog<J> = JobLog<InlineJobs<J, 8>>;
+
+impl<S: JobStore> Model for JobLog<S> {
     ghost use Rattle.std.specs.Prelude.{◌-◌, vec_len, vec_capacity};
     ghost use Rattle.undo_log.specs.UndoLog.{Log};
 
-    ghost Value = { Log J };
+    ghost Value = { Log S.Job };
 
     ghost view = { λ log. record {
-      jobs = log.jobs.items;
+      jobs = S.jobs_of log.jobs;
       kept = log.kept.items;
-      room = vec_capacity log.jobs - vec_len log.jobs;
+      room = S.room_of log.jobs;
       save_room = vec_capacity log.kept - vec_len log.kept;
     } };
 }
 
-impl<J: UndoJob> UndoLog<J> {
-    /// An empty log at level 0. Takes no memory, constant time.
-    pub fn new(alloc: Global) -> UndoLog<J>
+impl<S: JobStore> JobLog<S> {
+    /// An empty log at level 0, with room for `S.inline` jobs. Takes no memory, constant time.
+    pub fn new(alloc: Global) -> JobLog<S>
         ensures jobs { result.jobs ≡ [] }
         ensures kept { result.kept ≡ [] }
-        ensures room { result.room ≡ 0 }
+        ensures room { result.room ≡ S.inline }
         ensures save_room { result.save_room ≡ 0 }
     {
-        UndoLog {
-            jobs: Vec::new(alloc),
+        JobLog {
+            jobs: S::empty(alloc),
             kept: Vec::new(alloc),
         }
     }
@@ -49,14 +61,14 @@ impl<J: UndoJob> UndoLog<J> {
     pub fn len(&self) -> usize
         ensures { result ≡ length self.now.jobs }
     {
-        self.jobs.len()
+        self.jobs.count()
     }
 
     /// Whether there is no job. Constant time.
     pub fn is_empty(&self) -> bool
         ensures { IsTrue result ↔ (self.now.jobs ≡ []) }
     {
-        self.jobs.is_empty()
+        self.len() == 0
     }
 
     /// The number of savepoints, which is the highest level. Constant time.
@@ -85,32 +97,30 @@ impl<J: UndoJob> UndoLog<J> {
     ///
     /// # Errors
     ///
-    /// `AllocError` where memory is refused, and only where there was no room. Then nothing has
-    /// changed.
+    /// `AllocError` where memory is refused, and only where there was no room, so never while fewer
+    /// than `S.inline` jobs are there. Then nothing has changed.
     pub fn reserve_one(&mut self) -> Result<(), AllocError>
         ensures jobs { self.new.jobs ≡ self.old.jobs }
         ensures kept { self.new.kept ≡ self.old.kept }
         ensures save_room { self.new.save_room ≡ self.old.save_room }
         ensures ok { OnOk result (0 < self.new.room) }
+        ensures inline { length self.old.jobs < S.inline → IsOk result }
         ensures left { 0 < self.old.room → self.new ≡ self.old }
         ensures err { OnErr result (self.new ≡ self.old) }
         ensures full { OnErr result (self.old.room ≡ 0) }
     {
-        if self.jobs.len() < self.jobs.capacity() {
-            return Ok(());
-        }
-        self.jobs.reserve(1)
+        self.jobs.reserve_one()
     }
 
     /// Adds a job as the newest, in room that is there already. Takes no memory, constant time.
-    pub fn push_reserved(&mut self, job: J)
+    pub fn push_reserved(&mut self, job: S::Job)
         requires { 0 < self.old.room }
         ensures jobs { self.new.jobs ≡ self.old.jobs ++ job ∷ [] }
         ensures kept { self.new.kept ≡ self.old.kept }
         ensures room { self.new.room + 1 ≡ self.old.room }
         ensures save_room { self.new.save_room ≡ self.old.save_room }
     {
-        self.jobs.push_reserved(job);
+        self.jobs.add(job);
     }
 
     /// Makes room for one more savepoint, if there is none, so that the next `save` succeeds: takes
@@ -156,18 +166,18 @@ impl<J: UndoJob> UndoLog<J> {
         ensures full { OnErr result (self.old.save_room ≡ 0) }
     {
         self.save_room()?;
-        self.kept.push_reserved(self.jobs.len());
+        self.kept.push_reserved(self.jobs.count());
         Ok(self.kept.len())
     }
 
     /// The job that `pop_above` would give. Constant time.
-    pub fn newest_above(&self, level: usize) -> Option<&J>
+    pub fn newest_above(&self, level: usize) -> Option<&S::Job>
         requires { level ≤ length self.now.kept }
         ensures newest { option_copied result ≡ newest_above self.now level }
         ensures some { IsSome result ↔ (kept_at self.now.kept level < length self.now.jobs) }
     {
         if self.len() > self.kept(level) {
-            self.jobs.last()
+            self.jobs.newest()
         } else {
             None
         }
@@ -178,7 +188,7 @@ impl<J: UndoJob> UndoLog<J> {
     /// Savepoints stay, those above the level too, until `cut`. The job's place is room again, in
     /// which it may be pushed back. A transaction that commits takes out all its jobs so, by level
     /// 0, discards them and cuts at 0. Takes no memory, constant time.
-    pub fn pop_above(&mut self, level: usize) -> Option<J>
+    pub fn pop_above(&mut self, level: usize) -> Option<S::Job>
         requires { level ≤ length self.old.kept }
         ensures newest { result ≡ newest_above self.old level }
         ensures some { IsSome result ↔ (kept_at self.old.kept level < length self.old.jobs) }
@@ -188,7 +198,7 @@ impl<J: UndoJob> UndoLog<J> {
         ensures save_room { self.new.save_room ≡ self.old.save_room }
     {
         self.newest_above(level)?;
-        self.jobs.pop()
+        self.jobs.take_newest()
     }
 
     /// Drops the savepoints above the level, once no job above it is left, and keeps the level's

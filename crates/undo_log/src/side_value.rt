@@ -1,7 +1,7 @@
 ghost use Rattle.std.specs.Prelude.{◌≡◌, ◌+◌, ◌<◌, ◌≤◌, [], ◌∷◌, ◌++◌, length, take, slice_get, IsOk, IfOk, IfErr, OnOk, OnErr};
 
 use crate::job::UndoJob;
-use crate::log::UndoLog;
+use crate::log::JobLog;
 use crate::side::{Side, SideJob};
 use core::mem::replace_with;
 use std::alloc::{AllocError, AllocFailed, Global};
@@ -16,7 +16,7 @@ use std::marker::Model;
 #[derive(Drop)]
 pub struct SideValue<S: Side> {
     value: S,
-    log: UndoLog<SideJob<S>>,
+    log: JobLog<Vec<SideJob<S>>>,
 }
 
 impl<S: Side> Model for SideValue<S> {
@@ -34,7 +34,8 @@ impl<S: Side> Model for SideValue<S> {
       save_room = side.log.save_room;
     } };
 
-    ghost invariant = { λ side. IsUndoable (λ j. S.before j.job) (λ j. S.after j.job) (S.words_of side.value) side.log };
+    ghost invariant = { λ side.
+        IsUndoable (λ j. S.before j.job) (λ j. S.after j.job) (S.words_of side.value) side.log };
 }
 
 impl<S: Side> SideValue<S> {
@@ -49,7 +50,7 @@ impl<S: Side> SideValue<S> {
     {
         SideValue {
             value,
-            log: UndoLog::new(alloc),
+            log: JobLog::new(alloc),
         }
     }
 

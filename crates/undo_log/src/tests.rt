@@ -1,4 +1,4 @@
-ghost use Rattle.std.specs.Prelude.{◌≡◌, [], ◌∷◌, ◌++◌, IsSome, IfOk, OnOk};
+ghost use Rattle.std.specs.Prelude.{◌≡◌, [], ◌∷◌, ◌++◌, length, IsSome, IfOk, OnOk};
 
 mod register;
 mod register_job;
@@ -52,17 +52,35 @@ fn save(rt: &impl Abort, log: &mut UndoLog<Raised>) -> Result<usize, Fail> {
     Ok(log.save()?)
 }
 
+/// A log of eight jobs, for which no memory is wanted: that none of them is refused is proved, and
+/// that the next one needs memory.
+fn eight_jobs(alloc: Global) -> UndoLog<Raised>
+    ensures jobs { length result.jobs ≡ 8 }
+    ensures room { result.room ≡ 0 }
+{
+    let mut log = UndoLog::new(alloc);
+    for number in 1..9 {
+        let Ok(()) = log.reserve_one() else {
+            unreachable!();
+        };
+        log.push_reserved(Raised(number));
+    }
+    log
+}
+
+/// Also run with the first allocation refused, which is that of the ninth job.
 #[test]
-fn nine_jobs_come_out_newest_first(rt: HostRuntime) -> Result<(), Fail> {
-    let mut log = UndoLog::new(rt.alloc());
-    for number in 1..10 {
-        push(&rt, &mut log, Raised(number))?;
-    }
+fn nine_undone_newest_first(rt: HostRuntime) -> Result<(), Fail> {
+    let mut log = eight_jobs(rt.alloc());
+    push(&rt, &mut log, Raised(9))?;
     assert_eq!(rt; log.len(), 9);
+    let mut count = 9;
     for expected in [9, 8, 7, 6, 5, 4, 3, 2, 1] {
-        let Raised(number) = log.pop_above(0).ok_or("a job")?;
-        assert_eq!(rt; number, expected);
+        let job = log.pop_above(0).ok_or("a job")?;
+        assert!(rt; job.0 == expected && count == expected && 0 < expected);
+        count = job.run(count);
     }
+    assert_eq!(rt; count, 0);
     assert!(rt; log.is_empty() && log.pop_above(0).is_none());
     log.cut(0);
     assert_eq!(rt; log.level(), 0);

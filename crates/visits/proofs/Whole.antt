@@ -1,97 +1,84 @@
--- What a legal history of one caller's put and get says.
-use Rattle.std.proofs.Common.{◌≡◌, ℕ, ◌+◌, ◌<◌, ◌≤◌, ◌==◌, Bool, true, false, cond, List, [], ◌∷◌, ◌++◌, length, length-append, Option, Some, None, IsSome, refl, sym, ap, subst, ◌∙◌, arith}
-use Rattle.std.specs.Prelude.{nat_eq, ◌&&◌, is_some, Result, Ok, Err}
-use Rattle.std.specs.Option.{option_eq}
-use Rattle.std.specs.List.{filter, sum_by, range_with_len}
-use Rattle.std.specs.Prelude.{map}
-use Rattle.std.proofs.lemmas.Bool.{false≢true, and_parts, eqb-true}
-use Rattle.txn_trace.specs.declared.op.Op.TheVariants.{Put, Get}
+-- What visitors' own entries say of what they got, in a legal history.
+use Rattle.std.proofs.Common.{◌≡◌, ℕ, ◌<◌, Bool, true, false, cond, List, [], ◌∷◌, ◌++◌, length, map, slice_index_or, Option, Some, None, IsSome, IfOk, refl, sym, ap, subst, ◌∙◌}
+use Rattle.std.specs.Prelude.{nat_eq, slice_get, All, Result, Ok}
+use Rattle.std.specs.Option.{option_eq, option_and_then, option_map}
+use Rattle.std.specs.List.{fold}
+use Rattle.std.proofs.lemmas.Bool.{false≢true}
+use Rattle.std.proofs.lemmas.List.{append-nil, length-map, get_or-map}
+use Rattle.std.proofs.lemmas.Option.{slice_get-map, slice_get_within, get_or_from_slice_get}
 use Rattle.txn_trace.specs.declared.entry.Entry.{Entry}
-use Rattle.txn_trace.specs.declared.entry.Entry.TheVariants.{Began, Asked, Did, Committed}
-use Rattle.txn_trace.specs.Map.{empty, get, insert}
+use Rattle.txn_trace.specs.declared.holder.Holder.TheVariants.{Now}
+use Rattle.txn_trace.specs.declared.entry.Entry.TheVariants.{Asked, Did, Committed}
+use Rattle.txn_trace.specs.declared.op.Op.TheVariants.{Put, Get}
+use Rattle.txn_trace.specs.declared.refusal.Refusal.{Refusal}
+use Rattle.txn_trace.specs.Map.{Map, get, insert}
+use Rattle.txn_trace.specs.Alone.{Run, act, alone}
+use Rattle.txn_trace.specs.Serial.{serial}
 use Rattle.txn_trace.specs.Legal.{IsLegal}
-use Rattle.txn_trace.specs.Shape.{is_shaped, is_numbered, seat_after, own}
 use Rattle.txn_trace.proofs.Maps.{get-insert-here}
 use Rattle.txn_trace.proofs.Now.{same_option}
-use Rattle.txn_trace.specs.declared.refusal.Refusal.{Refusal}
-use Rattle.txn_trace.specs.History.{caller_of}
-use Rattle.txn_trace.specs.Sizes.{Sizes, limits_of}
-use Rattle.locked_map.specs.Tokens.{Token, Ticket, new_ticket}
-use Rattle.locked_map.specs.Closes.{IsOwn, AreCounted}
-use Rattle.visits.specs.Visits.{visiting, IsVisit}
+use Rattle.txn_trace.proofs.Committing.{has_committed}
+use Rattle.locked_map.specs.Tokens.{Token}
+use Rattle.locked_map.specs.Closes.{IsOwn}
+use Rattle.visits.specs.declared.visit.Visit.{Visit}
+use Rattle.visits.specs.Visits.{visiting, HasVisited, IsAnswered, AreAnswered}
 
--- The transaction is the first.
-first_txn : (stripes key value txn : ℕ) (before reply : Option ℕ) (position : ℕ) → IsLegal stripes (visiting 0 key value txn before reply position) → txn ≡ 1
-first_txn stripes key value txn before reply position legal =
-    eqb-true txn 1 (and_parts (is_some (seat_after (own 0 (Began 0 txn ∷ [])))) (is_numbered [] (Began 0 txn))
-    (legal.shape [] (Began 0 txn) (Asked 0 (Put key value) ∷ Did 0 before ∷ Asked 0 (Get key) ∷ Did 0 reply ∷ Committed 0 position ∷ [], refl))).1
+-- A run goes on to its commit only where its reply was right.
+tested : (c place : ℕ) (b : Bool) (run : Run) → IsSome (option_and_then (λ r. act r (Committed c place)) (cond b (Some run) None)) → b ≡ true
+tested c place true run there = refl
+tested c place false run there = absurd (false≢true there)
 
-tested : {A : Type 0} (b : Bool) (x : A) → IsSome (cond b (Some x) None) → b ≡ true
-tested true x there = refl
-tested false x there = absurd (false≢true there)
+-- Alone on any map, what is put is got.
+got_alone : (m : Map) (c : ℕ) (visit : Visit) (txn : ℕ) (before reply : Option ℕ) (place : ℕ) → IsSome (alone m (visiting c visit txn before reply place)) → reply ≡ Some visit.value
+got_alone m c visit txn before reply place =
+    let put : Map = insert m visit.key visit.value in
+    let run : Run = record { last = put; earlier = m ∷ []; pending = None; notes = 1 ∷ [] } in
+    elim (option_eq nat_eq before (get m visit.key)) as (λ b. IsSome (fold (λ o e. option_and_then (λ r. act r e) o) (cond b (Some run) None) (Asked c (Get visit.key) ∷ Did c reply ∷ Committed c place ∷ [])) → reply ≡ Some visit.value) [
+      | true ↦ λ there. same_option reply (get put visit.key) (tested c place (option_eq nat_eq reply (get put visit.key)) _ there) ∙ get-insert-here m visit.key visit.value
+      | false ↦ λ there. absurd (false≢true there)
+    ]
 
-replied : (stripes key value : ℕ) (before reply : Option ℕ) (position : ℕ) → IsLegal stripes (visiting 0 key value 1 before reply position) → reply ≡ Some value
-replied stripes key value None reply position legal =
-    same_option reply (get (insert empty key value) key)
-    (tested (option_eq nat_eq reply (get (insert empty key value) key)) _
-    (legal.replies (Began 0 1 ∷ Asked 0 (Put key value) ∷ Did 0 None ∷ Asked 0 (Get key) ∷ Did 0 reply ∷ []) (Committed 0 position ∷ [], refl) 1 refl))
-    ∙ get-insert-here empty key value
-replied stripes key value (Some old) reply position legal =
-    absurd (false≢true (legal.replies (Began 0 1 ∷ Asked 0 (Put key value) ∷ Did 0 (Some old) ∷ Asked 0 (Get key) ∷ Did 0 reply ∷ []) (Committed 0 position ∷ [], refl) 1 refl))
+-- So it is in every legal history that has the visitor's entries, whatever the other callers do.
+pub got_at_close : {S : Type 0} (visit : Visit) (reply : Option ℕ) (me : Token S) (stripes : ℕ) (h : List Entry) → HasVisited visit reply me → IsLegal Now stripes h → IsOwn h me → IsAnswered h visit reply
+got_at_close visit reply me stripes h visited legal own_is =
+    let c : ℕ = me.number in
+    let committed = has_committed c visited.txn visited.place h visited.earlier
+    (Asked c (Put visit.key visit.value) ∷ Did c visited.before ∷ Asked c (Get visit.key) ∷ Did c reply ∷ []) [] legal.shape legal.replies
+    (own_is ∙ visited.seen ∙ ap (λ es. visited.earlier ++ es) (sym (append-nil (visiting c visit visited.txn visited.before reply visited.place)))) refl in
+    record {
+      caller = c;
+      txn = visited.txn;
+      before = visited.before;
+      place = visited.place;
+      whole = committed.whole;
+      got = got_alone (serial committed.before) c visit visited.txn visited.before reply visited.place committed.replied;
+    }
 
--- What is put is got.
-pub got : (stripes key value txn : ℕ) (before reply : Option ℕ) (position : ℕ) → IsLegal stripes (visiting 0 key value txn before reply position) → reply ≡ Some value
-got stripes key value txn before reply position legal =
-    replied stripes key value before reply position
-    (subst (λ t. IsLegal stripes (visiting 0 key value t before reply position)) (first_txn stripes key value txn before reply position legal) legal)
+mapped : {A B : Type 0} (f : A → B) (o : Option A) (y : B) → option_map f o ≡ Some y → (x : A) × (o ≡ Some x) × (f x ≡ y)
+mapped f None y is = absurd (cc is)
+mapped f (Some x) y is = (x, refl, cc is)
 
--- A part that is as long as the whole is the whole.
-pub whole_part : {A : Type 0} (test : A → Bool) (xs : List A) → length (filter test xs) ≡ length xs → filter test xs ≡ xs
-whole_part test [] is = refl
-whole_part test (x ∷ xs) is =
-    (elim (test x) as (λ b. length (cond b (x ∷ filter test xs) (filter test xs)) ≡ length (x ∷ xs) → cond b (x ∷ filter test xs) (filter test xs) ≡ x ∷ xs) [
-      | true ↦ λ same. ap (λ ys. x ∷ ys) (whole_part test xs (omega (arith, same)))
-      | false ↦ λ same. absurd (let fewer = fewer test xs in omega (arith, same, fewer))
-    ]) is
-  where
-    fewer : {A : Type 0} (test : A → Bool) (xs : List A) → length (filter test xs) ≤ length xs
-    fewer test [] = omega arith
-    fewer test (x ∷ xs) =
-        elim (test x) as (λ b. length (cond b (x ∷ filter test xs) (filter test xs)) ≤ length (x ∷ xs)) [
-          | true ↦ omega (arith, fewer test xs)
-          | false ↦ omega (arith, fewer test xs)
-        ]
+if_ok : (visit : Visit) (reply : Option ℕ) (answer : Result (Option ℕ) Refusal) {S : Type 0} (me : Token S) → answer ≡ Ok reply → IfOk answer (λ r. HasVisited visit r me) → HasVisited visit reply me
+if_ok visit reply answer me is made = subst (λ a. IfOk a (λ r. HasVisited visit r me)) is made
 
--- A map whose one caller has made such a transaction, and that was closed.
-pub got_at_close : {S : Type 0} (key value : ℕ) (reply : Option ℕ) (k l : Token S) (stripes : ℕ) (h : List Entry) → IsVisit key value reply k l → k.number ≡ 0 → k.seen ≡ []
-    → IsLegal stripes h → IsOwn h l → AreCounted h (l ∷ []) → reply ≡ Some value
-got_at_close key value reply k l stripes h visit zero none legal mine_is counted =
-    let entries : l.seen ≡ visiting 0 key value visit.txn visit.before reply visit.position =
-    visit.seen ∙ ap (λ es. es ++ visiting k.number key value visit.txn visit.before reply visit.position) none
-    ∙ ap (λ n. visiting n key value visit.txn visit.before reply visit.position) zero in
-    let mine : filter (λ e. caller_of e == l.number) h ≡ l.seen = mine_is in
-    let total : length h ≡ 0 + length l.seen = counted in
-    let part = ap length mine in
-    let all : length (filter (λ e. caller_of e == l.number) h) ≡ length h = omega (arith, total, part) in
-    let is : h ≡ visiting 0 key value visit.txn visit.before reply visit.position =
-    sym (whole_part (λ e. caller_of e == l.number) h all) ∙ mine ∙ entries in
-    got stripes key value visit.txn visit.before reply visit.position (subst (IsLegal stripes) is legal)
-
--- The last of one is the one.
-last_one : {A : Type 0} (xs : List A) (x y : A) → y ∷ [] ≡ xs ++ x ∷ [] → x ≡ y
-last_one [] x y is = cc
-last_one (z ∷ zs) x y is = absurd (let lengths = ap length is in omega (arith, lengths, length-append zs (x ∷ [])))
-
--- The one pass of a map for one caller has the number 0.
-pub first_pass : (limits : Sizes) (rest : List Ticket) (pass : Ticket) → limits.callers ≡ 1 → map (new_ticket limits) (range_with_len 0 limits.callers) ≡ rest ++ pass ∷ [] → pass.number ≡ 0
-first_pass limits rest pass one is =
-    ap (λ (p : Ticket). p.number) (last_one rest pass (new_ticket limits 0) (sym (ap (λ n. map (new_ticket limits) (range_with_len 0 n)) one) ∙ is))
-
--- How many callers limits have, where there are limits.
-pub callers_in : Result Sizes Refusal → ℕ
-callers_in (Ok limits) = limits.callers
-callers_in (Err refusal) = 0
-
-pub one_caller : (limits : Sizes) → Ok limits ≡ limits_of 1 8 8 → limits.callers ≡ 1
-unfolding callers_in lib.Count.ones
-one_caller limits is = ap callers_in is
+-- So all visitors are answered that have made their visits: `jobs` before and `visited` after.
+pub all_answered : {J V S : Type 0} (visit_of : J → Visit) (me_of : V → Token S) (answer_of : V → Result (Option ℕ) Refusal) (visits : List Visit) (jobs : List J) (visited : List V) (stripes : ℕ) (h : List Entry)
+    → map visit_of jobs ≡ visits → length visited ≡ length jobs
+    → ((i : ℕ) (d : V) → i < length jobs → (job : J) × ((x : J) → slice_index_or jobs i x ≡ job) × IfOk (answer_of (slice_index_or visited i d)) (λ reply. HasVisited (visit_of job) reply (me_of (slice_index_or visited i d))))
+    → IsLegal Now stripes h → All (IsOwn h) (map me_of visited) → AreAnswered h visits (map answer_of visited)
+all_answered visit_of me_of answer_of visits jobs visited stripes h visits_are count made_each legal own = record {
+  count = length-map visited answer_of ∙ count ∙ sym (length-map jobs visit_of) ∙ ap length visits_are;
+  each = λ i visit reply at_visit at_answer.
+      let (job, job_at, visit_is) = mapped visit_of (slice_get jobs i) visit (sym (slice_get-map visit_of jobs i) ∙ ap (λ vs. slice_get vs i) visits_are ∙ at_visit) in
+      let (v, v_at, answer_is) = mapped answer_of (slice_get visited i) (Ok reply) (sym (slice_get-map answer_of visited i) ∙ at_answer) in
+      let (same, same_is, made) = made_each i v (slice_get_within jobs i job job_at) in
+      let v_is : slice_index_or visited i v ≡ v = get_or_from_slice_get visited i v v v_at in
+      let job_is : same ≡ job = sym (same_is job) ∙ get_or_from_slice_get jobs i job job job_at in
+      let its : HasVisited visit reply (me_of (slice_index_or visited i v)) =
+      if_ok visit reply (answer_of (slice_index_or visited i v)) (me_of (slice_index_or visited i v)) (ap answer_of v_is ∙ answer_is)
+      (subst (λ w. IfOk (answer_of (slice_index_or visited i v)) (λ r. HasVisited w r (me_of (slice_index_or visited i v)))) (ap visit_of job_is ∙ visit_is) made) in
+      let within : i < length visited = slice_get_within visited i v v_at in
+      let mine : IsOwn h (me_of (slice_index_or visited i v)) =
+      subst (IsOwn h) (get_or-map me_of visited i v (me_of v) within) (own i (me_of v) (subst (λ n. i < n) (sym (length-map visited me_of)) within)) in
+      got_at_close visit reply (me_of (slice_index_or visited i v)) stripes h its legal mine;
+}

@@ -1,20 +1,39 @@
--- What a caller of a shared map has seen of a put and a get.
-use Rattle.std.specs.Prelude.{ℕ, ◌≡◌, List, [], ◌∷◌, ◌++◌, Option}
+-- What a visitor of a shared map has seen of its visit, and what all visitors are answered.
+use Rattle.std.specs.Prelude.{ℕ, ◌≡◌, List, [], ◌∷◌, ◌++◌, length, slice_get, Option, Some, Result, Ok}
 use Rattle.txn_trace.specs.declared.op.Op.TheVariants.{Put, Get}
 use Rattle.txn_trace.specs.declared.entry.Entry.{Entry}
 use Rattle.txn_trace.specs.declared.entry.Entry.TheVariants.{Began, Asked, Did, Committed}
-use Rattle.locked_map.specs.Tokens.{Token, IsSameCaller}
+use Rattle.txn_trace.specs.declared.refusal.Refusal.{Refusal}
+use Rattle.txn_trace.specs.History.{of}
+use Rattle.locked_map.specs.Tokens.{Token}
+use Rattle.visits.specs.declared.visit.Visit.{Visit}
 
 -- The entries of a transaction that puts a value at a key, gets the key, and commits.
-abbrev pub visiting : ℕ → ℕ → ℕ → ℕ → Option ℕ → Option ℕ → ℕ → List Entry
-visiting c key value txn before reply position =
-    Began c txn ∷ Asked c (Put key value) ∷ Did c before ∷ Asked c (Get key) ∷ Did c reply
-    ∷ Committed c position ∷ []
+abbrev pub visiting : ℕ → Visit → ℕ → Option ℕ → Option ℕ → ℕ → List Entry
+visiting c visit txn before reply place =
+    Began c txn ∷ Asked c (Put visit.key visit.value) ∷ Did c before ∷ Asked c (Get visit.key)
+    ∷ Did c reply ∷ Committed c place ∷ []
 
--- The caller has seen such a transaction more, and nothing else.
-pub record IsVisit {S : Type 0} (key value : ℕ) (reply : Option ℕ) (k l : Token S) : Type 0 where
-  pub whose : IsSameCaller k l
+-- The last that the caller has seen is such a transaction.
+pub record HasVisited {S : Type 0} (visit : Visit) (reply : Option ℕ) (me : Token S) : Type 0 where
+  pub earlier : List Entry
   pub txn : ℕ
   pub before : Option ℕ
-  pub position : ℕ
-  pub seen : l.seen ≡ k.seen ++ visiting k.number key value txn before reply position
+  pub place : ℕ
+  pub seen : me.seen ≡ earlier ++ visiting me.number visit txn before reply place
+
+-- In the history such a transaction has committed, and it got what it put.
+pub record IsAnswered (h : List Entry) (visit : Visit) (reply : Option ℕ) : Type 0 where
+  pub caller : ℕ
+  pub txn : ℕ
+  pub before : Option ℕ
+  pub place : ℕ
+  pub whole : of txn h ≡ visiting caller visit txn before reply place
+  pub got : reply ≡ Some visit.value
+
+-- There is an answer to each visit, in their order, and each that is a reply is so by the history.
+pub record AreAnswered (h : List Entry) (visits : List Visit)
+    (answers : List (Result (Option ℕ) Refusal)) : Type 0 where
+  pub count : length answers ≡ length visits
+  pub each : (i : ℕ) (visit : Visit) (reply : Option ℕ) → slice_get visits i ≡ Some visit
+      → slice_get answers i ≡ Some (Ok reply) → IsAnswered h visit reply

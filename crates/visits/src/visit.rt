@@ -1,69 +1,171 @@
-//! What is put and got.
-ghost use Rattle.std.specs.Prelude.{◌≡◌, Some, IfOk};
-ghost use Rattle.visits.specs.Visits.{IsVisit};
+//! What visitors of one map put and get, each in a thread of its own.
+ghost use Rattle.std.specs.Prelude.{◌≡◌, IfOk, map};
+ghost use Rattle.visits.specs.Visits.{AreAnswered, HasVisited};
 
-use locked_map::{Caller, NoSide, SharedMap, Stop};
-use std::alloc::Global;
+use boost_core::Core;
+use locked_map::{Caller, Closed, NoSide, Pass, SharedMap, Stop};
+use std::alloc::{AllocError, Global};
 use std::sync::Wait;
 use std::sync::ledger::{Blank, Ledger};
+use std::thread;
+use std::thread::Threads;
 use txn_trace::{Limits, Refusal, Reply};
 
-/// Puts a value at a key, gets it and commits, and answers what it got.
-///
-/// # Errors
-///
-/// The first `Stop` of its calls: after `Busy` the transaction is aborted and may be begun anew,
-/// after `Refused` it is as it was.
-fn put_and_get<L: Ledger, R: Wait>(
-    rt: &R,
-    map: &SharedMap<L>,
-    me: &mut Caller<L, NoSide>,
-    key: u64,
-    value: u64,
-) -> Result<Reply, Stop>
-    ensures { IfOk result (λ reply. IsVisit key value reply me.old me.new) }
-{
-    map.begin(rt, me)?;
-    map.put(rt, me, key, value)?;
-    let reply = map.get(rt, me, key)?;
-    map.commit(rt, me)?;
-    Ok(reply)
+/// What a visitor puts, and where.
+#[derive(Clone, Copy)]
+pub struct Visit {
+    /// The key.
+    pub key: u64,
+    /// The value.
+    pub value: u64,
 }
 
-/// Makes a map for one caller, puts and gets, and closes it: what is put is got.
+/// What a visitor got, or why it did not get that far.
+pub type Answer = Result<Reply, Refusal>;
+
+impl Visit {
+    /// Puts the value, gets it and commits, and answers what it got.
+    ///
+    /// # Errors
+    ///
+    /// The first `Stop` of its calls: after `Busy` the transaction is aborted and may be begun
+    /// anew, after `Refused` it is as it was.
+    fn put_and_get<L: Ledger, R: Wait>(
+        self,
+        rt: &R,
+        map: &SharedMap<L>,
+        me: &mut Caller<L, NoSide>,
+    ) -> Result<Reply, Stop>
+        ensures { IfOk result (λ reply. HasVisited self reply me.new) }
+    {
+        map.begin(rt, me)?;
+        map.put(rt, me, self.key, self.value)?;
+        let reply = map.get(rt, me, self.key)?;
+        map.commit(rt, me)?;
+        Ok(reply)
+    }
+
+    /// The same, begun anew as long as another visitor holds the key's stripe.
+    ///
+    /// # Errors
+    ///
+    /// The first refusal of its calls.
+    fn make<L: Ledger, R: Wait>(
+        self,
+        rt: &R,
+        map: &SharedMap<L>,
+        me: &mut Caller<L, NoSide>,
+    ) -> Answer
+        ensures { IfOk result (λ reply. HasVisited self reply me.new) }
+    {
+        for _ in rt.forever() {
+            match self.put_and_get(rt, map, me) {
+                Ok(reply) => return Ok(reply),
+                Err(Stop::Busy { .. }) => thread::yield_now(),
+                Err(Stop::Refused(refusal)) => return Err(refusal),
+            }
+        }
+        unreachable!()
+    }
+}
+
+/// A visitor before its visit.
+#[derive(Drop)]
+struct Visitor<L: Ledger> {
+    visit: Visit,
+    me: Caller<L, NoSide>,
+}
+
+/// A visitor after its visit.
+#[derive(Drop)]
+struct Visited<L: Ledger> {
+    me: Caller<L, NoSide>,
+    answer: Answer,
+}
+
+impl<L: Ledger> Visitor<L> {
+    /// Makes the visit.
+    fn go<R: Wait>(self, rt: &R, map: &SharedMap<L>) -> Visited<L>
+        ensures { IfOk result.answer (λ reply. HasVisited self.visit reply result.me) }
+    {
+        let Visitor { visit, mut me } = self;
+        let answer = visit.make(rt, map, &mut me);
+        Visited { me, answer }
+    }
+}
+
+/// A visitor for each visit, with a caller of its own.
 ///
 /// # Errors
 ///
-/// The `Stop` of a call; or `Refused` where memory is refused, or where the map does not close.
-pub fn visit<L: Ledger, R: Wait>(
+/// `CallersMissing` where there are more visits than passes, `NoMemory` where memory is refused.
+fn visitors_of<L: Ledger>(
+    alloc: Global,
+    mut passes: Vec<Pass<L>>,
+    visits: &[Visit],
+) -> Result<Vec<Visitor<L>>, Refusal>
+    ensures { IfOk result (λ visitors. map (λ v. v.visit) visitors.items ≡ visits.now) }
+{
+    let mut visitors = Vec::new(alloc);
+    for visit in visits {
+        let Some(pass) = passes.pop() else {
+            return Err(Refusal::CallersMissing);
+        };
+        let me = pass.caller(alloc, NoSide);
+        let Ok(()) = visitors.push(Visitor { visit: *visit, me }) else {
+            return Err(Refusal::NoMemory);
+        };
+    }
+    Ok(visitors)
+}
+
+/// The callers of visitors, and their answers.
+fn parted<L: Ledger>(
+    alloc: Global,
+    visited: Vec<Visited<L>>,
+) -> Result<(Vec<Caller<L, NoSide>>, Vec<Answer>), AllocError>
+    ensures callers { IfOk result (λ r. r.0.items ≡ map (λ v. v.me) visited.items) }
+    ensures answers { IfOk result (λ r. r.1.items ≡ map (λ v. v.answer) visited.items) }
+{
+    let mut callers = Vec::new(alloc);
+    let mut answers = Vec::new(alloc);
+    for Visited { me, answer } in visited {
+        callers.push(me)?;
+        answers.push(answer)?;
+    }
+    Ok((callers, answers))
+}
+
+/// Makes a map, has each visitor visit it in a thread of its own, and closes it: its core, and an
+/// answer to each visit, in their order. Each visitor got what it put, whatever the others did: the
+/// core's history has its transaction, committed.
+///
+/// # Errors
+///
+/// `NoMemory` where memory is refused, `CallersMissing` where there are more visits than callers,
+/// `OutOfStep` where the map does not close, as with fewer visits than callers.
+pub fn visit_all<L: Ledger + Send + Sync, R: Threads + Wait + Sync>(
     rt: &R,
     alloc: Global,
     blank: Blank,
-    key: u64,
-    value: u64,
-) -> Result<Reply, Stop>
+    limits: Limits,
+    visits: &[Visit],
+) -> Result<(Core, Vec<Answer>), Refusal>
     requires name { blank.name ≡ L.name }
     requires parts { blank.parts ≡ L.parts }
-    requires one { blank.parts ≡ 1 }
-    ensures { IfOk result (λ reply. reply ≡ Some value) }
+    requires one_each { blank.parts ≡ limits.callers }
+    ensures { IfOk result (λ r. AreAnswered r.0.history visits.now r.1.items) }
 {
-    let Ok(limits) = Limits::new(1, 8, 8) else {
-        return Err(Stop::Refused(Refusal::Limit));
+    let (map, passes) = SharedMap::<L>::new(alloc, blank, limits)?;
+    let visitors = visitors_of(alloc, passes, visits)?;
+    let Ok(visited) = thread::map_vec(rt, visitors, &|visitor| visitor.go(rt, &map)) else {
+        return Err(Refusal::NoMemory);
     };
-    let Ok((map, mut passes)) = SharedMap::<L>::new(alloc, blank, limits) else {
-        return Err(Stop::Refused(Refusal::NoMemory));
-    };
-    let Some(pass) = passes.pop() else {
-        return Err(Stop::Refused(Refusal::CallersMissing));
-    };
-    let mut me = pass.caller(alloc, NoSide);
-    let reply = put_and_get(rt, &map, &mut me, key, value)?;
-    let mut callers = Vec::new(alloc);
-    let Ok(()) = callers.push(me) else {
-        return Err(Stop::Refused(Refusal::NoMemory));
+    let Ok((callers, answers)) = parted(alloc, visited) else {
+        return Err(Refusal::NoMemory);
     };
     match map.close(callers) {
-        Ok(_) => Ok(reply),
-        Err(_) => Err(Stop::Refused(Refusal::OutOfStep)),
+        Ok(Closed { core, callers: _ }) => Ok((core, answers)),
+        Err(_) => Err(Refusal::OutOfStep),
     }
 }

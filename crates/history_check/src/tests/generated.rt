@@ -4,7 +4,7 @@ ghost use Rattle.std.specs.Prelude.{◌<◌};
 
 use super::plain::{self, Place};
 use std::alloc::{AllocError, Global};
-use txn_trace::{Entry, Op};
+use txn_trace::{Entry, Holder, Op};
 
 /// The callers of a history that has so many of them.
 const CALLERS: [u64; 4] = [0, 1, 7, 63];
@@ -51,12 +51,13 @@ impl Draws {
     }
 }
 
-/// A legal history of so many entries.
+/// A legal history of so many entries, whose Busy entries name such a caller.
 pub(super) fn legal_history(
     alloc: Global,
     draws: &mut Draws,
     stripes: u64,
     length: u64,
+    holder: Holder,
 ) -> Result<Vec<Entry>, AllocError>
     requires { 0 < stripes }
 {
@@ -64,7 +65,7 @@ pub(super) fn legal_history(
     let mut history = Vec::new(alloc);
     for _ in 0..length {
         let caller = draws.caller(callers);
-        let entry = next_entry(alloc, draws, &history, caller, stripes)?;
+        let entry = next_entry(alloc, draws, &history, caller, stripes, holder)?;
         history.push(entry)?;
     }
     Ok(history)
@@ -77,6 +78,7 @@ fn next_entry(
     history: &[Entry],
     caller: u64,
     stripes: u64,
+    holder: Holder,
 ) -> Result<Entry, AllocError>
     requires { 0 < stripes }
 {
@@ -98,19 +100,23 @@ fn next_entry(
             2 => Entry::Leave(caller, None),
             3 => Entry::Leave(caller, Some(draws.below((kept.len() as u64).max(1)))),
             4 => Entry::Committed(caller, plain::committed(history).saturating_add(1)),
-            _ => next_operation(history, caller, draws.op(), stripes),
+            _ => {
+                let is_early = holder == Holder::Begun && draws.below(4) == 0;
+                next_operation(history, caller, draws.op(), stripes, is_early)
+            }
         },
     })
 }
 
 /// What comes of an operation in an open transaction: it is asked for, or a holder of its stripe is
-/// in the way.
-fn next_operation(history: &[Entry], caller: u64, op: Op, stripes: u64) -> Entry
+/// in the way. Where its stripe was looked at early, that is any other caller that has begun.
+fn next_operation(history: &[Entry], caller: u64, op: Op, stripes: u64, is_early: bool) -> Entry
     requires { 0 < stripes }
 {
     let stripe = op.key() % stripes;
     for other in CALLERS {
-        if other != caller && plain::holds(history, other, stripe, stripes) {
+        let was_held = is_early && plain::has_begun(history, other);
+        if other != caller && (was_held || plain::holds(history, other, stripe, stripes)) {
             return Entry::Busy(caller, op, other);
         }
     }

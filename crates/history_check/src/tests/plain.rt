@@ -10,7 +10,7 @@ ghost use Rattle.std.specs.Prelude.{◌<◌};
 use crate::{Rule, Verdict};
 use std::alloc::{AllocError, Global};
 use std::collections::BTreeMap;
-use txn_trace::{Entry, Op, Reply};
+use txn_trace::{Entry, Holder, Op, Reply};
 
 type Values = BTreeMap<u64, u64>;
 
@@ -170,8 +170,14 @@ pub(super) fn holds(history: &[Entry], caller: u64, stripe: u64, stripes: u64) -
     holds
 }
 
+/// Whether a caller has begun a transaction.
+pub(super) fn has_begun(history: &[Entry], caller: u64) -> bool {
+    let mut own = history.iter().filter(|entry| entry.caller() == caller);
+    own.any(|entry| is_began(entry))
+}
+
 /// Whether one more entry keeps the rule of locks.
-fn is_locked(history: &[Entry], entry: &Entry, stripes: u64) -> bool
+fn is_locked(history: &[Entry], entry: &Entry, stripes: u64, holder: Holder) -> bool
     requires { 0 < stripes }
 {
     match *entry {
@@ -180,9 +186,11 @@ fn is_locked(history: &[Entry], entry: &Entry, stripes: u64) -> bool
             let mut others = history.iter().map(|entry| entry.caller());
             !others.any(|other| other != caller && holds(history, other, stripe, stripes))
         }
-        Entry::Busy(caller, op, other) => {
-            other != caller && holds(history, other, op.key() % stripes, stripes)
-        }
+        Entry::Busy(caller, _, other) if other == caller => false,
+        Entry::Busy(_, op, other) => match holder {
+            Holder::Now => holds(history, other, op.key() % stripes, stripes),
+            Holder::Begun => has_begun(history, other),
+        },
         _ => true,
     }
 }
@@ -358,7 +366,12 @@ fn replies_hold(alloc: Global, history: &[Entry]) -> Result<bool, AllocError> {
 }
 
 /// The rule that the last entry of a beginning breaks.
-fn broken(alloc: Global, beginning: &[Entry], stripes: u64) -> Result<Option<Rule>, AllocError>
+fn broken(
+    alloc: Global,
+    beginning: &[Entry],
+    stripes: u64,
+    holder: Holder,
+) -> Result<Option<Rule>, AllocError>
     requires { 0 < stripes }
 {
     let Some((entry, before)) = beginning.split_last() else {
@@ -370,7 +383,7 @@ fn broken(alloc: Global, beginning: &[Entry], stripes: u64) -> Result<Option<Rul
     if !replies_hold(alloc, beginning)? {
         return Ok(Some(Rule::Replies));
     }
-    Ok((!is_locked(before, entry, stripes)).then_some(Rule::Locks))
+    Ok((!is_locked(before, entry, stripes, holder)).then_some(Rule::Locks))
 }
 
 /// The first entry that breaks a rule, and the rule.
@@ -378,11 +391,12 @@ pub(super) fn first_bad(
     alloc: Global,
     history: &[Entry],
     stripes: u64,
+    holder: Holder,
 ) -> Result<Option<(usize, Rule)>, AllocError>
     requires { 0 < stripes }
 {
     for i in 0..history.len() {
-        if let Some(rule) = broken(alloc, &history[..i + 1], stripes)? {
+        if let Some(rule) = broken(alloc, &history[..i + 1], stripes, holder)? {
             return Ok(Some((i, rule)));
         }
     }

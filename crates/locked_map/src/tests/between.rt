@@ -1,5 +1,5 @@
 //! Another caller's calls between two turns of one call: no lock is held over a whole call.
-use super::map_of::{Play, callers_of, play_with};
+use super::setting::{Play, both, close, play_with, two_of};
 use crate::shared_map::Released;
 use crate::{Caller, NoSide, Pass, Receipt, SharedMap};
 use boost_core::{Call, End};
@@ -64,15 +64,9 @@ impl Play for StepBetween {
         map: SharedMap<L>,
         passes: Vec<Pass<L>>,
     ) -> Result<(), Fail> {
-        let mut callers = callers_of(alloc, passes)?;
-        let other = callers.pop().ok_or("caller 1")?;
-        let mut me = callers.pop().ok_or("caller 0")?;
+        let (mut me, other) = two_of(alloc, passes)?;
         let other = put_two(rt, &map, &mut me, other);
-        callers.push(me)?;
-        callers.push(other)?;
-        let Ok(closed) = map.close(callers) else {
-            return Err("closes".into());
-        };
+        let closed = close(map, both(alloc, me, other)?)?;
         let wanted = [
             Entry::Began(0, 1),
             Entry::Asked(0, Op::Put(2, 20)),

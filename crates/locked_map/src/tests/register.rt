@@ -3,7 +3,8 @@ ghost use Rattle.locked_map.specs.declared.tests.register.Register.{Register as 
 
 use undo_log::Side;
 
-/// The tests' side value: four words.
+/// The tests' side value: four words. That of `undo_log`'s tests is alike, but no other crate can
+/// name what a crate's tests declare.
 #[derive(Drop)]
 pub(super) struct Register {
     pub(super) words: [u64; 4],

@@ -1,5 +1,5 @@
 //! Worked runs of two callers.
-use super::map_of::{Play, callers_of, play_with};
+use super::setting::{Play, both, callers_of, close, play_with, two_of};
 use crate::{Caller, Closed, NoSide, Pass, Receipt, SharedMap, Stop, Unclosed};
 use std::alloc::Global;
 use std::process::Abort;
@@ -30,14 +30,6 @@ fn busy_between<L: Ledger, R: Wait + Abort>(
     assert_eq!(rt; map.commit(rt, first), Ok(Receipt { txn: 1, place: 2 }));
 }
 
-/// Both, in order.
-fn both<T: Drop>(alloc: Global, first: T, second: T) -> Result<Vec<T>, Fail> {
-    let mut both = Vec::new(alloc);
-    both.push(first)?;
-    both.push(second)?;
-    Ok(both)
-}
-
 /// The callers after that.
 fn callers_after<L: Ledger, R: Wait + Abort>(
     rt: &R,
@@ -45,9 +37,7 @@ fn callers_after<L: Ledger, R: Wait + Abort>(
     map: &SharedMap<L>,
     passes: Vec<Pass<L>>,
 ) -> Result<(Caller<L, NoSide>, Caller<L, NoSide>), Fail> {
-    let mut callers = callers_of(alloc, passes)?;
-    let mut second = callers.pop().ok_or("caller 1")?;
-    let mut first = callers.pop().ok_or("caller 0")?;
+    let (mut first, mut second) = two_of(alloc, passes)?;
     busy_between(rt, map, &mut first, &mut second);
     Ok((first, second))
 }
@@ -63,10 +53,7 @@ impl Play for BusyBetween {
         passes: Vec<Pass<L>>,
     ) -> Result<(), Fail> {
         let (first, second) = callers_after(rt, alloc, &map, passes)?;
-        assert_eq!(rt; (first.seen().len(), second.seen().len()), (4, 5));
-        let Ok(closed) = map.close(both(alloc, first, second)?) else {
-            return Err("closes".into());
-        };
+        let closed = close(map, both(alloc, first, second)?)?;
         let wanted = [
             Entry::Began(0, 1),
             Entry::Asked(0, Op::Put(1, 10)),
@@ -83,10 +70,38 @@ impl Play for BusyBetween {
     }
 }
 
-/// Also `counted_entries`: the nine entries are four of caller 0 and five of caller 1.
 #[test]
 fn busy_between_callers(rt: HostRuntime) -> Result<(), Fail> {
     play_with(&rt, rt.alloc(), 2, &BusyBetween)
+}
+
+struct Counted;
+
+impl Play for Counted {
+    fn play<L: Ledger, R: Wait + Abort>(
+        &self,
+        rt: &R,
+        alloc: Global,
+        map: SharedMap<L>,
+        passes: Vec<Pass<L>>,
+    ) -> Result<(), Fail> {
+        let (first, second) = callers_after(rt, alloc, &map, passes)?;
+        let closed = close(map, both(alloc, first, second)?)?;
+        assert_eq!(rt; closed.core.trace().len(), 9);
+        assert!(rt;
+            closed
+                .callers
+                .iter()
+                .map(|caller| caller.seen().len())
+                .eq([4, 5])
+        );
+        Ok(())
+    }
+}
+
+#[test]
+fn counted_entries(rt: HostRuntime) -> Result<(), Fail> {
+    play_with(&rt, rt.alloc(), 2, &Counted)
 }
 
 struct Missing;
@@ -107,9 +122,7 @@ impl Play for Missing {
         };
         let second = alone.pop().ok_or("caller 1 comes back")?;
         assert_eq!(rt; second.number(), 1);
-        let Ok(closed) = map.close(both(alloc, first, second)?) else {
-            return Err("closes".into());
-        };
+        let closed = close(map, both(alloc, first, second)?)?;
         assert!(rt;
             closed
                 .callers
@@ -153,13 +166,10 @@ impl Play for HelpGrows {
         let mut callers = callers_of(alloc, passes)?;
         let me = callers.first_mut().ok_or("caller 0")?;
         put_and_help(rt, &map, me);
-        let Ok(closed) = map.close(callers) else {
-            return Err("closes".into());
-        };
         let Closed {
             mut core,
             callers: _,
-        } = closed;
+        } = close(map, callers)?;
         assert_eq!(rt; core.size(), 4);
         assert_eq!(rt; core.step(Step::InitSeek(0, 3)), Answer::Ready);
         assert_eq!(rt; core.step(Step::InitSeek(0, 2)), Answer::Placed);
@@ -167,6 +177,7 @@ impl Play for HelpGrows {
     }
 }
 
+/// A help that does nothing would meet its contract, and fails here.
 #[test]
 fn help_grows(rt: HostRuntime) -> Result<(), Fail> {
     play_with(&rt, rt.alloc(), 2, &HelpGrows)
@@ -203,9 +214,7 @@ impl Play for WideKeys {
         let mut callers = callers_of(alloc, passes)?;
         let me = callers.first_mut().ok_or("caller 0")?;
         put_wide_keys(rt, &map, me);
-        let Ok(closed) = map.close(callers) else {
-            return Err("closes".into());
-        };
+        let closed = close(map, callers)?;
         let wanted = [
             (2, 20),
             (1, 12),

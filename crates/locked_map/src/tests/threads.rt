@@ -1,10 +1,8 @@
 //! Callers in threads of their own.
-ghost use Rattle.std.specs.Prelude.{◌≡◌, ◌<◌, true, All};
-ghost use Rattle.txn_trace.specs.History.{caller_of};
+ghost use Rattle.std.specs.Prelude.{◌≡◌};
 
-use super::map_of::callers_of;
+use super::setting::{close, is_settled, open};
 use crate::{Caller, NoSide, Receipt, SharedMap, Stop};
-use history_check::{Verdict, check};
 use std::alloc::Global;
 use std::marker::Brand;
 use std::process::Abort;
@@ -57,8 +55,7 @@ fn two_threads<L: Ledger + Send + Sync, R: Threads + Wait + Abort + Sync>(
     requires parts { blank.parts ≡ L.parts }
     requires one_each { blank.parts ≡ limits.callers }
 {
-    let (map, passes) = SharedMap::<L>::new(alloc, blank, limits)?;
-    let mut callers = callers_of(alloc, passes)?;
+    let (map, mut callers) = open::<L>(alloc, blank, limits)?;
     one_after_the_other(rt, &map, callers.as_mut_slice());
     let of_first = [
         Entry::Began(0, 1),
@@ -76,9 +73,7 @@ fn two_threads<L: Ledger + Send + Sync, R: Threads + Wait + Abort + Sync>(
     assert!(rt; first.seen() == of_first.as_slice());
     let second = callers.get(1).ok_or("caller 1")?;
     assert!(rt; second.seen() == of_second.as_slice());
-    let Ok(closed) = map.close(callers) else {
-        return Err("closes".into());
-    };
+    let closed = close(map, callers)?;
     let mut wanted = Vec::new(alloc);
     wanted.extend_from_slice(of_first.as_slice())?;
     wanted.extend_from_slice(of_second.as_slice())?;
@@ -96,13 +91,6 @@ fn play_two_threads<R: Threads + Wait + Abort + Sync>(rt: &R, alloc: Global) -> 
 #[test]
 fn two_threads_in_turn(rt: HostRuntime) -> Result<(), Fail> {
     play_two_threads(&rt, rt.alloc())
-}
-
-/// Whether each caller's number is one that the checker takes.
-fn has_callers(trace: &[Entry]) -> bool
-    ensures { result ≡ true → All (λ entry. caller_of entry < 64) trace.now }
-{
-    trace.iter().all(|entry| entry.caller() < 64)
 }
 
 /// Numbers that look random.
@@ -205,21 +193,10 @@ fn stress<L: Ledger + Send + Sync, R: Threads + Wait + Abort + Sync>(
     requires parts { blank.parts ≡ L.parts }
     requires one_each { blank.parts ≡ limits.callers }
 {
-    let (map, passes) = SharedMap::<L>::new(alloc, blank, limits)?;
-    let mut callers = callers_of(alloc, passes)?;
+    let (map, mut callers) = open::<L>(alloc, blank, limits)?;
     work_all(rt, &map, callers.as_mut_slice(), seed);
-    let Ok(closed) = map.close(callers) else {
-        return Err("closes".into());
-    };
-    let trace = closed.core.trace();
-    if !has_callers(trace) {
-        return Err("callers below 64".into());
-    }
-    let verdict = check(alloc, trace, 8)?;
-    assert!(rt;
-        matches!(verdict, Verdict::Legal { running: 0, .. }),
-        "seed {seed}"
-    );
+    let closed = close(map, callers)?;
+    assert!(rt; is_settled(alloc, closed.core.trace())?, "seed {seed}");
     Ok(())
 }
 

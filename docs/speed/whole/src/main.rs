@@ -1,8 +1,8 @@
-//! The commands `replay`, `check` and `mix` of the program, in plain Rust: read with typed serde, do, write. It writes what the
-//! program writes, and nothing is proved of it. See ../../SPEED.md.
+//! The commands `replay`, `check`, `mix` and `run` of the program, in plain Rust: read with typed serde, do, write. It writes
+//! what the program writes, and nothing is proved of it. See ../../SPEED.md.
 //!
-//! Usage: whole replay FILE | whole check FILE | whole mix --seed N FILE | whole history FILE N, which writes the first N
-//! entries of a step file's history.
+//! Usage: whole replay FILE | whole check FILE | whole mix --seed N FILE | whole run FILE | whole history FILE N, which
+//! writes the first N entries of a step file's history.
 #![allow(dead_code, unexpected_cfgs)]
 
 mod check;
@@ -12,6 +12,7 @@ mod list;
 #[path = "../../machine.rs"]
 mod machine;
 mod mix;
+mod run;
 #[path = "../../split.rs"]
 mod split;
 #[path = "../../step.rs"]
@@ -40,7 +41,7 @@ fn replay(bytes: &[u8]) -> Result<String, Box<dyn Error>> {
     Ok(text)
 }
 
-fn run() -> Result<String, Box<dyn Error>> {
+fn output() -> Result<String, Box<dyn Error>> {
     let words: Vec<String> = env::args().skip(1).collect();
     let words: Vec<&str> = words.iter().map(String::as_str).collect();
     match words.as_slice() {
@@ -59,15 +60,18 @@ fn run() -> Result<String, Box<dyn Error>> {
         }
         ["mix", "--seed", seed, file] => {
             let file: ScriptFile = serde_json::from_slice(&fs::read(file)?)?;
-            let stripes = file.stripes;
-            let core = mix::mix(seed.parse()?, file);
-            Ok(history_text(core.history(), stripes))
+            let core = mix::mix(seed.parse()?, &file);
+            Ok(history_text(core.history(), file.stripes))
+        }
+        ["run", file] => {
+            let file: ScriptFile = serde_json::from_slice(&fs::read(file)?)?;
+            Ok(history_text(run::run(&file).history(), file.stripes))
         }
         _ => Err("no such words".into()),
     }
 }
 
 fn main() -> Result<(), Box<dyn Error>> {
-    io::stdout().write_all(run()?.as_bytes())?;
+    io::stdout().write_all(output()?.as_bytes())?;
     Ok(())
 }

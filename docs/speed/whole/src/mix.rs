@@ -72,7 +72,7 @@ enum End {
     Refused,
 }
 
-struct Worker {
+pub struct Worker {
     number: u64,
     // The script that it is at, the action, and how often the script was begun anew.
     script: usize,
@@ -94,7 +94,7 @@ fn towards(last: u32, target: u32) -> u32 {
 }
 
 impl Worker {
-    fn new(number: u64) -> Worker {
+    pub fn new(number: u64) -> Worker {
         Worker {
             number,
             script: number as usize,
@@ -227,32 +227,46 @@ fn take(core: &mut Core, worker: &mut Worker, file: &ScriptFile) -> (Answer, boo
     (answer, is_live)
 }
 
+/// Takes a worker's turn, of one step or two, and answers whether it is live after it.
+pub fn turn(core: &mut Core, worker: &mut Worker, file: &ScriptFile) -> bool {
+    let is_pair = matches!(
+        worker.phase,
+        Phase::Seek(PATIENCE) | Phase::InitSeek(_, _, PATIENCE)
+    );
+    match take(core, worker, file) {
+        (Answer::Placed, _) if is_pair => take(core, worker, file).1,
+        (_, is_live) => is_live,
+    }
+}
+
 /// The core after all scripts.
-pub fn mix(seed: u64, file: ScriptFile) -> Core {
-    let mut core = Core::new(Limits {
-        callers: file.workers,
-        stripes: file.stripes,
-        buckets: file.buckets,
-    });
-    let mut live: Vec<Worker> = (0..u64::from(file.workers))
-        .filter(|number| (*number as usize) < file.scripts.len())
-        .map(Worker::new)
-        .collect();
+pub fn mix(seed: u64, file: &ScriptFile) -> Core {
+    let mut core = Core::new(file.limits());
+    let mut live = file.live_workers();
     let mut generator = Generator::new(seed);
     while !live.is_empty() {
         let place = generator.next() as usize % live.len();
-        let worker = &mut live[place];
-        let is_pair = matches!(
-            worker.phase,
-            Phase::Seek(PATIENCE) | Phase::InitSeek(_, _, PATIENCE)
-        );
-        let (answer, mut is_live) = take(&mut core, worker, &file);
-        if is_pair && matches!(answer, Answer::Placed) {
-            is_live = take(&mut core, worker, &file).1;
-        }
-        if !is_live {
+        if !turn(&mut core, &mut live[place], file) {
             live.remove(place);
         }
     }
     core
+}
+
+impl ScriptFile {
+    pub fn limits(&self) -> Limits {
+        Limits {
+            callers: self.workers,
+            stripes: self.stripes,
+            buckets: self.buckets,
+        }
+    }
+
+    /// The workers that have a script.
+    pub fn live_workers(&self) -> Vec<Worker> {
+        (0..u64::from(self.workers))
+            .filter(|number| (*number as usize) < self.scripts.len())
+            .map(Worker::new)
+            .collect()
+    }
 }

@@ -3,4 +3,4 @@ use Rattle.history_check.specs.Fed.{IsFed}
 use Rattle.history_check.proofs.history.check.Given as goal
 
 abbrev pub invariant-loop-entry : goal.invariant-loop-entry
-invariant-loop-entry l = IsFed l.stripes (take l.entry-index l.entries) l.checker
+invariant-loop-entry l = IsFed l.fn.holder l.stripes (take l.entry-index l.entries) l.checker

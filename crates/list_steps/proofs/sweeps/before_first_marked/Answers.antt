@@ -2,11 +2,11 @@ use Rattle.std.proofs.Common.{◌∙◌}
 use Rattle.node_list.specs.Seen.{seen}
 use Rattle.list_steps.proofs.NodeLemmas.{is_linked, next_linked, next_node, no_place, node_at}
 use Rattle.list_steps.proofs.SeekLemmas.{behind_next}
-use Rattle.list_steps.proofs.SweepLemmas.{sweeping_first, sweeping_passed, sweeping_found, sweeping_ends}
+use Rattle.list_steps.proofs.SweepLemmas.{sweeping_from, sweeping_passed, sweeping_found, sweeping_ends}
 use Rattle.list_steps.proofs.sweeps.before_first_marked.Goals as goal
 
 pub walk-init : goal.walk-init
-walk-init c = rw c.head-place.ensures.place (sweeping_first _ c.head-place.ensures.sound)
+walk-init c = sweeping_from _ _ c.changes-changes.ensures.sound.rising c.requires.start
 
 pub node-requires : goal.node-requires
 node-requires c = is_linked _ _ _ c.walk.invariant.at
@@ -39,4 +39,4 @@ returns-then-node-clause-first c =
     sweeping_found _ _ c.walk.invariant _ next c.if-node.true
 
 pub unreachable-requires : goal.unreachable-requires
-unreachable-requires c = c.requires (sweeping_ends _ _ c.walk.invariant (no_place _ (c.node.ensures.next ∙ c.in_default.is)))
+unreachable-requires c = c.requires.some (sweeping_ends _ _ c.walk.invariant (no_place _ (c.node.ensures.next ∙ c.in_default.is)))

@@ -1,8 +1,5 @@
-use Rattle.std.proofs.Common.{◌∙◌, ap}
-use Rattle.list_steps.specs.Content.{pairs}
-use Rattle.list_steps.proofs.ContentLemmas.{pairs_unlinked}
+use Rattle.list_steps.proofs.SweepLemmas.{head_before_marks}
 use Rattle.list_steps.proofs.sweeps.sweep.Goals as goal
 
-pub returns-clause-content : goal.returns-clause-content
-returns-clause-content c =
-    ap pairs c.unlink_after.ensures.unlinked.nodes ∙ pairs_unlinked _ _ c.before_first_marked-place.ensures.marked
+pub sweep_from-requires : goal.sweep_from-requires
+sweep_from-requires c = rw c.head-head.ensures.place (head_before_marks _ c.head-head.ensures.sound)

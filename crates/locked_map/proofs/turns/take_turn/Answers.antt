@@ -5,7 +5,8 @@ use Rattle.txn_drive.specs.declared.turn.Turn.{Turn}
 use Rattle.txn_trace.specs.Sizes.{Sizes}
 use Rattle.locked_map.specs.Suits.{IsInStep}
 use Rattle.locked_map.specs.Holds.{TakesTurn, GoesOn}
-use Rattle.locked_map.proofs.Going.{asked_of, no_room_starts, second_sized, no_second, on_err}
+use Rattle.locked_map.proofs.Going.{second_sized, no_second}
+use Rattle.locked_map.proofs.Room.{asked_of, no_room_starts, on_err}
 use Rattle.locked_map.proofs.turns.take_turn.Goals as goal
 
 pub returns-then-is_err-clause-starts : goal.returns-then-is_err-clause-starts

@@ -1,7 +1,7 @@
-use Rattle.std.proofs.Common.{◌∙◌, sym, ap, refl}
+use Rattle.std.proofs.Common.{sym}
 use Rattle.map_ops.proofs.Laws.{no_buckets}
-use Rattle.map_ops.proofs.ThereLemmas.{node_linked, value_there}
-use Rattle.map_ops.proofs.DoesLemmas.{does_get, does_put}
+use Rattle.map_ops.proofs.ThereLemmas.{node_linked}
+use Rattle.map_ops.proofs.DoesLemmas.{does_put}
 use Rattle.map_ops.proofs.change.change.Goals as goal
 
 pub put_key-requires-clause-owned : goal.put_key-requires-clause-owned

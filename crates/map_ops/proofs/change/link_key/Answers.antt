@@ -30,6 +30,7 @@ returns-clause-belong c =
 pub returns-clause-writes : goal.returns-clause-writes
 returns-clause-writes c =
     let is = ap filled c.fill.ensures
+    ∙ ap (λ (spare : SpareAt). node_at c.regular.result c.args.value spare) c.into_spare-node.ensures
     ∙ ap (λ (at : SortKey). node_at at c.args.value c.args.spare) c.regular.ensures.value in
     links_node c.args.list.now c.link_at.new.list c.args.key c.requires.sound (c.link_at.ensures.follows.sound c.requires.sound) c.requires.belong
     _ (filled c.fill.new.self) _ c.requires.room is c.link_at.ensures.links

@@ -2,14 +2,14 @@ use Rattle.std.proofs.Common.{◌≡◌, ◌-◌, [], ◌∷◌, ◌++◌, lengt
 use Rattle.json.specs.Json.{parse_map, after_end_array, value}
 use Rattle.json.specs.Reads.{token_of}
 use Rattle.piece_files.specs.Tokens.{value_at, items_at, IsPlain}
-use Rattle.piece_files.proofs.ElementLists.{AreKept, before, before-none, nothing_before, one_more, nothing_kept, keep_one, keep_no_more, keep_none}
+use Rattle.piece_files.proofs.ElementLists.{before, before-none, nothing_before, one_more, nothing_kept, keep_one, keep_no_more, keep_none}
 use Rattle.piece_files.proofs.Turns.{item_turn, item_refused, items_over}
 use Rattle.piece_files.proofs.Values.{in_any_error, value_at-none}
 use Rattle.piece_files.proofs.plain.plain_elements.Goals as goal
 
 pub elements-init : goal.elements-init
 elements-init g c =
-    (length c.args.reader.now, [], omega arith, nothing_before (items_at c.args.depth c.args.reader.now), omega arith, rw c.new-elements.ensures (nothing_kept g.row.MOST))
+    (length c.args.reader.now, [], omega arith, nothing_before (items_at c.args.depth c.args.reader.now), omega arith, rw c.clear.ensures (nothing_kept g.row.MOST))
 
 pub returns-in_err-token-clause-err : goal.returns-in_err-token-clause-err
 returns-in_err-token-clause-err g c =
@@ -90,16 +90,9 @@ elements-preserved g c =
       keep_none g.row.MOST l.elements.items ds done.ok.0 seen,
     )
 
-pub returns-then-are_plain-clause-ok : goal.returns-then-are_plain-clause-ok
-returns-then-are_plain-clause-ok g c =
+pub returns-clause-ok : goal.returns-clause-ok
+returns-clause-ok g c =
     let l = c.elements in
     let ds = l.invariant.1 in
     let r = c.take_end_array.new.self in
-    (ds, l.invariant.3 ∙ ap (parse_map (before ds)) (items_over (value c.args.depth) l.invariant.0 l.reader r l.invariant.2 (grind arith)) ∙ ap (λ x. Some (x, r)) (before-none ds), subst (λ b. AreKept g.row.MOST b l.elements.items ds) c.if-are_plain.true l.invariant.5)
-
-pub returns-else-are_plain-clause-ok : goal.returns-else-are_plain-clause-ok
-returns-else-are_plain-clause-ok g c =
-    let l = c.elements in
-    let ds = l.invariant.1 in
-    let r = c.take_end_array.new.self in
-    (ds, l.invariant.3 ∙ ap (parse_map (before ds)) (items_over (value c.args.depth) l.invariant.0 l.reader r l.invariant.2 (grind arith)) ∙ ap (λ x. Some (x, r)) (before-none ds), subst (λ b. AreKept g.row.MOST b l.elements.items ds) c.if-are_plain.false l.invariant.5)
+    (ds, l.invariant.3 ∙ ap (parse_map (before ds)) (items_over (value c.args.depth) l.invariant.0 l.reader r l.invariant.2 (grind arith)) ∙ ap (λ x. Some (x, r)) (before-none ds), l.invariant.5)

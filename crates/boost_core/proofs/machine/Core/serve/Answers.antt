@@ -6,7 +6,8 @@ use Rattle.boost_core.proofs.Moves.{move_of}
 use Rattle.boost_core.proofs.Helping.{served}
 use Rattle.boost_core.proofs.Serving.{serves}
 use Rattle.boost_core.proofs.NodeSteps.{lists_of}
-use Rattle.boost_core.proofs.GapSteps.{cursors_of, serves_cursors}
+use Rattle.boost_core.proofs.GapSteps.{cursors_of}
+use Rattle.boost_core.proofs.GapServes.{serves_cursors}
 use Rattle.boost_core.proofs.NodeServes.{serves as listed}
 use Rattle.boost_core.proofs.machine.Core.serve.Goals as goal
 

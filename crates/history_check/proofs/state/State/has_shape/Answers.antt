@@ -6,7 +6,7 @@ use Rattle.history_check.proofs.Growth.{sits_at}
 use Rattle.history_check.proofs.state.State.has_shape.Goals as goal
 
 pub returns-then-allows : goal.returns-then-allows
-returns-then-allows c stripes h t =
+returns-then-allows c holder stripes h t =
     let below : c.caller-caller.result < 64 = omega (arith, c.caller-caller.ensures, c.requires) in
     let sits = sits_at stripes h c.args.self.now c.caller-caller.result c.index.result.now t below c.index.ensures in
     c.has_next_number-is_numbered.ensures h t.begins t.commits
@@ -14,7 +14,7 @@ returns-then-allows c stripes h t =
     ∙ sym (is_shaped_is h c.args.entry.now (seat_of c.index.result.now) (ap (λ d. seat_after (own d h)) (sym c.caller-caller.ensures) ∙ sits.seat))
 
 pub returns-else-allows : goal.returns-else-allows
-returns-else-allows c stripes h t =
+returns-else-allows c holder stripes h t =
     let below : c.caller-caller.result < 64 = omega (arith, c.caller-caller.ensures, c.requires) in
     let sits = sits_at stripes h c.args.self.now c.caller-caller.result c.index.result.now t below c.index.ensures in
     c.if-allows.false

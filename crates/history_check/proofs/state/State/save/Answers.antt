@@ -12,15 +12,15 @@ on_err (Ok a) p = tt
 on_err (Err e) p = p
 
 pub returns-in_err-reserve_level-clause-err : goal.returns-in_err-reserve_level-clause-err
-returns-in_err-reserve_level-clause-err c = on_err c.from_residual.result (λ stripes h t.
+returns-in_err-reserve_level-clause-err c = on_err c.from_residual.result (λ holder stripes h t.
     let sits = sits_at stripes h c.args.self.now c.args.caller c.index_mut-seat.result.now t c.requires c.index_mut-seat.ensures.value in
-    stayed stripes h c.args.self.now _ t c.args.caller c.index_mut-seat.result.now c.reserve_level.new.self sits c.reserve_level.ensures.seat c.reserve_level.ensures.log refl refl refl refl (λ m has. has) refl)
+    stayed stripes h c.args.self.now _ t c.args.caller c.index_mut-seat.result.now c.reserve_level.new.self sits c.reserve_level.ensures.seat c.reserve_level.ensures.log c.reserve_level.ensures.begun refl refl refl refl refl (λ m has. has) refl)
 
 pub returns-clause-ok : goal.returns-clause-ok
-returns-clause-ok c stripes h t fine =
+returns-clause-ok c holder stripes h t fine =
     let was = sits_at stripes h c.args.self.now c.args.caller c.index_mut-seat.result.now t c.requires c.index_mut-seat.ensures.value in
-    let sits : Sits h c.args.caller c.reserve_level.new.self = record { seat = was.seat ∙ ap Some (sym c.reserve_level.ensures.seat); log = was.log ∙ sym c.reserve_level.ensures.log } in
+    let sits : Sits h c.args.caller c.reserve_level.new.self = record { seat = was.seat ∙ ap Some (sym c.reserve_level.ensures.seat); log = was.log ∙ sym c.reserve_level.ensures.log; begun = was.begun ∙ sym c.reserve_level.ensures.begun } in
     grown stripes h c.args.self.now _ t (Saved c.args.caller) c.reserve_level.new.self c.enter.new.self _ _ _ _ _ c.requires
     (next-saved stripes h t.legal c.args.caller (seat_of c.reserve_level.new.self) sits.seat fine) fine sits
-    c.enter.ensures (sym sits.log) refl refl
+    c.enter.ensures (sym sits.log) refl refl refl
     (none_more c.args.self.now.began) (none_more c.args.self.now.committed) t.values t.holders

@@ -8,12 +8,12 @@ use Rattle.history_check.proofs.Judged.{undone_newest, first_then}
 use Rattle.history_check.proofs.state.State.undo.Goals as goal
 
 pub returns-in_default-clause-ok : goal.returns-in_default-clause-ok
-returns-in_default-clause-ok c stripes h t fine =
+returns-in_default-clause-ok c holder stripes h t fine =
     let sits = sits_at stripes h c.args.self.now c.args.caller c.index.result.now t c.requires c.index.ensures in
     absurd (undone_newest stripes h t.legal c.args.caller c.index.result.now sits fine (sym c.newest.ensures ∙ c.in_default.is))
 
 pub returns-clause-ok : goal.returns-clause-ok
-returns-clause-ok c stripes h t fine =
+returns-clause-ok c holder stripes h t fine =
     let read = sits_at stripes h c.args.self.now c.args.caller c.index.result.now t c.requires c.index.ensures in
     let sits = sits_at stripes h c.args.self.now c.args.caller c.index_mut.result.now t c.requires c.index_mut.ensures.value in
     let same : log_in c.index_mut.result.now ≡ log_in c.index.result.now = sym sits.log ∙ read.log in
@@ -21,5 +21,5 @@ returns-clause-ok c stripes h t fine =
     grown stripes h c.args.self.now _ t (Undone c.args.caller) c.index_mut.result.now c.enter.new.self _ _ _ _ _ c.requires
     (next-undone stripes h t.legal c.args.caller (seat_of c.index_mut.result.now) sits.seat (c.in-Some.key, c.in-Some.before) (drop 1 (log_in c.index.result.now)) log_is fine) fine sits
     c.enter.ensures (ap (drop 1) same)
-    refl refl (none_more c.args.self.now.began) (none_more c.args.self.now.committed)
+    refl refl refl (none_more c.args.self.now.began) (none_more c.args.self.now.committed)
     (c.in_ok-restore.ensures.ok (now h) t.values) t.holders

@@ -1,6 +1,13 @@
 use Rattle.std.proofs.Common.{◌≡◌, ℕ, List, true, false, refl, sym, ap, subst, ◌∙◌}
-use Rattle.locked_map.proofs.Going.{ins_sized, goes_on_sized, no_room_run, broken_ends, held_took, held_in_step, goes_held}
+use Rattle.std.specs.List.{filter}
+use Rattle.txn_trace.specs.History.{is_commit}
+use Rattle.locked_map.proofs.Holding.{ins_sized, goes_on_sized, no_room_run, broken_run, broken_ends, held_took, held_in_step, goes_held}
 use Rattle.locked_map.proofs.caller.Caller.hold.Goals as goal
+
+pub returns-then-self-clause-goes : goal.returns-then-self-clause-goes
+returns-then-self-clause-goes g c = λ base goes.
+    let on = goes_on_sized base c.args.self.now c.args.self.now _ _ _ refl c.turn-turn.ensures.drive goes.on in
+    broken_run base _ _ on (ap (filter is_commit) c.turn-turn.ensures.made ∙ goes.quiet)
 
 pub returns-then-not-take_turn-clause-in_step : goal.returns-then-not-take_turn-clause-in_step
 returns-then-not-take_turn-clause-in_step g c = λ ins.
@@ -9,7 +16,7 @@ returns-then-not-take_turn-clause-in_step g c = λ ins.
 
 pub returns-then-not-take_turn-clause-goes : goal.returns-then-not-take_turn-clause-goes
 returns-then-not-take_turn-clause-goes g c = λ base goes.
-    let on = goes_on_sized base _ _ _ _ _ c.self.view_is c.turn-turn.ensures.drive goes in
+    let on = goes_on_sized base _ _ _ _ _ c.self.view_is c.turn-turn.ensures.drive goes.on in
     let none = c.take_turn.ensures.no_room c.if-not-take_turn.true in
     no_room_run base _ _ _ _ none.1 none.2 (c.take_turn.ensures.starts c.if-not-take_turn.true base on) on
 
@@ -25,8 +32,8 @@ returns-clause-in_step g c = λ ins.
 
 pub returns-clause-goes : goal.returns-clause-goes
 returns-clause-goes g c = λ base goes.
-    let on = goes_on_sized base _ _ _ _ _ c.self.view_is c.turn-turn.ensures.drive goes in
-    goes_held base _ _ _ _ _ _ c.ended-end.ensures.drive c.breaks-self-inside.ensures c.end_in.ensures (c.take_turn.ensures.goes base on)
+    let on = goes_on_sized base _ _ _ _ _ c.self.view_is c.turn-turn.ensures.drive goes.on in
+    goes_held base _ _ _ _ _ _ c.is_whole.ensures c.ended-end.ensures.drive c.breaks-self-inside.ensures c.end_in.ensures (c.take_turn.ensures.goes base on)
 
 pub returns-clause-broken : goal.returns-clause-broken
 returns-clause-broken g c = broken_ends _ _ _ _ _ c.breaks-self-inside.ensures c.end_in.ensures

@@ -20,7 +20,7 @@ pub returns-clause-answer : goal.returns-clause-answer
 returns-clause-answer c = rw (← c.self.view_is) (c.answered.ensures ∙ ap answered c.init_seek.ensures.answer ∙ seek_answers c.self.inside.buckets c.args.helper c.args.bucket)
 
 pub returns-clause-changes : goal.returns-clause-changes
-returns-clause-changes c = rw (c.answered.ensures, ← c.self.view_is) (seek_changes c.self.inside.list c.init_seek.new.list c.self.inside.buckets c.init_seek.new.self c.args.helper c.args.bucket c.init_seek.result c.init_seek.ensures.answer c.init_seek.ensures.changes c.init_seek.ensures.content c.init_seek.ensures.dummies)
+returns-clause-changes c = rw (c.answered.ensures, ← c.self.view_is) (seek_changes c.self.inside.list c.init_seek.new.list c.self.inside.buckets c.init_seek.new.self c.args.helper c.args.bucket c.init_seek.result c.init_seek.ensures.answer c.init_seek.ensures.changes c.init_seek.ensures.content c.init_seek.ensures.dummies (c.init_seek.ensures.follows.sound c.self.invariant.sound))
 
 pub returns-clause-rises : goal.returns-clause-rises
 returns-clause-rises c = rw (← c.self.view_is) (turn_rises c.self.inside.list c.init_seek.new.list c.changes-turn.result c.init_seek.ensures.follows c.changes-turn.ensures.changes c.changes-turn.type_inv)

@@ -1,0 +1,101 @@
+-- The cursors of helpers, by the table.
+use Rattle.std.proofs.Common.{◌≡◌, ◌≢◌, ℕ, Bool, true, false, zero, suc, List, [], ◌∷◌, replicate, Option, Some, None, is_some, refl, sym, ap, ◌∙◌}
+use Rattle.std.specs.Prelude.{map, slice_index_or, unwrap_or}
+use Rattle.std.specs.Option.{option_map}
+use Rattle.std.proofs.lemmas.Bool.{false≢true}
+use Rattle.std.proofs.lemmas.Option.{slice_get-map, unwrap_or-slice_get}
+use Rattle.std.proofs.Math.ListN as lists
+use Rattle.node_list.specs.Order.{IsRising, IsSpread}
+use Rattle.bucket_table.specs.declared.helper.Helper.{Helper as TableHelper}
+use Rattle.bucket_table.specs.declared.helper.Helper.TheVariants.{Idle, Seeking, Holding}
+use Rattle.bucket_table.specs.Directory.{helper_of}
+use Rattle.bucket_table.specs.Helpers.{cursor_fits}
+use Rattle.map_ops.specs.Buckets.{helper_fits, IsPlacedFor}
+use Rattle.map_ops.specs.TableAt.{TableAt, Cursor, cursor_in, cursors_of, helper_cursor, nodes_of, fits, Help, Nothing, KeepsAllCursors, KeepsCursors, help_of}
+use Rattle.boost_core.specs.State.{Gap, gap_in, Helper}
+use Rattle.boost_core.specs.Nodes.{AreNeighbours, StandsAt}
+use Rattle.boost_core.specs.Core.{nodes_at, gap_if, helper_gaps_of, World, state_of}
+use Rattle.boost_core.proofs.GapLists.{Stay}
+use Rattle.boost_core.proofs.Neighbours.{fit_of}
+use Rattle.boost_core.proofs.Gaps.{cursor_still, gap_here, no_gap, stands_at}
+use Rattle.split_key.specs.Sort.{dummy_at}
+
+-- The nodes beside a helper's cursor, by that cursor.
+pub helper_gap_is : (t : TableAt) (h : ℕ) → gap_in (helper_gaps_of t) h ≡ gap_if t (helper_cursor t h)
+helper_gap_is t h = unwrap_or-slice_get (helper_gaps_of t) h None ∙ lists.get_or-map (gap_if t) (cursors_of t) h None
+
+-- Of a helper that has its cursor still.
+pub helper_kept : (t t' : TableAt) → IsSpread (nodes_of t) → IsRising (nodes_of t') → Stay (nodes_of t) (nodes_of t') → (h : ℕ) (gap : Gap) → helper_cursor t' h ≡ helper_cursor t h
+    → gap_in (helper_gaps_of t) h ≡ Some gap → AreNeighbours (nodes_at t') gap → gap_in (helper_gaps_of t') h ≡ Some gap
+helper_kept t t' spread rising stay h gap same is near =
+    helper_gap_is t' h ∙ ap (gap_if t') same ∙ cursor_still t t' spread rising stay gap near (helper_cursor t h) (sym (helper_gap_is t h) ∙ is)
+
+pub cursors_stay : (t t' : TableAt) (h : ℕ) → t'.buckets ≡ t.buckets → helper_cursor t' h ≡ helper_cursor t h
+cursors_stay t t' h same = ap (λ d. slice_index_or (map cursor_in d.helpers) h None) same
+
+-- Whether a helper's cursor fits, by that cursor.
+abbrev pub fits_if : TableAt → Option Cursor → Bool
+fits_if t None = false
+fits_if t (Some cursor) = fits t cursor
+
+pub fits_by : (t : TableAt) (h : ℕ) → helper_fits t h ≡ fits_if t (helper_cursor t h)
+fits_by t h =
+    at (helper_of t.buckets h) ∙ ap (λ (o : Option (Option Cursor)). fits_if t (unwrap_or o None)) (sym (slice_get-map cursor_in t.buckets.helpers h))
+    ∙ ap (fits_if t) (unwrap_or-slice_get (cursors_of t) h None)
+  where
+    at : (o : Option TableHelper) → cursor_fits t.list o ≡ fits_if t (unwrap_or (option_map cursor_in o) None)
+    at None = refl
+    at (Some Idle) = refl
+    at (Some (Seeking bucket cursor)) = refl
+    at (Some (Holding bucket dummy)) = refl
+
+-- Where it fits it stands between two nodes, and else between none.
+pub helper_gap : (t : TableAt) (h : ℕ) → helper_fits t h ≡ true → is_some (gap_in (helper_gaps_of t) h) ≡ true
+helper_gap t h is = ap is_some (helper_gap_is t h) ∙ at (helper_cursor t h) (sym (fits_by t h) ∙ is)
+  where
+    at : (o : Option Cursor) → fits_if t o ≡ true → is_some (gap_if t o) ≡ true
+    at None fitting = absurd (false≢true fitting)
+    at (Some cursor) fitting = ap is_some (gap_here t cursor (fit_of t.list cursor fitting))
+
+pub no_helper_gap : (t : TableAt) (h : ℕ) → helper_fits t h ≡ false → gap_in (helper_gaps_of t) h ≡ None
+no_helper_gap t h is = helper_gap_is t h ∙ at (helper_cursor t h) (sym (fits_by t h) ∙ is)
+  where
+    at : (o : Option Cursor) → fits_if t o ≡ false → gap_if t o ≡ None
+    at None stale = refl
+    at (Some cursor) stale = no_gap t cursor stale
+
+-- Where all helpers but one keep their cursors, and where all do.
+pub kept_cursor : (t t' : TableAt) (k h : ℕ) → KeepsCursors t t' k → h ≢ k → helper_cursor t' h ≡ helper_cursor t h
+unfolding KeepsCursors
+kept_cursor t t' k h keeps other = keeps h other
+
+pub each_kept : (t t' : TableAt) (h : ℕ) → KeepsAllCursors t t' → helper_cursor t' h ≡ helper_cursor t h
+unfolding KeepsAllCursors
+each_kept t t' h keeps = ap (λ cs. slice_index_or cs h None) keeps
+
+-- A helper's cursor that was placed for a bucket and fits stands beside the place of its dummy.
+pub helper_stands : (w' : World) (h b : ℕ) → IsSpread (nodes_of w'.table) → IsPlacedFor w'.table h b → helper_fits w'.table h ≡ true → StandsAt (state_of w') (Helper h) (dummy_at b)
+unfolding IsPlacedFor
+helper_stands w' h b spread placed fitting =
+    stands_at w' (Helper h) placed.0 (dummy_at b) (helper_gap_is w'.table h ∙ ap (gap_if w'.table) placed.1) spread placed.2 placed.3
+    (ap (fits_if w'.table) (sym placed.1) ∙ sym (fits_by w'.table h) ∙ fitting)
+
+-- Helpers that have nothing have no cursors.
+idle_cursor : (helper : TableHelper) → help_of helper ≡ Nothing → cursor_in helper ≡ None
+idle_cursor Idle is = refl
+idle_cursor (Seeking bucket cursor) is = absurd (cc (is))
+idle_cursor (Holding bucket dummy) is = refl
+
+abbrev first_of : List Help → Help
+first_of [] = Nothing
+first_of (help ∷ rest) = help
+
+abbrev rest_of : List Help → List Help
+rest_of [] = []
+rest_of (help ∷ rest) = rest
+
+pub idle_cursors : (helpers : List TableHelper) (n : ℕ) → map help_of helpers ≡ replicate n Nothing → map cursor_in helpers ≡ replicate n None
+idle_cursors [] zero is = refl
+idle_cursors [] (suc n) is = absurd (cc (is))
+idle_cursors (helper ∷ rest) zero is = absurd (cc (is))
+idle_cursors (helper ∷ rest) (suc n) is = λ i. idle_cursor helper (ap first_of is) i ∷ idle_cursors rest n (ap rest_of is) i

@@ -1,0 +1,109 @@
+-- What a step shows that leaves the table.
+use Rattle.std.proofs.Common.{◌≡◌, ℕ, ◌+◌, ◌-◌, ◌<◌, Bool, true, false, cond, List, ◌∷◌, length, Option, Some, None, refl, sym, ap, subst, ◌∙◌}
+use Rattle.std.specs.Prelude.{slice_get, slice_set, map, reverse, nat_eq, nat_lt}
+use Rattle.std.specs.Option.{option_eq, option_map}
+use Rattle.std.proofs.lemmas.Bool.{false≢true}
+use Rattle.txn_trace.specs.declared.holder.Holder.TheVariants.{Now}
+use Rattle.txn_trace.specs.declared.entry.Entry.{Entry}
+use Rattle.txn_trace.specs.Map.{Map}
+use Rattle.txn_trace.specs.History.{caller_of, is_began, is_commit}
+use Rattle.txn_trace.specs.Now.{now}
+use Rattle.txn_trace.specs.Locks.{holder_of}
+use Rattle.txn_trace.specs.Log.{log_of}
+use Rattle.txn_trace.specs.declared.seat.Phase.{Phase}
+use Rattle.txn_trace.specs.declared.seat.Phase.TheVariants.{Closed, Opened, Waiting, LeavingTo, LeavingToEnd}
+use Rattle.txn_trace.specs.Shape.{Seat, RoomySeat, own}
+use Rattle.txn_trace.specs.Seats.{is_waiting, is_saved}
+use Rattle.txn_trace.proofs.Levels.{IsLevelIn, seat_leveled}
+use Rattle.txn_trace.proofs.Next.{Next}
+use Rattle.undo_log.specs.UndoLog.{Log, kept_at, newest_above}
+use Rattle.key_locks.specs.Locks.{Releases, without_caller, holder_of as held_by}
+use Rattle.map_ops.specs.declared.job.MapJob.{MapJob}
+use Rattle.map_ops.specs.Jobs.{PendingAt}
+use Rattle.map_ops.specs.TableAt.{Cursor, cursor_turn}
+use Rattle.boost_core.specs.declared.counts.Counts.{Counts}
+use Rattle.boost_core.specs.declared.session.Session.{Session}
+use Rattle.boost_core.specs.Core.{World, Tells, turn_at}
+use Rattle.boost_core.proofs.Moves.{turns_same, turns_set}
+use Rattle.boost_core.proofs.Grow.{Grows, seated_as}
+use Rattle.boost_core.proofs.Outcomes.{same_times}
+use Rattle.boost_core.specs.Sessions.{target_in, key_of_newest, IsSoughtAt, Waits, changes_of, AreDue}
+use Rattle.boost_core.proofs.Refused.{no_cursor}
+
+-- The stripes of a caller are free, as the history says after its end.
+released : (c : ℕ) (o : Option ℕ) → without_caller c o ≡ cond (option_eq nat_eq o (Some c)) None o
+released c None = refl
+released c (Some d) = refl
+
+-- A level with nothing above it is acted on no more.
+pub no_newest : (log : Log MapJob) (n : ℕ) → nat_lt (kept_at log.kept n) (length log.jobs) ≡ false → key_of_newest (newest_above log n) ≡ None
+no_newest log n none = ap key_of_newest (ap (λ (more : Bool). cond more (slice_get log.jobs (length log.jobs - 1)) None) none)
+
+module _ (w : World) (tells : Tells w) (c : ℕ) (x : Session) (at : slice_get w.sessions c ≡ Some x) where
+  -- Where the caller acts on no key, it has no cursor.
+  pub idle_cursor : (q : Phase) → x.seat.seat.phase ≡ q → target_in q x.log ≡ None → x.cursor ≡ None
+  idle_cursor q is none = no_cursor w.table x.cursor (subst (IsSoughtAt w.table x.cursor) (ap (λ p. target_in p x.log) is ∙ none) (tells.sought c x at))
+
+  -- Where it waits for nothing, nothing waits.
+  pub nothing_waits : (q : Phase) → x.seat.seat.phase ≡ q → is_waiting q ≡ false → x.pending ≡ None
+  nothing_waits q is rests = none_then q rests x.pending (subst (λ p. Waits p x.pending x.log.room) is (tells.seated c x at).agrees.waits)
+    where
+      none_then : (q : Phase) → is_waiting q ≡ false → (o : Option PendingAt) → Waits q o x.log.room → o ≡ None
+      none_then q rests None waits = refl
+      none_then Closed rests (Some pending) waits = absurd waits
+      none_then Opened rests (Some pending) waits = absurd waits
+      none_then (Waiting op) rests (Some pending) waits = absurd (false≢true (sym rests))
+      none_then (LeavingTo n) rests (Some pending) waits = absurd waits
+      none_then LeavingToEnd rests (Some pending) waits = absurd waits
+
+  rest_waits : (q : Phase) → is_waiting q ≡ false → (room : ℕ) → Waits q None room
+  rest_waits Closed rests room = tt
+  rest_waits Opened rests room = tt
+  rest_waits (Waiting op) rests room = absurd (false≢true (sym rests))
+  rest_waits (LeavingTo n) rests room = tt
+  rest_waits LeavingToEnd rests room = tt
+
+  pub released_holders : (locks' : List (Option ℕ)) → Releases c w.locks locks' → (s : ℕ) → s < w.limits.stripes → held_by locks' s ≡ cond (option_eq nat_eq (holder_of w.limits.stripes s w.history) (Some c)) None (holder_of w.limits.stripes s w.history)
+  released_holders locks' releases s below = releases.each s ∙ ap (without_caller c) (tells.holders s below) ∙ released c (holder_of w.limits.stripes s w.history)
+
+  -- A step that leaves the table, what waits and the jobs, and by which the caller has no cursor.
+  pub quiet : (e : Entry) (y : Session) (seat : Seat) (log : List (ℕ × Option ℕ)) (committed : Map) (holder : ℕ → Option ℕ) (locks' : List (Option ℕ)) (counts' : Counts) → Next Now w.limits.stripes w.history e seat log committed (now w.history) holder → log ≡ changes_of y.log.jobs
+      → caller_of e ≡ c → y.seat.seat ≡ x.seat.seat → (is_saved e ≡ true → 0 < y.seat.room) → seat.kept ≡ 0 ∷ y.log.kept → is_waiting seat.phase ≡ false → x.pending ≡ None → y.pending ≡ x.pending → y.log.jobs ≡ x.log.jobs → y.cursor ≡ None
+      → counts'.began ≡ w.counts.began + cond (is_began e) 1 0 → counts'.committed ≡ w.counts.committed + cond (is_commit e) 1 0 → length locks' ≡ length w.locks → ((s : ℕ) → s < w.limits.stripes → held_by locks' s ≡ holder s)
+      → Grows w c x y w.table locks' counts' e
+  quiet e y seat log committed holder locks' counts' next log_is mine same saved kept rests nothing pending jobs cursor begins commits long holders = record {
+    seat = seat;
+    committed = committed;
+    current = now w.history;
+    holder = holder;
+    next = subst (λ l. Next Now w.limits.stripes w.history e seat l committed (now w.history) holder) log_is next;
+    mine = mine;
+    same_seat = same;
+    saved = saved;
+    kept = kept;
+    waits = subst (λ (o : Option PendingAt). Waits seat.phase o y.log.room) (sym (pending ∙ nothing)) (rest_waits seat.phase rests y.log.room);
+    due = subst (λ (js : List MapJob). AreDue (now w.history) (reverse js)) (sym jobs) (tells.seated c x at).due;
+    content = tells.content;
+    apart = λ d other k held. refl;
+    placed = record { placed = λ cursor key is. is; sound = λ sound. sound };
+    sought = subst (λ (o : Option Cursor). IsSoughtAt w.table o (target_in seat.phase y.log)) (sym cursor) tt;
+    spares = same_times w.table x y pending jobs;
+    largest = refl;
+    helpers = refl;
+    begins = begins;
+    commits = commits;
+    long = long;
+    holders = holders;
+  }
+
+  pub level_in : (q : Phase) → x.seat.seat.phase ≡ q → IsLevelIn q x.seat.seat.standing x.seat.seat.kept
+  level_in q is = subst (λ (p : Phase). IsLevelIn p x.seat.seat.standing x.seat.seat.kept) is (seat_leveled (own c w.history) x.seat.seat (tells.seated c x at).seat).within
+
+  pub log_is : (y : Session) → y.log.jobs ≡ x.log.jobs → log_of c w.history ≡ changes_of y.log.jobs
+  log_is y jobs = (tells.seated c x at).log ∙ ap changes_of (sym jobs)
+
+  pub same_turn : (y : Session) → y.cursor ≡ x.cursor → (seat' : RoomySeat) → map turn_at (slice_set w.sessions c (seated_as y seat')) ≡ map turn_at w.sessions
+  same_turn y cursor seat' = turns_same w.sessions c x (seated_as y seat') at (ap (option_map cursor_turn) cursor)
+
+  pub no_turn : (y : Session) → y.cursor ≡ None → (seat' : RoomySeat) → map turn_at (slice_set w.sessions c (seated_as y seat')) ≡ slice_set (map turn_at w.sessions) c None
+  no_turn y cursor seat' = turns_set w.sessions c (seated_as y seat') None (ap (option_map cursor_turn) cursor)

@@ -1,0 +1,21 @@
+use Rattle.std.proofs.Common.{◌≡◌, ℕ}
+use Rattle.txn_drive.specs.declared.call.Call.TheVariants as calls
+use Rattle.txn_drive.specs.declared.drive.Drive.{Drive}
+use Rattle.txn_drive.specs.Drives.{new_drive}
+use Rattle.boost_core.specs.State.{State}
+use Rattle.boost_core.specs.Plain.{Drives}
+use Rattle.boost_core.proofs.Driving.{Fits, left}
+use Rattle.boost_core.proofs.machine.Core.help.Given as goal
+
+-- Some moves of the drive are made so far, and whatever it does next follows these.
+abbrev pub invariant-loop-step : goal.invariant-loop-step
+invariant-loop-step l = record {
+  drives : (more : ℕ) (last : Drive) (new : State) → Drives more l.drive l.self last new → (moves : ℕ) × Drives moves (new_drive l.fn.self.limits.half l.caller (calls.Help l.key)) l.fn.self last new;
+  caller : l.drive.caller ≡ l.caller;
+  call : l.drive.call ≡ calls.Help l.key;
+  limits : l.self.limits ≡ l.fn.self.limits;
+  fits : Fits l.self l.caller l.key l.drive.phase;
+}
+
+abbrev pub decreases-loop-step : goal.decreases-loop-step
+decreases-loop-step l = left l.drive.phase

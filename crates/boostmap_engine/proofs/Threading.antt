@@ -1,0 +1,72 @@
+-- The text of a run's history is a text of the scripts that the file has.
+use Rattle.std.proofs.Common.{◌≡◌, ℕ, ◌≤◌, Bool, true, false, ◌&&◌, nat_le, refl, List, [], ◌∷◌, ◌++◌, Result, Ok, Err, ap, subst, sym, ◌∙◌, if◌then◌else◌}
+use Rattle.std.specs.List.{list_all}
+use Rattle.std.proofs.lemmas.Bool.{leb-true}
+use Rattle.txn_trace.specs.declared.action.Action.{Action}
+use Rattle.txn_trace.specs.declared.entry.Entry.{Entry}
+use Rattle.txn_trace.specs.Sizes.{Sizes}
+use Rattle.txn_trace.specs.Work.{Work}
+use Rattle.piece_files.specs.declared.file_fault.FileFault.{FileFault}
+use Rattle.piece_files.specs.declared.file_fault.FileFault.TheVariants.{Limit}
+use Rattle.piece_files.specs.Faults.{◌>>=◌}
+use Rattle.piece_files.specs.Files.{contents}
+use Rattle.txn_files.specs.HistoryText.{text_of_history}
+use Rattle.txn_files.specs.ScriptFile.{scripts_of, script_file, work_from, are_scripts, is_short}
+use Rattle.txn_files.specs.StepFile.{sizes_at}
+use Rattle.thread_runs.specs.Accounts.{Outcome}
+use Rattle.thread_runs.specs.Runs.{HasRunScripts}
+use Rattle.boostmap_engine.specs.Threaded.{IsThreadedOf}
+
+-- What a run has come to, where it was given the parts of a file's work.
+pub threaded_is : (bytes : List ℕ) (work : Work) (limits : Sizes) (workers tries version stripes : ℕ) (scripts : List (List Action)) (outcomes : List Outcome) (trace : List Entry) (text whole : List ℕ) → scripts_of bytes ≡ Ok work
+    → limits ≡ work.sizes → workers ≡ limits.callers → tries ≡ work.tries → version ≡ work.version → stripes ≡ limits.stripes → scripts ≡ work.scripts
+    → HasRunScripts limits workers tries scripts outcomes trace → text ≡ text_of_history version stripes trace → whole ≡ text ++ 10 ∷ [] → IsThreadedOf bytes whole
+threaded_is bytes work limits workers tries version stripes scripts outcomes trace text whole file limits_is workers_is tries_is version_is stripes_is scripts_is run text_is whole_is =
+    let callers : workers ≡ work.sizes.callers = workers_is ∙ ap (λ (s : Sizes). s.callers) limits_is in (
+      work,
+      file,
+      record {
+        outcomes = outcomes;
+        trace = trace;
+        run = subst (λ s. HasRunScripts work.sizes work.sizes.callers work.tries s outcomes trace) scripts_is
+            (subst (λ n. HasRunScripts work.sizes work.sizes.callers n scripts outcomes trace) tries_is
+            (subst (λ n. HasRunScripts work.sizes n tries scripts outcomes trace) callers
+            (subst (λ (s : Sizes). HasRunScripts s workers tries scripts outcomes trace) limits_is run)));
+        whole = whole_is ∙ ap (λ t. t ++ 10 ∷ []) (text_is ∙ ap (λ n. text_of_history n stripes trace) version_is
+            ∙ ap (λ n. text_of_history work.version n trace) (stripes_is ∙ ap (λ (s : Sizes). s.stripes) limits_is));
+      },
+    )
+
+and_left : (a b : Bool) → (a && b) ≡ true → a ≡ true
+and_left true b is = refl
+and_left false b is = is
+
+in_range : (b : Bool) (tries : ℕ) (made work : Work) → (b ≡ true → tries ≤ 1000) → made.tries ≡ tries → (if b then Ok made else Err Limit) ≡ Ok work → work.tries ≤ 1000
+in_range false tries made work small tries_is is = absurd (cc is)
+in_range true tries made work small tries_is is =
+    let same : made ≡ work = cc is in
+    subst (λ n. n ≤ 1000) (sym tries_is ∙ ap (λ (w : Work). w.tries) same) (small refl)
+
+few_with : (sizes : Result Sizes FileFault) (version tries : ℕ) (scripts : List (List Action)) (work : Work)
+    → (sizes >>= λ s. if are_scripts tries scripts then Ok (record { version = version; sizes = s; tries = tries; scripts = scripts }) else Err Limit) ≡ Ok work → work.tries ≤ 1000
+few_with (Err fault) version tries scripts work is = absurd (cc is)
+few_with (Ok s) version tries scripts work is =
+    in_range (are_scripts tries scripts) tries (record { version = version; sizes = s; tries = tries; scripts = scripts }) work
+    (λ yes. leb-true tries 1000 (and_left (nat_le tries 1000) (list_all is_short scripts) yes)) refl is
+
+few_from : (version : ℕ) (numbers : List ℕ) (scripts : List (List Action)) (work : Work) → work_from version numbers scripts ≡ Ok work → work.tries ≤ 1000
+unfolding work_from
+few_from version (workers ∷ stripes ∷ buckets ∷ tries ∷ []) scripts work is = few_with (sizes_at version workers stripes buckets) version tries scripts work is
+few_from version [] scripts work is = absurd (cc is)
+few_from version (workers ∷ []) scripts work is = absurd (cc is)
+few_from version (workers ∷ stripes ∷ []) scripts work is = absurd (cc is)
+few_from version (workers ∷ stripes ∷ buckets ∷ []) scripts work is = absurd (cc is)
+few_from version (workers ∷ stripes ∷ buckets ∷ tries ∷ more ∷ others) scripts work is = absurd (cc is)
+
+few_in : (file : Result (ℕ × List ℕ × List (List Action)) FileFault) (work : Work) → (file >>= λ f. work_from f.0 f.1 f.2) ≡ Ok work → work.tries ≤ 1000
+few_in (Err fault) work is = absurd (cc is)
+few_in (Ok f) work is = few_from f.0 f.1 f.2 work is
+
+-- A script file has no more tries than it may have.
+pub few_tries : (bytes : List ℕ) (work : Work) → scripts_of bytes ≡ Ok work → work.tries ≤ 1000
+few_tries bytes work is = few_in (contents script_file bytes) work is

@@ -1,0 +1,40 @@
+-- The history of a script file whose workers have threads of their own.
+use Rattle.std.specs.Prelude.{◌≡◌, ℕ, List, Option, Ok}
+use Rattle.std.specs.Io.KnownBytes.{Keeps}
+use Rattle.txn_trace.specs.declared.entry.Entry.{Entry}
+use Rattle.txn_trace.specs.Work.{Work}
+use Rattle.txn_files.specs.HistoryText.{text_of_history}
+use Rattle.txn_files.specs.ScriptFile.{scripts_of}
+use Rattle.thread_runs.specs.Accounts.{Outcome}
+use Rattle.thread_runs.specs.Runs.{HasRunScripts}
+use Rattle.boostmap_engine.specs.declared.fault.Fault.{Fault}
+use Rattle.boostmap_engine.specs.declared.fault.Fault.TheVariants as faults
+use Rattle.boostmap_engine.specs.Mixture.{IsNoScriptFile}
+use Rattle.boostmap_engine.specs.Report.{line}
+use Rattle.boostmap_engine.specs.Written.{HasNone, Leaves}
+
+-- The outcomes and the history of a run of the scripts in threads; and the history's text, of the
+-- version of the scripts.
+pub record IsThreaded (work : Work) (text : List ℕ) : Type 0 where
+  pub outcomes : List Outcome
+  pub trace : List Entry
+  pub run : HasRunScripts work.sizes work.sizes.callers work.tries work.scripts outcomes trace
+  pub whole : text ≡ line (text_of_history work.version work.sizes.stripes trace)
+
+-- The same of the scripts that the bytes are.
+abbrev pub IsThreadedOf : List ℕ → List ℕ → Type 0
+IsThreadedOf bytes text = (work : Work) × (scripts_of bytes ≡ Ok work) × IsThreaded work text
+
+-- Why bytes have no such text: as they have none that is mixed, or for want of a thread, or since a
+-- worker fell out of step.
+abbrev pub HasNoneThreaded : List ℕ → Fault → Type 0
+HasNoneThreaded bytes faults.NoThread = Unit {0}
+HasNoneThreaded bytes faults.OutOfStep = Unit {0}
+HasNoneThreaded bytes fault = HasNone IsNoScriptFile bytes fault
+
+-- What was written at a fault: nothing where a thread was wanting or a worker fell out of step.
+abbrev pub LeavesThreaded : Option (List ℕ) → Option (List ℕ) → Option (List ℕ) → Fault → Type 0
+LeavesThreaded remaining old new faults.NoThread = Keeps old new
+LeavesThreaded remaining old new faults.OutOfStep = Keeps old new
+LeavesThreaded remaining old new fault =
+    Leaves IsThreadedOf IsNoScriptFile remaining old new fault

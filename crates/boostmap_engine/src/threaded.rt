@@ -1,0 +1,62 @@
+ghost use Rattle.std.specs.Prelude.{◌≡◌, IfOk, IfErr, string_bytes};
+ghost use Rattle.boostmap_engine.specs.Faults.{of_run};
+ghost use Rattle.boostmap_engine.specs.Threaded.{HasNoneThreaded, IsThreadedOf};
+
+use crate::fault::Fault;
+use std::alloc::Global;
+use std::sync::Wait;
+use std::thread::Threads;
+use thread_runs::{Open, run_scripts};
+use txn_files::{history_text, read_scripts};
+use txn_trace::Refusal;
+
+/// The text of a history of the scripts that the bytes are, each worker in a thread of its own,
+/// with its line feed. The history has its script file's version.
+///
+/// # Cost
+///
+/// What the calls cost, and time and memory in proportion to bytes and text.
+///
+/// # Errors
+///
+/// `Input` where the bytes are no script file; `NoMemory` where memory is refused outside a call;
+/// `NoThread` where a thread could not be started; `OutOfStep` where the history is not what the
+/// workers saw.
+pub fn threaded<R: Threads + Wait + Sync>(
+    rt: &R,
+    alloc: Global,
+    bytes: &[u8],
+) -> Result<String, Fault>
+    ensures ok { IfOk result (λ text. IsThreadedOf bytes.now (string_bytes text)) }
+    ensures err { IfErr result (HasNoneThreaded bytes.now) }
+{
+    let work = read_scripts(alloc, bytes)?;
+    let limits = work.limits();
+    let workers = limits.callers() as usize;
+    let ran = match run_scripts(
+        rt,
+        alloc,
+        limits,
+        work.scripts(),
+        workers,
+        work.tries(),
+        &Open,
+    ) {
+        Ok(ran) => ran,
+        Err(refusal) => return Err(fault_of(refusal)),
+    };
+    let mut text = history_text(alloc, work.version(), limits.stripes(), &ran.trace)?;
+    text.push_str("\n")?;
+    Ok(text)
+}
+
+/// The fault of a run that was refused as a whole.
+fn fault_of(refusal: Refusal) -> Fault
+    ensures { result ≡ of_run refusal }
+{
+    match refusal {
+        Refusal::NoMemory => Fault::NoMemory,
+        Refusal::NoThread => Fault::NoThread,
+        _ => Fault::OutOfStep,
+    }
+}

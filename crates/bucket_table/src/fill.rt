@@ -1,0 +1,15 @@
+//! Vectors of equal values.
+ghost use Rattle.std.specs.Prelude.{◌≡◌, replicate, IfOk};
+
+use std::alloc::{AllocError, Global};
+
+/// A vector of so many equal values.
+pub(crate) fn filled<T: Copy>(alloc: Global, count: u32, value: T) -> Result<Vec<T>, AllocError>
+    ensures { IfOk result (λ items. items.items ≡ replicate count value) }
+{
+    let mut items = Vec::with_capacity(alloc, count as usize)?;
+    for _ in 0..count {
+        items.push(value)?;
+    }
+    Ok(items)
+}

@@ -1,0 +1,166 @@
+//! The entries of the buckets, in segments of 64: memory is taken for a segment once a bucket of
+//! its own is stored.
+ghost use Rattle.std.specs.Prelude.{◌≡◌, ℕ, ◌-◌, ◌*◌, ◌<◌, ◌≤◌, ◌^◌, ◌∷◌, List, Option, Some, None, length, replicate, slice_index_or, slice_set, IfOk, OnErr};
+ghost use Rattle.bucket_table.specs.Segments.{LacksSegment, Puts};
+
+use crate::fill::filled;
+use node_list::NodeRef;
+use std::alloc::{AllocError, Global};
+use std::marker::Model;
+
+/// How many entries a segment has.
+const WIDTH: usize = 64;
+
+/// The entries of 64 buckets in a row.
+#[derive(Drop)]
+struct Segment {
+    entries: Vec<Option<NodeRef>>,
+}
+
+impl Model for Segment {
+    ghost use Rattle.std.specs.Prelude.{ℕ, List, Option};
+    ghost use Rattle.bucket_table.specs.Segments.{IsSegment};
+
+    ghost Value = { List (Option ℕ) };
+
+    ghost view = { λ s. s.entries.items };
+
+    ghost invariant = { λ s. IsSegment s.entries.items };
+}
+
+impl Segment {
+    /// A segment with this dummy at a place, and none elsewhere.
+    fn new(alloc: Global, place: usize, dummy: NodeRef) -> Result<Self, AllocError>
+        requires { place < 64 }
+        ensures { IfOk result (λ segment. Puts None (Some segment) place dummy) }
+    {
+        let mut entries = filled(alloc, 64, None)?;
+        entries[place] = Some(dummy);
+        Ok(Segment { entries })
+    }
+
+    /// The dummy at a place, if one is stored there.
+    fn get(&self, place: usize) -> Option<NodeRef>
+        ensures { result ≡ slice_index_or self.now place None }
+    {
+        self.entries.get(place).copied().flatten()
+    }
+
+    /// Stores a dummy at a place.
+    fn set(&mut self, place: usize, dummy: NodeRef)
+        requires { place < 64 }
+        ensures { Puts (Some self.old) (Some self.new) place dummy }
+    {
+        self.entries[place] = Some(dummy);
+    }
+}
+
+/// The dummies of the stored buckets, by bucket: a row of segments, of which one is there exactly
+/// where a bucket of its own is stored.
+///
+/// A contract sees them as the flat list of all entries.
+#[derive(Drop)]
+pub(crate) struct Segments {
+    alloc: Global,
+    limit: u32,
+    row: Vec<Option<Segment>>,
+}
+
+impl Model for Segments {
+    ghost use Rattle.std.specs.Prelude.{ℕ, List, Option};
+    ghost use Rattle.bucket_table.specs.Segments.{entries_of, IsRow};
+
+    ghost Value = { List (Option ℕ) };
+
+    ghost view = { λ s. entries_of s.limit s.row.items };
+
+    ghost invariant = { λ s. IsRow s.limit s.row.items };
+}
+
+impl Segments {
+    /// The entries of so many buckets, of which bucket 0 is stored with this dummy. Takes memory
+    /// for the row and for the first segment.
+    pub(crate) fn new(alloc: Global, limit: u32, first: NodeRef) -> Result<Self, AllocError>
+        requires { 0 < limit }
+        ensures { IfOk result (λ entries. entries ≡ Some first ∷ replicate (limit - 1) None) }
+    {
+        let mut entries = Segments::empty(alloc, limit)?;
+        entries.set(0, first)?;
+        Ok(entries)
+    }
+
+    /// The entries of so many buckets, of which none is stored. Takes memory for the row alone.
+    fn empty(alloc: Global, limit: u32) -> Result<Self, AllocError>
+        ensures { IfOk result (λ entries. entries ≡ replicate limit None) }
+    {
+        let row = missing(alloc, (limit as usize).div_ceil(WIDTH))?;
+        Ok(Segments { alloc, limit, row })
+    }
+
+    /// How many entries there are.
+    pub(crate) fn limit(&self) -> u32
+        ensures { result ≡ length self.now }
+    {
+        self.limit
+    }
+
+    /// The dummy of a bucket, if the bucket is stored.
+    pub(crate) fn get(&self, bucket: u32) -> Option<NodeRef>
+        ensures { result ≡ slice_index_or self.now bucket None }
+    {
+        if bucket >= self.limit {
+            return None;
+        }
+        match &self.row[bucket as usize / WIDTH] {
+            Some(segment) => segment.get(bucket as usize % WIDTH),
+            None => None,
+        }
+    }
+
+    /// Stores a bucket with its dummy. Takes memory for the bucket's segment where no bucket of it
+    /// is stored, and else none.
+    ///
+    /// # Errors
+    ///
+    /// `AllocError` where memory is refused: then all is as it was.
+    pub(crate) fn set(&mut self, bucket: u32, dummy: NodeRef) -> Result<(), AllocError>
+        requires { bucket < length self.old }
+        ensures ok { IfOk result (λ done. self.new ≡ slice_set self.old bucket (Some dummy)) }
+        ensures unchanged { OnErr result (self.new ≡ self.old) }
+        ensures lacks { OnErr result (LacksSegment self.old bucket) }
+    {
+        let segment = &mut self.row[bucket as usize / WIDTH];
+        put(self.alloc, segment, bucket as usize % WIDTH, dummy)
+    }
+}
+
+/// Stores a dummy at a place of a segment, which is made where it is not there.
+fn put(
+    alloc: Global,
+    segment: &mut Option<Segment>,
+    place: usize,
+    dummy: NodeRef,
+) -> Result<(), AllocError>
+    requires { place < 64 }
+    ensures ok { IfOk result (λ done. Puts segment.old segment.new place dummy) }
+    ensures unchanged { OnErr result (segment.new ≡ segment.old) }
+    ensures missing { OnErr result (segment.old ≡ None) }
+{
+    if let Some(segment) = segment {
+        segment.set(place, dummy);
+        return Ok(());
+    }
+    *segment = Some(Segment::new(alloc, place, dummy)?);
+    Ok(())
+}
+
+/// A row of segments that are not there.
+fn missing(alloc: Global, count: usize) -> Result<Vec<Option<Segment>>, AllocError>
+    ensures { IfOk result (λ row. row.items ≡ replicate count None) }
+{
+    let mut row = Vec::with_capacity(alloc, count)?;
+    for _ in 0..count {
+        row.push(None)?;
+    }
+    Ok(row)
+}

@@ -1,0 +1,50 @@
+-- The refusal of a call by the token alone.
+use Rattle.std.proofs.Common.{◌≡◌, ◌↔◌, ◌∙◌, ℕ, Bool, true, false, if◌then◌else◌, List, Option, Some, None, Result, Ok, Err, inl, inr, is_some, refl, sym, ap, subst}
+use Rattle.std.proofs.lemmas.Bool.{false≢true}
+use Rattle.std.specs.Option.{option_or}
+use Rattle.txn_trace.specs.declared.refusal.Refusal.{Refusal}
+use Rattle.txn_trace.specs.declared.refusal.Refusal.TheVariants.{BadKey}
+use Rattle.txn_trace.specs.Seats.{refusal_in}
+use Rattle.txn_trace.specs.Shape.{Seat, seat_after}
+use Rattle.txn_trace.specs.Sizes.{is_bad_key}
+use Rattle.txn_drive.specs.declared.call.Call.{Call}
+use Rattle.txn_drive.specs.declared.call.Call.TheVariants as calls
+use Rattle.txn_drive.specs.Drives.{first_step}
+use Rattle.locked_map.specs.Calls.{refused_help, refused_at, refused_by, LeavesBy, WasRefused}
+use Rattle.locked_map.specs.Tokens.{Token}
+use Rattle.locked_map.specs.declared.stop.Stop.{Stop}
+use Rattle.locked_map.specs.declared.stop.Stop.TheVariants as stops
+
+pub refuses : (half b : Bool) (o : Option Seat) (call : Call) (seat help r : Option Refusal) → b ≡ false → (b ≡ false → is_some o ≡ true)
+    → ((s : Seat) → o ≡ Some s → seat ≡ refusal_in half s (first_step 0 call)) → help ≡ refused_help half call → r ≡ option_or seat help → r ≡ refused_at half b o call
+refuses half b None call seat help r sound whole seat_is help_is is = absurd (cc (whole sound))
+refuses half b (Some s) call seat help r sound whole seat_is help_is is =
+    is ∙ (λ i. option_or (seat_is s refl i) (help_is i)) ∙ sym (ap (λ x. refused_at half x (Some s) call) sound)
+
+help_at : (half b : Bool) (o : Option Seat) (key : ℕ) → b ≡ false → is_some o ≡ true → refused_at half b o (calls.Help key) ≡ (if is_bad_key half key then Some BadKey else None)
+help_at half true o key sound whole = absurd (false≢true (sym sound))
+help_at half false None key sound whole = absurd (false≢true whole)
+help_at half false (Some s) key sound whole = refl
+
+bad_only : (bad : Bool) → (if bad then Some BadKey else None) ≡ Some BadKey → bad ≡ true
+bad_only true is = refl
+bad_only false is = absurd (cc is)
+
+refused_bad : {S : Type 0} (k l : Token S) (key : ℕ) → refused_by k (calls.Help key) ≡ (if is_bad_key k.limits.half key then Some BadKey else None) → WasRefused k (calls.Help key) BadKey l → is_bad_key k.limits.half key ≡ true
+refused_bad k l key at (inl by_token) = bad_only (is_bad_key k.limits.half key) (sym at ∙ by_token.0)
+refused_bad k l key at (inr later) = absurd (false≢true later.1.may)
+
+bad_refused : {S T : Type 0} (words : S → List ℕ) (k l : Token S) (key : ℕ) (r : Result T Stop) → refused_by k (calls.Help key) ≡ Some BadKey → LeavesBy words k (calls.Help key) r l → r ≡ Err (stops.Refused BadKey)
+bad_refused words k l key (Ok reply) at leaves = absurd (cc (at, leaves.free))
+bad_refused words k l key (Err (stops.Busy holder)) at leaves = absurd (cc (at, leaves.free))
+bad_refused words k l key (Err (stops.Refused refusal)) at (inl by_token) = ap (λ x. Err (stops.Refused x)) (cc (at, by_token.0))
+bad_refused words k l key (Err (stops.Refused refusal)) at (inr later) = absurd (cc (at, later.0))
+
+-- Help is refused for its key exactly where the key is bad.
+pub help_bad_key : {S T : Type 0} (words : S → List ℕ) (k l : Token S) (key : ℕ) (r : Result T Stop) → (k.broken ≡ false → is_some (seat_after k.seen) ≡ true) → LeavesBy words k (calls.Help key) r l
+    → k.broken ≡ false → (r ≡ Err (stops.Refused BadKey)) ↔ (is_bad_key k.limits.half key ≡ true)
+help_bad_key words k l key r rows leaves sound =
+    let at = help_at k.limits.half k.broken (seat_after k.seen) key sound (rows sound) in (
+      (λ is. refused_bad k l key at (subst (λ x. LeavesBy words k (calls.Help key) x l) is leaves)),
+      λ bad. bad_refused words k l key r (at ∙ ap (λ b. if b then Some BadKey else None) bad) leaves,
+    )

@@ -1,4 +1,0 @@
-use Rattle.locked_map.proofs.tests.map_of.play_with.Given as goal
-
-abbrev pub ghosts-play_under : goal.ghosts-play_under
-ghosts-play_under g a = record { name = a.blank.name; parts = a.blank.parts }

@@ -1,0 +1,124 @@
+//! What calls leave that are refused memory. `docs/tests/refused.sh` refuses it to them.
+use super::setting::{Play, callers_of, close, is_settled, play_with};
+use crate::shared_map::Unheard;
+use crate::{Caller, NoSide, Pass, SharedMap};
+use boost_core::{Call, End};
+use std::alloc::Global;
+use std::process::Abort;
+use std::sync::Wait;
+use std::sync::ledger::Ledger;
+use std::test::Fail;
+use txn_trace::{Answer, Op, Refusal};
+
+/// A call of the caller at a place, and how it ends where memory is there.
+type Wanted = (usize, Call, End);
+
+/// The end of an operation.
+const fn done(reply: Option<u64>) -> End {
+    End::Answered(Answer::Done(reply))
+}
+
+/// Takes the calls in turn, as far as the first that is refused memory, which leaves `seen` as it
+/// was. Whether none was.
+fn is_whole<L: Ledger, R: Wait + Abort>(
+    rt: &R,
+    map: &SharedMap<L>,
+    callers: &mut [Caller<L, NoSide>],
+    calls: &[Wanted],
+) -> Result<bool, Fail> {
+    for &(place, call, wanted) in calls {
+        let me = callers.get_mut(place).ok_or("a caller")?;
+        let before = me.seen().len();
+        let end = map.run(rt, me, call, &Unheard);
+        if end == End::Refused(Refusal::NoMemory) {
+            assert_eq!(rt; me.seen().len(), before);
+            return Ok(false);
+        }
+        assert_eq!(rt; end, wanted);
+    }
+    Ok(true)
+}
+
+/// Gives up each caller's transaction, if it has one, for which no memory is wanted.
+fn give_up<L: Ledger, R: Wait + Abort>(
+    rt: &R,
+    map: &SharedMap<L>,
+    callers: &mut [Caller<L, NoSide>],
+) {
+    for me in callers {
+        let end = map.run(rt, me, Call::Abort, &Unheard);
+        assert!(rt;
+            matches!(
+                end,
+                End::Answered(Answer::Aborted) | End::Refused(Refusal::NotOpen)
+            ),
+            "{end:?}"
+        );
+    }
+}
+
+/// Calls of which all but the first refused one are made; then all give up. Nothing is left, but
+/// one key where no call was refused.
+#[derive(Clone, Copy)]
+struct Refused<'a> {
+    calls: &'a [Wanted],
+}
+
+impl Play for Refused<'_> {
+    fn play<L: Ledger, R: Wait + Abort>(
+        &self,
+        rt: &R,
+        alloc: Global,
+        map: SharedMap<L>,
+        passes: Vec<Pass<L>>,
+    ) -> Result<(), Fail> {
+        let mut callers = callers_of(alloc, passes)?;
+        let whole = is_whole(rt, &map, callers.as_mut_slice(), self.calls)?;
+        give_up(rt, &map, callers.as_mut_slice());
+        let closed = close(map, callers)?;
+        assert_eq!(rt; closed.core.count(), u64::from(whole));
+        assert!(rt; is_settled(alloc, closed.core.trace())?);
+        Ok(())
+    }
+}
+
+/// The calls of `busy_between_callers`.
+#[test]
+fn refused_memory_between_callers(rt: HostRuntime) -> Result<(), Fail> {
+    let calls = [
+        (0, Call::Begin, End::Answered(Answer::Began(1))),
+        (0, Call::Op(Op::Put(1, 10)), done(None)),
+        (1, Call::Begin, End::Answered(Answer::Began(2))),
+        (1, Call::Op(Op::Get(9)), End::Busy(0)),
+        (1, Call::Begin, End::Answered(Answer::Began(3))),
+        (1, Call::Commit, End::Answered(Answer::Committed(1))),
+        (0, Call::Commit, End::Answered(Answer::Committed(2))),
+    ];
+    let what = Refused {
+        calls: calls.as_slice(),
+    };
+    play_with(&rt, rt.alloc(), 2, &what)
+}
+
+/// Each kind of call, among them a help that doubles and makes buckets.
+#[test]
+fn refused_memory_in_each_call(rt: HostRuntime) -> Result<(), Fail> {
+    let calls = [
+        (0, Call::Begin, End::Answered(Answer::Began(1))),
+        (0, Call::Op(Op::PutIf(1, None, 10)), done(None)),
+        (0, Call::Save, End::Answered(Answer::Saved(1))),
+        (0, Call::Op(Op::Put(2, 20)), done(None)),
+        (0, Call::Op(Op::Put(3, 30)), done(None)),
+        (0, Call::Op(Op::Put(4, 40)), done(None)),
+        (0, Call::Op(Op::Put(5, 50)), done(None)),
+        (1, Call::Help(3), End::Helped),
+        (0, Call::Op(Op::Take(1)), done(Some(10))),
+        (0, Call::Back(1), End::Answered(Answer::Returned(1))),
+        (0, Call::Op(Op::Get(1)), done(Some(10))),
+        (0, Call::Commit, End::Answered(Answer::Committed(1))),
+    ];
+    let what = Refused {
+        calls: calls.as_slice(),
+    };
+    play_with(&rt, rt.alloc(), 2, &what)
+}

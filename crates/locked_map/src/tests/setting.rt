@@ -1,0 +1,130 @@
+//! The setting of the tests: a new map under a ledger of its own, its callers, and what is left of
+//! it.
+ghost use Rattle.std.specs.Prelude.{◌≡◌, ◌<◌, true, All, IfOk};
+ghost use Rattle.txn_trace.specs.History.{caller_of};
+
+use crate::{Caller, Closed, NoSide, Pass, SharedMap};
+use history_check::{Verdict, check};
+use std::alloc::{AllocError, Global};
+use std::marker::Brand;
+use std::process::Abort;
+use std::sync::Wait;
+use std::sync::ledger::{Blank, Ledger};
+use std::test::Fail;
+use txn_trace::{Entry, Holder, Limits};
+use undo_log::Side;
+
+/// What a test does with a new map.
+pub(super) trait Play {
+    /// Plays it.
+    fn play<L: Ledger, R: Wait + Abort>(
+        &self,
+        rt: &R,
+        alloc: Global,
+        map: SharedMap<L>,
+        passes: Vec<Pass<L>>,
+    ) -> Result<(), Fail>
+        requires { map.limits.callers ≡ L.parts };
+}
+
+/// Plays it on a new map with 8 stripes and at most 8 buckets.
+pub(super) fn play_with<P: Play, R: Wait + Abort>(
+    rt: &R,
+    alloc: Global,
+    callers: u64,
+    what: &P,
+) -> Result<(), Fail> {
+    let limits = Limits::new(callers, 8, 8)?;
+    let blank = Blank::new(u64::from(limits.callers()));
+    play_under::<Brand, P, R>(rt, alloc, blank, limits, what)
+}
+
+fn play_under<L: Ledger, P: Play, R: Wait + Abort>(
+    rt: &R,
+    alloc: Global,
+    blank: Blank,
+    limits: Limits,
+    what: &P,
+) -> Result<(), Fail>
+    requires name { blank.name ≡ L.name }
+    requires parts { blank.parts ≡ L.parts }
+    requires one_each { blank.parts ≡ limits.callers }
+{
+    let (map, passes) = SharedMap::<L>::new(alloc, blank, limits)?;
+    what.play(rt, alloc, map, passes)
+}
+
+/// A new map and its callers, for a test with threads, which a trait's method may not start.
+pub(super) fn open<L: Ledger>(
+    alloc: Global,
+    blank: Blank,
+    limits: Limits,
+) -> Result<(SharedMap<L>, Vec<Caller<L, NoSide>>), Fail>
+    requires name { blank.name ≡ L.name }
+    requires parts { blank.parts ≡ L.parts }
+    requires one_each { blank.parts ≡ limits.callers }
+    ensures { IfOk result (λ r. r.0.limits ≡ limits) }
+{
+    let (map, passes) = SharedMap::<L>::new(alloc, blank, limits)?;
+    Ok((map, callers_of(alloc, passes)?))
+}
+
+/// The callers of the passes, without side values.
+pub(super) fn callers_of<L: Ledger>(
+    alloc: Global,
+    passes: Vec<Pass<L>>,
+) -> Result<Vec<Caller<L, NoSide>>, AllocError> {
+    let mut callers = Vec::new(alloc);
+    for pass in passes {
+        callers.push(pass.caller(alloc, NoSide))?;
+    }
+    Ok(callers)
+}
+
+/// Callers 0 and 1.
+pub(super) fn two_of<L: Ledger>(
+    alloc: Global,
+    passes: Vec<Pass<L>>,
+) -> Result<(Caller<L, NoSide>, Caller<L, NoSide>), Fail> {
+    let mut callers = callers_of(alloc, passes)?;
+    let second = callers.pop().ok_or("caller 1")?;
+    let first = callers.pop().ok_or("caller 0")?;
+    Ok((first, second))
+}
+
+/// Both, in order.
+pub(super) fn both<T: Drop>(alloc: Global, first: T, second: T) -> Result<Vec<T>, Fail> {
+    let mut both = Vec::new(alloc);
+    both.push(first)?;
+    both.push(second)?;
+    Ok(both)
+}
+
+/// What is left of a map that closes.
+pub(super) fn close<L: Ledger, S: Side>(
+    map: SharedMap<L>,
+    callers: Vec<Caller<L, S>>,
+) -> Result<Closed<L, S>, Fail>
+    requires { map.limits.callers ≡ L.parts }
+{
+    match map.close(callers) {
+        Ok(closed) => Ok(closed),
+        Err(_) => Err("closes".into()),
+    }
+}
+
+/// Whether a history is legal by the checker, with no transaction open.
+pub(super) fn is_settled(alloc: Global, trace: &[Entry]) -> Result<bool, Fail> {
+    if !has_callers(trace) {
+        return Ok(false);
+    }
+    let verdict = check(alloc, trace, 8, Holder::Now)?;
+    Ok(matches!(verdict, Verdict::Legal { running: 0, .. }))
+}
+
+/// Whether each caller's number is one that the checker takes.
+fn has_callers(trace: &[Entry]) -> bool
+    ensures { result ≡ true → All (λ entry. caller_of entry < 64) trace.now }
+{
+    trace.iter().all(|entry| entry.caller() < 64)
+}

@@ -1,0 +1,108 @@
+-- What the reports of all workers say of a run, and their rows of outcomes, each with its last one first.
+use Rattle.std.proofs.Common.{◌≡◌, ℕ, ◌+◌, ◌*◌, ◌/◌, ◌%◌, ◌<◌, Bool, List, get_or, length, map, reverse, Some, sym, ap, subst, ◌∙◌, inl, inr, arith}
+use Rattle.std.specs.Prelude.{slice_get, All}
+use Rattle.std.specs.List.{range_with_len}
+use Rattle.std.proofs.lemmas.List.FromFn.{length-map-range_with_len, get_or-map-range_with_len}
+use Rattle.std.proofs.Math.Nat.{mod-lt}
+use Rattle.std.proofs.lemmas.List.{get_or-map, length-map, length-reverse, reverse-reverse}
+use Rattle.std.proofs.lemmas.Option.{slice_get_cases}
+use Rattle.txn_trace.specs.declared.holder.Holder.TheVariants.{Now}
+use Rattle.txn_trace.specs.declared.action.Action.{Action}
+use Rattle.txn_trace.specs.declared.entry.Entry.{Entry}
+use Rattle.txn_trace.specs.History.{caller_of}
+use Rattle.txn_trace.specs.Legal.{IsLegal}
+use Rattle.txn_trace.specs.Shape.{own, IsShaped}
+use Rattle.txn_trace.specs.Sizes.{Sizes}
+use Rattle.locked_map.specs.Closes.{IsOwn}
+use Rattle.locked_map.specs.Tokens.{Ticket, new_ticket}
+use Rattle.thread_runs.specs.declared.outcome.Outcome as codes
+use Rattle.thread_runs.specs.declared.worker.Report.{Report}
+use Rattle.thread_runs.specs.Accounts.{Outcome, every, AreAllTrue}
+use Rattle.thread_runs.specs.Each.{Each}
+use Rattle.thread_runs.specs.Possible.{MayCome}
+use Rattle.thread_runs.specs.Runs.{AreToldIn, MayAllCome, HasReported, HasRunScripts, told_of}
+use Rattle.thread_runs.proofs.Every.{every-map, get-every, number_at}
+use Rattle.thread_runs.proofs.Lists.{all_at, get_map, map_get}
+use Rattle.thread_runs.proofs.Working.{all_true, told_within}
+
+-- A report of a pass that has this number and these limits.
+pub reported_at : {L : Type 0} (limits : Sizes) (workers tries : ℕ) (scripts : List (List Action)) (c : ℕ) (pass : Ticket) (report : Report L) → pass ≡ new_ticket limits c → HasReported pass.limits.half workers tries scripts pass.number report
+    → HasReported limits.half workers tries scripts c report
+reported_at limits workers tries scripts c pass report is = subst (λ (t : Ticket). HasReported t.limits.half workers tries scripts t.number report) is
+
+-- Reports of a work that has these numbers and scripts.
+pub reported_as : {L : Type 0} (half : Bool) (workers workers' tries tries' : ℕ) (scripts scripts' : List (List Action)) (reports : List (Report L)) → workers' ≡ workers → tries' ≡ tries → scripts' ≡ scripts
+    → Each (HasReported half workers' tries' scripts') reports → Each (HasReported half workers tries scripts) reports
+reported_as half workers workers' tries tries' scripts scripts' reports same again all each =
+    subst (λ (n : ℕ). Each (HasReported half n tries scripts) reports) same (subst (λ (n : ℕ). Each (HasReported half workers' n scripts) reports) again (subst (λ ss. Each (HasReported half workers' tries' ss) reports) all each))
+
+module _ {L W : Type 0} (items : W → List codes.Outcome) (half : Bool) (workers tries : ℕ) (scripts : List (List Action)) (reports : List (Report L)) (rows : List W) (as_many : length reports ≡ workers)
+    (each : Each (HasReported half workers tries scripts) reports) (rows_are : map items rows ≡ map (λ r. reverse r.outcomes.items) reports) where
+  pub as_many_rows : length rows ≡ workers
+  as_many_rows = sym (length-map rows items) ∙ ap length rows_are ∙ length-map reports (λ r. reverse r.outcomes.items) ∙ as_many
+
+  -- A row has one outcome for each script of its worker.
+  pub rows_whole : Each (λ c row. length (items row) ≡ length (every (length rows) c scripts)) rows
+  rows_whole c row is =
+      let (r, at, row_is) = get_map (λ q. reverse q.outcomes.items) reports c (items row) (map_get items rows _ (sym rows_are) c row is) in
+      let ran = (each c r at).ran in
+      ap length (sym row_is) ∙ length-reverse r.outcomes.items ∙ sym (length-map r.outcomes.items told_of) ∙ ran.all ∙ ap (λ (n : ℕ). length (every n c scripts)) (sym as_many_rows)
+
+  report_at : (c : ℕ) → c < workers → (r : Report L) × (slice_get reports c ≡ Some r)
+  report_at c below = elim ((slice_get_cases reports c).1) [
+    | inl is ↦ (is.0, is.2)
+    | inr over ↦ let past = over.0 in absurd (omega (arith, as_many))
+  ]
+
+  module _ (outcomes : List codes.Outcome) (order : Each (λ c row. every (length rows) c outcomes ≡ reverse (items row)) rows) where
+    -- Of all outcomes those of a worker are those that it has reported.
+    own_outcomes : (c : ℕ) (r : Report L) → slice_get reports c ≡ Some r → every workers c (map told_of outcomes) ≡ map told_of r.outcomes.items
+    own_outcomes c r at =
+        let (row, in_rows, row_is) = get_map items rows c (reverse r.outcomes.items) (map_get (λ q. reverse q.outcomes.items) reports _ rows_are c r at) in
+        every-map told_of workers outcomes c
+        ∙ ap (map told_of) (ap (λ (n : ℕ). every n c outcomes) (sym as_many_rows) ∙ order c row in_rows ∙ ap reverse row_is ∙ reverse-reverse r.outcomes.items)
+
+    -- Where each worker has seen its own entries of the history, the outcomes are true of it.
+    pub reports_true : (h : List Entry) → IsShaped h → ((c : ℕ) (r : Report L) → slice_get reports c ≡ Some r → own r.caller.number h ≡ r.caller.seen) → AreAllTrue workers tries scripts (map told_of outcomes) h
+    reports_true h shape owns = all_true workers tries scripts (map told_of outcomes) h shape by
+      where
+        by : (c : ℕ) → c < workers → AreToldIn c tries (every workers c scripts) (every workers c (map told_of outcomes)) (own c h)
+        by c below =
+            let (r, at) = report_at c below in
+            let report = each c r at in
+            let mine : own c h ≡ r.caller.seen = ap (λ (n : ℕ). own n h) (sym report.number_is) ∙ owns c r at in
+            subst (λ es. AreToldIn c tries (every workers c scripts) (every workers c (map told_of outcomes)) es) (sym mine)
+            (subst (λ os. AreToldIn c tries (every workers c scripts) os r.caller.seen) (sym (own_outcomes c r at)) report.ran.told)
+
+    -- And each outcome is one that its script allows.
+    pub reports_may : 0 < workers → (i : ℕ) (script : List Action) (outcome : Outcome) → slice_get scripts i ≡ Some script → slice_get (map told_of outcomes) i ≡ Some outcome → MayCome half script outcome
+    reports_may some i script outcome is js =
+        let c : ℕ = i % workers in
+        let k : ℕ = i / workers in
+        let at : i ≡ c + k * workers = number_at i workers in
+        let (r, here) = report_at c (mod-lt i some) in
+        told_within (λ told. MayCome half told.script told.outcome) (every workers c scripts) (every workers c (map told_of outcomes)) k script outcome
+        (get-every workers some scripts c k ∙ ap (slice_get scripts) (sym at) ∙ is)
+        (get-every workers some (map told_of outcomes) c k ∙ ap (slice_get (map told_of outcomes)) (sym at) ∙ js)
+        (subst (MayAllCome half (every workers c scripts)) (sym (own_outcomes c r here)) (each c r here).ran.may)
+
+-- What a run has come to, by its reports, the callers and the rows that these are parted into, and the history of the map.
+pub run_true : {L W : Type 0} (items : W → List codes.Outcome) (limits sizes : Sizes) (workers tries : ℕ) (scripts : List (List Action)) (reports : List (Report L)) (callers : List _) (rows : List W) (outcomes : List codes.Outcome) (trace h : List Entry)
+    → 0 < workers → length reports ≡ workers → Each (HasReported limits.half workers tries scripts) reports → callers ≡ map (λ r. r.caller) reports → map items rows ≡ map (λ r. reverse r.outcomes.items) reports → length outcomes ≡ length scripts
+    → Each (λ c row. every (length rows) c outcomes ≡ reverse (items row)) rows → trace ≡ h → sizes ≡ limits → workers ≡ limits.callers → IsLegal Now sizes.stripes h → All (λ e. caller_of e < sizes.callers) h → All (λ k. IsOwn h k) callers
+    → HasRunScripts limits workers tries scripts (map told_of outcomes) trace
+run_true items limits sizes workers tries scripts reports callers rows outcomes trace h some as_many each callers_are rows_are one_each order same is all_workers legal below own = record {
+  legal = subst (IsLegal Now limits.stripes) (sym same) (subst (λ (z : Sizes). IsLegal Now z.stripes h) is legal);
+  callers = subst (All (λ e. caller_of e < workers)) (sym same) (subst (λ (n : ℕ). All (λ e. caller_of e < n) h) (ap (λ (z : Sizes). z.callers) is ∙ sym all_workers) below);
+  one_each = length-map outcomes told_of ∙ one_each;
+  true_of = subst (AreAllTrue workers tries scripts (map told_of outcomes)) (sym same)
+      (reports_true items limits.half workers tries scripts reports rows as_many each rows_are outcomes order h legal.shape (λ c r at. all_at (λ k. IsOwn h k) (λ q. q.caller) reports callers callers_are own c r at));
+  allowed = reports_may items limits.half workers tries scripts reports rows as_many each rows_are outcomes order some;
+}
+
+-- What stands at a place of a list that shows the numbers in order.
+pub shown_at : {X T : Type 0} (show : X → T) (f : ℕ → T) (n : ℕ) (xs : List X) (k : ℕ) (x : X) → map show xs ≡ map f (range_with_len 0 n) → (k < length xs) × (x ≡ get_or xs k x) → show x ≡ f k
+shown_at show f n xs k x are at =
+    let as_many : length xs ≡ n = sym (length-map xs show) ∙ ap length are ∙ length-map-range_with_len f 0 n in
+    let low : k < length xs = at.0 in
+    ap show at.1 ∙ sym (get_or-map show xs k x (show x) low) ∙ ap (λ ys. get_or ys k (show x)) are ∙ get_or-map-range_with_len f 0 n k k (show x) (omega arith) (omega arith)

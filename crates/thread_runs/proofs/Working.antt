@@ -1,0 +1,64 @@
+-- The scripts of each caller, and what the outcomes of all of them say.
+use Rattle.std.proofs.Common.{◌≡◌, ℕ, ◌+◌, ◌*◌, ◌/◌, ◌%◌, ◌<◌, true, List, [], ◌∷◌, ◌++◌, length, is_some, Some, refl, sym, ap, subst, ◌∙◌}
+use Prim.Native.Nat.{zero, suc}
+use Rattle.std.specs.List.{slice_get, AllByRecursion}
+use Rattle.std.proofs.Math.Nat.{mod-lt}
+use Rattle.txn_trace.specs.declared.action.Action.{Action}
+use Rattle.txn_trace.specs.declared.entry.Entry.{Entry}
+use Rattle.txn_trace.specs.Shape.{seat_after, own, IsShaped}
+use Rattle.thread_runs.specs.Accounts.{Outcome, Told, IsAccount, AreAccounts, HasCome, every, tolds_of, AreAllTrue}
+use Rattle.thread_runs.specs.Runs.{AreToldIn}
+use Rattle.txn_trace.proofs.Running.{has_seat}
+use Rattle.thread_runs.proofs.Parts.{seat_front}
+use Rattle.thread_runs.proofs.Telling.{accounts_true}
+use Rattle.thread_runs.proofs.Attempting.{accounts_more}
+use Rattle.thread_runs.proofs.Every.{get-every, number_at}
+use Rattle.thread_runs.proofs.Lists.{get_empty}
+
+pub tolds_of-none : (scripts : List (List Action)) → tolds_of scripts [] ≡ []
+tolds_of-none [] = refl
+tolds_of-none (script ∷ scripts) = refl
+
+-- One script more has its outcome.
+pub tolds_of-push : (scripts : List (List Action)) (outcomes : List Outcome) (script : List Action) (outcome : Outcome) → slice_get scripts (length outcomes) ≡ Some script
+    → tolds_of scripts (outcomes ++ outcome ∷ []) ≡ tolds_of scripts outcomes ++ record { script = script; outcome = outcome } ∷ []
+tolds_of-push [] outcomes script outcome is = absurd (cc (get_empty (length outcomes), is))
+tolds_of-push (first ∷ scripts) [] script outcome is =
+    let same : first ≡ script = cc is in
+    (λ i. record { script = same i; outcome = outcome } ∷ tolds_of-none scripts i)
+tolds_of-push (first ∷ scripts) (o ∷ outcomes) script outcome is = ap (λ ts. record { script = first; outcome = o } ∷ ts) (tolds_of-push scripts outcomes script outcome is)
+
+pub told_none : (c tries : ℕ) (scripts : List (List Action)) → AreToldIn c tries scripts [] []
+told_none c tries scripts whole = subst (λ ts. AreAccounts c tries ts []) (sym (tolds_of-none scripts)) refl
+
+pub told_more : (c tries : ℕ) (scripts : List (List Action)) (outcomes : List Outcome) (script : List Action) (outcome : Outcome) (seen chunk : List Entry) → slice_get scripts (length outcomes) ≡ Some script
+    → AreToldIn c tries scripts outcomes seen → (is_some (seat_after (seen ++ chunk)) ≡ true → IsAccount c tries script outcome chunk) → AreToldIn c tries scripts (outcomes ++ outcome ∷ []) (seen ++ chunk)
+told_more c tries scripts outcomes script outcome seen chunk here told account whole =
+    subst (λ ts. AreAccounts c tries ts (seen ++ chunk)) (sym (tolds_of-push scripts outcomes script outcome here))
+    (accounts_more c tries (tolds_of scripts outcomes) script outcome seen chunk (told (seat_front seen chunk whole)) (account whole))
+
+-- Where each caller's entries in the history are what it has seen, the outcomes are true.
+pub all_true : (callers tries : ℕ) (scripts : List (List Action)) (outcomes : List Outcome) (h : List Entry) → IsShaped h
+    → ((c : ℕ) → c < callers → AreToldIn c tries (every callers c scripts) (every callers c outcomes) (own c h)) → AreAllTrue callers tries scripts outcomes h
+all_true callers tries scripts outcomes h shape told c below =
+    accounts_true c tries h (tolds_of (every callers c scripts) (every callers c outcomes)) shape (told c below (has_seat h shape c))
+
+pub told_within : (P : Told → Type 0) (scripts : List (List Action)) (outcomes : List Outcome) (k : ℕ) (script : List Action) (outcome : Outcome) → slice_get scripts k ≡ Some script → slice_get outcomes k ≡ Some outcome
+    → AllByRecursion P (tolds_of scripts outcomes) → P (record { script = script; outcome = outcome })
+told_within P [] outcomes k script outcome is js all = absurd (cc (get_empty k, is))
+told_within P (first ∷ scripts) [] k script outcome is js all = absurd (cc (get_empty k, js))
+told_within P (first ∷ scripts) (o ∷ outcomes) zero script outcome is js all =
+    let same : first ≡ script = cc is in
+    let equal : o ≡ outcome = cc js in
+    subst P (λ i. record { script = same i; outcome = equal i }) all.0
+told_within P (first ∷ scripts) (o ∷ outcomes) (suc k) script outcome is js all = told_within P scripts outcomes k script outcome is js all.1
+
+-- So the outcome of script i speaks of caller i modulo the number of callers.
+pub script_come : (callers tries : ℕ) (scripts : List (List Action)) (outcomes : List Outcome) (h : List Entry) → 0 < callers → AreAllTrue callers tries scripts outcomes h
+    → (i : ℕ) (script : List Action) (outcome : Outcome) → slice_get scripts i ≡ Some script → slice_get outcomes i ≡ Some outcome → HasCome (i % callers) h script outcome
+script_come callers tries scripts outcomes h some trues i script outcome is js =
+    let at : i % callers + i / callers * callers ≡ i = sym (number_at i callers) in
+    told_within (λ told. HasCome (i % callers) h told.script told.outcome) (every callers (i % callers) scripts) (every callers (i % callers) outcomes) (i / callers) script outcome
+    (get-every callers some scripts (i % callers) (i / callers) ∙ ap (slice_get scripts) at ∙ is)
+    (get-every callers some outcomes (i % callers) (i / callers) ∙ ap (slice_get outcomes) at ∙ js)
+    (trues (i % callers) (mod-lt i some)).each

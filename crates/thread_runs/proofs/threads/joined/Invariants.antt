@@ -1,0 +1,8 @@
+use Rattle.std.specs.Prelude.{◌≡◌, length}
+use Rattle.thread_runs.specs.Each.{Each}
+use Rattle.thread_runs.specs.Runs.{HasReported}
+use Rattle.thread_runs.proofs.threads.joined.Given as goal
+
+abbrev pub invariant-loop-thread : goal.invariant-loop-thread
+invariant-loop-thread g l =
+    (length l.reports.items ≡ length l.yielded) × Each (HasReported l.fn.limits.half g.T.Task.workers g.T.Task.tries g.T.Task.scripts) l.reports.items

@@ -1,0 +1,14 @@
+use Rattle.std.specs.Prelude.{◌-◌, length, map}
+use Rattle.txn_trace.specs.declared.seat.Phase.TheVariants.{Closed}
+use Rattle.locked_map.specs.Tokens.{IsSameCaller}
+use Rattle.thread_runs.specs.Runs.{IsIn, told_of}
+use Rattle.thread_runs.proofs.Rounds.{IsSoFar}
+use Rattle.thread_runs.proofs.worker.Job.outcomes.Given as goal
+
+abbrev pub invariant-loop-script : goal.invariant-loop-script
+invariant-loop-script g l =
+    IsSameCaller l.fn.me l.me × IsSoFar l.fn.me.limits.half l.self.workers l.self.tries l.fn.me.number l.self.scripts.now l.number (map told_of l.outcomes.items) l.me.seen
+    × IsIn Closed l.me.broken l.me.seen
+
+abbrev pub decreases-loop-script : goal.decreases-loop-script
+decreases-loop-script g l = length l.self.scripts.now - l.number

@@ -1,0 +1,130 @@
+-- How a caller's scripts ended, told by the caller's own entries, and what that says of the
+-- history.
+use Rattle.std.specs.Prelude.{◌≡◌, ℕ, ◌+◌, ◌-◌, ◌*◌, ◌<◌, ◌≤◌, Bool, true, false, Option, Some, None, List, [], ◌∷◌, ◌++◌, length, slice_get}
+use Prim.Native.Nat.{zero, suc}
+use Rattle.std.specs.List.{filter, filter_map, AllByRecursion}
+use Rattle.txn_trace.specs.declared.action.Action.{Action}
+use Rattle.txn_trace.specs.declared.refusal.Refusal.{Refusal}
+use Rattle.txn_trace.specs.declared.entry.Entry.{Entry}
+use Rattle.txn_trace.specs.declared.entry.Entry.TheVariants as entries
+use Rattle.txn_trace.specs.History.{is_commit, of, is_committed, commits}
+use Rattle.txn_trace.specs.Shape.{own, how_many}
+use Rattle.locked_map.specs.Holds.{CommitNothing}
+use Rattle.txn_trace.specs.Plays.{without_undone, IsPlayed, Plays, commits_of}
+
+-- How a script ended: committed, as this transaction, at this place in the commit order and with
+-- these replies; or with nothing committed.
+pub data Outcome : Type 0 where
+  Committed : ℕ → ℕ → List (Option ℕ) → Outcome
+  Aborted : Outcome
+  Busy : Outcome
+  Refused : Refusal → Outcome
+
+-- A script that a caller has run, and how it ended.
+pub record Told : Type 0 where
+  pub script : List Action
+  pub outcome : Outcome
+
+-- Whether an entry says that a stripe was held.
+abbrev pub is_busy : Entry → Bool
+is_busy (entries.Busy c op x) = true
+is_busy _ = false
+
+-- The reply of an entry, where it has one.
+abbrev pub reply_in : Entry → Option (Option ℕ)
+reply_in (entries.Did c reply) = Some reply
+reply_in _ = None
+
+-- The replies of the entries, in order.
+abbrev pub replies_in : List Entry → List (Option ℕ)
+replies_in es = filter_map reply_in es
+
+-- So many attempts found a stripe held: nothing is committed, and at least so many entries say so.
+pub record AreBusy (attempts : ℕ) (es : List Entry) : Type 0 where
+  pub nothing : CommitNothing es
+  pub enough : attempts ≤ how_many is_busy es
+
+-- The entries are those of a transaction of the caller, from its Began to its Committed, which plays
+-- the script and has these replies.
+pub record IsPlayedBy (c : ℕ) (script : List Action) (txn place : ℕ) (replies : List (Option ℕ))
+    (es : List Entry) : Type 0 where
+  pub inner : List Entry
+  pub whole : es ≡ entries.Began c txn ∷ inner ++ entries.Committed c place ∷ []
+  pub plays : IsPlayed script (without_undone es)
+  pub replied : replies_in es ≡ replies
+
+-- The entries are those that a caller has added by a script that ended so: first those of attempts
+-- that came to nothing, and then, where it is committed, those of its transaction.
+abbrev pub IsAccount : ℕ → ℕ → List Action → Outcome → List Entry → Type 0
+IsAccount c tries script (Committed txn place replies) es =
+    (before : List Entry) × (part : List Entry) × (es ≡ before ++ part) × CommitNothing before
+    × IsPlayedBy c script txn place replies part
+IsAccount c tries script Aborted es = CommitNothing es
+IsAccount c tries script Busy es = AreBusy (tries + 1) es
+IsAccount c tries script (Refused refusal) es = CommitNothing es
+
+-- The entries are those of these scripts, one after the other.
+abbrev pub AreAccounts : ℕ → ℕ → List Told → List Entry → Type 0
+AreAccounts c tries [] es = es ≡ []
+AreAccounts c tries (told ∷ more) es =
+    (here : List Entry) × (later : List Entry) × (es ≡ here ++ later)
+    × IsAccount c tries told.script told.outcome here × AreAccounts c tries more later
+
+-- In the history the transaction is one of the caller's, plays the script, is committed, at this
+-- place of the commits, and has these replies.
+pub record IsCommittedAs (c : ℕ) (script : List Action) (txn place : ℕ)
+    (replies : List (Option ℕ)) (h : List Entry) : Type 0 where
+  pub inner : List Entry
+  pub whole : of txn h ≡ entries.Began c txn ∷ inner ++ entries.Committed c place ∷ []
+  pub plays : Plays txn script h
+  pub committed : is_committed txn h ≡ true
+  pub placed : slice_get (commits h) (place - 1) ≡ Some txn
+  pub replied : replies_in (of txn h) ≡ replies
+
+-- What an outcome says of the history.
+abbrev pub HasCome : ℕ → List Entry → List Action → Outcome → Type 0
+HasCome c h script (Committed txn place replies) = IsCommittedAs c script txn place replies h
+HasCome c h script outcome = Unit {0}
+
+-- The Committed entry of an outcome, and its transaction, where it has one.
+abbrev pub commit_in : ℕ → Outcome → Option Entry
+commit_in c (Committed txn place replies) = Some (entries.Committed c place)
+commit_in c outcome = None
+
+abbrev pub txn_in : Outcome → Option ℕ
+txn_in (Committed txn place replies) = Some txn
+txn_in outcome = None
+
+-- Whether a script found a stripe held in each of its attempts.
+abbrev pub is_busy_outcome : Outcome → Bool
+is_busy_outcome Busy = true
+is_busy_outcome outcome = false
+
+-- What the outcomes of a caller's scripts say of the history: each that is committed stands for a
+-- transaction of the caller's; the caller's Committed entries, and its committed transactions, are
+-- those of the outcomes, in order; and there are `tries + 1` Busy entries at least for each outcome
+-- that is busy.
+pub record AreTrue (c tries : ℕ) (h : List Entry) (tolds : List Told) : Type 0 where
+  pub each : AllByRecursion (λ told. HasCome c h told.script told.outcome) tolds
+  pub entries_are : filter is_commit (own c h) ≡ filter_map (λ told. commit_in c told.outcome) tolds
+  pub txns_are : commits_of c h ≡ filter_map (λ told. txn_in told.outcome) tolds
+  pub busy : length (filter (λ told. is_busy_outcome told.outcome) tolds) * (tries + 1)
+      ≤ how_many is_busy (own c h)
+
+-- Every so many-th element of a list, after this many others.
+abbrev pub every : {X : Type 0} → ℕ → ℕ → List X → List X
+every n after [] = []
+every n zero (x ∷ xs) = x ∷ every n (n - 1) xs
+every n (suc after) (x ∷ xs) = every n after xs
+
+-- Each script with its outcome, as far as there are both.
+abbrev pub tolds_of : List (List Action) → List Outcome → List Told
+tolds_of (script ∷ scripts) (outcome ∷ outcomes) =
+    record { script = script; outcome = outcome } ∷ tolds_of scripts outcomes
+tolds_of scripts outcomes = []
+
+-- What the outcomes of all scripts say of the history, where every so many-th script is a caller's,
+-- beginning with that of the caller's own number.
+abbrev pub AreAllTrue : ℕ → ℕ → List (List Action) → List Outcome → List Entry → Type 0
+AreAllTrue callers tries scripts outcomes h = (c : ℕ) → c < callers
+    → AreTrue c tries h (tolds_of (every callers c scripts) (every callers c outcomes))

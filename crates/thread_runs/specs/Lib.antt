@@ -1,0 +1,4 @@
+pub mod Accounts
+pub mod Each
+pub mod Possible
+pub mod Runs

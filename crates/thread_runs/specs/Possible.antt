@@ -1,0 +1,40 @@
+-- Which outcomes the actions of a script allow.
+use Rattle.std.specs.Prelude.{Bool, true, false, IsTrue, List}
+use Rattle.std.specs.List.{list_any}
+use Rattle.txn_trace.specs.declared.action.Action.{Action}
+use Rattle.txn_trace.specs.declared.action.Action.TheVariants as actions
+use Rattle.txn_trace.specs.declared.refusal.Refusal.{Refusal}
+use Rattle.txn_trace.specs.declared.refusal.Refusal.TheVariants.{BadKey, NoSuchLevel, NoMemory, StampsUsedUp, OutOfStep}
+use Rattle.txn_trace.specs.Map.{key_of}
+use Rattle.txn_trace.specs.Sizes.{is_bad_key}
+use Rattle.thread_runs.specs.Accounts.{Outcome, Aborted, Refused}
+
+-- Whether an action has a key that is refused, where half keys alone are taken or all.
+abbrev pub has_bad_key : Bool → Action → Bool
+has_bad_key half (actions.Op op) = is_bad_key half (key_of op)
+has_bad_key half (actions.Help key) = is_bad_key half key
+has_bad_key half action = false
+
+abbrev pub is_back : Action → Bool
+is_back (actions.Back level) = true
+is_back action = false
+
+abbrev pub is_abort : Action → Bool
+is_abort actions.Abort = true
+is_abort action = false
+
+-- With which refusals a script may end: a bad key or a missing level only where it has an action
+-- that can be refused so; want of memory or of stamps, and a call out of step, always.
+abbrev pub MayBeRefused : Bool → List Action → Refusal → Type 0
+MayBeRefused half script BadKey = IsTrue (list_any (has_bad_key half) script)
+MayBeRefused half script NoSuchLevel = IsTrue (list_any is_back script)
+MayBeRefused half script NoMemory = Unit {0}
+MayBeRefused half script StampsUsedUp = Unit {0}
+MayBeRefused half script OutOfStep = Unit {0}
+MayBeRefused half script refusal = ⊥
+
+-- Which outcomes a script may have: it is aborted only where it has an abort.
+abbrev pub MayCome : Bool → List Action → Outcome → Type 0
+MayCome half script Aborted = IsTrue (list_any is_abort script)
+MayCome half script (Refused refusal) = MayBeRefused half script refusal
+MayCome half script outcome = Unit {0}

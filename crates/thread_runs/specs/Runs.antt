@@ -1,0 +1,153 @@
+-- What a worker's run of a script has added.
+use Rattle.std.specs.Prelude.{◌≡◌, ◌<◌, ◌⊎◌, ℕ, Bool, Option, Some, true, List, [], ◌∷◌, ◌++◌, length, map, slice_get, is_some}
+use Rattle.std.specs.List.{All, AllByRecursion}
+use Rattle.txn_trace.specs.declared.holder.Holder.TheVariants.{Now}
+use Rattle.txn_trace.specs.declared.action.Action.{Action}
+use Rattle.txn_trace.specs.declared.answer.Answer.TheVariants as answers
+use Rattle.txn_trace.specs.declared.entry.Entry.{Entry}
+use Rattle.txn_trace.specs.declared.refusal.Refusal.{Refusal}
+use Rattle.txn_trace.specs.declared.refusal.Refusal.TheVariants.{NoMemory, NoThread, OutOfStep}
+use Rattle.txn_trace.specs.declared.seat.Phase.{Phase}
+use Rattle.txn_trace.specs.declared.seat.Phase.TheVariants.{Closed, Opened}
+use Rattle.txn_trace.specs.History.{caller_of}
+use Rattle.txn_trace.specs.Legal.{IsLegal}
+use Rattle.txn_trace.specs.Sizes.{Sizes}
+use Rattle.txn_trace.specs.Shape.{Seat, seat_after}
+use Rattle.txn_drive.specs.declared.call.Call.{Call}
+use Rattle.txn_drive.specs.declared.call.Call.TheVariants as calls
+use Rattle.txn_drive.specs.declared.«end».End.{End}
+use Rattle.txn_drive.specs.declared.«end».End.TheVariants as ends
+use Rattle.txn_drive.specs.Made.{IsMade}
+use Rattle.script_worker.specs.declared.attempt.Stage.{Stage}
+use Rattle.script_worker.specs.declared.attempt.Stage.TheVariants.{Beginning}
+use Rattle.script_worker.specs.declared.attempt.Outcome as attempts
+use Rattle.script_worker.specs.declared.attempt.Outcome.TheVariants as overs
+use Rattle.locked_map.specs.Calls.{Ended}
+use Rattle.locked_map.specs.Holds.{IsQuiet}
+use Rattle.locked_map.specs.Suits.{may_refuse}
+use Rattle.locked_map.specs.Tokens.{Token}
+use Rattle.thread_runs.specs.Accounts as accounts
+use Rattle.thread_runs.specs.Accounts.{Outcome, IsAccount, AreAccounts, AreAllTrue, every, tolds_of}
+use Rattle.thread_runs.specs.Possible.{MayCome}
+use Rattle.thread_runs.specs.declared.outcome.Outcome as codes
+use Rattle.thread_runs.specs.declared.outcome.Outcome.TheVariants as outcomes
+use Rattle.thread_runs.specs.declared.ran.Ran.{Ran}
+use Rattle.thread_runs.specs.declared.worker.Report.{Report}
+
+-- The phase of a caller's seat at a stage of an attempt.
+abbrev pub phase_at : Stage → Phase
+phase_at Beginning = Closed
+phase_at stage = Opened
+
+-- The seat is there and has this phase.
+abbrev pub HasPhase : Phase → Option Seat → Type 0
+HasPhase phase seat = (s : Seat) × (seat ≡ Some s) × (s.phase ≡ phase)
+
+-- A caller's token is broken, or its seat has this phase.
+abbrev pub IsIn : Phase → Bool → List Entry → Type 0
+IsIn phase broken seen = (broken ≡ true) ⊎ HasPhase phase (seat_after seen)
+
+-- A call has ended so; or it was not made, since memory was refused for its reply.
+abbrev pub HasEnded : {S : Type 0} → Token S → Call → End → Token S → Type 0
+HasEnded {S} k call outcome l =
+    ((words : S → List ℕ) × Ended words k call outcome l)
+    ⊎ ((outcome ≡ ends.Refused NoMemory) × (may_refuse call NoMemory ≡ true) × (l ≡ k))
+
+-- A call has added what belongs to its end, and has committed nothing out of step, as long as all
+-- that was seen has rows.
+pub record Adds (c : ℕ) (call : Call) (outcome : End) (seen seen' : List Entry) : Type 0 where
+  pub added : List Entry
+  pub entries : seen' ≡ seen ++ added
+  pub made : IsMade c call outcome added
+  pub quiet : is_some (seat_after seen') ≡ true → IsQuiet outcome added
+
+-- The transaction and the replies of an attempt after a call.
+abbrev pub txn_then : ℕ → End → ℕ
+txn_then txn (ends.Answered (answers.Began t)) = t
+txn_then txn outcome = txn
+
+abbrev pub replies_then : List (Option ℕ) → End → List (Option ℕ)
+replies_then replies (ends.Answered (answers.Began t)) = []
+replies_then replies (ends.Answered (answers.Done reply)) = replies ++ reply ∷ []
+replies_then replies outcome = replies
+
+-- There is room for the reply of a call, and for that of an end.
+abbrev pub HasRoomFor : Call → ℕ → Type 0
+HasRoomFor (calls.Op op) room = 0 < room
+HasRoomFor call room = Unit {0}
+
+abbrev pub HasRoomAt : End → ℕ → Type 0
+HasRoomAt (ends.Answered (answers.Done reply)) room = 0 < room
+HasRoomAt outcome room = Unit {0}
+
+-- The outcome of a script whose attempt is over, of which the last call ended so.
+abbrev pub outcome_by : attempts.Outcome → End → ℕ → List (Option ℕ) → Outcome
+outcome_by overs.Committed (ends.Answered (answers.Committed place)) txn replies =
+    accounts.Committed txn place replies
+outcome_by overs.Committed outcome txn replies = accounts.Refused OutOfStep
+outcome_by overs.Aborted outcome txn replies = accounts.Aborted
+outcome_by overs.Busy outcome txn replies = accounts.Busy
+outcome_by (overs.Refused refusal) outcome txn replies = accounts.Refused refusal
+
+-- What an outcome tells.
+abbrev pub told_of : codes.Outcome → Outcome
+told_of (outcomes.Committed txn place replies) = accounts.Committed txn place replies.items
+told_of outcomes.Aborted = accounts.Aborted
+told_of outcomes.Busy = accounts.Busy
+told_of (outcomes.Refused refusal) = accounts.Refused refusal
+
+-- A script has run to an outcome, of which the entries added are the account, as long as what is
+-- seen has rows.
+abbrev pub HasRunTo : ℕ → ℕ → List Action → Outcome → List Entry → List Entry → Type 0
+HasRunTo c tries script outcome base seen =
+    (chunk : List Entry) × (seen ≡ base ++ chunk)
+    × (is_some (seat_after seen) ≡ true → IsAccount c tries script outcome chunk)
+
+-- What a caller has seen, as long as its entries have rows, are the accounts of its scripts so far.
+abbrev pub AreToldIn : ℕ → ℕ → List (List Action) → List Outcome → List Entry → Type 0
+AreToldIn c tries scripts outcomes seen =
+    is_some (seat_after seen) ≡ true → AreAccounts c tries (tolds_of scripts outcomes) seen
+
+-- Each script that has its outcome may have it.
+abbrev pub MayAllCome : Bool → List (List Action) → List Outcome → Type 0
+MayAllCome half scripts outcomes =
+    AllByRecursion (λ told. MayCome half told.script told.outcome) (tolds_of scripts outcomes)
+
+-- A worker has run each of its scripts.
+pub record HasRunAll (half : Bool) (workers tries c : ℕ) (scripts : List (List Action))
+    (outcomes : List Outcome) (seen : List Entry) : Type 0 where
+  pub told : AreToldIn c tries (every workers c scripts) outcomes seen
+  pub may : MayAllCome half (every workers c scripts) outcomes
+  pub all : length outcomes ≡ length (every workers c scripts)
+
+-- The worker of a number hands back its caller, and has run each of its scripts.
+pub record HasReported {L : Type 0} (half : Bool) (workers tries : ℕ)
+    (scripts : List (List Action)) (c : ℕ) (report : Report L) : Type 0 where
+  pub number_is : report.caller.number ≡ c
+  pub ran :
+      HasRunAll half workers tries c scripts (map told_of report.outcomes.items) report.caller.seen
+
+-- A run of scripts on a map with these limits: its history is legal and of these workers; there is
+-- one outcome for each script; they are true of the history; and each is one that its script
+-- allows.
+pub record HasRunScripts (limits : Sizes) (workers tries : ℕ) (scripts : List (List Action))
+    (outcomes : List Outcome) (trace : List Entry) : Type 0 where
+  pub legal : IsLegal Now limits.stripes trace
+  pub callers : All (λ e. caller_of e < workers) trace
+  pub one_each : length outcomes ≡ length scripts
+  pub true_of : AreAllTrue workers tries scripts outcomes trace
+  pub allowed : (i : ℕ) (script : List Action) (outcome : Outcome)
+      → slice_get scripts i ≡ Some script → slice_get outcomes i ≡ Some outcome
+      → MayCome limits.half script outcome
+
+-- What a run has come to is such a run, its outcomes and its history.
+abbrev pub IsRunOf : Sizes → ℕ → ℕ → List (List Action) → Ran → Type 0
+IsRunOf limits workers tries scripts ran =
+    HasRunScripts limits workers tries scripts (map told_of ran.outcomes.items) ran.trace.items
+
+-- Why a run gives nothing: no memory, no thread, or what the workers saw is not the history.
+abbrev pub IsRunRefusal : Refusal → Type 0
+IsRunRefusal NoMemory = Unit {0}
+IsRunRefusal NoThread = Unit {0}
+IsRunRefusal OutOfStep = Unit {0}
+IsRunRefusal refusal = ⊥

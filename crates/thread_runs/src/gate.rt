@@ -1,0 +1,22 @@
+/// What workers in threads tell of their way. Each call may make its worker wait.
+pub trait Gate: Sync {
+    /// A worker is about to do an action of a script; the commit is the action after the last.
+    fn before(&self, worker: usize, script: usize, action: usize);
+
+    /// A script has its outcome.
+    fn done(&self, script: usize);
+
+    /// A worker has let go of the lock.
+    fn freed(&self, worker: usize);
+}
+
+/// The gate that lets all pass and does nothing.
+pub struct Open;
+
+impl Gate for Open {
+    fn before(&self, _worker: usize, _script: usize, _action: usize) {}
+
+    fn done(&self, _script: usize) {}
+
+    fn freed(&self, _worker: usize) {}
+}

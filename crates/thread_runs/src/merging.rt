@@ -1,0 +1,34 @@
+//! The outcomes of all workers in the scripts' order.
+ghost use Rattle.std.specs.Prelude.{◌≡◌, ◌<◌, IfOk, length, reverse};
+ghost use Rattle.thread_runs.specs.Accounts.{every};
+ghost use Rattle.thread_runs.specs.Each.{Each};
+
+use crate::outcome::Outcome;
+use std::alloc::{AllocError, Global};
+use txn_trace::Script;
+
+/// The outcomes of the workers' rows, of which each has its last one first, in the scripts' order:
+/// script `i` is one of worker `i` modulo the rows.
+pub(crate) fn in_order(
+    alloc: Global,
+    rows: Vec<Vec<Outcome>>,
+    scripts: &[Script],
+) -> Result<Vec<Outcome>, AllocError>
+    requires some { 0 < length rows.items }
+    requires rows { Each (λ c row. length row.items
+        ≡ length (every (length rows.items) c scripts.now)) rows.items }
+    ensures len { IfOk result (λ outcomes. length outcomes.items ≡ length scripts.now) }
+    ensures order { IfOk result (λ outcomes. Each (λ c row.
+        every (length rows.items) c outcomes.items ≡ reverse row.items) rows.items) }
+{
+    let workers = rows.len();
+    let mut left = rows;
+    let mut outcomes = Vec::new(alloc);
+    for number in 0..scripts.len() {
+        let Some(outcome) = left[number % workers].pop() else {
+            unreachable!()
+        };
+        outcomes.push(outcome)?;
+    }
+    Ok(outcomes)
+}

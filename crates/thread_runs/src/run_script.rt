@@ -1,0 +1,167 @@
+//! One script's way to its outcome.
+ghost use Rattle.std.specs.Prelude.{◌≡◌, ◌-◌, [], true, false, is_some, vec_len, vec_capacity};
+ghost use Rattle.txn_trace.specs.declared.refusal.Refusal.{Refusal};
+ghost use Rattle.txn_trace.specs.declared.seat.Phase.{Phase};
+ghost use Rattle.txn_trace.specs.Shape.{seat_after};
+ghost use Rattle.locked_map.specs.Suits.{may_refuse};
+ghost use Rattle.locked_map.specs.Tokens.{IsSameCaller};
+ghost use Rattle.thread_runs.specs.Possible.{MayCome};
+ghost use Rattle.thread_runs.specs.Runs.{Adds, HasEnded, IsIn, HasRoomAt, HasRoomFor, HasRunTo, outcome_by, replies_then, told_of, txn_then};
+
+use crate::gate::Gate;
+use crate::outcome::Outcome;
+use boost_core::{Call, End};
+use locked_map::{Caller, NoSide, Released, SharedMap};
+use script_worker::{Attempt, Progress, Stage};
+use std::alloc::Global;
+use std::sync::Wait;
+use std::sync::ledger::Ledger;
+use txn_trace::{Action, Answer, Refusal, Reply};
+
+/// Tells the gate of each release of the lock.
+#[derive(Drop)]
+struct Freed<'a, G: Gate> {
+    gate: &'a G,
+    worker: usize,
+}
+
+impl<G: Gate> Released for Freed<'_, G> {
+    fn released(&self) {
+        self.gate.freed(self.worker);
+    }
+}
+
+/// What an attempt was answered: its transaction's number, and the replies of its operations.
+#[derive(Drop)]
+struct Heard {
+    txn: u64,
+    replies: Vec<Reply>,
+}
+
+impl Heard {
+    /// Nothing yet.
+    fn new(alloc: Global) -> Heard
+        ensures txn { result.txn ≡ 0 }
+        ensures replies { result.replies.items ≡ [] }
+    {
+        Heard {
+            txn: 0,
+            replies: Vec::new(alloc),
+        }
+    }
+
+    /// Makes room for the reply of a call, if it has one, and says whether there is room.
+    fn has_room(&mut self, call: Call) -> bool
+        ensures txn { self.new.txn ≡ self.old.txn }
+        ensures replies { self.new.replies.items ≡ self.old.replies.items }
+        ensures is_op { result ≡ false → may_refuse call Refusal.NoMemory ≡ true }
+        ensures room { result ≡ true
+            → HasRoomFor call (vec_capacity self.new.replies - vec_len self.new.replies) }
+    {
+        match call {
+            Call::Op(_) => self.replies.reserve(1).is_ok(),
+            _ => true,
+        }
+    }
+
+    /// Notes how a call has ended, for whose reply there is room.
+    fn note(&mut self, end: End)
+        requires { HasRoomAt end (vec_capacity self.old.replies - vec_len self.old.replies) }
+        ensures txn { self.new.txn ≡ txn_then self.old.txn end }
+        ensures replies { self.new.replies.items ≡ replies_then self.old.replies.items end }
+    {
+        match end {
+            End::Answered(Answer::Began(txn)) => {
+                self.txn = txn;
+                self.replies.clear();
+            }
+            End::Answered(Answer::Done(reply)) => self.replies.push_reserved(reply),
+            _ => {}
+        }
+    }
+
+    /// The outcome of an attempt that is over, of which the last call ended so.
+    fn outcome(self, over: script_worker::Outcome, end: End) -> Outcome
+        ensures { told_of result ≡ outcome_by over end self.txn self.replies.items }
+    {
+        let Heard { txn, replies } = self;
+        match over {
+            script_worker::Outcome::Committed => match end {
+                End::Answered(Answer::Committed(place)) => Outcome::Committed {
+                    txn,
+                    place,
+                    replies,
+                },
+                _ => Outcome::Refused(Refusal::OutOfStep),
+            },
+            script_worker::Outcome::Aborted => Outcome::Aborted,
+            script_worker::Outcome::Busy => Outcome::Busy,
+            script_worker::Outcome::Refused(refusal) => Outcome::Refused(refusal),
+        }
+    }
+
+    /// Makes a call, if there is room for its reply, and notes how it has ended.
+    #[tactic(auto, using(crate::proofs::Adding::adds_of, crate::proofs::Adding::adds_none, crate::proofs::Adding::room_at))]
+    fn hear<L: Ledger, H: Released, R: Wait>(
+        &mut self,
+        rt: &R,
+        map: &SharedMap<L>,
+        me: &mut Caller<L, NoSide>,
+        call: Call,
+        hears: &H,
+    ) -> End
+        ensures adds { Adds me.old.number call result me.old.seen me.new.seen }
+        ensures ended { HasEnded me.old call result me.new }
+        ensures rows { me.new.broken ≡ false → is_some (seat_after me.new.seen) ≡ true }
+        ensures same { IsSameCaller me.old me.new }
+        ensures txn { self.new.txn ≡ txn_then self.old.txn result }
+        ensures replies { self.new.replies.items ≡ replies_then self.old.replies.items result }
+    {
+        if !self.has_room(call) {
+            let _seen = me.seen();
+            return End::Refused(Refusal::NoMemory);
+        }
+        let end = map.run(rt, me, call, hears);
+        self.note(end);
+        // A token that is not broken has entries with rows.
+        let _seen = me.seen();
+        end
+    }
+}
+
+/// Runs a script to its outcome, by at most `tries` attempts beside the first.
+///
+/// What it has added to the caller's entries is the account of that outcome.
+pub(crate) fn run_script<L: Ledger, G: Gate, R: Wait>(
+    rt: &R,
+    alloc: Global,
+    map: &SharedMap<L>,
+    me: &mut Caller<L, NoSide>,
+    number: usize,
+    script: &[Action],
+    tries: u64,
+    gate: &G,
+) -> Outcome
+    requires closed { IsIn Phase.Closed me.old.broken me.old.seen }
+    ensures same { IsSameCaller me.old me.new }
+    ensures may { MayCome me.old.limits.half script.now (told_of result) }
+    ensures closed { IsIn Phase.Closed me.new.broken me.new.seen }
+    ensures told { HasRunTo me.old.number tries script.now (told_of result)
+        me.old.seen me.new.seen }
+{
+    let worker = me.number() as usize;
+    let freed = Freed { gate, worker };
+    let mut heard = Heard::new(alloc);
+    let mut attempt = Attempt::first();
+    for _ in rt.forever() {
+        if let Stage::Acting(action) = attempt.stage {
+            gate.before(worker, number, action);
+        }
+        let end = heard.hear(rt, map, me, attempt.call(script), &freed);
+        match attempt.progress(script, tries, end) {
+            Progress::Next(next) => attempt = next,
+            Progress::Over(over) => return heard.outcome(over, end),
+        }
+    }
+    unreachable!()
+}

@@ -1,0 +1,150 @@
+//! A run of scripts: the map, the threads, and what they come to.
+ghost use Rattle.std.specs.Prelude.{◌≡◌, ◌≤◌, ◌<◌, IfOk, IfErr, length, map, reverse};
+ghost use Rattle.thread_runs.specs.Accounts.{every};
+ghost use Rattle.thread_runs.specs.Each.{Each};
+ghost use Rattle.thread_runs.specs.Runs.{IsRunOf, IsRunRefusal};
+
+use crate::gate::Gate;
+use crate::merging::in_order;
+use crate::outcome::Outcome;
+use crate::ran::Ran;
+use crate::task::Task;
+use crate::threads::in_threads;
+use crate::worker::{Job, Report};
+use locked_map::{Caller, NoSide, SharedMap};
+use std::alloc::{AllocError, Global};
+use std::marker::{Brand, PhantomData};
+use std::sync::Wait;
+use std::sync::ledger::{Blank, Ledger};
+use std::thread::Threads;
+use txn_trace::{Entry, Limits, Refusal, Script};
+
+/// Runs each script in the thread of its worker, on a new map: as many workers as the limits have
+/// callers. Script `i` is one of worker `i` modulo the workers, and worker `w` is caller `w`. A
+/// script that found a stripe held is tried again at most `tries` times.
+///
+/// With `Ok` the history is legal and of these workers, and each script has one outcome, which is
+/// true of it:
+///
+/// - `Committed` stands for a transaction of the script's worker, which plays the script, is
+///   committed at that place and has just those replies. Each Committed entry of the history
+///   belongs to exactly one outcome.
+/// - A worker with `b` outcomes `Busy` has at least `b * (tries + 1)` Busy entries.
+/// - `Aborted` comes only for a script with an abort.
+/// - `Refused` comes with `BadKey` only for a script with such a key, with `NoSuchLevel` only for
+///   one that goes back, and else only with `NoMemory`, `StampsUsedUp` or `OutOfStep`.
+///
+/// # Errors
+///
+/// - `NoMemory` where memory is refused, before the threads or for what they answer.
+/// - `NoThread` where a thread was not started; the workers that were started finish.
+/// - `OutOfStep` where what the workers saw is not the history.
+///
+/// # Cost
+///
+/// That of the calls, and memory in proportion to the history.
+pub fn run_scripts<G: Gate, R: Threads + Wait + Sync>(
+    rt: &R,
+    alloc: Global,
+    limits: Limits,
+    scripts: &[Script],
+    workers: usize,
+    tries: u64,
+    gate: &G,
+) -> Result<Ran, Refusal>
+    requires workers { workers ≡ limits.callers }
+    requires tries { tries ≤ 1000 }
+    ensures ran { IfOk result (IsRunOf limits workers tries scripts.now) }
+    ensures err { IfErr result IsRunRefusal }
+{
+    let blank = Blank::new(u64::from(limits.callers()));
+    run_under::<Brand, Brand, G, R>(rt, alloc, blank, limits, scripts, workers, tries, gate)
+}
+
+/// The same under a ledger and for a work that are named.
+fn run_under<L: Ledger + Send + Sync, T: Task + Send + Sync, G: Gate, R: Threads + Wait + Sync>(
+    rt: &R,
+    alloc: Global,
+    blank: Blank,
+    limits: Limits,
+    scripts: &[Script],
+    workers: usize,
+    tries: u64,
+    gate: &G,
+) -> Result<Ran, Refusal>
+    requires name { blank.name ≡ L.name }
+    requires parts { blank.parts ≡ L.parts }
+    requires one_each { blank.parts ≡ limits.callers }
+    requires workers { T.workers ≡ workers }
+    requires callers { T.workers ≡ limits.callers }
+    requires tries { T.tries ≡ tries }
+    requires scripts { T.scripts ≡ scripts.now }
+    ensures ran { IfOk result (IsRunOf limits workers tries scripts.now) }
+    ensures err { IfErr result IsRunRefusal }
+{
+    let (map, passes) = SharedMap::<L>::new(alloc, blank, limits)?;
+    let job = Job::<L, G, T> {
+        map: &map,
+        scripts,
+        workers,
+        tries,
+        gate,
+        task: PhantomData,
+    };
+    let reports = in_threads(rt, alloc, limits, &job, passes)?;
+    let (callers, rows) = match parted(alloc, reports) {
+        Ok(parts) => parts,
+        Err(AllocError) => return Err(Refusal::NoMemory),
+    };
+    let Ok(closed) = map.close(callers) else {
+        return Err(Refusal::OutOfStep);
+    };
+    match ran(alloc, closed.core.trace(), rows, scripts) {
+        Ok(ran) => Ok(ran),
+        Err(AllocError) => Err(Refusal::NoMemory),
+    }
+}
+
+/// The callers of the reports, and their outcomes, the last one first.
+fn parted<L: Ledger>(
+    alloc: Global,
+    reports: Vec<Report<L>>,
+) -> Result<(Vec<Caller<L, NoSide>>, Vec<Vec<Outcome>>), AllocError>
+    ensures callers { IfOk result (λ r. r.0.items ≡ map (λ report. report.caller) reports.items) }
+    ensures rows { IfOk result (λ r. map (λ row. row.items) r.1.items
+        ≡ map (λ report. reverse report.outcomes.items) reports.items) }
+{
+    let mut callers = Vec::new(alloc);
+    let mut rows = Vec::new(alloc);
+    for report in reports {
+        let Report {
+            caller,
+            mut outcomes,
+        } = report;
+        outcomes.reverse();
+        callers.push(caller)?;
+        rows.push(outcomes)?;
+    }
+    Ok((callers, rows))
+}
+
+/// What the run has come to: the history copied, and the workers' outcomes in the scripts' order.
+fn ran(
+    alloc: Global,
+    history: &[Entry],
+    rows: Vec<Vec<Outcome>>,
+    scripts: &[Script],
+) -> Result<Ran, AllocError>
+    requires some { 0 < length rows.items }
+    requires rows { Each (λ c row. length row.items
+        ≡ length (every (length rows.items) c scripts.now)) rows.items }
+    ensures trace { IfOk result (λ ran. ran.trace.items ≡ history.now) }
+    ensures len { IfOk result (λ ran. length ran.outcomes.items ≡ length scripts.now) }
+    ensures order { IfOk result (λ ran. Each (λ c row.
+        every (length rows.items) c ran.outcomes.items ≡ reverse row.items) rows.items) }
+{
+    let mut trace = Vec::new(alloc);
+    trace.extend_from_slice(history)?;
+    let outcomes = in_order(alloc, rows, scripts)?;
+    Ok(Ran { outcomes, trace })
+}

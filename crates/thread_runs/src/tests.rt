@@ -1,0 +1,6 @@
+//! Runs of scripts on threads.
+mod any_workers;
+mod crossing;
+mod hundreds;
+mod step_between;
+mod waiting;

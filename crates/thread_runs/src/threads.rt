@@ -1,0 +1,103 @@
+//! The workers' threads.
+ghost use Rattle.std.specs.Prelude.{◌≡◌, IfOk, IfErr, length, map};
+ghost use Rattle.std.specs.List.{range_with_len};
+ghost use Rattle.locked_map.specs.Tokens.{new_ticket};
+ghost use Rattle.thread_runs.specs.Each.{Each};
+ghost use Rattle.thread_runs.specs.Runs.{HasReported, IsRunRefusal};
+
+use crate::gate::Gate;
+use crate::task::Task;
+use crate::worker::{Job, Report};
+use locked_map::Pass;
+use std::alloc::{AllocError, Global};
+use std::marker::PhantomData;
+use std::snapshot::Snapshot;
+use std::sync::Wait;
+use std::sync::ledger::Ledger;
+use std::thread;
+use std::thread::{Promise, PromisedHandle, Threads};
+use txn_trace::{Limits, Refusal};
+
+/// That the thread of a pass hands back its caller, with its scripts run.
+#[derive(Drop)]
+struct Runs<L: Ledger, T: Task> {
+    pass: Snapshot<Pass<L>>,
+    task: PhantomData<T>,
+}
+
+impl<L: Ledger, T: Task> Promise<Result<Report<L>, AllocError>> for Runs<L, T> {
+    ghost kept_by = { λ p r. IfOk r (HasReported p.pass.value.limits.half T.workers T.tries
+        T.scripts p.pass.value.number) };
+}
+
+/// Runs each worker in a thread of its own, and gives what each hands back, by their numbers.
+pub(crate) fn in_threads<
+    L: Ledger + Send + Sync,
+    T: Task + Send + Sync,
+    G: Gate,
+    R: Threads + Wait + Sync,
+>(
+    rt: &R,
+    alloc: Global,
+    limits: Limits,
+    job: &Job<L, G, T>,
+    passes: Vec<Pass<L>>,
+) -> Result<Vec<Report<L>>, Refusal>
+    requires { passes.items ≡ map (new_ticket limits) (range_with_len 0 limits.callers) }
+    ensures len { IfOk result (λ reports. length reports.items ≡ limits.callers) }
+    ensures each { IfOk result (λ reports.
+        Each (HasReported limits.half T.workers T.tries T.scripts) reports.items) }
+    ensures err { IfErr result IsRunRefusal }
+{
+    thread::scope(
+        thread::scope_env(),
+        rt,
+        |scope| -> Result<Vec<Report<L>>, Refusal>
+            requires { passes.items ≡ map (new_ticket limits) (range_with_len 0 limits.callers) }
+            ensures len { IfOk result (λ reports. length reports.items ≡ limits.callers) }
+            ensures each { IfOk result (λ reports.
+                Each (HasReported limits.half T.workers T.tries T.scripts) reports.items) }
+            ensures err { IfErr result IsRunRefusal }
+        {
+            let mut threads = Vec::new(alloc);
+            for pass in passes {
+                let promise = Runs::<L, T> {
+                    pass: Snapshot::of(&pass),
+                    task: PhantomData,
+                };
+                let started = scope.spawn_with(promise, move || job.work(rt, alloc, pass));
+                let Ok(thread) = started else {
+                    return Err(Refusal::NoThread);
+                };
+                let Ok(()) = threads.push(thread) else {
+                    return Err(Refusal::NoMemory);
+                };
+            }
+            match joined(rt, alloc, limits, threads) {
+                Ok(reports) => Ok(reports),
+                Err(AllocError) => Err(Refusal::NoMemory),
+            }
+        },
+    )
+}
+
+/// Waits for the thread of each worker, and gives what each hands back.
+fn joined<L: Ledger, T: Task, R: Threads>(
+    rt: &R,
+    alloc: Global,
+    limits: Limits,
+    threads: Vec<PromisedHandle<Result<Report<L>, AllocError>, Runs<L, T>>>,
+) -> Result<Vec<Report<L>>, AllocError>
+    requires { map (λ thread. thread.promise.pass.value) threads.items
+        ≡ map (new_ticket limits) (range_with_len 0 limits.callers) }
+    ensures len { IfOk result (λ reports. length reports.items ≡ limits.callers) }
+    ensures each { IfOk result (λ reports.
+        Each (HasReported limits.half T.workers T.tries T.scripts) reports.items) }
+{
+    let mut reports = Vec::new(alloc);
+    for thread in threads {
+        let report = thread.join(rt)?;
+        reports.push(report)?;
+    }
+    Ok(reports)
+}

@@ -1,0 +1,91 @@
+//! One worker's way through its scripts.
+ghost use Rattle.std.specs.Prelude.{◌≡◌, ◌<◌, ◌^◌, [], IfOk, map};
+ghost use Rattle.locked_map.specs.Tokens.{IsSameCaller};
+ghost use Rattle.thread_runs.specs.Runs.{HasReported, HasRunAll, told_of};
+
+use crate::gate::Gate;
+use crate::outcome::Outcome;
+use crate::run_script::run_script;
+use crate::task::Task;
+use locked_map::{Caller, NoSide, Pass, SharedMap};
+use std::alloc::{AllocError, Global};
+use std::marker::PhantomData;
+use std::sync::Wait;
+use std::sync::ledger::Ledger;
+use txn_trace::Script;
+
+/// What a worker hands back.
+#[derive(Drop)]
+pub(crate) struct Report<L: Ledger> {
+    /// Its caller.
+    pub(crate) caller: Caller<L, NoSide>,
+    /// How its scripts ended, in order.
+    pub(crate) outcomes: Vec<Outcome>,
+}
+
+/// What all workers are given.
+#[derive(Drop)]
+pub(crate) struct Job<'a, L: Ledger, G: Gate, T: Task> {
+    /// The map.
+    pub(crate) map: &'a SharedMap<L>,
+    /// The scripts of all workers.
+    pub(crate) scripts: &'a [Script],
+    /// How many workers there are.
+    pub(crate) workers: usize,
+    /// How often a script is tried again that found a stripe held.
+    pub(crate) tries: u64,
+    /// Who hears of it.
+    pub(crate) gate: &'a G,
+    /// The work's name.
+    pub(crate) task: PhantomData<T>,
+    pub(crate) ghost some: { 0 < workers },
+    pub(crate) ghost few: { workers < 2 ^ 32 },
+    pub(crate) ghost all_workers: { workers ≡ T.workers },
+    pub(crate) ghost all_tries: { tries ≡ T.tries },
+    pub(crate) ghost all_scripts: { scripts.now ≡ T.scripts },
+}
+
+impl<L: Ledger, G: Gate, T: Task> Job<'_, L, G, T> {
+    /// What the worker of a pass does: it runs its scripts. Where memory is refused for one more
+    /// outcome, that is all that is answered.
+    pub(crate) fn work<R: Wait>(
+        &self,
+        rt: &R,
+        alloc: Global,
+        pass: Pass<L>,
+    ) -> Result<Report<L>, AllocError>
+        ensures { IfOk result (HasReported pass.limits.half T.workers T.tries T.scripts
+            pass.number) }
+    {
+        let mut caller = pass.caller(alloc, NoSide);
+        let outcomes = self.outcomes(rt, alloc, &mut caller)?;
+        Ok(Report { caller, outcomes })
+    }
+
+    /// Runs the scripts of a worker: each whose number is its own modulo the workers.
+    fn outcomes<R: Wait>(
+        &self,
+        rt: &R,
+        alloc: Global,
+        me: &mut Caller<L, NoSide>,
+    ) -> Result<Vec<Outcome>, AllocError>
+        requires fresh { me.old.seen ≡ [] }
+        ensures same { IsSameCaller me.old me.new }
+        ensures ran { IfOk result (λ outcomes. HasRunAll me.old.limits.half T.workers T.tries
+            me.old.number T.scripts (map told_of outcomes.items) me.new.seen) }
+    {
+        let mut outcomes = Vec::new(alloc);
+        let mut number = me.number() as usize;
+        while let Some(script) = self.scripts.get(number) {
+            outcomes.reserve(1)?;
+            let actions = script.actions();
+            let outcome = run_script(
+                rt, alloc, self.map, me, number, actions, self.tries, self.gate,
+            );
+            outcomes.push_reserved(outcome);
+            self.gate.done(number);
+            number += self.workers;
+        }
+        Ok(outcomes)
+    }
+}

@@ -1,0 +1,64 @@
+use crate::job::UndoJob;
+use crate::store::JobStore;
+use smallvec::SmallVec;
+use std::alloc::{AllocError, Global};
+use std::marker::Model;
+
+/// Jobs of which up to `INLINE` stand in the value itself, and only more than these in an
+/// allocation.
+#[derive(Drop)]
+pub struct InlineJobs<J: UndoJob, const INLINE: usize> {
+    // Each is `Some`: `None` only fills the inline places that are not used.
+    places: SmallVec<Option<J>, INLINE>,
+}
+
+impl<J: UndoJob, const INLINE: usize> Model for InlineJobs<J, INLINE> {
+    ghost use Rattle.std.specs.Prelude.{◌-◌};
+    ghost use Rattle.smallvec.specs.SmallVec.{small_vec_len};
+    ghost use Rattle.undo_log.specs.InlineJobs.{IsSound, Stored, jobs_in};
+
+    ghost Value = { Stored J };
+
+    ghost view = { λ store. record {
+      jobs = jobs_in store.places.items;
+      room = store.places.capacity - small_vec_len store.places;
+    } };
+
+    ghost invariant = { λ store. IsSound INLINE store.places };
+}
+
+impl<J: UndoJob, const INLINE: usize> JobStore for InlineJobs<J, INLINE> {
+    type Job = J;
+
+    ghost inline = { INLINE };
+
+    ghost jobs_of = { λ store. store.jobs };
+
+    ghost room_of = { λ store. store.room };
+
+    fn empty(alloc: Global) -> InlineJobs<J, INLINE> {
+        InlineJobs {
+            places: SmallVec::new(alloc),
+        }
+    }
+
+    fn count(&self) -> usize {
+        self.places.len()
+    }
+
+    fn reserve_one(&mut self) -> Result<(), AllocError> {
+        self.places.reserve(1)
+    }
+
+    fn add(&mut self, job: J) {
+        self.places.push_reserved(Some(job));
+    }
+
+    fn newest(&self) -> Option<&J> {
+        self.places.as_slice().last()?.as_ref()
+    }
+
+    fn take_newest(&mut self) -> Option<J> {
+        self.places.pop()?
+    }
+}

@@ -1,0 +1,103 @@
+use crate::job::UndoJob;
+use std::alloc::{AllocError, Global};
+
+/// Where a log keeps its jobs, the newest at the end. Each call takes constant time, amortized
+/// where room has to grow, and only `reserve_one` takes memory.
+pub trait JobStore: Drop {
+    /// The inverse of one change.
+    type Job: UndoJob;
+
+    ghost use Rattle.std.specs.Prelude.{◌≡◌, ◌+◌, ◌-◌, ◌<◌, ◌↔◌, ℕ, List, [], ◌∷◌, ◌++◌, length, slice_get, IsOk, IsSome, OnOk, OnErr, option_to_list, option_copied};
+
+    /// How many jobs stand in the store itself, and take no memory.
+    ghost inline: { ℕ };
+
+    /// The jobs, oldest first.
+    ghost jobs_of: { Self → List Self.Job };
+
+    /// How many jobs can be added before memory is taken.
+    ghost room_of: { Self → ℕ };
+
+    /// A store without a job.
+    fn empty(alloc: Global) -> Self
+        ensures jobs { jobs_of result ≡ [] }
+        ensures room { room_of result ≡ inline };
+
+    /// The number of jobs.
+    fn count(&self) -> usize
+        ensures { result ≡ length (jobs_of self.now) };
+
+    /// Makes room for one more job, if there is none.
+    ///
+    /// # Errors
+    ///
+    /// `AllocError` where memory is refused, and only where there was no room. Then nothing has
+    /// changed.
+    fn reserve_one(&mut self) -> Result<(), AllocError>
+        ensures jobs { jobs_of self.new ≡ jobs_of self.old }
+        ensures ok { OnOk result (0 < room_of self.new) }
+        ensures inline { length (jobs_of self.old) < inline → IsOk result }
+        ensures left { 0 < room_of self.old → room_of self.new ≡ room_of self.old }
+        ensures err { OnErr result (room_of self.new ≡ room_of self.old) }
+        ensures full { OnErr result (room_of self.old ≡ 0) };
+
+    /// Adds a job as the newest, in room that is there already.
+    fn add(&mut self, job: Self::Job)
+        requires { 0 < room_of self.old }
+        ensures jobs { jobs_of self.new ≡ jobs_of self.old ++ job ∷ [] }
+        ensures room { room_of self.new + 1 ≡ room_of self.old };
+
+    /// The newest job.
+    fn newest(&self) -> Option<&Self::Job>
+        ensures newest { option_copied result
+            ≡ slice_get (jobs_of self.now) (length (jobs_of self.now) - 1) }
+        ensures some { IsSome result ↔ (0 < length (jobs_of self.now)) };
+
+    /// Takes out the newest job.
+    fn take_newest(&mut self) -> Option<Self::Job>
+        ensures newest { result ≡ slice_get (jobs_of self.old) (length (jobs_of self.old) - 1) }
+        ensures some { IsSome result ↔ (0 < length (jobs_of self.old)) }
+        ensures jobs { jobs_of self.old ≡ jobs_of self.new ++ option_to_list result }
+        ensures room { room_of self.new ≡ room_of self.old + length (option_to_list result) };
+}
+
+/// All jobs stand in an allocation. So the size of a log does not depend on that of a job, which is
+/// a caller's in a side value.
+impl<J: UndoJob> JobStore for Vec<J> {
+    type Job = J;
+
+    ghost use Rattle.std.specs.Prelude.{◌-◌, vec_len, vec_capacity};
+
+    ghost inline = { 0 };
+
+    ghost jobs_of = { λ jobs. jobs.items };
+
+    ghost room_of = { λ jobs. vec_capacity jobs - vec_len jobs };
+
+    fn empty(alloc: Global) -> Vec<J> {
+        Vec::new(alloc)
+    }
+
+    fn count(&self) -> usize {
+        self.len()
+    }
+
+    fn reserve_one(&mut self) -> Result<(), AllocError> {
+        if self.len() < self.capacity() {
+            return Ok(());
+        }
+        self.reserve(1)
+    }
+
+    fn add(&mut self, job: J) {
+        self.push_reserved(job);
+    }
+
+    fn newest(&self) -> Option<&J> {
+        self.as_slice().last()
+    }
+
+    fn take_newest(&mut self) -> Option<J> {
+        self.pop()
+    }
+}
