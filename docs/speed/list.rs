@@ -1,7 +1,9 @@
 //! The list of nodes over a slab with a free list, and the steps at cursors.
 //!
-//! With --cfg alike the fields and tags of a slab's entry lie in memory as the proved program has them, in 80 bytes;
-//! without it rustc packs them into 64.
+//! With --cfg alike the fields and tags of a slab's entry lie in memory as the proved program has them, in 56 bytes;
+//! without it rustc packs them into 40, which is as small as they get.
+#[cfg(not(alike))]
+use std::num::NonZeroU32;
 
 // ---- the slab ----
 
@@ -75,31 +77,63 @@ impl<T> Slab<T> {
 
 // ---- the list of nodes ----
 
-#[cfg_attr(alike, repr(C))]
+/// A dummy, or a regular node with its key.
 #[derive(Clone, Copy)]
 pub enum Kind {
     Dummy,
-    #[allow(dead_code)]
     Regular(u64),
 }
 
+/// The place behind a node, if there is one: one more than it, or as the proved program has it.
+#[derive(Clone, Copy)]
+struct Next {
+    #[cfg(not(alike))]
+    place: Option<NonZeroU32>,
+    #[cfg(alike)]
+    place: Option<u32>,
+}
+
+impl Next {
+    const NONE: Next = Next { place: None };
+
+    #[cfg(not(alike))]
+    fn some(place: usize) -> Next {
+        Next {
+            place: NonZeroU32::new(place as u32 + 1),
+        }
+    }
+
+    #[cfg(alike)]
+    fn some(place: usize) -> Next {
+        Next {
+            place: Some(place as u32),
+        }
+    }
+
+    fn get(self) -> Option<usize> {
+        #[cfg(not(alike))]
+        return self.place.map(|place| place.get() as usize - 1);
+        #[cfg(alike)]
+        return self.place.map(|place| place as usize);
+    }
+}
+
+/// A linked node, or one whose place is kept for a spare.
 #[cfg_attr(alike, repr(C))]
 #[derive(Clone, Copy)]
 pub struct Node {
     pub split: u64,
-    pub kind: Kind,
+    #[allow(dead_code)]
+    pub key: u64,
     pub value: u64,
     pub stamp: u64,
+    next: Next,
+    pub is_dummy: bool,
     pub marked: bool,
-    pub next: Option<usize>,
+    is_linked: bool,
 }
 
-#[cfg_attr(alike, repr(C))]
-enum Slot {
-    Linked(Node),
-    #[allow(dead_code)]
-    Out(u64),
-}
+const _: () = assert!(size_of::<Entry<Node>>() == if cfg!(alike) { 56 } else { 40 });
 
 pub struct Spare {
     pub place: usize,
@@ -110,7 +144,7 @@ pub struct Spare {
 }
 
 pub struct NodeList {
-    slab: Slab<Slot>,
+    slab: Slab<Node>,
     pub head: usize,
     turn: u64,
     last: u64,
@@ -121,15 +155,6 @@ pub struct NodeList {
     marks: std::collections::BTreeSet<u64>,
 }
 
-impl Kind {
-    fn weight(self) -> u64 {
-        match self {
-            Kind::Dummy => 0,
-            Kind::Regular(_) => 1,
-        }
-    }
-}
-
 impl Spare {
     pub fn fill(&mut self, split: u64, kind: Kind, value: u64) {
         self.split = split;
@@ -137,14 +162,20 @@ impl Spare {
         self.value = value;
     }
 
-    fn into_node(self, next: Option<usize>) -> Node {
+    fn into_node(self, next: Next) -> Node {
+        let (key, is_dummy) = match self.kind {
+            Kind::Dummy => (0, true),
+            Kind::Regular(key) => (key, false),
+        };
         Node {
             split: self.split,
-            kind: self.kind,
+            key,
             value: self.value,
             stamp: self.stamp,
-            marked: false,
             next,
+            is_dummy,
+            marked: false,
+            is_linked: true,
         }
     }
 }
@@ -153,19 +184,26 @@ impl Node {
     fn dummy(split: u64, stamp: u64) -> Self {
         Node {
             split,
-            kind: Kind::Dummy,
+            key: 0,
             value: 0,
             stamp,
+            next: Next::NONE,
+            is_dummy: true,
             marked: false,
-            next: None,
+            is_linked: true,
         }
+    }
+
+    /// The node after this one.
+    pub fn next(&self) -> Option<usize> {
+        self.next.get()
     }
 }
 
 impl NodeList {
     pub fn new(first_stamp: u64) -> Self {
         let mut slab = Slab::new();
-        let head = slab.insert(Slot::Linked(Node::dummy(0, first_stamp)));
+        let head = slab.insert(Node::dummy(0, first_stamp));
         NodeList {
             slab,
             head,
@@ -183,7 +221,9 @@ impl NodeList {
             return None;
         }
         let stamp = self.last + 1;
-        let place = self.slab.insert(Slot::Out(stamp));
+        let mut out = Node::dummy(0, stamp);
+        out.is_linked = false;
+        let place = self.slab.insert(out);
         self.last = stamp;
         Some(Spare {
             place,
@@ -200,38 +240,36 @@ impl NodeList {
 
     pub fn node(&self, place: usize) -> &Node {
         match self.slab.get(place) {
-            Some(Slot::Linked(node)) => node,
+            Some(node) if node.is_linked => node,
             _ => unreachable!(),
         }
     }
 
     fn node_mut(&mut self, place: usize) -> &mut Node {
         match self.slab.get_mut(place) {
-            Some(Slot::Linked(node)) => node,
+            Some(node) if node.is_linked => node,
             _ => unreachable!(),
         }
     }
 
     pub fn linked_node(&self, place: usize) -> Option<&Node> {
-        match self.slab.get(place) {
-            Some(Slot::Linked(node)) => Some(node),
-            _ => None,
-        }
+        self.slab.get(place).filter(|node| node.is_linked)
     }
 
     fn link_after(&mut self, pred: usize, spare: Spare) {
         let place = spare.place;
-        let node = spare.into_node(self.node_mut(pred).next.replace(place));
-        let weight = node.kind.weight();
+        let before = self.node_mut(pred);
+        let node = spare.into_node(before.next);
+        before.next = Next::some(place);
         if let Some(slot) = self.slab.get_mut(place) {
-            *slot = Slot::Linked(node);
+            *slot = node;
         }
-        self.count += weight;
+        self.count += u64::from(!node.is_dummy);
         self.turn = self.turn.saturating_add(1);
     }
 
     fn unlink_after(&mut self, pred: usize) {
-        if let Some(place) = self.node(pred).next {
+        if let Some(place) = self.node(pred).next() {
             #[cfg(feature = "marks")]
             {
                 let split = self.node(place).split;
@@ -290,7 +328,7 @@ impl Noted {
     }
 
     fn behind(list: &NodeList, place: usize) -> Option<Noted> {
-        let next = list.node(place).next?;
+        let next = list.node(place).next()?;
         Some(Noted::of(list, next))
     }
 }
@@ -310,7 +348,7 @@ impl Cursor {
     }
 
     fn is_next_fitting(&self, list: &NodeList) -> bool {
-        match (list.node(self.pred.place).next, self.cur) {
+        match (list.node(self.pred.place).next(), self.cur) {
             (None, None) => true,
             (Some(next), Some(cur)) => {
                 next == cur.place && is_unmarked_with(list.node(next), cur.stamp)
@@ -329,7 +367,7 @@ impl Cursor {
 
 pub fn seek(list: &mut NodeList, from: usize, split: u64) -> Cursor {
     let mut place = from;
-    while let Some(next) = list.node(place).next {
+    while let Some(next) = list.node(place).next() {
         let node = list.node(next);
         if node.marked {
             list.unlink_after(place);
@@ -343,7 +381,7 @@ pub fn seek(list: &mut NodeList, from: usize, split: u64) -> Cursor {
 }
 
 fn node_there(list: &NodeList, cursor: &Cursor) -> Option<usize> {
-    let next = list.node(cursor.pred.place).next?;
+    let next = list.node(cursor.pred.place).next()?;
     (list.node(next).split == cursor.split).then_some(next)
 }
 
@@ -405,7 +443,7 @@ pub fn first_mark(list: &NodeList) -> Option<u64> {
 /// Unlinks the first marked node after this one.
 pub fn sweep_from(list: &mut NodeList, from: usize) {
     let mut place = from;
-    while let Some(next) = list.node(place).next {
+    while let Some(next) = list.node(place).next() {
         if list.node(next).marked {
             break;
         }

@@ -241,10 +241,10 @@ impl Table {
     fn pairs(&self) -> Vec<(u64, u64)> {
         let mut pairs = Vec::new();
         let mut place = self.list.head;
-        while let Some(next) = self.list.node(place).next {
+        while let Some(next) = self.list.node(place).next() {
             let node = self.list.node(next);
-            if let (Kind::Regular(key), false) = (node.kind, node.marked) {
-                pairs.push((key, node.value));
+            if !node.is_dummy && !node.marked {
+                pairs.push((node.key, node.value));
             }
             place = next;
         }

@@ -24,14 +24,14 @@ struct NodeTable {
 
 fn is_start(list: &NodeList, from: usize, split: u64) -> bool {
     match list.linked_node(from) {
-        Some(node) => matches!(node.kind, Kind::Dummy) && node.split < split,
+        Some(node) => node.is_dummy && node.split < split,
         None => false,
     }
 }
 
 fn is_key_there(list: &NodeList, cursor: &Cursor) -> bool {
     match look(list, cursor) {
-        Ok(Some(place)) => matches!(list.node(place).kind, Kind::Regular(_)),
+        Ok(Some(place)) => !list.node(place).is_dummy,
         _ => false,
     }
 }

@@ -14,13 +14,13 @@ trap 'rm -rf "$work"' EXIT
 look() {
   local process seconds words kind
   while read -r process seconds words; do
-    [[ $words =~ rattle\ check.*\ --crate-name\ ([a-z_0-9]+) ]] || continue
+    [[ $words =~ rattle\ (check|build).*\ --crate-name\ ([a-z_0-9]+) ]] || continue
     case "$(readlink "/proc/$process/cwd" 2>&1) $words" in
       */rt-edit-*) kind=bodies ;;
       *' --test '*) kind=tests ;;
       *) kind=proofs ;;
     esac
-    echo "$process $seconds ${BASH_REMATCH[1]} $kind"
+    echo "$process $seconds ${BASH_REMATCH[2]} $kind"
   done < <(ps -eo pid=,cputimes=,args= -ww)
 }
 

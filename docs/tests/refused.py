@@ -20,7 +20,7 @@ PROGRAM = "crates/boostmap/out/boostmap"
 # How many allocations are refused, from the one whose turn it is on: one, a few, all.
 LENGTHS = [1, 8, 2**62]
 
-# Tests that pass whichever one allocation is refused: crate and name.
+# Tests that pass whichever one allocation is refused, and may give up where more are: crate and name.
 PASSING = """
 key_locks tests::a_stripe_is_held_until_its_holder_releases
 undo_log tests::nine_undone_newest_first
@@ -43,13 +43,14 @@ boostmap_engine mix_tests::mix_without_memory
 boostmap_engine run_tests::run_without_memory
 command_line tests::refused_allocations
 """
-# Tests that may also give up, by an error, whichever one or more are refused.
+# Tests that may also give up, by an error, where one is.
 GIVING_UP = """
 locked_map tests::refused::refused_memory_between_callers
 locked_map tests::refused::refused_memory_in_each_call
 locked_map tests::side_rows::side_value_returns
+thread_runs tests::refused::refused_memory_for_crossing_scripts
 """
-# Tests that may also stop at an assertion, where one is refused.
+# Tests that may also stop at an assertion that says so.
 STOPPING = """
 bucket_table tests::bucket_initialisation
 """
@@ -267,8 +268,9 @@ def kind_of_test(kinds):
 
 def all_tests(runner, crates):
     """For each test of these crates, or of all, whether all is right."""
-    ends = [(PASSING, [1], []), (GIVING_UP, LENGTHS, ["gave up"])]
-    for tests, lengths, kinds in [*ends, (STOPPING, [1], ["gave up", "stopped"])]:
+    ends = [(PASSING, LENGTHS[:1], []), (PASSING, LENGTHS[1:], ["gave up"])]
+    ends += [(GIVING_UP, LENGTHS, ["gave up"]), (STOPPING, LENGTHS, ["gave up", "stopped"])]
+    for tests, lengths, kinds in ends:
         for crate, name in map(str.split, tests.strip().split("\n")):
             program = f"crates/{crate}/out/{crate}_tests"
             if crates and crate not in crates:

@@ -2,5 +2,6 @@
 mod any_workers;
 mod crossing;
 mod hundreds;
+mod refused;
 mod step_between;
 mod waiting;

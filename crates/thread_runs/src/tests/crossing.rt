@@ -47,11 +47,17 @@ fn two_puts(alloc: Global, first: Op, second: Op) -> Result<Script, Fail> {
     Ok(Script::new(actions))
 }
 
-/// Script 1 is committed first, though script 0 began.
-fn cross<R: Threads + Wait + Abort + Clock + Sync>(rt: &R, alloc: Global) -> Result<(), Fail> {
+/// Two scripts, each with two keys of its own.
+pub(super) fn crossing_scripts(alloc: Global) -> Result<Vec<Script>, Fail> {
     let mut scripts = Vec::new(alloc);
     scripts.push(two_puts(alloc, Op::Put(1, 10), Op::Put(2, 20))?)?;
     scripts.push(two_puts(alloc, Op::Put(3, 30), Op::Put(4, 40))?)?;
+    Ok(scripts)
+}
+
+/// Script 1 is committed first, though script 0 began.
+fn cross<R: Threads + Wait + Abort + Clock + Sync>(rt: &R, alloc: Global) -> Result<(), Fail> {
+    let scripts = crossing_scripts(alloc)?;
     let limits = Limits::new(2, 8, 8)?;
     let gate = Crossing {
         rt,
