@@ -23,7 +23,6 @@ fn leading_put_if_in<'v, 'a>(key: u64, values: &'v [Plain<'a>]) -> Option<(Op, &
 }
 
 /// The operation that the elements begin with, and the elements after it.
-#[inline(always)]
 #[tactic(auto, unfolding(crate::specs::Operations::op_at))]
 pub fn leading_op_in<'v, 'a>(values: &'v [Plain<'a>]) -> Option<(Op, &'v [Plain<'a>])>
     ensures { option_map (λ x. (x.0, map data_of x.1.now)) result ≡ op_at (map data_of values.now) }
@@ -45,7 +44,6 @@ pub fn leading_op_in<'v, 'a>(values: &'v [Plain<'a>]) -> Option<(Op, &'v [Plain<
 }
 
 /// The operation that the elements are.
-#[inline(always)]
 #[tactic(auto, unfolding(crate::specs::Operations::op_of))]
 pub fn op_in(values: &[Plain<'_>]) -> Option<Op>
     ensures { result ≡ op_of (map data_of values.now) }
