@@ -1,7 +1,4 @@
 //! The table.
-//!
-//! A line `let _turn = self.list.changes();` has the prover know that the change number fits its 64
-//! bits.
 ghost use Rattle.std.specs.Prelude.{◌≡◌, ◌≢◌, ℕ, ◌<◌, ◌≤◌, ◌-◌, ◌^◌, ◌↔◌, Ok, Err, Some, length, IfOk, IfErr, OnErr};
 ghost use Rattle.std.specs.List.{slice_get};
 ghost use Rattle.std.specs.BTreeMap.{get as value_at};
@@ -70,7 +67,6 @@ impl Table {
         ensures { IfOk result (λ table. IsNew table max callers) }
     {
         let list = NodeList::new(alloc, 0)?;
-        let _changes = list.changes();
         let buckets = Buckets::new(alloc, max, callers, &list)?;
         Ok(Table { list, buckets })
     }
@@ -314,7 +310,6 @@ impl Table {
         ensures rises { turn_of self.old ≤ turn_of self.new }
         ensures follows { Follows self.old self.new }
     {
-        let _turn = self.list.changes();
         let start = sweep_start(&self.list, &self.buckets);
         sweep_from(&mut self.list, start)
     }
@@ -340,7 +335,6 @@ impl Table {
         ensures rises { turn_of self.old ≤ turn_of self.new }
         ensures follows { Follows self.old self.new }
     {
-        let _turn = self.list.changes();
         answered(self.buckets.init_seek(&mut self.list, helper, bucket))
     }
 
@@ -369,8 +363,6 @@ impl Table {
         ensures rises { turn_of self.old ≤ turn_of self.new }
         ensures follows { Follows self.old self.new }
     {
-        let _turn = self.list.changes();
-        let _size = self.buckets.size();
         answered(self.buckets.init_link(&mut self.list, helper))
     }
 
@@ -421,8 +413,6 @@ fn sweep_start(list: &NodeList, buckets: &Buckets) -> NodeRef
     requires { IsHome buckets.now list.now }
     ensures { IsBeforeMarks list.now.nodes result }
 {
-    // What is true of every list and of all buckets.
-    let _changes = list.changes();
     let size = buckets.size();
     match list.marks_begin() {
         Some(split) => buckets.nearest(bucket_at(split, size)),

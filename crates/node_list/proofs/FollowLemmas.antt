@@ -90,8 +90,8 @@ takes_back_follows old new place now_sound back = record {
   dummies = λ at n is dummy. (n, rw back.nodes is, same_node n);
 }
 
-pub links_follow : (old new : Listing) (pred : ℕ) (x : NodeAt) → AbsentFrom x.place old.nodes → out_at old x.place ≡ Some x.stamp → IsSound new → Takes old new (linked_after old.nodes pred x) x.place → Follows old new
-links_follow old new pred x absent was_out now_sound takes = record {
+pub links_follow : (old new : Listing) (pred : ℕ) (x : NodeAt) → old.changes < 2 ^ 64 → AbsentFrom x.place old.nodes → out_at old x.place ≡ Some x.stamp → IsSound new → Takes old new (linked_after old.nodes pred x) x.place → Follows old new
+links_follow old new pred x fits absent was_out now_sound takes = record {
   sound = λ was. now_sound;
   last = omega (arith, takes.last);
   changes = omega (arith, takes.changes);
@@ -107,8 +107,8 @@ links_follow old new pred x absent was_out now_sound takes = record {
   dummies = λ place n is dummy. (n, rw takes.nodes (still_found_linked old.nodes pred place x n absent is), same_node n);
 }
 
-pub changes_follow : (old new : Listing) (changed : ℕ) (change : NodeAt → NodeAt) → ((n : NodeAt) → IsSameNode n (change n)) → IsSound new → Becomes old new (changed_at old.nodes changed change) → Follows old new
-changes_follow old new changed change same now_sound now = record {
+pub changes_follow : (old new : Listing) (changed : ℕ) (change : NodeAt → NodeAt) → old.changes < 2 ^ 64 → ((n : NodeAt) → IsSameNode n (change n)) → IsSound new → Becomes old new (changed_at old.nodes changed change) → Follows old new
+changes_follow old new changed change fits same now_sound now = record {
   sound = λ was. now_sound;
   last = omega (arith, now.last);
   changes = omega (arith, now.changes);
@@ -118,8 +118,8 @@ changes_follow old new changed change same now_sound now = record {
   dummies = λ place n is dummy. rw now.nodes (still_found_changed old.nodes changed place change n same is);
 }
 
-pub unlinks_follow : (old new : Listing) (pred : ℕ) → IsSpread old.nodes → AllPlain old.nodes → IsBeforeMarked old.nodes pred → IsSound new → Becomes old new (unlinked_after old.nodes pred) → Follows old new
-unlinks_follow old new pred spread plain behind now_sound now = record {
+pub unlinks_follow : (old new : Listing) (pred : ℕ) → old.changes < 2 ^ 64 → IsSpread old.nodes → AllPlain old.nodes → IsBeforeMarked old.nodes pred → IsSound new → Becomes old new (unlinked_after old.nodes pred) → Follows old new
+unlinks_follow old new pred fits spread plain behind now_sound now = record {
   sound = λ was. now_sound;
   last = omega (arith, now.last);
   changes = omega (arith, now.changes);

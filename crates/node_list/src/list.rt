@@ -42,7 +42,8 @@ impl Model for NodeList {
 
 /// Counts one change more, up to 2^64 - 1.
 fn advance(changes: &mut u64)
-    ensures { changes.new ≡ one_more changes.old }
+    ensures next { changes.new ≡ one_more changes.old }
+    ensures fits { changes.old < 2 ^ 64 }
 {
     *changes = changes.saturating_add(1);
 }
@@ -58,6 +59,7 @@ impl NodeList {
         ensures out { IfOk result (λ list. (place : ℕ) → out_at list place ≡ None) }
         ensures changes { IfOk result (λ list. list.changes ≡ 0) }
         ensures last { IfOk result (λ list. list.last ≡ first_stamp) }
+        ensures sound { IfOk result IsSound }
     {
         let marks = Tally::new(alloc)?;
         let mut slab = Slab::new(alloc);
@@ -254,6 +256,7 @@ impl NodeList {
         ensures from { IfSome result (λ split. AreMarksFrom split self.now.nodes) }
         ensures near { IfSome result (λ split. IsSomeAnd (first_marked self.now.nodes)
             (λ n. n.at.split < split + 2 ^ 52)) }
+        ensures sound { IsSound self.now }
     {
         self.marks.first()
     }
