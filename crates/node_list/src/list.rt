@@ -101,7 +101,7 @@ impl NodeList {
         let Ok(place) = u32::try_from(self.slab.vacant_key()) else {
             return Err(SpareFault::NoMemory);
         };
-        match self.slab.insert(Slot::out(stamp)).ok() {
+        match self.slab.insert(Slot::out(&node)).ok() {
             Some(_) => {
                 self.last = stamp;
                 Ok(Spare::of(NodeRef::new(place), node))
