@@ -11,9 +11,10 @@ use Rattle.node_list.specs.Follow.{IsSameNode, Follows}
 use Rattle.node_list.specs.Sound.{AllPlain, IsStamped, IsSound}
 use Rattle.node_list.specs.Layout.{nodes_in, listing_of, IsLaidOut, HasStamps, IsKept}
 use Rattle.node_list.proofs.OrderLemmas.{some-injective, some-none, each_found}
-use Rattle.node_list.proofs.NodesLemmas.{same_node, same_after, found_linked, first_found, found_linked_after, found_changed, found_unlinked, still_found_linked, still_found_changed, still_found_unlinked}
+use Rattle.node_list.proofs.NodesLemmas.{same_node, same_after, found_linked, first_found}
+use Rattle.node_list.proofs.AfterLemmas.{found_linked_after, found_changed, found_unlinked, still_found_linked, still_found_changed, still_found_unlinked}
 use Rattle.node_list.proofs.ChainLemmas.{true-ne-false, out-not-linked, linked_node, node_found, spread}
-use Rattle.node_list.proofs.SlabSteps.{out_in, slot_out}
+use Rattle.node_list.proofs.SpareSteps.{out_in, slot_out}
 
 -- A list follows itself.
 pub follows_self : (l : Listing) → Follows l l

@@ -2,7 +2,8 @@ use Rattle.std.proofs.Common.{refl}
 use Rattle.node_list.specs.Nodes.{count_where}
 use Rattle.node_list.proofs.ChainLemmas.{nodes_in_is}
 use Rattle.node_list.proofs.FollowLemmas.{sound}
-use Rattle.node_list.proofs.SlabSteps.{kept, new_laid_out, new_stamps, new_out}
+use Rattle.node_list.proofs.KeptLemmas.{kept}
+use Rattle.node_list.proofs.SpareSteps.{new_laid_out, new_stamps, new_out}
 use Rattle.node_list.proofs.TallyLemmas.{tallied_new}
 use Rattle.node_list.proofs.list.NodeList.new.Goals as goal
 

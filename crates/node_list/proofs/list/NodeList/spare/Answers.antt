@@ -1,6 +1,6 @@
 use Rattle.std.proofs.Common.{sym, ◌∙◌, arith}
 use Rattle.node_list.specs.Layout.{nodes_in}
-use Rattle.node_list.proofs.SlabSteps.{kept_grown, listing_grown, ok_some, ok_none}
+use Rattle.node_list.proofs.KeptLemmas.{kept_grown, listing_grown, ok_some, ok_none}
 use Rattle.node_list.proofs.FollowLemmas.{follows_self}
 use Rattle.node_list.proofs.CallLemmas.{spared}
 use Rattle.node_list.proofs.TallyLemmas.{tallied_same}
