@@ -2,7 +2,8 @@ use Rattle.std.proofs.Common.{◌∙◌, ap, sym, map}
 use Rattle.std.specs.List.{slice_get}
 use Rattle.map_ops.specs.TableAt.{help_of, linked_of, table_of}
 use Rattle.map_ops.specs.Buckets.{answered, helper_fits}
-use Rattle.map_ops.proofs.BucketLemmas.{link_answers, link_changes, link_even, helper_in_turn, fits_not_again, no_memory_alone}
+use Rattle.map_ops.proofs.BucketAnswers.{link_answers, helper_in_turn, fits_not_again, no_memory_alone}
+use Rattle.map_ops.proofs.BucketLemmas.{link_changes, link_even}
 use Rattle.map_ops.proofs.WriteLemmas.{link_writes}
 use Rattle.map_ops.proofs.table.Table.init_link.Goals as goal
 

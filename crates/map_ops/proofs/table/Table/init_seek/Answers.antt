@@ -1,6 +1,7 @@
 use Rattle.std.proofs.Common.{◌∙◌, ap}
 use Rattle.map_ops.specs.Buckets.{answered}
-use Rattle.map_ops.proofs.BucketLemmas.{seek_answers, seek_changes, seek_even}
+use Rattle.map_ops.proofs.BucketAnswers.{seek_answers}
+use Rattle.map_ops.proofs.BucketLemmas.{seek_changes, seek_even}
 use Rattle.map_ops.proofs.WriteLemmas.{seek_writes}
 use Rattle.map_ops.proofs.KeepLemmas.{follows}
 use Rattle.map_ops.proofs.table.Table.init_seek.Goals as goal

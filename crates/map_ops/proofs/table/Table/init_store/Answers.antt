@@ -2,7 +2,8 @@ use Rattle.std.proofs.Common.{◌∙◌, ap, sym}
 use Rattle.std.proofs.lemmas.Option.{slice_get-map}
 use Rattle.map_ops.specs.TableAt.{help_of}
 use Rattle.map_ops.specs.Buckets.{answered}
-use Rattle.map_ops.proofs.BucketLemmas.{store_answers, store_changes, no_memory_alone, lacks_segment}
+use Rattle.map_ops.proofs.BucketAnswers.{store_answers, no_memory_alone, lacks_segment}
+use Rattle.map_ops.proofs.BucketLemmas.{store_changes}
 use Rattle.map_ops.proofs.table.Table.init_store.Goals as goal
 
 pub invariant_of-self : goal.invariant_of-self

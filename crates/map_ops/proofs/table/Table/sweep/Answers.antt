@@ -1,4 +1,4 @@
-use Rattle.map_ops.proofs.BucketLemmas.{sweep_belong, sweep_keeps}
+use Rattle.map_ops.proofs.SweepLemmas.{sweep_belong, sweep_keeps}
 use Rattle.map_ops.proofs.SoundLemmas.{still_sound}
 use Rattle.map_ops.proofs.table.Table.sweep.Goals as goal
 
