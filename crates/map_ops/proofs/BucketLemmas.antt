@@ -36,7 +36,7 @@ use Rattle.node_list.proofs.OrderLemmas.{each_linked}
 use Rattle.map_ops.specs.Sound.{AllEven, IsEvenDummy}
 use Rattle.bucket_table.specs.Helpers.{cursor_fits, help_at}
 use Rattle.map_ops.specs.TableAt.{Cursor, Nothing, Sought, cursor_in, help_of, table_of, KeepsAllCursors, KeepsCursors}
-use Rattle.map_ops.specs.Buckets.{Doubles, Helps, IsPlacedFor, Holds, Links, LinkChanges, SeekChanges, Seeks, Stores, StoreChanges, answered, seek_answer, link_answer}
+use Rattle.map_ops.specs.Buckets.{Doubles, Helps, IsPlacedFor, Holds, Links, LinkChanges, SeekChanges, Seeks, Stores, StoreChanges, answer_for, seek_answer, link_answer}
 use Rattle.map_ops.proofs.BelongLemmas.{linked_same}
 use Rattle.map_ops.proofs.BucketAnswers.{linked_at, within_limit}
 
@@ -83,14 +83,14 @@ found_at helpers helper now within =
 
 -- What a seek changes.
 pub seek_changes : (before after : Listing) (old new : Directory) (helper bucket : ℕ) (result : Result InitSeek InitRefusal) → result ≡ buckets.seek_answer old.size (directories.is_stored old) (help_at old helper) bucket → buckets_changes.SeekChanges old new before after helper bucket result
-    → pairs after.nodes ≡ pairs before.nodes → ((other : ℕ) → has_dummy after.nodes other ≡ has_dummy before.nodes other) → IsSound after → SeekChanges (table_of before old) (table_of after new) helper bucket (answered result)
+    → pairs after.nodes ≡ pairs before.nodes → ((other : ℕ) → has_dummy after.nodes other ≡ has_dummy before.nodes other) → IsSound after → SeekChanges (table_of before old) (table_of after new) helper bucket (answer_for result)
 seek_changes before after old new helper bucket (Ok Ready) answer changes same dummies sound =
     let Q : Listing → Directory → Type 0 = λ list d. Helps (table_of before old) (table_of list d) helper Nothing × (list.changes ≡ before.changes) in
     subst (λ list. Q list new) (sym changes.1) (subst (λ d. Q before d) (sym changes.0) (helps_with before before old helper Idle refl (λ place. refl) refl (λ other. refl), refl))
 seek_changes before after old new helper bucket (Ok Placed) answer seeks same dummies sound =
     let Q : Directory → Type 0 = λ d. Seeks (table_of before old) (table_of after d) helper bucket in
     subst Q (sym seeks.now) (record {
-      helps = subst (λ (turn : ℕ). Helps (table_of before old) (table_of after (with_helper old helper (Seeking bucket seeks.cursor))) helper (Sought bucket turn)) seeks.found.changes
+      helps = subst (λ (changes : ℕ). Helps (table_of before old) (table_of after (with_helper old helper (Seeking bucket seeks.cursor))) helper (Sought bucket changes)) seeks.found.changes
           (helps_with before after old helper (Seeking bucket seeks.cursor) same seeks.rest.out seeks.rest.last dummies);
       fits = ap (cursor_fits after) (found_at old.helpers helper (Seeking bucket seeks.cursor) (there (helper_of old helper) refl answer)) ∙ found_fits after seeks.cursor seeks.found;
       placed = placed_with after old helper bucket seeks.cursor (there (helper_of old helper) refl answer) (found_placed after seeks.cursor seeks.found sound) seeks.at;
@@ -105,7 +105,7 @@ seek_changes before after old new helper bucket (Ok Placed) answer seeks same du
 seek_changes before after old new helper bucket (Err refusal) answer changes same dummies sound = λ i. table_of (changes.1 i) (changes.0 i)
 
 -- What a store changes.
-pub store_changes : (list : Listing) (old new : Directory) (helper : ℕ) (result : Result Unit InitRefusal) → buckets_changes.StoreChanges old new helper result → StoreChanges (table_of list old) (table_of list new) helper (answered result)
+pub store_changes : (list : Listing) (old new : Directory) (helper : ℕ) (result : Result Unit InitRefusal) → buckets_changes.StoreChanges old new helper result → StoreChanges (table_of list old) (table_of list new) helper (answer_for result)
 store_changes list old new helper (Ok done) stores =
     let Q : Directory → Type 0 = λ d. Stores (table_of list old) (table_of list d) helper in
     subst Q (sym stores.now) (record {
@@ -170,7 +170,7 @@ was_absent false there used is = absurd (cc)
 
 -- What a link changes.
 pub link_changes : (before after : Listing) (old new : Directory) (helper : ℕ) (result : Result InitLink InitRefusal) → directories.IsSound old → (result ≢ Err NoMemory → result ≡ buckets.link_answer_at old before helper) → buckets_changes.LinkChanges old new before after helper result
-    → pairs after.nodes ≡ pairs before.nodes → LinkChanges (table_of before old) (table_of after new) helper (answered result)
+    → pairs after.nodes ≡ pairs before.nodes → LinkChanges (table_of before old) (table_of after new) helper (answer_for result)
 link_changes before after old new helper (Ok Again) sound answer changes same =
     let Q : Listing → Directory → Type 0 = λ list d. Helps (table_of before old) (table_of list d) helper Nothing × (list.changes ≡ before.changes) in
     subst (λ list. Q list new) (sym changes.1) (subst (λ d. Q before d) (sym changes.0) (helps_with before before old helper Idle refl (λ place. refl) refl (λ other. refl), refl))
@@ -181,7 +181,7 @@ link_changes before after old new helper (Ok Present) sound answer changes same 
     let within : held.bucket < limit_of old = within_limit old helper held.bucket (Seeking held.bucket held.cursor) sound held.had (λ order. order.within) in
     subst (λ list. Q list new) (sym changes.1) (subst (λ d. Q before d) (sym held.now) (record {
       bucket = held.bucket;
-      turn = changes_of held.cursor;
+      changes = changes_of held.cursor;
       had = slice_get-map help_of old.helpers helper ∙ ap (option_map help_of) held.had;
       there = linked_is before.nodes (limit_of old) held.bucket within ∙ ap Some (dummy_had before.nodes held.place held.bucket dummy.node dummy.is dummy.kind dummy.at);
       helps = helps_with before before old helper (Holding held.bucket held.place) refl (λ place. refl) refl (λ other. refl);
@@ -193,7 +193,7 @@ link_changes before after old new helper (Ok Linked) sound answer links same =
     let says = answer (λ is. cc) ∙ ap (λ (o : Option Helper). buckets.link_answer (cursor_fits before o) (has_dummy before.nodes) before.last (option_map help_of o)) links.had in
     subst Q (sym links.now) (record {
       bucket = links.bucket;
-      turn = changes_of links.cursor;
+      changes = changes_of links.cursor;
       had = slice_get-map help_of old.helpers helper ∙ ap (option_map help_of) links.had;
       absent = linked_is before.nodes (limit_of old) links.bucket within ∙ ap Some (was_absent (fits before links.cursor) (has_dummy before.nodes links.bucket) (before.last == 2 ^ 64 - 2) says);
       becomes = record {
