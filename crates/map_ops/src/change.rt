@@ -1,5 +1,5 @@
 //! What is done to the list of a table. Each contract holds of the table with any buckets.
-ghost use Rattle.std.specs.Prelude.{◌≡◌, ℕ, ◌<◌, ◌≤◌, ◌^◌, Option, Some, None, is_ok, nat_eq, IfOk, IfErr, OnErr};
+ghost use Rattle.std.specs.Prelude.{◌≡◌, ◌≤◌, Option, Some, None, is_ok, nat_eq, IfOk, IfErr, OnErr};
 ghost use Rattle.std.specs.Option.{option_eq};
 ghost use Rattle.node_list.specs.Follow.{Follows};
 ghost use Rattle.node_list.specs.Nodes.{IsOut};

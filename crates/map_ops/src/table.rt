@@ -47,7 +47,7 @@ impl Model for Table {
 }
 
 impl Table {
-    ghost use Rattle.map_ops.specs.TableAt.{HasParents, HasSoundList, Dummy, IsClean, IsNew, IsPlaced, IsSplitOrdered, Follows, Keeps, KeepsList, KeepsSpares, NamesDummies, Sought, content, helper_fits, regular, helps_of, last_of, largest_of, linked_of, size_of, stored_of, table_changes};
+    ghost use Rattle.map_ops.specs.TableAt.{HasParents, HasSoundList, Dummy, IsClean, IsNew, IsPlaced, IsSplitOrdered, Follows, Keeps, KeepsList, KeepsSpares, NamesDummies, Sought, content, regular, helps_of, largest_of, size_of, stored_of, table_changes};
     ghost use Rattle.map_ops.specs.Jobs.{IsDue, key_of_job, spare_of_job};
     ghost use Rattle.map_ops.specs.Changes.{ActWrites, Acts, Applies, GivesBack, IsRefused, OwnsIf, Places, Prepares, SeeksAndUndoes, SeeksNear, Sweeps, TakesBack, UndoWrites, Undoes};
     ghost use Rattle.map_ops.specs.Buckets.{Doubles, LinkChanges, LinkWrites, SeekChanges, SeekWrites, StoreChanges, double_answer, link_answer_of, seek_answer, store_answer, LacksSegment};
