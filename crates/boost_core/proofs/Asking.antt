@@ -32,7 +32,7 @@ use Rattle.txn_trace.proofs.Entries as laws
 use Rattle.key_locks.specs.Locks.{holder_of as held_by}
 use Rattle.map_ops.specs.declared.job.MapJob.{MapJob}
 use Rattle.map_ops.specs.Jobs.{PendingAt}
-use Rattle.map_ops.specs.TableAt.{TableAt, Cursor, cursor_turn, map_of}
+use Rattle.map_ops.specs.TableAt.{TableAt, Cursor, cursor_changes, map_of}
 use Rattle.boost_core.specs.declared.session.Session.{Session}
 use Rattle.boost_core.specs.State.{Owner, Caller, Helper}
 use Rattle.boost_core.specs.Refusals.{refusal_of}
@@ -80,7 +80,7 @@ module _ (w : World) (tells : Tells w) (c : ℕ) (x : Session) (at : slice_get w
 
     lacking_move : (seat' : RoomySeat) → Move (state_of w) step (answers.Refused refusal) (state_of (world_after w c (seated_as y seat') w.history w.counts w.table w.locks w.placed))
     lacking_move seat' =
-        let turns = sym (turns_same w.sessions c x (seated_as y seat') at (ap (option_map cursor_turn) stays.cursor)) in
+        let turns = sym (turns_same w.sessions c x (seated_as y seat') at (ap (option_map cursor_changes) stays.cursor)) in
         let gaps = sym (gaps_same w.table w.sessions c x (seated_as y seat') at (ap (gap_if w.table) stays.cursor)) in
         subst (Move (state_of w) step (answers.Refused refusal)) (λ i. record (state_of w) { cursors = turns i; gaps = gaps i }) (lacks (state_of w) step refusal none lack)
 
@@ -141,7 +141,7 @@ module _ (w : World) (tells : Tells w) (c : ℕ) (x : Session) (at : slice_get w
       stored = prepares.nodes.buckets.stored;
       linked = prepares.nodes.linked;
       helps = prepares.nodes.buckets.helps;
-      turn = let same = prepares.nodes.turn in omega arith;
+      turn = let same = prepares.nodes.changes in omega arith;
       last = last_rises w.table t' (takes_node op) pending.spare prepares.given;
       one_last = one_stamp_more w.table t' (takes_node op) pending.spare prepares.given;
     }
@@ -203,8 +203,8 @@ module _ (w : World) (tells : Tells w) (c : ℕ) (x : Session) (at : slice_get w
         move = λ seat'. move_is w (world_after w c (seated_as y seat') (w.history ++ entry.Asked c op ∷ []) w.counts t' locks' None) (steps.Ask c op) answers.Asked
             (none, and_from (has_stamp_for (state_of w) op) (is_locked Now w.limits.stripes w.history (entry.Asked c op)) (stamped w.table t' (takes_node op) asks.pending.spare asks.prepares.given) locked)
             (state_is w (w.history ++ entry.Asked c op ∷ []) (w.history ++ entry.Asked c op ∷ []) w.counts t' (map turn_at w.sessions) (slice_set w.sessions c (seated_as y seat')) locks' None (prepared_runs t' asks.pending asks.prepares) refl
-            (turns_same w.sessions c x (seated_as y seat') at (ap (option_map cursor_turn) asks.cursor)))
-            (prepared_runs t' asks.pending asks.prepares) (λ kept. asks.prepares.nodes.turn);
+            (turns_same w.sessions c x (seated_as y seat') at (ap (option_map cursor_changes) asks.cursor)))
+            (prepared_runs t' asks.pending asks.prepares) (λ kept. asks.prepares.nodes.changes);
         fresh = λ seat'. tt;
       }
 
@@ -224,7 +224,7 @@ module _ (w : World) (tells : Tells w) (c : ℕ) (x : Session) (at : slice_get w
             stored = meets.back.nodes.buckets.stored ∙ was.stored;
             linked = meets.back.nodes.linked ∙ was.linked;
             helps = meets.back.nodes.buckets.helps ∙ was.helps;
-            turn = let same = meets.back.nodes.turn in let before = was.turn in omega arith;
+            turn = let same = meets.back.nodes.changes in let before = was.turn in omega arith;
             last = let same = meets.back.last in let before = was.last in omega arith;
             one_last = let same = meets.back.last in let before = was.one_last in omega arith;
           }
@@ -269,7 +269,7 @@ module _ (w : World) (tells : Tells w) (c : ℕ) (x : Session) (at : slice_get w
         move = λ seat'. move_is w (world_after w c (seated_as y seat') (w.history ++ entry.Busy c op holder ∷ []) w.counts t' locks' None) (steps.Ask c op) (answers.Busy holder)
             (none, and_from (has_stamp_for (state_of w) op) (is_locked Now w.limits.stripes w.history (entry.Busy c op holder)) (stamped w.table meets.between (takes_node op) meets.pending.spare meets.prepares.given) held_else)
             (state_is w (w.history ++ entry.Busy c op holder ∷ []) (w.history ++ entry.Busy c op holder ∷ []) w.counts t' (map turn_at w.sessions) (slice_set w.sessions c (seated_as y seat')) locks' None busy_runs refl
-            (turns_same w.sessions c x (seated_as y seat') at (ap (option_map cursor_turn) meets.cursor)))
-            busy_runs (λ kept. meets.back.nodes.turn ∙ meets.prepares.nodes.turn);
+            (turns_same w.sessions c x (seated_as y seat') at (ap (option_map cursor_changes) meets.cursor)))
+            busy_runs (λ kept. meets.back.nodes.changes ∙ meets.prepares.nodes.changes);
         fresh = λ seat'. tt;
       }

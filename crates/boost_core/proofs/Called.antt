@@ -8,7 +8,7 @@ use Rattle.txn_trace.specs.declared.step.Step.{Step}
 use Rattle.txn_trace.specs.declared.step.Step.TheVariants as steps
 use Rattle.txn_trace.specs.declared.answer.Answer.{Answer}
 use Rattle.txn_trace.specs.declared.answer.Answer.TheVariants as answers
-use Rattle.map_ops.specs.TableAt.{TableAt, Cursor, cursor_turn, turn_of}
+use Rattle.map_ops.specs.TableAt.{TableAt, Cursor, cursor_changes, table_changes}
 use Rattle.boost_core.specs.declared.counts.Counts.{Counts}
 use Rattle.boost_core.specs.declared.session.Session.{Session}
 use Rattle.boost_core.specs.State.{Caller, turn_in}
@@ -34,7 +34,7 @@ use Rattle.boost_core.proofs.Finding.{sought_called, again_called}
 of_owner : (P : ℕ → Type 0) (d c : ℕ) → Some (Caller d) ≡ Some (Caller c) → P d → P c
 of_owner P d c same p = let is : d ≡ c = cc (same) in subst P is p
 
-module _ (w : World) (tells : Tells w) (x : Session) (y : Session) (t' : TableAt) (locks' : List (Option ℕ)) (keeps : KeepsPlaced w.table t') (rises : turn_of w.table ≤ turn_of t') where
+module _ (w : World) (tells : Tells w) (x : Session) (y : Session) (t' : TableAt) (locks' : List (Option ℕ)) (keeps : KeepsPlaced w.table t') (rises : table_changes w.table ≤ table_changes t') where
   asked : (c : ℕ) (op : Op) → slice_get w.sessions c ≡ Some x → refusal_of (state_of w) (steps.Ask c op) ≡ None → stripe_of w.limits.stripes (key_of op) < w.limits.stripes → (answer : Answer)
       → IsAsked c (stripe_of w.limits.stripes (key_of op)) op x w.table w.locks answer y t' locks' → Called w c x (steps.Ask c op) answer y t' locks'
   asked c op at none within answers.Asked does = asked_called w tells c x at op none y t' locks' does keeps within
@@ -157,6 +157,6 @@ turn_there sessions c x z at some =
     let there : slice_get (slice_set sessions c z) c ≡ Some z = index_at (slice_set sessions c z) c z (omega arith) (sym (get_or-set_same sessions c z z within)) in
     ap (λ (o : Option (Option ℕ)). is_some (unwrap_or o None)) (slice_get-map turn_at (slice_set sessions c z) c ∙ ap (option_map turn_at) there) ∙ both z.cursor ∙ some
   where
-    both : (o : Option Cursor) → is_some (option_map cursor_turn o) ≡ is_some o
+    both : (o : Option Cursor) → is_some (option_map cursor_changes o) ≡ is_some o
     both None = refl
     both (Some cursor) = refl

@@ -10,7 +10,7 @@ use Rattle.txn_trace.specs.declared.step.Step.TheVariants as steps
 use Rattle.txn_trace.specs.declared.answer.Answer.TheVariants as answers
 use Rattle.txn_trace.specs.Seats.{has_target}
 use Rattle.map_ops.specs.Jobs.{PendingAt}
-use Rattle.map_ops.specs.TableAt.{TableAt, Cursor, cursor_turn, map_of, turn_of, IsPlaced}
+use Rattle.map_ops.specs.TableAt.{TableAt, Cursor, cursor_changes, map_of, table_changes, IsPlaced}
 use Rattle.boost_core.specs.declared.session.Session.{Session}
 use Rattle.boost_core.specs.State.{Owner, Caller, Helper, seat_in, turn_in}
 use Rattle.boost_core.specs.Refusals.{refusal_of}
@@ -30,7 +30,7 @@ module _ (w : World) (tells : Tells w) (c : ℕ) (x : Session) (at : slice_get w
   here = seat_here w tells c x at
 
   -- What a caller acts on next is sought.
-  pub sought_called : refusal_of (state_of w) (steps.Seek c) ≡ None → (y : Session) (t' : TableAt) → SeeksIn x w.table y t' → KeepsPlaced w.table t' → turn_of w.table ≤ turn_of t' → Called w c x (steps.Seek c) answers.Placed y t' w.locks
+  pub sought_called : refusal_of (state_of w) (steps.Seek c) ≡ None → (y : Session) (t' : TableAt) → SeeksIn x w.table y t' → KeepsPlaced w.table t' → table_changes w.table ≤ table_changes t' → Called w c x (steps.Seek c) answers.Placed y t' w.locks
   sought_called none y t' seeks keeps turn =
       let runs = keeps_runs w.table t' seeks.places.keeps turn in
       record {
@@ -49,8 +49,8 @@ module _ (w : World) (tells : Tells w) (c : ℕ) (x : Session) (at : slice_get w
           same_counts = refl;
         };
         move = λ seat'. move_is w (world_after w c (seated_as y seat') (w.history ++ []) w.counts t' w.locks (Some (Caller c))) (steps.Seek c) answers.Placed (none, tt)
-            (state_is w (w.history ++ []) (w.history ++ []) w.counts t' (slice_set (map turn_at w.sessions) c (Some (turn_of t'))) (slice_set w.sessions c (seated_as y seat')) w.locks (Some (Caller c)) runs refl
-            (turns_set w.sessions c (seated_as y seat') (Some (turn_of t')) (ap turn_at seeks.becomes ∙ ap Some seeks.places.turn)))
+            (state_is w (w.history ++ []) (w.history ++ []) w.counts t' (slice_set (map turn_at w.sessions) c (Some (table_changes t'))) (slice_set w.sessions c (seated_as y seat')) w.locks (Some (Caller c)) runs refl
+            (turns_set w.sessions c (seated_as y seat') (Some (table_changes t')) (ap turn_at seeks.becomes ∙ ap Some seeks.places.changes)))
             runs (λ kept. absurd (false≢true kept));
         fresh = λ seat' s cursor at_c had. elim (set_cases w.sessions c c (seated_as y seat') s (slice_get_within w.sessions c x at) at_c) [
           | inl mine ↦
@@ -78,21 +78,21 @@ module _ (w : World) (tells : Tells w) (c : ℕ) (x : Session) (at : slice_get w
     has_key None is = absurd is
     has_key (Some key) is = (key, is)
 
-    not_in_turn : (cursor_turn drops.cursor == turn_of w.table && nat_lt (cursor_turn drops.cursor) (2 ^ 64 - 1)) ≡ false
-    not_in_turn = elim (cases_Bool (cursor_turn drops.cursor == turn_of w.table && nat_lt (cursor_turn drops.cursor) (2 ^ 64 - 1))) [
+    not_in_turn : (cursor_changes drops.cursor == table_changes w.table && nat_lt (cursor_changes drops.cursor) (2 ^ 64 - 1)) ≡ false
+    not_in_turn = elim (cases_Bool (cursor_changes drops.cursor == table_changes w.table && nat_lt (cursor_changes drops.cursor) (2 ^ 64 - 1))) [
       | inr is ↦ is
       | inl is ↦
-          let parts = and_parts (cursor_turn drops.cursor == turn_of w.table) (nat_lt (cursor_turn drops.cursor) (2 ^ 64 - 1)) is in
-          let same : cursor_turn drops.cursor ≡ turn_of w.table = eqb-true (cursor_turn drops.cursor) (turn_of w.table) parts.0 in
-          let below : cursor_turn drops.cursor < 2 ^ 64 - 1 = ltb-true (cursor_turn drops.cursor) (2 ^ 64 - 1) parts.1 in
+          let parts = and_parts (cursor_changes drops.cursor == table_changes w.table) (nat_lt (cursor_changes drops.cursor) (2 ^ 64 - 1)) is in
+          let same : cursor_changes drops.cursor ≡ table_changes w.table = eqb-true (cursor_changes drops.cursor) (table_changes w.table) parts.0 in
+          let below : cursor_changes drops.cursor < 2 ^ 64 - 1 = ltb-true (cursor_changes drops.cursor) (2 ^ 64 - 1) parts.1 in
           let placed_for = has_key (target_of x) (subst (λ (o : Option Cursor). IsSoughtAt w.table o (target_of x)) drops.had (tells.sought c x at)) in
-          absurd (false≢true (sym drops.stale ∙ placed_for.1.in_turn (sym same) (subst (λ n. n < 2 ^ 64 - 1) same below)))
+          absurd (false≢true (sym drops.stale ∙ placed_for.1.held (sym same) (subst (λ n. n < 2 ^ 64 - 1) same below)))
     ]
 
     stale : may_be_stale (state_of w) (Caller c) ≡ true
     stale =
-        let turn : turn_in (map turn_at w.sessions) c ≡ Some (cursor_turn drops.cursor) = turn_here w tells c x at ∙ ap (option_map cursor_turn) drops.had in
-        ap (λ (o : Option ℕ). elim o as (λ _. Bool) [ None ↦ false | Some turn ↦ not (is_just_placed (Caller c) w.placed) && not (turn == turn_of w.table && nat_lt turn (2 ^ 64 - 1)) ]) turn
+        let turn : turn_in (map turn_at w.sessions) c ≡ Some (cursor_changes drops.cursor) = turn_here w tells c x at ∙ ap (option_map cursor_changes) drops.had in
+        ap (λ (o : Option ℕ). elim o as (λ _. Bool) [ None ↦ false | Some turn ↦ not (is_just_placed (Caller c) w.placed) && not (turn == table_changes w.table && nat_lt turn (2 ^ 64 - 1)) ]) turn
         ∙ (λ i. not (not_fresh i) && not (not_in_turn i))
 
     again : Called w c x (steps.Act c) answers.Again y w.table w.locks
@@ -114,7 +114,7 @@ module _ (w : World) (tells : Tells w) (c : ℕ) (x : Session) (at : slice_get w
       move = λ seat'. move_is w (world_after w c (seated_as y seat') (w.history ++ []) w.counts w.table w.locks None) (steps.Act c) answers.Again
           (none, and_from (has_target (seat_in w.history c)) (may_be_stale (state_of w) (Caller c)) (ap has_target here ∙ target) stale)
           (state_is w (w.history ++ []) (w.history ++ []) w.counts w.table (slice_set (map turn_at w.sessions) c None) (slice_set w.sessions c (seated_as y seat')) w.locks None (runs_same w.table) refl
-          (turns_set w.sessions c (seated_as y seat') None (ap (option_map cursor_turn) drops.dropped)))
+          (turns_set w.sessions c (seated_as y seat') None (ap (option_map cursor_changes) drops.dropped)))
           (runs_same w.table) (λ kept. refl);
       fresh = λ seat'. tt;
     }

@@ -47,9 +47,9 @@ module _ (t t' : TableAt) (sound : IsSound t'.list) where
   linked_dummy h (Ok links.Again) says writes changes =
       let had = has_sought (helper_fits t h) (linked_of t) (last_of t) (slice_get (helps_of t) h) (Ok links.Again) (sym (says (λ e. cc (e)))) refl in
       kept (writes had.bucket had.turn had.had)
-  linked_dummy h (Ok links.Present) says writes changes = kept (writes changes.bucket changes.turn changes.had)
+  linked_dummy h (Ok links.Present) says writes changes = kept (writes changes.bucket changes.changes changes.had)
   linked_dummy h (Ok links.Linked) says writes changes =
-      let link = writes changes.bucket changes.turn changes.had in
+      let link = writes changes.bucket changes.changes changes.had in
       linked t.list t'.list (dummy_node link.place changes.bucket _) sound.spread link.links
   linked_dummy h (Err refusal) says writes changes = kept (ap (λ u. u.list) changes)
 

@@ -12,12 +12,12 @@ use Rattle.bucket_table.specs.declared.answer.InitRefusal.{InitRefusal}
 use Rattle.bucket_table.specs.declared.answer.InitRefusal.TheVariants as inits
 use Rattle.txn_trace.specs.declared.refusal.Refusal.{Refusal}
 use Rattle.txn_trace.specs.declared.refusal.Refusal.TheVariants as refusals
-use Rattle.map_ops.specs.Buckets.{Becomes, Helps, Seeks, Stores, Doubles, size_after, is_stored, answered, seek_answer, store_answer, parent_of, LacksSegment}
+use Rattle.map_ops.specs.Buckets.{Becomes, Helps, Seeks, Stores, Doubles, size_after, is_stored, answer_for, seek_answer, store_answer, parent_of, LacksSegment}
 use Rattle.txn_trace.specs.declared.entry.Entry.{Entry}
 use Rattle.txn_trace.specs.declared.step.Step.{Step}
 use Rattle.txn_trace.specs.declared.step.Step.TheVariants as steps
 use Rattle.txn_trace.specs.declared.answer.Answer.TheVariants as answers
-use Rattle.map_ops.specs.TableAt.{TableAt, Help, Nothing, Sought, Dummy, Follows, Keeps, KeepsSpares, content, map_of, regular, size_of, stored_of, linked_of, helps_of, turn_of, last_of, largest_of}
+use Rattle.map_ops.specs.TableAt.{TableAt, Help, Nothing, Sought, Dummy, Follows, Keeps, KeepsSpares, content, map_of, regular, size_of, stored_of, linked_of, helps_of, table_changes, last_of, largest_of}
 use Rattle.boost_core.specs.State.{Owner, Helper, is_set, help_in, bucket_at}
 use Rattle.boost_core.specs.Refusals.{refusal_of, has_dummy}
 use Rattle.boost_core.specs.Machine.{Move}
@@ -53,7 +53,7 @@ sweep_tells w tells t' keeps spares follows =
 append_none : (h : List Entry) → h ≡ h ++ []
 append_none h = sym (append-nil h)
 
-pub swept_move : (w : World) (t' : TableAt) → Keeps w.table t' → turn_of w.table ≤ turn_of t'
+pub swept_move : (w : World) (t' : TableAt) → Keeps w.table t' → table_changes w.table ≤ table_changes t'
     → Move (state_of w) steps.Sweep answers.Swept (state_of (served w t' None))
 swept_move w t' keeps turn =
     let runs = keeps_runs w.table t' keeps turn in
@@ -66,7 +66,7 @@ swept_move w t' keeps turn =
       one_stamp = runs.one_last;
     }
 
-pub clean_move : (w : World) (t' : TableAt) → Keeps w.table t' → turn_of t' ≡ turn_of w.table
+pub clean_move : (w : World) (t' : TableAt) → Keeps w.table t' → table_changes t' ≡ table_changes w.table
     → Move (state_of w) steps.Sweep answers.Clean (state_of (served w t' None))
 clean_move w t' keeps turn =
     let runs = keeps_runs w.table t' keeps (omega arith) in
@@ -89,8 +89,8 @@ becomes_tells w tells t' placed' size stored linked helps becomes many follows f
 
 -- The state then.
 pub becomes_state : (w : World) (t' : TableAt) (placed' : Option Owner) (size : ℕ) (stored linked : List Bool) (helps : List Help) → Becomes w.table t' size stored linked helps
-    → state_of (served w t' placed') ≡ record { limits = w.limits; history = w.history ++ []; size = size; stored = stored; linked = linked; nodes = nodes_at t'; changes = turn_of t'; stamp = last_of t'; cursors = map turn_at w.sessions; gaps = map (gap_by t') w.sessions; helper_gaps = helper_gaps_of t'; helpers = helps; placed = placed' }
-becomes_state w t' placed' size stored linked helps becomes = λ i. record { limits = w.limits; history = append_none w.history i; size = becomes.size_is i; stored = becomes.stored_is i; linked = becomes.linked_is i; nodes = nodes_at t'; changes = turn_of t'; stamp = last_of t'; cursors = map turn_at w.sessions; gaps = map (gap_by t') w.sessions; helper_gaps = helper_gaps_of t'; helpers = becomes.helps_is i; placed = placed' }
+    → state_of (served w t' placed') ≡ record { limits = w.limits; history = w.history ++ []; size = size; stored = stored; linked = linked; nodes = nodes_at t'; changes = table_changes t'; stamp = last_of t'; cursors = map turn_at w.sessions; gaps = map (gap_by t') w.sessions; helper_gaps = helper_gaps_of t'; helpers = helps; placed = placed' }
+becomes_state w t' placed' size stored linked helps becomes = λ i. record { limits = w.limits; history = append_none w.history i; size = becomes.size_is i; stored = becomes.stored_is i; linked = becomes.linked_is i; nodes = nodes_at t'; changes = table_changes t'; stamp = last_of t'; cursors = map turn_at w.sessions; gaps = map (gap_by t') w.sessions; helper_gaps = helper_gaps_of t'; helpers = becomes.helps_is i; placed = placed' }
 
 -- Double.
 pub double_tells : (w : World) → Tells w
@@ -115,7 +115,7 @@ helper_none helps n h long none = elim (cases_lt h (length helps)) [
 
 -- InitSeek.
 seek_tests : (large here above : Bool) → cond large (Some refusals.NoSuchBucket) (cond (not here && not above) (Some refusals.ParentMissing) None)
-    ≡ refusal_in_result (answered (cond {A = Result InitSeek InitRefusal} large (Err inits.NoSuchBucket) (cond here (Ok seeks.Ready) (cond above (Ok seeks.Placed) (Err inits.ParentMissing)))))
+    ≡ refusal_in_result (answer_for (cond {A = Result InitSeek InitRefusal} large (Err inits.NoSuchBucket) (cond here (Ok seeks.Ready) (cond above (Ok seeks.Placed) (Err inits.ParentMissing)))))
 seek_tests true here above = refl
 seek_tests false true above = refl
 seek_tests false false true = refl
@@ -136,13 +136,13 @@ seek_refusal w helper bucket many = at (slice_get (helps_of w.table) helper) ref
         ∙ (λ i. cond (nat_le (size_of w.table) bucket) (Some refusals.NoSuchBucket) (cond (not (is_set_is (stored_of w.table) bucket i) && not (is_set_is (stored_of w.table) (parent_of bucket) i)) (Some refusals.ParentMissing) None))
         ∙ seek_tests (nat_le (size_of w.table) bucket) (is_stored (stored_of w.table) bucket) (is_stored (stored_of w.table) (parent_of bucket))
 
-seek_ready : (large here above : Bool) → answered (cond {A = Result InitSeek InitRefusal} large (Err inits.NoSuchBucket) (cond here (Ok seeks.Ready) (cond above (Ok seeks.Placed) (Err inits.ParentMissing)))) ≡ Ok seeks.Ready → here ≡ true
+seek_ready : (large here above : Bool) → answer_for (cond {A = Result InitSeek InitRefusal} large (Err inits.NoSuchBucket) (cond here (Ok seeks.Ready) (cond above (Ok seeks.Placed) (Err inits.ParentMissing)))) ≡ Ok seeks.Ready → here ≡ true
 seek_ready true here above is = absurd (cc (is))
 seek_ready false true above is = refl
 seek_ready false false true is = absurd (cc (is))
 seek_ready false false false is = absurd (cc (is))
 
-seek_placed : (large here above : Bool) → answered (cond {A = Result InitSeek InitRefusal} large (Err inits.NoSuchBucket) (cond here (Ok seeks.Ready) (cond above (Ok seeks.Placed) (Err inits.ParentMissing)))) ≡ Ok seeks.Placed → not here ≡ true
+seek_placed : (large here above : Bool) → answer_for (cond {A = Result InitSeek InitRefusal} large (Err inits.NoSuchBucket) (cond here (Ok seeks.Ready) (cond above (Ok seeks.Placed) (Err inits.ParentMissing)))) ≡ Ok seeks.Placed → not here ≡ true
 seek_placed true here above is = absurd (cc (is))
 seek_placed false true above is = absurd (cc (is))
 seek_placed false false above is = refl
@@ -157,7 +157,7 @@ placed_not t None bucket is = absurd (cc (is))
 placed_not t (Some help) bucket is = ap not (is_set_is (stored_of t) bucket) ∙ seek_placed (nat_le (size_of t) bucket) (is_stored (stored_of t) bucket) (is_stored (stored_of t) (parent_of bucket)) is
 
 pub seek_ready_move : (w : World) (t' : TableAt) (helper bucket : ℕ) → length (helps_of w.table) ≡ w.limits.callers
-    → seek_answer (size_of w.table) (stored_of w.table) (slice_get (helps_of w.table) helper) bucket ≡ Ok seeks.Ready → Helps w.table t' helper Nothing → turn_of t' ≡ turn_of w.table
+    → seek_answer (size_of w.table) (stored_of w.table) (slice_get (helps_of w.table) helper) bucket ≡ Ok seeks.Ready → Helps w.table t' helper Nothing → table_changes t' ≡ table_changes w.table
     → Move (state_of w) (steps.InitSeek helper bucket) answers.Ready (state_of (served w t' None))
 seek_ready_move w t' helper bucket many is helps turn = record {
   allowed = (seek_refusal w helper bucket many ∙ ap refusal_in_result is, ready_stored w.table (slice_get (helps_of w.table) helper) bucket is);
@@ -169,11 +169,11 @@ seek_ready_move w t' helper bucket many is helps turn = record {
 }
 
 pub seek_placed_move : (w : World) (t' : TableAt) (helper bucket : ℕ) → length (helps_of w.table) ≡ w.limits.callers
-    → seek_answer (size_of w.table) (stored_of w.table) (slice_get (helps_of w.table) helper) bucket ≡ Ok seeks.Placed → Seeks w.table t' helper bucket → turn_of w.table ≤ turn_of t'
+    → seek_answer (size_of w.table) (stored_of w.table) (slice_get (helps_of w.table) helper) bucket ≡ Ok seeks.Placed → Seeks w.table t' helper bucket → table_changes w.table ≤ table_changes t'
     → Move (state_of w) (steps.InitSeek helper bucket) answers.Placed (state_of (served w t' (Some (Helper helper))))
 seek_placed_move w t' helper bucket many is places turn = record {
   allowed = (seek_refusal w helper bucket many ∙ ap refusal_in_result is, placed_not w.table (slice_get (helps_of w.table) helper) bucket is);
-  state = becomes_state w t' (Some (Helper helper)) (size_of w.table) (stored_of w.table) (linked_of w.table) (slice_set (helps_of w.table) helper (Sought bucket (turn_of t'))) places.helps.becomes;
+  state = becomes_state w t' (Some (Helper helper)) (size_of w.table) (stored_of w.table) (linked_of w.table) (slice_set (helps_of w.table) helper (Sought bucket (table_changes t'))) places.helps.becomes;
   changes = turn;
   list_kept = λ kept. absurd (false≢true kept);
   stamp = let same = places.helps.last in omega arith;
@@ -232,7 +232,7 @@ pub stored_move : (w : World) (t' : TableAt) (helper : ℕ) → length (helps_of
 stored_move w t' helper many is stores = record {
   allowed = (store_refusal w helper many ∙ ap refusal_in_result is, tt);
   state = becomes_state w t' None (size_of w.table) (slice_set (stored_of w.table) stores.bucket true) (linked_of w.table) (slice_set (helps_of w.table) helper Nothing) stores.becomes
-      ∙ ap (λ n. record { limits = w.limits; history = w.history ++ []; size = size_of w.table; stored = slice_set (stored_of w.table) n true; linked = linked_of w.table; nodes = nodes_at t'; changes = turn_of t'; stamp = last_of t'; cursors = map turn_at w.sessions; gaps = map (gap_by t') w.sessions; helper_gaps = helper_gaps_of t'; helpers = slice_set (helps_of w.table) helper Nothing; placed = None })
+      ∙ ap (λ n. record { limits = w.limits; history = w.history ++ []; size = size_of w.table; stored = slice_set (stored_of w.table) n true; linked = linked_of w.table; nodes = nodes_at t'; changes = table_changes t'; stamp = last_of t'; cursors = map turn_at w.sessions; gaps = map (gap_by t') w.sessions; helper_gaps = helper_gaps_of t'; helpers = slice_set (helps_of w.table) helper Nothing; placed = None })
       (ap (λ (o : Option Help). bucket_at (unwrap_or o Nothing)) (sym stores.had));
   changes = let same = stores.kept in omega arith;
   list_kept = λ kept. stores.kept;

@@ -9,10 +9,10 @@ use Rattle.bucket_table.specs.declared.answer.InitRefusal.{InitRefusal}
 use Rattle.bucket_table.specs.declared.answer.InitRefusal.TheVariants as inits
 use Rattle.txn_trace.specs.declared.refusal.Refusal.{Refusal}
 use Rattle.txn_trace.specs.declared.refusal.Refusal.TheVariants as refusals
-use Rattle.map_ops.specs.Buckets.{Helps, Holds, Links, is_stored, answered, link_answer, helper_fits, link_answer_of}
+use Rattle.map_ops.specs.Buckets.{Helps, Holds, Links, is_stored, answer_for, link_answer, helper_fits, link_answer_of}
 use Rattle.txn_trace.specs.declared.step.Step.TheVariants as steps
 use Rattle.txn_trace.specs.declared.answer.Answer.TheVariants as answers
-use Rattle.map_ops.specs.TableAt.{TableAt, Help, Nothing, Sought, Dummy, size_of, stored_of, linked_of, helps_of, turn_of, last_of}
+use Rattle.map_ops.specs.TableAt.{TableAt, Help, Nothing, Sought, Dummy, size_of, stored_of, linked_of, helps_of, table_changes, last_of}
 use Rattle.boost_core.specs.State.{State, Owner, Caller, Helper, is_set, help_in, bucket_at, turn_at as state_turn_at}
 use Rattle.boost_core.specs.Refusals.{refusal_of, has_cursor, has_stamp, lacks_dummy}
 use Rattle.boost_core.specs.Answers.{is_just_placed, may_be_stale}
@@ -30,7 +30,7 @@ refusal_by_test (Err refusal) = Some refusal
 
 -- What a link is answered for a helper with a cursor.
 abbrev linking : Bool → Bool → Bool → Result InitLink Refusal
-linking fitting there used = answered (cond {A = Result InitLink InitRefusal} (not fitting) (Ok links.Again) (cond there (Ok links.Present) (cond used (Err inits.StampsUsedUp) (Ok links.Linked))))
+linking fitting there used = answer_for (cond {A = Result InitLink InitRefusal} (not fitting) (Ok links.Again) (cond there (Ok links.Present) (cond used (Err inits.StampsUsedUp) (Ok links.Linked))))
 
 linking_test : (fitting there used : Bool) → None ≡ refusal_by_test (linking fitting there used)
 linking_test false there used = refl
@@ -155,7 +155,7 @@ module _ (w : World) (helper : ℕ) (many : length (helps_of w.table) ≡ w.limi
       at refusals.Limit is = by_test refusals.Limit is (λ e. cc (e)) refl
 
   -- The cursor did not fit, and is dropped.
-  pub link_again_move : answer_now ≡ Ok links.Again → IsFresh w.table w.sessions w.placed → ((bucket : ℕ) → slice_get (helps_of w.table) helper ≡ Some (Sought bucket (turn_of w.table)) → turn_of w.table < 2 ^ 64 - 1 → ⊥) → (t' : TableAt) → Helps w.table t' helper Nothing → turn_of t' ≡ turn_of w.table
+  pub link_again_move : answer_now ≡ Ok links.Again → IsFresh w.table w.sessions w.placed → ((bucket : ℕ) → slice_get (helps_of w.table) helper ≡ Some (Sought bucket (table_changes w.table)) → table_changes w.table < 2 ^ 64 - 1 → ⊥) → (t' : TableAt) → Helps w.table t' helper Nothing → table_changes t' ≡ table_changes w.table
       → Move before (steps.InitLink helper) answers.Again (state_of (served w t' None))
   link_again_move is fresh in_turn t' helps turn =
       let sought = has_sought (helper_fits w.table helper) (linked_of w.table) (last_of w.table) (slice_get (helps_of w.table) helper) (Ok links.Again) is refl in
@@ -176,28 +176,28 @@ module _ (w : World) (helper : ℕ) (many : length (helps_of w.table) ≡ w.limi
         | inr other ↦ ne_eqb helper d other
       ]
 
-      not_in_turn : (bucket turn : ℕ) → slice_get (helps_of w.table) helper ≡ Some (Sought bucket turn) → (turn == turn_of w.table && nat_lt turn (2 ^ 64 - 1)) ≡ false
-      not_in_turn bucket turn had = elim (cases_Bool (turn == turn_of w.table && nat_lt turn (2 ^ 64 - 1))) [
+      not_in_turn : (bucket turn : ℕ) → slice_get (helps_of w.table) helper ≡ Some (Sought bucket turn) → (turn == table_changes w.table && nat_lt turn (2 ^ 64 - 1)) ≡ false
+      not_in_turn bucket turn had = elim (cases_Bool (turn == table_changes w.table && nat_lt turn (2 ^ 64 - 1))) [
         | inr is ↦ is
         | inl is ↦
-            let parts = and_parts (turn == turn_of w.table) (nat_lt turn (2 ^ 64 - 1)) is in
-            let same : turn ≡ turn_of w.table = eqb-true turn (turn_of w.table) parts.0 in
+            let parts = and_parts (turn == table_changes w.table) (nat_lt turn (2 ^ 64 - 1)) is in
+            let same : turn ≡ table_changes w.table = eqb-true turn (table_changes w.table) parts.0 in
             let below : turn < 2 ^ 64 - 1 = ltb-true turn (2 ^ 64 - 1) parts.1 in
             absurd (in_turn bucket (had ∙ ap (λ n. Some (Sought bucket n)) same) (omega arith))
       ]
 
       stale : (bucket turn : ℕ) → slice_get (helps_of w.table) helper ≡ Some (Sought bucket turn) → helper_fits w.table helper ≡ false → may_be_stale before (Helper helper) ≡ true
       stale bucket turn had misfit =
-          ap (λ (o : Option Help). elim (state_turn_at (unwrap_or o Nothing)) as (λ _. Bool) [ None ↦ false | Some turn ↦ not (is_just_placed (Helper helper) w.placed) && not (turn == turn_of w.table && nat_lt turn (2 ^ 64 - 1)) ]) had
+          ap (λ (o : Option Help). elim (state_turn_at (unwrap_or o Nothing)) as (λ _. Bool) [ None ↦ false | Some turn ↦ not (is_just_placed (Helper helper) w.placed) && not (turn == table_changes w.table && nat_lt turn (2 ^ 64 - 1)) ]) had
           ∙ (λ i. not (not_fresh misfit w.placed fresh i) && not (not_in_turn bucket turn had i))
 
   -- The dummy was linked already.
   pub link_present_move : answer_now ≡ Ok links.Present → (t' : TableAt) → Holds w.table t' helper → Move before (steps.InitLink helper) answers.Present (state_of (served w t' None))
   link_present_move is t' holds = record {
-    allowed = (link_refusal ∙ ap refusal_by_test is, ap not (lacks_when holds.bucket holds.turn true holds.had (ap (λ (o : Option Bool). unwrap_or o false) holds.there)));
+    allowed = (link_refusal ∙ ap refusal_by_test is, ap not (lacks_when holds.bucket holds.changes true holds.had (ap (λ (o : Option Bool). unwrap_or o false) holds.there)));
     state = becomes_state w t' None (size_of w.table) (stored_of w.table) (linked_of w.table) (slice_set (helps_of w.table) helper (Dummy holds.bucket)) holds.helps.becomes
-        ∙ ap (λ n. record { limits = w.limits; history = w.history ++ []; size = size_of w.table; stored = stored_of w.table; linked = linked_of w.table; nodes = nodes_at t'; changes = turn_of t'; stamp = last_of t'; cursors = map turn_at w.sessions; gaps = map (gap_by t') w.sessions; helper_gaps = helper_gaps_of t'; helpers = slice_set (helps_of w.table) helper (Dummy n); placed = None })
-        (sym (bucket_had (Sought holds.bucket holds.turn) holds.had));
+        ∙ ap (λ n. record { limits = w.limits; history = w.history ++ []; size = size_of w.table; stored = stored_of w.table; linked = linked_of w.table; nodes = nodes_at t'; changes = table_changes t'; stamp = last_of t'; cursors = map turn_at w.sessions; gaps = map (gap_by t') w.sessions; helper_gaps = helper_gaps_of t'; helpers = slice_set (helps_of w.table) helper (Dummy n); placed = None })
+        (sym (bucket_had (Sought holds.bucket holds.changes) holds.had));
     changes = let same = holds.kept in omega arith;
     list_kept = λ kept. holds.kept;
     stamp = let same = holds.helps.last in omega arith;
@@ -205,15 +205,15 @@ module _ (w : World) (helper : ℕ) (many : length (helps_of w.table) ≡ w.limi
   }
 
   -- The dummy is linked now.
-  pub link_linked_move : answer_now ≡ Ok links.Linked → (t' : TableAt) → Links w.table t' helper → turn_of w.table ≤ turn_of t' → Move before (steps.InitLink helper) answers.Linked (state_of (served w t' None))
+  pub link_linked_move : answer_now ≡ Ok links.Linked → (t' : TableAt) → Links w.table t' helper → table_changes w.table ≤ table_changes t' → Move before (steps.InitLink helper) answers.Linked (state_of (served w t' None))
   link_linked_move is t' linked turn =
       let sought = has_sought (helper_fits w.table helper) (linked_of w.table) (last_of w.table) (slice_get (helps_of w.table) helper) (Ok links.Linked) is refl in
       let parts = linking_linked (helper_fits w.table helper) (is_stored (linked_of w.table) sought.bucket) (last_of w.table == 2 ^ 64 - 2) sought.answer in
       record {
-        allowed = (link_refusal ∙ ap refusal_by_test is, and_from (lacks_dummy before helper) (has_stamp before) (lacks_when linked.bucket linked.turn false linked.had (ap (λ (o : Option Bool). unwrap_or o false) linked.absent)) (ap not parts.1));
+        allowed = (link_refusal ∙ ap refusal_by_test is, and_from (lacks_dummy before helper) (has_stamp before) (lacks_when linked.bucket linked.changes false linked.had (ap (λ (o : Option Bool). unwrap_or o false) linked.absent)) (ap not parts.1));
         state = becomes_state w t' None (size_of w.table) (stored_of w.table) (slice_set (linked_of w.table) linked.bucket true) (slice_set (helps_of w.table) helper (Dummy linked.bucket)) linked.becomes
-            ∙ ap (λ n. record { limits = w.limits; history = w.history ++ []; size = size_of w.table; stored = stored_of w.table; linked = slice_set (linked_of w.table) n true; nodes = nodes_at t'; changes = turn_of t'; stamp = last_of t'; cursors = map turn_at w.sessions; gaps = map (gap_by t') w.sessions; helper_gaps = helper_gaps_of t'; helpers = slice_set (helps_of w.table) helper (Dummy n); placed = None })
-            (sym (bucket_had (Sought linked.bucket linked.turn) linked.had));
+            ∙ ap (λ n. record { limits = w.limits; history = w.history ++ []; size = size_of w.table; stored = stored_of w.table; linked = slice_set (linked_of w.table) n true; nodes = nodes_at t'; changes = table_changes t'; stamp = last_of t'; cursors = map turn_at w.sessions; gaps = map (gap_by t') w.sessions; helper_gaps = helper_gaps_of t'; helpers = slice_set (helps_of w.table) helper (Dummy n); placed = None })
+            (sym (bucket_had (Sought linked.bucket linked.changes) linked.had));
         changes = turn;
         list_kept = λ kept. absurd (false≢true kept);
         stamp = let more = linked.last in omega arith;

@@ -10,7 +10,7 @@ use Rattle.txn_trace.specs.declared.refusal.Refusal.{Refusal}
 use Rattle.txn_trace.specs.declared.step.Step.{Step}
 use Rattle.txn_trace.specs.declared.answer.Answer.{Answer}
 use Rattle.txn_trace.specs.declared.answer.Answer.TheVariants.{Refused}
-use Rattle.map_ops.specs.TableAt.{TableAt, size_of, stored_of, linked_of, helps_of, turn_of, last_of}
+use Rattle.map_ops.specs.TableAt.{TableAt, size_of, stored_of, linked_of, helps_of, table_changes, last_of}
 use Rattle.boost_core.specs.Sessions.{Rests}
 use Rattle.boost_core.specs.declared.counts.Counts.{Counts}
 use Rattle.boost_core.specs.declared.session.Session.{Session}
@@ -32,7 +32,7 @@ pub record Runs (t t' : TableAt) : Type 0 where
   pub stored : stored_of t' ≡ stored_of t
   pub linked : linked_of t' ≡ linked_of t
   pub helps : helps_of t' ≡ helps_of t
-  pub turn : turn_of t ≤ turn_of t'
+  pub turn : table_changes t ≤ table_changes t'
   pub last : last_of t ≤ last_of t'
   pub one_last : last_of t' ≤ last_of t + 1
 
@@ -46,7 +46,7 @@ rests_runs t t' rests = record {
   stored = rests.nodes.buckets.stored;
   linked = rests.nodes.linked;
   helps = rests.nodes.buckets.helps;
-  turn = let same = rests.nodes.turn in omega arith;
+  turn = let same = rests.nodes.changes in omega arith;
   last = let same = rests.last in omega arith;
   one_last = let same = rests.last in omega arith;
 }
@@ -54,8 +54,8 @@ rests_runs t t' rests = record {
 -- The state after such a step, of a world with one caller's side changed.
 pub state_is : (w : World) (h' h'' : List Entry) (counts' : Counts) (t' : TableAt) (cursors : List (Option ℕ)) (sessions' : List Session) (locks' : List (Option ℕ)) (placed' : Option Owner) → Runs w.table t' → h' ≡ h'' → map turn_at sessions' ≡ cursors
     → state_of (record { limits = w.limits; history = h'; counts = counts'; table = t'; sessions = sessions'; locks = locks'; placed = placed' })
-    ≡ record { limits = w.limits; history = h''; size = size_of w.table; stored = stored_of w.table; linked = linked_of w.table; nodes = nodes_at t'; changes = turn_of t'; stamp = last_of t'; cursors = cursors; gaps = map (gap_by t') sessions'; helper_gaps = helper_gaps_of t'; helpers = helps_of w.table; placed = placed' }
-state_is w h' h'' counts' t' cursors sessions' locks' placed' runs entries same = λ i. record { limits = w.limits; history = entries i; size = runs.size i; stored = runs.stored i; linked = runs.linked i; nodes = nodes_at t'; changes = turn_of t'; stamp = last_of t'; cursors = same i; gaps = map (gap_by t') sessions'; helper_gaps = helper_gaps_of t'; helpers = runs.helps i; placed = placed' }
+    ≡ record { limits = w.limits; history = h''; size = size_of w.table; stored = stored_of w.table; linked = linked_of w.table; nodes = nodes_at t'; changes = table_changes t'; stamp = last_of t'; cursors = cursors; gaps = map (gap_by t') sessions'; helper_gaps = helper_gaps_of t'; helpers = helps_of w.table; placed = placed' }
+state_is w h' h'' counts' t' cursors sessions' locks' placed' runs entries same = λ i. record { limits = w.limits; history = entries i; size = runs.size i; stored = runs.stored i; linked = runs.linked i; nodes = nodes_at t'; changes = table_changes t'; stamp = last_of t'; cursors = same i; gaps = map (gap_by t') sessions'; helper_gaps = helper_gaps_of t'; helpers = runs.helps i; placed = placed' }
 
 -- The turns of the callers' cursors, where one changes.
 pub turns_set : (sessions : List Session) (c : ℕ) (y : Session) (turn : Option ℕ) → turn_at y ≡ turn → map turn_at (slice_set sessions c y) ≡ slice_set (map turn_at sessions) c turn

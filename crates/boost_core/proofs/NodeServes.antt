@@ -54,9 +54,9 @@ module _ (w w' : World) (home : NamesDummies w.table) where
   linked h (Ok links.Again) says writes changes =
       let had = has_sought (helper_fits w.table h) (linked_of w.table) (last_of w.table) (slice_get (helps_of w.table) h) (Ok links.Again) (sym (says (λ e. cc (e)))) refl in
       record { nodes = kept w w' (writes had.bucket had.turn had.had); stamp = changes.0.last }
-  linked h (Ok links.Present) says writes changes = record { nodes = kept w w' (writes changes.bucket changes.turn changes.had); stamp = changes.helps.last }
+  linked h (Ok links.Present) says writes changes = record { nodes = kept w w' (writes changes.bucket changes.changes changes.had); stamp = changes.helps.last }
   linked h (Ok links.Linked) says writes changes =
-      let link = writes changes.bucket changes.turn changes.had in
+      let link = writes changes.bucket changes.changes changes.had in
       let bucket : bucket_at (help_in (helps_of w.table) h) ≡ changes.bucket = ap (λ (o : Option Help). bucket_at (unwrap_or o Nothing)) changes.had in
       record {
         nodes = subst (λ n. Links (state_of w) (state_of w') (dummy_at n)) (sym bucket) (linked_node w w' (dummy_node link.place changes.bucket _) refl link.links);

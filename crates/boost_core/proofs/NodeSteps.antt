@@ -28,7 +28,7 @@ use Rattle.undo_log.specs.UndoLog.{kept_at, newest_above}
 use Rattle.map_ops.specs.declared.job.MapJob.{MapJob}
 use Rattle.map_ops.specs.declared.job.MapJob.TheVariants.{Unput, Restore, Relink}
 use Rattle.map_ops.specs.Jobs.{PendingAt, key_of_job, value_before, takes_node, IsDue}
-use Rattle.map_ops.specs.TableAt.{TableAt, SpareAt, KeepsNodes, KeepsList, NamesDummies, content, nodes_of, size_of, stored_of, turn_of, last_of}
+use Rattle.map_ops.specs.TableAt.{TableAt, SpareAt, KeepsNodes, KeepsList, NamesDummies, content, nodes_of, size_of, stored_of, table_changes, last_of}
 use Rattle.map_ops.specs.Changes.{GivesFor, SeeksNear}
 use Rattle.map_ops.specs.Nodes as writes
 use Rattle.boost_core.specs.declared.session.Session.{Session}
@@ -50,7 +50,7 @@ pub kept : (w w' : World) → KeepsList w.table w'.table → Keeps (state_of w) 
 kept w w' same = record { nodes = ap (λ l. seen l.nodes) same; changes = ap (λ l. l.changes) same }
 
 pub rested : (w w' : World) → KeepsNodes w.table w'.table → Keeps (state_of w) (state_of w')
-rested w w' keeps = record { nodes = ap seen keeps.all; changes = keeps.turn }
+rested w w' keeps = record { nodes = ap seen keeps.all; changes = keeps.changes }
 
 -- A node is linked, or marked, or written.
 pub links : (w w' : World) (node : NodeAt) → node.marked ≡ false → writes.LinksNode w.table.list w'.table.list node → Links (state_of w) (state_of w') node.at
@@ -96,7 +96,7 @@ seeks w w' place bucket dummy sort nodes changes =
       new_is = ap seen nodes ∙ is.new_is;
       passes = is.passes;
       stops = is.stops;
-      changes = changes ∙ (λ i. changes_after (turn_of w.table) (sym (length-map (nodes_of w.table) node_at) i - sym (length-map (nodes_of w'.table) node_at) i));
+      changes = changes ∙ (λ i. changes_after (table_changes w.table) (sym (length-map (nodes_of w.table) node_at) i - sym (length-map (nodes_of w'.table) node_at) i));
     }
 
 -- The nearest stored bucket.
@@ -215,7 +215,7 @@ module _ (w : World) (tells : Tells w) (c : ℕ) (x : Session) (at : slice_get w
     asked : (op : Op) (stripe : ℕ) (answer : Answer) → IsAsked c stripe op x w.table w.locks answer y w'.table locks' → Lists (state_of w) (steps.Ask c op) answer (state_of w')
     asked op stripe answers.Asked is = record { nodes = rested w w' is.prepares.nodes; stamp = given_last w.table w'.table (takes_node op) is.pending.spare is.prepares.given }
     asked op stripe (answers.Busy holder) is = record {
-      nodes = record { nodes = ap seen is.back.nodes.all ∙ ap seen is.prepares.nodes.all; changes = is.back.nodes.turn ∙ is.prepares.nodes.turn };
+      nodes = record { nodes = ap seen is.back.nodes.all ∙ ap seen is.prepares.nodes.all; changes = is.back.nodes.changes ∙ is.prepares.nodes.changes };
       stamp = is.back.last ∙ given_last w.table is.between (takes_node op) is.pending.spare is.prepares.given;
     }
     asked op stripe (answers.Refused refusal) is = record { nodes = same is.2; stamp = ap last_of is.2 }

@@ -18,7 +18,7 @@ use Rattle.boost_core.specs.Refusals.{refusal_of}
 use Rattle.txn_trace.specs.Owed.{owed_in, owed_by, reserved}
 use Rattle.txn_trace.proofs.Levels.{IsLevelIn, seat_leveled}
 use Rattle.txn_trace.proofs.Room.{reserved_for, owed_by-row}
-use Rattle.map_ops.specs.TableAt.{TableAt, turn_of, last_of}
+use Rattle.map_ops.specs.TableAt.{TableAt, table_changes, last_of}
 use Rattle.boost_core.specs.declared.counts.Counts.{Counts}
 use Rattle.boost_core.specs.declared.session.Session.{Session}
 use Rattle.boost_core.specs.State.{State}
@@ -46,8 +46,8 @@ pub record Called (w : World) (c : ℕ) (x : Session) (step : Step) (answer : An
   pub fresh : (seat' : RoomySeat) → IsFresh t' (slice_set w.sessions c (seated_as y seat')) (placed_then w.placed step answer)
 
 -- A move from what it is answered, the state after it, and what happened to the table.
-pub move_is : (w w' : World) (step : Step) (answer : Answer) → IsAllowed (state_of w) step answer → state_of w' ≡ record (after (state_of w) step answer (turn_of w'.table) (last_of w'.table)) { nodes = nodes_at w'.table; gaps = map (gap_by w'.table) w'.sessions; helper_gaps = helper_gaps_of w'.table } → Runs w.table w'.table
-    → (keeps_list answer ≡ true → turn_of w'.table ≡ turn_of w.table) → Move (state_of w) step answer (state_of w')
+pub move_is : (w w' : World) (step : Step) (answer : Answer) → IsAllowed (state_of w) step answer → state_of w' ≡ record (after (state_of w) step answer (table_changes w'.table) (last_of w'.table)) { nodes = nodes_at w'.table; gaps = map (gap_by w'.table) w'.sessions; helper_gaps = helper_gaps_of w'.table } → Runs w.table w'.table
+    → (keeps_list answer ≡ true → table_changes w'.table ≡ table_changes w.table) → Move (state_of w) step answer (state_of w')
 move_is w w' step answer allowed is runs kept = record {
   allowed = allowed;
   state = is;

@@ -137,7 +137,7 @@ module _ (w : World) (tells : Tells w) (c : ℕ) (x : Session) (at : slice_get w
         };
         move = λ seat'. move_is w (world_after w c (seated_as y seat') (w.history ++ entry.Committed c p ∷ []) (record { began = w.counts.began; committed = p }) t' locks' None) (steps.Commit c) (answers.Committed p) (none, numbered)
             (state_is w (w.history ++ entry.Committed c p ∷ []) (w.history ++ entry.Committed c p ∷ []) (record { began = w.counts.began; committed = p }) t' (map turn_at w.sessions) (slice_set w.sessions c (seated_as y seat')) locks' None runs refl (same_turn w tells c x at y settles.cursor seat'))
-            runs (λ kept. settles.rests.nodes.turn);
+            runs (λ kept. settles.rests.nodes.changes);
         fresh = λ seat'. tt;
       }
     where
@@ -180,7 +180,7 @@ module _ (w : World) (tells : Tells w) (c : ℕ) (x : Session) (at : slice_get w
         };
         move = λ seat'. move_is w (world_after w c (seated_as y seat') (w.history ++ entry.Leave c None ∷ []) w.counts t' w.locks None) (steps.Abort c) answers.Leaving (none, tt)
             (state_is w (w.history ++ entry.Leave c None ∷ []) (w.history ++ entry.Leave c None ∷ []) w.counts t' (slice_set (map turn_at w.sessions) c None) (slice_set w.sessions c (seated_as y seat')) w.locks None runs refl (no_turn w tells c x at y leaves.cursor seat'))
-            runs (λ kept. leaves.rests.nodes.turn);
+            runs (λ kept. leaves.rests.nodes.changes);
         fresh = λ seat'. tt;
       }
     where

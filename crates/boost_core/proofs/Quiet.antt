@@ -20,7 +20,7 @@ use Rattle.undo_log.specs.UndoLog.{Log, kept_at, newest_above}
 use Rattle.key_locks.specs.Locks.{Releases, without_caller, holder_of as held_by}
 use Rattle.map_ops.specs.declared.job.MapJob.{MapJob}
 use Rattle.map_ops.specs.Jobs.{PendingAt}
-use Rattle.map_ops.specs.TableAt.{Cursor, cursor_turn}
+use Rattle.map_ops.specs.TableAt.{Cursor, cursor_changes}
 use Rattle.boost_core.specs.declared.counts.Counts.{Counts}
 use Rattle.boost_core.specs.declared.session.Session.{Session}
 use Rattle.boost_core.specs.Core.{World, Tells, turn_at}
@@ -103,7 +103,7 @@ module _ (w : World) (tells : Tells w) (c : ℕ) (x : Session) (at : slice_get w
   log_is y jobs = (tells.seated c x at).log ∙ ap changes_of (sym jobs)
 
   pub same_turn : (y : Session) → y.cursor ≡ x.cursor → (seat' : RoomySeat) → map turn_at (slice_set w.sessions c (seated_as y seat')) ≡ map turn_at w.sessions
-  same_turn y cursor seat' = turns_same w.sessions c x (seated_as y seat') at (ap (option_map cursor_turn) cursor)
+  same_turn y cursor seat' = turns_same w.sessions c x (seated_as y seat') at (ap (option_map cursor_changes) cursor)
 
   pub no_turn : (y : Session) → y.cursor ≡ None → (seat' : RoomySeat) → map turn_at (slice_set w.sessions c (seated_as y seat')) ≡ slice_set (map turn_at w.sessions) c None
-  no_turn y cursor seat' = turns_set w.sessions c (seated_as y seat') None (ap (option_map cursor_turn) cursor)
+  no_turn y cursor seat' = turns_set w.sessions c (seated_as y seat') None (ap (option_map cursor_changes) cursor)

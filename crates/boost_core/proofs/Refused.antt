@@ -13,7 +13,7 @@ use Rattle.txn_trace.specs.declared.step.Step.TheVariants.{Begin, Ask, Seek, Act
 use Rattle.txn_trace.specs.declared.seat.Phase.{Phase}
 use Rattle.txn_trace.specs.declared.seat.Phase.TheVariants.{Closed, Opened, Waiting, LeavingTo, LeavingToEnd}
 use Rattle.txn_trace.specs.Shape.{Seat, closed_seat}
-use Rattle.map_ops.specs.TableAt.{TableAt, Cursor, cursor_turn}
+use Rattle.map_ops.specs.TableAt.{TableAt, Cursor, cursor_changes}
 use Rattle.boost_core.specs.declared.session.Session.{Session}
 use Rattle.boost_core.specs.State.{State, Caller, seat_in, turn_in}
 use Rattle.boost_core.specs.Refusals.{owner_of, is_closed, is_waiting, is_leaving, has_target, tests_in, tests_of, first_of, refusal_in, refusal_of, lacks_in, lacks_cursor}
@@ -134,7 +134,7 @@ module _ (w : World) (tells : Tells w) (c : ℕ) (x : Session) (at : slice_get w
   pub turn_is_some : is_some (turn_in (map turn_at w.sessions) c) ≡ is_some x.cursor
   turn_is_some = ap is_some turn_here ∙ both x.cursor
     where
-      both : (o : Option Cursor) → is_some (option_map cursor_turn o) ≡ is_some o
+      both : (o : Option Cursor) → is_some (option_map cursor_changes o) ≡ is_some o
       both None = refl
       both (Some cursor) = refl
 

@@ -19,7 +19,7 @@ use Rattle.txn_trace.specs.declared.refusal.Refusal.{Refusal}
 use Rattle.map_ops.specs.SweepOutcome.{SweepOutcome}
 use Rattle.map_ops.specs.SweepOutcome.TheVariants as sweeps
 use Rattle.map_ops.specs.Buckets.{Doubles, SeekChanges, LinkChanges, StoreChanges, seek_answer, double_answer}
-use Rattle.map_ops.specs.TableAt.{TableAt, Follows, content, size_of, stored_of, helps_of, turn_of, largest_of}
+use Rattle.map_ops.specs.TableAt.{TableAt, Follows, content, size_of, stored_of, helps_of, table_changes, largest_of}
 use Rattle.boost_core.specs.State.{Helper}
 use Rattle.boost_core.specs.Answers.{IsAnswer}
 use Rattle.boost_core.specs.Placed.{placed_then}
@@ -49,7 +49,7 @@ lt_not_le a b = elim (cases_lt a b) [
       | inr is ↦ is
     ]
 
-module _ (w : World) (tells : Tells w) (t' : TableAt) (follows : Follows w.table t') (rises : turn_of w.table ≤ turn_of t') where
+module _ (w : World) (tells : Tells w) (t' : TableAt) (follows : Follows w.table t') (rises : table_changes w.table ≤ table_changes t') where
   -- Nothing has changed.
   same_tells : t' ≡ w.table → Tells (served w t' w.placed)
   same_tells same = subst (λ u. Tells (served w u w.placed)) (sym same) tells

@@ -19,7 +19,7 @@ rests_same t = record {
     regular = refl;
     buckets = record { all = refl; size = refl; largest = refl; stored = refl; helps = refl };
     linked = refl;
-    turn = refl;
+    changes = refl;
   };
   last = refl;
   placed = record { placed = λ cursor key is. is; sound = λ sound. sound };
@@ -38,7 +38,7 @@ rests_more t0 t t' spare rests back follows = record {
       helps = back.nodes.buckets.helps ∙ rests.nodes.buckets.helps;
     };
     linked = back.nodes.linked ∙ rests.nodes.linked;
-    turn = back.nodes.turn ∙ rests.nodes.turn;
+    changes = back.nodes.changes ∙ rests.nodes.changes;
   };
   last = back.last ∙ rests.last;
   placed = record { placed = λ cursor key is. follows.placed cursor key (rests.placed.placed cursor key is); sound = λ sound. follows.list.sound (rests.placed.sound sound) };

@@ -23,7 +23,7 @@ use Rattle.map_ops.specs.Jobs.{PendingAt}
 use Rattle.node_list.specs.Nodes.{NodeAt, first, first_dummy, node_of}
 use Rattle.node_list.specs.Order.{IsRising, IsSpread}
 use Rattle.node_list.specs.Sound.{IsSound, AllPlain}
-use Rattle.map_ops.specs.TableAt.{TableAt, Cursor, IsNew, Nothing, cursor_turn, nodes_of}
+use Rattle.map_ops.specs.TableAt.{TableAt, Cursor, IsNew, Nothing, cursor_changes, nodes_of}
 use Rattle.boost_core.specs.declared.session.Session.{Session}
 use Rattle.boost_core.specs.State.{start}
 use Rattle.boost_core.specs.Spares.{times_of, times_in}
@@ -164,9 +164,9 @@ module _ (limits : Sizes) (t : TableAt) (new : IsNew t limits.buckets limits.cal
     stored = new.stored_is i;
     linked = new.linked_is i;
     nodes = map node_at (new.nodes_are i);
-    changes = new.turn_is i;
+    changes = new.changes_is i;
     stamp = new.last_is i;
-    cursors = (image_is turn_at None sessions (λ s c at. ap (option_map cursor_turn) (is_idle s c at).cursor) ∙ ap (λ n. replicate n None) count) i;
+    cursors = (image_is turn_at None sessions (λ s c at. ap (option_map cursor_changes) (is_idle s c at).cursor) ∙ ap (λ n. replicate n None) count) i;
     gaps = (image_is (gap_by t) None sessions (λ s c at. ap (gap_if t) (is_idle s c at).cursor) ∙ ap (λ n. replicate n None) count) i;
     helper_gaps = (ap (map (gap_if t)) (idle_cursors t.buckets.helpers limits.callers new.helps_is) ∙ none_fit t limits.callers) i;
     helpers = new.helps_is i;

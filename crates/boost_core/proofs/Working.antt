@@ -34,7 +34,7 @@ use Rattle.txn_trace.proofs.Entries as laws
 use Rattle.undo_log.specs.UndoLog.{kept_at}
 use Rattle.map_ops.specs.declared.job.MapJob.{MapJob}
 use Rattle.map_ops.specs.Jobs.{PendingAt}
-use Rattle.map_ops.specs.TableAt.{TableAt, Cursor, content, cursor_turn, turn_of}
+use Rattle.map_ops.specs.TableAt.{TableAt, Cursor, content, cursor_changes, table_changes}
 use Rattle.boost_core.specs.declared.session.Session.{Session}
 use Rattle.boost_core.specs.State.{seat_in}
 use Rattle.boost_core.specs.Refusals.{refusal_of}
@@ -52,7 +52,7 @@ use Rattle.boost_core.proofs.Sides.{IsGoing, going, waiting_op, changes_last}
 use Rattle.boost_core.proofs.Refused.{seat_here}
 use Rattle.boost_core.proofs.SparesKept.{done_covered}
 
-pub keeps_runs : (t t' : TableAt) → Keeps t t' → turn_of t ≤ turn_of t' → Runs t t'
+pub keeps_runs : (t t' : TableAt) → Keeps t t' → table_changes t ≤ table_changes t' → Runs t t'
 keeps_runs t t' keeps turn = record {
   size = keeps.buckets.size;
   stored = keeps.buckets.stored;
@@ -117,7 +117,7 @@ module _ (w : World) (tells : Tells w) (c : ℕ) (x : Session) (at : slice_get w
         ∙ ap (λ r. cond (changes does.pending.op r) ((key_of does.pending.op, r) ∷ changes_of x.log.jobs) (changes_of x.log.jobs)) reply_is
         ∙ changes_noted (now w.history) does.pending.op does.pending.spare x.log.jobs does.job noted_here ∙ ap changes_of (sym does.jobs)
 
-    did_runs : turn_of w.table ≤ turn_of t' → Runs w.table t'
+    did_runs : table_changes w.table ≤ table_changes t' → Runs w.table t'
     did_runs turn = record {
       size = does.does.buckets.size;
       stored = does.does.buckets.stored;
@@ -128,7 +128,7 @@ module _ (w : World) (tells : Tells w) (c : ℕ) (x : Session) (at : slice_get w
       one_last = let same = does.does.last in omega arith;
     }
 
-    pub did_called : turn_of w.table ≤ turn_of t' → Called w c x (steps.Act c) (answers.Done reply) y t' w.locks
+    pub did_called : table_changes w.table ≤ table_changes t' → Called w c x (steps.Act c) (answers.Done reply) y t' w.locks
     did_called turn = record {
       comes = record {
         seat = did_seat;
@@ -161,7 +161,7 @@ module _ (w : World) (tells : Tells w) (c : ℕ) (x : Session) (at : slice_get w
       move = λ seat'. move_is w (world_after w c (seated_as y seat') (w.history ++ entry.Did c reply ∷ []) w.counts t' w.locks None) (steps.Act c) (answers.Done reply)
           (none, subst (λ (q : Phase). IsReply q (now w.history) reply) (sym (ap (λ (s : Seat). s.phase) here ∙ phase_was)) reply_is)
           (state_is w (w.history ++ entry.Did c reply ∷ []) (w.history ++ entry.Did c reply ∷ []) w.counts t' (slice_set (map turn_at w.sessions) c None) (slice_set w.sessions c (seated_as y seat')) w.locks None (did_runs turn) refl
-          (turns_set w.sessions c (seated_as y seat') None (ap (option_map cursor_turn) does.cursor)))
+          (turns_set w.sessions c (seated_as y seat') None (ap (option_map cursor_changes) does.cursor)))
           (did_runs turn) (λ kept. absurd (false≢true kept));
       fresh = λ seat'. tt;
     }
@@ -201,7 +201,7 @@ module _ (w : World) (tells : Tells w) (c : ℕ) (x : Session) (at : slice_get w
     key_held = (subst (λ (log : List (ℕ × Option ℕ)). AllByRecursion (λ (change : ℕ × Option ℕ). holder_of w.limits.stripes (stripe_of w.limits.stripes change.0) w.history ≡ Some c) log) log_is
         (log_held w.limits.stripes w.history tells.legal c (ap is_running (tells.seated c x at).seat ∙ going_runs x.seat.seat.phase goes.0))).0
 
-    undone_runs : turn_of w.table ≤ turn_of t' → Runs w.table t'
+    undone_runs : table_changes w.table ≤ table_changes t' → Runs w.table t'
     undone_runs turn = record {
       size = back.back.buckets.size;
       stored = back.back.buckets.stored;
@@ -228,7 +228,7 @@ module _ (w : World) (tells : Tells w) (c : ℕ) (x : Session) (at : slice_get w
         regroup' : (a b d k n : ℕ) → b ≡ d → a + d + k ≡ n → a + (b + k) ≡ n
         regroup' a b d k n same exact = omega arith
 
-    pub undone_called : turn_of w.table ≤ turn_of t' → Called w c x (steps.Act c) answers.Undone y t' w.locks
+    pub undone_called : table_changes w.table ≤ table_changes t' → Called w c x (steps.Act c) answers.Undone y t' w.locks
     undone_called turn = record {
       comes = record {
         seat = undone_seat;
@@ -258,7 +258,7 @@ module _ (w : World) (tells : Tells w) (c : ℕ) (x : Session) (at : slice_get w
       };
       move = λ seat'. move_is w (world_after w c (seated_as y seat') (w.history ++ entry.Undone c ∷ []) w.counts t' w.locks None) (steps.Act c) answers.Undone (none, ap has_job here ∙ has)
           (state_is w (w.history ++ entry.Undone c ∷ []) (w.history ++ entry.Undone c ∷ []) w.counts t' (slice_set (map turn_at w.sessions) c None) (slice_set w.sessions c (seated_as y seat')) w.locks None (undone_runs turn) refl
-          (turns_set w.sessions c (seated_as y seat') None (ap (option_map cursor_turn) back.cursor)))
+          (turns_set w.sessions c (seated_as y seat') None (ap (option_map cursor_changes) back.cursor)))
           (undone_runs turn) (λ kept. absurd (false≢true kept));
       fresh = λ seat'. tt;
     }

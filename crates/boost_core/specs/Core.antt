@@ -16,7 +16,7 @@ use Rattle.key_locks.specs.Locks.{holder_of as held_by}
 use Rattle.node_list.specs.Nodes.{node_of}
 use Rattle.node_list.specs.Sound.{IsSound}
 use Rattle.list_steps.specs.Found.{pred_of, behind}
-use Rattle.map_ops.specs.TableAt.{TableAt, Cursor, NodeAt, nodes_of, content, cursor_turn, fits, size_of, stored_of, linked_of, helps_of, cursors_of, turn_of, last_of, largest_of}
+use Rattle.map_ops.specs.TableAt.{TableAt, Cursor, NodeAt, nodes_of, content, cursor_changes, fits, size_of, stored_of, linked_of, helps_of, cursors_of, table_changes, last_of, largest_of}
 use Rattle.map_ops.specs.Buckets.{helper_fits}
 use Rattle.boost_core.specs.declared.counts.Counts.{Counts}
 use Rattle.boost_core.specs.declared.session.Session.{Session}
@@ -49,7 +49,7 @@ world_of limits history counts table sessions locks placed = record {
 
 -- The turn of each caller's cursor.
 abbrev pub turn_at : Session → Option ℕ
-turn_at s = option_map cursor_turn s.cursor
+turn_at s = option_map cursor_changes s.cursor
 
 -- The linked nodes.
 abbrev pub node_at : NodeAt → Node
@@ -90,7 +90,7 @@ state_of w = record {
   stored = stored_of w.table;
   linked = linked_of w.table;
   nodes = nodes_at w.table;
-  changes = turn_of w.table;
+  changes = table_changes w.table;
   stamp = last_of w.table;
   cursors = map turn_at w.sessions;
   gaps = map (gap_by w.table) w.sessions;

@@ -14,7 +14,7 @@ use Rattle.map_ops.specs.InitLink.{InitLink as Linked}
 use Rattle.map_ops.specs.InitLink.TheVariants as links
 use Rattle.txn_trace.specs.declared.refusal.Refusal.{Refusal}
 use Rattle.txn_trace.specs.declared.refusal.Refusal.TheVariants as refusals
-use Rattle.map_ops.specs.TableAt.{TableAt, SweepOutcome, Keeps, KeepsList, KeepsSpares, IsClean, content, turn_of, size_of, largest_of, stored_of, helps_of}
+use Rattle.map_ops.specs.TableAt.{TableAt, SweepOutcome, Keeps, KeepsList, KeepsSpares, IsClean, content, table_changes, size_of, largest_of, stored_of, helps_of}
 use Rattle.map_ops.specs.TableAt as tables
 use Rattle.map_ops.specs.SweepOutcome.TheVariants as outcomes
 use Rattle.map_ops.specs.Changes.{Sweeps}
@@ -64,7 +64,7 @@ pub record Sweeping (t t' : TableAt) (answer : Answer) : Type 0 where
   pub sweeps : Sweeps t t' outcome
   pub keeps : Keeps t t'
   pub spares : KeepsSpares t t'
-  pub turn : outcome ≡ outcomes.Clean → turn_of t' ≡ turn_of t
+  pub turn : outcome ≡ outcomes.Clean → table_changes t' ≡ table_changes t
 
 -- A helper seeks the place of a bucket's dummy.
 pub record Seeking (t t' : TableAt) (h b : ℕ) (answer : Answer) : Type 0 where
@@ -80,8 +80,9 @@ pub record Linking (t t' : TableAt) (h : ℕ) (answer : Answer) : Type 0 where
   pub answer_is : answer ≡ linked outcome
   pub says : outcome ≢ Err refusals.NoMemory → outcome ≡ link_answer_of t h
   pub no_memory : outcome ≡ Err refusals.NoMemory → link_answer_of t h ≡ Ok links.Linked
-  pub in_turn : (bucket : ℕ) → slice_get (helps_of t) h ≡ Some (tables.Sought bucket (turn_of t))
-      → turn_of t < 2 ^ 64 - 1 → outcome ≢ Ok links.Again
+  pub in_turn : (bucket : ℕ)
+      → slice_get (helps_of t) h ≡ Some (tables.Sought bucket (table_changes t))
+      → table_changes t < 2 ^ 64 - 1 → outcome ≢ Ok links.Again
   pub changes : LinkChanges t t' h outcome
   pub writes : (bucket turn : ℕ) → slice_get (helps_of t) h ≡ Some (tables.Sought bucket turn)
       → LinkWrites t t' bucket outcome

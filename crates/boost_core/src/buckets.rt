@@ -1,6 +1,6 @@
 //! The steps of the table and of its helpers.
 ghost use Rattle.std.specs.Prelude.{◌≡◌, ◌≤◌, true};
-ghost use Rattle.map_ops.specs.TableAt.{turn_of, Follows};
+ghost use Rattle.map_ops.specs.TableAt.{table_changes, Follows};
 ghost use Rattle.boost_core.specs.Serves.{is_served, Serves, doubled, linked, sought, stored, swept};
 
 use map_ops::{Double, InitLink, InitSeek, SweepOutcome, Table};
@@ -10,7 +10,7 @@ use txn_trace::{Answer, Refusal, Step};
 pub(crate) fn serve(step: Step, table: &mut Table) -> Answer
     requires { is_served step ≡ true }
     ensures serves { Serves step table.old result table.new }
-    ensures rises { turn_of table.old ≤ turn_of table.new }
+    ensures rises { table_changes table.old ≤ table_changes table.new }
     ensures follows { Follows table.old table.new }
 {
     match step {

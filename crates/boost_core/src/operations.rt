@@ -1,7 +1,7 @@
 //! The steps by which a caller works on the map.
 ghost use Rattle.std.specs.Prelude.{◌≡◌, ◌+◌, ◌<◌, ◌≤◌, ◌++◌, ◌⊎◌, true, false, None, Ok, length, not, ◌&&◌, ◌||◌, is_some, option_to_list, IfOk, IfErr, OnOk, OnErr};
 ghost use Rattle.map_ops.specs.Changes.{OwnsIf, GivesBack};
-ghost use Rattle.map_ops.specs.TableAt.{turn_of};
+ghost use Rattle.map_ops.specs.TableAt.{table_changes};
 ghost use Rattle.boost_core.specs.Sessions.{KeepsPlaced};
 
 use crate::session::Session;
@@ -28,7 +28,7 @@ impl Session {
         requires stripe { stripe < length locks.old }
         ensures asked { IsAsked caller stripe op self.old table.old locks.old result self.new
             table.new locks.new }
-        ensures rises { turn_of table.old ≤ turn_of table.new }
+        ensures rises { table_changes table.old ≤ table_changes table.new }
         ensures placed { KeepsPlaced table.old table.new }
     {
         let pending = match self.reserve(op, table) {
@@ -72,7 +72,7 @@ impl Session {
         requires target { has_target self.old.seat.seat ≡ true }
         ensures answer { result ≡ Answer.Placed }
         ensures seeks { SeeksIn self.old table.old self.new table.new }
-        ensures rises { turn_of table.old ≤ turn_of table.new }
+        ensures rises { table_changes table.old ≤ table_changes table.new }
         ensures placed { KeepsPlaced table.old table.new }
     {
         let cursor = match &self.pending {
@@ -93,7 +93,7 @@ impl Session {
         requires placed { (has_target self.old.seat.seat && not (is_some self.old.cursor)) ≡ false }
         ensures acts { ActsIn caller self.old table.old locks.old result self.new table.new
             locks.new }
-        ensures rises { turn_of table.old ≤ turn_of table.new }
+        ensures rises { table_changes table.old ≤ table_changes table.new }
         ensures placed { KeepsPlaced table.old table.new }
     {
         if self.pending.is_some() {
@@ -109,7 +109,7 @@ impl Session {
     fn reply(&mut self, table: &mut Table) -> Answer
         requires { CanAct self.old table.old }
         ensures acts { Replies self.old table.old result self.new table.new }
-        ensures rises { turn_of table.old ≤ turn_of table.new }
+        ensures rises { table_changes table.old ≤ table_changes table.new }
         ensures placed { KeepsPlaced table.old table.new }
     {
         let pending = self.pending.take().unwrap();
@@ -133,7 +133,7 @@ impl Session {
     fn undo(&mut self, table: &mut Table) -> Answer
         requires { CanUndo self.old table.old }
         ensures undoes { Undoes self.old table.old result self.new table.new }
-        ensures rises { turn_of table.old ≤ turn_of table.new }
+        ensures rises { table_changes table.old ≤ table_changes table.new }
         ensures placed { KeepsPlaced table.old table.new }
     {
         let Some(cursor) = self.cursor else {

@@ -22,7 +22,7 @@ impl Session {
     ghost use Rattle.boost_core.specs.Sessions.{IsIdle, Takes, Does, KeepsPlaced, level_of};
     ghost use Rattle.boost_core.specs.Answers.{is_at_end};
     ghost use Rattle.boost_core.specs.Refusals.{lacks_in};
-    ghost use Rattle.map_ops.specs.TableAt.{turn_of};
+    ghost use Rattle.map_ops.specs.TableAt.{table_changes};
 
     /// A caller without a transaction.
     pub(crate) fn new(alloc: Global) -> Session
@@ -77,7 +77,7 @@ impl Session {
         requires { Takes stripes counts step self.old table.old locks.old }
         ensures does { Does stripes counts step self.old table.old locks.old result self.new
             table.new locks.new }
-        ensures rises { turn_of table.old ≤ turn_of table.new }
+        ensures rises { table_changes table.old ≤ table_changes table.new }
         ensures placed { KeepsPlaced table.old table.new }
     {
         match step {

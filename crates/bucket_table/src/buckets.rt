@@ -245,6 +245,7 @@ impl Buckets {
         ensures content { pairs list.new.nodes ≡ pairs list.old.nodes }
         ensures keyed { IsKeyed list.new.nodes }
         ensures follows { Follows list.old list.new }
+        ensures sound { IsSoundDirectory self.old }
     {
         let (bucket, cursor) = self.helper(helper)?.seeking()?;
         self.link_at(list, helper, bucket, cursor)

@@ -1,4 +1,4 @@
--- The buckets of a table, as the words of its contracts say them.
+-- What the calls on the buckets of a table change.
 use Rattle.std.proofs.Common.{◌≡◌, ◌≢◌, ℕ, ◌+◌, ◌-◌, ◌<◌, ◌≤◌, ◌^◌, ◌==◌, ◌||◌, inl, inr, List, Option, Some, None, Bool, true, false, not, map, length, refl, sym, ◌∙◌, ap, subst, arith, get_or, slice_index_or, slice_set, if◌then◌else◌}
 use Rattle.std.specs.Prelude.{Result, Ok, Err, is_some}
 use Rattle.std.specs.List.{slice_get, range_with_len}
@@ -6,7 +6,7 @@ use Rattle.std.specs.Option.{option_map}
 use Rattle.std.proofs.lemmas.Bool.{cases_eq, eq-eqb, ne_eqb}
 use Rattle.std.proofs.lemmas.Option.{slice_get-map, slice_get_within, slice_get-get_or}
 use Rattle.std.proofs.lemmas.List.{map-set, length-set, ext_get_or, get_or-set_same, get_or-set_other}
-use Rattle.std.proofs.lemmas.List.FromFn.{get_or-map-range_with_len, length-map-range_with_len}
+use Rattle.std.proofs.lemmas.List.FromFn.{length-map-range_with_len}
 use Rattle.std.proofs.Math.ListN as lists
 use Rattle.node_list.specs.Nodes.{NodeAt, Listing, out_at}
 use Rattle.node_list.specs.Sound.{IsSound}
@@ -20,66 +20,25 @@ use Rattle.bucket_table.specs.declared.answer.InitSeek.TheVariants.{Ready, Place
 use Rattle.bucket_table.specs.declared.answer.InitLink.{InitLink}
 use Rattle.bucket_table.specs.declared.answer.InitLink.TheVariants.{Again, Present, Linked}
 use Rattle.bucket_table.specs.declared.answer.InitRefusal.{InitRefusal}
-use Rattle.bucket_table.specs.declared.answer.InitRefusal.TheVariants.{NoSuchBucket, ParentMissing, NoSuchHelper, HelperOutOfOrder, NoMemory, StampsUsedUp}
-use Rattle.txn_trace.specs.declared.refusal.Refusal.{Refusal}
-use Rattle.txn_trace.specs.declared.refusal.Refusal.TheVariants as refusals
+use Rattle.bucket_table.specs.declared.answer.InitRefusal.TheVariants.{NoSuchHelper, NoMemory, StampsUsedUp}
 use Rattle.bucket_table.specs.declared.answer.Double.{Double}
 use Rattle.bucket_table.specs.declared.answer.Double.TheVariants.{Moved, AtLimit, Light, Doubled}
 use Rattle.bucket_table.specs.declared.helper.Helper.{Helper}
 use Rattle.bucket_table.specs.declared.helper.Helper.TheVariants.{Idle, Seeking, Holding}
-use Rattle.bucket_table.specs.Directory.{Directory, IsInOrder, limit_of, helper_of, with_dummy, with_helper}
+use Rattle.bucket_table.specs.Directory.{Directory, limit_of, helper_of, with_dummy, with_helper}
 use Rattle.bucket_table.specs.Directory as directories
 use Rattle.bucket_table.specs.Answers as buckets
-use Rattle.bucket_table.specs.Segments as segments
 use Rattle.bucket_table.specs.Changes as buckets_changes
 use Rattle.bucket_table.specs.Dummies.{has_dummy, dummy_node, IsDummyAt}
-use Rattle.bucket_table.specs.Home.{IsHome, IsHelperHome}
-use Rattle.bucket_table.proofs.DirectoryLemmas.{helper_found}
 use Rattle.bucket_table.proofs.DummyLemmas.{dummy_had}
 use Rattle.list_steps.proofs.SeekLemmas.{each_sought}
 use Rattle.node_list.proofs.OrderLemmas.{each_linked}
-use Rattle.list_steps.specs.declared.sweeps.SweepOutcome.{SweepOutcome}
-use Rattle.list_steps.specs.declared.sweeps.SweepOutcome.TheVariants.{Swept, Clean}
-use Rattle.list_steps.specs.Steps as steps
-use Rattle.map_ops.specs.Sound.{AllEven, Belong, IsEvenDummy}
+use Rattle.map_ops.specs.Sound.{AllEven, IsEvenDummy}
 use Rattle.bucket_table.specs.Helpers.{cursor_fits, help_at}
-use Rattle.map_ops.specs.TableAt.{Cursor, Help, Nothing, Sought, Dummy, cursor_in, help_of, linked_of, table_of, Keeps, KeepsAllCursors, KeepsCursors}
-use Rattle.map_ops.specs.Buckets.{Doubles, Helps, IsPlacedFor, LacksSegment, Holds, Links, LinkChanges, SeekChanges, Seeks, Stores, StoreChanges, answered, helper_fits, seek_answer, link_answer, store_answer}
-use Rattle.map_ops.proofs.BelongLemmas.{belong_swept, has_dummy-swept, linked_same}
-use Rattle.map_ops.proofs.KeepLemmas.{same_buckets}
-
-pub stored_at : (entries : List (Option ℕ)) (bucket : ℕ) → slice_index_or (map is_some entries) bucket false ≡ is_some (slice_index_or entries bucket None)
-stored_at entries bucket = lists.get_or-map is_some entries bucket None
-
-pub lacks_segment : (entries : List (Option ℕ)) (bucket : ℕ) → segments.LacksSegment entries bucket → LacksSegment (map is_some entries) bucket
-lacks_segment entries bucket lacks other same = stored_at entries other ∙ lacks other same
-
--- What a seek is answered.
-pub seek_answers : (d : Directory) (helper bucket : ℕ) → answered (buckets.seek_answer d.size (directories.is_stored d) (help_at d helper) bucket) ≡ seek_answer d.size (map is_some d.entries) (slice_get (map help_of d.helpers) helper) bucket
-seek_answers d helper bucket = λ i. answered (buckets.seek_answer d.size (λ b. sym (stored_at d.entries b) i) (sym (slice_get-map help_of d.helpers helper) i) bucket)
-
--- What a store is answered.
-pub store_answers : (d : Directory) (helper : ℕ) → store_answer (help_at d helper) ≡ store_answer (slice_get (map help_of d.helpers) helper)
-store_answers d helper = ap store_answer (sym (slice_get-map help_of d.helpers helper))
-
-linked_at : (nodes : List NodeAt) (limit bucket : ℕ) → bucket < limit → slice_index_or (map (has_dummy nodes) (range_with_len 0 limit)) bucket false ≡ has_dummy nodes bucket
-linked_at nodes limit bucket within = get_or-map-range_with_len (has_dummy nodes) 0 limit bucket bucket false within (omega arith)
-
-within_limit : (d : Directory) (helper bucket : ℕ) (had : Helper) → directories.IsSound d → helper_of d helper ≡ Some had → (IsInOrder d had → bucket < d.size) → bucket < limit_of d
-within_limit d helper bucket had sound is below = let order = helper_found (IsInOrder d) d.helpers helper had sound.helpers is in let small : bucket < d.size = below order in omega (arith, small, sound.most)
-
--- What a link is answered.
-pub link_answers : (l : Listing) (d : Directory) (helper : ℕ) → directories.IsSound d → answered (buckets.link_answer_at d l helper) ≡ link_answer (helper_fits (table_of l d) helper) (linked_of (table_of l d)) l.last (slice_get (map help_of d.helpers) helper)
-link_answers l d helper sound =
-    go (helper_of d helper) refl ∙ ap (link_answer (helper_fits (table_of l d) helper) (linked_of (table_of l d)) l.last) (sym (slice_get-map help_of d.helpers helper))
-  where
-    go : (o : Option Helper) → helper_of d helper ≡ o → answered (buckets.link_answer (cursor_fits l (helper_of d helper)) (has_dummy l.nodes) l.last (option_map help_of o)) ≡ link_answer (helper_fits (table_of l d) helper) (linked_of (table_of l d)) l.last (option_map help_of o)
-    go None is = refl
-    go (Some Idle) is = refl
-    go (Some (Holding bucket dummy)) is = refl
-    go (Some (Seeking bucket cursor)) is =
-        let within : bucket < limit_of d = within_limit d helper bucket (Seeking bucket cursor) sound is (λ order. order.within) in
-        ap (λ (there : Bool). answered (buckets.link_answer (cursor_fits l (helper_of d helper)) (λ b. there) l.last (Some (Sought bucket (changes_of cursor))))) (sym (linked_at l.nodes (limit_of d) bucket within))
+use Rattle.map_ops.specs.TableAt.{Cursor, Nothing, Sought, cursor_in, help_of, table_of, KeepsAllCursors, KeepsCursors}
+use Rattle.map_ops.specs.Buckets.{Doubles, Helps, IsPlacedFor, Holds, Links, LinkChanges, SeekChanges, Seeks, Stores, StoreChanges, answer_for, seek_answer, link_answer}
+use Rattle.map_ops.proofs.BelongLemmas.{linked_same}
+use Rattle.map_ops.proofs.BucketAnswers.{linked_at, within_limit}
 
 -- A helper has something else, and the others have their cursors.
 others_with : (old new : Listing) (d e : Directory) (helper : ℕ) (now : Helper) → e.helpers ≡ slice_set d.helpers helper now → KeepsCursors (table_of old d) (table_of new e) helper
@@ -124,14 +83,14 @@ found_at helpers helper now within =
 
 -- What a seek changes.
 pub seek_changes : (before after : Listing) (old new : Directory) (helper bucket : ℕ) (result : Result InitSeek InitRefusal) → result ≡ buckets.seek_answer old.size (directories.is_stored old) (help_at old helper) bucket → buckets_changes.SeekChanges old new before after helper bucket result
-    → pairs after.nodes ≡ pairs before.nodes → ((other : ℕ) → has_dummy after.nodes other ≡ has_dummy before.nodes other) → IsSound after → SeekChanges (table_of before old) (table_of after new) helper bucket (answered result)
+    → pairs after.nodes ≡ pairs before.nodes → ((other : ℕ) → has_dummy after.nodes other ≡ has_dummy before.nodes other) → IsSound after → SeekChanges (table_of before old) (table_of after new) helper bucket (answer_for result)
 seek_changes before after old new helper bucket (Ok Ready) answer changes same dummies sound =
     let Q : Listing → Directory → Type 0 = λ list d. Helps (table_of before old) (table_of list d) helper Nothing × (list.changes ≡ before.changes) in
     subst (λ list. Q list new) (sym changes.1) (subst (λ d. Q before d) (sym changes.0) (helps_with before before old helper Idle refl (λ place. refl) refl (λ other. refl), refl))
 seek_changes before after old new helper bucket (Ok Placed) answer seeks same dummies sound =
     let Q : Directory → Type 0 = λ d. Seeks (table_of before old) (table_of after d) helper bucket in
     subst Q (sym seeks.now) (record {
-      helps = subst (λ (turn : ℕ). Helps (table_of before old) (table_of after (with_helper old helper (Seeking bucket seeks.cursor))) helper (Sought bucket turn)) seeks.found.changes
+      helps = subst (λ (changes : ℕ). Helps (table_of before old) (table_of after (with_helper old helper (Seeking bucket seeks.cursor))) helper (Sought bucket changes)) seeks.found.changes
           (helps_with before after old helper (Seeking bucket seeks.cursor) same seeks.rest.out seeks.rest.last dummies);
       fits = ap (cursor_fits after) (found_at old.helpers helper (Seeking bucket seeks.cursor) (there (helper_of old helper) refl answer)) ∙ found_fits after seeks.cursor seeks.found;
       placed = placed_with after old helper bucket seeks.cursor (there (helper_of old helper) refl answer) (found_placed after seeks.cursor seeks.found sound) seeks.at;
@@ -146,7 +105,7 @@ seek_changes before after old new helper bucket (Ok Placed) answer seeks same du
 seek_changes before after old new helper bucket (Err refusal) answer changes same dummies sound = λ i. table_of (changes.1 i) (changes.0 i)
 
 -- What a store changes.
-pub store_changes : (list : Listing) (old new : Directory) (helper : ℕ) (result : Result Unit InitRefusal) → buckets_changes.StoreChanges old new helper result → StoreChanges (table_of list old) (table_of list new) helper (answered result)
+pub store_changes : (list : Listing) (old new : Directory) (helper : ℕ) (result : Result Unit InitRefusal) → buckets_changes.StoreChanges old new helper result → StoreChanges (table_of list old) (table_of list new) helper (answer_for result)
 store_changes list old new helper (Ok done) stores =
     let Q : Directory → Type 0 = λ d. Stores (table_of list old) (table_of list d) helper in
     subst Q (sym stores.now) (record {
@@ -211,7 +170,7 @@ was_absent false there used is = absurd (cc)
 
 -- What a link changes.
 pub link_changes : (before after : Listing) (old new : Directory) (helper : ℕ) (result : Result InitLink InitRefusal) → directories.IsSound old → (result ≢ Err NoMemory → result ≡ buckets.link_answer_at old before helper) → buckets_changes.LinkChanges old new before after helper result
-    → pairs after.nodes ≡ pairs before.nodes → LinkChanges (table_of before old) (table_of after new) helper (answered result)
+    → pairs after.nodes ≡ pairs before.nodes → LinkChanges (table_of before old) (table_of after new) helper (answer_for result)
 link_changes before after old new helper (Ok Again) sound answer changes same =
     let Q : Listing → Directory → Type 0 = λ list d. Helps (table_of before old) (table_of list d) helper Nothing × (list.changes ≡ before.changes) in
     subst (λ list. Q list new) (sym changes.1) (subst (λ d. Q before d) (sym changes.0) (helps_with before before old helper Idle refl (λ place. refl) refl (λ other. refl), refl))
@@ -222,7 +181,7 @@ link_changes before after old new helper (Ok Present) sound answer changes same 
     let within : held.bucket < limit_of old = within_limit old helper held.bucket (Seeking held.bucket held.cursor) sound held.had (λ order. order.within) in
     subst (λ list. Q list new) (sym changes.1) (subst (λ d. Q before d) (sym held.now) (record {
       bucket = held.bucket;
-      turn = changes_of held.cursor;
+      changes = changes_of held.cursor;
       had = slice_get-map help_of old.helpers helper ∙ ap (option_map help_of) held.had;
       there = linked_is before.nodes (limit_of old) held.bucket within ∙ ap Some (dummy_had before.nodes held.place held.bucket dummy.node dummy.is dummy.kind dummy.at);
       helps = helps_with before before old helper (Holding held.bucket held.place) refl (λ place. refl) refl (λ other. refl);
@@ -234,7 +193,7 @@ link_changes before after old new helper (Ok Linked) sound answer links same =
     let says = answer (λ is. cc) ∙ ap (λ (o : Option Helper). buckets.link_answer (cursor_fits before o) (has_dummy before.nodes) before.last (option_map help_of o)) links.had in
     subst Q (sym links.now) (record {
       bucket = links.bucket;
-      turn = changes_of links.cursor;
+      changes = changes_of links.cursor;
       had = slice_get-map help_of old.helpers helper ∙ ap (option_map help_of) links.had;
       absent = linked_is before.nodes (limit_of old) links.bucket within ∙ ap Some (was_absent (fits before links.cursor) (has_dummy before.nodes links.bucket) (before.last == 2 ^ 64 - 2) says);
       becomes = record {
@@ -251,31 +210,6 @@ link_changes before after old new helper (Ok Linked) sound answer links same =
     })
 link_changes before after old new helper (Err refusal) sound answer changes same = λ i. table_of (changes.1 i) (changes.0 i)
 
--- A cursor that a helper has fits while the change number stays, below the last one.
-pub helper_in_turn : (l : Listing) (d : Directory) (helper bucket : ℕ) → IsHome d l → slice_get (map help_of d.helpers) helper ≡ Some (Sought bucket l.changes) → l.changes < 2 ^ 64 - 1 → helper_fits (table_of l d) helper ≡ true
-helper_in_turn l d helper bucket home had below = go (helper_of d helper) refl (sym (slice_get-map help_of d.helpers helper) ∙ had)
-  where
-    go : (o : Option Helper) → helper_of d helper ≡ o → option_map help_of (helper_of d helper) ≡ Some (Sought bucket l.changes) → helper_fits (table_of l d) helper ≡ true
-    go None is sought = let clash : None ≡ Some (Sought bucket l.changes) = sym (ap (option_map help_of) is) ∙ sought in absurd (cc)
-    go (Some Idle) is sought = let clash : Some Nothing ≡ Some (Sought bucket l.changes) = sym (ap (option_map help_of) is) ∙ sought in absurd (cc)
-    go (Some (Holding other dummy)) is sought = let clash : Some (Dummy other) ≡ Some (Sought bucket l.changes) = sym (ap (option_map help_of) is) ∙ sought in absurd (cc)
-    go (Some (Seeking other cursor)) is sought =
-        let both : Some (Sought other (changes_of cursor)) ≡ Some (Sought bucket l.changes) = sym (ap (option_map help_of) is) ∙ sought in
-        let same : l.changes ≡ changes_of cursor = cc in
-        let placed = helper_found (IsHelperHome l) d.helpers helper (Seeking other cursor) home.helpers is in
-        ap (cursor_fits l) is ∙ placed.0.held same below
-
-not_again : (there used : Bool) → ◌≡◌ {A = Result InitLink Refusal} (answered (if there then Ok Present else (if used then Err StampsUsedUp else Ok Linked))) (Ok Again) → ⊥
-not_again true used is = cc
-not_again false true is = cc
-not_again false false is = cc
-
--- Where the helper's cursor fits, a link is not answered so.
-pub fits_not_again : (fitting : Bool) (linked : List Bool) (last bucket turn : ℕ) (help : Option Help) → help ≡ Some (Sought bucket turn) → fitting ≡ true → link_answer fitting linked last help ≡ Ok Again → ⊥
-fits_not_again fitting linked last bucket turn help is fit again =
-    not_again (slice_index_or linked bucket false) (last == 2 ^ 64 - 2)
-    (ap (λ (b : Bool). link_answer b linked last (Some (Sought bucket turn))) (sym fit) ∙ ap (λ (o : Option Help). link_answer fitting linked last o) (sym is) ∙ again)
-
 -- Each dummy's split key stays even.
 pub seek_even : (before after : Listing) (old new : Directory) (helper bucket : ℕ) (result : Result InitSeek InitRefusal) → buckets_changes.SeekChanges old new before after helper bucket result → AllEven before.nodes → AllEven after.nodes
 seek_even before after old new helper bucket (Ok Ready) changes even = subst (λ (l : Listing). AllEven l.nodes) (sym changes.1) even
@@ -289,27 +223,3 @@ link_even before after old new helper (Ok Linked) sound links even =
     let within : links.bucket < limit_of old = within_limit old helper links.bucket (Seeking links.bucket links.cursor) sound links.had (λ order. order.within) in
     subst AllEven (sym links.links.nodes) (each_linked IsEvenDummy before.nodes (pred_of links.cursor) (dummy_node links.place links.bucket (before.last + 1)) (λ dummy. reversed_even links.bucket (omega (arith, within, sound.fits))) even)
 link_even before after old new helper (Err refusal) sound changes even = subst (λ (l : Listing). AllEven l.nodes) (sym changes.1) even
-
--- A sweep.
-pub sweep_keeps : (old new : Listing) (d : Directory) (outcome : SweepOutcome) → IsSound old → steps.Sweeps old new outcome → pairs new.nodes ≡ pairs old.nodes → Keeps (table_of old d) (table_of new d)
-sweep_keeps old new d Swept sound becomes same = record {
-  regular = same;
-  buckets = same_buckets old new d;
-  linked = linked_same old new d (λ b. ap (λ (nodes : List NodeAt). has_dummy nodes b) becomes.nodes ∙ has_dummy-swept old.nodes b sound.plain);
-  last = becomes.last;
-}
-sweep_keeps old new d Clean sound is same = subst (λ (l : Listing). Keeps (table_of old d) (table_of l d)) (sym is) (record { regular = refl; buckets = same_buckets old old d; linked = refl; last = refl })
-
-pub sweep_belong : (old new : Listing) (outcome : SweepOutcome) → steps.Sweeps old new outcome → Belong old.nodes → Belong new.nodes
-sweep_belong old new Swept becomes belong = subst Belong (sym becomes.nodes) (belong_swept old.nodes belong)
-sweep_belong old new Clean is belong = subst (λ (l : Listing). Belong l.nodes) (sym is) belong
-
--- No other refusal is answered as that of memory.
-pub no_memory_alone : {A : Type 0} (result : Result A InitRefusal) → answered result ≡ Err refusals.NoMemory → result ≡ Err NoMemory
-no_memory_alone (Ok done) is = absurd (cc is)
-no_memory_alone (Err NoMemory) is = refl
-no_memory_alone (Err NoSuchBucket) is = absurd (cc is)
-no_memory_alone (Err ParentMissing) is = absurd (cc is)
-no_memory_alone (Err NoSuchHelper) is = absurd (cc is)
-no_memory_alone (Err HelperOutOfOrder) is = absurd (cc is)
-no_memory_alone (Err StampsUsedUp) is = absurd (cc is)

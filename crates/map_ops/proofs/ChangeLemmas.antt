@@ -109,8 +109,8 @@ module _ (old new : Listing) (key : ℕ) (sound : IsSound old) (after : IsSound 
 
 -- A spare that is given back after the write changes no node.
 pub written_then_back : (old mid new : Listing) (key value : ℕ) → WritesNode old mid key value → new.nodes ≡ mid.nodes → new.changes ≡ mid.changes → WritesNode old new key value
-written_then_back old mid new key value writes same turn = record {
+written_then_back old mid new key value writes same kept = record {
   node = writes.node;
   its = writes.its;
-  writes = record { nodes = same ∙ writes.writes.nodes; changes = turn ∙ writes.writes.changes };
+  writes = record { nodes = same ∙ writes.writes.nodes; changes = kept ∙ writes.writes.changes };
 }

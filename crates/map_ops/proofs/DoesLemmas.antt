@@ -139,7 +139,7 @@ places old new buckets key from bound c sound nodes_is kept same found placed fi
   spares = kept.out;
   placed = placed_on new buckets c key placed place;
   fits = fitting;
-  turn = found.changes;
+  changes = found.changes;
 }
 
 -- A change is taken back where its key has what it had before.

@@ -19,17 +19,17 @@ same_buckets old new d = record { all = refl; size = refl; largest = refl; store
 
 -- The spares alone change.
 pub same_nodes : (old new : Listing) (d : Directory) → new.nodes ≡ old.nodes → new.changes ≡ old.changes → KeepsNodes (table_of old d) (table_of new d)
-same_nodes old new d same turn = record {
+same_nodes old new d same kept = record {
   all = same;
   regular = ap pairs same;
   buckets = same_buckets old new d;
   linked = ap (λ (nodes : List NodeAt). map (has_dummy nodes) (range_with_len 0 (limit_of d))) same;
-  turn = turn;
+  changes = kept;
 }
 
 -- A cursor that was placed on the list was placed on the table.
 pub placed_on : (l : Listing) (d : Directory) (cursor : Cursor) (key : ℕ) → cursors.IsPlaced l cursor → cursors.at_of cursor ≡ regular_at key → IsPlaced (table_of l d) cursor key
-placed_on l d cursor key placed is = record { list = placed; at_is = is; in_turn = placed.held }
+placed_on l d cursor key placed is = record { list = placed; at_is = is; held = placed.held }
 
 -- A later list is a later table.
 pub follows : (old new : Listing) (d e : Directory) → lists.Follows old new → Follows (table_of old d) (table_of new e)

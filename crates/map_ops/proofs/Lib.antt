@@ -7,7 +7,9 @@ pub mod ChangeLemmas
 pub mod DoesLemmas
 pub mod PlanLemmas
 pub mod SoundLemmas
+pub mod BucketAnswers
 pub mod BucketLemmas
+pub mod SweepLemmas
 pub mod NewLemmas
 pub mod WriteLemmas
 pub mod WalkLemmas

@@ -51,7 +51,7 @@ linked_first head stamp largest least most =
     ∙ (λ i. first_there head stamp i ∷ no_others head stamp (0 + 1) (largest - 1) (omega arith) (omega (arith, least, most)) i)
 
 pub is_new : (l : Listing) (d : Directory) (largest helpers : ℕ) → l.nodes ≡ first_dummy l.head 0 ∷ [] → ((place : ℕ) → out_at l place ≡ None) → l.changes ≡ 0 → l.last ≡ 0 → d ≡ directories.beginning largest helpers l.head → 2 ≤ largest → largest < 2 ^ 32 → IsNew (table_of l d) largest helpers
-is_new l d largest helpers nodes_is none turn last d_is least most =
+is_new l d largest helpers nodes_is none changes last d_is least most =
     let same : pairs l.nodes ≡ [] = ap pairs nodes_is ∙ pairs_first l.head 0 in
     let limit : length (Some l.head ∷ replicate (largest - 1) None) ≡ largest = let rest = length-replicate {A = Option ℕ} (largest - 1) None in omega (arith, rest, least) in
     subst (λ (b : Directory). IsNew (table_of l b) largest helpers) (sym d_is) (record {
@@ -63,7 +63,7 @@ is_new l d largest helpers nodes_is none turn last d_is least most =
       stored_is = ap (λ (rest : List Bool). true ∷ rest) (map-replicate {A = Option ℕ} is_some (largest - 1) None);
       linked_is = ap (λ (n : ℕ). map (has_dummy l.nodes) (range_with_len 0 n)) limit ∙ ap (λ (nodes : List NodeAt). map (has_dummy nodes) (range_with_len 0 largest)) nodes_is ∙ linked_first l.head 0 largest least most;
       helps_is = map-replicate help_of helpers Idle;
-      turn_is = turn;
+      changes_is = changes;
       last_is = last;
       none_out = none;
     })

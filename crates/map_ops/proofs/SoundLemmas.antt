@@ -1,5 +1,5 @@
 -- What keeps tables sound.
-use Rattle.std.proofs.Common.{◌≡◌, ℕ, ◌<◌, ◌≤◌, ◌^◌, sym, subst, arith}
+use Rattle.std.proofs.Common.{◌≡◌, sym, subst}
 use Rattle.node_list.specs.Nodes.{Listing}
 use Rattle.node_list.specs.Follow.{Follows}
 use Rattle.bucket_table.specs.Directory.{Directory}
@@ -13,7 +13,3 @@ still_sound old new buckets sound follows belong = record { sound = follows.soun
 -- A later list of the same nodes.
 pub sound_with_nodes : (old new : Listing) (buckets : Directory) → IsSound old buckets → Follows old new → new.nodes ≡ old.nodes → IsSound new buckets
 sound_with_nodes old new buckets sound follows same = still_sound old new buckets sound follows (subst Belong (sym same) sound.belong)
-
--- The change number, which fits its 64 bits, never falls.
-pub turn_rises : (old new : Listing) (turn : ℕ) → Follows old new → turn ≡ old.changes → turn < 2 ^ 64 → old.changes ≤ new.changes
-turn_rises old new turn follows is fits = let least = follows.changes in omega arith

@@ -15,25 +15,25 @@ use Rattle.bucket_table.specs.Changes as buckets
 use Rattle.bucket_table.specs.Directory.{Directory}
 use Rattle.bucket_table.specs.Dummies.{dummy_node}
 use Rattle.map_ops.specs.TableAt.{Sought, help_of, table_of}
-use Rattle.map_ops.specs.Buckets.{LinkWrites, SeekWrites, answered}
+use Rattle.map_ops.specs.Buckets.{LinkWrites, SeekWrites, answer_for}
 
 -- What a seek writes.
 pub seek_writes : (before after : Listing) (old new : Directory) (helper bucket : ℕ) (result : Result InitSeek InitRefusal)
     → buckets.SeekChanges old new before after helper bucket result
-    → SeekWrites (table_of before old) (table_of after new) bucket (answered result)
+    → SeekWrites (table_of before old) (table_of after new) bucket (answer_for result)
 seek_writes before after old new helper bucket (Ok Ready) changes = changes.1
 seek_writes before after old new helper bucket (Ok Placed) seeks = record { start = seeks.from; parent = seeks.parent; nodes = seeks.nodes; changes = seeks.changes }
 seek_writes before after old new helper bucket (Err refusal) changes = changes.1
 
 -- What a link writes, where the helper sought this bucket.
-pub link_writes : (before after : Listing) (old new : Directory) (helper bucket turn : ℕ) (result : Result InitLink InitRefusal)
-    → slice_get (map help_of old.helpers) helper ≡ Some (Sought bucket turn)
+pub link_writes : (before after : Listing) (old new : Directory) (helper bucket noted : ℕ) (result : Result InitLink InitRefusal)
+    → slice_get (map help_of old.helpers) helper ≡ Some (Sought bucket noted)
     → buckets.LinkChanges old new before after helper result
-    → LinkWrites (table_of before old) (table_of after new) bucket (answered result)
-link_writes before after old new helper bucket turn (Ok Again) had changes = changes.1
-link_writes before after old new helper bucket turn (Ok Present) had changes = changes.1
-link_writes before after old new helper bucket turn (Ok Linked) had links =
-    let both : Some (Sought links.bucket (changes_of links.cursor)) ≡ Some (Sought bucket turn) =
+    → LinkWrites (table_of before old) (table_of after new) bucket (answer_for result)
+link_writes before after old new helper bucket noted (Ok Again) had changes = changes.1
+link_writes before after old new helper bucket noted (Ok Present) had changes = changes.1
+link_writes before after old new helper bucket noted (Ok Linked) had links =
+    let both : Some (Sought links.bucket (changes_of links.cursor)) ≡ Some (Sought bucket noted) =
     sym (slice_get-map help_of old.helpers helper ∙ ap (option_map help_of) links.had) ∙ had in
     let same : links.bucket ≡ bucket = cc in
     record {
@@ -48,4 +48,4 @@ link_writes before after old new helper bucket turn (Ok Linked) had links =
         };
       };
     }
-link_writes before after old new helper bucket turn (Err refusal) had changes = changes.1
+link_writes before after old new helper bucket noted (Err refusal) had changes = changes.1

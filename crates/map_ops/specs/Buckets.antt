@@ -19,7 +19,7 @@ use Rattle.txn_trace.specs.declared.refusal.Refusal.{Refusal}
 use Rattle.txn_trace.specs.declared.refusal.Refusal.TheVariants as refusals
 use Rattle.bucket_table.specs.declared.answer.Double.{Double}
 use Rattle.bucket_table.specs.declared.answer.Double.TheVariants.{Moved, AtLimit, Light, Doubled}
-use Rattle.map_ops.specs.TableAt.{TableAt, Help, Nothing, Sought, Dummy, regular, turn_of, last_of, largest_of, size_of, stored_of, linked_of, helps_of, nodes_of, Cursor, KeepsAllCursors, KeepsCursors, KeepsList, KeepsSpares, helper_cursor}
+use Rattle.map_ops.specs.TableAt.{TableAt, Help, Nothing, Sought, Dummy, regular, table_changes, last_of, largest_of, size_of, stored_of, linked_of, helps_of, nodes_of, Cursor, KeepsAllCursors, KeepsCursors, KeepsList, KeepsSpares, helper_cursor}
 use Rattle.map_ops.specs.Nodes.{IsUnlinking, LinksNode}
 pub use Rattle.map_ops.specs.TableAt.{helper_fits}
 
@@ -42,20 +42,20 @@ refusal_for NoMemory = refusals.NoMemory
 refusal_for StampsUsedUp = refusals.StampsUsedUp
 
 -- What a call on buckets is answered, with that refusal.
-abbrev pub answered : {A : Type 0} → Result A InitRefusal → Result A Refusal
-answered (Ok done) = Ok done
-answered (Err refusal) = Err (refusal_for refusal)
+abbrev pub answer_for : {A : Type 0} → Result A InitRefusal → Result A Refusal
+answer_for (Ok done) = Ok done
+answer_for (Err refusal) = Err (refusal_for refusal)
 
 -- What a seek for a bucket by a helper that has this is answered, at this size and with these
 -- buckets stored.
 abbrev pub seek_answer : ℕ → List Bool → Option Help → ℕ → Result InitSeek Refusal
 seek_answer size stored help bucket =
-    answered (buckets.seek_answer size (is_stored stored) help bucket)
+    answer_for (buckets.seek_answer size (is_stored stored) help bucket)
 
 -- What a link by a helper that has this is answered, where memory lasts.
 abbrev pub link_answer : Bool → List Bool → ℕ → Option Help → Result InitLink Refusal
 link_answer fitting linked last help =
-    answered (buckets.link_answer fitting (is_stored linked) last help)
+    answer_for (buckets.link_answer fitting (is_stored linked) last help)
 
 -- What a link by the helper of this number is answered by a table, where memory lasts.
 abbrev pub link_answer_of : TableAt → ℕ → Result InitLink Refusal
@@ -64,7 +64,7 @@ link_answer_of t helper =
 
 -- What a store by a helper that has this is answered, where memory lasts.
 abbrev pub store_answer : Option Help → Result Unit Refusal
-store_answer help = answered (buckets.store_answer help)
+store_answer help = answer_for (buckets.store_answer help)
 
 -- The size after a doubling that was answered so.
 abbrev pub size_after : ℕ → Double → ℕ
@@ -100,7 +100,7 @@ IsPlacedFor t helper bucket =
 -- A seek placed a cursor for the bucket: the helper has it, with the change number that there is
 -- now, and it fits.
 pub record Seeks (old new : TableAt) (helper bucket : ℕ) : Type 0 where
-  pub helps : Helps old new helper (Sought bucket (turn_of new))
+  pub helps : Helps old new helper (Sought bucket (table_changes new))
   pub fits : helper_fits new helper ≡ true
   pub placed : IsPlacedFor new helper bucket
 
@@ -121,25 +121,25 @@ SeekWrites old new bucket (Err refusal) = KeepsList old new
 -- What a seek for a bucket changes.
 abbrev pub SeekChanges : TableAt → TableAt → ℕ → ℕ → Result InitSeek Refusal → Type 0
 SeekChanges old new helper bucket (Ok Ready) = Helps old new helper Nothing
-    × (turn_of new ≡ turn_of old)
+    × (table_changes new ≡ table_changes old)
 SeekChanges old new helper bucket (Ok Placed) = Seeks old new helper bucket
 SeekChanges old new helper bucket (Err refusal) = new ≡ old
 
 -- The helper that had a cursor for a bucket has its dummy, which was linked before.
 pub record Holds (old new : TableAt) (helper : ℕ) : Type 0 where
   pub bucket : ℕ
-  pub turn : ℕ
-  pub had : slice_get (helps_of old) helper ≡ Some (Sought bucket turn)
+  pub changes : ℕ
+  pub had : slice_get (helps_of old) helper ≡ Some (Sought bucket changes)
   pub there : slice_get (linked_of old) bucket ≡ Some true
   pub helps : Helps old new helper (Dummy bucket)
-  pub kept : turn_of new ≡ turn_of old
+  pub kept : table_changes new ≡ table_changes old
 
 -- The helper that had a cursor for a bucket has its dummy, which is linked now, with the next
 -- stamp.
 pub record Links (old new : TableAt) (helper : ℕ) : Type 0 where
   pub bucket : ℕ
-  pub turn : ℕ
-  pub had : slice_get (helps_of old) helper ≡ Some (Sought bucket turn)
+  pub changes : ℕ
+  pub had : slice_get (helps_of old) helper ≡ Some (Sought bucket changes)
   pub absent : slice_get (linked_of old) bucket ≡ Some false
   pub becomes : Becomes old new (size_of old) (stored_of old)
       (slice_set (linked_of old) bucket true) (slice_set (helps_of old) helper (Dummy bucket))
@@ -160,7 +160,8 @@ LinkWrites old new bucket (Err refusal) = KeepsList old new
 
 -- What a link by a helper changes.
 abbrev pub LinkChanges : TableAt → TableAt → ℕ → Result InitLink Refusal → Type 0
-LinkChanges old new helper (Ok Again) = Helps old new helper Nothing × (turn_of new ≡ turn_of old)
+LinkChanges old new helper (Ok Again) = Helps old new helper Nothing
+    × (table_changes new ≡ table_changes old)
 LinkChanges old new helper (Ok Present) = Holds old new helper
 LinkChanges old new helper (Ok Linked) = Links old new helper
 LinkChanges old new helper (Err refusal) = new ≡ old
@@ -173,7 +174,7 @@ pub record Stores (old new : TableAt) (helper : ℕ) : Type 0 where
       (linked_of old) (slice_set (helps_of old) helper Nothing)
   pub last : last_of new ≡ last_of old
   pub others : KeepsCursors old new helper
-  pub kept : turn_of new ≡ turn_of old
+  pub kept : table_changes new ≡ table_changes old
 
 -- What a store by a helper changes.
 abbrev pub StoreChanges : TableAt → TableAt → ℕ → Result Unit Refusal → Type 0
@@ -186,4 +187,4 @@ pub record Doubles (old new : TableAt) (answer : Double) : Type 0 where
       (helps_of old)
   pub last : last_of new ≡ last_of old
   pub cursors : KeepsAllCursors old new
-  pub kept : turn_of new ≡ turn_of old
+  pub kept : table_changes new ≡ table_changes old

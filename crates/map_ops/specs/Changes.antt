@@ -11,7 +11,7 @@ use Rattle.map_ops.specs.declared.act.Undo.{Undo}
 use Rattle.map_ops.specs.declared.act.Undo.TheVariants.{Undone, Again as UndoAgain}
 use Rattle.map_ops.specs.declared.job.MapJob.{MapJob}
 use Rattle.map_ops.specs.declared.job.MapJob.TheVariants.{Unput, Restore, Relink}
-use Rattle.map_ops.specs.TableAt.{TableAt, Cursor, SpareAt, SweepOutcome, content, turn_of, last_of, linked_of, nodes_of, nodes_sought, spare_out, Owns, KeepsOthers, KeepsSpares, KeepsBuckets, KeepsNodes, Keeps, Follows, IsPlaced, IsStart, SweepsNodes, cursor_turn, fits}
+use Rattle.map_ops.specs.TableAt.{TableAt, Cursor, SpareAt, SweepOutcome, content, table_changes, last_of, linked_of, nodes_of, nodes_sought, spare_out, Owns, KeepsOthers, KeepsSpares, KeepsBuckets, KeepsNodes, Keeps, Follows, IsPlaced, IsStart, SweepsNodes, cursor_changes, fits}
 use Rattle.map_ops.specs.Jobs.{PendingAt, takes_node, key_of_job, value_before, spare_of_job, job_of, IsDue}
 use Rattle.map_ops.specs.Nodes.{IsUnlinking, JobWrites, OpWrites, WritesNothing}
 
@@ -60,7 +60,7 @@ pub record Places (old new : TableAt) (key : ℕ) (cursor : Cursor) : Type 0 whe
   pub spares : KeepsSpares old new
   pub placed : IsPlaced new cursor key
   pub fits : fits new cursor ≡ true
-  pub turn : cursor_turn cursor ≡ turn_of new
+  pub changes : cursor_changes cursor ≡ table_changes new
 
 -- A key was sought from the dummy of its bucket, or of the nearest ancestor that is initialised:
 -- the marked nodes between there and the key's place are unlinked, and no others. The change number

@@ -49,8 +49,8 @@ abbrev pub content : TableAt → Map
 content t = map_of (regular t)
 
 -- The change number.
-abbrev pub turn_of : TableAt → ℕ
-turn_of t = t.list.changes
+abbrev pub table_changes : TableAt → ℕ
+table_changes t = t.list.changes
 
 -- The last stamp given.
 abbrev pub last_of : TableAt → ℕ
@@ -95,7 +95,7 @@ pub record KeepsNodes (old new : TableAt) : Type 0 where
   pub regular : regular new ≡ regular old
   pub buckets : KeepsBuckets old new
   pub linked : linked_of new ≡ linked_of old
-  pub turn : turn_of new ≡ turn_of old
+  pub changes : table_changes new ≡ table_changes old
 
 -- Whether the cursor of the helper of this number fits.
 abbrev pub helper_fits : TableAt → ℕ → Bool
@@ -141,8 +141,8 @@ abbrev pub KeepsSpares : TableAt → TableAt → Type 0
 KeepsSpares old new = (place : ℕ) → spare_out new place ≡ spare_out old place
 
 -- The change number when the cursor was placed.
-abbrev pub cursor_turn : Cursor → ℕ
-cursor_turn cursor = cursors.changes_of cursor
+abbrev pub cursor_changes : Cursor → ℕ
+cursor_changes cursor = cursors.changes_of cursor
 
 -- Whether the cursor fits: nothing has changed where it was placed.
 abbrev pub fits : TableAt → Cursor → Bool
@@ -153,7 +153,8 @@ fits t cursor = cursors.fits t.list cursor
 pub record IsPlaced (t : TableAt) (cursor : Cursor) (key : ℕ) : Type 0 where
   pub list : cursors.IsPlaced t.list cursor
   pub at_is : cursors.at_of cursor ≡ regular_at key
-  pub in_turn : turn_of t ≡ cursor_turn cursor → turn_of t < 2 ^ 64 - 1 → fits t cursor ≡ true
+  pub held : table_changes t ≡ cursor_changes cursor → table_changes t < 2 ^ 64 - 1
+      → fits t cursor ≡ true
 
 -- The place is that of the dummy of the key's bucket, or of its nearest ancestor that is
 -- initialised.
@@ -208,7 +209,7 @@ pub record IsNew (t : TableAt) (largest helpers : ℕ) : Type 0 where
   pub stored_is : stored_of t ≡ true ∷ replicate (largest - 1) false
   pub linked_is : linked_of t ≡ true ∷ replicate (largest - 1) false
   pub helps_is : helps_of t ≡ replicate helpers Nothing
-  pub turn_is : turn_of t ≡ 0
+  pub changes_is : table_changes t ≡ 0
   pub last_is : last_of t ≡ 0
   pub none_out : (place : ℕ) → spare_out t place ≡ None
 

@@ -1,8 +1,5 @@
 //! What is done to the list of a table. Each contract holds of the table with any buckets.
-//!
-//! A line `let _turn = list.changes();` has the prover know that the change number fits its 64
-//! bits.
-ghost use Rattle.std.specs.Prelude.{◌≡◌, ℕ, ◌<◌, ◌≤◌, ◌^◌, Option, Some, None, is_ok, nat_eq, IfOk, IfErr, OnErr};
+ghost use Rattle.std.specs.Prelude.{◌≡◌, ◌≤◌, Option, Some, None, is_ok, nat_eq, IfOk, IfErr, OnErr};
 ghost use Rattle.std.specs.Option.{option_eq};
 ghost use Rattle.node_list.specs.Follow.{Follows};
 ghost use Rattle.node_list.specs.Nodes.{IsOut};
@@ -88,7 +85,6 @@ pub(crate) fn seek_key(list: &mut NodeList, buckets: &Buckets, key: Key) -> Curs
     ensures rises { list.old.changes ≤ list.new.changes }
     ensures follows { Follows list.old list.new }
 {
-    let _turn = list.changes();
     let bucket = bucket_of(key, buckets.size());
     let from = buckets.nearest(bucket);
     seek(list, from, SortKey::regular(key))
@@ -102,9 +98,7 @@ pub(crate) fn find(list: &NodeList, cursor: &Cursor, key: Key) -> Result<Option<
     requires at { at_of cursor.now ≡ regular_at key }
     ensures again { is_ok result ≡ fits list.now cursor.now }
     ensures ok { IfOk result (Stands list.now key (pred_of cursor.now)) }
-    ensures changes { list.now.changes < 2 ^ 64 }
 {
-    let _turn = list.changes();
     look(list, cursor)
 }
 

@@ -1,6 +1,6 @@
 //! Refusals of calls on buckets, as steps name them.
 ghost use Rattle.std.specs.Prelude.{◌≡◌};
-ghost use Rattle.map_ops.specs.Buckets.{answered, refusal_for};
+ghost use Rattle.map_ops.specs.Buckets.{answer_for, refusal_for};
 
 use bucket_table::InitRefusal;
 use txn_trace::Refusal;
@@ -20,8 +20,8 @@ fn refusal_for(refusal: InitRefusal) -> Refusal
 }
 
 /// What a call on buckets is answered.
-pub(crate) fn answered<T>(outcome: Result<T, InitRefusal>) -> Result<T, Refusal>
-    ensures { result ≡ answered outcome }
+pub(crate) fn answer_for<T>(outcome: Result<T, InitRefusal>) -> Result<T, Refusal>
+    ensures { result ≡ answer_for outcome }
 {
     match outcome {
         Ok(done) => Ok(done),

@@ -1,7 +1,4 @@
 //! The table.
-//!
-//! A line `let _turn = self.list.changes();` has the prover know that the change number fits its 64
-//! bits.
 ghost use Rattle.std.specs.Prelude.{◌≡◌, ◌≢◌, ℕ, ◌<◌, ◌≤◌, ◌-◌, ◌^◌, ◌↔◌, Ok, Err, Some, length, IfOk, IfErr, OnErr};
 ghost use Rattle.std.specs.List.{slice_get};
 ghost use Rattle.std.specs.BTreeMap.{get as value_at};
@@ -16,7 +13,7 @@ use crate::change::{change, find, give_up, give_up_job, plan, restore, seek_key}
 use crate::job::MapJob;
 use crate::listing::{map_of, pairs_of};
 use crate::pending::Pending;
-use crate::refusals::answered;
+use crate::refusals::answer_for;
 use bucket_table::{Buckets, Double, InitLink, InitSeek};
 use list_steps::{Again, Cursor, SweepOutcome, sweep_from};
 use node_list::{NodeList, NodeRef};
@@ -50,7 +47,7 @@ impl Model for Table {
 }
 
 impl Table {
-    ghost use Rattle.map_ops.specs.TableAt.{HasParents, HasSoundList, Dummy, IsClean, IsNew, IsPlaced, IsSplitOrdered, Follows, Keeps, KeepsList, KeepsSpares, NamesDummies, Sought, content, helper_fits, regular, helps_of, last_of, largest_of, linked_of, size_of, stored_of, turn_of};
+    ghost use Rattle.map_ops.specs.TableAt.{HasParents, HasSoundList, Dummy, IsClean, IsNew, IsPlaced, IsSplitOrdered, Follows, Keeps, KeepsList, KeepsSpares, NamesDummies, Sought, content, regular, helps_of, largest_of, size_of, stored_of, table_changes};
     ghost use Rattle.map_ops.specs.Jobs.{IsDue, key_of_job, spare_of_job};
     ghost use Rattle.map_ops.specs.Changes.{ActWrites, Acts, Applies, GivesBack, IsRefused, OwnsIf, Places, Prepares, SeeksAndUndoes, SeeksNear, Sweeps, TakesBack, UndoWrites, Undoes};
     ghost use Rattle.map_ops.specs.Buckets.{Doubles, LinkChanges, LinkWrites, SeekChanges, SeekWrites, StoreChanges, double_answer, link_answer_of, seek_answer, store_answer, LacksSegment};
@@ -70,7 +67,6 @@ impl Table {
         ensures { IfOk result (λ table. IsNew table max callers) }
     {
         let list = NodeList::new(alloc, 0)?;
-        let _changes = list.changes();
         let buckets = Buckets::new(alloc, max, callers, &list)?;
         Ok(Table { list, buckets })
     }
@@ -104,7 +100,7 @@ impl Table {
     pub fn place(&mut self, pending: &Pending) -> Cursor
         ensures places { Places self.old self.new (key_of pending.now.op) result }
         ensures near { SeeksNear self.old self.new (key_of pending.now.op) }
-        ensures rises { turn_of self.old ≤ turn_of self.new }
+        ensures rises { table_changes self.old ≤ table_changes self.new }
         ensures follows { Follows self.old self.new }
     {
         seek_key(&mut self.list, &self.buckets, pending.key())
@@ -123,7 +119,7 @@ impl Table {
         requires owned { OwnsIf self.old pending.spare }
         ensures acts { Acts self.old self.new pending cursor result }
         ensures writes { ActWrites self.old self.new pending result }
-        ensures rises { turn_of self.old ≤ turn_of self.new }
+        ensures rises { table_changes self.old ≤ table_changes self.new }
         ensures follows { Follows self.old self.new }
     {
         match find(&self.list, &cursor, pending.key()) {
@@ -153,7 +149,7 @@ impl Table {
     pub fn place_job(&mut self, job: &MapJob) -> Cursor
         ensures places { Places self.old self.new (key_of_job job.now) result }
         ensures near { SeeksNear self.old self.new (key_of_job job.now) }
-        ensures rises { turn_of self.old ≤ turn_of self.new }
+        ensures rises { table_changes self.old ≤ table_changes self.new }
         ensures follows { Follows self.old self.new }
     {
         seek_key(&mut self.list, &self.buckets, job.key())
@@ -171,7 +167,7 @@ impl Table {
         requires owned { OwnsIf self.old (spare_of_job job) }
         ensures undoes { Undoes self.old self.new job cursor result }
         ensures writes { UndoWrites self.old self.new job result }
-        ensures rises { turn_of self.old ≤ turn_of self.new }
+        ensures rises { table_changes self.old ≤ table_changes self.new }
         ensures follows { Follows self.old self.new }
     {
         match find(&self.list, &cursor, job.key()) {
@@ -208,7 +204,7 @@ impl Table {
         ensures ok { IfOk result (λ done. Applies self.old self.new op done.0 done.1) }
         ensures err { IfErr result (IsRefused self.old op) }
         ensures unchanged { OnErr result (self.new ≡ self.old) }
-        ensures rises { turn_of self.old ≤ turn_of self.new }
+        ensures rises { table_changes self.old ≤ table_changes self.new }
         ensures follows { Follows self.old self.new }
     {
         let pending = self.prepare(op)?;
@@ -230,7 +226,7 @@ impl Table {
         requires owned { OwnsIf self.old (spare_of_job job) }
         ensures back { TakesBack self.old self.new job }
         ensures writes { SeeksAndUndoes self.old self.new job }
-        ensures rises { turn_of self.old ≤ turn_of self.new }
+        ensures rises { table_changes self.old ≤ table_changes self.new }
         ensures follows { Follows self.old self.new }
     {
         let cursor = self.place_job(&job);
@@ -286,8 +282,8 @@ impl Table {
 
     /// The change number: how many links, marks, unlinks and writes there were, and 2^64 - 1 from
     /// there on. No call lowers it. Constant time.
-    pub fn turn(&self) -> u64
-        ensures { result ≡ turn_of self.now }
+    pub fn changes(&self) -> u64
+        ensures { result ≡ table_changes self.now }
     {
         self.list.changes()
     }
@@ -310,11 +306,11 @@ impl Table {
         ensures sweeps { Sweeps self.old self.new result }
         ensures keeps { Keeps self.old self.new }
         ensures spares { KeepsSpares self.old self.new }
-        ensures turn { result ≡ SweepOutcome.Clean → turn_of self.new ≡ turn_of self.old }
-        ensures rises { turn_of self.old ≤ turn_of self.new }
+        ensures changes { result ≡ SweepOutcome.Clean
+            → table_changes self.new ≡ table_changes self.old }
+        ensures rises { table_changes self.old ≤ table_changes self.new }
         ensures follows { Follows self.old self.new }
     {
-        let _turn = self.list.changes();
         let start = sweep_start(&self.list, &self.buckets);
         sweep_from(&mut self.list, start)
     }
@@ -337,11 +333,10 @@ impl Table {
             (slice_get (helps_of self.old) helper) bucket }
         ensures changes { SeekChanges self.old self.new helper bucket result }
         ensures writes { SeekWrites self.old self.new bucket result }
-        ensures rises { turn_of self.old ≤ turn_of self.new }
+        ensures rises { table_changes self.old ≤ table_changes self.new }
         ensures follows { Follows self.old self.new }
     {
-        let _turn = self.list.changes();
-        answered(self.buckets.init_seek(&mut self.list, helper, bucket))
+        answer_for(self.buckets.init_seek(&mut self.list, helper, bucket))
     }
 
     /// Links the dummy of a helper's bucket at the helper's cursor. Content and list of pairs stay.
@@ -359,19 +354,17 @@ impl Table {
             → result ≡ link_answer_of self.old helper }
         ensures no_memory { result ≡ Err Refusal.NoMemory
             → link_answer_of self.old helper ≡ Ok InitLink.Linked }
-        ensures in_turn { (bucket : ℕ)
-            → slice_get (helps_of self.old) helper ≡ Some (Sought bucket (turn_of self.old))
-            → turn_of self.old < 2 ^ 64 - 1 → result ≢ Ok InitLink.Again }
+        ensures held { (bucket : ℕ)
+            → slice_get (helps_of self.old) helper ≡ Some (Sought bucket (table_changes self.old))
+            → table_changes self.old < 2 ^ 64 - 1 → result ≢ Ok InitLink.Again }
         ensures changes { LinkChanges self.old self.new helper result }
-        ensures writes { (bucket turn : ℕ)
-            → slice_get (helps_of self.old) helper ≡ Some (Sought bucket turn)
+        ensures writes { (bucket changes : ℕ)
+            → slice_get (helps_of self.old) helper ≡ Some (Sought bucket changes)
             → LinkWrites self.old self.new bucket result }
-        ensures rises { turn_of self.old ≤ turn_of self.new }
+        ensures rises { table_changes self.old ≤ table_changes self.new }
         ensures follows { Follows self.old self.new }
     {
-        let _turn = self.list.changes();
-        let _size = self.buckets.size();
-        answered(self.buckets.init_link(&mut self.list, helper))
+        answer_for(self.buckets.init_link(&mut self.list, helper))
     }
 
     /// Stores a helper's dummy as its bucket's, which is initialised from then on, and leaves the
@@ -395,7 +388,7 @@ impl Table {
         ensures list { KeepsList self.old self.new }
         ensures follows { Follows self.old self.new }
     {
-        answered(self.buckets.init_store(helper))
+        answer_for(self.buckets.init_store(helper))
     }
 
     /// Doubles the size. No node moves.
@@ -421,8 +414,6 @@ fn sweep_start(list: &NodeList, buckets: &Buckets) -> NodeRef
     requires { IsHome buckets.now list.now }
     ensures { IsBeforeMarks list.now.nodes result }
 {
-    // What is true of every list and of all buckets.
-    let _changes = list.changes();
     let size = buckets.size();
     match list.marks_begin() {
         Some(split) => buckets.nearest(bucket_at(split, size)),

@@ -189,10 +189,10 @@ fn two_buckets_at_the_limit(rt: HostRuntime) -> Result<(), Fail> {
 fn a_sweep_unlinks_what_was_taken(rt: HostRuntime) -> Result<(), Fail> {
     let mut table = table(rt.alloc())?;
     there_and_back(&mut table, Op::Put(1, 10))?;
-    let turn = table.turn();
+    let changes = table.changes();
     assert_eq!(rt; table.sweep(), SweepOutcome::Swept);
     assert_eq!(rt; table.sweep(), SweepOutcome::Clean);
-    assert!(rt; table.turn() > turn);
+    assert!(rt; table.changes() > changes);
     shows(&rt, rt.alloc(), &table, &[])
 }
 
@@ -203,13 +203,13 @@ fn a_sweep_leaves_the_second_marked_node(rt: HostRuntime) -> Result<(), Fail> {
     let _ = table.apply(Op::Put(1, 10))?;
     there_and_back(&mut table, Op::Put(3, 30))?;
     there_and_back(&mut table, Op::Put(2, 20))?;
-    assert_eq!(rt; table.turn(), 5);
+    assert_eq!(rt; table.changes(), 5);
     assert_eq!(rt; table.sweep(), SweepOutcome::Swept);
-    assert_eq!(rt; table.turn(), 6);
+    assert_eq!(rt; table.changes(), 6);
     assert_eq!(rt; table.sweep(), SweepOutcome::Swept);
-    assert_eq!(rt; table.turn(), 7);
+    assert_eq!(rt; table.changes(), 7);
     assert_eq!(rt; table.sweep(), SweepOutcome::Clean);
-    assert_eq!(rt; table.turn(), 7);
+    assert_eq!(rt; table.changes(), 7);
     shows(&rt, rt.alloc(), &table, &[(1, 10)])
 }
 
@@ -396,7 +396,7 @@ fn table_again(alloc: Global) -> Result<Table, AllocError> {
 
 /// What is seen of a table without memory.
 fn figures(table: &Table) -> (u32, u64, u64) {
-    (table.size(), table.count(), table.turn())
+    (table.size(), table.count(), table.changes())
 }
 
 /// Puts a new key. Where memory is refused, the table is as it was, with these pairs, and the put

@@ -10,10 +10,13 @@ use Rattle.node_list.specs.Seen.{seen}
 use Rattle.node_list.specs.Follow.{IsSameNode, Follows}
 use Rattle.node_list.specs.Layout.{stored, nodes_in, listing_of, IsKept}
 use Rattle.node_list.proofs.OrderLemmas.{some-injective}
-use Rattle.node_list.proofs.NodesLemmas.{found_linked, next_linked, next_found, linked_more, now_found}
+use Rattle.node_list.proofs.NodesLemmas.{found_linked, next_linked, next_found, linked_more}
+use Rattle.node_list.proofs.AfterLemmas.{now_found}
 use Rattle.node_list.proofs.ChainLemmas.{spread, nodes_in_is, nodes_fit, absent_free, linked_node, node_found, next_is}
 use Rattle.node_list.proofs.CountLemmas.{gain, count-linked, count-unlinked, count-changed, live-marked, live-regular, live-fresh, counts_fit}
-use Rattle.node_list.proofs.SlabSteps.{kept, spare_laid_out, spare_stamps, spare_out, spare_was_free, spare_others, back_laid_out, back_stamps, back_gone, back_others, link_absent, link_laid_out, link_stamps, link_gone, link_others, mid_spare, change_laid_out, change_stamps, change_out, unlink_laid_out, unlink_stamps, unlink_out}
+use Rattle.node_list.proofs.KeptLemmas.{kept}
+use Rattle.node_list.proofs.SpareSteps.{spare_laid_out, spare_stamps, spare_out, spare_was_free, spare_others, back_laid_out, back_stamps, back_gone, back_others}
+use Rattle.node_list.proofs.SlabSteps.{link_absent, link_laid_out, link_stamps, link_gone, link_others, mid_spare, change_laid_out, change_stamps, change_out, unlink_laid_out, unlink_stamps, unlink_out}
 use Rattle.node_list.proofs.FollowLemmas.{sound, gives_out_follows, takes_back_follows, links_follow, changes_follow, unlinks_follow}
 
 -- No more nodes are counted than slots are in use.
@@ -90,7 +93,7 @@ module _ (old : Slab SlotAt) (head changes last count marked : ℕ) (is : IsKept
     marked_now : marked_count (changed_at (nodes_in old head) place change) + gain is_marked (seen place node) ≡ marked_count (nodes_in old head) + gain is_marked (change (seen place node))
     marked_now = count-changed is_marked (nodes_in old head) place change (seen place node) found
 
-    pub changed : (live marks : ℕ) → live + gain is_live (seen place node) ≡ count + gain is_live (change (seen place node)) → marks + gain is_marked (seen place node) ≡ marked + gain is_marked (change (seen place node)) → IsKept new head last live marks × Becomes (listing_of old head changes last) (listing_of new head (one_more changes) last) (changed_at (nodes_in old head) place change) × Follows (listing_of old head changes last) (listing_of new head (one_more changes) last)
+    pub changed : (live marks : ℕ) → live + gain is_live (seen place node) ≡ count + gain is_live (change (seen place node)) → marks + gain is_marked (seen place node) ≡ marked + gain is_marked (change (seen place node)) → IsKept new head last live marks × Becomes (listing_of old head changes last) (listing_of new head (one_more changes) last) (changed_at (nodes_in old head) place change) × (changes < 2 ^ 64 → Follows (listing_of old head changes last) (listing_of new head (one_more changes) last))
     changed live marks live_is marks_are =
         let nodes = nodes_in old head in
         let laid = change_laid_out old new head last place nodes change node written is.laid_out is.stamps same stores stamp is_node new_is plain in
@@ -106,11 +109,11 @@ module _ (old : Slab SlotAt) (head changes last count marked : ℕ) (is : IsKept
         (omega (arith, live_now, is.counted)) (omega (arith, marked_now, is.marks)) in (
           now,
           becomes,
-          changes_follow _ _ place change same (sound new head (one_more changes) last live marks now) becomes,
+          λ fits. changes_follow _ _ place change fits same (sound new head (one_more changes) last live marks now) becomes,
         )
 
   -- A value is written.
-  pub value_written : (new : Slab SlotAt) (place value : ℕ) (node : Node) → IsLinked (nodes_in old head) place → get old place ≡ Some (Linked node) → new ≡ with_value old place (Linked (record node { value = value })) → IsKept new head last count marked × Becomes (listing_of old head changes last) (listing_of new head (one_more changes) last) (written_at (nodes_in old head) place value) × Follows (listing_of old head changes last) (listing_of new head (one_more changes) last)
+  pub value_written : (new : Slab SlotAt) (place value : ℕ) (node : Node) → IsLinked (nodes_in old head) place → get old place ≡ Some (Linked node) → new ≡ with_value old place (Linked (record node { value = value })) → IsKept new head last count marked × Becomes (listing_of old head changes last) (listing_of new head (one_more changes) last) (written_at (nodes_in old head) place value) × (changes < 2 ^ 64 → Follows (listing_of old head changes last) (listing_of new head (one_more changes) last))
   value_written new place value node linked is_node new_is =
       changed new place (λ n. record n { value = value }) node (record node { value = value })
       (λ n. record { place = refl; at = refl; kind = refl; stamp = refl })
@@ -145,7 +148,7 @@ module _ (old : Slab SlotAt) (head changes last count marked : ℕ) (is : IsKept
   dummy-not-regular e = cc
 
   -- A node is marked.
-  pub node_marked : (new : Slab SlotAt) (place : ℕ) (node : Node) → IsRegularAt (nodes_in old head) place → get old place ≡ Some (Linked node) → new ≡ with_value old place (Linked (record node { marked = true })) → IsKept new head last (count - 1) (marked + 1) × Becomes (listing_of old head changes last) (listing_of new head (one_more changes) last) (marked_at (nodes_in old head) place) × Follows (listing_of old head changes last) (listing_of new head (one_more changes) last)
+  pub node_marked : (new : Slab SlotAt) (place : ℕ) (node : Node) → IsRegularAt (nodes_in old head) place → get old place ≡ Some (Linked node) → new ≡ with_value old place (Linked (record node { marked = true })) → IsKept new head last (count - 1) (marked + 1) × Becomes (listing_of old head changes last) (listing_of new head (one_more changes) last) (marked_at (nodes_in old head) place) × (changes < 2 ^ 64 → Follows (listing_of old head changes last) (listing_of new head (one_more changes) last))
   node_marked new place node regular is_node new_is =
       let linked = found_linked (nodes_in old head) place regular.node regular.is in
       let seen_is = regular_seen place node regular is_node in
@@ -193,7 +196,7 @@ module _ (old : Slab SlotAt) (head changes last count marked : ℕ) (is : IsKept
   marks_one pred behind = omega (arith, marks_behind pred behind, is.marks)
 
   -- A marked node is unlinked.
-  pub unlinked : (mid new : Slab SlotAt) (pred place : ℕ) (before behind : Node) → IsBeforeMarked (nodes_in old head) pred → get old pred ≡ Some (Linked before) → before.next ≡ Some place → get old place ≡ Some (Linked behind) → mid ≡ with_value old pred (Linked (record before { next = behind.next })) → Updates mid new place None → IsKept new head last count (marked - 1) × Becomes (listing_of old head changes last) (listing_of new head (one_more changes) last) (unlinked_after (nodes_in old head) pred) × Follows (listing_of old head changes last) (listing_of new head (one_more changes) last)
+  pub unlinked : (mid new : Slab SlotAt) (pred place : ℕ) (before behind : Node) → IsBeforeMarked (nodes_in old head) pred → get old pred ≡ Some (Linked before) → before.next ≡ Some place → get old place ≡ Some (Linked behind) → mid ≡ with_value old pred (Linked (record before { next = behind.next })) → Updates mid new place None → IsKept new head last count (marked - 1) × Becomes (listing_of old head changes last) (listing_of new head (one_more changes) last) (unlinked_after (nodes_in old head) pred) × (changes < 2 ^ 64 → Follows (listing_of old head changes last) (listing_of new head (one_more changes) last))
   unlinked mid new pred place before behind is_behind_marked is_before next is_behind mid_is freed =
       let nodes = nodes_in old head in
       let linked = behind_linked old head pred is_behind_marked in
@@ -213,7 +216,7 @@ module _ (old : Slab SlotAt) (head changes last count marked : ℕ) (is : IsKept
       let now_sound = sound new head (one_more changes) last count (marked - 1) now in (
         now,
         becomes,
-        unlinks_follow _ _ pred (spread (get old) nodes is.laid_out.chain is.laid_out.rising) is.laid_out.plain is_behind_marked now_sound becomes,
+        λ fits. unlinks_follow _ _ pred fits (spread (get old) nodes is.laid_out.chain is.laid_out.rising) is.laid_out.plain is_behind_marked now_sound becomes,
       )
 
   -- The node of a spare is linked.
@@ -226,7 +229,7 @@ module _ (old : Slab SlotAt) (head changes last count marked : ℕ) (is : IsKept
     pub filling_slot : get mid s.place ≡ Some (Out s.stamp)
     filling_slot = mid_spare old mid (with_value mid s.place (Linked (stored (filled s) before.next))) head last pred (nodes_in old head) (filled s) before is.laid_out is.stamps is_before is_out mid_is refl
 
-    pub filled_in : (gained : ℕ) → gained ≡ cond (is_regular s.kind) 1 0 → new ≡ with_value mid s.place (Linked (stored (filled s) next)) → IsLinked (nodes_in old head) pred → IsRising (linked_after (nodes_in old head) pred (filled s)) → IsKept new head last (count + gained) marked × Takes (listing_of old head changes last) (listing_of new head (one_more changes) last) (linked_after (nodes_in old head) pred (filled s)) s.place × (node_of (nodes_in new head) s.place ≡ Some (filled s)) × Follows (listing_of old head changes last) (listing_of new head (one_more changes) last)
+    pub filled_in : (gained : ℕ) → gained ≡ cond (is_regular s.kind) 1 0 → new ≡ with_value mid s.place (Linked (stored (filled s) next)) → IsLinked (nodes_in old head) pred → IsRising (linked_after (nodes_in old head) pred (filled s)) → IsKept new head last (count + gained) marked × Takes (listing_of old head changes last) (listing_of new head (one_more changes) last) (linked_after (nodes_in old head) pred (filled s)) s.place × (node_of (nodes_in new head) s.place ≡ Some (filled s)) × (changes < 2 ^ 64 → Follows (listing_of old head changes last) (listing_of new head (one_more changes) last))
     filled_in gained gained_is new_was linked rising =
         let nodes = nodes_in old head in
         let x : NodeAt = filled s in
@@ -249,5 +252,5 @@ module _ (old : Slab SlotAt) (head changes last count marked : ℕ) (is : IsKept
           now,
           takes,
           ap (λ (ns : List NodeAt). node_of ns s.place) takes.nodes ∙ now_found nodes pred x absent linked,
-          links_follow _ _ pred x absent is_out (sound new head (one_more changes) last (count + gained) marked now) takes,
+          λ fits. links_follow _ _ pred x fits absent is_out (sound new head (one_more changes) last (count + gained) marked now) takes,
         )

@@ -1,20 +1,19 @@
--- The linked nodes in the slots of a slab.
-use Rattle.std.proofs.Common.{◌≡◌, ◌≢◌, ℕ, ◌<◌, ◌≤◌, inl, inr, List, [], ◌∷◌, Option, Some, None, Bool, true, false, length, refl, sym, ◌∙◌, ap, ap₂, subst, arith, count_by, is_some, cond, get_or, set, get_or-set_other}
+-- The linked nodes in the slots of a slab: a walk finds them, and each is the one in its slot.
+use Rattle.std.proofs.Common.{◌≡◌, ◌≢◌, ℕ, ◌<◌, ◌≤◌, inl, inr, List, [], ◌∷◌, Option, Some, None, Bool, true, false, length, refl, sym, ◌∙◌, ap, ap₂, arith, count_by, is_some, cond, get_or, set, get_or-set_other}
 use Prim.Native.Nat.{zero, suc}
-use Rattle.std.proofs.lemmas.Bool.{cases_lt, cases_eq}
+use Rattle.std.proofs.lemmas.Bool.{cases_lt}
 use Rattle.std.proofs.lemmas.Bool.Decides.{eqb_tells}
 use Rattle.std.proofs.lemmas.List.{get_or_past}
 use Rattle.std.proofs.lemmas.List.Sums.{sum_by-set}
 use Rattle.std.specs.List.{AllByRecursion}
-use Rattle.slab.specs.Slab.{Slab, get, slab_len, Updates}
+use Rattle.slab.specs.Slab.{Slab, get, slab_len}
 use Rattle.node_list.specs.declared.node.Node.{Node}
 use Rattle.node_list.specs.Slots.{SlotAt, Linked, Out, node_in}
-use Rattle.node_list.specs.Nodes.{NodeAt, IsLinked, linked_after, unlinked_after, changed_at, node_of, next_of, first, place_of}
+use Rattle.node_list.specs.Nodes.{NodeAt, IsLinked, node_of, next_of, first, place_of}
 use Rattle.node_list.specs.Order.{IsNodeBefore, IsRising, AbsentFrom, IsSpread}
-use Rattle.node_list.specs.Follow.{IsSameNode}
 use Rattle.node_list.specs.Seen.{seen}
-use Rattle.node_list.specs.Layout.{stored, walk, first_place, IsChain, nodes_in, StartsAt, IsLaidOut, HasStamps, slot_stamp}
-use Rattle.node_list.proofs.OrderLemmas.{some-injective, some-none, before-irreflexive, before-same, each_map, each_both}
+use Rattle.node_list.specs.Layout.{stored, walk, first_place, IsChain, nodes_in, StartsAt, IsLaidOut}
+use Rattle.node_list.proofs.OrderLemmas.{some-injective, some-none, before-irreflexive, before-same, each_map}
 
 pub linked-injective : {x y : Node} → Some (Linked x) ≡ Some (Linked y) → x ≡ y
 linked-injective e = cc
@@ -104,7 +103,7 @@ pub nodes_fit : (slab : Slab SlotAt) (head : ℕ) (nodes : List NodeAt) → IsLa
 nodes_fit slab head nodes laid =
     room slab.slots nodes (spread (get slab) nodes laid.chain laid.rising) (in_use slab.slots nodes laid.chain)
 
-place_of_first : (nodes : List NodeAt) → place_of (first nodes) ≡ first_place nodes
+pub place_of_first : (nodes : List NodeAt) → place_of (first nodes) ≡ first_place nodes
 place_of_first [] = refl
 place_of_first (n ∷ rest) = refl
 
@@ -118,7 +117,7 @@ nodes_in_is slab head nodes laid =
     rw (← start_place nodes head laid.starts) (walk_is (slab_len slab) (get slab) nodes laid.chain (nodes_fit slab head nodes laid))
 
 -- A chain stays where its slots do.
-chain_kept : (at new : ℕ → Option SlotAt) (nodes : List NodeAt) → IsChain at nodes → AllByRecursion (λ n. new n.place ≡ at n.place) nodes → IsChain new nodes
+pub chain_kept : (at new : ℕ → Option SlotAt) (nodes : List NodeAt) → IsChain at nodes → AllByRecursion (λ n. new n.place ≡ at n.place) nodes → IsChain new nodes
 unfolding IsChain
 chain_kept at new [] chain same = tt
 chain_kept at new (n ∷ rest) chain same = (same.0 ∙ chain.0, chain_kept at new rest chain.1 same.1)
@@ -166,183 +165,3 @@ next_is at (n ∷ rest) pred before chain is is_before = elim (eqb_tells n.place
       rw here.0 (place_of_first rest ∙ sym (ap (λ (b : Node). b.next) node_is))
   | inr apart ↦ rw apart.0 (next_is at rest pred before chain.1 (elim is [ inl here ↦ absurd (apart.1 here) | inr later ↦ later ]) is_before)
 ]
-
--- Each change keeps the first place.
-first_linked : (nodes : List NodeAt) (pred : ℕ) (x : NodeAt) → first (linked_after nodes pred x) ≡ first nodes
-unfolding linked_after
-first_linked [] pred x = refl
-first_linked (n ∷ rest) pred x = elim (eqb_tells n.place pred) [
-  | inl here ↦ rw here.0 refl
-  | inr apart ↦ rw apart.0 refl
-]
-
-first_unlinked : (nodes : List NodeAt) (pred : ℕ) → first (unlinked_after nodes pred) ≡ first nodes
-unfolding unlinked_after
-first_unlinked [] pred = refl
-first_unlinked (n ∷ rest) pred = elim (eqb_tells n.place pred) [
-  | inl here ↦ rw here.0 refl
-  | inr apart ↦ rw apart.0 refl
-]
-
-first_place-linked : (nodes : List NodeAt) (pred : ℕ) (x : NodeAt) → first_place (linked_after nodes pred x) ≡ first_place nodes
-first_place-linked nodes pred x =
-    sym (place_of_first (linked_after nodes pred x)) ∙ ap place_of (first_linked nodes pred x) ∙ place_of_first nodes
-
-first_place-unlinked : (nodes : List NodeAt) (pred : ℕ) → first_place (unlinked_after nodes pred) ≡ first_place nodes
-first_place-unlinked nodes pred =
-    sym (place_of_first (unlinked_after nodes pred)) ∙ ap place_of (first_unlinked nodes pred) ∙ place_of_first nodes
-
-first_place-changed : (nodes : List NodeAt) (place : ℕ) (change : NodeAt → NodeAt) → ((n : NodeAt) → IsSameNode n (change n)) → first_place (changed_at nodes place change) ≡ first_place nodes
-unfolding changed_at
-first_place-changed [] place change same = refl
-first_place-changed (n ∷ rest) place change same = elim (eqb_tells n.place place) [
-  | inl here ↦ rw here.0 (ap Some (sym (same n).place))
-  | inr apart ↦ rw apart.0 refl
-]
-
--- Each change keeps the dummy of bucket 0 first.
-pub starts_linked : (nodes : List NodeAt) (head pred : ℕ) (x : NodeAt) → StartsAt nodes head → StartsAt (linked_after nodes pred x) head
-starts_linked nodes head pred x starts =
-    record { node = starts.node; is = first_linked nodes pred x ∙ starts.is; place = starts.place; at = starts.at; kind = starts.kind }
-
-pub starts_unlinked : (nodes : List NodeAt) (head pred : ℕ) → StartsAt nodes head → StartsAt (unlinked_after nodes pred) head
-starts_unlinked nodes head pred starts =
-    record { node = starts.node; is = first_unlinked nodes pred ∙ starts.is; place = starts.place; at = starts.at; kind = starts.kind }
-
-pub starts_changed : (nodes : List NodeAt) (head place : ℕ) (change : NodeAt → NodeAt) → ((n : NodeAt) → IsSameNode n (change n)) → StartsAt nodes head → StartsAt (changed_at nodes place change) head
-unfolding changed_at
-starts_changed [] head place change same starts = starts
-starts_changed (n ∷ rest) head place change same starts = elim (eqb_tells n.place place) [
-  | inl here ↦
-      let n_is : n ≡ starts.node = some-injective starts.is in
-      rw here.0 (record {
-        node = change n;
-        is = refl;
-        place = sym (same n).place ∙ ap (λ (v : NodeAt). v.place) n_is ∙ starts.place;
-        at = sym (same n).at ∙ ap (λ (v : NodeAt). v.at) n_is ∙ starts.at;
-        kind = sym (same n).kind ∙ ap (λ (v : NodeAt). v.kind) n_is ∙ starts.kind;
-      })
-  | inr apart ↦
-      rw apart.0 (record { node = starts.node; is = starts.is; place = starts.place; at = starts.at; kind = starts.kind })
-]
-
--- A node is linked behind another: the other's slot has its place, and its own has the other's next.
-pub chain_linked : (at new : ℕ → Option SlotAt) (nodes : List NodeAt) (pred : ℕ) (x : NodeAt) (before : Node) → IsChain at nodes → IsSpread nodes → AbsentFrom x.place nodes → at pred ≡ Some (Linked before) → new pred ≡ Some (Linked (record before { next = Some x.place })) → new x.place ≡ Some (Linked (stored x before.next)) → ((other : ℕ) → other ≢ pred → other ≢ x.place → new other ≡ at other) → IsChain new (linked_after nodes pred x)
-unfolding IsChain IsSpread linked_after
-chain_linked at new [] pred x before chain apart absent is written x_is others = tt
-chain_linked at new (n ∷ rest) pred x before chain apart absent is written x_is others = elim (eqb_tells n.place pred) [
-  | inl here ↦
-      let node_is : before ≡ stored n (first_place rest) = linked-injective (sym is ∙ rw here.1 at chain.0) in
-      let apart_here : AbsentFrom pred rest = rw here.1 at apart.0 in
-      let both = each_both (λ m. m.place ≢ pred) (λ m. m.place ≢ x.place) rest apart_here absent.1 in
-      let same : AllByRecursion (λ m. new m.place ≡ at m.place) rest =
-      each_map (λ m. (m.place ≢ pred) × (m.place ≢ x.place)) (λ m. new m.place ≡ at m.place) rest (λ m (not_pred, not_x). others m.place not_pred not_x) both in
-      rw here.0 (
-        rw here.1 (rw node_is at written),
-        (rw node_is at x_is, chain_kept at new rest chain.1 same),
-      )
-  | inr later ↦
-      rw later.0 (
-        rw (first_place-linked rest pred x) (others n.place later.1 absent.0 ∙ chain.0),
-        chain_linked at new rest pred x before chain.1 apart.1 absent.1 is written x_is others,
-      )
-]
-
-renamed : (before behind : Node) (n m : NodeAt) (next after : Option ℕ) → before ≡ stored n next → behind ≡ stored m after → record before { next = behind.next } ≡ stored n after
-renamed before behind n m next after first second = ap₂ (λ (b c : Node). record b { next = c.next }) first second
-
--- The node behind another is unlinked: the other's slot has the place after it.
-pub chain_unlinked : (at new : ℕ → Option SlotAt) (nodes : List NodeAt) (pred place : ℕ) (before behind : Node) → IsChain at nodes → IsSpread nodes → at pred ≡ Some (Linked before) → before.next ≡ Some place → at place ≡ Some (Linked behind) → new pred ≡ Some (Linked (record before { next = behind.next })) → ((other : ℕ) → other ≢ pred → new other ≡ at other) → IsChain new (unlinked_after nodes pred)
-unfolding IsChain IsSpread unlinked_after
-chain_unlinked at new [] pred place before behind chain apart is next_is is_behind written others = tt
-chain_unlinked at new (n ∷ []) pred place before behind chain apart is next_is is_behind written others = elim (eqb_tells n.place pred) [
-  | inl here ↦
-      let node_is : before ≡ stored n None = linked-injective (sym is ∙ rw here.1 at chain.0) in
-      let none_is : before.next ≡ None = ap (λ (b : Node). b.next) node_is in
-      absurd (some-none (sym next_is ∙ none_is))
-  | inr later ↦ rw later.0 (others n.place later.1 ∙ chain.0, tt)
-]
-chain_unlinked at new (n ∷ (m ∷ rest)) pred place before behind chain apart is next_is is_behind written others = elim (eqb_tells n.place pred) [
-  | inl here ↦
-      let node_is : before ≡ stored n (Some m.place) = linked-injective (sym is ∙ rw here.1 at chain.0) in
-      let place_is : place ≡ m.place = some-injective (sym next_is ∙ ap (λ (b : Node). b.next) node_is) in
-      let behind_is : behind ≡ stored m (first_place rest) = linked-injective (sym is_behind ∙ ap at place_is ∙ chain.1.0) in
-      let apart_here : AbsentFrom pred rest = subst (λ (p : ℕ). AbsentFrom p rest) here.1 apart.0.1 in
-      let written_n : new n.place ≡ Some (Linked (record before { next = behind.next })) = rw here.1 written in
-      let node_now : record before { next = behind.next } ≡ stored n (first_place rest) = renamed before behind n m (Some m.place) (first_place rest) node_is behind_is in
-      rw here.0 (
-        written_n ∙ ap (λ v. Some (Linked v)) node_now,
-        chain_absent at new pred rest chain.1.1 apart_here others,
-      )
-  | inr later ↦
-      rw later.0 (
-        rw (first_place-unlinked (m ∷ rest) pred) (others n.place later.1 ∙ chain.0),
-        chain_unlinked at new (m ∷ rest) pred place before behind chain.1 apart.1 is next_is is_behind written others,
-      )
-]
-
--- A node is changed in its slot.
-pub chain_changed : (at new : ℕ → Option SlotAt) (nodes : List NodeAt) (place : ℕ) (change : NodeAt → NodeAt) (node written : Node) → IsChain at nodes → IsSpread nodes → ((n : NodeAt) → IsSameNode n (change n)) → ((n : NodeAt) (next : Option ℕ) → node ≡ stored n next → written ≡ stored (change n) next) → at place ≡ Some (Linked node) → new place ≡ Some (Linked written) → ((other : ℕ) → other ≢ place → new other ≡ at other) → IsChain new (changed_at nodes place change)
-unfolding IsChain IsSpread changed_at
-chain_changed at new [] place change node written chain apart same stores is is_written others = tt
-chain_changed at new (n ∷ rest) place change node written chain apart same stores is is_written others = elim (eqb_tells n.place place) [
-  | inl here ↦
-      let node_is : node ≡ stored n (first_place rest) = linked-injective (sym is ∙ rw here.1 at chain.0) in
-      let apart_here : AbsentFrom place rest = rw here.1 at apart.0 in
-      let there : new (change n).place ≡ Some (Linked written) = ap new (sym (same n).place ∙ here.1) ∙ is_written in
-      rw here.0 (
-        there ∙ ap (λ v. Some (Linked v)) (stores n (first_place rest) node_is),
-        chain_absent at new place rest chain.1 apart_here others,
-      )
-  | inr later ↦
-      rw later.0 (
-        rw (first_place-changed rest place change same) (others n.place later.1 ∙ chain.0),
-        chain_changed at new rest place change node written chain.1 apart.1 same stores is is_written others,
-      )
-]
-
--- A slot is written with a stamp that no other slot has.
-pub stamps_set : (old new : Slab SlotAt) (last more place : ℕ) (slot : SlotAt) → HasStamps old last → Updates old new place (Some slot) → last ≤ more → slot_stamp slot ≤ more → ((other : ℕ) (there : SlotAt) → other ≢ place → get old other ≡ Some there → slot_stamp there ≢ slot_stamp slot) → HasStamps new more
-stamps_set old new last more place slot stamps updates rise within fresh = record {
-  bound = λ p s is. elim (cases_eq p place) [
-    | inl here ↦
-        let same : Some slot ≡ Some s = sym updates.changed ∙ rw here at is in
-        let same_stamp : slot_stamp slot ≡ slot_stamp s = ap slot_stamp (some-injective same) in
-        omega arith
-    | inr apart ↦
-        let low = stamps.bound p s (sym (updates.others p apart) ∙ is) in
-        omega arith
-  ];
-  one_place = λ p q s t is_s is_t same. elim (cases_eq p place) [
-    | inl p_here ↦ elim (cases_eq q place) [
-      | inl q_here ↦ p_here ∙ sym q_here
-      | inr q_apart ↦
-          let slot_is : Some slot ≡ Some s = sym updates.changed ∙ rw p_here at is_s in
-          absurd (fresh q t q_apart (sym (updates.others q q_apart) ∙ is_t) (sym same ∙ sym (ap slot_stamp (some-injective slot_is))))
-    ]
-    | inr p_apart ↦ elim (cases_eq q place) [
-      | inl q_here ↦
-          let slot_is : Some slot ≡ Some t = sym updates.changed ∙ rw q_here at is_t in
-          absurd (fresh p s p_apart (sym (updates.others p p_apart) ∙ is_s) (same ∙ sym (ap slot_stamp (some-injective slot_is))))
-      | inr q_apart ↦ stamps.one_place p q s t (sym (updates.others p p_apart) ∙ is_s) (sym (updates.others q q_apart) ∙ is_t) same
-    ]
-  ];
-}
-
--- A slot is written with its old stamp.
-pub stamps_kept : (old new : Slab SlotAt) (last place : ℕ) (was slot : SlotAt) → HasStamps old last → get old place ≡ Some was → slot_stamp slot ≡ slot_stamp was → Updates old new place (Some slot) → HasStamps new last
-stamps_kept old new last place was slot stamps is same updates =
-    let low = stamps.bound place was is in
-    stamps_set old new last last place slot stamps updates (omega arith) (omega arith)
-    (λ other there apart is_there equal. apart (stamps.one_place other place there was is_there is (equal ∙ same)))
-
--- A slot is freed.
-pub stamps_freed : (old new : Slab SlotAt) (last place : ℕ) → HasStamps old last → Updates old new place None → HasStamps new last
-stamps_freed old new last place stamps updates = record {
-  bound = λ p s is. stamps.bound p s (sym (updates.others p (in_use_apart p s is)) ∙ is);
-  one_place = λ p q s t is_s is_t same.
-      stamps.one_place p q s t (sym (updates.others p (in_use_apart p s is_s)) ∙ is_s) (sym (updates.others q (in_use_apart q t is_t)) ∙ is_t) same;
-}
-  where
-    in_use_apart : (p : ℕ) (s : SlotAt) → get new p ≡ Some s → p ≢ place
-    in_use_apart p s is here = some-none (sym (rw here at is) ∙ updates.changed)

@@ -11,9 +11,10 @@ use Rattle.node_list.specs.Follow.{IsSameNode, Follows}
 use Rattle.node_list.specs.Sound.{AllPlain, IsStamped, IsSound}
 use Rattle.node_list.specs.Layout.{nodes_in, listing_of, IsLaidOut, HasStamps, IsKept}
 use Rattle.node_list.proofs.OrderLemmas.{some-injective, some-none, each_found}
-use Rattle.node_list.proofs.NodesLemmas.{same_node, same_after, found_linked, first_found, found_linked_after, found_changed, found_unlinked, still_found_linked, still_found_changed, still_found_unlinked}
+use Rattle.node_list.proofs.NodesLemmas.{same_node, same_after, found_linked, first_found}
+use Rattle.node_list.proofs.AfterLemmas.{found_linked_after, found_changed, found_unlinked, still_found_linked, still_found_changed, still_found_unlinked}
 use Rattle.node_list.proofs.ChainLemmas.{true-ne-false, out-not-linked, linked_node, node_found, spread}
-use Rattle.node_list.proofs.SlabSteps.{out_in, slot_out}
+use Rattle.node_list.proofs.SpareSteps.{out_in, slot_out}
 
 -- A list follows itself.
 pub follows_self : (l : Listing) → Follows l l
@@ -90,8 +91,8 @@ takes_back_follows old new place now_sound back = record {
   dummies = λ at n is dummy. (n, rw back.nodes is, same_node n);
 }
 
-pub links_follow : (old new : Listing) (pred : ℕ) (x : NodeAt) → AbsentFrom x.place old.nodes → out_at old x.place ≡ Some x.stamp → IsSound new → Takes old new (linked_after old.nodes pred x) x.place → Follows old new
-links_follow old new pred x absent was_out now_sound takes = record {
+pub links_follow : (old new : Listing) (pred : ℕ) (x : NodeAt) → old.changes < 2 ^ 64 → AbsentFrom x.place old.nodes → out_at old x.place ≡ Some x.stamp → IsSound new → Takes old new (linked_after old.nodes pred x) x.place → Follows old new
+links_follow old new pred x fits absent was_out now_sound takes = record {
   sound = λ was. now_sound;
   last = omega (arith, takes.last);
   changes = omega (arith, takes.changes);
@@ -107,8 +108,8 @@ links_follow old new pred x absent was_out now_sound takes = record {
   dummies = λ place n is dummy. (n, rw takes.nodes (still_found_linked old.nodes pred place x n absent is), same_node n);
 }
 
-pub changes_follow : (old new : Listing) (changed : ℕ) (change : NodeAt → NodeAt) → ((n : NodeAt) → IsSameNode n (change n)) → IsSound new → Becomes old new (changed_at old.nodes changed change) → Follows old new
-changes_follow old new changed change same now_sound now = record {
+pub changes_follow : (old new : Listing) (changed : ℕ) (change : NodeAt → NodeAt) → old.changes < 2 ^ 64 → ((n : NodeAt) → IsSameNode n (change n)) → IsSound new → Becomes old new (changed_at old.nodes changed change) → Follows old new
+changes_follow old new changed change fits same now_sound now = record {
   sound = λ was. now_sound;
   last = omega (arith, now.last);
   changes = omega (arith, now.changes);
@@ -118,8 +119,8 @@ changes_follow old new changed change same now_sound now = record {
   dummies = λ place n is dummy. rw now.nodes (still_found_changed old.nodes changed place change n same is);
 }
 
-pub unlinks_follow : (old new : Listing) (pred : ℕ) → IsSpread old.nodes → AllPlain old.nodes → IsBeforeMarked old.nodes pred → IsSound new → Becomes old new (unlinked_after old.nodes pred) → Follows old new
-unlinks_follow old new pred spread plain behind now_sound now = record {
+pub unlinks_follow : (old new : Listing) (pred : ℕ) → old.changes < 2 ^ 64 → IsSpread old.nodes → AllPlain old.nodes → IsBeforeMarked old.nodes pred → IsSound new → Becomes old new (unlinked_after old.nodes pred) → Follows old new
+unlinks_follow old new pred fits spread plain behind now_sound now = record {
   sound = λ was. now_sound;
   last = omega (arith, now.last);
   changes = omega (arith, now.changes);

@@ -1,10 +1,15 @@
+pub mod AfterLemmas
 pub mod CallLemmas
 pub mod ChainLemmas
+pub mod ChainSteps
 pub mod CountLemmas
 pub mod FollowLemmas
+pub mod KeptLemmas
 pub mod NodesLemmas
 pub mod OrderLemmas
 pub mod RunLemmas
 pub mod SlabSteps
+pub mod SpareSteps
+pub mod StampLemmas
 pub mod TallyLemmas
 pub mod TallySteps

@@ -1,123 +1,25 @@
--- What each step on the slab does to the list in it.
-use Rattle.std.proofs.Common.{◌≡◌, ◌≢◌, ℕ, ◌+◌, ◌-◌, ◌^◌, ◌<◌, inl, inr, List, [], ◌∷◌, Option, Some, None, false, Result, Ok, Err, map, refl, sym, ◌∙◌, ap, arith, get_or}
-use Rattle.std.specs.Result.{result_ok}
-use Rattle.std.proofs.Math.ListN.{get_or-map}
+-- What a link, a change and an unlink in a slab do to the list in it.
+use Rattle.std.proofs.Common.{◌≡◌, ◌≢◌, ℕ, inl, inr, List, Option, Some, None, false, map, refl, sym, ◌∙◌, ap, get_or}
 use Rattle.std.proofs.lemmas.Bool.{cases_eq}
 use Rattle.slab.specs.Slab.{Slab, get, Updates, with_value}
 use Rattle.slab.proofs.SlabLemmas.{Updates-with_value}
 use Rattle.node_list.specs.declared.node.Node.{Node}
 use Rattle.node_list.specs.declared.node.Kind.TheVariants.{Dummy}
 use Rattle.node_list.specs.Slots.{SlotAt, Linked, Out}
-use Rattle.node_list.specs.Nodes.{NodeAt, first_dummy, IsLinked, linked_after, unlinked_after, changed_at, node_of, next_of, place_of, live_count, marked_count}
+use Rattle.node_list.specs.Nodes.{NodeAt, IsLinked, linked_after, unlinked_after, changed_at, node_of, next_of, place_of}
 use Rattle.node_list.specs.Order.{IsRising, IsSpread}
 use Rattle.node_list.specs.Follow.{IsSameNode}
-use Rattle.node_list.specs.Layout.{stored, IsChain, nodes_in, listing_of, IsLaidOut, HasStamps, IsKept, out_stamp}
-use Rattle.node_list.proofs.OrderLemmas.{some-injective, some-none, each_linked, each_unlinked, each_changed, rising_unlinked, rising_changed}
-use Rattle.node_list.proofs.NodesLemmas.{absent_unlinked, still_linked, now_linked, changed_linked, others_linked}
-use Rattle.node_list.proofs.ChainLemmas.{out-not-linked, spread, nodes_in_is, next_is, chain_absent, absent_free, chain_linked, chain_unlinked, chain_changed, starts_linked, starts_unlinked, starts_changed, stamps_set, stamps_kept, stamps_freed}
-
--- What is out at a place, by its slot.
-pub out_in : (slab : Slab SlotAt) (place : ℕ) → get_or (map out_stamp slab.slots) place None ≡ out_stamp (get slab place)
-out_in slab place = get_or-map out_stamp slab.slots place None
-
--- The slot of a spare that is out.
-pub slot_out : (slot : Option SlotAt) (stamp : ℕ) → out_stamp slot ≡ Some stamp → slot ≡ Some (Out stamp)
-slot_out None stamp is = absurd (some-none (sym is))
-slot_out (Some (Linked n)) stamp is = absurd (some-none (sym is))
-slot_out (Some (Out t)) stamp is = ap (λ n. Some (Out n)) (some-injective is)
+use Rattle.node_list.specs.Layout.{stored, IsLaidOut, HasStamps, out_stamp}
+use Rattle.node_list.proofs.OrderLemmas.{some-none, each_linked, each_unlinked, each_changed, rising_unlinked, rising_changed}
+use Rattle.node_list.proofs.AfterLemmas.{absent_unlinked, still_linked, now_linked, changed_linked, others_linked}
+use Rattle.node_list.proofs.ChainLemmas.{out-not-linked, spread, next_is, chain_absent, absent_free}
+use Rattle.node_list.proofs.ChainSteps.{chain_linked, chain_unlinked, chain_changed, starts_linked, starts_unlinked, starts_changed}
+use Rattle.node_list.proofs.StampLemmas.{stamps_kept, stamps_freed}
+use Rattle.node_list.proofs.SpareSteps.{out_in, slot_out}
 
 -- A write at a slot in use.
 write_updates : (old new : Slab SlotAt) (place : ℕ) (was slot : SlotAt) → get old place ≡ Some was → new ≡ with_value old place slot → Updates old new place (Some slot)
 write_updates old new place was slot is written = rw written (Updates-with_value old place slot (rw is refl))
-
--- A new list.
-module _ (old new : Slab SlotAt) (head stamp : ℕ) (empty : old.slots ≡ []) (updates : Updates old new head (Some (Linked (stored (first_dummy head stamp) None)))) where
-  nothing_at : (place : ℕ) → get old place ≡ None
-  nothing_at place = ap (λ (slots : List (Option SlotAt)). get_or slots place None) empty
-
-  pub new_laid_out : IsLaidOut new head (first_dummy head stamp ∷ [])
-  unfolding IsChain IsRising IsLinked
-  new_laid_out = record {
-    chain = (updates.changed, tt);
-    starts = record { node = first_dummy head stamp; is = refl; place = refl; at = refl; kind = refl };
-    rising = (tt, tt);
-    plain = (λ dummy. refl, tt);
-    all = λ place node is. elim (cases_eq place head) [
-      | inl here ↦ inl (sym here)
-      | inr apart ↦ absurd (some-none (sym is ∙ updates.others place apart ∙ nothing_at place))
-    ];
-  }
-
-  pub new_stamps : HasStamps new stamp
-  new_stamps =
-      let none : HasStamps old stamp = record { bound = λ p s is. absurd (some-none (sym is ∙ nothing_at p)); one_place = λ p q s t is_s is_t same. absurd (some-none (sym is_s ∙ nothing_at p)) } in
-      stamps_set old new stamp stamp head _ none updates (omega arith) (omega arith) (λ other there apart is. absurd (some-none (sym is ∙ nothing_at other)))
-
-  pub new_out : (place : ℕ) → get_or (map out_stamp new.slots) place None ≡ None
-  new_out place = out_in new place ∙ elim (cases_eq place head) [
-    | inl here ↦ rw here (ap out_stamp updates.changed)
-    | inr apart ↦ ap out_stamp (updates.others place apart ∙ nothing_at place)
-  ]
-
--- A spare is given out.
-module _ (old new : Slab SlotAt) (head place stamp : ℕ) (nodes : List NodeAt) (free : get old place ≡ None) (updates : Updates old new place (Some (Out stamp))) where
-  pub spare_laid_out : IsLaidOut old head nodes → IsLaidOut new head nodes
-  spare_laid_out laid =
-      let absent = absent_free (get old) nodes place laid.chain (λ node is. some-none (sym is ∙ free)) in
-      record {
-        chain = chain_absent (get old) (get new) place nodes laid.chain absent updates.others;
-        starts = laid.starts;
-        rising = laid.rising;
-        plain = laid.plain;
-        all = λ other node is. elim (cases_eq other place) [
-          | inl here ↦ absurd (out-not-linked (sym updates.changed ∙ rw here at is))
-          | inr apart ↦ laid.all other node (sym (updates.others other apart) ∙ is)
-        ];
-      }
-
-  pub spare_stamps : (last : ℕ) → stamp ≡ last + 1 → HasStamps old last → HasStamps new stamp
-  spare_stamps last above stamps =
-      stamps_set old new last stamp place (Out stamp) stamps updates (omega arith) (omega arith)
-      (λ other there apart is same. let low = stamps.bound other there is in absurd (omega arith))
-
-  pub spare_out : get_or (map out_stamp new.slots) place None ≡ Some stamp
-  spare_out = out_in new place ∙ ap out_stamp updates.changed
-
-  pub spare_was_free : get_or (map out_stamp old.slots) place None ≡ None
-  spare_was_free = out_in old place ∙ ap out_stamp free
-
-  pub spare_others : (other : ℕ) → other ≢ place → get_or (map out_stamp new.slots) other None ≡ get_or (map out_stamp old.slots) other None
-  spare_others other apart = out_in new other ∙ ap out_stamp (updates.others other apart) ∙ sym (out_in old other)
-
--- A spare is given back.
-module _ (old new : Slab SlotAt) (head place stamp : ℕ) (nodes : List NodeAt)
-    (is_out : get_or (map out_stamp old.slots) place None ≡ Some stamp)
-    (freed : Updates old new place None) where
-  back_slot : get old place ≡ Some (Out stamp)
-  back_slot = slot_out (get old place) stamp (sym (out_in old place) ∙ is_out)
-
-  pub back_laid_out : IsLaidOut old head nodes → IsLaidOut new head nodes
-  back_laid_out laid =
-      let absent = absent_free (get old) nodes place laid.chain (λ node is. out-not-linked (sym back_slot ∙ is)) in
-      record {
-        chain = chain_absent (get old) (get new) place nodes laid.chain absent freed.others;
-        starts = laid.starts;
-        rising = laid.rising;
-        plain = laid.plain;
-        all = λ other node is. elim (cases_eq other place) [
-          | inl here ↦ absurd (some-none (sym (rw here at is) ∙ freed.changed))
-          | inr apart ↦ laid.all other node (sym (freed.others other apart) ∙ is)
-        ];
-      }
-
-  pub back_stamps : (last : ℕ) → HasStamps old last → HasStamps new last
-  back_stamps last stamps = stamps_freed old new last place stamps freed
-
-  pub back_gone : get_or (map out_stamp new.slots) place None ≡ None
-  back_gone = out_in new place ∙ ap out_stamp freed.changed
-
-  pub back_others : (other : ℕ) → other ≢ place → get_or (map out_stamp new.slots) other None ≡ get_or (map out_stamp old.slots) other None
-  back_others other apart = out_in new other ∙ ap out_stamp (freed.others other apart) ∙ sym (out_in old other)
 
 -- A node is linked.
 module _ (old mid new : Slab SlotAt) (head last pred : ℕ) (nodes : List NodeAt) (x : NodeAt) (before : Node)
@@ -261,43 +163,3 @@ module _ (old mid new : Slab SlotAt) (head last pred place : ℕ) (nodes : List 
       | inr further ↦ ap out_stamp (passed.others other further) ∙ sym (out_in old other)
     ]
   ]
-
--- The fields are kept with these nodes.
-pub kept : (slab : Slab SlotAt) (head last count marked : ℕ) (nodes : List NodeAt) → IsLaidOut slab head nodes → HasStamps slab last → last < 2 ^ 64 - 1 → count ≡ live_count nodes → marked ≡ marked_count nodes → IsKept slab head last count marked
-kept slab head last count marked nodes laid stamps below counted marks =
-    let same = nodes_in_is slab head nodes laid in
-    record {
-      laid_out = rw same laid;
-      stamps = stamps;
-      below = below;
-      counted = rw same counted;
-      marks = rw same marks;
-    }
-
--- A slab that only has more room.
-pub grown : (slab : Slab SlotAt) (room head : ℕ) → nodes_in (record slab { capacity = room }) head ≡ nodes_in slab head
-unfolding nodes_in
-grown slab room head = refl
-
-pub kept_grown : (slab : Slab SlotAt) (room head last count marked : ℕ) → IsKept slab head last count marked → IsKept (record slab { capacity = room }) head last count marked
-kept_grown slab room head last count marked is =
-    let laid : IsLaidOut (record slab { capacity = room }) head (nodes_in slab head) = record {
-      chain = is.laid_out.chain;
-      starts = is.laid_out.starts;
-      rising = is.laid_out.rising;
-      plain = is.laid_out.plain;
-      all = is.laid_out.all;
-    } in
-    kept _ head last count marked (nodes_in slab head) laid (record { bound = is.stamps.bound; one_place = is.stamps.one_place }) is.below is.counted is.marks
-
-pub listing_grown : (slab : Slab SlotAt) (room head changes last : ℕ) → listing_of (record slab { capacity = room }) head changes last ≡ listing_of slab head changes last
-listing_grown slab room head changes last = rw (grown slab room head) refl
-
--- The answer of which `ok` hands on a value, or none.
-pub ok_some : {T E : Type 0} (r : Result T E) (x : T) → result_ok r ≡ Some x → r ≡ Ok x
-ok_some (Ok y) x is = ap Ok (some-injective is)
-ok_some (Err e) x is = absurd (some-none (sym is))
-
-pub ok_none : {T E : Type 0} (r : Result T E) → result_ok r ≡ None → (e : E) × (r ≡ Err e)
-ok_none (Ok y) is = absurd (some-none is)
-ok_none (Err e) is = (e, refl)

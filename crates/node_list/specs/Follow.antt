@@ -1,5 +1,5 @@
 -- What stays true of nodes and spares while a list changes.
-use Rattle.std.specs.Prelude.{◌≡◌, ℕ, ◌<◌, ◌≤◌, ◌-◌, ◌^◌, min, ◌⊎◌, Some}
+use Rattle.std.specs.Prelude.{◌≡◌, ℕ, ◌<◌, ◌≤◌, ◌-◌, ◌^◌, ◌⊎◌, Some}
 use Rattle.node_list.specs.declared.node.Kind.TheVariants.{Dummy}
 use Rattle.node_list.specs.Nodes.{NodeAt, Listing, node_of, out_at}
 use Rattle.node_list.specs.Sound.{IsSound}
@@ -22,11 +22,11 @@ abbrev pub IsStillThere : Listing → ℕ → NodeAt → Type 0
 IsStillThere new place n = (m : NodeAt) × (node_of new.nodes place ≡ Some m) × IsSameNode n m
 
 -- A list at two times: what is true of every list stays true, no stamp comes back, a linked dummy
--- stays linked, and while the change number stays the nodes do.
+-- stays linked, the change number never falls, and while it stays the nodes do.
 pub record Follows (old new : Listing) : Type 0 where
   pub sound : IsSound old → IsSound new
   pub last : old.last ≤ new.last
-  pub changes : min old.changes (2 ^ 64 - 1) ≤ new.changes
+  pub changes : old.changes ≤ new.changes
   pub still : new.changes ≡ old.changes → new.changes < 2 ^ 64 - 1 → new.nodes ≡ old.nodes
   pub linked : (place : ℕ) (n : NodeAt) → node_of new.nodes place ≡ Some n → WasThere old place n
   pub out : (place stamp : ℕ) → out_at new place ≡ Some stamp

@@ -1,5 +1,5 @@
 //! The list.
-ghost use Rattle.std.specs.Prelude.{◌≡◌, ◌≢◌, ℕ, ◌+◌, ◌-◌, ◌<◌, ◌≤◌, ◌^◌, ◌↔◌, Some, None, Err, [], ◌∷◌, IfOk, OnErr, IfSome, IfNone, IsSomeAnd, false};
+ghost use Rattle.std.specs.Prelude.{◌≡◌, ℕ, ◌+◌, ◌-◌, ◌<◌, ◌^◌, ◌↔◌, Some, None, Err, [], ◌∷◌, IfOk, OnErr, IfSome, IfNone, IsSomeAnd, false};
 ghost use Rattle.std.specs.List.{AllByRecursion};
 ghost use Rattle.node_list.specs.Follow.{Follows};
 ghost use Rattle.node_list.specs.Nodes.{out_at, IsOut, filled, first_dummy, IsLinked, IsRegularAt, IsBeforeMarked, node_of, next_of, place_of, live_count, marked_count, one_more, linked_after, unlinked_after, marked_at, written_at, GivesOut, Becomes, Takes, TakesBack};
@@ -42,7 +42,8 @@ impl Model for NodeList {
 
 /// Counts one change more, up to 2^64 - 1.
 fn advance(changes: &mut u64)
-    ensures { changes.new ≡ one_more changes.old }
+    ensures next { changes.new ≡ one_more changes.old }
+    ensures fits { changes.old < 2 ^ 64 }
 {
     *changes = changes.saturating_add(1);
 }
@@ -58,6 +59,7 @@ impl NodeList {
         ensures out { IfOk result (λ list. (place : ℕ) → out_at list place ≡ None) }
         ensures changes { IfOk result (λ list. list.changes ≡ 0) }
         ensures last { IfOk result (λ list. list.last ≡ first_stamp) }
+        ensures sound { IfOk result IsSound }
     {
         let marks = Tally::new(alloc)?;
         let mut slab = Slab::new(alloc);
@@ -99,7 +101,7 @@ impl NodeList {
         let Ok(place) = u32::try_from(self.slab.vacant_key()) else {
             return Err(SpareFault::NoMemory);
         };
-        match self.slab.insert(Slot::out(stamp)).ok() {
+        match self.slab.insert(Slot::out(&node)).ok() {
             Some(_) => {
                 self.last = stamp;
                 Ok(Spare::of(NodeRef::new(place), node))
@@ -254,6 +256,7 @@ impl NodeList {
         ensures from { IfSome result (λ split. AreMarksFrom split self.now.nodes) }
         ensures near { IfSome result (λ split. IsSomeAnd (first_marked self.now.nodes)
             (λ n. n.at.split < split + 2 ^ 52)) }
+        ensures sound { IsSound self.now }
     {
         self.marks.first()
     }

@@ -6,7 +6,6 @@ ghost use Rattle.node_list.specs.Slots.{Linked, Out, node_in};
 
 use crate::node::{Node, NodeRef};
 use slab::Slab;
-use split_key::SortKey;
 use std::marker::Model;
 use std::mem::size_of;
 
@@ -36,11 +35,11 @@ impl Slot {
         Slot { node }
     }
 
-    /// The stamp of a spare whose place is kept.
-    pub fn out(stamp: u64) -> Self
-        ensures { result ≡ Out stamp }
+    /// The stamp of a spare whose place is kept, which is that of this node.
+    pub fn out(node: &Node) -> Self
+        ensures { result ≡ Out node.now.stamp }
     {
-        let mut node = Node::dummy(SortKey::dummy(0), stamp);
+        let mut node = *node;
         node.is_linked = false;
         Slot { node }
     }

@@ -41,7 +41,7 @@ returns-else-is_expected-clause-writes c =
       | in-Some w ↦ let has = rw w.in-Some.is at c.requires.stands in w.was-is ∙ value_there _ _ _ _ has w.node.ensures.node
     ] in
     let back = (c.give_back.ensures.back no_buckets).nodes in
-    rw (← was, sym c.is_expected.ensures ∙ c.if-is_expected.false) (record { nodes = back.all; changes = back.turn })
+    rw (← was, sym c.is_expected.ensures ∙ c.if-is_expected.false) (record { nodes = back.all; changes = back.changes })
 
 pub returns-else-is_expected-clause-belong : goal.returns-else-is_expected-clause-belong
 returns-else-is_expected-clause-belong c = subst Belong (sym (c.give_back.ensures.back no_buckets).nodes.all) c.requires.belong

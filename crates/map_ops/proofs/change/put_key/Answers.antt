@@ -31,7 +31,7 @@ returns-in-Some-clause-spares c = λ buckets.
 pub returns-in-Some-clause-writes : goal.returns-in-Some-clause-writes
 returns-in-Some-clause-writes c =
     let back = (c.give_back.ensures.back no_buckets).nodes in
-    written_then_back _ _ _ _ _ c.swap_key-old.ensures.writes back.all back.turn
+    written_then_back _ _ _ _ _ c.swap_key-old.ensures.writes back.all back.changes
 
 pub returns-in-Some-clause-belong : goal.returns-in-Some-clause-belong
 returns-in-Some-clause-belong c = subst Belong (sym (c.give_back.ensures.back no_buckets).nodes.all) c.swap_key-old.ensures.belong

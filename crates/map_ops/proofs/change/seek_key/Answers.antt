@@ -5,7 +5,6 @@ use Rattle.bucket_table.specs.Directory.{IsNearest}
 use Rattle.map_ops.specs.Sound.{Belong}
 use Rattle.map_ops.proofs.BelongLemmas.{belong_sought}
 use Rattle.map_ops.proofs.DoesLemmas.{places}
-use Rattle.map_ops.proofs.SoundLemmas.{turn_rises}
 use Rattle.map_ops.proofs.change.seek_key.Goals as goal
 
 pub returns-clause-places : goal.returns-clause-places
@@ -25,4 +24,4 @@ pub returns-clause-belong : goal.returns-clause-belong
 returns-clause-belong c = subst Belong (sym c.seek.ensures.nodes) (belong_sought _ _ _ c.requires.belong)
 
 pub returns-clause-rises : goal.returns-clause-rises
-returns-clause-rises c = turn_rises c.args.list.now c.seek.new.list c.changes-turn.result c.seek.ensures.follows c.changes-turn.ensures.changes c.changes-turn.type_inv
+returns-clause-rises c = c.seek.ensures.follows.changes

@@ -16,7 +16,7 @@ pub returns-in-None-clause-writes : goal.returns-in-None-clause-writes
 returns-in-None-clause-writes c =
     let room = rw c.in-None.is at c.requires.stands in
     let back = (c.give_back.ensures.back no_buckets).nodes in
-    rw room.none (record { nodes = back.all; changes = back.turn })
+    rw room.none (record { nodes = back.all; changes = back.changes })
 
 pub returns-in-None-clause-belong : goal.returns-in-None-clause-belong
 returns-in-None-clause-belong c = subst Belong (sym (c.give_back.ensures.back no_buckets).nodes.all) c.requires.belong

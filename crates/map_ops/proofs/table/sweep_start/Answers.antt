@@ -18,8 +18,8 @@ pub returns-in-Some : goal.returns-in-Some
 returns-in-Some c =
     let dummy = c.nearest.ensures.before c.args.list.now c.requires in
     let from = at_some (λ split. AreMarksFrom split c.args.list.now.nodes) c.marks_begin.result c.in-Some.split c.in-Some.is c.marks_begin.ensures.from in
-    before_marks c.args.list.now _ c.bucket_at.result c.in-Some.split dummy.node c.changes-changes.ensures.sound dummy.is dummy.kind dummy.at_most (c.bucket_at.ensures.order c.bucket_at.result (own_ancestor c.bucket_at.result)) from
+    before_marks c.args.list.now _ c.bucket_at.result c.in-Some.split dummy.node c.marks_begin.ensures.sound dummy.is dummy.kind dummy.at_most (c.bucket_at.ensures.order c.bucket_at.result (own_ancestor c.bucket_at.result)) from
 
 pub returns-in-None : goal.returns-in-None
 returns-in-None c =
-    rw c.head.ensures.place (head_before_marks c.args.list.now c.changes-changes.ensures.sound)
+    rw c.head.ensures.place (head_before_marks c.args.list.now c.marks_begin.ensures.sound)

@@ -2,7 +2,8 @@ use Rattle.std.proofs.Common.{sym, ◌∙◌, ap}
 use Rattle.node_list.specs.Nodes.{IsLinked, next_of}
 use Rattle.node_list.specs.Seen.{seen}
 use Rattle.node_list.proofs.OrderLemmas.{some-none}
-use Rattle.node_list.proofs.NodesLemmas.{found_linked, linked_more, next_linked, next-found, next_of-single, still_linked, now_linked, marked_linked, written_linked}
+use Rattle.node_list.proofs.NodesLemmas.{found_linked, linked_more, next_linked, next-found, next_of-single}
+use Rattle.node_list.proofs.AfterLemmas.{still_linked, now_linked, marked_linked, written_linked}
 use Rattle.node_list.proofs.tests.calls_in_turn.Goals as goal
 
 pub link_after-requires-clause-vacant : goal.link_after-requires-clause-vacant

@@ -1,5 +1,5 @@
 use Rattle.std.proofs.Common.{refl, sym}
-use Rattle.map_ops.proofs.SoundLemmas.{still_sound, turn_rises}
+use Rattle.map_ops.proofs.SoundLemmas.{still_sound}
 use Rattle.map_ops.proofs.KeepLemmas.{follows}
 use Rattle.map_ops.proofs.table.Table.act.Goals as goal
 
@@ -12,7 +12,7 @@ returns-in-Ok-clause-acts c =
     rw (← c.self.view_is) (sym c.in-Ok.ensures.again, does)
 
 pub returns-in-Ok-clause-rises : goal.returns-in-Ok-clause-rises
-returns-in-Ok-clause-rises c = rw (← c.self.view_is) (turn_rises c.self.inside.list c.change-reply.new.list _ c.change-reply.ensures.follows refl c.find.ensures.changes)
+returns-in-Ok-clause-rises c = rw (← c.self.view_is) c.change-reply.ensures.follows.changes
 
 pub returns-in-Ok-clause-follows : goal.returns-in-Ok-clause-follows
 returns-in-Ok-clause-follows c = rw (← c.self.view_is) (follows c.self.inside.list c.change-reply.new.list c.self.inside.buckets _ c.change-reply.ensures.follows)

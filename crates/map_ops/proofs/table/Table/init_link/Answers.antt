@@ -1,10 +1,10 @@
 use Rattle.std.proofs.Common.{◌∙◌, ap, sym, map}
 use Rattle.std.specs.List.{slice_get}
 use Rattle.map_ops.specs.TableAt.{help_of, linked_of, table_of}
-use Rattle.map_ops.specs.Buckets.{answered, helper_fits}
-use Rattle.map_ops.proofs.BucketLemmas.{link_answers, link_changes, link_even, helper_in_turn, fits_not_again, no_memory_alone}
+use Rattle.map_ops.specs.Buckets.{answer_for, helper_fits}
+use Rattle.map_ops.proofs.BucketAnswers.{link_answers, helper_still_fits, fits_not_again, no_memory_alone}
+use Rattle.map_ops.proofs.BucketLemmas.{link_changes, link_even}
 use Rattle.map_ops.proofs.WriteLemmas.{link_writes}
-use Rattle.map_ops.proofs.SoundLemmas.{turn_rises}
 use Rattle.map_ops.proofs.table.Table.init_link.Goals as goal
 
 pub invariant_of-self : goal.invariant_of-self
@@ -13,26 +13,26 @@ invariant_of-self c = record {
   home = c.init_link.ensures.home;
   belong = record {
     keyed = c.init_link.ensures.keyed;
-    even = link_even c.self.inside.list c.init_link.new.list c.self.inside.buckets c.init_link.new.self c.args.helper c.init_link.result c.size-size.ensures.sound c.init_link.ensures.changes c.self.invariant.belong.even;
+    even = link_even c.self.inside.list c.init_link.new.list c.self.inside.buckets c.init_link.new.self c.args.helper c.init_link.result c.init_link.ensures.sound c.init_link.ensures.changes c.self.invariant.belong.even;
   };
 }
 
 pub returns-clause-answer : goal.returns-clause-answer
-returns-clause-answer c = rw (← c.self.view_is) (λ other. c.answered.ensures ∙ ap answered (c.init_link.ensures.answer (λ is. other (c.answered.ensures ∙ ap answered is))) ∙ link_answers c.self.inside.list c.self.inside.buckets c.args.helper c.size-size.ensures.sound)
+returns-clause-answer c = rw (← c.self.view_is) (λ other. c.answer_for.ensures ∙ ap answer_for (c.init_link.ensures.answer (λ is. other (c.answer_for.ensures ∙ ap answer_for is))) ∙ link_answers c.self.inside.list c.self.inside.buckets c.args.helper c.init_link.ensures.sound)
 
 pub returns-clause-no_memory : goal.returns-clause-no_memory
-returns-clause-no_memory c = rw (← c.self.view_is) (λ is. sym (link_answers c.self.inside.list c.self.inside.buckets c.args.helper c.size-size.ensures.sound) ∙ ap answered (c.init_link.ensures.no_memory (no_memory_alone c.init_link.result (sym c.answered.ensures ∙ is))))
+returns-clause-no_memory c = rw (← c.self.view_is) (λ is. sym (link_answers c.self.inside.list c.self.inside.buckets c.args.helper c.init_link.ensures.sound) ∙ ap answer_for (c.init_link.ensures.no_memory (no_memory_alone c.init_link.result (sym c.answer_for.ensures ∙ is))))
 
-pub returns-clause-in_turn : goal.returns-clause-in_turn
-returns-clause-in_turn c = rw (← c.self.view_is) (λ bucket had below again.
-    fits_not_again (helper_fits (table_of c.self.inside.list c.self.inside.buckets) c.args.helper) (linked_of (table_of c.self.inside.list c.self.inside.buckets)) c.self.inside.list.last bucket c.self.inside.list.changes (slice_get (map help_of c.self.inside.buckets.helpers) c.args.helper) had (helper_in_turn c.self.inside.list c.self.inside.buckets c.args.helper bucket c.self.invariant.home had below)
-    (sym (link_answers c.self.inside.list c.self.inside.buckets c.args.helper c.size-size.ensures.sound) ∙ ap answered (sym (c.init_link.ensures.answer (λ refused. cc (sym again ∙ c.answered.ensures ∙ ap answered refused)))) ∙ sym c.answered.ensures ∙ again))
+pub returns-clause-held : goal.returns-clause-held
+returns-clause-held c = rw (← c.self.view_is) (λ bucket had below again.
+    fits_not_again (helper_fits (table_of c.self.inside.list c.self.inside.buckets) c.args.helper) (linked_of (table_of c.self.inside.list c.self.inside.buckets)) c.self.inside.list.last bucket c.self.inside.list.changes (slice_get (map help_of c.self.inside.buckets.helpers) c.args.helper) had (helper_still_fits c.self.inside.list c.self.inside.buckets c.args.helper bucket c.self.invariant.home had below)
+    (sym (link_answers c.self.inside.list c.self.inside.buckets c.args.helper c.init_link.ensures.sound) ∙ ap answer_for (sym (c.init_link.ensures.answer (λ refused. cc (sym again ∙ c.answer_for.ensures ∙ ap answer_for refused)))) ∙ sym c.answer_for.ensures ∙ again))
 
 pub returns-clause-changes : goal.returns-clause-changes
-returns-clause-changes c = rw (c.answered.ensures, ← c.self.view_is) (link_changes c.self.inside.list c.init_link.new.list c.self.inside.buckets c.init_link.new.self c.args.helper c.init_link.result c.size-size.ensures.sound c.init_link.ensures.answer c.init_link.ensures.changes c.init_link.ensures.content)
+returns-clause-changes c = rw (c.answer_for.ensures, ← c.self.view_is) (link_changes c.self.inside.list c.init_link.new.list c.self.inside.buckets c.init_link.new.self c.args.helper c.init_link.result c.init_link.ensures.sound c.init_link.ensures.answer c.init_link.ensures.changes c.init_link.ensures.content)
 
 pub returns-clause-rises : goal.returns-clause-rises
-returns-clause-rises c = rw (← c.self.view_is) (turn_rises c.self.inside.list c.init_link.new.list c.changes-turn.result c.init_link.ensures.follows c.changes-turn.ensures.changes c.changes-turn.type_inv)
+returns-clause-rises c = rw (← c.self.view_is) c.init_link.ensures.follows.changes
 
 pub returns-clause-writes : goal.returns-clause-writes
-returns-clause-writes c = rw (c.answered.ensures, ← c.self.view_is) (λ bucket turn had. link_writes c.self.inside.list c.init_link.new.list c.self.inside.buckets c.init_link.new.self c.args.helper bucket turn c.init_link.result had c.init_link.ensures.changes)
+returns-clause-writes c = rw (c.answer_for.ensures, ← c.self.view_is) (λ bucket noted had. link_writes c.self.inside.list c.init_link.new.list c.self.inside.buckets c.init_link.new.self c.args.helper bucket noted c.init_link.result had c.init_link.ensures.changes)

@@ -1,8 +1,8 @@
 use Rattle.std.proofs.Common.{◌∙◌, ap}
-use Rattle.map_ops.specs.Buckets.{answered}
-use Rattle.map_ops.proofs.BucketLemmas.{seek_answers, seek_changes, seek_even}
+use Rattle.map_ops.specs.Buckets.{answer_for}
+use Rattle.map_ops.proofs.BucketAnswers.{seek_answers}
+use Rattle.map_ops.proofs.BucketLemmas.{seek_changes, seek_even}
 use Rattle.map_ops.proofs.WriteLemmas.{seek_writes}
-use Rattle.map_ops.proofs.SoundLemmas.{turn_rises}
 use Rattle.map_ops.proofs.KeepLemmas.{follows}
 use Rattle.map_ops.proofs.table.Table.init_seek.Goals as goal
 
@@ -17,16 +17,16 @@ invariant_of-self c = record {
 }
 
 pub returns-clause-answer : goal.returns-clause-answer
-returns-clause-answer c = rw (← c.self.view_is) (c.answered.ensures ∙ ap answered c.init_seek.ensures.answer ∙ seek_answers c.self.inside.buckets c.args.helper c.args.bucket)
+returns-clause-answer c = rw (← c.self.view_is) (c.answer_for.ensures ∙ ap answer_for c.init_seek.ensures.answer ∙ seek_answers c.self.inside.buckets c.args.helper c.args.bucket)
 
 pub returns-clause-changes : goal.returns-clause-changes
-returns-clause-changes c = rw (c.answered.ensures, ← c.self.view_is) (seek_changes c.self.inside.list c.init_seek.new.list c.self.inside.buckets c.init_seek.new.self c.args.helper c.args.bucket c.init_seek.result c.init_seek.ensures.answer c.init_seek.ensures.changes c.init_seek.ensures.content c.init_seek.ensures.dummies (c.init_seek.ensures.follows.sound c.self.invariant.sound))
+returns-clause-changes c = rw (c.answer_for.ensures, ← c.self.view_is) (seek_changes c.self.inside.list c.init_seek.new.list c.self.inside.buckets c.init_seek.new.self c.args.helper c.args.bucket c.init_seek.result c.init_seek.ensures.answer c.init_seek.ensures.changes c.init_seek.ensures.content c.init_seek.ensures.dummies (c.init_seek.ensures.follows.sound c.self.invariant.sound))
 
 pub returns-clause-rises : goal.returns-clause-rises
-returns-clause-rises c = rw (← c.self.view_is) (turn_rises c.self.inside.list c.init_seek.new.list c.changes-turn.result c.init_seek.ensures.follows c.changes-turn.ensures.changes c.changes-turn.type_inv)
+returns-clause-rises c = rw (← c.self.view_is) c.init_seek.ensures.follows.changes
 
 pub returns-clause-follows : goal.returns-clause-follows
 returns-clause-follows c = rw (← c.self.view_is) (follows c.self.inside.list c.init_seek.new.list c.self.inside.buckets _ c.init_seek.ensures.follows)
 
 pub returns-clause-writes : goal.returns-clause-writes
-returns-clause-writes c = rw (c.answered.ensures, ← c.self.view_is) (seek_writes c.self.inside.list c.init_seek.new.list c.self.inside.buckets c.init_seek.new.self c.args.helper c.args.bucket c.init_seek.result c.init_seek.ensures.changes)
+returns-clause-writes c = rw (c.answer_for.ensures, ← c.self.view_is) (seek_writes c.self.inside.list c.init_seek.new.list c.self.inside.buckets c.init_seek.new.self c.args.helper c.args.bucket c.init_seek.result c.init_seek.ensures.changes)

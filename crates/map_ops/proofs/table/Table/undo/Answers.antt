@@ -1,5 +1,5 @@
 use Rattle.std.proofs.Common.{refl, sym}
-use Rattle.map_ops.proofs.SoundLemmas.{still_sound, turn_rises}
+use Rattle.map_ops.proofs.SoundLemmas.{still_sound}
 use Rattle.map_ops.proofs.KeepLemmas.{follows}
 use Rattle.map_ops.proofs.table.Table.undo.Goals as goal
 
@@ -10,7 +10,7 @@ pub returns-in-Ok-clause-undoes : goal.returns-in-Ok-clause-undoes
 returns-in-Ok-clause-undoes c = rw (← c.self.view_is) (sym c.in-Ok.ensures.again, c.restore.ensures.back c.self.inside.buckets)
 
 pub returns-in-Ok-clause-rises : goal.returns-in-Ok-clause-rises
-returns-in-Ok-clause-rises c = rw (← c.self.view_is) (turn_rises c.self.inside.list c.restore.new.list _ c.restore.ensures.follows refl c.find.ensures.changes)
+returns-in-Ok-clause-rises c = rw (← c.self.view_is) c.restore.ensures.follows.changes
 
 pub returns-in-Ok-clause-follows : goal.returns-in-Ok-clause-follows
 returns-in-Ok-clause-follows c = rw (← c.self.view_is) (follows c.self.inside.list c.restore.new.list c.self.inside.buckets _ c.restore.ensures.follows)

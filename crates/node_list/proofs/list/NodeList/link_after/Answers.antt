@@ -62,7 +62,7 @@ returns-clause-linked c =
     let weight = rw c.into_node-node.ensures at c.weight-weight.ensures in
     let filled = rw (c.place-2.ensures, c.node-place.ensures, c.linked.ensures, c.into_node-node.ensures) at c.set_slot.ensures in
     let now = filled_in _ _ c.self.inside.changes _ _ _ c.self.invariant.kept _ _ _ slot.0 c.args.spare _ slot.1 out (next_was slot.1) (pointed slot.1) _ weight filled linked order in
-    rw (c.advance.ensures, ← c.self.view_is) now.1
+    rw (c.advance.ensures.next, ← c.self.view_is) now.1
 
 pub returns-clause-node : goal.returns-clause-node
 returns-clause-node c =
@@ -90,4 +90,4 @@ returns-clause-follows c =
     let weight = rw c.into_node-node.ensures at c.weight-weight.ensures in
     let filled = rw (c.place-2.ensures, c.node-place.ensures, c.linked.ensures, c.into_node-node.ensures) at c.set_slot.ensures in
     let now = filled_in _ _ c.self.inside.changes _ _ _ c.self.invariant.kept _ _ _ slot.0 c.args.spare _ slot.1 out (next_was slot.1) (pointed slot.1) _ weight filled linked order in
-    rw (c.advance.ensures, ← c.self.view_is) now.3
+    rw (c.advance.ensures.next, ← c.self.view_is) (now.3 c.advance.ensures.fits)

@@ -1,7 +1,9 @@
 use Rattle.std.proofs.Common.{refl}
 use Rattle.node_list.specs.Nodes.{count_where}
 use Rattle.node_list.proofs.ChainLemmas.{nodes_in_is}
-use Rattle.node_list.proofs.SlabSteps.{kept, new_laid_out, new_stamps, new_out}
+use Rattle.node_list.proofs.FollowLemmas.{sound}
+use Rattle.node_list.proofs.KeptLemmas.{kept}
+use Rattle.node_list.proofs.SpareSteps.{new_laid_out, new_stamps, new_out}
 use Rattle.node_list.proofs.TallyLemmas.{tallied_new}
 use Rattle.node_list.proofs.list.NodeList.new.Goals as goal
 
@@ -24,3 +26,6 @@ pub returns-in-Ok-clause-out : goal.returns-in-Ok-clause-out
 returns-in-Ok-clause-out c =
     let updates = rw (c.linked.ensures, c.dummy-node.ensures, c.dummy.ensures.value, c.in-Ok.ensures.key, c.new-slab.ensures.first_key) at c.in-Ok.ensures.updates in
     new_out _ _ _ _ c.new-slab.ensures.empty updates
+
+pub returns-in-Ok-clause-sound : goal.returns-in-Ok-clause-sound
+returns-in-Ok-clause-sound c = sound _ _ _ _ _ _ (invariant_of-result c).kept

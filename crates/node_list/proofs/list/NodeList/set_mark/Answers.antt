@@ -44,11 +44,11 @@ returns-clause-marked c =
     let regular = rw (← c.self.view_is) at c.requires in
     let is_node = rw c.place.ensures at c.node_at.ensures in
     let is_written = rw c.place-2.ensures at c.mark.ensures c.node_at.result.now in
-    rw (c.advance.ensures, ← c.self.view_is) ((node_marked _ _ _ _ _ _ c.self.invariant.kept _ _ _ regular is_node (is_written is_node)).1)
+    rw (c.advance.ensures.next, ← c.self.view_is) ((node_marked _ _ _ _ _ _ c.self.invariant.kept _ _ _ regular is_node (is_written is_node)).1)
 
 pub returns-clause-follows : goal.returns-clause-follows
 returns-clause-follows c =
     let regular = rw (← c.self.view_is) at c.requires in
     let is_node = rw c.place.ensures at c.node_at.ensures in
     let is_written = rw c.place-2.ensures at c.mark.ensures c.node_at.result.now in
-    rw (c.advance.ensures, ← c.self.view_is) ((node_marked _ _ _ _ _ _ c.self.invariant.kept _ _ _ regular is_node (is_written is_node)).2)
+    rw (c.advance.ensures.next, ← c.self.view_is) ((node_marked _ _ _ _ _ _ c.self.invariant.kept _ _ _ regular is_node (is_written is_node)).2 c.advance.ensures.fits)

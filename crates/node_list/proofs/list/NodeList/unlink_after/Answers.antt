@@ -53,7 +53,7 @@ returns-in-Some-clause-unlinked c =
     let is_behind = rw c.place-in-Some.ensures at c.node_at-behind.ensures in
     let passed = rw c.place-in-Some-2.ensures at c.replace_next.ensures.now c.node_at.result.now in
     let freed = rw c.place-in-Some-3.ensures at c.try_remove.ensures.updates in
-    rw (c.advance.ensures, ← c.self.view_is) ((unlinked _ _ _ _ _ _ c.self.invariant.kept _ _ _ _ _ _ behind is_before c.in-Some.is is_behind (passed is_before) freed).1)
+    rw (c.advance.ensures.next, ← c.self.view_is) ((unlinked _ _ _ _ _ _ c.self.invariant.kept _ _ _ _ _ _ behind is_before c.in-Some.is is_behind (passed is_before) freed).1)
 
 pub returns-in-Some-clause-follows : goal.returns-in-Some-clause-follows
 returns-in-Some-clause-follows c =
@@ -62,7 +62,7 @@ returns-in-Some-clause-follows c =
     let is_behind = rw c.place-in-Some.ensures at c.node_at-behind.ensures in
     let passed = rw c.place-in-Some-2.ensures at c.replace_next.ensures.now c.node_at.result.now in
     let freed = rw c.place-in-Some-3.ensures at c.try_remove.ensures.updates in
-    rw (c.advance.ensures, ← c.self.view_is) ((unlinked _ _ _ _ _ _ c.self.invariant.kept _ _ _ _ _ _ behind is_before c.in-Some.is is_behind (passed is_before) freed).2)
+    rw (c.advance.ensures.next, ← c.self.view_is) ((unlinked _ _ _ _ _ _ c.self.invariant.kept _ _ _ _ _ _ behind is_before c.in-Some.is is_behind (passed is_before) freed).2 c.advance.ensures.fits)
 
 pub returns-in_default-clause-unlinked : goal.returns-in_default-clause-unlinked
 returns-in_default-clause-unlinked c =

@@ -20,11 +20,11 @@ returns-clause-written c =
     let linked = rw (← c.self.view_is) at c.requires in
     let slot = slot_linked _ _ _ _ _ _ c.self.invariant.kept linked in
     let is_written = rw c.place.ensures at c.set_value.ensures slot.0 in
-    rw (c.advance.ensures, ← c.self.view_is) ((value_written _ _ _ _ _ _ c.self.invariant.kept _ _ _ slot.0 linked slot.1 (is_written slot.1)).1)
+    rw (c.advance.ensures.next, ← c.self.view_is) ((value_written _ _ _ _ _ _ c.self.invariant.kept _ _ _ slot.0 linked slot.1 (is_written slot.1)).1)
 
 pub returns-clause-follows : goal.returns-clause-follows
 returns-clause-follows c =
     let linked = rw (← c.self.view_is) at c.requires in
     let slot = slot_linked _ _ _ _ _ _ c.self.invariant.kept linked in
     let is_written = rw c.place.ensures at c.set_value.ensures slot.0 in
-    rw (c.advance.ensures, ← c.self.view_is) ((value_written _ _ _ _ _ _ c.self.invariant.kept _ _ _ slot.0 linked slot.1 (is_written slot.1)).2)
+    rw (c.advance.ensures.next, ← c.self.view_is) ((value_written _ _ _ _ _ _ c.self.invariant.kept _ _ _ slot.0 linked slot.1 (is_written slot.1)).2 c.advance.ensures.fits)

@@ -1,0 +1,97 @@
+-- What the calls on the buckets of a table are answered.
+use Rattle.std.proofs.Common.{◌≡◌, ℕ, ◌-◌, ◌<◌, ◌^◌, ◌==◌, List, Option, Some, None, Bool, true, false, map, refl, sym, ◌∙◌, ap, arith, slice_index_or, if◌then◌else◌}
+use Rattle.std.specs.Prelude.{Result, Ok, Err, is_some}
+use Rattle.std.specs.List.{slice_get, range_with_len}
+use Rattle.std.specs.Option.{option_map}
+use Rattle.std.proofs.lemmas.Option.{slice_get-map}
+use Rattle.std.proofs.lemmas.List.FromFn.{get_or-map-range_with_len}
+use Rattle.std.proofs.Math.ListN as lists
+use Rattle.node_list.specs.Nodes.{NodeAt, Listing}
+use Rattle.node_list.specs.Sound.{IsSound}
+use Rattle.list_steps.specs.Found.{changes_of}
+use Rattle.bucket_table.specs.declared.answer.InitLink.{InitLink}
+use Rattle.bucket_table.specs.declared.answer.InitLink.TheVariants.{Again, Present, Linked}
+use Rattle.bucket_table.specs.declared.answer.InitRefusal.{InitRefusal}
+use Rattle.bucket_table.specs.declared.answer.InitRefusal.TheVariants.{NoSuchBucket, ParentMissing, NoSuchHelper, HelperOutOfOrder, NoMemory, StampsUsedUp}
+use Rattle.txn_trace.specs.declared.refusal.Refusal.{Refusal}
+use Rattle.txn_trace.specs.declared.refusal.Refusal.TheVariants as refusals
+use Rattle.bucket_table.specs.declared.helper.Helper.{Helper}
+use Rattle.bucket_table.specs.declared.helper.Helper.TheVariants.{Idle, Seeking, Holding}
+use Rattle.bucket_table.specs.Directory.{Directory, IsInOrder, limit_of, helper_of}
+use Rattle.bucket_table.specs.Directory as directories
+use Rattle.bucket_table.specs.Answers as buckets
+use Rattle.bucket_table.specs.Segments as segments
+use Rattle.bucket_table.specs.Dummies.{has_dummy}
+use Rattle.bucket_table.specs.Home.{IsHome, IsHelperHome}
+use Rattle.bucket_table.proofs.DirectoryLemmas.{helper_found}
+use Rattle.bucket_table.specs.Helpers.{cursor_fits, help_at}
+use Rattle.map_ops.specs.TableAt.{Help, Nothing, Sought, Dummy, help_of, linked_of, table_of}
+use Rattle.map_ops.specs.Buckets.{LacksSegment, answer_for, helper_fits, seek_answer, link_answer, store_answer}
+
+pub stored_at : (entries : List (Option ℕ)) (bucket : ℕ) → slice_index_or (map is_some entries) bucket false ≡ is_some (slice_index_or entries bucket None)
+stored_at entries bucket = lists.get_or-map is_some entries bucket None
+
+pub lacks_segment : (entries : List (Option ℕ)) (bucket : ℕ) → segments.LacksSegment entries bucket → LacksSegment (map is_some entries) bucket
+lacks_segment entries bucket lacks other same = stored_at entries other ∙ lacks other same
+
+-- What a seek is answered.
+pub seek_answers : (d : Directory) (helper bucket : ℕ) → answer_for (buckets.seek_answer d.size (directories.is_stored d) (help_at d helper) bucket) ≡ seek_answer d.size (map is_some d.entries) (slice_get (map help_of d.helpers) helper) bucket
+seek_answers d helper bucket = λ i. answer_for (buckets.seek_answer d.size (λ b. sym (stored_at d.entries b) i) (sym (slice_get-map help_of d.helpers helper) i) bucket)
+
+-- What a store is answered.
+pub store_answers : (d : Directory) (helper : ℕ) → store_answer (help_at d helper) ≡ store_answer (slice_get (map help_of d.helpers) helper)
+store_answers d helper = ap store_answer (sym (slice_get-map help_of d.helpers helper))
+
+pub linked_at : (nodes : List NodeAt) (limit bucket : ℕ) → bucket < limit → slice_index_or (map (has_dummy nodes) (range_with_len 0 limit)) bucket false ≡ has_dummy nodes bucket
+linked_at nodes limit bucket within = get_or-map-range_with_len (has_dummy nodes) 0 limit bucket bucket false within (omega arith)
+
+pub within_limit : (d : Directory) (helper bucket : ℕ) (had : Helper) → directories.IsSound d → helper_of d helper ≡ Some had → (IsInOrder d had → bucket < d.size) → bucket < limit_of d
+within_limit d helper bucket had sound is below = let order = helper_found (IsInOrder d) d.helpers helper had sound.helpers is in let small : bucket < d.size = below order in omega (arith, small, sound.most)
+
+-- What a link is answered.
+pub link_answers : (l : Listing) (d : Directory) (helper : ℕ) → directories.IsSound d → answer_for (buckets.link_answer_at d l helper) ≡ link_answer (helper_fits (table_of l d) helper) (linked_of (table_of l d)) l.last (slice_get (map help_of d.helpers) helper)
+link_answers l d helper sound =
+    go (helper_of d helper) refl ∙ ap (link_answer (helper_fits (table_of l d) helper) (linked_of (table_of l d)) l.last) (sym (slice_get-map help_of d.helpers helper))
+  where
+    go : (o : Option Helper) → helper_of d helper ≡ o → answer_for (buckets.link_answer (cursor_fits l (helper_of d helper)) (has_dummy l.nodes) l.last (option_map help_of o)) ≡ link_answer (helper_fits (table_of l d) helper) (linked_of (table_of l d)) l.last (option_map help_of o)
+    go None is = refl
+    go (Some Idle) is = refl
+    go (Some (Holding bucket dummy)) is = refl
+    go (Some (Seeking bucket cursor)) is =
+        let within : bucket < limit_of d = within_limit d helper bucket (Seeking bucket cursor) sound is (λ order. order.within) in
+        ap (λ (there : Bool). answer_for (buckets.link_answer (cursor_fits l (helper_of d helper)) (λ b. there) l.last (Some (Sought bucket (changes_of cursor))))) (sym (linked_at l.nodes (limit_of d) bucket within))
+
+-- A cursor that a helper has fits while the change number stays, below the last one.
+pub helper_still_fits : (l : Listing) (d : Directory) (helper bucket : ℕ) → IsHome d l → slice_get (map help_of d.helpers) helper ≡ Some (Sought bucket l.changes) → l.changes < 2 ^ 64 - 1 → helper_fits (table_of l d) helper ≡ true
+helper_still_fits l d helper bucket home had below = go (helper_of d helper) refl (sym (slice_get-map help_of d.helpers helper) ∙ had)
+  where
+    go : (o : Option Helper) → helper_of d helper ≡ o → option_map help_of (helper_of d helper) ≡ Some (Sought bucket l.changes) → helper_fits (table_of l d) helper ≡ true
+    go None is sought = let clash : None ≡ Some (Sought bucket l.changes) = sym (ap (option_map help_of) is) ∙ sought in absurd (cc)
+    go (Some Idle) is sought = let clash : Some Nothing ≡ Some (Sought bucket l.changes) = sym (ap (option_map help_of) is) ∙ sought in absurd (cc)
+    go (Some (Holding other dummy)) is sought = let clash : Some (Dummy other) ≡ Some (Sought bucket l.changes) = sym (ap (option_map help_of) is) ∙ sought in absurd (cc)
+    go (Some (Seeking other cursor)) is sought =
+        let both : Some (Sought other (changes_of cursor)) ≡ Some (Sought bucket l.changes) = sym (ap (option_map help_of) is) ∙ sought in
+        let same : l.changes ≡ changes_of cursor = cc in
+        let placed = helper_found (IsHelperHome l) d.helpers helper (Seeking other cursor) home.helpers is in
+        ap (cursor_fits l) is ∙ placed.0.held same below
+
+not_again : (there used : Bool) → ◌≡◌ {A = Result InitLink Refusal} (answer_for (if there then Ok Present else (if used then Err StampsUsedUp else Ok Linked))) (Ok Again) → ⊥
+not_again true used is = cc
+not_again false true is = cc
+not_again false false is = cc
+
+-- Where the helper's cursor fits, a link is not answered so.
+pub fits_not_again : (fitting : Bool) (linked : List Bool) (last bucket changes : ℕ) (help : Option Help) → help ≡ Some (Sought bucket changes) → fitting ≡ true → link_answer fitting linked last help ≡ Ok Again → ⊥
+fits_not_again fitting linked last bucket changes help is fit again =
+    not_again (slice_index_or linked bucket false) (last == 2 ^ 64 - 2)
+    (ap (λ (b : Bool). link_answer b linked last (Some (Sought bucket changes))) (sym fit) ∙ ap (λ (o : Option Help). link_answer fitting linked last o) (sym is) ∙ again)
+
+-- No other refusal is answered as that of memory.
+pub no_memory_alone : {A : Type 0} (result : Result A InitRefusal) → answer_for result ≡ Err refusals.NoMemory → result ≡ Err NoMemory
+no_memory_alone (Ok done) is = absurd (cc is)
+no_memory_alone (Err NoMemory) is = refl
+no_memory_alone (Err NoSuchBucket) is = absurd (cc is)
+no_memory_alone (Err ParentMissing) is = absurd (cc is)
+no_memory_alone (Err NoSuchHelper) is = absurd (cc is)
+no_memory_alone (Err HelperOutOfOrder) is = absurd (cc is)
+no_memory_alone (Err StampsUsedUp) is = absurd (cc is)
