@@ -28,6 +28,13 @@ fn applied(table: &mut Table, op: Op) -> Result<(Reply, Option<MapJob>), Refusal
     table.apply(op)
 }
 
+/// Does an operation, which has this reply.
+fn gives(rt: &impl Abort, table: &mut Table, op: Op, wanted: Reply) -> Result<(), Fail> {
+    let (reply, _) = table.apply(op)?;
+    assert_eq!(rt; reply, wanted, "to {op:?}");
+    Ok(())
+}
+
 /// Does an operation and takes it back.
 fn there_and_back(table: &mut Table, op: Op) -> Result<(), Refusal> {
     let (_, job) = applied(table, op)?;
@@ -81,7 +88,7 @@ fn each_operation_there_and_back(rt: HostRuntime) -> Result<(), Fail> {
 fn keys_stand_by_split_keys(rt: HostRuntime) -> Result<(), Fail> {
     let mut table = table(rt.alloc())?;
     for key in 1..6 {
-        assert_eq!(rt; table.apply(Op::Put(key, 10 * key))?.0, None);
+        gives(&rt, &mut table, Op::Put(key, 10 * key), None)?;
     }
     shows(
         &rt,
@@ -104,7 +111,7 @@ fn keys_of_64_bits(rt: HostRuntime) -> Result<(), Fail> {
         (Op::Put(18446744073709551615, 7), None),
     ];
     for (op, reply) in wanted {
-        assert_eq!(rt; table.apply(op)?.0, reply, "to {op:?}");
+        gives(&rt, &mut table, op, reply)?;
     }
     assert_eq!(rt; (table.size(), table.count()), (2, 4));
     shows(
@@ -126,49 +133,72 @@ fn keys_that_share_a_split_key(rt: HostRuntime) -> Result<(), Fail> {
     let half = 1 << 63;
     let mut table = table(rt.alloc())?;
     for key in 0..16 {
-        assert_eq!(rt; table.apply(Op::Put(half + key, 100 + key))?.0, None);
-        assert_eq!(rt; table.apply(Op::Put(key, key))?.0, None);
+        gives(&rt, &mut table, Op::Put(half + key, 100 + key), None)?;
+        gives(&rt, &mut table, Op::Put(key, key), None)?;
     }
     for key in 0..16 {
-        assert_eq!(rt; table.apply(Op::Take(key))?.0, Some(key));
+        gives(&rt, &mut table, Op::Take(key), Some(key))?;
         there_and_back(&mut table, Op::Put(key, 7))?;
-        assert_eq!(rt; table.apply(Op::Get(key))?.0, None);
+        gives(&rt, &mut table, Op::Get(key), None)?;
         there_and_back(&mut table, Op::Take(half + key))?;
         there_and_back(&mut table, Op::PutIf(half + key, Some(100 + key), 9))?;
-        assert_eq!(rt; table.apply(Op::Get(half + key))?.0, Some(100 + key));
+        gives(&rt, &mut table, Op::Get(half + key), Some(100 + key))?;
     }
     assert_eq!(rt; table.count(), 16);
     Ok(())
+}
+
+/// A call for the buckets, and what it is answered.
+#[derive(Clone, Copy, Debug)]
+enum Wanted {
+    Double(u64, Double),
+    Seek(u64, u64, Result<InitSeek, Refusal>),
+    Link(u64, Result<InitLink, Refusal>),
+    Store(u64, Result<(), Refusal>),
+}
+
+/// Whether a call for the buckets is answered as wanted.
+fn is_answered(table: &mut Table, wanted: Wanted) -> bool {
+    match wanted {
+        Wanted::Double(seen, answer) => table.double(seen) == answer,
+        Wanted::Seek(helper, bucket, answer) => table.init_seek(helper, bucket) == answer,
+        Wanted::Link(helper, answer) => table.init_link(helper) == answer,
+        Wanted::Store(helper, answer) => table.init_store(helper) == answer,
+    }
 }
 
 #[test]
 fn buckets_are_initialised_after_their_parents(rt: HostRuntime) -> Result<(), Fail> {
     let mut table = table(rt.alloc())?;
     for key in 1..5 {
-        assert_eq!(rt; table.apply(Op::Put(key, 10 * key))?.0, None);
+        gives(&rt, &mut table, Op::Put(key, 10 * key), None)?;
     }
     assert_eq!(rt; table.double(2), Double::Light);
-    assert_eq!(rt; table.apply(Op::Put(5, 50))?.0, None);
-    assert_eq!(rt; table.double(2), Double::Doubled(4));
-    assert_eq!(rt; table.double(2), Double::Moved(4));
-    assert_eq!(rt; table.double(4), Double::Light);
+    gives(&rt, &mut table, Op::Put(5, 50), None)?;
+    for wanted in [
+        Wanted::Double(2, Double::Doubled(4)),
+        Wanted::Double(2, Double::Moved(4)),
+        Wanted::Double(4, Double::Light),
+        Wanted::Seek(0, 3, Err(Refusal::ParentMissing)),
+        Wanted::Seek(0, 4, Err(Refusal::NoSuchBucket)),
+        Wanted::Seek(2, 3, Err(Refusal::NoSuchHelper)),
+        Wanted::Link(0, Err(Refusal::HelperOutOfOrder)),
+        Wanted::Seek(0, 1, Ok(InitSeek::Placed)),
+        Wanted::Link(0, Ok(InitLink::Linked)),
+        Wanted::Store(0, Ok(())),
+        Wanted::Seek(0, 3, Ok(InitSeek::Placed)),
+        Wanted::Seek(1, 3, Ok(InitSeek::Placed)),
+        Wanted::Link(0, Ok(InitLink::Linked)),
+        Wanted::Link(1, Ok(InitLink::Again)),
+        Wanted::Seek(1, 3, Ok(InitSeek::Placed)),
+        Wanted::Link(1, Ok(InitLink::Present)),
+        Wanted::Store(0, Ok(())),
+        Wanted::Store(1, Ok(())),
+        Wanted::Seek(1, 3, Ok(InitSeek::Ready)),
+    ] {
+        assert!(rt; is_answered(&mut table, wanted), "{wanted:?}");
+    }
     assert_eq!(rt; table.size(), 4);
-    assert_eq!(rt; table.init_seek(0, 3), Err(Refusal::ParentMissing));
-    assert_eq!(rt; table.init_seek(0, 4), Err(Refusal::NoSuchBucket));
-    assert_eq!(rt; table.init_seek(2, 3), Err(Refusal::NoSuchHelper));
-    assert_eq!(rt; table.init_link(0), Err(Refusal::HelperOutOfOrder));
-    assert_eq!(rt; table.init_seek(0, 1), Ok(InitSeek::Placed));
-    assert_eq!(rt; table.init_link(0), Ok(InitLink::Linked));
-    assert_eq!(rt; table.init_store(0), Ok(()));
-    assert_eq!(rt; table.init_seek(0, 3), Ok(InitSeek::Placed));
-    assert_eq!(rt; table.init_seek(1, 3), Ok(InitSeek::Placed));
-    assert_eq!(rt; table.init_link(0), Ok(InitLink::Linked));
-    assert_eq!(rt; table.init_link(1), Ok(InitLink::Again));
-    assert_eq!(rt; table.init_seek(1, 3), Ok(InitSeek::Placed));
-    assert_eq!(rt; table.init_link(1), Ok(InitLink::Present));
-    assert_eq!(rt; table.init_store(0), Ok(()));
-    assert_eq!(rt; table.init_store(1), Ok(()));
-    assert_eq!(rt; table.init_seek(1, 3), Ok(InitSeek::Ready));
     shows(
         &rt,
         rt.alloc(),
