@@ -58,6 +58,7 @@ impl Drive {
     }
 
     /// How the call has ended, if it has. Constant time.
+    #[inline(always)]
     pub fn ended(self) -> Option<End>
         ensures drive { result ≡ end_of self }
         ensures made { IfSome result (λ outcome. IsMade self.caller self.call outcome (made self)) }
@@ -66,6 +67,7 @@ impl Drive {
     }
 
     /// The end that a final phase is; none of any other.
+    #[inline(always)]
     fn end(self) -> Option<End>
         ensures { result ≡ end_of self }
     {
