@@ -25,6 +25,7 @@
 mod adding;
 mod buckets;
 mod counts;
+mod into_trace;
 mod machine;
 mod operations;
 mod owner;

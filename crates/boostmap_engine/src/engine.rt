@@ -71,7 +71,7 @@ pub fn check<R: Read, W: Write>(alloc: Global, input: &mut R, output: &mut W) ->
         (W.contents output.old) (W.contents output.new)) }
 {
     let bytes = read_input(alloc, input)?;
-    let verdict = judge(alloc, &bytes)?;
+    let verdict = judge(alloc, bytes)?;
     let line = line_of(alloc, verdict)?;
     write_text(output, line.as_bytes())?;
     Ok(is_legal(verdict))
@@ -110,7 +110,7 @@ pub fn mix<R: Read, W: Write>(
         (R.remaining input.old) (W.contents output.old) (W.contents output.new)) }
 {
     let bytes = read_input(alloc, input)?;
-    let history = mixture(alloc, seed, &bytes)?;
+    let history = mixture(alloc, seed, bytes)?;
     write_text(output, history.as_bytes())
 }
 
@@ -146,6 +146,6 @@ pub fn run<T: Threads + Wait + Sync, R: Read, W: Write>(
         (W.contents output.old) (W.contents output.new)) }
 {
     let bytes = read_input(alloc, input)?;
-    let history = threaded(rt, alloc, &bytes)?;
+    let history = threaded(rt, alloc, bytes)?;
     write_text(output, history.as_bytes())
 }

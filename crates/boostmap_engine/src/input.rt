@@ -1,10 +1,13 @@
 ghost use Rattle.std.specs.Prelude.{◌≡◌, length, IfOk, IfErr};
 ghost use Rattle.boostmap_engine.specs.Written.{IsRead};
+ghost use Rattle.piece_files.specs.Faults.{Gives};
+ghost use Rattle.txn_files.specs.ScriptFile.{scripts_of};
 ghost use Rattle.boostmap_engine.specs.Faults.{IsReadFault};
 
 use crate::fault::Fault;
 use std::alloc::{AllocError, Global};
 use std::io::Read;
+use txn_files::{FileFault, Scripts, read_scripts};
 
 /// One byte more than a file may have.
 const MAX_READ: usize = 16_777_217;
@@ -44,4 +47,11 @@ pub fn read_input<R: Read>(alloc: Global, input: &mut R) -> Result<Vec<u8>, Faul
         bytes.extend_from_slice(&chunk[..count])?;
     }
     Ok(bytes)
+}
+
+/// The work that the bytes of a script file are, with no bytes left.
+pub fn scripts_in(alloc: Global, bytes: Vec<u8>) -> Result<Scripts, FileFault>
+    ensures { Gives (λ work. work) result (scripts_of bytes.items) }
+{
+    read_scripts(alloc, &bytes)
 }

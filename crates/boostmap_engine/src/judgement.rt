@@ -1,4 +1,6 @@
 ghost use Rattle.std.specs.Prelude.{◌≡◌, IfOk, IfErr, string_bytes};
+ghost use Rattle.piece_files.specs.Faults.{Gives};
+ghost use Rattle.txn_files.specs.HistoryFile.{history_of};
 ghost use Rattle.history_check.specs.Verdicts.{meaning_of};
 ghost use Rattle.boostmap_engine.specs.Judgement.{verdict_line, says_legal, holder_in, IsJudged, IsNoHistoryFile};
 ghost use Rattle.boostmap_engine.specs.Written.{HasNone};
@@ -6,8 +8,8 @@ ghost use Rattle.boostmap_engine.specs.Written.{HasNone};
 use crate::fault::Fault;
 use history_check::{Verdict, check};
 use std::alloc::{AllocError, Global};
-use txn_files::read_history;
-use txn_trace::Holder;
+use txn_files::{FileFault, read_history};
+use txn_trace::{Entry, Holder};
 
 /// The last version of history files in which a Busy names a caller that holds the stripe.
 const LAST_OF_NOW: u64 = 2;
@@ -23,6 +25,14 @@ fn holder_in(version: u64) -> Holder
     }
 }
 
+/// The stripes, the entries and the version of the history file that the bytes are, with no bytes
+/// left.
+fn history_in(alloc: Global, bytes: Vec<u8>) -> Result<(u32, Vec<Entry>, u64), FileFault>
+    ensures { Gives (λ file. (file.0, file.1.items, file.2)) result (history_of bytes.items) }
+{
+    read_history(alloc, &bytes)
+}
+
 /// The verdict on the history that the bytes are, by the rule of their version.
 ///
 /// # Cost
@@ -32,11 +42,11 @@ fn holder_in(version: u64) -> Holder
 /// # Errors
 ///
 /// `Input` where the bytes are no history file; `NoMemory` where memory is refused.
-pub fn judge(alloc: Global, bytes: &[u8]) -> Result<Verdict, Fault>
-    ensures ok { IfOk result (λ verdict. IsJudged bytes.now (meaning_of verdict)) }
-    ensures err { IfErr result (HasNone IsNoHistoryFile bytes.now) }
+pub fn judge(alloc: Global, bytes: Vec<u8>) -> Result<Verdict, Fault>
+    ensures ok { IfOk result (λ verdict. IsJudged bytes.items (meaning_of verdict)) }
+    ensures err { IfErr result (HasNone IsNoHistoryFile bytes.items) }
 {
-    let (stripes, entries, version) = read_history(alloc, bytes)?;
+    let (stripes, entries, version) = history_in(alloc, bytes)?;
     let verdict = check(alloc, &entries, u64::from(stripes), holder_in(version))?;
     Ok(verdict)
 }

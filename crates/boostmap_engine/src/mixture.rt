@@ -3,9 +3,10 @@ ghost use Rattle.boostmap_engine.specs.Mixture.{IsMixtureOf, IsNoScriptFile};
 ghost use Rattle.boostmap_engine.specs.Written.{HasNone};
 
 use crate::fault::Fault;
+use crate::input::scripts_in;
 use script_mix::mixed;
 use std::alloc::Global;
-use txn_files::{history_text, read_scripts};
+use txn_files::history_text;
 
 /// The text of a history of the scripts that the bytes are, the workers' turns mixed as the seed
 /// says, with its line feed. The history has its script file's version.
@@ -18,13 +19,17 @@ use txn_files::{history_text, read_scripts};
 /// # Errors
 ///
 /// `Input` where the bytes are no script file; `NoMemory` where memory is refused outside a step.
-pub fn mixture(alloc: Global, seed: u64, bytes: &[u8]) -> Result<String, Fault>
-    ensures ok { IfOk result (λ text. IsMixtureOf seed bytes.now (string_bytes text)) }
-    ensures err { IfErr result (HasNone IsNoScriptFile bytes.now) }
+pub fn mixture(alloc: Global, seed: u64, bytes: Vec<u8>) -> Result<String, Fault>
+    ensures ok { IfOk result (λ text. IsMixtureOf seed bytes.items (string_bytes text)) }
+    ensures err { IfErr result (HasNone IsNoScriptFile bytes.items) }
 {
-    let work = read_scripts(alloc, bytes)?;
+    let work = scripts_in(alloc, bytes)?;
     let core = mixed(alloc, seed, &work)?;
-    let mut text = history_text(alloc, work.version(), work.limits().stripes(), core.trace())?;
+    let limits = work.limits();
+    let version = work.version();
+    drop(work);
+    let trace = core.into_trace();
+    let mut text = history_text(alloc, version, limits.stripes(), &trace)?;
     text.push_str("\n")?;
     Ok(text)
 }

@@ -3,11 +3,12 @@ ghost use Rattle.boostmap_engine.specs.Faults.{of_run};
 ghost use Rattle.boostmap_engine.specs.Threaded.{HasNoneThreaded, IsThreadedOf};
 
 use crate::fault::Fault;
+use crate::input::scripts_in;
 use std::alloc::Global;
 use std::sync::Wait;
 use std::thread::Threads;
 use thread_runs::{Open, run_scripts};
-use txn_files::{history_text, read_scripts};
+use txn_files::history_text;
 use txn_trace::Refusal;
 
 /// The text of a history of the scripts that the bytes are, each worker in a thread of its own,
@@ -25,12 +26,12 @@ use txn_trace::Refusal;
 pub fn threaded<R: Threads + Wait + Sync>(
     rt: &R,
     alloc: Global,
-    bytes: &[u8],
+    bytes: Vec<u8>,
 ) -> Result<String, Fault>
-    ensures ok { IfOk result (λ text. IsThreadedOf bytes.now (string_bytes text)) }
-    ensures err { IfErr result (HasNoneThreaded bytes.now) }
+    ensures ok { IfOk result (λ text. IsThreadedOf bytes.items (string_bytes text)) }
+    ensures err { IfErr result (HasNoneThreaded bytes.items) }
 {
-    let work = read_scripts(alloc, bytes)?;
+    let work = scripts_in(alloc, bytes)?;
     let limits = work.limits();
     let workers = limits.callers() as usize;
     let ran = match run_scripts(
@@ -45,7 +46,10 @@ pub fn threaded<R: Threads + Wait + Sync>(
         Ok(ran) => ran,
         Err(refusal) => return Err(fault_of(refusal)),
     };
-    let mut text = history_text(alloc, work.version(), limits.stripes(), &ran.trace)?;
+    let version = work.version();
+    drop(work);
+    drop(ran.outcomes);
+    let mut text = history_text(alloc, version, limits.stripes(), &ran.trace)?;
     text.push_str("\n")?;
     Ok(text)
 }

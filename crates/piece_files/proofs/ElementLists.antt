@@ -1,11 +1,10 @@
 -- Elements that are read one after the other, of which the plain ones are kept.
-use Rattle.std.proofs.Common.{◌≡◌, ℕ, zero, suc, ◌≤◌, List, [], ◌∷◌, ◌++◌, length, map, Bool, true, false, ◌&&◌, Option, Some, None, refl, ap, arith}
+use Rattle.std.proofs.Common.{◌≡◌, ℕ, zero, suc, ◌≤◌, List, [], ◌∷◌, ◌++◌, length, Bool, true, false, ◌&&◌, Option, Some, None, refl, ap, arith}
 use Rattle.std.proofs.lemmas.List.{map-append, length-map}
 use Rattle.json.specs.Token.{Token}
 use Rattle.json.specs.Json.{parse_map}
 use Rattle.serde_json.specs.Data.{Data, Items, no_items, item}
 use Rattle.piece_files.specs.declared.plain.Plain.{Plain}
-use Rattle.piece_files.specs.Plain.{data_of}
 use Rattle.piece_files.specs.Tokens.{is_plain, are_plain, items_from, IsPlain, AreElements}
 
 -- A list of elements before items.

@@ -1,12 +1,36 @@
 //! The number that a number's text in JSON is.
 
-ghost use Rattle.std.specs.Prelude.{◌≡◌, false, option_map};
+ghost use Rattle.std.specs.Prelude.{◌≡◌, false, option_map, IfSome};
 ghost use Rattle.std.specs.Prelude as prelude;
 ghost use Rattle.fast_float.specs.Text.{scan};
 ghost use Rattle.serde_json.specs.Find.{as_u64};
 ghost use Rattle.serde_json.specs.Read.{float_of, number_from, number_of};
+ghost use Rattle.std.specs.Str.Parse.{IsNumeral, digits_value};
 
 use fast_float::Numeral;
+
+/// So many digits always are a number below 2^64.
+const FEW: usize = 19;
+
+/// The number that a text of few digits and nothing else is. None of any other text, which may be a
+/// number all the same.
+#[inline(always)]
+fn few_digits_in(bytes: &[u8]) -> Option<u64>
+    ensures { IfSome result (λ number.
+        IsNumeral 10 bytes.now × (number ≡ digits_value 10 bytes.now)) }
+{
+    if bytes.is_empty() || bytes.len() > FEW {
+        return None;
+    }
+    let mut number = 0;
+    for byte in bytes {
+        if !byte.is_ascii_digit() {
+            return None;
+        }
+        number = number * 10 + u64::from(*byte - b'0');
+    }
+    Some(number)
+}
 
 /// A number that is no whole number below 2^64, where it is in range: no number within.
 #[cold]
@@ -23,6 +47,9 @@ fn float_in(is_negative: bool, bytes: &[u8]) -> Option<Option<u64>>
 fn unsigned_in(bytes: &[u8]) -> Option<Option<u64>>
     ensures { result ≡ option_map as_u64 (number_from prelude.false (scan bytes.now)) }
 {
+    if let Some(number) = few_digits_in(bytes) {
+        return Some(Some(number));
+    }
     match Numeral::scan(bytes).to_u64() {
         Some(number) => Some(Some(number)),
         None => float_in(false, bytes),

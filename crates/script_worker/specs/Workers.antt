@@ -61,6 +61,10 @@ settled_at scripts tries worker None = worker
 settled_at scripts tries worker (Some task) =
     settled_in scripts tries worker task (end_of task.drive)
 
+-- How the worker's call has ended, if it has.
+abbrev pub end_by : Standing → Option End
+end_by worker = option_and_then (λ task. end_of task.drive) worker.task
+
 abbrev pub settled : List (List Action) → ℕ → Standing → Standing
 settled scripts tries worker = settled_at scripts tries worker worker.task
 

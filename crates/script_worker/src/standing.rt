@@ -1,5 +1,5 @@
-ghost use Rattle.std.specs.Prelude.{◌≡◌};
-ghost use Rattle.script_worker.specs.Workers.{new_worker, started, progressed, settled, told_drive, told_by, outcome_at, outcome_by, outcome_told, sized_by, turn_by, IsReady, IsTurnBy};
+ghost use Rattle.std.specs.Prelude.{◌≡◌, is_some};
+ghost use Rattle.script_worker.specs.Workers.{new_worker, started, progressed, settled, told_drive, told_by, end_by, outcome_at, outcome_by, outcome_told, sized_by, turn_by, IsReady, IsTurnBy};
 
 use crate::attempt::{Attempt, Outcome, Progress};
 use crate::task::Task;
@@ -48,6 +48,9 @@ impl Standing {
         ensures outcome { result ≡ outcome_told scripts.now tries self.old answer }
     {
         self.hear(answer);
+        if !self.has_ended() {
+            return None;
+        }
         let first = self.settle(scripts, tries);
         // A call of help may end before its first step, and then an abort follows at once, which
         // takes a step.
@@ -61,6 +64,16 @@ impl Standing {
     {
         if let Some(task) = &mut self.task {
             task.drive.told(answer);
+        }
+    }
+
+    /// Whether the worker's call has ended.
+    fn has_ended(&self) -> bool
+        ensures { result ≡ is_some (end_by self.now) }
+    {
+        match &self.task {
+            Some(task) => task.drive.ended().is_some(),
+            None => false,
         }
     }
 

@@ -1,7 +1,5 @@
 //! A run of scripts: the map, the threads, and what they come to.
-ghost use Rattle.std.specs.Prelude.{◌≡◌, ◌≤◌, ◌<◌, IfOk, IfErr, length, map, reverse};
-ghost use Rattle.thread_runs.specs.Accounts.{every};
-ghost use Rattle.thread_runs.specs.Each.{Each};
+ghost use Rattle.std.specs.Prelude.{◌≡◌, ◌≤◌, IfOk, IfErr, map, reverse};
 ghost use Rattle.thread_runs.specs.Runs.{IsRunOf, IsRunRefusal};
 
 use crate::gate::Gate;
@@ -17,7 +15,7 @@ use std::marker::{Brand, PhantomData};
 use std::sync::Wait;
 use std::sync::ledger::{Blank, Ledger};
 use std::thread::Threads;
-use txn_trace::{Entry, Limits, Refusal, Script};
+use txn_trace::{Limits, Refusal, Script};
 
 /// Runs each script in the thread of its worker, on a new map: as many workers as the limits have
 /// callers. Script `i` is one of worker `i` modulo the workers, and worker `w` is caller `w`. A
@@ -99,8 +97,11 @@ fn run_under<L: Ledger + Send + Sync, T: Task + Send + Sync, G: Gate, R: Threads
     let Ok(closed) = map.close(callers) else {
         return Err(Refusal::OutOfStep);
     };
-    match ran(alloc, closed.core.trace(), rows, scripts) {
-        Ok(ran) => Ok(ran),
+    // What the callers saw is given back before the outcomes are put in order.
+    drop(closed.callers);
+    let trace = closed.core.into_trace();
+    match in_order(alloc, rows, scripts) {
+        Ok(outcomes) => Ok(Ran { outcomes, trace }),
         Err(AllocError) => Err(Refusal::NoMemory),
     }
 }
@@ -126,25 +127,4 @@ fn parted<L: Ledger>(
         rows.push(outcomes)?;
     }
     Ok((callers, rows))
-}
-
-/// What the run has come to: the history copied, and the workers' outcomes in the scripts' order.
-fn ran(
-    alloc: Global,
-    history: &[Entry],
-    rows: Vec<Vec<Outcome>>,
-    scripts: &[Script],
-) -> Result<Ran, AllocError>
-    requires some { 0 < length rows.items }
-    requires rows { Each (λ c row. length row.items
-        ≡ length (every (length rows.items) c scripts.now)) rows.items }
-    ensures trace { IfOk result (λ ran. ran.trace.items ≡ history.now) }
-    ensures len { IfOk result (λ ran. length ran.outcomes.items ≡ length scripts.now) }
-    ensures order { IfOk result (λ ran. Each (λ c row.
-        every (length rows.items) c ran.outcomes.items ≡ reverse row.items) rows.items) }
-{
-    let mut trace = Vec::new(alloc);
-    trace.extend_from_slice(history)?;
-    let outcomes = in_order(alloc, rows, scripts)?;
-    Ok(Ran { outcomes, trace })
 }

@@ -1,5 +1,6 @@
 -- Laws of drives: what their steps add to a history, and how an ended drive ended.
-use Rattle.std.proofs.Common.{Bool, ◌≡◌, ℕ, ◌^◌, nat_lt, true, false, if◌then◌else◌, [], Option, Some, None, refl, subst, ◌∙◌}
+use Rattle.std.proofs.Common.{Bool, ◌≡◌, ℕ, nat_lt, true, false, if◌then◌else◌, [], Option, Some, None, refl, sym, ap, subst}
+use Rattle.std.specs.Prelude.{IfSome}
 use Rattle.std.specs.List.{AllByRecursion}
 use Rattle.txn_trace.specs.declared.step.Step.{Step}
 use Rattle.txn_trace.specs.declared.step.Step.TheVariants.{Begin, Ask, Act, Save, Back, Commit, Abort}
@@ -39,13 +40,22 @@ pub goes_on : (drive : Drive) (step : Step) → step_of drive ≡ Some step → 
 goes_on drive step is = goes_on_in drive.caller drive.call drive.phase step is
 
 -- What an ended drive has made belongs to its end.
-made_by_end : (drive : Drive) (turn : Turn) (outcome : End) → HasMade drive turn → ended_by turn ≡ Some outcome → IsMade drive.caller drive.call outcome (made drive)
-made_by_end drive (Ended other) outcome has is = let same : other ≡ outcome = cc is in subst (λ o. IsMade drive.caller drive.call o (made drive)) same has
-made_by_end drive (One step) outcome has is = absurd (cc is)
-made_by_end drive (Two step next) outcome has is = absurd (cc is)
+made_by_turn : (drive : Drive) (turn : Turn) → HasMade drive turn → IfSome (ended_by turn) (λ outcome. IsMade drive.caller drive.call outcome (made drive))
+made_by_turn drive (Ended outcome) has = has
+made_by_turn drive (One step) has = tt
+made_by_turn drive (Two step next) has = tt
+
+pub made_if_ended : (drive : Drive) → IfSome (end_of drive) (λ outcome. IsMade drive.caller drive.call outcome (made drive))
+made_if_ended drive = made_by_turn drive (turn_of drive) (ended-turn_of drive (turn_of drive) refl)
 
 pub made_at_end : (drive : Drive) (outcome : End) → end_of drive ≡ Some outcome → IsMade drive.caller drive.call outcome (made drive)
-made_at_end drive outcome is = made_by_end drive (turn_of drive) outcome (ended-turn_of drive (turn_of drive) refl) is
+made_at_end drive outcome is = subst (λ (o : Option End). IfSome o (λ e. IsMade drive.caller drive.call e (made drive))) is (made_if_ended drive)
+
+-- A turn that says how its call has ended says nothing else.
+pub turn_of_end : (turn : Turn) (outcome : End) → ended_by turn ≡ Some outcome → Ended outcome ≡ turn
+turn_of_end (Ended other) outcome is = let same : other ≡ outcome = cc is in ap Ended (sym same)
+turn_of_end (One step) outcome is = absurd (cc is)
+turn_of_end (Two step next) outcome is = absurd (cc is)
 
 -- The size at this moment adds nothing.
 pub made-sized : (size c : ℕ) (call : Call) (phase : Phase) → made_in c call (sized_in size phase) ≡ made_in c call phase

@@ -1,5 +1,5 @@
 -- Of turns that are taken.
-use Rattle.std.proofs.Common.{◌≡◌, ap, sym, subst}
+use Rattle.std.proofs.Common.{ap, sym, subst}
 use Rattle.txn_trace.specs.declared.answer.Answer.{Answer}
 use Rattle.txn_trace.specs.declared.answer.Answer.TheVariants.{Placed}
 use Rattle.txn_trace.specs.declared.step.Step.{Step}

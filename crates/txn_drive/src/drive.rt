@@ -58,12 +58,25 @@ impl Drive {
     }
 
     /// How the call has ended, if it has. Constant time.
+    #[inline(always)]
     pub fn ended(self) -> Option<End>
         ensures drive { result ≡ end_of self }
         ensures made { IfSome result (λ outcome. IsMade self.caller self.call outcome (made self)) }
     {
-        match self.shown() {
-            Turn::Ended(end) => Some(end),
+        self.end()
+    }
+
+    /// The end that a final phase is; none of any other.
+    #[inline(always)]
+    fn end(self) -> Option<End>
+        ensures { result ≡ end_of self }
+    {
+        match self.phase {
+            Phase::First(answer) => Some(end_first(self.call, answer)),
+            Phase::Last(work, answer) => Some(end_last(self.call, work, answer)),
+            Phase::Lost(_) => Some(End::Refused(Refusal::OutOfStep)),
+            Phase::Helped => Some(end_helped(self.call)),
+            Phase::Refused(refusal) => Some(End::Refused(refusal)),
             _ => None,
         }
     }
@@ -84,11 +97,10 @@ impl Drive {
             }
             Phase::Linking(..) => Turn::One(Step::InitLink(caller)),
             Phase::Storing(_) => Turn::One(Step::InitStore(caller)),
-            Phase::First(answer) => Turn::Ended(end_first(self.call, answer)),
-            Phase::Last(work, answer) => Turn::Ended(end_last(self.call, work, answer)),
-            Phase::Lost(_) => Turn::Ended(End::Refused(Refusal::OutOfStep)),
-            Phase::Helped => Turn::Ended(end_helped(self.call)),
-            Phase::Refused(refusal) => Turn::Ended(End::Refused(refusal)),
+            _ => match self.end() {
+                Some(end) => Turn::Ended(end),
+                None => unreachable!(),
+            },
         }
     }
 

@@ -1,4 +1,4 @@
-use Rattle.std.proofs.Common.{string_bytes}
+use Rattle.std.proofs.Common.{string_bytes, refl}
 use Rattle.std.proofs.lemmas.Result.{err_from_is_err_and}
 use Rattle.history_check.specs.Verdicts.{meaning_of}
 use Rattle.boostmap_engine.proofs.Lines.{Leaves-line}
@@ -8,5 +8,5 @@ pub returns-in_err-write_text-clause-fault : goal.returns-in_err-write_text-clau
 returns-in_err-write_text-clause-fault g c =
     let p = err_from_is_err_and c.from_residual-in_err-write_text.result c.from_residual-in_err-write_text.ensures.1 in
     rw (p.1, p.2, c.in_err-write_text.ensures.fault)
-    (Leaves-line _ _ _ c.in_ok-bytes.bytes.items c.deref.result.now (string_bytes c.in_ok-line.line) c.as_bytes.result.now (meaning_of c.in_ok-verdict.verdict)
-    c.in_ok-bytes.ensures.ok c.deref.ensures.value c.in_ok-verdict.ensures.ok c.in_ok-line.ensures c.as_bytes.ensures.value c.in_err-write_text.ensures.err)
+    (Leaves-line _ _ _ c.in_ok-bytes.bytes.items c.in_ok-bytes.bytes.items (string_bytes c.in_ok-line.line) c.as_bytes.result.now (meaning_of c.in_ok-verdict.verdict)
+    c.in_ok-bytes.ensures.ok refl c.in_ok-verdict.ensures.ok c.in_ok-line.ensures c.as_bytes.ensures.value c.in_err-write_text.ensures.err)

@@ -6,10 +6,10 @@ use Rattle.boostmap_engine.proofs.threaded.threaded.Goals as goal
 
 pub run_scripts-requires-clause-tries : goal.run_scripts-requires-clause-tries
 run_scripts-requires-clause-tries g c κs within =
-    subst (λ n. n ≤ 1000) (sym c.tries.ensures) (few_tries c.args.bytes.now c.in_ok-work.work c.in_ok-work.ensures)
+    subst (λ n. n ≤ 1000) (sym c.tries.ensures) (few_tries c.args.bytes.items c.in_ok-work.work c.in_ok-work.ensures)
 
 pub returns-clause-ok : goal.returns-clause-ok
 returns-clause-ok g c =
-    threaded_is c.args.bytes.now c.in_ok-work.work c.limits-limits.result c.callers-workers.result c.tries.result c.version.result c.stripes.result c.scripts.result.now (map told_of c.in-Ok.ran.outcomes.items) c.in-Ok.ran.trace.items
-    (string_bytes c.in_ok-text.text) (string_bytes c.push_str.new.self) c.in_ok-work.ensures c.limits-limits.ensures c.callers-workers.ensures.value c.tries.ensures c.version.ensures c.stripes.ensures.value c.scripts.ensures
-    c.in-Ok.ensures.ran (c.in_ok-text.ensures ∙ ap (text_of_history c.version.result c.stripes.result) c.deref.ensures.value) c.in_ok-push_str.ensures.bytes
+    threaded_is c.args.bytes.items c.in_ok-work.work c.limits-limits.result c.callers-workers.result c.tries.result c.version-version.result c.stripes.result c.scripts.result.now (map told_of c.in-Ok.ran.outcomes.items) c.in-Ok.ran.trace.items
+    (string_bytes c.in_ok-text.text) (string_bytes c.push_str.new.self) c.in_ok-work.ensures c.limits-limits.ensures c.callers-workers.ensures.value c.tries.ensures c.version-version.ensures c.stripes.ensures.value c.scripts.ensures
+    c.in-Ok.ensures.ran (c.in_ok-text.ensures ∙ ap (text_of_history c.version-version.result c.stripes.result) c.deref.ensures.value) c.in_ok-push_str.ensures.bytes

@@ -2,27 +2,27 @@ use Rattle.std.proofs.Common.{rules, ℕ, ◌<◌, sym, subst, ◌∙◌}
 use Rattle.thread_runs.proofs.Reports.{reported_as, as_many_rows, rows_whole, run_true}
 use Rattle.thread_runs.proofs.runs.run_under.Goals as goal
 
-pub ran-requires-clause-some : goal.ran-requires-clause-some
-ran-requires-clause-some g c =
+pub in_order-requires-clause-some : goal.in_order-requires-clause-some
+in_order-requires-clause-some g c =
     let reports = c.in_ok-reports.reports.items in
     let each = reported_as c.args.limits.half c.args.workers _ c.args.tries _ c.args.scripts.now _ reports c.requires.workers c.requires.tries c.requires.scripts c.in_ok-reports.ensures.each in
     let as_many = c.in_ok-reports.ensures.len ∙ sym c.requires.callers ∙ c.requires.workers in
     let some : 0 < c.args.workers = search rules in
     subst (λ (n : ℕ). 0 < n) (sym (as_many_rows (λ row. row.items) c.args.limits.half c.args.workers c.args.tries c.args.scripts.now reports c.in-Ok.parts.1.items as_many each c.in-Ok.ensures.rows)) some
 
-pub ran-requires-clause-rows : goal.ran-requires-clause-rows
-ran-requires-clause-rows g c =
+pub in_order-requires-clause-rows : goal.in_order-requires-clause-rows
+in_order-requires-clause-rows g c =
     let reports = c.in_ok-reports.reports.items in
     let each = reported_as c.args.limits.half c.args.workers _ c.args.tries _ c.args.scripts.now _ reports c.requires.workers c.requires.tries c.requires.scripts c.in_ok-reports.ensures.each in
     let as_many = c.in_ok-reports.ensures.len ∙ sym c.requires.callers ∙ c.requires.workers in
     rows_whole (λ row. row.items) c.args.limits.half c.args.workers c.args.tries c.args.scripts.now reports c.in-Ok.parts.1.items as_many each c.in-Ok.ensures.rows
 
-pub returns-in-Ok-ran-clause-ran : goal.returns-in-Ok-ran-clause-ran
-returns-in-Ok-ran-clause-ran g c =
+pub returns-in-Ok-in_order-clause-ran : goal.returns-in-Ok-in_order-clause-ran
+returns-in-Ok-in_order-clause-ran g c =
     let reports = c.in_ok-reports.reports.items in
     let each = reported_as c.args.limits.half c.args.workers _ c.args.tries _ c.args.scripts.now _ reports c.requires.workers c.requires.tries c.requires.scripts c.in_ok-reports.ensures.each in
     let as_many = c.in_ok-reports.ensures.len ∙ sym c.requires.callers ∙ c.requires.workers in
     let some : 0 < c.args.workers = search rules in
-    run_true (λ row. row.items) c.args.limits c.in-Ok-close.closed.core.limits c.args.workers c.args.tries c.args.scripts.now reports c.in-Ok.parts.0.items c.in-Ok.parts.1.items c.in-Ok-ran.ran.outcomes.items
-    c.in-Ok-ran.ran.trace.items c.in-Ok-close.closed.core.history some as_many each c.in-Ok.ensures.callers c.in-Ok.ensures.rows c.in-Ok-ran.ensures.len c.in-Ok-ran.ensures.order
-    (c.in-Ok-ran.ensures.trace ∙ c.trace.ensures.value) (c.in-Ok-close.ensures.limits ∙ c.in_ok-map.ensures.map) (sym c.requires.workers ∙ c.requires.callers) c.in-Ok-close.ensures.legal c.trace.ensures.callers c.in-Ok-close.ensures.own
+    run_true (λ row. row.items) c.args.limits c.in-Ok-close.closed.core.limits c.args.workers c.args.tries c.args.scripts.now reports c.in-Ok.parts.0.items c.in-Ok.parts.1.items c.in-Ok-in_order.outcomes.items
+    c.into_trace-trace.result.items c.in-Ok-close.closed.core.history some as_many each c.in-Ok.ensures.callers c.in-Ok.ensures.rows c.in-Ok-in_order.ensures.len c.in-Ok-in_order.ensures.order
+    c.into_trace-trace.ensures.value (c.in-Ok-close.ensures.limits ∙ c.in_ok-map.ensures.map) (sym c.requires.workers ∙ c.requires.callers) c.in-Ok-close.ensures.legal c.into_trace-trace.ensures.callers c.in-Ok-close.ensures.own

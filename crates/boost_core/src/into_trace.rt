@@ -1,0 +1,37 @@
+//! The history of a core that is needed no longer.
+ghost use Rattle.std.specs.Prelude.{◌≡◌, ◌<◌};
+ghost use Rattle.std.specs.List.{All};
+ghost use Rattle.txn_trace.specs.declared.holder.Holder.TheVariants.{Now};
+ghost use Rattle.txn_trace.specs.History.{caller_of};
+ghost use Rattle.txn_trace.specs.Legal.{IsLegal};
+
+use crate::machine::Core;
+use txn_trace::Entry;
+
+impl Core {
+    ghost use Rattle.boost_core.specs.Shape.{HasShape};
+    ghost use Rattle.boost_core.specs.Locks.{KeepsLocks};
+    ghost use Rattle.boost_core.specs.Replies.{KeepsReplies};
+    ghost use Rattle.boost_core.specs.Whole.{IsWhole};
+    ghost use Rattle.boost_core.specs.Nodes.{IsInOrder};
+
+    /// The history, as `trace` has it, without a copy: the rest of the core is given back.
+    ///
+    /// # Cost
+    ///
+    /// That of giving the table, the callers and the stripes back; no memory.
+    pub fn into_trace(self) -> Vec<Entry>
+        ensures value { result.items ≡ self.history }
+        ensures shape { HasShape self }
+        ensures locks { KeepsLocks self }
+        ensures replies { KeepsReplies self }
+        ensures legal { IsLegal Now self.limits.stripes self.history }
+        ensures callers { All (λ entry. caller_of entry < self.limits.callers) self.history }
+        ensures whole { IsWhole self }
+        ensures order { IsInOrder self.nodes }
+    {
+        // What is known of the history.
+        let _trace = self.trace();
+        self.history
+    }
+}
