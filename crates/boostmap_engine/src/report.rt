@@ -10,6 +10,9 @@ use std::alloc::{AllocError, Global};
 use txn_files::read_steps;
 use txn_trace::{Limits, Step};
 
+/// About how many bytes the line of an answer has, for which room is made at once.
+const ANSWER: usize = 8;
+
 /// Takes the steps one after the other, and puts the answer of each to the text, one a line.
 fn put_answers(text: &mut String, core: &mut Core, steps: &[Step]) -> Result<(), AllocError>
     ensures { OnOk result ((answers : List Answer) × Moves core.old steps.now answers core.new
@@ -55,7 +58,7 @@ fn text_of_run(alloc: Global, limits: Limits, steps: Vec<Step>) -> Result<String
     let Ok(mut core) = Core::new(alloc, limits) else {
         return Err(AllocError);
     };
-    let mut text = String::new(alloc);
+    let mut text = String::with_capacity(alloc, steps.len().saturating_mul(ANSWER))?;
     put_answers(&mut text, &mut core, &steps)?;
     drop(steps);
     put_last(&mut text, alloc, &core)?;
