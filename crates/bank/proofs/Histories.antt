@@ -4,7 +4,7 @@ use Rattle.std.specs.Prelude.{nat_le}
 use Rattle.std.proofs.lemmas.Bool.{false≢true, and_parts, ltb-true, cases_eq, eq-eqb, ne_eqb}
 use Rattle.std.proofs.lemmas.List.{append-nil, append_assoc}
 use mathlib.Core.Logic.{inl, inr}
-use Rattle.txn_trace.specs.declared.holder.Holder.TheVariants.{Now}
+use Rattle.txn_trace.specs.declared.holder.Holder.{Holder}
 use Rattle.txn_trace.specs.declared.op.Op.{Op}
 use Rattle.txn_trace.specs.declared.op.Op.TheVariants.{Put, Get}
 use Rattle.txn_trace.specs.declared.entry.Entry.{Entry}
@@ -59,10 +59,10 @@ seat_there c h shaped = the_seat (seat_after (own c h)) (seated_on c [] h refl s
     the_seat None there = absurd (false≢true there)
     the_seat (Some seat) there = (seat, refl)
 
-module _ (limits : Sizes) (c : ℕ) (base : Map) (h : List Entry) where
+module _ {rule : Holder} (limits : Sizes) (c : ℕ) (base : Map) (h : List Entry) where
   -- What a law says of one entry more.
   stands_after : (e : Entry) → caller_of e ≡ c → nat_le limits.callers c ≡ false → (seat : Seat) (log : List (ℕ × Option ℕ)) (committed current : Map) (holder : ℕ → Option ℕ)
-      → Next Now limits.stripes h e seat log committed current holder → taken_back log current ≡ base → Stands limits c base seat.phase (h ++ e ∷ [])
+      → Next rule limits.stripes h e seat log committed current holder → taken_back log current ≡ base → Stands rule limits c base seat.phase (h ++ e ∷ [])
   stands_after e mine within seat log committed current holder next back = record {
     within = within;
     legal = next.legal;
@@ -72,43 +72,43 @@ module _ (limits : Sizes) (c : ℕ) (base : Map) (h : List Entry) where
     back = subst (λ d. taken_back (log_of d (h ++ e ∷ [])) (now (h ++ e ∷ [])) ≡ base) mine (ap (λ l. taken_back l (now (h ++ e ∷ []))) next.log_is ∙ ap (taken_back log) next.now_is ∙ back);
   }
 
-  pub asked_now : (op : Op) → Stands limits c base Opened h → is_locked Now limits.stripes h (entry.Asked c op) ≡ true
-      → Stands limits c base (Waiting op) (h ++ entry.Asked c op ∷ []) × (now (h ++ entry.Asked c op ∷ []) ≡ now h)
+  pub asked_now : (op : Op) → Stands rule limits c base Opened h → is_locked rule limits.stripes h (entry.Asked c op) ≡ true
+      → Stands rule limits c base (Waiting op) (h ++ entry.Asked c op ∷ []) × (now (h ++ entry.Asked c op ∷ []) ≡ now h)
   asked_now op stands locked =
       let next = laws.asked limits.stripes h stands.legal c op stands.seat stands.seat_is stands.phase_is locked in
       (stands_after (entry.Asked c op) refl stands.within _ _ _ _ _ next stands.back, next.now_is)
 
-  pub busy_now : (op : Op) (x : ℕ) → Stands limits c base Opened h → is_locked Now limits.stripes h (entry.Busy c op x) ≡ true
-      → Stands limits c base LeavingToEnd (h ++ entry.Busy c op x ∷ [])
+  pub busy_now : (op : Op) (x : ℕ) → Stands rule limits c base Opened h → is_locked rule limits.stripes h (entry.Busy c op x) ≡ true
+      → Stands rule limits c base LeavingToEnd (h ++ entry.Busy c op x ∷ [])
   busy_now op x stands locked =
       stands_after (entry.Busy c op x) refl stands.within _ _ _ _ _ (laws.busy limits.stripes h stands.legal c op x stands.seat stands.seat_is stands.phase_is locked) stands.back
 
-  pub got_now : (k : ℕ) (x : Option ℕ) → Stands limits c base (Waiting (Get k)) h → x ≡ get (now h) k
-      → Stands limits c base Opened (h ++ entry.Did c x ∷ []) × (now (h ++ entry.Did c x ∷ []) ≡ now h)
+  pub got_now : (k : ℕ) (x : Option ℕ) → Stands rule limits c base (Waiting (Get k)) h → x ≡ get (now h) k
+      → Stands rule limits c base Opened (h ++ entry.Did c x ∷ []) × (now (h ++ entry.Did c x ∷ []) ≡ now h)
   got_now k x stands right =
       let next = laws.did limits.stripes h stands.legal c (Get k) x stands.seat stands.seat_is stands.phase_is right in
       (stands_after (entry.Did c x) refl stands.within _ _ _ _ _ next stands.back, next.now_is)
 
-  pub put_now : (k v : ℕ) (x : Option ℕ) → Stands limits c base (Waiting (Put k v)) h → x ≡ get (now h) k
-      → Stands limits c base Opened (h ++ entry.Did c x ∷ []) × (now (h ++ entry.Did c x ∷ []) ≡ insert (now h) k v)
+  pub put_now : (k v : ℕ) (x : Option ℕ) → Stands rule limits c base (Waiting (Put k v)) h → x ≡ get (now h) k
+      → Stands rule limits c base Opened (h ++ entry.Did c x ∷ []) × (now (h ++ entry.Did c x ∷ []) ≡ insert (now h) k v)
   put_now k v x stands right =
       let next = laws.did limits.stripes h stands.legal c (Put k v) x stands.seat stands.seat_is stands.phase_is right in
       let back : taken_back (log_of c h) (set_at (insert (now h) k v) k x) ≡ base =
       ap (λ o. taken_back (log_of c h) (set_at (insert (now h) k v) k o)) right ∙ ap (taken_back (log_of c h)) (put_back (now h) k v) ∙ stands.back in
       (stands_after (entry.Did c x) refl stands.within _ _ _ _ _ next back, next.now_is)
 
-  pub left_now : Stands limits c base Opened h → Stands limits c base LeavingToEnd (h ++ entry.Leave c None ∷ [])
+  pub left_now : Stands rule limits c base Opened h → Stands rule limits c base LeavingToEnd (h ++ entry.Leave c None ∷ [])
   left_now stands =
       stands_after (entry.Leave c None) refl stands.within _ _ _ _ _ (laws.left_to_end limits.stripes h stands.legal c stands.seat stands.seat_is stands.phase_is) stands.back
 
-  pub undone_now : (stands : Stands limits c base LeavingToEnd h) → 0 < stands.seat.standing → Stands limits c base LeavingToEnd (h ++ entry.Undone c ∷ [])
+  pub undone_now : (stands : Stands rule limits c base LeavingToEnd h) → 0 < stands.seat.standing → Stands rule limits c base LeavingToEnd (h ++ entry.Undone c ∷ [])
   undone_now stands some =
       let newest = laws.newest h c stands.seat stands.seat_is some in
       let next = laws.undone_to_end limits.stripes h stands.legal c stands.seat stands.seat_is stands.phase_is some newest.0 newest.1 newest.2 in
-      subst (λ q. Stands limits c base q (h ++ entry.Undone c ∷ [])) stands.phase_is
+      subst (λ q. Stands rule limits c base q (h ++ entry.Undone c ∷ [])) stands.phase_is
       (stands_after (entry.Undone c) refl stands.within _ _ _ _ _ next (ap (λ l. taken_back l (now h)) (sym newest.2) ∙ stands.back))
 
-  pub aborted_now : (stands : Stands limits c base LeavingToEnd h) → stands.seat.standing ≡ 0 → now (h ++ entry.Aborted c ∷ []) ≡ base
+  pub aborted_now : (stands : Stands rule limits c base LeavingToEnd h) → stands.seat.standing ≡ 0 → now (h ++ entry.Aborted c ∷ []) ≡ base
   aborted_now stands none =
       (laws.aborted limits.stripes h stands.legal c stands.seat stands.seat_is stands.phase_is none).now_is
       ∙ sym (ap (λ l. taken_back l (now h)) (no_jobs (log_of c h) (laws.length-log_of h c stands.seat stands.seat_is ∙ none))) ∙ stands.back
@@ -117,11 +117,11 @@ module _ (limits : Sizes) (c : ℕ) (base : Map) (h : List Entry) where
       no_jobs [] is = refl
       no_jobs (job ∷ jobs) is = absurd (omega arith)
 
-  pub committed_now : (p : ℕ) → Stands limits c base Opened h → p ≡ how_many is_commit h + 1 → now (h ++ entry.Committed c p ∷ []) ≡ now h
+  pub committed_now : (p : ℕ) → Stands rule limits c base Opened h → p ≡ how_many is_commit h + 1 → now (h ++ entry.Committed c p ∷ []) ≡ now h
   committed_now p stands numbered = (laws.committed limits.stripes h stands.legal c p stands.seat stands.seat_is stands.phase_is numbered).now_is
 
-pub began_now : (limits : Sizes) (c t : ℕ) (h : List Entry) → nat_le limits.callers c ≡ false → IsLegal Now limits.stripes h → (seat : Seat) → seat_after (own c h) ≡ Some seat → seat.phase ≡ Closed
-    → t ≡ how_many is_began h + 1 → Stands limits c (now h) Opened (h ++ entry.Began c t ∷ []) × (now (h ++ entry.Began c t ∷ []) ≡ now h)
+pub began_now : {rule : Holder} (limits : Sizes) (c t : ℕ) (h : List Entry) → nat_le limits.callers c ≡ false → IsLegal rule limits.stripes h → (seat : Seat) → seat_after (own c h) ≡ Some seat → seat.phase ≡ Closed
+    → t ≡ how_many is_began h + 1 → Stands rule limits c (now h) Opened (h ++ entry.Began c t ∷ []) × (now (h ++ entry.Began c t ∷ []) ≡ now h)
 began_now limits c t h within legal seat seat_is closed numbered =
     let next = laws.began limits.stripes h legal c t seat seat_is closed numbered in
     (stands_after limits c (now h) h (entry.Began c t) refl within _ _ _ _ _ next refl, next.now_is)

@@ -1,10 +1,9 @@
 -- What a step or a plain call makes of a transaction that nothing comes between.
 use Rattle.std.proofs.Common.{◌≡◌, ℕ, zero, suc, ◌+◌, ◌<◌, Bool, true, false, cond, List, [], ◌∷◌, ◌++◌, Option, Some, None, refl, sym, ap, subst, ◌∙◌, arith}
-use Rattle.std.specs.Prelude.{nat_le, nat_lt, not, ◌&&◌, unwrap_or}
+use Rattle.std.specs.Prelude.{nat_le, nat_lt, not, ◌&&◌, ◌||◌, unwrap_or}
 use Rattle.std.proofs.lemmas.Bool.{false≢true, and_parts, ltb-true, lt-ltb}
 use Rattle.std.proofs.lemmas.List.{append-nil}
 use mathlib.Core.Logic.{inl, inr, ◌⊎◌}
-use Rattle.txn_trace.specs.declared.holder.Holder.TheVariants.{Now}
 use Rattle.txn_trace.specs.declared.op.Op.{Op}
 use Rattle.txn_trace.specs.declared.op.Op.TheVariants.{Put, Get}
 use Rattle.txn_trace.specs.declared.entry.Entry.{Entry}
@@ -22,7 +21,7 @@ use Rattle.txn_trace.specs.Now.{now}
 use Rattle.txn_trace.specs.Shape.{Seat, closed_seat, seat_after, own}
 use Rattle.txn_trace.specs.Locks.{is_locked}
 use Rattle.txn_trace.specs.Legal.{IsLegal}
-use Rattle.boost_core.specs.State.{State, seat_in}
+use Rattle.boost_core.specs.State.{State, holder_by, seat_in}
 use Rattle.boost_core.specs.Refusals.{refusal_of, is_closed, is_leaving, has_job, has_stamp_for}
 use Rattle.boost_core.specs.Answers.{IsReply, is_at_end, after}
 use Rattle.boost_core.specs.Machine.{Move, Moves}
@@ -38,8 +37,8 @@ abbrev now_of : State → Map
 now_of s = now s.history
 
 -- Nothing is added.
-unmoved : (c : ℕ) (base : Map) (q : Phase) (s : State) → IsAt c base q s → Stands s.limits c base q (s.history ++ [])
-unmoved c base q s stands = subst (Stands s.limits c base q) (sym (append-nil s.history)) stands
+unmoved : (c : ℕ) (base : Map) (q : Phase) (s : State) → IsAt c base q s → Stands (holder_by s.words) s.limits c base q (s.history ++ [])
+unmoved c base q s stands = subst (Stands (holder_by s.words) s.limits c base q) (sym (append-nil s.history)) stands
 
 -- The seat that the definitions of the core name is the seat.
 phase_in : (c : ℕ) (base : Map) (q : Phase) (s : State) → (stands : IsAt c base q s) → seat_in s.history c ≡ stands.seat
@@ -64,7 +63,7 @@ closed_is (LeavingTo n) is = absurd (false≢true is)
 closed_is LeavingToEnd is = absurd (false≢true is)
 
 -- A caller begins.
-pub begins : (old new : State) (c t : ℕ) → IsLegal Now old.limits.stripes old.history → Move old (Begin c) (answers.Began t) new
+pub begins : (old new : State) (c t : ℕ) → IsLegal (holder_by old.words) old.limits.stripes old.history → Move old (Begin c) (answers.Began t) new
     → IsOpen c (now old.history) new × (now new.history ≡ now old.history)
 begins old new c t legal move =
     let tests = first_none (nat_le old.limits.callers c) _ _ move.allowed.0 in
@@ -126,7 +125,7 @@ puts old new c base k v x stands (s1, ask, (s2, seek, (s3, did, last))) =
 pub stops : (old new : State) (c : ℕ) (base : Map) (op : Op) (answer : Answer) → IsOpen c base old → ((x : Option ℕ) → answer ≡ answers.Done x → ⊥) → Operates old c op answer new → CanAbort c base new
 stops old new c base op (answers.Refused refusal) stands other move = inl (to_state c base Opened _ new move.state stands)
 stops old new c base op (answers.Busy x) stands other move =
-    let locked = (and_parts (has_stamp_for old op) _ move.allowed.1).1 in
+    let locked = (and_parts (old.words || has_stamp_for old op) _ move.allowed.1).1 in
     inr (to_state c base LeavingToEnd _ new move.state (busy_now old.limits c base old.history op x stands locked))
 stops old new c base op (answers.Done x) stands other move = absurd (other x refl)
 stops old new c base op answers.Asked stands other move = absurd move

@@ -1,7 +1,7 @@
 -- Transfers between accounts, and transactions of one caller that nothing came between.
 use Rattle.std.specs.Prelude.{ℕ, ◌≡◌, ◌≢◌, ◌+◌, ◌⊎◌, false, List, [], ◌∷◌, Option, Some}
 use Rattle.std.specs.Prelude.{unwrap_or, nat_le}
-use Rattle.txn_trace.specs.declared.holder.Holder.TheVariants.{Now}
+use Rattle.txn_trace.specs.declared.holder.Holder.{Holder}
 use Rattle.txn_trace.specs.declared.entry.Entry.{Entry}
 use Rattle.txn_trace.specs.declared.seat.Phase.{Phase}
 use Rattle.txn_trace.specs.declared.seat.Phase.TheVariants.{Opened, LeavingToEnd}
@@ -11,7 +11,7 @@ use Rattle.txn_trace.specs.Now.{now, set_at}
 use Rattle.txn_trace.specs.Log.{log_of}
 use Rattle.txn_trace.specs.Shape.{Seat, seat_after, own}
 use Rattle.txn_trace.specs.Legal.{IsLegal}
-use Rattle.boost_core.specs.State.{State}
+use Rattle.boost_core.specs.State.{State, holder_by}
 
 -- What an account has: 0 where its key is not there.
 abbrev pub balance : Map → ℕ → ℕ
@@ -31,17 +31,18 @@ taken_back [] m = m
 taken_back (job ∷ jobs) m = taken_back jobs (set_at m job.0 job.1)
 
 -- A caller is in this phase, and with its standing changes taken back the map is this one.
-pub record Stands (limits : Sizes) (c : ℕ) (base : Map) (phase : Phase)
+pub record Stands (rule : Holder) (limits : Sizes) (c : ℕ) (base : Map) (phase : Phase)
     (h : List Entry) : Type 0 where
   pub within : nat_le limits.callers c ≡ false
-  pub legal : IsLegal Now limits.stripes h
+  pub legal : IsLegal rule limits.stripes h
   pub seat : Seat
   pub seat_is : seat_after (own c h) ≡ Some seat
   pub phase_is : seat.phase ≡ phase
   pub back : taken_back (log_of c h) (now h) ≡ base
 
 abbrev pub IsAt : ℕ → Map → Phase → State → Type 0
-IsAt c base phase state = Stands state.limits c base phase state.history
+IsAt c base phase state =
+    Stands (holder_by state.words) state.limits c base phase state.history
 
 -- A caller has a transaction that can go on.
 abbrev pub IsOpen : ℕ → Map → State → Type 0

@@ -14,7 +14,9 @@ use txn_trace::{Answer, Step};
 /// pass 2^64 - 1; where another caller holds one of the stripes (try again later); and where a step
 /// is refused, as for want of memory.
 pub fn transfer(core: &mut Core, caller: u64, from: u64, to: u64, sum: u64) -> bool
-    requires { from ≢ to }
+    requires ordinary { core.old.words ≡ false }
+    requires apart { from ≢ to }
+    ensures ordinary { core.new.words ≡ false }
     ensures moved { result ≡ true
         → IsTransfer from to sum (now core.old.history) (now core.new.history) }
     ensures kept { result ≡ false → now core.new.history ≡ now core.old.history }
@@ -34,7 +36,9 @@ pub fn transfer(core: &mut Core, caller: u64, from: u64, to: u64, sum: u64) -> b
 /// Reads both accounts, writes both and commits; or answers false: then the transaction is to be
 /// aborted.
 fn move_sum(core: &mut Core, caller: u64, from: u64, to: u64, sum: u64) -> bool
-    requires { from ≢ to }
+    requires ordinary { core.old.words ≡ false }
+    requires apart { from ≢ to }
+    ensures ordinary { core.new.words ≡ false }
     ensures moved { (base : Map) → IsOpen caller base core.old → result ≡ true
         → IsTransfer from to sum (now core.old.history) (now core.new.history) }
     ensures back { (base : Map) → IsOpen caller base core.old → result ≡ false

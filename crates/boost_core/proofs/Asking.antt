@@ -1,8 +1,8 @@
 -- An operation that is asked for.
-use Rattle.std.proofs.Common.{◌≡◌, ℕ, ◌+◌, ◌-◌, ◌^◌, ◌<◌, ◌==◌, ◌||◌, true, cond, List, [], ◌∷◌, ◌++◌, length, Option, Some, None, refl, sym, ap, subst, ◌∙◌, arith}
+use Rattle.std.proofs.Common.{◌≡◌, ℕ, ◌+◌, ◌-◌, ◌^◌, ◌<◌, ◌==◌, ◌||◌, true, false, cond, List, [], ◌∷◌, ◌++◌, length, Option, Some, None, refl, sym, ap, subst, ◌∙◌, arith}
 use Rattle.std.specs.Prelude.{slice_get, slice_set, map, reverse, nat_eq, not}
 use Rattle.std.specs.Option.{option_eq, option_map}
-use Rattle.std.proofs.lemmas.Bool.{false≢true, cases_eq, eq-eqb, ne_eqb, and_from}
+use Rattle.std.proofs.lemmas.Bool.{false≢true, cases_eq, eq-eqb, ne_eqb, and_from, or_right}
 use Rattle.std.proofs.lemmas.List.{append-nil}
 use Rattle.std.proofs.lemmas.Option.{slice_get_within}
 use mathlib.Core.Logic.{inl, inr, ◌⊎◌}
@@ -11,7 +11,7 @@ use Rattle.txn_trace.specs.declared.op.Op.{Op}
 use Rattle.txn_trace.specs.declared.refusal.Refusal.{Refusal}
 use Rattle.txn_trace.specs.declared.refusal.Refusal.TheVariants as refusals
 use Rattle.txn_trace.specs.Map.{key_of}
-use Rattle.txn_trace.specs.Locks.{stripe_of, is_locked}
+use Rattle.txn_trace.specs.Locks.{stripe_of, is_locked, LocksHold}
 use Rattle.txn_trace.proofs.Now.{same_is}
 use Rattle.txn_trace.proofs.Holders.{is_locked-asked, is_locked-busy}
 use Rattle.map_ops.specs.Jobs.{takes_node}
@@ -34,16 +34,18 @@ use Rattle.map_ops.specs.declared.job.MapJob.{MapJob}
 use Rattle.map_ops.specs.Jobs.{PendingAt}
 use Rattle.map_ops.specs.TableAt.{TableAt, Cursor, cursor_changes, map_of}
 use Rattle.boost_core.specs.declared.session.Session.{Session}
-use Rattle.boost_core.specs.State.{Owner, Caller, Helper}
+use Rattle.boost_core.specs.State.{Owner, Caller, Helper, holder_by}
 use Rattle.boost_core.specs.Refusals.{refusal_of}
 use Rattle.boost_core.specs.Spares.{times_of, times_in, times_out, IsCovered}
 use Rattle.boost_core.specs.Core.{World, Tells, IsFresh, state_of, turn_at, gap_if}
 use Rattle.boost_core.proofs.Numbers.{no_more}
 use Rattle.boost_core.proofs.Moves.{Runs, state_is, turns_same, gaps_same}
 use Rattle.boost_core.proofs.Grow.{Stays, world_after, seated_as, set_cases}
-use Rattle.boost_core.proofs.Outcomes.{Comes, Called, move_is, same_times, same_world}
+use Rattle.boost_core.proofs.Outcomes.{Comes, Called, CalledBy, move_is, same_times, same_world}
 use Rattle.boost_core.specs.Refusals.{has_stamp_for, MayLack}
+use Rattle.boost_core.specs.Answers.{may_stand}
 use Rattle.boost_core.specs.Machine.{Move}
+use Rattle.boost_core.specs.Words.{Claim, Lock, Goes}
 use Rattle.boost_core.specs.Sessions.{target_in, IsSoughtAt, KeepsPlaced, Waits, spare_if, times_kept, changes_of, AreDue, StaysIn, AsksIn, MeetsIn}
 use Rattle.boost_core.proofs.Moves.{lacks}
 use Rattle.boost_core.proofs.Spares.{spent}
@@ -53,7 +55,7 @@ use Rattle.boost_core.proofs.Given.{prepared_covered, given_spare, stamped, one_
 
 module _ (w : World) (tells : Tells w) (c : ℕ) (x : Session) (at : slice_get w.sessions c ≡ Some x) where
   -- Nothing has changed but room, and the step is refused.
-  module _ (step : Step) (refusal : Refusal) (none : refusal_of (state_of w) step ≡ None) (lack : MayLack (state_of w) step refusal) (opened : x.seat.seat.phase ≡ Opened) (y : Session) (stays : StaysIn x y) where
+  module _ (claim : Claim) (step : Step) (refusal : Refusal) (goes : Goes claim (state_of w) step (answers.Refused refusal) (state_of w)) (opened : x.seat.seat.phase ≡ Opened) (y : Session) (stays : StaysIn x y) where
     still_fresh : (seat' : RoomySeat) (o : Option Owner) → IsFresh w.table w.sessions o → IsFresh w.table (slice_set w.sessions c (seated_as y seat')) o
     still_fresh seat' None fresh = tt
     still_fresh seat' (Some (Helper d)) fresh = fresh
@@ -78,38 +80,39 @@ module _ (w : World) (tells : Tells w) (c : ℕ) (x : Session) (at : slice_get w
       same_counts = refl;
     }
 
-    lacking_move : (seat' : RoomySeat) → Move (state_of w) step (answers.Refused refusal) (state_of (world_after w c (seated_as y seat') w.history w.counts w.table w.locks w.placed))
-    lacking_move seat' =
+    lacking_goes : (seat' : RoomySeat) → Goes claim (state_of w) step (answers.Refused refusal) (state_of (world_after w c (seated_as y seat') w.history w.counts w.table w.locks w.placed))
+    lacking_goes seat' =
         let turns = sym (turns_same w.sessions c x (seated_as y seat') at (ap (option_map cursor_changes) stays.cursor)) in
         let gaps = sym (gaps_same w.table w.sessions c x (seated_as y seat') at (ap (gap_if w.table) stays.cursor)) in
-        subst (Move (state_of w) step (answers.Refused refusal)) (λ i. record (state_of w) { cursors = turns i; gaps = gaps i }) (lacks (state_of w) step refusal none lack)
+        subst (Goes claim (state_of w) step (answers.Refused refusal)) (λ i. record (state_of w) { cursors = turns i; gaps = gaps i }) goes
 
-    pub lacking_called : entries_of step (answers.Refused refusal) ≡ [] → Called w c x step (answers.Refused refusal) y w.table w.locks
+    pub lacking_called : entries_of step (answers.Refused refusal) ≡ [] → CalledBy claim w c x step (answers.Refused refusal) y w.table w.locks
     lacking_called no_entry = record {
       comes = subst (Comes w c x y w.table w.locks w.counts) (sym no_entry) lacking_stays;
-      move = λ seat'. subst (λ g. Move (state_of w) step (answers.Refused refusal) (state_of (world_after w c (seated_as y seat') g w.counts w.table w.locks w.placed))) (sym (ap (λ es. w.history ++ es) no_entry ∙ append-nil w.history)) (lacking_move seat');
+      move = λ seat'. subst (λ g. Goes claim (state_of w) step (answers.Refused refusal) (state_of (world_after w c (seated_as y seat') g w.counts w.table w.locks w.placed))) (sym (ap (λ es. w.history ++ es) no_entry ∙ append-nil w.history)) (lacking_goes seat');
       fresh = λ seat'. still_fresh seat' w.placed tells.fresh;
     }
 
   -- Want of memory for a savepoint.
   pub save_refused : refusal_of (state_of w) (steps.Save c) ≡ None → (y : Session) (t' : TableAt) (locks' : List (Option ℕ)) → StaysIn x y → t' ≡ w.table → locks' ≡ w.locks → Called w c x (steps.Save c) (answers.Refused refusals.NoMemory) y t' locks'
   save_refused none y t' locks' stays table same = same_world (Called w c x (steps.Save c) (answers.Refused refusals.NoMemory) y) w.table t' w.locks locks' table same
-      (lacking_called (steps.Save c) refusals.NoMemory none tt (save_open w.limits.half x.seat.seat c (seat_free w tells c x at (steps.Save c) refl none)) y stays refl)
+      (lacking_called Lock (steps.Save c) refusals.NoMemory (lacks (state_of w) (steps.Save c) refusals.NoMemory none tt) (save_open w.limits.half x.seat.seat c (seat_free w tells c x at (steps.Save c) refl none)) y stays refl)
 
   module _ (op : Op) (none : refusal_of (state_of w) (steps.Ask c op) ≡ None) where
-    opened : x.seat.seat.phase ≡ Opened
+    pub opened : x.seat.seat.phase ≡ Opened
     opened = ask_open w.limits.half x.seat.seat c op (seat_free w tells c x at (steps.Ask c op) refl none)
 
-    nothing : x.pending ≡ None
+    pub nothing : x.pending ≡ None
     nothing = nothing_waits w tells c x at Opened opened refl
 
-    no_cursor_there : x.cursor ≡ None
+    pub no_cursor_there : x.cursor ≡ None
     no_cursor_there = idle_cursor w tells c x at Opened opened refl
 
     -- Want of memory or of a stamp.
-    pub ask_refused : (refusal : Refusal) (y : Session) (t' : TableAt) (locks' : List (Option ℕ)) → (refusal ≡ refusals.NoMemory) ⊎ IsRefused w.table op refusal → StaysIn x y → t' ≡ w.table → locks' ≡ w.locks → Called w c x (steps.Ask c op) (answers.Refused refusal) y t' locks'
-    ask_refused refusal y t' locks' why stays table same = same_world (Called w c x (steps.Ask c op) (answers.Refused refusal) y) w.table t' w.locks locks' table same
-        (lacking_called (steps.Ask c op) refusal none (lack why) opened y stays refl)
+    pub ask_refused : (claim : Claim) (refusal : Refusal) → (Move (state_of w) (steps.Ask c op) (answers.Refused refusal) (state_of w) → Goes claim (state_of w) (steps.Ask c op) (answers.Refused refusal) (state_of w)) → (y : Session) (t' : TableAt) (locks' : List (Option ℕ))
+        → (refusal ≡ refusals.NoMemory) ⊎ IsRefused w.table op refusal → StaysIn x y → t' ≡ w.table → locks' ≡ w.locks → CalledBy claim w c x (steps.Ask c op) (answers.Refused refusal) y t' locks'
+    ask_refused claim refusal by y t' locks' why stays table same = same_world (CalledBy claim w c x (steps.Ask c op) (answers.Refused refusal) y) w.table t' w.locks locks' table same
+        (lacking_called claim (steps.Ask c op) refusal (by (lacks (state_of w) (steps.Ask c op) refusal none (lack why))) opened y stays refl)
       where
         may_lack : (refusal : Refusal) → IsRefused w.table op refusal → MayLack (state_of w) (steps.Ask c op) refusal
         may_lack refusals.StampsUsedUp is = λ i. not (not (is.0 i) || not (is.1 i == 2 ^ 64 - 2))
@@ -120,7 +123,7 @@ module _ (w : World) (tells : Tells w) (c : ℕ) (x : Session) (at : slice_get w
         lack (inl is) = subst (MayLack (state_of w) (steps.Ask c op)) (sym is) tt
         lack (inr is) = may_lack refusal is
 
-    abbrev stripe : ℕ
+    abbrev pub stripe : ℕ
     stripe = stripe_of w.limits.stripes (key_of op)
 
     -- The spares of the log stay covered beside the one that the operation is given.
@@ -151,8 +154,8 @@ module _ (w : World) (tells : Tells w) (c : ℕ) (x : Session) (at : slice_get w
       abbrev holder : ℕ → Option ℕ
       holder s = cond (stripe == s) (Some c) (holder_of w.limits.stripes s w.history)
 
-      locked : is_locked Now w.limits.stripes w.history (entry.Asked c op) ≡ true
-      locked = is_locked-asked Now w.limits.stripes w.history c op tells.legal.shape tells.legal.locks ∙ open_to (holder_of w.limits.stripes stripe w.history) c
+      locked : is_locked (holder_by w.words) w.limits.stripes w.history (entry.Asked c op) ≡ true
+      locked = is_locked-asked (holder_by w.words) w.limits.stripes w.history c op tells.legal.shape tells.legal.locks ∙ open_to (holder_of w.limits.stripes stripe w.history) c
           (subst (λ (o : Option ℕ). (o ≡ None) ⊎ (o ≡ Some c)) (tells.holders stripe within) asks.grants.open_to_caller)
 
       asked_holders : (s : ℕ) → s < w.limits.stripes → held_by locks' s ≡ holder s
@@ -179,7 +182,7 @@ module _ (w : World) (tells : Tells w) (c : ℕ) (x : Session) (at : slice_get w
           committed = serial w.history;
           current = now w.history;
           holder = holder;
-          next = subst (λ l. Next Now w.limits.stripes w.history (entry.Asked c op) (record { phase = Waiting op; standing = x.seat.seat.standing; kept = x.seat.seat.kept }) l (serial w.history) (now w.history) holder)
+          next = subst (λ l. Next (holder_by w.words) w.limits.stripes w.history (entry.Asked c op) (record { phase = Waiting op; standing = x.seat.seat.standing; kept = x.seat.seat.kept }) l (serial w.history) (now w.history) holder)
               ((tells.seated c x at).log ∙ ap changes_of (sym asks.jobs)) (laws.asked w.limits.stripes w.history tells.legal c op x.seat.seat (tells.seated c x at).seat opened locked);
           mine = refl;
           same_seat = asks.seat;
@@ -201,7 +204,7 @@ module _ (w : World) (tells : Tells w) (c : ℕ) (x : Session) (at : slice_get w
           holders = asked_holders;
         };
         move = λ seat'. move_is w (world_after w c (seated_as y seat') (w.history ++ entry.Asked c op ∷ []) w.counts t' locks' None) (steps.Ask c op) answers.Asked
-            (none, and_from (has_stamp_for (state_of w) op) (is_locked Now w.limits.stripes w.history (entry.Asked c op)) (stamped w.table t' (takes_node op) asks.pending.spare asks.prepares.given) locked)
+            (none, and_from (has_stamp_for (state_of w) op) (may_stand (state_of w) (entry.Asked c op)) (stamped w.table t' (takes_node op) asks.pending.spare asks.prepares.given) locked)
             (state_is w (w.history ++ entry.Asked c op ∷ []) (w.history ++ entry.Asked c op ∷ []) w.counts t' (map turn_at w.sessions) (slice_set w.sessions c (seated_as y seat')) locks' None (prepared_runs t' asks.pending asks.prepares) refl
             (turns_same w.sessions c x (seated_as y seat') at (ap (option_map cursor_changes) asks.cursor)))
             (prepared_runs t' asks.pending asks.prepares) (λ kept. asks.prepares.nodes.changes);
@@ -210,13 +213,18 @@ module _ (w : World) (tells : Tells w) (c : ℕ) (x : Session) (at : slice_get w
 
     -- Another caller holds the stripe: what was prepared is given up, and the caller leaves to the end.
     module _ (holder : ℕ) (y : Session) (t' : TableAt) (locks' : List (Option ℕ)) (meets : MeetsIn c stripe op holder x w.table w.locks y t' locks') (keeps : KeepsPlaced w.table t') (within : stripe < w.limits.stripes) where
-      held_else : is_locked Now w.limits.stripes w.history (entry.Busy c op holder) ≡ true
-      held_else =
-          is_locked-busy Now w.limits.stripes w.history c op holder tells.legal.shape tells.legal.locks
+      stands : w.words ≡ false → may_stand (state_of w) (entry.Busy c op holder) ≡ true
+      stands words =
+          let locks : LocksHold Now w.limits.stripes w.history = subst (λ b. LocksHold (holder_by b) w.limits.stripes w.history) words tells.legal.locks in
+          subst (λ b. is_locked (holder_by b) w.limits.stripes w.history (entry.Busy c op holder) ≡ true) (sym words)
+          (is_locked-busy Now w.limits.stripes w.history c op holder tells.legal.shape locks
           ∙ and_from (not (holder == c)) (option_eq nat_eq (holder_of w.limits.stripes stripe w.history) (Some holder)) (ap not (ne_eqb holder c meets.refuses.by_another))
-          (same_is (holder_of w.limits.stripes stripe w.history) (Some holder) (sym (tells.holders stripe within) ∙ meets.refuses.held))
+          (same_is (holder_of w.limits.stripes stripe w.history) (Some holder) (sym (tells.holders stripe within) ∙ meets.refuses.held)))
 
-      busy_runs : Runs w.table t'
+      pub busy_stamped : has_stamp_for (state_of w) op ≡ true
+      busy_stamped = stamped w.table meets.between (takes_node op) meets.pending.spare meets.prepares.given
+
+      pub busy_runs : Runs w.table t'
       busy_runs =
           let was = prepared_runs meets.between meets.pending meets.prepares in
           record {
@@ -229,7 +237,7 @@ module _ (w : World) (tells : Tells w) (c : ℕ) (x : Session) (at : slice_get w
             one_last = let same = meets.back.last in let before = was.one_last in omega arith;
           }
 
-      busy_covered : (others : ℕ → ℕ → ℕ) → IsCovered (λ place stamp. others place stamp + times_kept x place stamp) w.table → IsCovered (λ place stamp. others place stamp + times_kept y place stamp) t'
+      pub busy_covered : (others : ℕ → ℕ → ℕ) → IsCovered (λ place stamp. others place stamp + times_kept x place stamp) w.table → IsCovered (λ place stamp. others place stamp + times_kept y place stamp) t'
       busy_covered others covered place stamp =
           let exact : others place stamp + times_in x.log.jobs place stamp ≡ times_out t' place stamp = spent meets.between t' meets.pending.spare (λ p s. others p s + times_in x.log.jobs p s) meets.back.spares (spares_before meets.between meets.pending meets.prepares others covered) place stamp in
           let same : times_in y.log.jobs place stamp ≡ times_in x.log.jobs place stamp = ap (λ (js : List MapJob). times_in js place stamp) meets.jobs in
@@ -239,15 +247,15 @@ module _ (w : World) (tells : Tells w) (c : ℕ) (x : Session) (at : slice_get w
           regroup : (a j p k n : ℕ) → k ≡ j → p ≡ 0 → a + j ≡ n → a + (p + k) ≡ n
           regroup a j p k n same none exact = omega arith
 
-      pub busy_called : Called w c x (steps.Ask c op) (answers.Busy holder) y t' locks'
-      busy_called = record {
+      pub busy_called : w.words ≡ false → Called w c x (steps.Ask c op) (answers.Busy holder) y t' locks'
+      busy_called words = record {
         comes = record {
           seat = record { phase = LeavingToEnd; standing = x.seat.seat.standing; kept = x.seat.seat.kept };
           committed = serial w.history;
           current = now w.history;
           holder = λ s. holder_of w.limits.stripes s w.history;
-          next = subst (λ l. Next Now w.limits.stripes w.history (entry.Busy c op holder) (record { phase = LeavingToEnd; standing = x.seat.seat.standing; kept = x.seat.seat.kept }) l (serial w.history) (now w.history) (λ s. holder_of w.limits.stripes s w.history))
-              ((tells.seated c x at).log ∙ ap changes_of (sym meets.jobs)) (laws.busy w.limits.stripes w.history tells.legal c op holder x.seat.seat (tells.seated c x at).seat opened held_else);
+          next = subst (λ l. Next (holder_by w.words) w.limits.stripes w.history (entry.Busy c op holder) (record { phase = LeavingToEnd; standing = x.seat.seat.standing; kept = x.seat.seat.kept }) l (serial w.history) (now w.history) (λ s. holder_of w.limits.stripes s w.history))
+              ((tells.seated c x at).log ∙ ap changes_of (sym meets.jobs)) (laws.busy w.limits.stripes w.history tells.legal c op holder x.seat.seat (tells.seated c x at).seat opened (stands words));
           mine = refl;
           same_seat = meets.seat;
           saved = λ is. absurd (false≢true is);
@@ -267,7 +275,7 @@ module _ (w : World) (tells : Tells w) (c : ℕ) (x : Session) (at : slice_get w
           holders = λ s below. ap (λ ls. held_by ls s) meets.refuses.same ∙ tells.holders s below;
         };
         move = λ seat'. move_is w (world_after w c (seated_as y seat') (w.history ++ entry.Busy c op holder ∷ []) w.counts t' locks' None) (steps.Ask c op) (answers.Busy holder)
-            (none, and_from (has_stamp_for (state_of w) op) (is_locked Now w.limits.stripes w.history (entry.Busy c op holder)) (stamped w.table meets.between (takes_node op) meets.pending.spare meets.prepares.given) held_else)
+            (none, and_from (w.words || has_stamp_for (state_of w) op) (may_stand (state_of w) (entry.Busy c op holder)) (or_right w.words (has_stamp_for (state_of w) op) busy_stamped) (stands words))
             (state_is w (w.history ++ entry.Busy c op holder ∷ []) (w.history ++ entry.Busy c op holder ∷ []) w.counts t' (map turn_at w.sessions) (slice_set w.sessions c (seated_as y seat')) locks' None busy_runs refl
             (turns_same w.sessions c x (seated_as y seat') at (ap (option_map cursor_changes) meets.cursor)))
             busy_runs (λ kept. meets.back.nodes.changes ∙ meets.prepares.nodes.changes);

@@ -1,7 +1,9 @@
 -- What each step of a caller comes to, by what it does.
-use Rattle.std.proofs.Common.{◌≡◌, ℕ, ◌+◌, ◌-◌, ◌^◌, ◌<◌, ◌≤◌, true, List, Option, Some, None, is_some, refl, sym, ap, subst, ◌∙◌, arith}
+use Rattle.std.proofs.Common.{◌≡◌, ℕ, ◌+◌, ◌-◌, ◌^◌, ◌<◌, ◌≤◌, Bool, true, false, List, Option, Some, None, is_some, refl, sym, ap, subst, ◌∙◌, arith}
 use Rattle.std.specs.Prelude.{slice_get, slice_set, map, reverse, unwrap_or}
 use Rattle.std.specs.Option.{option_map}
+use mathlib.Core.Logic.{inr}
+use Rattle.std.proofs.lemmas.Bool.{false≢true}
 use Rattle.std.proofs.lemmas.List.{length-set, get_or-set_same}
 use Rattle.std.proofs.lemmas.Option.{slice_get_within, slice_get-map}
 use Rattle.txn_trace.specs.declared.step.Step.{Step}
@@ -13,20 +15,22 @@ use Rattle.boost_core.specs.declared.counts.Counts.{Counts}
 use Rattle.boost_core.specs.declared.session.Session.{Session}
 use Rattle.boost_core.specs.State.{Caller, turn_in}
 use Rattle.boost_core.specs.Refusals.{refusal_of}
+use Rattle.boost_core.specs.Words.{Claim, Lock, Right, Held, Stale, IsClaim}
 use Rattle.boost_core.specs.Spares.{times_of, times_in, times_out}
 use Rattle.boost_core.specs.Core.{World, Tells, state_of, turn_at, all_times}
-use Rattle.boost_core.proofs.Outcomes.{Called, same_world}
+use Rattle.boost_core.proofs.Outcomes.{Called, CalledBy, same_world}
 use Rattle.txn_trace.specs.declared.refusal.Refusal.TheVariants as refusals
 use Rattle.txn_trace.specs.Map.{key_of}
 use Rattle.txn_trace.specs.declared.op.Op.{Op}
 use Rattle.txn_trace.specs.Locks.{stripe_of}
 use Rattle.boost_core.specs.Refusals.{owner_of}
-use Rattle.boost_core.specs.Sessions.{Does, ActsIn, ReturnsIn, Saves, IsAsked, KeepsPlaced, Takes, AreDue, spare_if, times_kept}
+use Rattle.boost_core.specs.Sessions.{Does, ActsIn, ReturnsIn, Saves, IsAsked, AsksBy, unless_busy, KeepsPlaced, Takes, AreDue, spare_if, times_kept}
 use Rattle.boost_core.proofs.Spares.{owns_if}
 use Rattle.boost_core.proofs.Grow.{one_of_sum}
 use Rattle.boost_core.proofs.Refused.{index_at, free, seat_free, cursor_free, le_false_lt}
 use Rattle.boost_core.proofs.Parting.{begun_called, saved_called, left_called, committed, withdrawn, returned, ended}
 use Rattle.boost_core.proofs.Asking.{asked_called, busy_called, ask_refused, save_refused}
+use Rattle.boost_core.proofs.Claims.{stale_called, held_called, word_stale_called}
 use Rattle.boost_core.proofs.Working.{did_called, undone_called}
 use Rattle.boost_core.proofs.Finding.{sought_called, again_called}
 
@@ -34,13 +38,41 @@ use Rattle.boost_core.proofs.Finding.{sought_called, again_called}
 of_owner : (P : ℕ → Type 0) (d c : ℕ) → Some (Caller d) ≡ Some (Caller c) → P d → P c
 of_owner P d c same p = let is : d ≡ c = cc (same) in subst P is p
 
+-- An Ask locks its stripe only where stripes are no words.
+no_words : (words : Bool) → (words ≡ true → true ≡ false) → words ≡ false
+no_words true claims = absurd (false≢true (sym (claims refl)))
+no_words false claims = refl
+
 module _ (w : World) (tells : Tells w) (x : Session) (y : Session) (t' : TableAt) (locks' : List (Option ℕ)) (keeps : KeepsPlaced w.table t') (rises : table_changes w.table ≤ table_changes t') where
-  asked : (c : ℕ) (op : Op) → slice_get w.sessions c ≡ Some x → refusal_of (state_of w) (steps.Ask c op) ≡ None → stripe_of w.limits.stripes (key_of op) < w.limits.stripes → (answer : Answer)
+  asked : (c : ℕ) (op : Op) → slice_get w.sessions c ≡ Some x → refusal_of (state_of w) (steps.Ask c op) ≡ None → stripe_of w.limits.stripes (key_of op) < w.limits.stripes → w.words ≡ false → (answer : Answer)
       → IsAsked c (stripe_of w.limits.stripes (key_of op)) op x w.table w.locks answer y t' locks' → Called w c x (steps.Ask c op) answer y t' locks'
-  asked c op at none within answers.Asked does = asked_called w tells c x at op none y t' locks' does keeps within
-  asked c op at none within (answers.Busy holder) does = busy_called w tells c x at op none holder y t' locks' does keeps within
-  asked c op at none within (answers.Refused refusal) does = ask_refused w tells c x at op none refusal y t' locks' does.0 does.1 does.2 does.3
-  asked c op at none within _ does = absurd does
+  asked c op at none within words answers.Asked does = asked_called w tells c x at op none y t' locks' does keeps within
+  asked c op at none within words (answers.Busy holder) does = busy_called w tells c x at op none holder y t' locks' does keeps within words
+  asked c op at none within words (answers.Refused refusal) does = ask_refused w tells c x at op none Lock refusal (λ move. move) y t' locks' does.0 does.1 does.2 does.3
+  asked c op at none within words _ does = absurd does
+
+  asked_with : (c : ℕ) (op : Op) → slice_get w.sessions c ≡ Some x → refusal_of (state_of w) (steps.Ask c op) ≡ None → stripe_of w.limits.stripes (key_of op) < w.limits.stripes → (own : Answer)
+      → IsAsked c (stripe_of w.limits.stripes (key_of op)) op x w.table w.locks own y t' locks' → CalledBy Right w c x (steps.Ask c op) (unless_busy own) y t' locks'
+  asked_with c op at none within answers.Asked does =
+      let is = asked_called w tells c x at op none y t' locks' does keeps within in
+      record { comes = is.comes; move = λ seat'. inr (refl, is.move seat'); fresh = is.fresh }
+  asked_with c op at none within (answers.Busy holder) does = stale_called w tells c x at op none holder y t' locks' does keeps within
+  asked_with c op at none within (answers.Refused refusal) does = ask_refused w tells c x at op none Right refusal (λ move. inr (refl, move)) y t' locks' does.0 does.1 does.2 does.3
+  asked_with c op at none within _ does = absurd does
+
+  -- An operation that is asked for, by each claim.
+  asked_by : (claim : Claim) (c : ℕ) (op : Op) → slice_get w.sessions c ≡ Some x → refusal_of (state_of w) (steps.Ask c op) ≡ None → stripe_of w.limits.stripes (key_of op) < w.limits.stripes → IsClaim claim (state_of w) (steps.Ask c op) → (answer : Answer)
+      → AsksBy claim c (stripe_of w.limits.stripes (key_of op)) op x w.table w.locks answer y t' locks' → CalledBy claim w c x (steps.Ask c op) answer y t' locks'
+  asked_by Lock c op at none within claims answer does = asked c op at none within (no_words w.words claims) answer does
+  asked_by Right c op at none within claims answer does = subst (λ a. CalledBy Right w c x (steps.Ask c op) a y t' locks') (sym does.1) (asked_with c op at none within does.0 does.2)
+  asked_by (Held named) c op at none within claims answer does =
+      subst (λ a. CalledBy (Held named) w c x (steps.Ask c op) a y t' locks') (sym does.0)
+      (subst (λ s. CalledBy (Held named) w c x (steps.Ask c op) (answers.Busy named) s t' locks') (sym does.1)
+      (same_world (CalledBy (Held named) w c x (steps.Ask c op) (answers.Busy named) x) w.table t' w.locks locks' does.2 does.3 (held_called w tells c x at op none named claims.0 claims.1)))
+  asked_by Stale c op at none within claims answer does =
+      subst (λ a. CalledBy Stale w c x (steps.Ask c op) a y t' locks') (sym does.0)
+      (subst (λ s. CalledBy Stale w c x (steps.Ask c op) (answers.Refused refusals.StaleWord) s t' locks') (sym does.1)
+      (same_world (CalledBy Stale w c x (steps.Ask c op) (answers.Refused refusals.StaleWord) x) w.table t' w.locks locks' does.2 does.3 (word_stale_called w tells c x at op none)))
 
   acted : (c : ℕ) → slice_get w.sessions c ≡ Some x → refusal_of (state_of w) (steps.Act c) ≡ None → (answer : Answer) → ActsIn c x w.table w.locks answer y t' locks' → Called w c x (steps.Act c) answer y t' locks'
   acted c at none answers.Again does = subst (Called w c x (steps.Act c) answers.Again y t') (sym does.2) (again_called w tells c x at none does.0 y t' does.1)
@@ -55,44 +87,58 @@ module _ (w : World) (tells : Tells w) (x : Session) (y : Session) (t' : TableAt
   saved_here c at none (answers.Refused refusals.NoMemory) does table same = save_refused w tells c x at none y t' locks' does table same
   saved_here c at none _ does table same = absurd does
 
-  -- What each step comes to.
-  pub called : (c : ℕ) (step : Step) → owner_of step ≡ Some (Caller c) → slice_get w.sessions c ≡ Some x → refusal_of (state_of w) step ≡ None → 0 < w.limits.stripes → (answer : Answer)
-      → Does w.limits.stripes w.counts step x w.table w.locks answer y t' locks' → Called w c x step answer y t' locks'
-  called c (steps.Begin d) owner at none some answer does = of_owner (λ k. Called w k x (steps.Begin d) answer y t' locks') d c owner (begun answer does)
+  -- What each step that claims no word comes to.
+  locked : (c : ℕ) (step : Step) → owner_of step ≡ Some (Caller c) → slice_get w.sessions c ≡ Some x → refusal_of (state_of w) step ≡ None → 0 < w.limits.stripes → IsClaim Lock (state_of w) step → (answer : Answer)
+      → Does Lock w.limits.stripes w.counts step x w.table w.locks answer y t' locks' → Called w c x step answer y t' locks'
+  locked c (steps.Begin d) owner at none some claims answer does = of_owner (λ k. Called w k x (steps.Begin d) answer y t' locks') d c owner (begun answer does)
     where
       at_d : slice_get w.sessions d ≡ Some x
       at_d = of_owner (λ k. slice_get w.sessions k ≡ Some x) c d (sym owner) at
 
-      begun : (answer : Answer) → Does w.limits.stripes w.counts (steps.Begin d) x w.table w.locks answer y t' locks' → Called w d x (steps.Begin d) answer y t' locks'
+      begun : (answer : Answer) → Does Lock w.limits.stripes w.counts (steps.Begin d) x w.table w.locks answer y t' locks' → Called w d x (steps.Begin d) answer y t' locks'
       begun (answers.Began n) does = begun_called w tells d x at_d none n y t' locks' does.0 does.1 does.2 does.3
       begun _ does = absurd does
-  called c (steps.Ask d op) owner at none some answer does = of_owner (λ k. Called w k x (steps.Ask d op) answer y t' locks') d c owner
-      (asked d op (of_owner (λ k. slice_get w.sessions k ≡ Some x) c d (sym owner) at) none (grind arith) answer does)
-  called c (steps.Seek d) owner at none some answer does = of_owner (λ k. Called w k x (steps.Seek d) answer y t' locks') d c owner (sought answer does)
+  locked c (steps.Ask d op) owner at none some claims answer does = of_owner (λ k. Called w k x (steps.Ask d op) answer y t' locks') d c owner
+      (asked d op (of_owner (λ k. slice_get w.sessions k ≡ Some x) c d (sym owner) at) none (grind arith) (no_words w.words claims) answer does)
+  locked c (steps.Seek d) owner at none some claims answer does = of_owner (λ k. Called w k x (steps.Seek d) answer y t' locks') d c owner (sought answer does)
     where
-      sought : (answer : Answer) → Does w.limits.stripes w.counts (steps.Seek d) x w.table w.locks answer y t' locks' → Called w d x (steps.Seek d) answer y t' locks'
+      sought : (answer : Answer) → Does Lock w.limits.stripes w.counts (steps.Seek d) x w.table w.locks answer y t' locks' → Called w d x (steps.Seek d) answer y t' locks'
       sought answers.Placed does = subst (Called w d x (steps.Seek d) answers.Placed y t') (sym does.1) (sought_called w tells d x (of_owner (λ k. slice_get w.sessions k ≡ Some x) c d (sym owner) at) none y t' does.0 keeps rises)
       sought _ does = absurd does
-  called c (steps.Act d) owner at none some answer does = of_owner (λ k. Called w k x (steps.Act d) answer y t' locks') d c owner
+  locked c (steps.Act d) owner at none some claims answer does = of_owner (λ k. Called w k x (steps.Act d) answer y t' locks') d c owner
       (acted d (of_owner (λ k. slice_get w.sessions k ≡ Some x) c d (sym owner) at) none answer does)
-  called c (steps.Save d) owner at none some answer does = of_owner (λ k. Called w k x (steps.Save d) answer y t' locks') d c owner
+  locked c (steps.Save d) owner at none some claims answer does = of_owner (λ k. Called w k x (steps.Save d) answer y t' locks') d c owner
       (saved_here d (of_owner (λ k. slice_get w.sessions k ≡ Some x) c d (sym owner) at) none answer does.0 does.1 does.2)
-  called c (steps.Back d n) owner at none some answer does = of_owner (λ k. Called w k x (steps.Back d n) answer y t' locks') d c owner (gone answer does)
+  locked c (steps.Back d n) owner at none some claims answer does = of_owner (λ k. Called w k x (steps.Back d n) answer y t' locks') d c owner (gone answer does)
     where
-      gone : (answer : Answer) → Does w.limits.stripes w.counts (steps.Back d n) x w.table w.locks answer y t' locks' → Called w d x (steps.Back d n) answer y t' locks'
+      gone : (answer : Answer) → Does Lock w.limits.stripes w.counts (steps.Back d n) x w.table w.locks answer y t' locks' → Called w d x (steps.Back d n) answer y t' locks'
       gone answers.Leaving does = left_called w tells d x (of_owner (λ k. slice_get w.sessions k ≡ Some x) c d (sym owner) at) n none y t' locks' does.0 does.1 does.2
       gone _ does = absurd does
-  called c (steps.Commit d) owner at none some answer does = of_owner (λ k. Called w k x (steps.Commit d) answer y t' locks') d c owner (done answer does)
+  locked c (steps.Commit d) owner at none some claims answer does = of_owner (λ k. Called w k x (steps.Commit d) answer y t' locks') d c owner (done answer does)
     where
-      done : (answer : Answer) → Does w.limits.stripes w.counts (steps.Commit d) x w.table w.locks answer y t' locks' → Called w d x (steps.Commit d) answer y t' locks'
+      done : (answer : Answer) → Does Lock w.limits.stripes w.counts (steps.Commit d) x w.table w.locks answer y t' locks' → Called w d x (steps.Commit d) answer y t' locks'
       done (answers.Committed p) does = committed w tells d x (of_owner (λ k. slice_get w.sessions k ≡ Some x) c d (sym owner) at) none p y t' locks' does.0 does.1 does.2
       done _ does = absurd does
-  called c (steps.Abort d) owner at none some answer does = of_owner (λ k. Called w k x (steps.Abort d) answer y t' locks') d c owner (gone answer does)
+  locked c (steps.Abort d) owner at none some claims answer does = of_owner (λ k. Called w k x (steps.Abort d) answer y t' locks') d c owner (gone answer does)
     where
-      gone : (answer : Answer) → Does w.limits.stripes w.counts (steps.Abort d) x w.table w.locks answer y t' locks' → Called w d x (steps.Abort d) answer y t' locks'
+      gone : (answer : Answer) → Does Lock w.limits.stripes w.counts (steps.Abort d) x w.table w.locks answer y t' locks' → Called w d x (steps.Abort d) answer y t' locks'
       gone answers.Leaving does = subst (Called w d x (steps.Abort d) answers.Leaving y t') (sym does.1) (withdrawn w tells d x (of_owner (λ k. slice_get w.sessions k ≡ Some x) c d (sym owner) at) none y t' does.0)
       gone _ does = absurd does
-  called c _ owner at none some answer does = absurd does
+  locked c _ owner at none some claims answer does = absurd does
+
+  -- What each step comes to, by its claim.
+  pub called : (claim : Claim) (c : ℕ) (step : Step) → owner_of step ≡ Some (Caller c) → slice_get w.sessions c ≡ Some x → refusal_of (state_of w) step ≡ None → 0 < w.limits.stripes → IsClaim claim (state_of w) step → (answer : Answer)
+      → Does claim w.limits.stripes w.counts step x w.table w.locks answer y t' locks' → CalledBy claim w c x step answer y t' locks'
+  called Lock c step owner at none some claims answer does = locked c step owner at none some claims answer does
+  called Right c (steps.Ask d op) owner at none some claims answer does = of_owner (λ k. CalledBy Right w k x (steps.Ask d op) answer y t' locks') d c owner
+      (asked_by Right d op (of_owner (λ k. slice_get w.sessions k ≡ Some x) c d (sym owner) at) none (grind arith) claims answer does)
+  called Right c _ owner at none some claims answer does = absurd claims
+  called (Held named) c (steps.Ask d op) owner at none some claims answer does = of_owner (λ k. CalledBy (Held named) w k x (steps.Ask d op) answer y t' locks') d c owner
+      (asked_by (Held named) d op (of_owner (λ k. slice_get w.sessions k ≡ Some x) c d (sym owner) at) none (grind arith) claims answer does)
+  called (Held named) c _ owner at none some claims answer does = absurd claims
+  called Stale c (steps.Ask d op) owner at none some claims answer does = of_owner (λ k. CalledBy Stale w k x (steps.Ask d op) answer y t' locks') d c owner
+      (asked_by Stale d op (of_owner (λ k. slice_get w.sessions k ≡ Some x) c d (sym owner) at) none (grind arith) claims answer does)
+  called Stale c _ owner at none some claims answer does = absurd claims
 
 -- What the side of a caller is asked for, where nothing refuses its step.
 pub takes : (w : World) → Tells w → (c : ℕ) (x : Session) → slice_get w.sessions c ≡ Some x → (step : Step) → owner_of step ≡ Some (Caller c) → refusal_of (state_of w) step ≡ None
@@ -135,13 +181,25 @@ takes w tells c x at step owner none callers some began done = record {
     rejoin a b n out most exact = omega arith
 
 -- A step that is answered `Placed` leaves its caller a cursor.
-pub placed_cursor : (stripes : ℕ) (counts : Counts) (step : Step) (x : Session) (t : TableAt) (locks : List (Option ℕ)) (answer : Answer) (y : Session) (t' : TableAt) (locks' : List (Option ℕ)) → Does stripes counts step x t locks answer y t' locks' → answer ≡ answers.Placed → is_some y.cursor ≡ true
-placed_cursor stripes counts step x t locks answer y t' locks' does is = at step (subst (λ a. Does stripes counts step x t locks a y t' locks') is does)
+pub placed_cursor : (claim : Claim) (stripes : ℕ) (counts : Counts) (step : Step) (x : Session) (t : TableAt) (locks : List (Option ℕ)) (answer : Answer) (y : Session) (t' : TableAt) (locks' : List (Option ℕ)) → Does claim stripes counts step x t locks answer y t' locks' → answer ≡ answers.Placed → is_some y.cursor ≡ true
+placed_cursor claim stripes counts step x t locks answer y t' locks' does is = at step (subst (λ a. Does claim stripes counts step x t locks a y t' locks') is does)
   where
-    at : (step : Step) → Does stripes counts step x t locks answers.Placed y t' locks' → is_some y.cursor ≡ true
+    not_own : (own : Answer) (c : ℕ) (op : Op) → answers.Placed ≡ unless_busy own → IsAsked c (stripe_of stripes (key_of op)) op x t locks own y t' locks' → ⊥
+    not_own answers.Asked c op is does = cc (is)
+    not_own (answers.Busy holder) c op is does = cc (is)
+    not_own (answers.Refused refusal) c op is does = cc (is)
+    not_own _ c op is does = does
+
+    never_placed : (claim : Claim) (c : ℕ) (op : Op) → AsksBy claim c (stripe_of stripes (key_of op)) op x t locks answers.Placed y t' locks' → ⊥
+    never_placed Lock c op does = does
+    never_placed Right c op does = not_own does.0 c op does.1 does.2
+    never_placed (Held named) c op does = cc (does.0)
+    never_placed Stale c op does = cc (does.0)
+
+    at : (step : Step) → Does claim stripes counts step x t locks answers.Placed y t' locks' → is_some y.cursor ≡ true
     at (steps.Seek c) does = ap (λ (s : Session). is_some s.cursor) does.0.becomes
     at (steps.Begin c) does = absurd does
-    at (steps.Ask c op) does = absurd does
+    at (steps.Ask c op) does = absurd (never_placed claim c op does)
     at (steps.Act c) does = absurd does
     at (steps.Save c) does = absurd does.0
     at (steps.Back c n) does = absurd does

@@ -5,6 +5,9 @@ use Rattle.std.proofs.lemmas.Bool.{cases_lt}
 use Rattle.std.proofs.lemmas.List.{length-set, get_or-set_same, get_or-set_other}
 use Rattle.std.proofs.lemmas.Option.{slice_get_within, slice_get_past, slice_get-get_or}
 use Rattle.split_key.specs.Sort.{regular_at}
+use Rattle.txn_trace.specs.declared.op.Op.{Op}
+use Rattle.txn_trace.specs.Map.{key_of}
+use Rattle.txn_trace.specs.Locks.{stripe_of}
 use Rattle.txn_trace.specs.declared.refusal.Refusal.{Refusal}
 use Rattle.txn_trace.specs.declared.refusal.Refusal.TheVariants as refusals
 use Rattle.txn_trace.specs.declared.step.Step.{Step}
@@ -16,8 +19,9 @@ use Rattle.node_list.specs.Sound.{IsSound}
 use Rattle.boost_core.specs.declared.session.Session.{Session}
 use Rattle.boost_core.specs.State.{State, Gap, Caller, Helper, gap_in, gap_for}
 use Rattle.boost_core.specs.Refusals.{owner_of}
+use Rattle.boost_core.specs.Words.{Claim, Lock, Right, Held, Stale}
 use Rattle.boost_core.specs.Nodes.{AreNeighbours, Cursors, Fits, KeepsGaps, StandsAt, mover_of, next_key}
-use Rattle.boost_core.specs.Sessions.{Does, ActsIn, SeeksIn}
+use Rattle.boost_core.specs.Sessions.{Does, ActsIn, SeeksIn, IsAsked, AsksBy}
 use Rattle.boost_core.specs.Core.{World, Tells, state_of, nodes_at, gap_by, gap_if}
 use Rattle.boost_core.proofs.Refused.{index_at}
 use Rattle.boost_core.proofs.Moves.{gaps_same}
@@ -26,6 +30,7 @@ use Rattle.boost_core.proofs.GapLists.{Stay}
 use Rattle.boost_core.proofs.Neighbours.{fit_of}
 use Rattle.boost_core.proofs.Gaps.{gap_here, no_gap, gap_by_side, gap_kept, stands}
 use Rattle.boost_core.proofs.HelperGaps.{cursors_stay, helper_kept}
+use Rattle.boost_core.proofs.Claims.{same_gap}
 use Rattle.boost_core.proofs.Staying.{does_stay, does_buckets}
 
 -- A state that is seen another way.
@@ -63,31 +68,45 @@ module _ (w : World) (tells : Tells w) (c : ℕ) (x : Session) (at : slice_get w
   here : slice_get w'.sessions c ≡ Some z
   here = ap (λ ss. slice_get ss c) sides ∙ set_here w.sessions c x z at
 
-  -- A refusal leaves the caller's cursor and the table.
-  stays : (step : Step) (refusal : Refusal) (stripes : ℕ) → Does stripes w.counts step x w.table w.locks (answers.Refused refusal) y w'.table locks' → (y.cursor ≡ x.cursor) × (w'.table ≡ w.table)
-  stays (steps.Ask d op) refusal stripes is = (is.1.cursor, is.2)
-  stays (steps.Save d) refusals.NoMemory stripes is = (is.0.cursor, is.1)
-  stays (steps.Save d) _ stripes is = absurd is.0
-  stays (steps.Act d) refusal stripes is = absurd is
-  stays _ refusal stripes is = absurd is
+  -- A refusal leaves the caller's cursor and the nodes.
+  asked_stays : (claim : Claim) (d stripe : ℕ) (op : Op) (refusal : Refusal) → AsksBy claim d stripe op x w.table w.locks (answers.Refused refusal) y w'.table locks' → (y.cursor ≡ x.cursor) × (nodes_of w'.table ≡ nodes_of w.table)
+  asked_stays Lock d stripe op refusal is = (is.1.cursor, ap nodes_of is.2)
+  asked_stays Right d stripe op refusal is = own is.0 is.2
+    where
+      own : (own : Answer) → IsAsked d stripe op x w.table w.locks own y w'.table locks' → (y.cursor ≡ x.cursor) × (nodes_of w'.table ≡ nodes_of w.table)
+      own answers.Asked is = (is.cursor, is.prepares.nodes.all)
+      own (answers.Busy holder) is = (is.cursor, is.back.nodes.all ∙ is.prepares.nodes.all)
+      own (answers.Refused refusal) is = (is.1.cursor, ap nodes_of is.2)
+      own _ is = absurd is
+  asked_stays (Held named) d stripe op refusal is = (ap (λ (s : Session). s.cursor) is.1, ap nodes_of is.2)
+  asked_stays Stale d stripe op refusal is = (ap (λ (s : Session). s.cursor) is.1, ap nodes_of is.2)
 
-  gaps_stay : y.cursor ≡ x.cursor → w'.table ≡ w.table → map (gap_by w'.table) w'.sessions ≡ map (gap_by w.table) w.sessions
-  gaps_stay cursor table = (λ i. map (gap_by (table i)) (sides i)) ∙ gaps_same w.table w.sessions c x z at (ap (gap_if w.table) (same ∙ cursor))
+  stays : (claim : Claim) (step : Step) (refusal : Refusal) (stripes : ℕ) → Does claim stripes w.counts step x w.table w.locks (answers.Refused refusal) y w'.table locks' → (y.cursor ≡ x.cursor) × (nodes_of w'.table ≡ nodes_of w.table)
+  stays claim (steps.Ask d op) refusal stripes is = asked_stays claim d (stripe_of stripes (key_of op)) op refusal is
+  stays claim (steps.Save d) refusals.NoMemory stripes is = (is.0.cursor, ap nodes_of is.1)
+  stays claim (steps.Save d) _ stripes is = absurd is.0
+  stays claim (steps.Act d) refusal stripes is = absurd is
+  stays claim _ refusal stripes is = absurd is
 
-  other_kept : (step : Step) → owner_of step ≡ Some (Caller c) → (stripes : ℕ) (answer : Answer) → Does stripes w.counts step x w.table w.locks answer y w'.table locks' → Stay (nodes_of w.table) (nodes_of w'.table)
+  gaps_stay : y.cursor ≡ x.cursor → nodes_of w'.table ≡ nodes_of w.table → map (gap_by w'.table) w'.sessions ≡ map (gap_by w.table) w.sessions
+  gaps_stay cursor nodes =
+      (λ i. map (λ (s : Session). same_gap w.table w'.table s.cursor nodes i) (sides i))
+      ∙ gaps_same w.table w.sessions c x z at (ap (gap_if w.table) (same ∙ cursor))
+
+  other_kept : (claim : Claim) (step : Step) → owner_of step ≡ Some (Caller c) → (stripes : ℕ) (answer : Answer) → Does claim stripes w.counts step x w.table w.locks answer y w'.table locks' → Stay (nodes_of w.table) (nodes_of w'.table)
       → (d : ℕ) (gap : Gap) → mover_of step answer ≢ Some (Caller d) → gap_for (state_of w) (Caller d) ≡ Some gap → AreNeighbours (nodes_at w'.table) gap → gap_for (state_of w') (Caller d) ≡ Some gap
-  other_kept step owner stripes (answers.Refused refusal) does stay d gap other is near =
-      let both = stays step refusal stripes does in
+  other_kept claim step owner stripes (answers.Refused refusal) does stay d gap other is near =
+      let both = stays claim step refusal stripes does in
       ap (λ gs. gap_in gs d) (gaps_stay both.0 both.1) ∙ is
-  other_kept step owner stripes answer does stay d gap other is near =
+  other_kept claim step owner stripes answer does stay d gap other is near =
       let apart : d ≢ c = λ e. other (owner ∙ ap (λ k. Some (Caller k)) (sym e)) in
       gap_kept w w' tells.sound.spread sound.rising stay d gap (ap (λ ss. slice_get ss d) sides ∙ set_other w.sessions c d z apart) is near
 
-  keeps : (step : Step) → owner_of step ≡ Some (Caller c) → (stripes : ℕ) (answer : Answer) → Does stripes w.counts step x w.table w.locks answer y w'.table locks' → KeepsGaps (state_of w) step answer (state_of w')
-  keeps step owner stripes answer does (Caller d) gap other is near = other_kept step owner stripes answer does (does_stay w.table w'.table sound.spread x y w.locks locks' stripes w.counts step answer does) d gap other is near
-  keeps step owner stripes answer does (Helper h) gap other is near =
-      helper_kept w.table w'.table tells.sound.spread sound.rising (does_stay w.table w'.table sound.spread x y w.locks locks' stripes w.counts step answer does) h gap
-      (cursors_stay w.table w'.table h (does_buckets w.table w'.table sound.spread x y w.locks locks' stripes w.counts step answer does)) is near
+  keeps : (claim : Claim) (step : Step) → owner_of step ≡ Some (Caller c) → (stripes : ℕ) (answer : Answer) → Does claim stripes w.counts step x w.table w.locks answer y w'.table locks' → KeepsGaps (state_of w) step answer (state_of w')
+  keeps claim step owner stripes answer does (Caller d) gap other is near = other_kept claim step owner stripes answer does (does_stay w.table w'.table sound.spread x y w.locks locks' claim stripes w.counts step answer does) d gap other is near
+  keeps claim step owner stripes answer does (Helper h) gap other is near =
+      helper_kept w.table w'.table tells.sound.spread sound.rising (does_stay w.table w'.table sound.spread x y w.locks locks' claim stripes w.counts step answer does) h gap
+      (cursors_stay w.table w'.table h (does_buckets w.table w'.table sound.spread x y w.locks locks' claim stripes w.counts step answer does)) is near
 
   sought : SeeksIn x w.table y w'.table → StandsAt (state_of w') (Caller c) (regular_at (next_key (state_of w) c))
   sought is = subst (λ k. StandsAt (state_of w') (Caller c) (regular_at k)) (sym (next_is w tells c x at is.key is.target))
@@ -101,21 +120,21 @@ module _ (w : World) (tells : Tells w) (c : ℕ) (x : Session) (at : slice_get w
   acted answers.Aborted is = tt
   acted _ is = absurd is
 
-  fits : (step : Step) → owner_of step ≡ Some (Caller c) → (stripes : ℕ) (answer : Answer) → Does stripes w.counts step x w.table w.locks answer y w'.table locks' → Fits (state_of w) step answer (state_of w')
-  fits (steps.Seek d) owner stripes answers.Placed is =
+  fits : (claim : Claim) (step : Step) → owner_of step ≡ Some (Caller c) → (stripes : ℕ) (answer : Answer) → Does claim stripes w.counts step x w.table w.locks answer y w'.table locks' → Fits (state_of w) step answer (state_of w')
+  fits claim (steps.Seek d) owner stripes answers.Placed is =
       let own : d ≡ c = cc (owner) in
       subst (λ k. Fits (state_of w) (steps.Seek k) answers.Placed (state_of w')) (sym own) (sought is.0)
-  fits (steps.Seek d) owner stripes _ is = absurd is
-  fits (steps.Act d) owner stripes answer is =
+  fits claim (steps.Seek d) owner stripes _ is = absurd is
+  fits claim (steps.Act d) owner stripes answer is =
       let own : d ≡ c = cc (owner) in
       subst (λ k. Fits (state_of w) (steps.Act k) answer (state_of w')) (sym own) (acted answer (subst (λ k. ActsIn k x w.table w.locks answer y w'.table locks') own is))
-  fits (steps.InitSeek h b) owner stripes answer is = absurd is
-  fits (steps.InitLink h) owner stripes answer is = absurd is
-  fits _ owner stripes answer is = tt
+  fits claim (steps.InitSeek h b) owner stripes answer is = absurd is
+  fits claim (steps.InitLink h) owner stripes answer is = absurd is
+  fits claim _ owner stripes answer is = tt
 
   -- What each step of a caller does to the cursors.
-  pub does_cursors : (step : Step) → owner_of step ≡ Some (Caller c) → (stripes : ℕ) (answer : Answer) → Does stripes w.counts step x w.table w.locks answer y w'.table locks' → Cursors (state_of w) step answer (state_of w')
-  does_cursors step owner stripes answer is = record {
-    fits = fits step owner stripes answer is;
-    keeps = keeps step owner stripes answer is;
+  pub does_cursors : (claim : Claim) (step : Step) → owner_of step ≡ Some (Caller c) → (stripes : ℕ) (answer : Answer) → Does claim stripes w.counts step x w.table w.locks answer y w'.table locks' → Cursors (state_of w) step answer (state_of w')
+  does_cursors claim step owner stripes answer is = record {
+    fits = fits claim step owner stripes answer is;
+    keeps = keeps claim step owner stripes answer is;
   }

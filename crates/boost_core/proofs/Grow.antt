@@ -9,7 +9,7 @@ use Rattle.std.proofs.lemmas.List.Sums.{sum_by-set, get_or-le-sum_by}
 use Rattle.std.proofs.lemmas.List.Elements.{All-push}
 use Rattle.std.proofs.lemmas.Option.{slice_get_within, get_or_from_slice_get, slice_get-get_or}
 use mathlib.Core.Logic.{◌⊎◌, inl, inr}
-use Rattle.txn_trace.specs.declared.holder.Holder.TheVariants.{Now}
+use Rattle.txn_trace.specs.declared.holder.Holder.{Holder}
 use Rattle.txn_trace.specs.declared.entry.Entry.{Entry}
 use Rattle.txn_trace.specs.Map.{Map, get}
 use Rattle.txn_trace.specs.History.{caller_of, is_began, is_commit}
@@ -31,7 +31,7 @@ use Rattle.map_ops.specs.declared.job.MapJob.{MapJob}
 use Rattle.map_ops.specs.TableAt.{TableAt, Cursor, content, IsPlaced, largest_of, helps_of}
 use Rattle.boost_core.specs.declared.counts.Counts.{Counts}
 use Rattle.boost_core.specs.declared.session.Session.{Session}
-use Rattle.boost_core.specs.State.{Owner}
+use Rattle.boost_core.specs.State.{Owner, holder_by}
 use Rattle.boost_core.specs.Spares.{times_out, IsCovered}
 use Rattle.boost_core.specs.Sessions.{level_of, target_in, target_of, KeepsPlaced, IsSought, IsSoughtAt, Waits, Agrees, change_of, times_kept, changes_of, AreDue}
 use Rattle.boost_core.specs.Core.{World, Tells, IsSeated, IsFresh, all_times}
@@ -95,7 +95,7 @@ closed_due m (job ∷ jobs) none = absurd (omega arith)
 changes_long : (jobs : List MapJob) → length (changes_of jobs) ≡ length jobs
 changes_long jobs = length-map (reverse jobs) change_of ∙ length-reverse jobs
 
-still_due : (stripes : ℕ) (h : List Entry) (d : ℕ) (s : Session) (current : Map) → IsLegal Now stripes h → IsSeated h d s
+still_due : {holder : Holder} (stripes : ℕ) (h : List Entry) (d : ℕ) (s : Session) (current : Map) → IsLegal holder stripes h → IsSeated h d s
     → ((k : ℕ) → holder_of stripes (stripe_of stripes k) h ≡ Some d → get current k ≡ get (now h) k) → AreDue current (reverse s.log.jobs)
 still_due stripes h d s current legal is same = at s.seat.seat.phase refl
   where
@@ -124,7 +124,7 @@ pub record Grows (w : World) (c : ℕ) (x y : Session) (t' : TableAt) (locks' : 
   pub committed : Map
   pub current : Map
   pub holder : ℕ → Option ℕ
-  pub next : Next Now w.limits.stripes w.history e seat (changes_of y.log.jobs) committed current holder
+  pub next : Next (holder_by w.words) w.limits.stripes w.history e seat (changes_of y.log.jobs) committed current holder
   pub mine : caller_of e ≡ c
   pub same_seat : y.seat.seat ≡ x.seat.seat
   pub saved : is_saved e ≡ true → 0 < y.seat.room
@@ -160,7 +160,7 @@ pub record Stays (w : World) (c : ℕ) (x y : Session) (t' : TableAt) (locks' : 
 
 -- A world after a step of one caller.
 abbrev pub world_after : World → ℕ → Session → List Entry → Counts → TableAt → List (Option ℕ) → Option Owner → World
-world_after w c z h' counts' t' locks' placed' = record { limits = w.limits; history = h'; counts = counts'; table = t'; sessions = slice_set w.sessions c z; locks = locks'; placed = placed' }
+world_after w c z h' counts' t' locks' placed' = record { limits = w.limits; history = h'; counts = counts'; table = t'; sessions = slice_set w.sessions c z; locks = locks'; placed = placed'; words = w.words }
 
 -- The caller's side once its seat has entered what is added.
 abbrev pub seated_as : Session → RoomySeat → Session
@@ -279,7 +279,7 @@ module _ (w : World) (tells : Tells w) (c : ℕ) (x y : Session) (at : slice_get
 -- No caller's side changes, and the map stays.
 pub table_stayed : (w : World) → Tells w → (t' : TableAt) (placed' : Option Owner) → content t' ≡ content w.table → KeepsPlaced w.table t'
     → IsCovered (all_times w.sessions) t' → largest_of t' ≡ largest_of w.table → length (helps_of t') ≡ length (helps_of w.table) → IsFresh t' w.sessions placed'
-    → Tells (record { limits = w.limits; history = w.history; counts = w.counts; table = t'; sessions = w.sessions; locks = w.locks; placed = placed' })
+    → Tells (record { limits = w.limits; history = w.history; counts = w.counts; table = t'; sessions = w.sessions; locks = w.locks; placed = placed'; words = w.words })
 table_stayed w tells t' placed' same keeps spares largest helpers fresh = record {
   legal = tells.legal;
   callers = tells.callers;

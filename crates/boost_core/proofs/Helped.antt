@@ -2,6 +2,7 @@
 use Rattle.std.proofs.Common.{◌≡◌, ℕ, ◌<◌, ◌≤◌, true, false, Option, Some, None, refl, sym, ap, subst, ◌∙◌, arith}
 use Rattle.std.specs.Prelude.{nat_le}
 use Rattle.txn_trace.specs.declared.step.Step.{Step}
+use Rattle.txn_trace.specs.declared.step.Step.TheVariants as steps
 use Rattle.txn_trace.specs.declared.answer.Answer.{Answer}
 use Rattle.txn_trace.specs.declared.refusal.Refusal.TheVariants as refusals
 use Rattle.txn_trace.specs.declared.answer.Answer.TheVariants as answers
@@ -14,6 +15,7 @@ use Rattle.txn_drive.specs.declared.phase.Phase.TheVariants as phases
 use Rattle.txn_drive.specs.Drives.{new_drive, step_in, step_of, sized_in, sized_of, turn_in, ended_by, end_of, told_in, told_of}
 use Rattle.boost_core.specs.State.{State}
 use Rattle.boost_core.specs.Machine.{Move}
+use Rattle.boost_core.specs.Words.{is_ask}
 use Rattle.boost_core.specs.Plain.{Drives, Helps, outcome_of}
 use Rattle.boost_core.specs.Whole.{IsWhole}
 use Rattle.boost_core.proofs.Refused.{le_false}
@@ -29,6 +31,19 @@ pub round : (state new : State) (c key : ℕ) (drive : Drive) (step : Step) (ans
 round state new c key drive step answer whole most within caller call fits is move =
     subst (λ call. Goes new c key (left drive.phase) (told_in call (sized_in state.size drive.phase) answer)) (sym call)
     (goes state new c key drive.phase step answer whole most within fits (sym (step_here c key state.size drive _ caller call refl) ∙ is) move)
+
+-- A call for help asks for no operation.
+no_ask : (state : State) (c key : ℕ) (phase : Phase) (step : Step) → Fits state c key phase → step_in c (calls.Help key) (sized_in state.size phase) ≡ Some step → is_ask step ≡ false
+no_ask state c key (phases.Doubling seen) step fits is = let same : steps.Double state.size ≡ step = cc (is) in ap is_ask (sym same)
+no_ask state c key (phases.Initialising way again) step fits is = let same : steps.InitSeek c way.bucket ≡ step = cc (is) in ap is_ask (sym same)
+no_ask state c key (phases.Linking way again) step fits is = let same : steps.InitLink c ≡ step = cc (is) in ap is_ask (sym same)
+no_ask state c key (phases.Storing way) step fits is = let same : steps.InitStore c ≡ step = cc (is) in ap is_ask (sym same)
+no_ask state c key phases.Helped step fits is = absurd (cc (is))
+no_ask state c key (phases.Refused refusal) step fits is = absurd (cc (is))
+no_ask state c key phase step fits is = absurd fits
+
+pub help_asks_nothing : (state : State) (c key : ℕ) (drive : Drive) (step : Step) → drive.caller ≡ c → drive.call ≡ calls.Help key → Fits state c key drive.phase → step_of (sized_of state.size drive) ≡ Some step → is_ask step ≡ false
+help_asks_nothing state c key drive step caller call fits is = no_ask state c key drive.phase step fits (sym (step_here c key state.size drive _ caller call refl) ∙ is)
 
 -- A step leaves the limits.
 pub limits_stay : (old new : State) (step : Step) (answer : Answer) → Move old step answer new → new.limits ≡ old.limits

@@ -30,7 +30,7 @@ use Rattle.boost_core.proofs.Moves.{refused, lacks, state_is}
 
 -- A world after a step that is no caller's.
 abbrev pub served : World → TableAt → Option Owner → World
-served w t' placed' = record { limits = w.limits; history = w.history; counts = w.counts; table = t'; sessions = w.sessions; locks = w.locks; placed = placed' }
+served w t' placed' = record { limits = w.limits; history = w.history; counts = w.counts; table = t'; sessions = w.sessions; locks = w.locks; placed = placed'; words = w.words }
 
 -- The pairs give the content.
 pub same_content : (t t' : TableAt) → regular t' ≡ regular t → content t' ≡ content t
@@ -89,8 +89,8 @@ becomes_tells w tells t' placed' size stored linked helps becomes many follows f
 
 -- The state then.
 pub becomes_state : (w : World) (t' : TableAt) (placed' : Option Owner) (size : ℕ) (stored linked : List Bool) (helps : List Help) → Becomes w.table t' size stored linked helps
-    → state_of (served w t' placed') ≡ record { limits = w.limits; history = w.history ++ []; size = size; stored = stored; linked = linked; nodes = nodes_at t'; changes = table_changes t'; stamp = last_of t'; cursors = map turn_at w.sessions; gaps = map (gap_by t') w.sessions; helper_gaps = helper_gaps_of t'; helpers = helps; placed = placed' }
-becomes_state w t' placed' size stored linked helps becomes = λ i. record { limits = w.limits; history = append_none w.history i; size = becomes.size_is i; stored = becomes.stored_is i; linked = becomes.linked_is i; nodes = nodes_at t'; changes = table_changes t'; stamp = last_of t'; cursors = map turn_at w.sessions; gaps = map (gap_by t') w.sessions; helper_gaps = helper_gaps_of t'; helpers = becomes.helps_is i; placed = placed' }
+    → state_of (served w t' placed') ≡ record { limits = w.limits; words = w.words; history = w.history ++ []; size = size; stored = stored; linked = linked; nodes = nodes_at t'; changes = table_changes t'; stamp = last_of t'; cursors = map turn_at w.sessions; gaps = map (gap_by t') w.sessions; helper_gaps = helper_gaps_of t'; helpers = helps; placed = placed' }
+becomes_state w t' placed' size stored linked helps becomes = λ i. record { limits = w.limits; words = w.words; history = append_none w.history i; size = becomes.size_is i; stored = becomes.stored_is i; linked = becomes.linked_is i; nodes = nodes_at t'; changes = table_changes t'; stamp = last_of t'; cursors = map turn_at w.sessions; gaps = map (gap_by t') w.sessions; helper_gaps = helper_gaps_of t'; helpers = becomes.helps_is i; placed = placed' }
 
 -- Double.
 pub double_tells : (w : World) → Tells w
@@ -232,7 +232,7 @@ pub stored_move : (w : World) (t' : TableAt) (helper : ℕ) → length (helps_of
 stored_move w t' helper many is stores = record {
   allowed = (store_refusal w helper many ∙ ap refusal_in_result is, tt);
   state = becomes_state w t' None (size_of w.table) (slice_set (stored_of w.table) stores.bucket true) (linked_of w.table) (slice_set (helps_of w.table) helper Nothing) stores.becomes
-      ∙ ap (λ n. record { limits = w.limits; history = w.history ++ []; size = size_of w.table; stored = slice_set (stored_of w.table) n true; linked = linked_of w.table; nodes = nodes_at t'; changes = table_changes t'; stamp = last_of t'; cursors = map turn_at w.sessions; gaps = map (gap_by t') w.sessions; helper_gaps = helper_gaps_of t'; helpers = slice_set (helps_of w.table) helper Nothing; placed = None })
+      ∙ ap (λ n. record { limits = w.limits; words = w.words; history = w.history ++ []; size = size_of w.table; stored = slice_set (stored_of w.table) n true; linked = linked_of w.table; nodes = nodes_at t'; changes = table_changes t'; stamp = last_of t'; cursors = map turn_at w.sessions; gaps = map (gap_by t') w.sessions; helper_gaps = helper_gaps_of t'; helpers = slice_set (helps_of w.table) helper Nothing; placed = None })
       (ap (λ (o : Option Help). bucket_at (unwrap_or o Nothing)) (sym stores.had));
   changes = let same = stores.kept in omega arith;
   list_kept = λ kept. stores.kept;

@@ -4,6 +4,7 @@ pub mod Owing
 pub mod Powers
 pub mod Grow
 pub mod Settling
+pub mod Beginners
 pub mod Refused
 pub mod Sides
 pub mod Methods
@@ -27,6 +28,7 @@ pub mod Neighbours
 pub mod Gaps
 pub mod Staying
 pub mod HelperGaps
+pub mod Claims
 pub mod GapSteps
 pub mod GapServes
 pub mod Called

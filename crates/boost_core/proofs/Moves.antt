@@ -53,9 +53,9 @@ rests_runs t t' rests = record {
 
 -- The state after such a step, of a world with one caller's side changed.
 pub state_is : (w : World) (h' h'' : List Entry) (counts' : Counts) (t' : TableAt) (cursors : List (Option ℕ)) (sessions' : List Session) (locks' : List (Option ℕ)) (placed' : Option Owner) → Runs w.table t' → h' ≡ h'' → map turn_at sessions' ≡ cursors
-    → state_of (record { limits = w.limits; history = h'; counts = counts'; table = t'; sessions = sessions'; locks = locks'; placed = placed' })
-    ≡ record { limits = w.limits; history = h''; size = size_of w.table; stored = stored_of w.table; linked = linked_of w.table; nodes = nodes_at t'; changes = table_changes t'; stamp = last_of t'; cursors = cursors; gaps = map (gap_by t') sessions'; helper_gaps = helper_gaps_of t'; helpers = helps_of w.table; placed = placed' }
-state_is w h' h'' counts' t' cursors sessions' locks' placed' runs entries same = λ i. record { limits = w.limits; history = entries i; size = runs.size i; stored = runs.stored i; linked = runs.linked i; nodes = nodes_at t'; changes = table_changes t'; stamp = last_of t'; cursors = same i; gaps = map (gap_by t') sessions'; helper_gaps = helper_gaps_of t'; helpers = runs.helps i; placed = placed' }
+    → state_of (record { limits = w.limits; history = h'; counts = counts'; table = t'; sessions = sessions'; locks = locks'; placed = placed'; words = w.words })
+    ≡ record { limits = w.limits; words = w.words; history = h''; size = size_of w.table; stored = stored_of w.table; linked = linked_of w.table; nodes = nodes_at t'; changes = table_changes t'; stamp = last_of t'; cursors = cursors; gaps = map (gap_by t') sessions'; helper_gaps = helper_gaps_of t'; helpers = helps_of w.table; placed = placed' }
+state_is w h' h'' counts' t' cursors sessions' locks' placed' runs entries same = λ i. record { limits = w.limits; words = w.words; history = entries i; size = runs.size i; stored = runs.stored i; linked = runs.linked i; nodes = nodes_at t'; changes = table_changes t'; stamp = last_of t'; cursors = same i; gaps = map (gap_by t') sessions'; helper_gaps = helper_gaps_of t'; helpers = runs.helps i; placed = placed' }
 
 -- The turns of the callers' cursors, where one changes.
 pub turns_set : (sessions : List Session) (c : ℕ) (y : Session) (turn : Option ℕ) → turn_at y ≡ turn → map turn_at (slice_set sessions c y) ≡ slice_set (map turn_at sessions) c turn

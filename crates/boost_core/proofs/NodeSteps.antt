@@ -1,5 +1,5 @@
 -- What each step does to the nodes, to the change number and to the last stamp.
-use Rattle.std.proofs.Common.{◌≡◌, ℕ, ◌+◌, ◌-◌, ◌%◌, ◌<◌, Bool, true, false, cond, List, [], ◌∷◌, ◌++◌, length, Option, Some, None, is_some, inl, inr, refl, sym, ap, subst, ◌∙◌, arith}
+use Rattle.std.proofs.Common.{◌≡◌, ◌⊎◌, ℕ, ◌+◌, ◌-◌, ◌%◌, ◌<◌, Bool, true, false, cond, List, [], ◌∷◌, ◌++◌, length, Option, Some, None, is_some, inl, inr, refl, sym, ap, subst, ◌∙◌, arith}
 use Rattle.std.specs.Prelude.{reverse, slice_get, unwrap_or, nat_lt, nat_eq, IsSome}
 use Rattle.std.specs.Option.{option_map, option_eq}
 use Rattle.std.proofs.lemmas.Bool.{false≢true, cases_Bool, ltb-true}
@@ -13,6 +13,8 @@ use Rattle.bucket_table.specs.Directory as directories
 use Rattle.bucket_table.specs.Dummies.{IsDummyAt}
 use Rattle.txn_trace.specs.declared.op.Op.{Op}
 use Rattle.txn_trace.specs.declared.op.Op.TheVariants.{Put, Take, Get, PutIf}
+use Rattle.txn_trace.specs.declared.refusal.Refusal.{Refusal}
+use Rattle.txn_trace.specs.declared.refusal.Refusal.TheVariants as refusals
 use Rattle.txn_trace.specs.declared.step.Step.{Step}
 use Rattle.txn_trace.specs.declared.step.Step.TheVariants as steps
 use Rattle.txn_trace.specs.declared.answer.Answer.{Answer}
@@ -29,21 +31,26 @@ use Rattle.map_ops.specs.declared.job.MapJob.{MapJob}
 use Rattle.map_ops.specs.declared.job.MapJob.TheVariants.{Unput, Restore, Relink}
 use Rattle.map_ops.specs.Jobs.{PendingAt, key_of_job, value_before, takes_node, IsDue}
 use Rattle.map_ops.specs.TableAt.{TableAt, SpareAt, KeepsNodes, KeepsList, NamesDummies, content, nodes_of, size_of, stored_of, table_changes, last_of}
-use Rattle.map_ops.specs.Changes.{GivesFor, SeeksNear}
+use Rattle.map_ops.specs.Changes.{GivesFor, SeeksNear, IsRefused}
 use Rattle.map_ops.specs.Nodes as writes
 use Rattle.boost_core.specs.declared.session.Session.{Session}
 use Rattle.boost_core.specs.State.{State, Caller, is_set, seat_in}
 use Rattle.boost_core.specs.Refusals.{owner_of}
-use Rattle.boost_core.specs.Nodes.{Keeps, Writes, Links, Marks, SeeksFrom, SeeksKey, IsNearest, Changes, PutsIf, OpDoes, OpDoesIn, BackDoes, Lists, key_in, next_key, newest_key}
-use Rattle.boost_core.specs.Sessions.{Does, ActsIn, DoesIn, TakesBackIn, SeeksIn, IsAsked, Waits, AreDue, key_of_newest, target_in, target_of, changes_of}
+use Rattle.boost_core.specs.Nodes.{Touches, stamp_after, Keeps, Writes, Links, Marks, SeeksFrom, SeeksKey, IsNearest, Changes, PutsIf, OpDoes, OpDoesIn, BackDoes, Lists, key_in, next_key, newest_key}
+use Rattle.boost_core.specs.Sessions.{Does, ActsIn, DoesIn, TakesBackIn, SeeksIn, IsAsked, AsksBy, unless_busy, Waits, AreDue, key_of_newest, target_in, target_of, changes_of}
+use Rattle.boost_core.specs.Words.{Claim, Lock, Right, Held, Stale, IsClaim, ListsAsk, ListsBy, stamp_by}
 use Rattle.boost_core.specs.Core.{World, Tells, state_of, node_at}
 use Rattle.boost_core.proofs.NodeLists.{seen, inserted, replaced, written_seen, seeks_from}
+use Rattle.boost_core.proofs.Outcomes.{is_late}
 use Rattle.boost_core.proofs.Refused.{seat_here}
 use Rattle.boost_core.proofs.Sides.{last_job, at_last, changes_last, waiting_op}
 
 -- A state that is seen another way.
 pub lists_of : (state old new : State) (step : Step) (answer : Answer) → state ≡ old → Lists state step answer new → Lists old step answer new
 lists_of state old new step answer is lists = subst (λ s. Lists s step answer new) is lists
+
+pub lists_by_of : (claim : Claim) (state old new : State) (step : Step) (answer : Answer) → state ≡ old → ListsBy claim state step answer new → ListsBy claim old step answer new
+lists_by_of claim state old new step answer is lists = subst (λ s. ListsBy claim s step answer new) is lists
 
 -- Nothing is done where the list is as it was, or its nodes are.
 pub kept : (w w' : World) → KeepsList w.table w'.table → Keeps (state_of w) (state_of w')
@@ -221,6 +228,24 @@ module _ (w : World) (tells : Tells w) (c : ℕ) (x : Session) (at : slice_get w
     asked op stripe (answers.Refused refusal) is = record { nodes = same is.2; stamp = ap last_of is.2 }
     asked op stripe _ is = absurd is
 
+    not_stale : (op : Op) → (refusals.StaleWord ≡ refusals.NoMemory) ⊎ IsRefused w.table op refusals.StaleWord → ⊥
+    not_stale op (inl is) = cc (is)
+    not_stale op (inr is) = is
+
+    -- A stale right has had its stamp, and a word takes none.
+    asked_with : (op : Op) (stripe : ℕ) (own : Answer) → IsAsked c stripe op x w.table w.locks own y w'.table locks' → ListsAsk Right (state_of w) (steps.Ask c op) (unless_busy own) (state_of w')
+    asked_with op stripe answers.Asked is = let lists = asked op stripe answers.Asked is in record { nodes = lists.nodes; stamp = lists.stamp }
+    asked_with op stripe (answers.Busy holder) is = let lists = asked op stripe (answers.Busy holder) is in record { nodes = lists.nodes; stamp = lists.stamp }
+    asked_with op stripe (answers.Refused refusals.StaleWord) is = absurd (not_stale op is.0)
+    asked_with op stripe (answers.Refused _) is = record { nodes = same is.2; stamp = ap last_of is.2 }
+    asked_with op stripe _ is = absurd is
+
+    asked_by : (claim : Claim) (op : Op) (stripe : ℕ) (answer : Answer) → AsksBy claim c stripe op x w.table w.locks answer y w'.table locks' → ListsBy claim (state_of w) (steps.Ask c op) answer (state_of w')
+    asked_by Lock op stripe answer is = asked op stripe answer is
+    asked_by Right op stripe answer is = subst (λ a. ListsAsk Right (state_of w) (steps.Ask c op) a (state_of w')) (sym is.1) (asked_with op stripe is.0 is.2)
+    asked_by (Held named) op stripe answer is = subst (λ a. ListsAsk (Held named) (state_of w) (steps.Ask c op) a (state_of w')) (sym is.0) (record { nodes = same is.2; stamp = ap last_of is.2 })
+    asked_by Stale op stripe answer is = subst (λ a. ListsAsk Stale (state_of w) (steps.Ask c op) a (state_of w')) (sym is.0) (record { nodes = same is.2; stamp = ap last_of is.2 })
+
     acted : (answer : Answer) → ActsIn c x w.table w.locks answer y w'.table locks' → Lists (state_of w) (steps.Act c) answer (state_of w')
     acted answers.Again is = record { nodes = same is.1.table; stamp = ap last_of is.1.table }
     acted (answers.Done reply) is = record { nodes = done w' reply y is.0; stamp = is.0.does.last }
@@ -229,26 +254,73 @@ module _ (w : World) (tells : Tells w) (c : ℕ) (x : Session) (at : slice_get w
     acted answers.Aborted is = record { nodes = same is.2; stamp = ap last_of is.2 }
     acted _ is = absurd is
 
-    -- What each step of a caller does to the list.
-    pub does : NamesDummies w.table → (stripes : ℕ) (step : Step) → owner_of step ≡ Some (Caller c) → (answer : Answer) → Does stripes w.counts step x w.table w.locks answer y w'.table locks' → Lists (state_of w) step answer (state_of w')
-    does home stripes (steps.Begin d) owner (answers.Began n) is = record { nodes = same is.2; stamp = ap last_of is.2 }
-    does home stripes (steps.Begin d) owner _ is = absurd is
-    does home stripes (steps.Ask d op) owner answer is =
+    -- What each step of a caller that claims no word does to the list.
+    locked : NamesDummies w.table → (stripes : ℕ) (step : Step) → owner_of step ≡ Some (Caller c) → (answer : Answer) → Does Lock stripes w.counts step x w.table w.locks answer y w'.table locks' → Lists (state_of w) step answer (state_of w')
+    locked home stripes (steps.Begin d) owner (answers.Began n) is = record { nodes = same is.2; stamp = ap last_of is.2 }
+    locked home stripes (steps.Begin d) owner _ is = absurd is
+    locked home stripes (steps.Ask d op) owner answer is =
         let own : d ≡ c = cc (owner) in
         subst (λ k. Lists (state_of w) (steps.Ask k op) answer (state_of w')) (sym own)
         (asked op (stripe_of stripes (key_of op)) answer (subst (λ k. IsAsked k (stripe_of stripes (key_of op)) op x w.table w.locks answer y w'.table locks') own is))
-    does home stripes (steps.Seek d) owner answers.Placed is =
+    locked home stripes (steps.Seek d) owner answers.Placed is =
         let own : d ≡ c = cc (owner) in
         subst (λ k. Lists (state_of w) (steps.Seek k) answers.Placed (state_of w')) (sym own) (record { nodes = sought_key w' y home is.0; stamp = is.0.places.keeps.last })
-    does home stripes (steps.Seek d) owner _ is = absurd is
-    does home stripes (steps.Act d) owner answer is =
+    locked home stripes (steps.Seek d) owner _ is = absurd is
+    locked home stripes (steps.Act d) owner answer is =
         let own : d ≡ c = cc (owner) in
         subst (λ k. Lists (state_of w) (steps.Act k) answer (state_of w')) (sym own) (acted answer (subst (λ k. ActsIn k x w.table w.locks answer y w'.table locks') own is))
-    does home stripes (steps.Save d) owner answer is = record { nodes = same is.1; stamp = ap last_of is.1 }
-    does home stripes (steps.Back d n) owner answers.Leaving is = record { nodes = same is.1; stamp = ap last_of is.1 }
-    does home stripes (steps.Back d n) owner _ is = absurd is
-    does home stripes (steps.Commit d) owner (answers.Committed p) is = record { nodes = rested w w' is.1.rests.nodes; stamp = is.1.rests.last }
-    does home stripes (steps.Commit d) owner _ is = absurd is
-    does home stripes (steps.Abort d) owner answers.Leaving is = record { nodes = rested w w' is.0.rests.nodes; stamp = is.0.rests.last }
-    does home stripes (steps.Abort d) owner _ is = absurd is
-    does home stripes _ owner answer is = absurd is
+    locked home stripes (steps.Save d) owner answer is = record { nodes = same is.1; stamp = ap last_of is.1 }
+    locked home stripes (steps.Back d n) owner answers.Leaving is = record { nodes = same is.1; stamp = ap last_of is.1 }
+    locked home stripes (steps.Back d n) owner _ is = absurd is
+    locked home stripes (steps.Commit d) owner (answers.Committed p) is = record { nodes = rested w w' is.1.rests.nodes; stamp = is.1.rests.last }
+    locked home stripes (steps.Commit d) owner _ is = absurd is
+    locked home stripes (steps.Abort d) owner answers.Leaving is = record { nodes = rested w w' is.0.rests.nodes; stamp = is.0.rests.last }
+    locked home stripes (steps.Abort d) owner _ is = absurd is
+    locked home stripes _ owner answer is = absurd is
+
+    asks : (claim : Claim) (stripes d : ℕ) (op : Op) → owner_of (steps.Ask d op) ≡ Some (Caller c) → (answer : Answer) → AsksBy claim d (stripe_of stripes (key_of op)) op x w.table w.locks answer y w'.table locks' → ListsBy claim (state_of w) (steps.Ask d op) answer (state_of w')
+    asks claim stripes d op owner answer is =
+        let own : d ≡ c = cc (owner) in
+        subst (λ k. ListsBy claim (state_of w) (steps.Ask k op) answer (state_of w')) (sym own)
+        (asked_by claim op (stripe_of stripes (key_of op)) answer (subst (λ k. AsksBy claim k (stripe_of stripes (key_of op)) op x w.table w.locks answer y w'.table locks') own is))
+
+    -- What each step of a caller does to the list, by its claim.
+    pub does : NamesDummies w.table → (claim : Claim) (stripes : ℕ) (step : Step) → owner_of step ≡ Some (Caller c) → IsClaim claim (state_of w) step → (answer : Answer) → Does claim stripes w.counts step x w.table w.locks answer y w'.table locks' → ListsBy claim (state_of w) step answer (state_of w')
+    does home Lock stripes step owner claims answer is = locked home stripes step owner answer is
+    does home Right stripes (steps.Ask d op) owner claims answer is = asks Right stripes d op owner answer is
+    does home Right stripes _ owner claims answer is = absurd claims
+    does home (Held named) stripes (steps.Ask d op) owner claims answer is = asks (Held named) stripes d op owner answer is
+    does home (Held named) stripes _ owner claims answer is = absurd claims
+    does home Stale stripes (steps.Ask d op) owner claims answer is = asks Stale stripes d op owner answer is
+    does home Stale stripes _ owner claims answer is = absurd claims
+
+-- What a refusal does to the list: nothing, of those that come before want of stamps.
+touched : (old new : State) (step : Step) (refusal : Refusal) → Keeps old new → Touches old step (answers.Refused refusal) new
+touched old new (steps.Seek c) refusal keeps = keeps
+touched old new (steps.Act c) refusal keeps = keeps
+touched old new steps.Sweep refusal keeps = keeps
+touched old new (steps.InitSeek h b) refusal keeps = keeps
+touched old new (steps.InitLink h) refusal keeps = keeps
+touched old new _ refusal keeps = keeps
+
+stamp_stays : (stamp : ℕ) (step : Step) (refusal : Refusal) → stamp_after stamp step (answers.Refused refusal) ≡ stamp
+stamp_stays stamp (steps.Ask c op) refusal = refl
+stamp_stays stamp (steps.InitLink h) refusal = refl
+stamp_stays stamp _ refusal = refl
+
+right_stays : (stamp : ℕ) (step : Step) (refusal : Refusal) → is_late refusal ≡ false → stamp_by Right stamp step (answers.Refused refusal) ≡ stamp
+right_stays stamp (steps.Ask c op) refusals.StaleWord early = absurd (false≢true (sym early))
+right_stays stamp (steps.Ask c op) _ early = refl
+right_stays stamp (steps.InitLink h) refusal early = refl
+right_stays stamp _ refusal early = refl
+
+pub refused_lists : (claim : Claim) (old new : State) (step : Step) (refusal : Refusal) → (claim ≡ Lock) ⊎ (is_late refusal ≡ false) → Keeps old new → new.stamp ≡ old.stamp → ListsBy claim old step (answers.Refused refusal) new
+refused_lists claim old new step refusal (inl lock) keeps same =
+    subst (λ k. ListsBy k old step (answers.Refused refusal) new) (sym lock) (record { nodes = touched old new step refusal keeps; stamp = same ∙ sym (stamp_stays old.stamp step refusal) })
+refused_lists claim old new step refusal (inr early) keeps same = by claim
+  where
+    by : (claim : Claim) → ListsBy claim old step (answers.Refused refusal) new
+    by Lock = record { nodes = touched old new step refusal keeps; stamp = same ∙ sym (stamp_stays old.stamp step refusal) }
+    by Right = record { nodes = touched old new step refusal keeps; stamp = same ∙ sym (right_stays old.stamp step refusal early) }
+    by (Held named) = record { nodes = touched old new step refusal keeps; stamp = same }
+    by Stale = record { nodes = touched old new step refusal keeps; stamp = same }

@@ -1,7 +1,10 @@
 -- What a step of a caller comes to: what the core then tells, and the move.
-use Rattle.std.proofs.Common.{◌≡◌, ℕ, ◌+◌, ◌-◌, ◌<◌, ◌≤◌, ◌^◌, true, List, [], ◌∷◌, ◌++◌, length, Option, Some, None, sym, ap, subst, ◌∙◌, arith}
+use Rattle.std.proofs.Common.{◌≡◌, ◌⊎◌, inl, inr, ℕ, ◌+◌, ◌-◌, ◌<◌, ◌≤◌, ◌^◌, Bool, true, false, cond, refl, List, [], ◌∷◌, ◌++◌, length, Option, Some, None, sym, ap, subst, ◌∙◌, arith}
 use Rattle.std.specs.Prelude.{map, slice_get, slice_set, sum_by, option_to_list}
+use Rattle.std.specs.List.{AllByRecursion}
+use Rattle.std.proofs.lemmas.Bool.{false≢true}
 use Rattle.std.proofs.lemmas.List.{append-nil}
+use Rattle.std.proofs.lemmas.Option.{slice_get_within}
 use Rattle.txn_trace.specs.declared.entry.Entry.{Entry}
 use Rattle.txn_trace.specs.declared.entry.Entry.TheVariants as entry
 use Rattle.txn_trace.specs.declared.step.Step.{Step}
@@ -11,10 +14,13 @@ use Rattle.txn_trace.specs.declared.answer.Answer.TheVariants as answers
 use Rattle.txn_trace.specs.Entries.{entries_of}
 use Rattle.txn_trace.specs.declared.seat.Phase.{Phase}
 use Rattle.txn_trace.specs.declared.seat.Phase.TheVariants.{Closed, Opened, Waiting, LeavingTo, LeavingToEnd}
+use Rattle.txn_trace.specs.History.{caller_of}
 use Rattle.txn_trace.specs.Shape.{Seat, RoomySeat, row, own}
+use Rattle.txn_trace.specs.declared.op.Op.{Op}
 use Rattle.txn_trace.specs.declared.op.Op.TheVariants.{Put, Take, Get, PutIf}
-use Rattle.txn_trace.specs.declared.refusal.Refusal.TheVariants.{NoMemory}
-use Rattle.boost_core.specs.Refusals.{refusal_of}
+use Rattle.txn_trace.specs.declared.refusal.Refusal.{Refusal}
+use Rattle.txn_trace.specs.declared.refusal.Refusal.TheVariants.{NoMemory, StampsUsedUp, StaleWord}
+use Rattle.boost_core.specs.Refusals.{refusal_of, tests_of, owner_of, first_of}
 use Rattle.txn_trace.specs.Owed.{owed_in, owed_by, reserved}
 use Rattle.txn_trace.proofs.Levels.{IsLevelIn, seat_leveled}
 use Rattle.txn_trace.proofs.Room.{reserved_for, owed_by-row}
@@ -26,11 +32,12 @@ use Rattle.boost_core.specs.Counts.{counts_after}
 use Rattle.boost_core.specs.Placed.{placed_then}
 use Rattle.boost_core.specs.Answers.{keeps_list, after}
 use Rattle.boost_core.specs.Machine.{Move, IsAllowed}
+use Rattle.boost_core.specs.Words.{Claim, Lock, Right, Held, Stale, Goes, IsClaim, may_come}
 use Rattle.boost_core.specs.Adding.{Enters, CanAdd}
 use Rattle.boost_core.specs.Spares.{times_of, times_in, IsCovered}
 use Rattle.boost_core.specs.Sessions.{owed_of, spare_if, times_kept}
 use Rattle.boost_core.specs.Core.{World, Tells, IsFresh, state_of, nodes_at, gap_by, helper_gaps_of}
-use Rattle.boost_core.proofs.Moves.{Runs, lacks}
+use Rattle.boost_core.proofs.Moves.{Runs, lacks, refused}
 use Rattle.boost_core.proofs.Grow.{Grows, Stays, world_after, seated_as, row_there, grown, stayed, sum_changed, one_of_sum}
 
 -- One entry more, or none.
@@ -40,10 +47,14 @@ Comes w c x y t' locks' counts' (e ∷ []) = Grows w c x y t' locks' counts' e
 Comes w c x y t' locks' counts' (e ∷ f ∷ es) = ⊥
 
 -- What a step of a caller comes to, whatever seat enters what is added.
-pub record Called (w : World) (c : ℕ) (x : Session) (step : Step) (answer : Answer) (y : Session) (t' : TableAt) (locks' : List (Option ℕ)) : Type 0 where
+pub record CalledBy (claim : Claim) (w : World) (c : ℕ) (x : Session) (step : Step) (answer : Answer) (y : Session) (t' : TableAt) (locks' : List (Option ℕ)) : Type 0 where
   pub comes : Comes w c x y t' locks' (counts_after w.counts answer) (entries_of step answer)
-  pub move : (seat' : RoomySeat) → Move (state_of w) step answer (state_of (world_after w c (seated_as y seat') (w.history ++ entries_of step answer) (counts_after w.counts answer) t' locks' (placed_then w.placed step answer)))
+  pub move : (seat' : RoomySeat) → Goes claim (state_of w) step answer (state_of (world_after w c (seated_as y seat') (w.history ++ entries_of step answer) (counts_after w.counts answer) t' locks' (placed_then w.placed step answer)))
   pub fresh : (seat' : RoomySeat) → IsFresh t' (slice_set w.sessions c (seated_as y seat')) (placed_then w.placed step answer)
+
+-- A step that claims no word.
+abbrev pub Called : World → ℕ → Session → Step → Answer → Session → TableAt → List (Option ℕ) → Type 0
+Called w c x step answer y t' locks' = CalledBy Lock w c x step answer y t' locks'
 
 -- A move from what it is answered, the state after it, and what happened to the table.
 pub move_is : (w w' : World) (step : Step) (answer : Answer) → IsAllowed (state_of w) step answer → state_of w' ≡ record (after (state_of w) step answer (table_changes w'.table) (last_of w'.table)) { nodes = nodes_at w'.table; gaps = map (gap_by w'.table) w'.sessions; helper_gaps = helper_gaps_of w'.table } → Runs w.table w'.table
@@ -56,6 +67,64 @@ move_is w w' step answer allowed is runs kept = record {
   stamp = runs.last;
   one_stamp = runs.one_last;
 }
+
+-- A step of a state that is seen another way.
+pub claims_of : (claim : Claim) (state old : State) (step : Step) → state ≡ old → IsClaim claim old step → IsClaim claim state step
+claims_of claim state old step is claims = subst (λ s. IsClaim claim s step) (sym is) claims
+
+pub goes_of : (claim : Claim) (state old new : State) (step : Step) (answer : Answer) → state ≡ old → Goes claim state step answer new → Goes claim old step answer new
+goes_of claim state old new step answer is goes = subst (λ s. Goes claim s step answer new) is goes
+
+-- What no test of an Ask refuses: it comes behind all of them.
+abbrev pub is_late : Refusal → Bool
+is_late StampsUsedUp = true
+is_late StaleWord = true
+is_late _ = false
+
+next_early : (b : Bool) (first refusal : Refusal) (rest : Option Refusal) → is_late first ≡ false → (rest ≡ Some refusal → is_late refusal ≡ false) → cond b (Some first) rest ≡ Some refusal → is_late refusal ≡ false
+next_early true first refusal rest early later is = let same : first ≡ refusal = cc (is) in ap is_late (sym same) ∙ early
+next_early false first refusal rest early later is = later is
+
+first_early : (tests : List (Bool × Refusal)) → AllByRecursion (λ (test : Bool × Refusal). is_late test.1 ≡ false) tests → (refusal : Refusal) → first_of tests ≡ Some refusal → is_late refusal ≡ false
+first_early [] early refusal is = absurd (cc (is))
+first_early (test ∷ tests) early refusal is = next_early test.0 test.1 refusal (first_of tests) early.0 (λ later. first_early tests early.1 refusal later) is
+
+pub ask_early : (state : State) (c : ℕ) (op : Op) (refusal : Refusal) → refusal_of state (steps.Ask c op) ≡ Some refusal → is_late refusal ≡ false
+ask_early state c op refusal is = first_early (tests_of state (owner_of (steps.Ask c op)) (steps.Ask c op)) (refl, (refl, (refl, (refl, (refl, (refl, tt)))))) refusal is
+
+-- A refusal that no claim is needed for.
+may_refuse : (claim : Claim) (refusal : Refusal) → is_late refusal ≡ false → may_come claim (answers.Refused refusal) ≡ true
+may_refuse Lock refusal early = refl
+may_refuse Right refusal early = refl
+may_refuse (Held named) StampsUsedUp early = absurd (false≢true (sym early))
+may_refuse (Held named) _ early = refl
+may_refuse Stale StampsUsedUp early = absurd (false≢true (sym early))
+may_refuse Stale _ early = refl
+
+goes_early : (claim : Claim) (state : State) (step : Step) (refusal : Refusal) → is_late refusal ≡ false → Move state step (answers.Refused refusal) state → Goes claim state step (answers.Refused refusal) state
+goes_early Lock state step refusal early move = move
+goes_early Right state step refusal early move = inr (may_refuse Right refusal early, move)
+goes_early (Held named) state step refusal early move = inr (may_refuse (Held named) refusal early, move)
+goes_early Stale state step refusal early move = inr (may_refuse Stale refusal early, move)
+
+pub goes_lacking : (claim : Claim) (state : State) (step : Step) → Move state step (answers.Refused NoMemory) state → Goes claim state step (answers.Refused NoMemory) state
+goes_lacking claim state step move = goes_early claim state step NoMemory refl move
+
+-- Where a test of a step refuses it, a claim wants nothing else.
+pub early_or_lock : (claim : Claim) (state : State) (step : Step) (refusal : Refusal) → IsClaim claim state step → refusal_of state step ≡ Some refusal → (claim ≡ Lock) ⊎ (is_late refusal ≡ false)
+early_or_lock Lock state step refusal claims is = inl refl
+early_or_lock Right state (steps.Ask c op) refusal claims is = inr (ask_early state c op refusal is)
+early_or_lock Right state _ refusal claims is = absurd claims
+early_or_lock (Held named) state (steps.Ask c op) refusal claims is = inr (ask_early state c op refusal is)
+early_or_lock (Held named) state _ refusal claims is = absurd claims
+early_or_lock Stale state (steps.Ask c op) refusal claims is = inr (ask_early state c op refusal is)
+early_or_lock Stale state _ refusal claims is = absurd claims
+
+pub goes_refused : (claim : Claim) (state : State) (step : Step) (refusal : Refusal) → IsClaim claim state step → refusal_of state step ≡ Some refusal → Goes claim state step (answers.Refused refusal) state
+goes_refused claim state step refusal claims is = elim (early_or_lock claim state step refusal claims is) [
+  | inl lock ↦ subst (λ k. Goes k state step (answers.Refused refusal) state) (sym lock) (refused state step refusal is)
+  | inr early ↦ goes_early claim state step refusal early (refused state step refusal is)
+]
 
 -- What is kept is the same where what waits and the jobs are.
 pub same_times : (t : TableAt) (x y : Session) → y.pending ≡ x.pending → y.log.jobs ≡ x.log.jobs → (others : ℕ → ℕ → ℕ) → IsCovered (λ place stamp. others place stamp + times_kept x place stamp) t → IsCovered (λ place stamp. others place stamp + times_kept y place stamp) t
@@ -138,10 +207,19 @@ standing_owed LeavingToEnd standing kept is = omega arith
 small_standing : (a b owed n : ℕ) → a ≡ b → b ≤ owed → owed < n → a < n
 small_standing a b owed n same most small = omega arith
 
-module _ (w : World) (tells : Tells w) (c : ℕ) (x y : Session) (at : slice_get w.sessions c ≡ Some x) (step : Step) (answer : Answer) (t' : TableAt) (locks' : List (Option ℕ)) (called : Called w c x step answer y t' locks') where
+module _ (w : World) (tells : Tells w) (c : ℕ) (x y : Session) (at : slice_get w.sessions c ≡ Some x) (step : Step) (answer : Answer) (t' : TableAt) (locks' : List (Option ℕ)) {claim : Claim} (called : CalledBy claim w c x step answer y t' locks') where
   same_seat : (o : Option Entry) → option_to_list o ≡ entries_of step answer → y.seat.seat ≡ x.seat.seat
   same_seat None is = let comes : Stays w c x y t' locks' (counts_after w.counts answer) = subst (Comes w c x y t' locks' (counts_after w.counts answer)) (sym is) called.comes in comes.same_seat
   same_seat (Some e) is = let comes : Grows w c x y t' locks' (counts_after w.counts answer) e = subst (Comes w c x y t' locks' (counts_after w.counts answer)) (sym is) called.comes in comes.same_seat
+
+  -- It is an entry of one of the callers.
+  pub called_caller : (o : Option Entry) → option_to_list o ≡ entries_of step answer → (e : Entry) → o ≡ Some e → caller_of e < w.limits.callers
+  called_caller o is e some =
+      let comes : Grows w c x y t' locks' (counts_after w.counts answer) e = subst (Comes w c x y t' locks' (counts_after w.counts answer)) (sym is ∙ ap option_to_list some) called.comes in
+      let mine = comes.mine in
+      let count = tells.count in
+      let below = slice_get_within w.sessions c x at in
+      omega arith
 
   -- The entry that the step adds may be added.
   pub can_add : (o : Option Entry) → option_to_list o ≡ entries_of step answer → (len cap owed : ℕ) → owed ≡ sum_by owed_of w.sessions → len + (owed + reserved step) ≤ cap → cap < 2 ^ 63 → CanAdd y.seat len cap owed o
@@ -207,6 +285,6 @@ module _ (w : World) (tells : Tells w) (c : ℕ) (x y : Session) (at : slice_get
 
   -- The move.
   pub called_move : (seat' : RoomySeat) (o : Option Entry) → option_to_list o ≡ entries_of step answer → (h' : List Entry) → h' ≡ w.history ++ option_to_list o
-      → Move (state_of w) step answer (state_of (world_after w c (seated_as y seat') h' (counts_after w.counts answer) t' locks' (placed_then w.placed step answer)))
+      → Goes claim (state_of w) step answer (state_of (world_after w c (seated_as y seat') h' (counts_after w.counts answer) t' locks' (placed_then w.placed step answer)))
   called_move seat' o is h' pushed =
-      subst (λ g. Move (state_of w) step answer (state_of (world_after w c (seated_as y seat') g (counts_after w.counts answer) t' locks' (placed_then w.placed step answer)))) (sym (pushed ∙ ap (λ es. w.history ++ es) is)) (called.move seat')
+      subst (λ g. Goes claim (state_of w) step answer (state_of (world_after w c (seated_as y seat') g (counts_after w.counts answer) t' locks' (placed_then w.placed step answer)))) (sym (pushed ∙ ap (λ es. w.history ++ es) is)) (called.move seat')

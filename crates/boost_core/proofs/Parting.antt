@@ -4,7 +4,6 @@ use Rattle.std.specs.Prelude.{slice_get, slice_set, slice_index, map, reverse, n
 use Rattle.std.specs.Option.{option_eq}
 use Prim.Native.Nat.{suc}
 use Rattle.std.proofs.lemmas.Bool.{false≢true, and_from, eq-eqb}
-use Rattle.txn_trace.specs.declared.holder.Holder.TheVariants.{Now}
 use Rattle.txn_trace.specs.declared.entry.Entry.TheVariants as entry
 use Rattle.txn_trace.specs.declared.step.Step.TheVariants as steps
 use Rattle.txn_trace.specs.declared.answer.Answer.TheVariants as answers
@@ -25,7 +24,7 @@ use Rattle.map_ops.specs.declared.job.MapJob.{MapJob}
 use Rattle.map_ops.specs.Jobs.{PendingAt}
 use Rattle.map_ops.specs.TableAt.{TableAt, Cursor, map_of}
 use Rattle.boost_core.specs.declared.session.Session.{Session}
-use Rattle.boost_core.specs.State.{seat_in}
+use Rattle.boost_core.specs.State.{seat_in, holder_by}
 use Rattle.boost_core.specs.Refusals.{refusal_of}
 use Rattle.boost_core.specs.Answers.{is_back_at, is_at_end}
 use Rattle.boost_core.specs.Spares.{times_of, times_in, times_out, IsCovered}
@@ -108,7 +107,7 @@ module _ (w : World) (tells : Tells w) (c : ℕ) (x : Session) (at : slice_get w
           committed = settled (serial w.history) (now w.history) (log_of c w.history);
           current = now w.history;
           holder = λ s. cond (option_eq nat_eq (holder_of w.limits.stripes s w.history) (Some c)) None (holder_of w.limits.stripes s w.history);
-          next = subst (λ l. Next Now w.limits.stripes w.history (entry.Committed c p) closed_seat l (settled (serial w.history) (now w.history) (log_of c w.history)) (now w.history) (λ s. cond (option_eq nat_eq (holder_of w.limits.stripes s w.history) (Some c)) None (holder_of w.limits.stripes s w.history)))
+          next = subst (λ l. Next (holder_by w.words) w.limits.stripes w.history (entry.Committed c p) closed_seat l (settled (serial w.history) (now w.history) (log_of c w.history)) (now w.history) (λ s. cond (option_eq nat_eq (holder_of w.limits.stripes s w.history) (Some c)) None (holder_of w.limits.stripes s w.history)))
               (ap changes_of (sym settles.jobs)) (laws.committed w.limits.stripes w.history tells.legal c p x.seat.seat (tells.seated c x at).seat opened numbered);
           mine = refl;
           same_seat = settles.seat;
@@ -158,7 +157,7 @@ module _ (w : World) (tells : Tells w) (c : ℕ) (x : Session) (at : slice_get w
           committed = serial w.history;
           current = now w.history;
           holder = λ s. holder_of w.limits.stripes s w.history;
-          next = subst (λ l. Next Now w.limits.stripes w.history (entry.Leave c None) (record { phase = LeavingToEnd; standing = x.seat.seat.standing; kept = x.seat.seat.kept }) l (serial w.history) (now w.history) (λ s. holder_of w.limits.stripes s w.history))
+          next = subst (λ l. Next (holder_by w.words) w.limits.stripes w.history (entry.Leave c None) (record { phase = LeavingToEnd; standing = x.seat.seat.standing; kept = x.seat.seat.kept }) l (serial w.history) (now w.history) (λ s. holder_of w.limits.stripes s w.history))
               ((tells.seated c x at).log ∙ ap (λ (log : Log MapJob). changes_of log.jobs) (sym leaves.log)) (law x.seat.seat.phase refl parts.0 parts.1);
           mine = refl;
           same_seat = leaves.seat;
@@ -184,7 +183,7 @@ module _ (w : World) (tells : Tells w) (c : ℕ) (x : Session) (at : slice_get w
         fresh = λ seat'. tt;
       }
     where
-      law : (q : Phase) → x.seat.seat.phase ≡ q → is_closed q ≡ false → is_leaving q ≡ false → Next Now w.limits.stripes w.history (entry.Leave c None) (record { phase = LeavingToEnd; standing = x.seat.seat.standing; kept = x.seat.seat.kept }) (log_of c w.history) (serial w.history) (now w.history) (λ s. holder_of w.limits.stripes s w.history)
+      law : (q : Phase) → x.seat.seat.phase ≡ q → is_closed q ≡ false → is_leaving q ≡ false → Next (holder_by w.words) w.limits.stripes w.history (entry.Leave c None) (record { phase = LeavingToEnd; standing = x.seat.seat.standing; kept = x.seat.seat.kept }) (log_of c w.history) (serial w.history) (now w.history) (λ s. holder_of w.limits.stripes s w.history)
       law Closed is closed leaving = absurd (false≢true (sym closed))
       law Opened is closed leaving = laws.left_to_end w.limits.stripes w.history tells.legal c x.seat.seat (tells.seated c x at).seat is
       law (Waiting op) is closed leaving = laws.withdrawn w.limits.stripes w.history tells.legal c op x.seat.seat (tells.seated c x at).seat is

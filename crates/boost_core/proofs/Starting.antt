@@ -1,5 +1,5 @@
 -- A core in which nothing has happened.
-use Rattle.std.proofs.Common.{◌≡◌, ℕ, ◌+◌, ◌<◌, ◌≤◌, ◌==◌, ◌∷◌, true, List, [], length, map, replicate, Option, Some, None, zero, suc, refl, sym, ap, subst, ◌∙◌, arith}
+use Rattle.std.proofs.Common.{◌≡◌, ℕ, ◌+◌, ◌<◌, ◌≤◌, ◌==◌, ◌∷◌, Bool, true, List, [], length, map, replicate, Option, Some, None, zero, suc, refl, sym, ap, subst, ◌∙◌, arith}
 use Rattle.std.specs.Prelude.{slice_get, sum_by, reverse}
 use Rattle.std.specs.List.{All}
 use Rattle.std.specs.Option.{option_map}
@@ -83,7 +83,7 @@ spread_one : (m : NodeAt) → IsSpread (m ∷ [])
 unfolding IsSpread
 spread_one m = (tt, tt)
 
-module _ (limits : Sizes) (t : TableAt) (new : IsNew t limits.buckets limits.callers) (sessions : List Session) (count : length sessions ≡ limits.callers) (idle : All IsIdle sessions) where
+module _ (limits : Sizes) (t : TableAt) (new : IsNew t limits.buckets limits.callers) (sessions : List Session) (count : length sessions ≡ limits.callers) (idle : All IsIdle sessions) (words : Bool) where
   is_idle : (s : Session) (c : ℕ) → slice_get sessions c ≡ Some s → IsIdle s
   is_idle s c at = subst IsIdle (get_or_from_slice_get sessions c s s at) (idle c s (slice_get_within sessions c s at))
 
@@ -91,7 +91,7 @@ module _ (limits : Sizes) (t : TableAt) (new : IsNew t limits.buckets limits.cal
   no_times s is place stamp = λ i. times_of (spare_if (is.pending i)) place stamp + times_in (is.jobs i) place stamp
 
   abbrev pub first_world : List (Option ℕ) → World
-  first_world locks = record { limits = limits; history = []; counts = record { began = 0; committed = 0 }; table = t; sessions = sessions; locks = locks; placed = None }
+  first_world locks = record { limits = limits; history = []; counts = record { began = 0; committed = 0 }; table = t; sessions = sessions; locks = locks; placed = None; words = words }
 
   idle_agrees : (s : Session) → IsIdle s → Agrees s
   idle_agrees s is = record {
@@ -156,9 +156,10 @@ module _ (limits : Sizes) (t : TableAt) (new : IsNew t limits.buckets limits.cal
   pub none_owed : sum_by owed_of sessions ≡ 0
   none_owed = sum_none owed_of sessions (λ s c at. ap (λ (q : Seat). owed_in q.standing q.phase) (is_idle s c at).seat)
 
-  pub start_is : (locks : List (Option ℕ)) → state_of (first_world locks) ≡ start limits
+  pub start_is : (locks : List (Option ℕ)) → state_of (first_world locks) ≡ record (start limits) { words = words }
   start_is locks = λ i. record {
     limits = limits;
+    words = words;
     history = [];
     size = new.size_is i;
     stored = new.stored_is i;

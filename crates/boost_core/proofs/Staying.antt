@@ -16,9 +16,11 @@ use Rattle.map_ops.specs.declared.job.MapJob.TheVariants.{Unput, Restore, Relink
 use Rattle.map_ops.specs.TableAt.{TableAt, SpareAt, KeepsNodes, nodes_of}
 use Rattle.map_ops.specs.Changes.{SeeksNear}
 use Rattle.map_ops.specs.Nodes.{LinksNode, MarksNode, WritesNode, WritesNothing, OpWrites, PutWrites, PutIfWrites, TakeWrites, JobWrites, node_for}
+use Rattle.boost_core.specs.declared.claim.Claim.{Claim}
+use Rattle.boost_core.specs.declared.claim.Claim.TheVariants.{Lock, Right, Held, Stale}
 use Rattle.boost_core.specs.declared.session.Session.{Session}
 use Rattle.boost_core.specs.declared.counts.Counts.{Counts}
-use Rattle.boost_core.specs.Sessions.{Does, ActsIn, IsAsked}
+use Rattle.boost_core.specs.Sessions.{Does, ActsIn, IsAsked, AsksBy}
 use Rattle.boost_core.proofs.GapLists.{Stay, stay_same, stay_changed, stay_linked, stay_sought}
 
 pub linked : (l l' : Listing) (n : NodeAt) → IsSpread l'.nodes → LinksNode l l' n → Stay l.nodes l'.nodes
@@ -74,6 +76,12 @@ module _ (t t' : TableAt) (spread : IsSpread (nodes_of t')) where
     asked c stripe op (answers.Refused refusal) is = same is.2
     asked c stripe op _ is = absurd is
 
+    asked_by : (claim : Claim) (c stripe : ℕ) (op : Op) (answer : Answer) → AsksBy claim c stripe op x t locks answer y t' locks' → Stay (nodes_of t) (nodes_of t')
+    asked_by Lock c stripe op answer is = asked c stripe op answer is
+    asked_by Right c stripe op answer is = asked c stripe op is.0 is.2
+    asked_by (Held named) c stripe op answer is = same is.2
+    asked_by Stale c stripe op answer is = same is.2
+
     acted : (c : ℕ) (answer : Answer) → ActsIn c x t locks answer y t' locks' → Stay (nodes_of t) (nodes_of t')
     acted c answers.Again is = same is.1.table
     acted c (answers.Done reply) is = operated t.list t'.list is.0.pending.op is.0.pending.spare _ spread is.0.writes
@@ -82,23 +90,35 @@ module _ (t t' : TableAt) (spread : IsSpread (nodes_of t')) where
     acted c answers.Aborted is = same is.2
     acted c _ is = absurd is
 
-    pub does_stay : (stripes : ℕ) (counts : Counts) (step : Step) (answer : Answer) → Does stripes counts step x t locks answer y t' locks' → Stay (nodes_of t) (nodes_of t')
-    does_stay stripes counts (steps.Begin d) (answers.Began n) is = same is.2
-    does_stay stripes counts (steps.Begin d) _ is = absurd is
-    does_stay stripes counts (steps.Ask d op) answer is = asked d _ op answer is
-    does_stay stripes counts (steps.Seek d) answers.Placed is = sought is.0.key is.0.near
-    does_stay stripes counts (steps.Seek d) _ is = absurd is
-    does_stay stripes counts (steps.Act d) answer is = acted d answer is
-    does_stay stripes counts (steps.Save d) answer is = same is.1
-    does_stay stripes counts (steps.Back d n) answers.Leaving is = same is.1
-    does_stay stripes counts (steps.Back d n) _ is = absurd is
-    does_stay stripes counts (steps.Commit d) (answers.Committed p) is = rested is.1.rests.nodes
-    does_stay stripes counts (steps.Commit d) _ is = absurd is
-    does_stay stripes counts (steps.Abort d) answers.Leaving is = rested is.0.rests.nodes
-    does_stay stripes counts (steps.Abort d) _ is = absurd is
-    does_stay stripes counts _ answer is = absurd is
+    pub does_stay : (claim : Claim) (stripes : ℕ) (counts : Counts) (step : Step) (answer : Answer) → Does claim stripes counts step x t locks answer y t' locks' → Stay (nodes_of t) (nodes_of t')
+    does_stay claim stripes counts (steps.Begin d) (answers.Began n) is = same is.2
+    does_stay claim stripes counts (steps.Begin d) _ is = absurd is
+    does_stay claim stripes counts (steps.Ask d op) answer is = asked_by claim d _ op answer is
+    does_stay claim stripes counts (steps.Seek d) answers.Placed is = sought is.0.key is.0.near
+    does_stay claim stripes counts (steps.Seek d) _ is = absurd is
+    does_stay claim stripes counts (steps.Act d) answer is = acted d answer is
+    does_stay claim stripes counts (steps.Save d) answer is = same is.1
+    does_stay claim stripes counts (steps.Back d n) answers.Leaving is = same is.1
+    does_stay claim stripes counts (steps.Back d n) _ is = absurd is
+    does_stay claim stripes counts (steps.Commit d) (answers.Committed p) is = rested is.1.rests.nodes
+    does_stay claim stripes counts (steps.Commit d) _ is = absurd is
+    does_stay claim stripes counts (steps.Abort d) answers.Leaving is = rested is.0.rests.nodes
+    does_stay claim stripes counts (steps.Abort d) _ is = absurd is
+    does_stay claim stripes counts _ answer is = absurd is
 
     -- The buckets and the helpers are as they were.
+    own_buckets : (c stripe : ℕ) (op : Op) (answer : Answer) → IsAsked c stripe op x t locks answer y t' locks' → t'.buckets ≡ t.buckets
+    own_buckets c stripe op answers.Asked is = is.prepares.nodes.buckets.all
+    own_buckets c stripe op (answers.Busy holder) is = is.back.nodes.buckets.all ∙ is.prepares.nodes.buckets.all
+    own_buckets c stripe op (answers.Refused refusal) is = ap (λ u. u.buckets) is.2
+    own_buckets c stripe op _ is = absurd is
+
+    asked_buckets : (claim : Claim) (c stripe : ℕ) (op : Op) (answer : Answer) → AsksBy claim c stripe op x t locks answer y t' locks' → t'.buckets ≡ t.buckets
+    asked_buckets Lock c stripe op answer is = own_buckets c stripe op answer is
+    asked_buckets Right c stripe op answer is = own_buckets c stripe op is.0 is.2
+    asked_buckets (Held named) c stripe op answer is = ap (λ u. u.buckets) is.2
+    asked_buckets Stale c stripe op answer is = ap (λ u. u.buckets) is.2
+
     acted_buckets : (c : ℕ) (answer : Answer) → ActsIn c x t locks answer y t' locks' → t'.buckets ≡ t.buckets
     acted_buckets c answers.Again is = ap (λ u. u.buckets) is.1.table
     acted_buckets c (answers.Done reply) is = is.0.does.buckets.all
@@ -107,21 +127,18 @@ module _ (t t' : TableAt) (spread : IsSpread (nodes_of t')) where
     acted_buckets c answers.Aborted is = ap (λ u. u.buckets) is.2
     acted_buckets c _ is = absurd is
 
-    pub does_buckets : (stripes : ℕ) (counts : Counts) (step : Step) (answer : Answer) → Does stripes counts step x t locks answer y t' locks' → t'.buckets ≡ t.buckets
-    does_buckets stripes counts (steps.Begin d) (answers.Began n) is = ap (λ u. u.buckets) is.2
-    does_buckets stripes counts (steps.Begin d) _ is = absurd is
-    does_buckets stripes counts (steps.Ask d op) answers.Asked is = is.prepares.nodes.buckets.all
-    does_buckets stripes counts (steps.Ask d op) (answers.Busy holder) is = is.back.nodes.buckets.all ∙ is.prepares.nodes.buckets.all
-    does_buckets stripes counts (steps.Ask d op) (answers.Refused refusal) is = ap (λ u. u.buckets) is.2
-    does_buckets stripes counts (steps.Ask d op) _ is = absurd is
-    does_buckets stripes counts (steps.Seek d) answers.Placed is = is.0.places.keeps.buckets.all
-    does_buckets stripes counts (steps.Seek d) _ is = absurd is
-    does_buckets stripes counts (steps.Act d) answer is = acted_buckets d answer is
-    does_buckets stripes counts (steps.Save d) answer is = ap (λ u. u.buckets) is.1
-    does_buckets stripes counts (steps.Back d n) answers.Leaving is = ap (λ u. u.buckets) is.1
-    does_buckets stripes counts (steps.Back d n) _ is = absurd is
-    does_buckets stripes counts (steps.Commit d) (answers.Committed p) is = is.1.rests.nodes.buckets.all
-    does_buckets stripes counts (steps.Commit d) _ is = absurd is
-    does_buckets stripes counts (steps.Abort d) answers.Leaving is = is.0.rests.nodes.buckets.all
-    does_buckets stripes counts (steps.Abort d) _ is = absurd is
-    does_buckets stripes counts _ answer is = absurd is
+    pub does_buckets : (claim : Claim) (stripes : ℕ) (counts : Counts) (step : Step) (answer : Answer) → Does claim stripes counts step x t locks answer y t' locks' → t'.buckets ≡ t.buckets
+    does_buckets claim stripes counts (steps.Begin d) (answers.Began n) is = ap (λ u. u.buckets) is.2
+    does_buckets claim stripes counts (steps.Begin d) _ is = absurd is
+    does_buckets claim stripes counts (steps.Ask d op) answer is = asked_buckets claim d _ op answer is
+    does_buckets claim stripes counts (steps.Seek d) answers.Placed is = is.0.places.keeps.buckets.all
+    does_buckets claim stripes counts (steps.Seek d) _ is = absurd is
+    does_buckets claim stripes counts (steps.Act d) answer is = acted_buckets d answer is
+    does_buckets claim stripes counts (steps.Save d) answer is = ap (λ u. u.buckets) is.1
+    does_buckets claim stripes counts (steps.Back d n) answers.Leaving is = ap (λ u. u.buckets) is.1
+    does_buckets claim stripes counts (steps.Back d n) _ is = absurd is
+    does_buckets claim stripes counts (steps.Commit d) (answers.Committed p) is = is.1.rests.nodes.buckets.all
+    does_buckets claim stripes counts (steps.Commit d) _ is = absurd is
+    does_buckets claim stripes counts (steps.Abort d) answers.Leaving is = is.0.rests.nodes.buckets.all
+    does_buckets claim stripes counts (steps.Abort d) _ is = absurd is
+    does_buckets claim stripes counts _ answer is = absurd is

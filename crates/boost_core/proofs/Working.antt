@@ -6,7 +6,6 @@ use Rattle.std.specs.List.{AllByRecursion}
 use Rattle.std.proofs.lemmas.Bool.{false≢true, ne_eqb, ltb-true}
 use Rattle.std.proofs.lemmas.List.{reverse-append}
 use Rattle.std.proofs.lemmas.List.Sums.{sum_by_push}
-use Rattle.txn_trace.specs.declared.holder.Holder.TheVariants.{Now}
 use Rattle.txn_trace.specs.Map.{get, key_of, reply_of, after}
 use Rattle.txn_trace.specs.Now.{set_at}
 use Rattle.txn_trace.specs.Locks.{stripe_of}
@@ -36,7 +35,7 @@ use Rattle.map_ops.specs.declared.job.MapJob.{MapJob}
 use Rattle.map_ops.specs.Jobs.{PendingAt}
 use Rattle.map_ops.specs.TableAt.{TableAt, Cursor, content, cursor_changes, table_changes}
 use Rattle.boost_core.specs.declared.session.Session.{Session}
-use Rattle.boost_core.specs.State.{seat_in}
+use Rattle.boost_core.specs.State.{seat_in, holder_by}
 use Rattle.boost_core.specs.Refusals.{refusal_of}
 use Rattle.boost_core.specs.Spares.{times_of, times_in, times_out, IsCovered}
 use Rattle.boost_core.specs.Core.{World, Tells, state_of, turn_at}
@@ -108,7 +107,7 @@ module _ (w : World) (tells : Tells w) (c : ℕ) (x : Session) (at : slice_get w
     abbrev did_seat : Seat
     did_seat = record { phase = Opened; standing = cond (changes does.pending.op reply) (x.seat.seat.standing + 1) x.seat.seat.standing; kept = x.seat.seat.kept }
 
-    did_law : Next Now w.limits.stripes w.history (entry.Did c reply) did_seat (cond (changes does.pending.op reply) ((key_of does.pending.op, reply) ∷ log_of c w.history) (log_of c w.history)) (serial w.history) (after (now w.history) does.pending.op) (λ s. holder_of w.limits.stripes s w.history)
+    did_law : Next (holder_by w.words) w.limits.stripes w.history (entry.Did c reply) did_seat (cond (changes does.pending.op reply) ((key_of does.pending.op, reply) ∷ log_of c w.history) (log_of c w.history)) (serial w.history) (after (now w.history) does.pending.op) (λ s. holder_of w.limits.stripes s w.history)
     did_law = laws.did w.limits.stripes w.history tells.legal c does.pending.op reply x.seat.seat (tells.seated c x at).seat phase_was reply_is
 
     did_log : cond (changes does.pending.op reply) ((key_of does.pending.op, reply) ∷ log_of c w.history) (log_of c w.history) ≡ changes_of y.log.jobs
@@ -135,7 +134,7 @@ module _ (w : World) (tells : Tells w) (c : ℕ) (x : Session) (at : slice_get w
         committed = serial w.history;
         current = after (now w.history) does.pending.op;
         holder = λ s. holder_of w.limits.stripes s w.history;
-        next = subst (λ l. Next Now w.limits.stripes w.history (entry.Did c reply) did_seat l (serial w.history) (after (now w.history) does.pending.op) (λ s. holder_of w.limits.stripes s w.history)) did_log did_law;
+        next = subst (λ l. Next (holder_by w.words) w.limits.stripes w.history (entry.Did c reply) did_seat l (serial w.history) (after (now w.history) does.pending.op) (λ s. holder_of w.limits.stripes s w.history)) did_log did_law;
         mine = refl;
         same_seat = does.seat;
         saved = λ is. absurd (false≢true is);
@@ -187,7 +186,7 @@ module _ (w : World) (tells : Tells w) (c : ℕ) (x : Session) (at : slice_get w
         omega arith
 
     undone_law : (q : Phase) → x.seat.seat.phase ≡ q → IsGoing q × (nat_lt (kept_at x.log.kept (level_of q)) (length x.log.jobs) ≡ true)
-        → Next Now w.limits.stripes w.history (entry.Undone c) undone_seat (changes_of y.log.jobs) (serial w.history) undone_map (λ s. holder_of w.limits.stripes s w.history)
+        → Next (holder_by w.words) w.limits.stripes w.history (entry.Undone c) undone_seat (changes_of y.log.jobs) (serial w.history) undone_map (λ s. holder_of w.limits.stripes s w.history)
     undone_law Closed is so = absurd so.0
     undone_law Opened is so = absurd so.0
     undone_law (Waiting op) is so = absurd so.0

@@ -1,10 +1,10 @@
 -- What a step that is not refused may be answered, and the state after it.
-use Rattle.std.specs.Prelude.{◌≡◌, ℕ, ◌+◌, ◌*◌, ◌-◌, ◌^◌, ◌==◌, Bool, true, false, not, nat_lt, ◌&&◌, IsTrue, List, ◌++◌, Option, Some, None, length, slice_set}
-use Rattle.txn_trace.specs.declared.holder.Holder.TheVariants.{Now}
+use Rattle.std.specs.Prelude.{◌≡◌, ℕ, ◌+◌, ◌*◌, ◌-◌, ◌^◌, ◌==◌, Bool, true, false, not, nat_lt, ◌&&◌, ◌||◌, IsTrue, List, ◌++◌, Option, Some, None, length, slice_set}
 use Rattle.txn_trace.specs.declared.step.Step.{Step}
 use Rattle.txn_trace.specs.declared.step.Step.TheVariants.{Begin, Ask, Seek, Act, Save, Back, Commit, Abort, Sweep, InitSeek, InitLink, InitStore, Double}
 use Rattle.txn_trace.specs.declared.answer.Answer.{Answer}
 use Rattle.txn_trace.specs.declared.answer.Answer.TheVariants as answers
+use Rattle.txn_trace.specs.declared.entry.Entry.{Entry}
 use Rattle.txn_trace.specs.declared.entry.Entry.TheVariants as entries
 use Rattle.txn_trace.specs.Map.{Map, count_of, reply_of}
 use Rattle.txn_trace.specs.History.{is_began, is_commit}
@@ -14,7 +14,7 @@ use Rattle.txn_trace.specs.declared.seat.Phase.{Phase}
 use Rattle.txn_trace.specs.declared.seat.Phase.TheVariants.{Waiting, LeavingTo, LeavingToEnd}
 use Rattle.txn_trace.specs.Shape.{how_many}
 use Rattle.txn_trace.specs.Locks.{is_locked}
-use Rattle.boost_core.specs.State.{State, Owner, Caller, Helper, Help, Nothing, Sought, Dummy, seat_in, turn_in, help_in, turn_at, bucket_at, is_set, with_bucket}
+use Rattle.boost_core.specs.State.{State, Owner, Caller, Helper, Help, Nothing, Sought, Dummy, seat_in, turn_in, help_in, turn_at, bucket_at, is_set, with_bucket, holder_by}
 use Rattle.boost_core.specs.Refusals.{has_job, has_target, has_stamp, has_stamp_for, lacks_dummy}
 
 -- Whether two cursors are of one owner.
@@ -70,16 +70,18 @@ may_grow state seen = state.size == seen && not (state.size == state.limits.buck
 abbrev pub is_crowded : State → Bool
 is_crowded state = nat_lt (2 * state.size) (count_of (now state.history))
 
+-- Whether the rule of locks lets an entry stand next.
+abbrev pub may_stand : State → Entry → Bool
+may_stand state e = is_locked (holder_by state.words) state.limits.stripes state.history e
+
 -- What each step may be answered where nothing refuses it; a pair that does not stand here never
 -- is.
 abbrev pub IsAnswer : State → Step → Answer → Type 0
 IsAnswer state (Begin c) (answers.Began t) = t ≡ how_many is_began state.history + 1
 IsAnswer state (Ask c op) answers.Asked =
-    IsTrue
-    (has_stamp_for state op && is_locked Now state.limits.stripes state.history (entries.Asked c op))
+    IsTrue (has_stamp_for state op && may_stand state (entries.Asked c op))
 IsAnswer state (Ask c op) (answers.Busy x) =
-    IsTrue
-    (has_stamp_for state op && is_locked Now state.limits.stripes state.history (entries.Busy c op x))
+    IsTrue ((state.words || has_stamp_for state op) && may_stand state (entries.Busy c op x))
 IsAnswer state (Seek c) answers.Placed = Unit {0}
 IsAnswer state (Act c) answers.Again =
     IsTrue (has_target (seat_in state.history c) && may_be_stale state (Caller c))

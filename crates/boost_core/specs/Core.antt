@@ -1,9 +1,8 @@
 -- What is true of every core.
-use Rattle.std.specs.Prelude.{◌≡◌, ℕ, ◌+◌, ◌<◌, ◌≤◌, true, Option, Some, None, List, length, map, reverse, slice_get, vec_len, vec_capacity, sum_by, if◌then◌else◌}
+use Rattle.std.specs.Prelude.{◌≡◌, ℕ, ◌+◌, ◌<◌, ◌≤◌, Bool, true, Option, Some, None, List, length, map, reverse, slice_get, vec_len, vec_capacity, sum_by, if◌then◌else◌}
 use Rattle.std.specs.Option.{option_map}
 use Rattle.std.specs.Global.{Vec}
 use Rattle.std.specs.List.{All}
-use Rattle.txn_trace.specs.declared.holder.Holder.TheVariants.{Now}
 use Rattle.txn_trace.specs.declared.entry.Entry.{Entry}
 use Rattle.txn_trace.specs.Sizes.{Sizes}
 use Rattle.txn_trace.specs.History.{caller_of, is_began, is_commit}
@@ -20,12 +19,14 @@ use Rattle.map_ops.specs.TableAt.{TableAt, Cursor, NodeAt, nodes_of, content, cu
 use Rattle.map_ops.specs.Buckets.{helper_fits}
 use Rattle.boost_core.specs.declared.counts.Counts.{Counts}
 use Rattle.boost_core.specs.declared.session.Session.{Session}
-use Rattle.boost_core.specs.State.{State, Node, Gap, Owner, Caller, Helper}
+use Rattle.boost_core.specs.State.{State, Node, Gap, Owner, Caller, Helper, holder_by}
+use Rattle.boost_core.specs.Begun.{AreNoted}
 use Rattle.boost_core.specs.Spares.{IsCovered}
 use Rattle.boost_core.specs.Sessions.{owed_of, Agrees, IsSought, times_kept, changes_of, AreDue}
 
 -- What a core is made of, but for room: the limits, the history and its counts, the table, each
--- caller's side, the stripes' holders, and whose cursor the last move placed.
+-- caller's side, the stripes' holders, whose cursor the last move placed, and whether stripes are
+-- words.
 pub record World : Type 0 where
   pub limits : Sizes
   pub history : List Entry
@@ -34,10 +35,11 @@ pub record World : Type 0 where
   pub sessions : List Session
   pub locks : List (Option ℕ)
   pub placed : Option Owner
+  pub words : Bool
 
 abbrev pub world_of : Sizes → Vec Entry → Counts → TableAt → Vec Session → List (Option ℕ)
-    → Option Owner → World
-world_of limits history counts table sessions locks placed = record {
+    → Option Owner → Bool → World
+world_of limits history counts table sessions locks placed words = record {
   limits = limits;
   history = history.items;
   counts = counts;
@@ -45,6 +47,7 @@ world_of limits history counts table sessions locks placed = record {
   sessions = sessions.items;
   locks = locks;
   placed = placed;
+  words = words;
 }
 
 -- The turn of each caller's cursor.
@@ -85,6 +88,7 @@ helper_gaps_of t = map (gap_if t) (cursors_of t)
 abbrev pub state_of : World → State
 state_of w = record {
   limits = w.limits;
+  words = w.words;
   history = w.history;
   size = size_of w.table;
   stored = stored_of w.table;
@@ -122,7 +126,7 @@ IsFresh t sessions (Some (Helper h)) = helper_fits t h ≡ true
 -- The history is legal, and the counts, the stripes' holders, the table and each caller's side are
 -- what it says.
 pub record Tells (w : World) : Type 0 where
-  pub legal : IsLegal Now w.limits.stripes w.history
+  pub legal : IsLegal (holder_by w.words) w.limits.stripes w.history
   pub callers : All (λ entry. caller_of entry < w.limits.callers) w.history
   pub begins : w.counts.began ≡ how_many is_began w.history
   pub commits : w.counts.committed ≡ how_many is_commit w.history
@@ -139,8 +143,9 @@ pub record Tells (w : World) : Type 0 where
   pub helpers : length (helps_of w.table) ≡ w.limits.callers
   pub sound : IsSound w.table.list
 
--- And what the callers owe is counted, and the history has room for it.
-pub record Holds (w : World) (history : Vec Entry) (owed : ℕ) : Type 0 where
+-- And what the callers owe is counted, the history has room for it, and who has begun is noted.
+pub record Holds (w : World) (history : Vec Entry) (owed : ℕ) (begun : List Bool) : Type 0 where
   pub tells : Tells w
   pub owes : owed ≡ sum_by owed_of w.sessions
   pub room : vec_len history + sum_by owed_of w.sessions ≤ vec_capacity history
+  pub noted : AreNoted w.limits.callers w.history begun

@@ -8,6 +8,8 @@ pub mod Content
 pub mod Machine
 pub mod Nodes
 pub mod Plain
+pub mod Words
+pub mod Begun
 pub mod Counts
 pub mod Placed
 pub mod Serves

@@ -1,5 +1,5 @@
 -- The fifth claim, answers: which moves of the machine of steps there are.
-pub use Rattle.boost_core.specs.State.{State, start}
+pub use Rattle.boost_core.specs.State.{State, start, start_with_words, holder_by}
 use Rattle.std.specs.Prelude.{◌≡◌, ◌+◌, ◌≤◌, ◌⊎◌, true, List, [], ◌∷◌, Some, None}
 use Rattle.txn_trace.specs.declared.step.Step.{Step}
 use Rattle.txn_trace.specs.declared.answer.Answer.{Answer}

@@ -5,7 +5,7 @@ use Rattle.txn_trace.specs.declared.step.Step.{Step}
 use Rattle.txn_trace.specs.declared.step.Step.TheVariants.{Begin, Ask, Seek, Act, Save, Back, Commit, Abort}
 use Rattle.txn_trace.specs.declared.answer.Answer.{Answer}
 use Rattle.txn_trace.specs.declared.answer.Answer.TheVariants as answers
-use Rattle.txn_trace.specs.declared.refusal.Refusal.TheVariants.{NoMemory}
+use Rattle.txn_trace.specs.declared.refusal.Refusal.TheVariants.{NoMemory, StaleWord}
 use Rattle.txn_trace.specs.Map.{Map, get, key_of}
 use Rattle.txn_trace.specs.Now.{set_at}
 use Rattle.txn_trace.specs.Owed.{owed_in}
@@ -24,6 +24,8 @@ use Rattle.map_ops.specs.Changes as changes
 use Rattle.map_ops.specs.Changes.{OwnsIf, Places, SeeksNear, Prepares, IsRefused, GivesBack, TakesBack}
 use Rattle.map_ops.specs.Nodes.{OpWrites, JobWrites}
 use Rattle.boost_core.specs.declared.counts.Counts.{Counts}
+use Rattle.boost_core.specs.declared.claim.Claim.{Claim}
+use Rattle.boost_core.specs.declared.claim.Claim.TheVariants.{Lock, Right, Held, Stale}
 use Rattle.boost_core.specs.declared.session.Session.{Session}
 use Rattle.boost_core.specs.State.{Caller}
 use Rattle.boost_core.specs.Refusals.{owner_of, lacks_in}
@@ -342,6 +344,23 @@ IsAsked c stripe op s t locks (answers.Refused refusal) s' t' locks' =
     ((refusal ≡ NoMemory) ⊎ IsRefused t op refusal) × StaysIn s s' × (t' ≡ t) × (locks' ≡ locks)
 IsAsked c stripe op s t locks answer s' t' locks' = ⊥
 
+-- Where another caller holds the stripe, the right to it is stale.
+abbrev pub unless_busy : Answer → Answer
+unless_busy (answers.Busy x) = answers.Refused StaleWord
+unless_busy answer = answer
+
+-- What asking by a claim is answered, and what it does: by a word nothing.
+abbrev pub AsksBy : Claim → ℕ → ℕ → Op → Session → TableAt → List (Option ℕ) → Answer → Session
+    → TableAt → List (Option ℕ) → Type 0
+AsksBy Lock c stripe op s t locks answer s' t' locks' =
+    IsAsked c stripe op s t locks answer s' t' locks'
+AsksBy Right c stripe op s t locks answer s' t' locks' =
+    (own : Answer) × (answer ≡ unless_busy own) × IsAsked c stripe op s t locks own s' t' locks'
+AsksBy (Held named) c stripe op s t locks answer s' t' locks' =
+    (answer ≡ answers.Busy named) × (s' ≡ s) × (t' ≡ t) × (locks' ≡ locks)
+AsksBy Stale c stripe op s t locks answer s' t' locks' =
+    (answer ≡ answers.Refused StaleWord) × (s' ≡ s) × (t' ≡ t) × (locks' ≡ locks)
+
 -- What an act for the operation that waits is answered, and what it does.
 abbrev pub Replies : Session → TableAt → Answer → Session → TableAt → Type 0
 Replies s t answers.Again s' t' = Drops s t s' t'
@@ -387,23 +406,24 @@ pub record Takes (stripes : ℕ) (counts : Counts) (step : Step) (s : Session) (
   pub begins : counts.began < 2 ^ 63
   pub commits : counts.committed < 2 ^ 63
 
--- What each step does to its caller's side, to the table and to the locks, by its answer. The seat
+-- What each step does to its caller's side, to the table and to the locks, by its answer and, where
+-- it asks, by its claim. The seat
 -- stays, but for room: the entry of step and answer is entered there afterwards.
-abbrev pub Does : ℕ → Counts → Step → Session → TableAt → List (Option ℕ) → Answer → Session
+abbrev pub Does : Claim → ℕ → Counts → Step → Session → TableAt → List (Option ℕ) → Answer → Session
     → TableAt → List (Option ℕ) → Type 0
-Does stripes counts (Begin c) s t locks (answers.Began n) s' t' locks' =
+Does claim stripes counts (Begin c) s t locks (answers.Began n) s' t' locks' =
     (n ≡ counts.began + 1) × StaysIn s s' × (t' ≡ t) × (locks' ≡ locks)
-Does stripes counts (Ask c op) s t locks answer s' t' locks' =
-    IsAsked c (stripe_of stripes (key_of op)) op s t locks answer s' t' locks'
-Does stripes counts (Seek c) s t locks answers.Placed s' t' locks' =
+Does claim stripes counts (Ask c op) s t locks answer s' t' locks' =
+    AsksBy claim c (stripe_of stripes (key_of op)) op s t locks answer s' t' locks'
+Does claim stripes counts (Seek c) s t locks answers.Placed s' t' locks' =
     SeeksIn s t s' t' × (locks' ≡ locks)
-Does stripes counts (Act c) s t locks answer s' t' locks' = ActsIn c s t locks answer s' t' locks'
-Does stripes counts (Save c) s t locks answer s' t' locks' =
+Does claim stripes counts (Act c) s t locks answer s' t' locks' = ActsIn c s t locks answer s' t' locks'
+Does claim stripes counts (Save c) s t locks answer s' t' locks' =
     Saves s answer s' × (t' ≡ t) × (locks' ≡ locks)
-Does stripes counts (Back c n) s t locks answers.Leaving s' t' locks' =
+Does claim stripes counts (Back c n) s t locks answers.Leaving s' t' locks' =
     (s' ≡ record s { cursor = None }) × (t' ≡ t) × (locks' ≡ locks)
-Does stripes counts (Commit c) s t locks (answers.Committed p) s' t' locks' =
+Does claim stripes counts (Commit c) s t locks (answers.Committed p) s' t' locks' =
     (p ≡ counts.committed + 1) × SettlesIn s t s' t' × Releases c locks locks'
-Does stripes counts (Abort c) s t locks answers.Leaving s' t' locks' =
+Does claim stripes counts (Abort c) s t locks answers.Leaving s' t' locks' =
     WithdrawsIn s t s' t' × (locks' ≡ locks)
-Does stripes counts step s t locks answer s' t' locks' = ⊥
+Does claim stripes counts step s t locks answer s' t' locks' = ⊥

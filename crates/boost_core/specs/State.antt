@@ -6,6 +6,8 @@ pub use Rattle.split_key.specs.declared.sort.SortKey.{SortKey}
 use Rattle.split_key.specs.Sort.{dummy_at}
 use Rattle.std.specs.Prelude.{ℕ, ◌-◌, Bool, true, false, List, [], ◌∷◌, Option, Some, None, replicate, slice_get, slice_set, unwrap_or}
 use Rattle.txn_trace.specs.declared.entry.Entry.{Entry}
+use Rattle.txn_trace.specs.declared.holder.Holder.{Holder}
+use Rattle.txn_trace.specs.declared.holder.Holder.TheVariants.{Now, Begun}
 use Rattle.txn_trace.specs.Sizes.{Sizes}
 use Rattle.txn_trace.specs.Shape.{Seat, closed_seat, seat_after, own}
 
@@ -27,12 +29,14 @@ pub record Gap : Type 0 where
   pub before : SortKey
   pub behind : Option SortKey
 
--- The limits, the history, the size, for each bucket whether it is stored and whether its dummy is
--- linked, the linked nodes in order, the list's change number, the last stamp given, for each
--- caller the turn of its cursor and, where that fits, the nodes between which it stands, the same
--- nodes for each helper, what each helper has, and whose cursor the last move placed.
+-- The limits, whether stripes are words, the history, the size, for each bucket whether it is stored
+-- and whether its dummy is linked, the linked nodes in order, the list's change number, the last
+-- stamp given, for each caller the turn of its cursor and, where that fits, the nodes between which
+-- it stands, the same nodes for each helper, what each helper has, and whose cursor the last move
+-- placed.
 pub record State : Type 0 where
   pub limits : Sizes
+  pub words : Bool
   pub history : List Entry
   pub size : ℕ
   pub stored : List Bool
@@ -51,6 +55,7 @@ pub record State : Type 0 where
 abbrev pub start : Sizes → State
 start limits = record {
   limits = limits;
+  words = false;
   history = [];
   size = 2;
   stored = true ∷ replicate (limits.buckets - 1) false;
@@ -64,6 +69,16 @@ start limits = record {
   helpers = replicate limits.callers Nothing;
   placed = None;
 }
+
+-- The same where stripes are words.
+abbrev pub start_with_words : Sizes → State
+start_with_words limits = record (start limits) { words = true }
+
+-- Whom a Busy entry may name: the caller that holds the stripe now, or where stripes are words, one
+-- that has begun a transaction before.
+abbrev pub holder_by : Bool → Holder
+holder_by false = Now
+holder_by true = Begun
 
 -- The seat that a caller's entries in a history give it: its phase, its standing changes and its
 -- savepoints.

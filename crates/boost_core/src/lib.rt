@@ -23,7 +23,9 @@
 #![tactic(auto)]
 
 mod adding;
+mod begun;
 mod buckets;
+mod claim;
 mod counts;
 mod into_trace;
 mod machine;
@@ -35,6 +37,7 @@ mod sessions;
 #[cfg(test)]
 mod tests;
 mod transactions;
+mod words;
 
 pub use machine::Core;
 pub use owner::Owner;

@@ -1,16 +1,17 @@
 //! The core.
-ghost use Rattle.std.specs.Prelude.{◌≡◌, ℕ, ◌<◌, true, is_some, Some, IfOk, IfErr, OnErr, length};
+ghost use Rattle.std.specs.Prelude.{◌≡◌, ℕ, ◌<◌, true, false, is_some, Some, IfOk, IfErr, OnErr, length};
 ghost use Rattle.std.specs.List.{All};
-ghost use Rattle.txn_trace.specs.declared.holder.Holder.TheVariants.{Now};
 ghost use Rattle.txn_trace.specs.Map.{count_of};
 ghost use Rattle.txn_trace.specs.History.{caller_of};
 ghost use Rattle.txn_trace.specs.Now.{now};
 ghost use Rattle.txn_trace.specs.Legal.{IsLegal};
 ghost use Rattle.txn_trace.specs.Owed.{owed};
-ghost use Rattle.boost_core.specs.Machine.{State, start};
+ghost use Rattle.boost_core.specs.Machine.{State, start, holder_by};
 
 use crate::adding::add;
+use crate::begun::{none_begun, note_begun};
 use crate::buckets::serve;
+use crate::claim::Claim;
 use crate::counts::Counts;
 use crate::owner::{Owner, placed_after};
 use crate::session::Session;
@@ -42,6 +43,10 @@ pub struct Core {
     pub(crate) locks: KeyLocks,
     // Whose cursor the last step placed.
     pub(crate) placed: Option<Owner>,
+    // Whether stripes are words.
+    pub(crate) words: bool,
+    // Whether each caller has begun a transaction.
+    pub(crate) begun: Vec<bool>,
 }
 
 impl Model for Core {
@@ -52,11 +57,11 @@ impl Model for Core {
     ghost use Rattle.boost_core.specs.Core.{state_of, world_of, Holds};
 
     ghost view = { λ c. state_of
-        (world_of c.limits c.history c.counts c.table c.sessions c.locks c.placed) };
+        (world_of c.limits c.history c.counts c.table c.sessions c.locks c.placed c.words) };
 
     ghost invariant = { λ c. Holds
-        (world_of c.limits c.history c.counts c.table c.sessions c.locks c.placed)
-        c.history c.owed };
+        (world_of c.limits c.history c.counts c.table c.sessions c.locks c.placed c.words)
+        c.history c.owed c.begun.items };
 }
 
 impl Core {
@@ -67,6 +72,7 @@ impl Core {
     ghost use Rattle.boost_core.specs.Whole.{IsWhole};
     ghost use Rattle.boost_core.specs.Machine.{Move, Moves};
     ghost use Rattle.boost_core.specs.Nodes.{Cursors, IsInOrder, Lists};
+    ghost use Rattle.boost_core.specs.Words.{Goes, IsClaim, ListsBy, is_ask};
     ghost use Rattle.boost_core.specs.Refusals.{owner_of, refusal_of};
     ghost use Rattle.boost_core.specs.Serves.{is_served};
     ghost use Rattle.boost_core.specs.State.{turn_in};
@@ -82,6 +88,14 @@ impl Core {
         ensures ok { IfOk result (λ core. core ≡ start limits) }
         ensures err { IfErr result (λ refusal. refusal ≡ Refusal.NoMemory) }
     {
+        Core::made(alloc, limits, false)
+    }
+
+    /// A core in which nothing has happened, whose stripes are words or not.
+    pub(crate) fn made(alloc: Global, limits: Limits, words: bool) -> Result<Core, Refusal>
+        ensures ok { IfOk result (λ core. core ≡ record (start limits) { words = words }) }
+        ensures err { IfErr result (λ refusal. refusal ≡ Refusal.NoMemory) }
+    {
         let Ok(table) = Table::new(alloc, limits.buckets(), limits.callers()) else {
             return Err(Refusal::NoMemory);
         };
@@ -89,6 +103,9 @@ impl Core {
             return Err(Refusal::NoMemory);
         };
         let Ok(locks) = KeyLocks::new(alloc, limits.stripes() as usize) else {
+            return Err(Refusal::NoMemory);
+        };
+        let Ok(begun) = none_begun(alloc, limits.callers() as usize) else {
             return Err(Refusal::NoMemory);
         };
         Ok(Core {
@@ -103,6 +120,8 @@ impl Core {
             owed: 0,
             locks,
             placed: None,
+            words,
+            begun,
         })
     }
 
@@ -120,21 +139,25 @@ impl Core {
     /// A seek walks from the nearest initialised bucket on, a commit and the end of an abort take a
     /// step for each job and each stripe of the transaction, a sweep walks up to the first marked
     /// node; each other step takes amortized constant time.
+    ///
+    /// Where stripes are words, no step may be an `Ask`: `ask_with` and `ask_held` stand for it.
     pub fn step(&mut self, step: Step) -> Answer
+        requires { self.old.words ≡ true → is_ask step ≡ false }
         ensures moves { Move self.old step result self.new }
         ensures lists { Lists self.old step result self.new }
         ensures cursors { Cursors self.old step result self.new }
+        ensures words { self.new.words ≡ self.old.words }
     {
         // An arm each, so that `call` is compiled for each kind of step by itself.
         match step {
-            Step::Begin(caller) => self.call(caller, Step::Begin(caller)),
-            Step::Ask(caller, op) => self.call(caller, Step::Ask(caller, op)),
-            Step::Seek(caller) => self.call(caller, Step::Seek(caller)),
-            Step::Act(caller) => self.call(caller, Step::Act(caller)),
-            Step::Save(caller) => self.call(caller, Step::Save(caller)),
-            Step::Back(caller, level) => self.call(caller, Step::Back(caller, level)),
-            Step::Commit(caller) => self.call(caller, Step::Commit(caller)),
-            Step::Abort(caller) => self.call(caller, Step::Abort(caller)),
+            Step::Begin(caller) => self.call(caller, Step::Begin(caller), Claim::Lock),
+            Step::Ask(caller, op) => self.call(caller, Step::Ask(caller, op), Claim::Lock),
+            Step::Seek(caller) => self.call(caller, Step::Seek(caller), Claim::Lock),
+            Step::Act(caller) => self.call(caller, Step::Act(caller), Claim::Lock),
+            Step::Save(caller) => self.call(caller, Step::Save(caller), Claim::Lock),
+            Step::Back(caller, level) => self.call(caller, Step::Back(caller, level), Claim::Lock),
+            Step::Commit(caller) => self.call(caller, Step::Commit(caller), Claim::Lock),
+            Step::Abort(caller) => self.call(caller, Step::Abort(caller), Claim::Lock),
             Step::Sweep
             | Step::InitSeek(..)
             | Step::InitLink(_)
@@ -143,14 +166,17 @@ impl Core {
         }
     }
 
-    /// Takes a step of a caller. What it asks for is done on the caller's side, the table and the
-    /// locks; then the entry is added, and whose cursor was placed is noted.
+    /// Takes a step of a caller, of which an `Ask` is made by a claim. What it asks for is done on
+    /// the caller's side, the table and the locks; then the entry is added, and whose cursor was
+    /// placed is noted.
     #[inline(always)]
-    pub(crate) fn call(&mut self, caller: u64, step: Step) -> Answer
-        requires { owner_of step ≡ Some (Owner.Caller caller) }
-        ensures moves { Move self.old step result self.new }
-        ensures lists { Lists self.old step result self.new }
+    pub(crate) fn call(&mut self, caller: u64, step: Step, claim: Claim) -> Answer
+        requires owner { owner_of step ≡ Some (Owner.Caller caller) }
+        requires claim { IsClaim claim self.old step }
+        ensures moves { Goes claim self.old step result self.new }
+        ensures lists { ListsBy claim self.old step result self.new }
         ensures cursors { Cursors self.old step result self.new }
+        ensures words { self.new.words ≡ self.old.words }
         ensures cursor { result ≡ Answer.Placed → is_some (turn_in self.new.cursors caller) ≡ true }
     {
         if let Some(refusal) = self.refusal(caller, step) {
@@ -166,13 +192,17 @@ impl Core {
         let stripes = u64::from(self.limits.stripes());
         let _size = Table::size(&self.table);
         let session = &mut self.sessions[caller as usize];
-        let answer = session.answer(step, stripes, self.counts, &mut self.table, &mut self.locks);
-        self.owed = add(
-            &mut session.seat,
-            &mut self.history,
-            self.owed,
-            entry_of(step, answer),
+        let answer = session.answer(
+            step,
+            claim,
+            stripes,
+            self.counts,
+            &mut self.table,
+            &mut self.locks,
         );
+        let entry = entry_of(step, answer);
+        self.owed = add(&mut session.seat, &mut self.history, self.owed, entry);
+        note_begun(&mut self.begun, entry);
         self.counts = self.counts.after(answer);
         self.placed = placed_after(self.placed, step, answer);
         answer
@@ -184,6 +214,7 @@ impl Core {
         ensures moves { Move self.old step result self.new }
         ensures lists { Lists self.old step result self.new }
         ensures cursors { Cursors self.old step result self.new }
+        ensures words { self.new.words ≡ self.old.words }
     {
         let _size = Table::size(&self.table);
         let answer = serve(step, &mut self.table);
@@ -192,12 +223,13 @@ impl Core {
     }
 
     /// Takes the steps one after another, and gives their answers. Room for all answers is made
-    /// first.
+    /// first. Where stripes are words, none of the steps may be an `Ask`.
     ///
     /// # Errors
     ///
     /// `AllocError` where that room is refused: then no step is taken.
     pub fn run(&mut self, alloc: Global, steps: &[Step]) -> Result<Vec<Answer>, AllocError>
+        requires { self.old.words ≡ true → All (λ step. is_ask step ≡ false) steps.now }
         ensures ok { IfOk result (λ answers. Moves self.old steps.now answers.items self.new) }
         ensures err { OnErr result (self.new ≡ self.old) }
     {
@@ -217,7 +249,8 @@ impl Core {
         ensures shape { HasShape self.now }
         ensures locks { KeepsLocks self.now }
         ensures replies { KeepsReplies self.now }
-        ensures legal { IsLegal Now self.now.limits.stripes self.now.history }
+        ensures legal { IsLegal (holder_by self.now.words) self.now.limits.stripes
+            self.now.history }
         ensures callers { All (λ entry. caller_of entry < self.now.limits.callers)
             self.now.history }
         ensures whole { IsWhole self.now }

@@ -2,8 +2,9 @@
 ghost use Rattle.std.specs.Prelude.{◌≡◌, ◌+◌, ◌<◌, ◌≤◌, ◌++◌, ◌⊎◌, true, false, None, Ok, length, not, ◌&&◌, ◌||◌, is_some, option_to_list, IfOk, IfErr, OnOk, OnErr};
 ghost use Rattle.map_ops.specs.Changes.{OwnsIf, GivesBack};
 ghost use Rattle.map_ops.specs.TableAt.{table_changes};
-ghost use Rattle.boost_core.specs.Sessions.{KeepsPlaced};
+ghost use Rattle.boost_core.specs.Sessions.{KeepsPlaced, unless_busy};
 
+use crate::claim::Claim;
 use crate::session::Session;
 use key_locks::{KeyLocks, LockAnswer};
 use map_ops::{Act, MapJob, Pending, Table, Undo};
@@ -12,11 +13,36 @@ use undo_log::UndoLog;
 
 impl Session {
     ghost use Rattle.txn_trace.specs.Seats.{has_target, is_waiting, is_leaving};
-    ghost use Rattle.boost_core.specs.Sessions.{GoesWith, IsAsked, StaysIn, SeeksIn, ActsIn, Replies, Undoes, Arrives, CanAct, CanUndo, CanArrive};
+    ghost use Rattle.boost_core.specs.Sessions.{AsksBy, GoesWith, IsAsked, StaysIn, SeeksIn, ActsIn, Replies, Undoes, Arrives, CanAct, CanUndo, CanArrive};
     ghost use Rattle.map_ops.specs.Changes.{Prepares, IsRefused};
 
+    /// Asks for an operation by a claim. With a word nothing is reserved or locked.
+    pub(crate) fn ask_by(
+        &mut self,
+        claim: Claim,
+        caller: usize,
+        stripe: usize,
+        op: Op,
+        table: &mut Table,
+        locks: &mut KeyLocks,
+    ) -> Answer
+        requires caller { caller < 64 }
+        requires stripe { stripe < length locks.old }
+        ensures asked { AsksBy claim caller stripe op self.old table.old locks.old result self.new
+            table.new locks.new }
+        ensures rises { table_changes table.old ≤ table_changes table.new }
+        ensures placed { KeepsPlaced table.old table.new }
+    {
+        match claim {
+            Claim::Lock => self.ask(caller, stripe, op, table, locks),
+            Claim::Right => unless_busy(self.ask(caller, stripe, op, table, locks)),
+            Claim::Held(holder) => Answer::Busy(holder),
+            Claim::Stale => Answer::Refused(Refusal::StaleWord),
+        }
+    }
+
     /// Asks for an operation: what it and its undoing want is reserved, and its stripe is locked.
-    pub(crate) fn ask(
+    fn ask(
         &mut self,
         caller: usize,
         stripe: usize,
@@ -166,6 +192,16 @@ impl Session {
                 Answer::Aborted
             }
         }
+    }
+}
+
+/// With the stripe's right no operation is busy: the right is stale.
+fn unless_busy(answer: Answer) -> Answer
+    ensures { result ≡ unless_busy answer }
+{
+    match answer {
+        Answer::Busy(_) => Answer::Refused(Refusal::StaleWord),
+        answer => answer,
     }
 }
 

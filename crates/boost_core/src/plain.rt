@@ -2,6 +2,7 @@
 ghost use Rattle.std.specs.Prelude.{◌≡◌, true, false, nat_le};
 ghost use Rattle.boost_core.specs.Plain.{outcome_of};
 
+use crate::claim::Claim;
 use crate::machine::Core;
 use txn_drive::{Call, Drive, End, Turn};
 use txn_trace::{Answer, Op, Refusal, Step};
@@ -24,7 +25,9 @@ impl Core {
     /// `BadKey` where the limits have half keys and the key is 2^63 or more, `NoMemory` for the
     /// history and the log, `StampsUsedUp`, `NoMemory` for the node.
     pub fn put(&mut self, caller: u64, key: u64, value: u64) -> Answer
-        ensures { Operates self.old caller (Op.Put key value) result self.new }
+        requires { self.old.words ≡ false }
+        ensures operates { Operates self.old caller (Op.Put key value) result self.new }
+        ensures words { self.new.words ≡ false }
     {
         self.operate(caller, Op::Put(key, value))
     }
@@ -33,14 +36,18 @@ impl Core {
     /// same steps as `put` and with the same refusals. The reply is what the key had, so the value
     /// was put exactly where the reply is what was expected.
     pub fn put_if(&mut self, caller: u64, key: u64, expected: Option<u64>, value: u64) -> Answer
-        ensures { Operates self.old caller (Op.PutIf key expected value) result self.new }
+        requires { self.old.words ≡ false }
+        ensures operates { Operates self.old caller (Op.PutIf key expected value) result self.new }
+        ensures words { self.new.words ≡ false }
     {
         self.operate(caller, Op::PutIf(key, expected, value))
     }
 
     /// Takes a key out, by the same steps as `put` and with the same refusals.
     pub fn take(&mut self, caller: u64, key: u64) -> Answer
-        ensures { Operates self.old caller (Op.Take key) result self.new }
+        requires { self.old.words ≡ false }
+        ensures operates { Operates self.old caller (Op.Take key) result self.new }
+        ensures words { self.new.words ≡ false }
     {
         self.operate(caller, Op::Take(key))
     }
@@ -48,7 +55,9 @@ impl Core {
     /// Gets the value at a key, by the same steps as `put` and with the same refusals, but the last
     /// two.
     pub fn get(&mut self, caller: u64, key: u64) -> Answer
-        ensures { Operates self.old caller (Op.Get key) result self.new }
+        requires { self.old.words ≡ false }
+        ensures operates { Operates self.old caller (Op.Get key) result self.new }
+        ensures words { self.new.words ≡ false }
     {
         self.operate(caller, Op::Get(key))
     }
@@ -60,9 +69,10 @@ impl Core {
     /// The answer is `Returned` with the level, or a refusal, which leaves the state: in this order
     /// `NoSuchCaller`, `NotOpen`, `Leaving`, `OperationUnfinished`, `NoSuchLevel`, `NoMemory`.
     pub fn back(&mut self, caller: u64, level: u64) -> Answer
-        ensures { Returns self.old caller level result self.new }
+        ensures returns { Returns self.old caller level result self.new }
+        ensures words { self.new.words ≡ self.old.words }
     {
-        match self.call(caller, Step::Back(caller, level)) {
+        match self.call(caller, Step::Back(caller, level), Claim::Lock) {
             Answer::Leaving => self.take_back(caller),
             answer => answer,
         }
@@ -75,12 +85,13 @@ impl Core {
     /// The answer is `Aborted`, or a refusal, which leaves the state: in this order `NoSuchCaller`,
     /// `NotOpen`, and `Leaving` where the caller leaves to a level.
     pub fn abort(&mut self, caller: u64) -> Answer
-        ensures { Aborts self.old caller result self.new }
+        ensures aborts { Aborts self.old caller result self.new }
+        ensures words { self.new.words ≡ self.old.words }
     {
         if self.leaves_to_end(caller) {
             return self.take_back(caller);
         }
-        match self.call(caller, Step::Abort(caller)) {
+        match self.call(caller, Step::Abort(caller), Claim::Lock) {
             Answer::Leaving => self.take_back(caller),
             answer => answer,
         }
@@ -104,7 +115,8 @@ impl Core {
     /// A step to double, and three for each bucket that is initialised, of which there are at most
     /// 16; a step a node where a bucket is sought.
     pub fn help(&mut self, caller: u64, key: u64) -> Result<(), Refusal>
-        ensures { Helps self.old caller key result self.new }
+        ensures helps { Helps self.old caller key result self.new }
+        ensures words { self.new.words ≡ self.old.words }
     {
         if caller >= u64::from(self.limits.callers()) {
             return Err(Refusal::NoSuchHelper);
@@ -131,12 +143,14 @@ impl Core {
 
     /// Asks for an operation, seeks and acts.
     fn operate(&mut self, caller: u64, op: Op) -> Answer
-        ensures { Operates self.old caller op result self.new }
+        requires { self.old.words ≡ false }
+        ensures operates { Operates self.old caller op result self.new }
+        ensures words { self.new.words ≡ false }
     {
-        match self.call(caller, Step::Ask(caller, op)) {
+        match self.call(caller, Step::Ask(caller, op), Claim::Lock) {
             Answer::Asked => {
-                self.call(caller, Step::Seek(caller));
-                self.call(caller, Step::Act(caller))
+                self.call(caller, Step::Seek(caller), Claim::Lock);
+                self.call(caller, Step::Act(caller), Claim::Lock)
             }
             answer => answer,
         }
@@ -148,12 +162,13 @@ impl Core {
         requires within { nat_le self.old.limits.callers caller ≡ false }
         ensures ends { Ends self.old caller result self.new }
         ensures answer { result ≡ end_of (seat_in self.old.history caller).phase }
+        ensures words { self.new.words ≡ self.old.words }
     {
         while self.has_job(caller) {
-            self.call(caller, Step::Seek(caller));
-            self.call(caller, Step::Act(caller));
+            self.call(caller, Step::Seek(caller), Claim::Lock);
+            self.call(caller, Step::Act(caller), Claim::Lock);
         }
-        self.call(caller, Step::Act(caller))
+        self.call(caller, Step::Act(caller), Claim::Lock)
     }
 
     /// Whether a caller has a change to take back.

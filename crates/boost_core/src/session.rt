@@ -1,6 +1,7 @@
 //! A caller's side of the core.
 ghost use Rattle.std.specs.Prelude.{◌≡◌, ◌+◌, ◌≤◌, ◌<◌, true, None, is_some, length};
 
+use crate::claim::Claim;
 use crate::counts::Counts;
 use key_locks::KeyLocks;
 use map_ops::{Cursor, MapJob, Pending, Table};
@@ -69,13 +70,14 @@ impl Session {
     pub(crate) fn answer(
         &mut self,
         step: Step,
+        claim: Claim,
         stripes: u64,
         counts: Counts,
         table: &mut Table,
         locks: &mut KeyLocks,
     ) -> Answer
         requires { Takes stripes counts step self.old table.old locks.old }
-        ensures does { Does stripes counts step self.old table.old locks.old result self.new
+        ensures does { Does claim stripes counts step self.old table.old locks.old result self.new
             table.new locks.new }
         ensures rises { table_changes table.old ≤ table_changes table.new }
         ensures placed { KeepsPlaced table.old table.new }
@@ -84,7 +86,7 @@ impl Session {
             Step::Begin(_) => Answer::Began(counts.began + 1),
             Step::Ask(caller, op) => {
                 let stripe = op.key() % stripes;
-                self.ask(caller as usize, stripe as usize, op, table, locks)
+                self.ask_by(claim, caller as usize, stripe as usize, op, table, locks)
             }
             Step::Seek(_) => self.seek(table),
             Step::Act(caller) => self.act(caller as usize, table, locks),

@@ -1,6 +1,9 @@
 //! Worked runs on the core, and what refused memory leaves.
+ghost use Rattle.std.specs.Prelude.{◌≡◌, false, OnOk};
+
 mod pairs;
 mod plain_map;
+mod words;
 
 use crate::Core;
 use std::alloc::{AllocError, Global};
@@ -21,6 +24,28 @@ fn core_with(alloc: Global, limits: Limits) -> Result<Core, Fail> {
     }
 }
 
+/// Fails where stripes are words: then no operation is asked for by a step or a plain call.
+fn is_ordinary(core: &Core) -> Result<(), Fail>
+    ensures { OnOk result (core.now.words ≡ false) }
+{
+    if core.words() {
+        return Err("stripes are words".into());
+    }
+    Ok(())
+}
+
+/// Takes a step on an ordinary core.
+fn stepped(core: &mut Core, step: Step) -> Result<Answer, Fail> {
+    is_ordinary(core)?;
+    Ok(core.step(step))
+}
+
+/// Puts a value at a key, on an ordinary core.
+fn put(core: &mut Core, caller: u64, key: u64, value: u64) -> Result<Answer, Fail> {
+    is_ordinary(core)?;
+    Ok(core.put(caller, key, value))
+}
+
 /// A step by `run`, or a plain call.
 #[derive(Clone, Copy, Debug)]
 enum Call {
@@ -34,6 +59,7 @@ enum Call {
 }
 
 fn called(alloc: Global, core: &mut Core, call: Call) -> Result<Answer, Fail> {
+    is_ordinary(core)?;
     match call {
         Call::Run(step) => {
             let answers = core.run(alloc, &[step])?;
@@ -139,7 +165,7 @@ fn steps_in_turn(rt: HostRuntime) -> Result<(), Fail> {
         (Step::Sweep, Answer::Clean),
     ];
     for (step, wanted) in lines {
-        assert_eq!(rt; core.step(step), wanted, "at {step:?}");
+        assert_eq!(rt; stepped(&mut core, step)?, wanted, "at {step:?}");
     }
     let map = core.map(alloc)?;
     assert_eq!(rt; (map.len(), map.get(&3).copied()), (1, Some(30)));
@@ -195,7 +221,7 @@ fn took(
 ) -> Result<bool, Fail> {
     let pairs = pairs_of(alloc, core)?;
     let entries = core.trace().len();
-    let answer = core.step(step);
+    let answer = stepped(core, step)?;
     if answer == Answer::Refused(Refusal::NoMemory) {
         let after = pairs_of(alloc, core)?;
         assert_eq!(rt; after.as_slice(), pairs.as_slice());
@@ -305,7 +331,7 @@ fn takes(
     wanted: Answer,
 ) -> Result<(), Fail> {
     if !took(rt, alloc, core, step, wanted)? {
-        assert_eq!(rt; core.step(step), wanted, "again at {step:?}");
+        assert_eq!(rt; stepped(core, step)?, wanted, "again at {step:?}");
     }
     Ok(())
 }
@@ -352,7 +378,7 @@ fn nine_undone_newest_first(rt: HostRuntime) -> Result<(), Fail> {
     let mut core = core_of(alloc, 1)?;
     assert_eq!(rt; core.step(Step::Begin(0)), Answer::Began(1));
     for key in 1..10 {
-        assert_eq!(rt; core.put(0, key, 10), Answer::Done(None));
+        assert_eq!(rt; put(&mut core, 0, key, 10)?, Answer::Done(None));
     }
     assert_eq!(rt; core.step(Step::Abort(0)), Answer::Leaving);
     for key in [9, 8, 7, 6, 5, 4, 3, 2, 1] {
@@ -391,7 +417,7 @@ fn owed_entries(rt: HostRuntime) -> Result<(), Fail> {
         (Step::Act(1), 0),
     ];
     for (step, owed) in lines {
-        core.step(step);
+        stepped(&mut core, step)?;
         assert_eq!(rt; core.owed(), owed, "after {step:?}");
     }
     Ok(())
@@ -499,7 +525,7 @@ fn wide_keys_aborted(rt: HostRuntime) -> Result<(), Fail> {
             Call::PutIf(_, key, expected, value) => Op::PutIf(key, expected, value),
             _ => return Err("no put".into()),
         };
-        assert_eq!(rt; core.step(Step::Ask(0, op)), Answer::Asked);
+        assert_eq!(rt; stepped(&mut core, Step::Ask(0, op))?, Answer::Asked);
         assert_eq!(rt; core.step(Step::Seek(0)), Answer::Placed);
         assert_eq!(rt; core.step(Step::Act(0)), wanted);
     }
@@ -562,7 +588,7 @@ fn helps_to_grow(rt: HostRuntime) -> Result<(), Fail> {
         (8, 8, 0),
     ];
     for (key, size, bucket) in calls {
-        assert_eq!(rt; core.put(0, key, key), Answer::Done(None));
+        assert_eq!(rt; put(&mut core, 0, key, key)?, Answer::Done(None));
         assert_eq!(rt; core.help(0, key), Ok(()));
         assert_eq!(rt; core.size(), size, "at {key}");
         assert_eq!(rt;
@@ -583,7 +609,7 @@ fn helped_table_stays_fast(rt: HostRuntime) -> Result<(), Fail> {
     assert_eq!(rt; core.step(Step::Begin(0)), Answer::Began(1));
     for key in 0..30_000 {
         assert_eq!(rt; core.help(0, key), Ok(()));
-        assert_eq!(rt; core.put(0, key, key), Answer::Done(None));
+        assert_eq!(rt; put(&mut core, 0, key, key)?, Answer::Done(None));
     }
     assert_eq!(rt; core.step(Step::Commit(0)), Answer::Committed(1));
     assert_eq!(rt; (core.size(), core.count()), (16_384, 30_000));

@@ -8,7 +8,7 @@ use Rattle.std.proofs.lemmas.List.{append-nil}
 use Rattle.std.proofs.Math.ListN.{get_or-append}
 use Rattle.std.proofs.Math.Seq.{get_or-append_seam}
 use Rattle.std.proofs.lemmas.List.Elements.{filter-append}
-use Rattle.txn_trace.specs.declared.holder.Holder.TheVariants.{Now}
+use Rattle.txn_trace.specs.declared.holder.Holder.{Holder}
 use Rattle.txn_trace.specs.declared.action.Action.{Action}
 use Rattle.txn_trace.specs.declared.answer.Answer.{Answer}
 use Rattle.txn_trace.specs.declared.answer.Answer.TheVariants as answers
@@ -208,7 +208,7 @@ crew_more scripts count crew worker member each w other less = elim (nat_lt w (l
 ] refl
 
 -- So a crew's history is one in which each worker's committed transactions play scripts of its own.
-pub crew_plays : (limits : Sizes) (scripts : List (List Action)) (count stripes : ℕ) (h : List Entry) (crew : List Worker) → IsLegal Now stripes h → IsCrew scripts count h crew → PlayScripts count scripts h
+pub crew_plays : {rule : Holder} (limits : Sizes) (scripts : List (List Action)) (count stripes : ℕ) (h : List Entry) (crew : List Worker) → IsLegal rule stripes h → IsCrew scripts count h crew → PlayScripts count scripts h
 crew_plays limits scripts count stripes h crew legal is = scripts_played count scripts h legal.shape (λ c below.
     let nobody : Worker = record { number = 0; limits = limits; task = None } in
     let worker : Worker = get_or crew c nobody in

@@ -1,5 +1,5 @@
 -- Workers that take turns on one core.
-use Rattle.std.specs.Prelude.{◌≡◌, ◌≢◌, ℕ, ◌^◌, ◌-◌, ◌<◌, ◌⊎◌, List, length, slice_index_or}
+use Rattle.std.specs.Prelude.{◌≡◌, ◌≢◌, ℕ, ◌^◌, ◌-◌, ◌<◌, ◌⊎◌, false, List, length, slice_index_or}
 use Rattle.txn_trace.specs.declared.action.Action.{Action}
 use Rattle.txn_trace.specs.declared.entry.Entry.{Entry}
 use Rattle.txn_trace.specs.Shape.{own}
@@ -33,11 +33,12 @@ pub record Goes (scripts : List (List Action)) (old new : State)
   pub others : (c : ℕ) → c ≢ before.number → own c new.history ≡ own c old.history
   pub keeps : Keeps scripts after (own after.number new.history)
 
--- A core of the limits asked for, on which the workers took turns as they were drawn, until none
+-- An ordinary core of the limits asked for, on which the workers took turns as they were drawn, until none
 -- had a step or a script left or 2^64 - 1 turns were taken; and in whose history each worker's
 -- committed transactions play scripts of its own, their numbers rising.
 pub record IsMixed (work : Work) (seed : ℕ) (state : State) : Type 0 where
   pub limits : state.limits ≡ work.sizes
+  pub words : state.words ≡ false
   pub plays : PlayScripts work.sizes.callers work.scripts state.history
   pub drawn : List ℕ
   pub last : Mixing

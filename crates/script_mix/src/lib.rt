@@ -18,6 +18,7 @@
 mod crew;
 mod drawing;
 mod mix;
+mod ordinary;
 #[cfg(test)]
 mod tests;
 mod turn;

@@ -2,6 +2,7 @@ ghost use Rattle.std.specs.Prelude.{IfOk};
 ghost use Rattle.script_mix.specs.Crews.{IsMixed};
 
 use crate::crew::{drawn, workers_of};
+use crate::ordinary::OrdinaryCore;
 use crate::turn::take_turn;
 use boost_core::Core;
 use rand_core::SeedableRng;
@@ -25,7 +26,7 @@ pub fn mixed(alloc: Global, seed: u64, work: &Scripts) -> Result<Core, AllocErro
     ensures { IfOk result (λ core. IsMixed work.now seed core) }
 {
     let limits = work.limits();
-    let Ok(mut core) = Core::new(alloc, limits) else {
+    let Ok(mut core) = OrdinaryCore::new(alloc, limits) else {
         return Err(AllocError);
     };
     let mut workers = workers_of(alloc, limits, work.scripts())?;
@@ -41,6 +42,7 @@ pub fn mixed(alloc: Global, seed: u64, work: &Scripts) -> Result<Core, AllocErro
             work.tries(),
         );
     }
+    let core = core.into_core();
     // A history that a core hands out is legal.
     let _history = core.trace();
     Ok(core)

@@ -5,12 +5,17 @@ ghost use Rattle.script_worker.specs.Keeps.{Keeps};
 ghost use Rattle.script_mix.specs.Crews.{Goes};
 ghost use Rattle.script_mix.specs.Turns.{TakesTurn};
 
-use boost_core::Core;
+use crate::ordinary::OrdinaryCore;
 use script_worker::Worker;
 use txn_trace::Script;
 
 /// A worker that has a step to take takes its next turn on the core, of one step or of two.
-pub(crate) fn take_turn(core: &mut Core, worker: &mut Worker, scripts: &[Script], tries: u64)
+pub(crate) fn take_turn(
+    core: &mut OrdinaryCore,
+    worker: &mut Worker,
+    scripts: &[Script],
+    tries: u64,
+)
     requires live { is_some (step_by worker.old) ≡ true }
     requires keeps { Keeps scripts.now worker.old (own worker.old.number core.old.history) }
     ensures goes { Goes scripts.now core.old core.new worker.old worker.new }

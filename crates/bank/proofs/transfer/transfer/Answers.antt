@@ -12,7 +12,7 @@ pub returns-then-not-is_moved-clause-kept : goal.returns-then-not-is_moved-claus
 returns-then-not-is_moved-clause-kept c = λ is.
     let begun = begins c.args.core.now c.step.new.self c.args.caller c.in-Began.field-0 c.trace-history.ensures.legal c.in-Began.ensures.moves in
     let old = now c.args.core.now.history in
-    aborts c.move_sum-is_moved.new.core c.abort.new.self c.args.caller old c.abort.result (c.move_sum-is_moved.ensures.back old begun.0 is) c.abort.ensures
+    aborts c.move_sum-is_moved.new.core c.abort.new.self c.args.caller old c.abort.result (c.move_sum-is_moved.ensures.back old begun.0 is) c.abort.ensures.aborts
 
 pub returns-else-not-is_moved-clause-moved : goal.returns-else-not-is_moved-clause-moved
 returns-else-not-is_moved-clause-moved c = λ is.

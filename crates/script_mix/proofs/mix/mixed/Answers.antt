@@ -1,8 +1,9 @@
 use Rattle.std.proofs.Common.{◌≡◌, ◌∙◌, inl, inr, ◌%◌, List, [], ◌∷◌, refl, sym, ap, subst, arith}
 use Rattle.rand_pcg.specs.Pcg.{pcg32}
-use Rattle.boost_core.specs.Machine.{State, start}
+use Rattle.txn_trace.specs.Legal.{IsLegal}
+use Rattle.boost_core.specs.Machine.{State, holder_by, start}
 use Rattle.script_worker.specs.declared.worker.Worker.{Worker}
-use Rattle.script_mix.specs.Crews.{Goes}
+use Rattle.script_mix.specs.Crews.{Goes, IsMixed}
 use Rattle.script_mix.specs.Turns.{live, AreDone, IsAtPlace}
 use Rattle.script_mix.proofs.Turns.{crew_goes, crew_plays, member_keeps}
 use Rattle.script_mix.proofs.Lives.{drawn_lives}
@@ -12,7 +13,7 @@ use Rattle.script_mix.proofs.mix.mixed.Goals.{else-loop-turn-test, then-loop-tur
 
 pub loop-turn-init : goal.loop-turn-init
 loop-turn-init c =
-    let core_is : c.in-Ok.core ≡ start c.args.work.now.sizes = c.in-Ok.ensures.ok ∙ ap start c.limits-limits.ensures in
+    let core_is : c.in-Ok.core ≡ start c.args.work.now.sizes = c.in-Ok.ensures ∙ ap start c.limits-limits.ensures in
     record {
       limits = ap (λ (s : State). s.limits) core_is;
       crew = crew_begins c.scripts.result.now c.args.work.now.scripts c.limits-limits.result c.args.work.now.sizes c.in-Ok.core.history c.in_ok-workers.workers.items c.scripts.ensures c.limits-limits.ensures (sym (ap (λ (s : State). s.history) core_is)) c.in_ok-workers.ensures.crew;
@@ -70,9 +71,12 @@ loop-turn-preserved c =
 pub returns : goal.returns
 returns c =
     let (numbers, count, turns) = c.loop-turn.invariant.turns in
-    record {
+    let is : c.into_core-core.result ≡ c.loop-turn.core = c.into_core-core.ensures.value in
+    subst (IsMixed c.args.work.now c.args.seed) (sym is) (record {
       limits = c.loop-turn.invariant.limits;
-      plays = crew_plays c.args.work.now.sizes c.args.work.now.scripts c.args.work.now.sizes.callers c.loop-turn.core.limits.stripes c.loop-turn.core.history c.loop-turn.workers.items c.trace-history.ensures.legal c.loop-turn.invariant.crew;
+      words = ap (λ (s : State). s.words) (sym is) ∙ c.into_core-core.ensures.ordinary;
+      plays = crew_plays c.args.work.now.sizes c.args.work.now.scripts c.args.work.now.sizes.callers c.loop-turn.core.limits.stripes c.loop-turn.core.history c.loop-turn.workers.items
+          (subst (λ (s : State). IsLegal (holder_by s.words) s.limits.stripes s.history) is c.trace-history.ensures.legal) c.loop-turn.invariant.crew;
       drawn = numbers;
       last = record { core = c.loop-turn.core; crew = c.loop-turn.workers.items; generator = c.loop-turn.generator };
       core = refl;
@@ -81,4 +85,4 @@ returns c =
         | else-loop-turn-test w ↦ inr (omega (arith, count, w.loop-turn-test.false, c.loop-turn.auto._turn-end))
         | then-loop-turn-test+in_default-drawn w ↦ inl (subst (λ (ws : List Worker). (live ws ≡ 0) × AreDone ws) w.deref.ensures.value (w.drawn.ensures.none w.in_default-drawn.is))
       ];
-    }
+    })

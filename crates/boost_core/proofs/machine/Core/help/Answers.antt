@@ -5,7 +5,7 @@ use Rattle.txn_drive.specs.Drives.{new_drive, sized_of, step_of, told_of, end_of
 use Rattle.boost_core.specs.State.{State}
 use Rattle.boost_core.specs.Plain.{Drives, Helps, outcome_of}
 use Rattle.boost_core.proofs.Driving.{Fits, left, fits_first}
-use Rattle.boost_core.proofs.Helped.{round, limits_stay, within_there, most_there, ended}
+use Rattle.boost_core.proofs.Helped.{round, help_asks_nothing, limits_stay, within_there, most_there, ended}
 use Rattle.boost_core.proofs.machine.Core.help.Goals as goal
 
 pub loop-step-init : goal.loop-step-init
@@ -16,8 +16,15 @@ loop-step-init c =
       caller = ap (λ (d : Drive). d.caller) is;
       call = ap (λ (d : Drive). d.call) is;
       limits = refl;
+      words = refl;
       fits = subst (λ (d : Drive). Fits c.args.self.now c.args.caller c.args.key d.phase) (sym is) (fits_first c.args.self.now c.args.caller c.args.key);
     }
+
+pub step-answer-requires : goal.step-answer-requires
+step-answer-requires c = λ words.
+    let so_far = c.loop-step.invariant in
+    let step_is : step_of (sized_of c.loop-step.self.size c.loop-step.drive) ≡ Some c.in-Some.step = ap step_of (sym c.next_step.ensures.drive) ∙ sym c.next_step.ensures.step ∙ c.in-Some.is in
+    help_asks_nothing c.loop-step.self c.args.caller c.args.key c.loop-step.drive c.in-Some.step so_far.caller so_far.call so_far.fits step_is
 
 pub loop-step-smaller : goal.loop-step-smaller
 loop-step-smaller c =
@@ -43,12 +50,13 @@ loop-step-preserved c =
       drives = λ more last new drives. so_far.drives (suc more) last new (c.in-Some.step, c.step-answer.result, c.step-answer.new.self, step_is, c.step-answer.ensures.moves, subst (λ (d : Drive). Drives more d c.step-answer.new.self last new) told_is drives);
       caller = ap (λ (d : Drive). d.caller) told_is ∙ so_far.caller;
       call = ap (λ (d : Drive). d.call) told_is ∙ so_far.call;
+      words = c.step-answer.ensures.words ∙ so_far.words;
       limits = limits_stay c.loop-step.self c.step-answer.new.self c.in-Some.step c.step-answer.result c.step-answer.ensures.moves ∙ so_far.limits;
       fits = subst (λ (d : Drive). Fits c.step-answer.new.self c.args.caller c.args.key d.phase) (sym told_is) goes.fits;
     }
 
-pub returns : goal.returns
-returns c =
+pub returns-clause-helps : goal.returns-clause-helps
+returns-clause-helps c =
     let so_far = c.loop-step.invariant in
     let none : step_of (sized_of c.loop-step.self.size c.loop-step.drive) ≡ None = ap step_of (sym c.next_step.ensures.drive) ∙ sym c.next_step.ensures.step ∙ c.in_default.is in
     let is = c.outcome_of.ensures ∙ ap outcome_of (c.ended.ensures.drive ∙ ap end_of c.next_step.ensures.drive) in

@@ -14,6 +14,7 @@ invariant-loop-step l = record {
   caller : l.drive.caller ≡ l.caller;
   call : l.drive.call ≡ calls.Help l.key;
   limits : l.self.limits ≡ l.fn.self.limits;
+  words : l.self.words ≡ l.fn.self.words;
   fits : Fits l.self l.caller l.key l.drive.phase;
 }
 

@@ -15,23 +15,24 @@ pub invariant_of-self : goal.invariant_of-self
 invariant_of-self c =
     let is = serves _ c.self.invariant.tells c.serve-answer.new.table c.serve-answer.ensures.follows c.serve-answer.ensures.rises c.args.step c.serve-answer.result c.serve-answer.ensures.serves in
     record {
-      tells = subst (λ (o : Option Owner). Tells (served (world_of c.self.inside.limits c.self.inside.history c.self.inside.counts c.self.inside.table c.self.inside.sessions c.self.inside.locks c.self.inside.placed) c.serve-answer.new.table o)) (sym c.placed_after-self-inside.ensures) is.tells;
+      tells = subst (λ (o : Option Owner). Tells (served (world_of c.self.inside.limits c.self.inside.history c.self.inside.counts c.self.inside.table c.self.inside.sessions c.self.inside.locks c.self.inside.placed c.self.inside.words) c.serve-answer.new.table o)) (sym c.placed_after-self-inside.ensures) is.tells;
       owes = c.self.invariant.owes;
       room = c.self.invariant.room;
+      noted = c.self.invariant.noted;
     }
 
 pub returns-clause-moves : goal.returns-clause-moves
 returns-clause-moves c =
     let is = serves _ c.self.invariant.tells c.serve-answer.new.table c.serve-answer.ensures.follows c.serve-answer.ensures.rises c.args.step c.serve-answer.result c.serve-answer.ensures.serves in
-    subst (λ (o : Option Owner). Move c.args.self.now c.args.step c.serve-answer.result (state_of (served (world_of c.self.inside.limits c.self.inside.history c.self.inside.counts c.self.inside.table c.self.inside.sessions c.self.inside.locks c.self.inside.placed) c.serve-answer.new.table o))) (sym c.placed_after-self-inside.ensures)
+    subst (λ (o : Option Owner). Move c.args.self.now c.args.step c.serve-answer.result (state_of (served (world_of c.self.inside.limits c.self.inside.history c.self.inside.counts c.self.inside.table c.self.inside.sessions c.self.inside.locks c.self.inside.placed c.self.inside.words) c.serve-answer.new.table o))) (sym c.placed_after-self-inside.ensures)
     (move_of _ _ _ _ _ c.self.view_is is.move)
 
 pub returns-clause-lists : goal.returns-clause-lists
 returns-clause-lists c =
-    let w = world_of c.self.inside.limits c.self.inside.history c.self.inside.counts c.self.inside.table c.self.inside.sessions c.self.inside.locks c.self.inside.placed in
+    let w = world_of c.self.inside.limits c.self.inside.history c.self.inside.counts c.self.inside.table c.self.inside.sessions c.self.inside.locks c.self.inside.placed c.self.inside.words in
     lists_of _ _ _ _ _ c.self.view_is (listed w (served w c.serve-answer.new.table c.placed_after-self-inside.result) c.size-size.ensures.stored c.args.step c.serve-answer.result c.serve-answer.ensures.serves)
 
 pub returns-clause-cursors : goal.returns-clause-cursors
 returns-clause-cursors c =
-    let w = world_of c.self.inside.limits c.self.inside.history c.self.inside.counts c.self.inside.table c.self.inside.sessions c.self.inside.locks c.self.inside.placed in
+    let w = world_of c.self.inside.limits c.self.inside.history c.self.inside.counts c.self.inside.table c.self.inside.sessions c.self.inside.locks c.self.inside.placed c.self.inside.words in
     cursors_of _ _ _ _ _ c.self.view_is (serves_cursors w (served w c.serve-answer.new.table c.placed_after-self-inside.result) c.self.invariant.tells (c.serve-answer.ensures.follows.list.sound c.self.invariant.tells.sound) refl c.args.step c.serve-answer.result c.serve-answer.ensures.serves)

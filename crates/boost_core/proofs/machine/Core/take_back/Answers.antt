@@ -23,6 +23,7 @@ loop-self-preserved c =
         (c.call-in-loop-self.new.self, subst (λ (a : Answer). Move c.call.new.self (Act c.args.caller) a c.call-in-loop-self.new.self) back.undone c.call-in-loop-self.ensures.moves, moves),
       );
       limits = back.limits ∙ so_far.limits;
+      words = c.call-in-loop-self.ensures.words ∙ c.call.ensures.words ∙ so_far.words;
       phase = back.phase ∙ so_far.phase;
     }
 

@@ -12,6 +12,7 @@ invariant-loop-self l = record {
   changes : ℕ;
   moves : (steps : List Step) (answers : List Answer) (new : State) → Moves l.self steps answers new → Moves l.fn.self (undoing changes l.caller steps) (undone changes answers) new;
   limits : l.self.limits ≡ l.fn.self.limits;
+  words : l.self.words ≡ l.fn.self.words;
   phase : (seat_in l.self.history l.caller).phase ≡ (seat_in l.fn.self.history l.caller).phase;
 }
 

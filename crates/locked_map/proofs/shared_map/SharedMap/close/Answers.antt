@@ -1,6 +1,8 @@
 use Rattle.std.proofs.Common.{◌≡◌, ◌↔◌, ◌∙◌, ℕ, Bool, true, false, All, IsTrue, List, sym, ap, subst}
 use Rattle.std.proofs.lemmas.Bool.{false≢true}
-use Rattle.boost_core.specs.State.{State}
+use Rattle.boost_core.specs.State.{State, holder_by}
+use Rattle.txn_trace.specs.declared.holder.Holder.TheVariants.{Now}
+use Rattle.txn_trace.specs.Legal.{IsLegal}
 use Rattle.txn_trace.specs.declared.entry.Entry.{Entry}
 use Rattle.txn_trace.specs.Sizes.{Sizes}
 use Rattle.locked_map.specs.Closes.{IsAllHere, IsOwn}
@@ -22,6 +24,12 @@ why_at b lim lim' sizes sizes' h h' ks ls seen differs same_limits same_history 
 pub returns-then-same-clause-here : goal.returns-then-same-clause-here
 returns-then-same-clause-here g c =
     here_at c.has_all.result c.from-count.result c.args.self.limits.callers c.as_slice.result.now c.args.callers.items c.has_all.ensures c.if-not-has_all.false (c.from-count.ensures ∙ c.callers.ensures.value ∙ ap (λ (z : Sizes). z.callers) c.limits-limits.ensures) c.as_slice.ensures.value
+
+pub returns-then-same-clause-legal : goal.returns-then-same-clause-legal
+returns-then-same-clause-legal g c =
+    let core = c.into_booked-booked.result.core in
+    subst (λ (s : State). IsLegal Now s.limits.stripes s.history) (sym c.counted-core.ensures.core)
+    (subst (λ words. IsLegal (holder_by words) core.limits.stripes core.history) c.into_booked-booked.result.ordinary c.trace-legal.ensures.legal)
 
 pub returns-else-same-clause-why : goal.returns-else-same-clause-why
 returns-else-same-clause-why g c =

@@ -1,0 +1,54 @@
+-- Which callers have begun a transaction, noted entry by entry.
+use Rattle.std.proofs.Common.{◌≡◌, ℕ, ◌<◌, ◌||◌, Bool, true, false, cond, List, [], ◌∷◌, ◌++◌, length, set, get_or, replicate, Option, Some, None, refl, sym, ap, subst, ◌∙◌, arith}
+use Rattle.std.specs.Prelude.{nat_lt, option_to_list, slice_index_or}
+use Rattle.std.proofs.lemmas.Bool.{cases_eq, cases_lt, lt-ltb, or_right}
+use Rattle.std.proofs.lemmas.List.{append-nil, length-set, length-replicate, get_or-replicate, get_or_past, get_or-set_same, get_or-set_other}
+use mathlib.Core.Logic.{inl, inr}
+use Rattle.txn_trace.specs.declared.entry.Entry.{Entry}
+use Rattle.txn_trace.specs.declared.entry.Entry.TheVariants.{Began}
+use Rattle.txn_trace.specs.History.{caller_of, is_began}
+use Rattle.txn_trace.specs.Locks.{has_begun}
+use Rattle.txn_trace.proofs.Naming.{has_begun-own, has_begun-other}
+use Rattle.boost_core.specs.Begun.{begun_with, AreNoted}
+
+or_none : (b : Bool) → (b || false) ≡ b
+or_none true = refl
+or_none false = refl
+
+-- An entry that begins nothing.
+stays : (c : ℕ) (h : List Entry) (e : Entry) → is_began e ≡ false → has_begun c (h ++ e ∷ []) ≡ has_begun c h
+stays c h e begins = elim (cases_eq c (caller_of e)) [
+  | inl mine ↦ (λ i. has_begun (mine i) (h ++ e ∷ [])) ∙ has_begun-own h e ∙ ap (λ b. has_begun (caller_of e) h || b) begins ∙ or_none (has_begun (caller_of e) h) ∙ (λ i. has_begun (sym mine i) h)
+  | inr other ↦ has_begun-other c h e other
+]
+
+pub noted_same : (callers : ℕ) (h : List Entry) (begun : List Bool) (e : Entry) → is_began e ≡ false → AreNoted callers h begun → AreNoted callers (h ++ e ∷ []) begun
+noted_same callers h begun e begins was = record { many = was.many; each = λ c. was.each c ∙ sym (stays c h e begins) }
+
+-- One entry more.
+noted_push : (callers : ℕ) (h : List Entry) (begun : List Bool) (e : Entry) → AreNoted callers h begun → caller_of e < callers → AreNoted callers (h ++ e ∷ []) (begun_with begun (Some e))
+noted_push callers h begun (Began d t) was below =
+    let within : d < length begun = let many = was.many in omega arith in
+    subst (AreNoted callers (h ++ Began d t ∷ [])) (sym (ap (λ b. cond b (set begun d true) begun) (lt-ltb d (length begun) within))) (record {
+      many = length-set begun d true ∙ was.many;
+      each = λ c. elim (cases_eq c d) [
+        | inl mine ↦ (λ i. get_or (set begun d true) (mine i) false) ∙ get_or-set_same begun d true false within ∙ sym (or_right (has_begun d h) true refl) ∙ sym (has_begun-own h (Began d t)) ∙ (λ i. has_begun (sym mine i) (h ++ Began d t ∷ []))
+        | inr other ↦ get_or-set_other begun d c true false other ∙ was.each c ∙ sym (has_begun-other c h (Began d t) other)
+      ];
+    })
+noted_push callers h begun e was below = noted_same callers h begun e refl was
+
+-- One entry more, or none.
+pub noted_then : (callers : ℕ) (h h' : List Entry) (begun begun' : List Bool) (o : Option Entry) → AreNoted callers h begun → h' ≡ h ++ option_to_list o → begun' ≡ begun_with begun o → ((e : Entry) → o ≡ Some e → caller_of e < callers) → AreNoted callers h' begun'
+noted_then callers h h' begun begun' None was pushed noted below = subst (λ b. AreNoted callers h' b) (sym noted) (subst (λ g. AreNoted callers g begun) (sym (pushed ∙ append-nil h)) was)
+noted_then callers h h' begun begun' (Some e) was pushed noted below = subst (λ b. AreNoted callers h' b) (sym noted) (subst (λ g. AreNoted callers g (begun_with begun (Some e))) (sym pushed) (noted_push callers h begun e was (below e refl)))
+
+-- At the beginning.
+pub noted_none : (callers : ℕ) (begun : List Bool) → begun ≡ replicate callers false → AreNoted callers [] begun
+noted_none callers begun is = subst (AreNoted callers []) (sym is) (record {
+  many = length-replicate callers false;
+  each = λ c. elim (cases_lt c callers) [
+    | inl within ↦ get_or-replicate callers c false false within
+    | inr past ↦ get_or_past (replicate callers false) c false (let long = length-replicate callers false in omega arith)
+  ];
+})

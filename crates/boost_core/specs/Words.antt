@@ -1,0 +1,111 @@
+-- How operations are asked for where stripes are words: with the right to the stripe, or with the
+-- word that stands there. A word is 0, or one more than the number of the caller that it names.
+pub use Rattle.boost_core.specs.declared.claim.Claim.{Claim}
+pub use Rattle.boost_core.specs.declared.claim.Claim.TheVariants.{Lock, Right, Held, Stale}
+use Rattle.std.specs.Prelude.{◌≡◌, ◌⊎◌, ℕ, ◌+◌, ◌-◌, ◌≤◌, ◌==◌, ◌&&◌, Bool, true, false, not, IsTrue, Option, None, if◌then◌else◌}
+use Rattle.txn_trace.specs.declared.holder.Holder.TheVariants.{Now}
+use Rattle.txn_trace.specs.declared.op.Op.{Op}
+use Rattle.txn_trace.specs.declared.step.Step.{Step}
+use Rattle.txn_trace.specs.declared.step.Step.TheVariants.{Ask}
+use Rattle.txn_trace.specs.declared.answer.Answer.{Answer}
+use Rattle.txn_trace.specs.declared.answer.Answer.TheVariants as answers
+use Rattle.txn_trace.specs.declared.entry.Entry.TheVariants as entries
+use Rattle.txn_trace.specs.declared.refusal.Refusal.TheVariants.{StaleWord, StampsUsedUp}
+use Rattle.txn_trace.specs.Locks.{has_begun, is_locked}
+use Rattle.map_ops.specs.Jobs.{takes_node}
+use Rattle.boost_core.specs.State.{State}
+use Rattle.boost_core.specs.Refusals.{refusal_of, has_stamp_for}
+use Rattle.boost_core.specs.Answers.{may_stand}
+use Rattle.boost_core.specs.Machine.{Move}
+use Rattle.boost_core.specs.Nodes.{Lists, Touches, stamp_after}
+
+-- Whether a step asks for an operation.
+abbrev pub is_ask : Step → Bool
+is_ask (Ask c op) = true
+is_ask step = false
+
+-- Whether another caller holds the stripe of an operation now.
+abbrev pub is_taken : State → ℕ → Op → Bool
+is_taken state c op = not (is_locked Now state.limits.stripes state.history (entries.Asked c op))
+
+-- What a word that names this one claims for a caller: that it holds the stripe, but where it is
+-- the caller itself, or has never begun a transaction.
+abbrev pub claim_of : State → ℕ → ℕ → Claim
+claim_of state c named =
+    if not (named == c) && has_begun named state.history then Held named else Stale
+
+-- Whether a claim is refused as stale, where nothing else refuses the step: a right where another
+-- caller holds the stripe, and a word that names nobody who may hold it.
+abbrev pub is_stale : Claim → State → Step → Bool
+is_stale Right state (Ask c op) = has_stamp_for state op && is_taken state c op
+is_stale Stale state (Ask c op) = true
+is_stale claim state step = false
+
+-- What else may be answered to a claim: with a right no operation is busy, with a word none is
+-- granted and no stamp is wanted.
+abbrev pub may_come : Claim → Answer → Bool
+may_come Lock answer = true
+may_come Right (answers.Busy x) = false
+may_come Right answer = true
+may_come (Held named) (answers.Busy x) = x == named
+may_come claim (answers.Refused StampsUsedUp) = false
+may_come claim (answers.Refused refusal) = true
+may_come claim answer = false
+
+-- A claim is refused as stale. The last stamp may rise by one, and nothing else has changed but what
+-- `Nodes` says.
+pub record IsStale (claim : Claim) (old : State) (step : Step) (answer : Answer)
+    (new : State) : Type 0 where
+  pub refused : answer ≡ answers.Refused StaleWord
+  pub free : refusal_of old step ≡ None
+  pub stale : IsTrue (is_stale claim old step)
+  pub state : new
+      ≡ record old {
+        stamp = new.stamp;
+        nodes = new.nodes;
+        gaps = new.gaps;
+        helper_gaps = new.helper_gaps;
+      }
+  pub stamp : old.stamp ≤ new.stamp
+  pub one_stamp : new.stamp ≤ old.stamp + 1
+
+-- An operation is asked for by a claim: it is refused as stale, or `Ask` makes a move with an answer
+-- that may come to such a claim.
+abbrev pub Asks : Claim → State → Step → Answer → State → Type 0
+Asks claim old step answer new =
+    IsStale claim old step answer new ⊎ (IsTrue (may_come claim answer) × Move old step answer new)
+
+-- The last stamp after such an ask: with a right a spare is made, which is given back where the
+-- claim is stale; with a word none is made.
+abbrev pub stamp_by : Claim → ℕ → Step → Answer → ℕ
+stamp_by Lock stamp step answer = stamp_after stamp step answer
+stamp_by Right stamp (Ask c op) (answers.Refused StaleWord) =
+    if takes_node op then stamp + 1 else stamp
+stamp_by Right stamp step answer = stamp_after stamp step answer
+stamp_by claim stamp step answer = stamp
+
+-- What such an ask does to the list: to the nodes and the change number nothing.
+pub record ListsAsk (claim : Claim) (old : State) (step : Step) (answer : Answer)
+    (new : State) : Type 0 where
+  pub nodes : Touches old step answer new
+  pub stamp : new.stamp ≡ stamp_by claim old.stamp step answer
+
+-- What is asked of a claim: where stripes are words it is no lock, and elsewhere nothing else; and a
+-- holder may be named.
+abbrev pub IsClaim : Claim → State → Step → Type 0
+IsClaim Lock state step = state.words ≡ true → is_ask step ≡ false
+IsClaim Right state (Ask c op) = state.words ≡ true
+IsClaim (Held named) state (Ask c op) =
+    (state.words ≡ true) × (may_stand state (entries.Busy c op named) ≡ true)
+IsClaim Stale state (Ask c op) = state.words ≡ true
+IsClaim claim state step = ⊥
+
+-- What a step of a caller is answered and does, by its claim: a move, but where it asks with a right
+-- or a word.
+abbrev pub Goes : Claim → State → Step → Answer → State → Type 0
+Goes Lock old step answer new = Move old step answer new
+Goes claim old step answer new = Asks claim old step answer new
+
+abbrev pub ListsBy : Claim → State → Step → Answer → State → Type 0
+ListsBy Lock old step answer new = Lists old step answer new
+ListsBy claim old step answer new = ListsAsk claim old step answer new

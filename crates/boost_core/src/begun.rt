@@ -1,0 +1,32 @@
+//! Which callers have begun a transaction.
+ghost use Rattle.std.specs.Prelude.{◌≡◌, false, replicate, IfOk};
+ghost use Rattle.boost_core.specs.Begun.{begun_with};
+
+use std::alloc::{AllocError, Global};
+use txn_trace::Entry;
+
+/// So many callers, of which none has begun.
+pub(crate) fn none_begun(alloc: Global, callers: usize) -> Result<Vec<bool>, AllocError>
+    ensures { IfOk result (λ begun. begun.items ≡ replicate callers false) }
+{
+    let mut begun = Vec::with_capacity(alloc, callers)?;
+    for _ in 0..callers {
+        begun.push(false)?;
+    }
+    Ok(begun)
+}
+
+/// Notes the caller of an entry that begins a transaction.
+#[inline(always)]
+pub(crate) fn note_begun(begun: &mut Vec<bool>, entry: Option<Entry>)
+    ensures { begun.new.items ≡ begun_with begun.old.items entry }
+{
+    let Some(entry) = entry else {
+        return;
+    };
+    if let Entry::Began(caller, _) = entry {
+        if (caller as usize) < begun.len() {
+            begun[caller as usize] = true;
+        }
+    }
+}

@@ -1,0 +1,99 @@
+//! The core of stripes that are words.
+ghost use Rattle.std.specs.Prelude.{◌≡◌, ◌≢◌, ◌-◌, true, IfOk, IfErr};
+ghost use Rattle.txn_trace.specs.Map.{key_of};
+ghost use Rattle.txn_trace.specs.Locks.{has_begun, stripe_of};
+ghost use Rattle.boost_core.specs.Machine.{start_with_words};
+
+use crate::claim::Claim;
+use crate::machine::Core;
+use key_locks::StripeRight;
+use std::alloc::Global;
+use txn_trace::{Answer, Limits, Op, Refusal, Step};
+
+impl Core {
+    ghost use Rattle.boost_core.specs.Nodes.{Cursors};
+    ghost use Rattle.boost_core.specs.Words.{Asks, ListsAsk, claim_of};
+
+    /// A core as `new` makes it, but that its callers take the rights to their stripes elsewhere, as
+    /// atomic words that say who holds each: so an operation is asked for by `ask_with` or
+    /// `ask_held`, and never by `step`, `run`, `put`, `put_if`, `take` or `get`. In its history a
+    /// Busy entry names a caller that has begun a transaction, and may have ended it.
+    ///
+    /// # Errors
+    ///
+    /// `Refusal::NoMemory` where memory is refused.
+    pub fn with_words(alloc: Global, limits: Limits) -> Result<Core, Refusal>
+        ensures ok { IfOk result (λ core. core ≡ start_with_words limits) }
+        ensures err { IfErr result (λ refusal. refusal ≡ Refusal.NoMemory) }
+    {
+        Core::made(alloc, limits, true)
+    }
+
+    /// Whether stripes are words: no step changes it. Constant time.
+    pub fn words(&self) -> bool
+        ensures { result ≡ self.now.words }
+    {
+        self.words
+    }
+
+    /// Asks for an operation with the right to the stripe of its key, as the step `Ask` does where
+    /// stripes are no words.
+    ///
+    /// The answer is `Asked`, or the first refusal whose test holds: `NoSuchCaller`, `NotOpen`,
+    /// `Leaving`, `OperationUnfinished`, `BadKey`, `NoMemory` for the history and the log,
+    /// `StampsUsedUp`, `NoMemory` for the node, and `StaleWord` where by the core's own record
+    /// another caller holds the stripe. A refusal leaves the state, but that `StaleWord` may use a
+    /// stamp up. Amortized constant time.
+    pub fn ask_with(&mut self, caller: u64, op: Op, right: &StripeRight) -> Answer
+        requires words { self.old.words ≡ true }
+        requires right { right.now ≡ stripe_of self.old.limits.stripes (key_of op) }
+        ensures asks { Asks Claim.Right self.old (Step.Ask caller op) result self.new }
+        ensures lists { ListsAsk Claim.Right self.old (Step.Ask caller op) result self.new }
+        ensures cursors { Cursors self.old (Step.Ask caller op) result self.new }
+    {
+        let _stripe = right.stripe();
+        self.call(caller, Step::Ask(caller, op), Claim::Right)
+    }
+
+    /// Asks for an operation where the word of its stripe names another caller: the word is one more
+    /// than that caller's number.
+    ///
+    /// The answer is `Busy` with that number, after which the caller leaves to the end, or the first
+    /// refusal whose test holds: `NoSuchCaller`, `NotOpen`, `Leaving`, `OperationUnfinished`,
+    /// `BadKey`, `NoMemory` for the history, and `StaleWord` where the word names the caller itself
+    /// or one that has never begun a transaction. A refusal leaves the state. No spare is made.
+    /// Amortized constant time.
+    pub fn ask_held(&mut self, caller: u64, op: Op, word: u64) -> Answer
+        requires words { self.old.words ≡ true }
+        requires word { word ≢ 0 }
+        ensures asks { Asks (claim_of self.old caller (word - 1)) self.old (Step.Ask caller op)
+            result self.new }
+        ensures lists { ListsAsk (claim_of self.old caller (word - 1)) self.old
+            (Step.Ask caller op) result self.new }
+        ensures cursors { Cursors self.old (Step.Ask caller op) result self.new }
+    {
+        let claim = self.claim_of(caller, word - 1);
+        self.call(caller, Step::Ask(caller, op), claim)
+    }
+
+    /// What a word that names this one claims for a caller.
+    fn claim_of(&self, caller: u64, named: u64) -> Claim
+        ensures { result ≡ claim_of self.now caller named }
+    {
+        if named != caller && self.has_begun(named) {
+            Claim::Held(named)
+        } else {
+            Claim::Stale
+        }
+    }
+
+    /// Whether a caller has begun a transaction.
+    fn has_begun(&self, caller: u64) -> bool
+        ensures { result ≡ has_begun caller self.now.history }
+    {
+        match self.begun.get(caller as usize) {
+            Some(begun) => *begun,
+            None => false,
+        }
+    }
+}

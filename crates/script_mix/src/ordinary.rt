@@ -1,0 +1,63 @@
+//! An ordinary core.
+ghost use Rattle.std.specs.Prelude.{◌≡◌, false, IfOk};
+ghost use Rattle.boost_core.specs.Machine.{start};
+
+use boost_core::Core;
+use std::alloc::Global;
+use std::marker::Model;
+use txn_trace::{Answer, Limits, Refusal, Step};
+
+/// A core whose stripes are no words: so it may take every step. Contracts see the core's state.
+#[derive(Drop)]
+pub(crate) struct OrdinaryCore {
+    core: Core,
+}
+
+impl Model for OrdinaryCore {
+    ghost use Rattle.std.specs.Prelude.{◌≡◌, false};
+    ghost use Rattle.boost_core.specs.Machine.{State};
+
+    ghost Value = { State };
+
+    ghost view = { λ ordinary. ordinary.core };
+
+    ghost invariant = { λ ordinary. ordinary.core.words ≡ false };
+}
+
+impl OrdinaryCore {
+    ghost use Rattle.boost_core.specs.Machine.{Move};
+
+    /// A core in which nothing has happened.
+    ///
+    /// # Errors
+    ///
+    /// `Refusal::NoMemory` where memory is refused.
+    pub(crate) fn new(alloc: Global, limits: Limits) -> Result<OrdinaryCore, Refusal>
+        ensures { IfOk result (λ core. core ≡ start limits) }
+    {
+        let core = Core::new(alloc, limits)?;
+        Ok(OrdinaryCore { core })
+    }
+
+    /// Takes one step.
+    pub(crate) fn step(&mut self, step: Step) -> Answer
+        ensures { Move self.old step result self.new }
+    {
+        self.core.step(step)
+    }
+
+    /// How many buckets there are now.
+    pub(crate) fn size(&self) -> u32
+        ensures { result ≡ self.now.size }
+    {
+        self.core.size()
+    }
+
+    /// The core itself.
+    pub(crate) fn into_core(self) -> Core
+        ensures value { result ≡ self }
+        ensures ordinary { result.words ≡ false }
+    {
+        self.core
+    }
+}
