@@ -1,9 +1,9 @@
 //! The history of a core that is needed no longer.
 ghost use Rattle.std.specs.Prelude.{◌≡◌, ◌<◌};
 ghost use Rattle.std.specs.List.{All};
-ghost use Rattle.txn_trace.specs.declared.holder.Holder.TheVariants.{Now};
 ghost use Rattle.txn_trace.specs.History.{caller_of};
 ghost use Rattle.txn_trace.specs.Legal.{IsLegal};
+ghost use Rattle.boost_core.specs.Machine.{holder_by};
 
 use crate::machine::Core;
 use txn_trace::Entry;
@@ -25,7 +25,7 @@ impl Core {
         ensures shape { HasShape self }
         ensures locks { KeepsLocks self }
         ensures replies { KeepsReplies self }
-        ensures legal { IsLegal Now self.limits.stripes self.history }
+        ensures legal { IsLegal (holder_by self.words) self.limits.stripes self.history }
         ensures callers { All (λ entry. caller_of entry < self.limits.callers) self.history }
         ensures whole { IsWhole self }
         ensures order { IsInOrder self.nodes }
