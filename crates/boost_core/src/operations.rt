@@ -17,6 +17,7 @@ impl Session {
     ghost use Rattle.map_ops.specs.Changes.{Prepares, IsRefused};
 
     /// Asks for an operation by a claim. With a word nothing is reserved or locked.
+    #[inline(always)]
     pub(crate) fn ask_by(
         &mut self,
         claim: Claim,

@@ -51,6 +51,7 @@ impl Core {
         ensures lists { ListsAsk Claim.Right self.old (Step.Ask caller op) result self.new }
         ensures cursors { Cursors self.old (Step.Ask caller op) result self.new }
     {
+        // The right is shown, and nothing else is asked of it.
         let _stripe = right.stripe();
         self.call(caller, Step::Ask(caller, op), Claim::Right)
     }
