@@ -1,4 +1,4 @@
-ghost use Rattle.std.specs.Prelude.{◌≡◌, ◌++◌, List, OnOk, IfOk, IfErr, string_bytes};
+ghost use Rattle.std.specs.Prelude.{◌≡◌, ◌++◌, false, List, OnOk, IfOk, IfErr, string_bytes};
 ghost use Rattle.txn_trace.specs.declared.answer.Answer.{Answer};
 ghost use Rattle.boost_core.specs.Machine.{Moves};
 ghost use Rattle.boostmap_engine.specs.Report.{answers_text, size_text, pairs_text, last_text, IsReport, IsReportOf, IsNoStepFile};
@@ -13,8 +13,10 @@ use txn_trace::{Limits, Step};
 /// About how many bytes the line of an answer has, for which room is made at once.
 const ANSWER: usize = 8;
 
-/// Takes the steps one after the other, and puts the answer of each to the text, one a line.
+/// Takes the steps one after the other on an ordinary core, and puts the answer of each to the
+/// text, one a line.
 fn put_answers(text: &mut String, core: &mut Core, steps: &[Step]) -> Result<(), AllocError>
+    requires { core.old.words ≡ false }
     ensures { OnOk result ((answers : List Answer) × Moves core.old steps.now answers core.new
         × (string_bytes text.new ≡ string_bytes text.old ++ answers_text answers)) }
 {

@@ -1,4 +1,4 @@
-use Rattle.std.proofs.Common.{◌++◌, ◌∷◌, [], arith, string_bytes}
+use Rattle.std.proofs.Common.{◌++◌, ◌∷◌, [], ◌∙◌, arith, string_bytes}
 use Rattle.std.proofs.lemmas.List.{flat_map_more}
 use Rattle.txn_trace.specs.declared.answer.Answer.{Answer}
 use Rattle.txn_trace.specs.Text.{text_of}
@@ -12,4 +12,5 @@ loop-step-preserved c =
       before.0 ++ c.step-answer.result ∷ [],
       Moves-more c.args.core.now c.loop-step.core c.step-answer.new.self c.args.steps.now c.loop-step.step-index _ before.0 c.step-answer.result c.loop-step-test.true before.1 c.step-answer.ensures.moves,
       grind (arith, flat_map_more (λ (answer : Answer). line (text_of answer)) (string_bytes c.args.text.now) before.0 c.step-answer.result, before.2, c.writeln.ensures),
+      c.step-answer.ensures.words ∙ before.3,
     )

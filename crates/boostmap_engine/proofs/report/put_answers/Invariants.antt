@@ -1,4 +1,4 @@
-use Rattle.std.proofs.Common.{◌≡◌, ◌++◌, List, take}
+use Rattle.std.proofs.Common.{◌≡◌, ◌++◌, false, List, take}
 use Rattle.std.specs.Prelude.{string_bytes}
 use Rattle.txn_trace.specs.declared.answer.Answer.{Answer}
 use Rattle.boost_core.specs.Machine.{Moves}
@@ -8,4 +8,4 @@ use Rattle.boostmap_engine.proofs.report.put_answers.Given as goal
 abbrev pub invariant-loop-step : goal.invariant-loop-step
 invariant-loop-step l =
     (answers : List Answer) × Moves l.fn.core (take l.step-index l.steps) answers l.core
-    × (string_bytes l.text ≡ string_bytes l.fn.text ++ answers_text answers)
+    × (string_bytes l.text ≡ string_bytes l.fn.text ++ answers_text answers) × (l.core.words ≡ false)
