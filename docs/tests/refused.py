@@ -20,7 +20,8 @@ PROGRAM = "crates/boostmap/out/boostmap"
 # How many allocations are refused, from the one whose turn it is on: one, a few, all.
 LENGTHS = [1, 8, 2**62]
 
-# Tests that pass whichever one allocation is refused, and may give up where more are: crate and name.
+# Tests that pass whichever one allocation is refused: crate and name. Where more are, they may end
+# as the ones below.
 PASSING = """
 key_locks tests::a_stripe_is_held_until_its_holder_releases
 undo_log tests::nine_undone_newest_first
@@ -268,7 +269,7 @@ def kind_of_test(kinds):
 
 def all_tests(runner, crates):
     """For each test of these crates, or of all, whether all is right."""
-    ends = [(PASSING, LENGTHS[:1], []), (PASSING, LENGTHS[1:], ["gave up"])]
+    ends = [(PASSING, LENGTHS[:1], []), (PASSING, LENGTHS[1:], ["gave up", "stopped"])]
     ends += [(GIVING_UP, LENGTHS, ["gave up"]), (STOPPING, LENGTHS, ["gave up", "stopped"])]
     for tests, lengths, kinds in ends:
         for crate, name in map(str.split, tests.strip().split("\n")):
