@@ -10,7 +10,8 @@ use std::alloc::{AllocError, Global};
 use txn_files::read_steps;
 use txn_trace::{Limits, Step};
 
-/// Takes the steps one after the other on an ordinary core, and puts the answer of each to the text, one a line.
+/// Takes the steps one after the other on an ordinary core, and puts the answer of each to the text,
+/// one a line.
 fn put_answers(text: &mut String, core: &mut Core, steps: &[Step]) -> Result<(), AllocError>
     requires { core.old.words ≡ false }
     ensures { OnOk result ((answers : List Answer) × Moves core.old steps.now answers core.new
