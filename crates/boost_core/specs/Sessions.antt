@@ -417,7 +417,8 @@ Does claim stripes counts (Ask c op) s t locks answer s' t' locks' =
     AsksBy claim c (stripe_of stripes (key_of op)) op s t locks answer s' t' locks'
 Does claim stripes counts (Seek c) s t locks answers.Placed s' t' locks' =
     SeeksIn s t s' t' × (locks' ≡ locks)
-Does claim stripes counts (Act c) s t locks answer s' t' locks' = ActsIn c s t locks answer s' t' locks'
+Does claim stripes counts (Act c) s t locks answer s' t' locks' =
+    ActsIn c s t locks answer s' t' locks'
 Does claim stripes counts (Save c) s t locks answer s' t' locks' =
     Saves s answer s' × (t' ≡ t) × (locks' ≡ locks)
 Does claim stripes counts (Back c n) s t locks answers.Leaving s' t' locks' =

@@ -52,8 +52,8 @@ may_come claim (answers.Refused StampsUsedUp) = false
 may_come claim (answers.Refused refusal) = true
 may_come claim answer = false
 
--- A claim is refused as stale. The last stamp may rise by one, and nothing else has changed but what
--- `Nodes` says.
+-- A claim is refused as stale. The last stamp may rise by one, and nothing else has changed but
+-- what `Nodes` says.
 pub record IsStale (claim : Claim) (old : State) (step : Step) (answer : Answer)
     (new : State) : Type 0 where
   pub refused : answer ≡ answers.Refused StaleWord
@@ -69,8 +69,8 @@ pub record IsStale (claim : Claim) (old : State) (step : Step) (answer : Answer)
   pub stamp : old.stamp ≤ new.stamp
   pub one_stamp : new.stamp ≤ old.stamp + 1
 
--- An operation is asked for by a claim: it is refused as stale, or `Ask` makes a move with an answer
--- that may come to such a claim.
+-- An operation is asked for by a claim: it is refused as stale, or `Ask` makes a move with an
+-- answer that may come to such a claim.
 abbrev pub Asks : Claim → State → Step → Answer → State → Type 0
 Asks claim old step answer new =
     IsStale claim old step answer new ⊎ (IsTrue (may_come claim answer) × Move old step answer new)
@@ -90,8 +90,8 @@ pub record ListsAsk (claim : Claim) (old : State) (step : Step) (answer : Answer
   pub nodes : Touches old step answer new
   pub stamp : new.stamp ≡ stamp_by claim old.stamp step answer
 
--- What is asked of a claim: where stripes are words it is no lock, and elsewhere nothing else; and a
--- holder may be named.
+-- What is asked of a claim: where stripes are words it is no lock, and elsewhere nothing else; and
+-- a holder may be named.
 abbrev pub IsClaim : Claim → State → Step → Type 0
 IsClaim Lock state step = state.words ≡ true → is_ask step ≡ false
 IsClaim Right state (Ask c op) = state.words ≡ true
@@ -100,8 +100,8 @@ IsClaim (Held named) state (Ask c op) =
 IsClaim Stale state (Ask c op) = state.words ≡ true
 IsClaim claim state step = ⊥
 
--- What a step of a caller is answered and does, by its claim: a move, but where it asks with a right
--- or a word.
+-- What a step of a caller is answered and does, by its claim: a move, but where it asks with a
+-- right or a word.
 abbrev pub Goes : Claim → State → Step → Answer → State → Type 0
 Goes Lock old step answer new = Move old step answer new
 Goes claim old step answer new = Asks claim old step answer new

@@ -15,8 +15,8 @@
 //! (`Content`), and every step makes a move of the machine (`Machine`). What a step does to the
 //! linked nodes, and whose cursors it leaves, stands in `Nodes`. The plain calls are moves of one
 //! caller with none between (`Plain`). Where callers take the rights to their stripes elsewhere, as
-//! atomic words, an operation is asked for by such a right or by the word (`Words`). A caller whose steps others come between is driven by
-//! a `Drive`.
+//! atomic words, an operation is asked for by such a right or by the word (`Words`). A caller whose
+//! steps others come between is driven by a `Drive`.
 //!
 //! A step costs what it does on the table and takes no memory but to begin, to ask, to save, to go
 //! back, to link a bucket and to store the first bucket of a segment: all that an operation and its

@@ -14,8 +14,8 @@ impl Core {
     ghost use Rattle.boost_core.specs.Nodes.{Cursors};
     ghost use Rattle.boost_core.specs.Words.{Asks, ListsAsk, claim_of};
 
-    /// A core as `new` makes it, but that its callers take the rights to their stripes elsewhere, as
-    /// atomic words that say who holds each: so an operation is asked for by `ask_with` or
+    /// A core as `new` makes it, but that its callers take the rights to their stripes elsewhere,
+    /// as atomic words that say who holds each: so an operation is asked for by `ask_with` or
     /// `ask_held`, and never by `step`, `run`, `put`, `put_if`, `take` or `get`. In its history a
     /// Busy entry names a caller that has begun a transaction, and may have ended it.
     ///
@@ -56,11 +56,11 @@ impl Core {
         self.call(caller, Step::Ask(caller, op), Claim::Right)
     }
 
-    /// Asks for an operation where the word of its stripe names another caller: the word is one more
-    /// than that caller's number.
+    /// Asks for an operation where the word of its stripe names another caller: the word is one
+    /// more than that caller's number.
     ///
-    /// The answer is `Busy` with that number, after which the caller leaves to the end, or the first
-    /// refusal whose test holds: `NoSuchCaller`, `NotOpen`, `Leaving`, `OperationUnfinished`,
+    /// The answer is `Busy` with that number, after which the caller leaves to the end, or the
+    /// first refusal whose test holds: `NoSuchCaller`, `NotOpen`, `Leaving`, `OperationUnfinished`,
     /// `BadKey`, `NoMemory` for the history, and `StaleWord` where the word names the caller itself
     /// or one that has never begun a transaction. A refusal leaves the state. No spare is made.
     /// Amortized constant time.

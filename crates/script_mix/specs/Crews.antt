@@ -33,9 +33,9 @@ pub record Goes (scripts : List (List Action)) (old new : State)
   pub others : (c : ℕ) → c ≢ before.number → own c new.history ≡ own c old.history
   pub keeps : Keeps scripts after (own after.number new.history)
 
--- An ordinary core of the limits asked for, on which the workers took turns as they were drawn, until none
--- had a step or a script left or 2^64 - 1 turns were taken; and in whose history each worker's
--- committed transactions play scripts of its own, their numbers rising.
+-- An ordinary core of the limits asked for, on which the workers took turns as they were drawn,
+-- until none had a step or a script left or 2^64 - 1 turns were taken; and in whose history each
+-- worker's committed transactions play scripts of its own, their numbers rising.
 pub record IsMixed (work : Work) (seed : ℕ) (state : State) : Type 0 where
   pub limits : state.limits ≡ work.sizes
   pub words : state.words ≡ false
