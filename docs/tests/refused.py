@@ -24,19 +24,22 @@ LENGTHS = [1, 8, 2**62]
 # as the ones below.
 PASSING = """
 key_locks tests::a_stripe_is_held_until_its_holder_releases
-undo_log tests::nine_undone_newest_first
-undo_log tests::a_savepoint_keeps_its_jobs
-undo_log tests::side_value_returns
-undo_log tests::a_settled_value_stays
 node_list tests::refused_allocations
 bucket_table tests::refused_allocations
 map_ops tests::refused_memory_for_puts
 map_ops tests::refused_memory_for_a_preparation
 map_ops tests::refused_memory_for_a_link
-history_check tests::fed_entry_by_entry
-history_check tests::fed_with_savepoints
 boost_core tests::five_callers_undone
 boost_core tests::segments
+"""
+# Tests that pass whichever one allocation is refused, and that are refused no more.
+ALONE = """
+undo_log tests::nine_undone_newest_first
+undo_log tests::a_savepoint_keeps_its_jobs
+undo_log tests::side_value_returns
+undo_log tests::a_settled_value_stays
+history_check tests::fed_entry_by_entry
+history_check tests::fed_with_savepoints
 txn_files tests::memory_refused
 boostmap_engine tests::refused_allocations
 boostmap_engine check_tests::history_without_memory
@@ -269,7 +272,8 @@ def kind_of_test(kinds):
 
 def all_tests(runner, crates):
     """For each test of these crates, or of all, whether all is right."""
-    ends = [(PASSING, LENGTHS[:1], []), (PASSING, LENGTHS[1:], ["gave up", "stopped"])]
+    ends = [(ALONE, LENGTHS[:1], []), (PASSING, LENGTHS[:1], [])]
+    ends += [(PASSING, LENGTHS[1:], ["gave up", "stopped"])]
     ends += [(GIVING_UP, LENGTHS, ["gave up"]), (STOPPING, LENGTHS, ["gave up", "stopped"])]
     for tests, lengths, kinds in ends:
         for crate, name in map(str.split, tests.strip().split("\n")):
