@@ -88,11 +88,11 @@ impl Core {
         ensures ok { IfOk result (λ core. core ≡ start limits) }
         ensures err { IfErr result (λ refusal. refusal ≡ Refusal.NoMemory) }
     {
-        Core::made(alloc, limits, false)
+        Core::make(alloc, limits, false)
     }
 
     /// A core in which nothing has happened, whose stripes are words or not.
-    pub(crate) fn made(alloc: Global, limits: Limits, words: bool) -> Result<Core, Refusal>
+    pub(crate) fn make(alloc: Global, limits: Limits, words: bool) -> Result<Core, Refusal>
         ensures ok { IfOk result (λ core. core ≡ record (start limits) { words = words }) }
         ensures err { IfErr result (λ refusal. refusal ≡ Refusal.NoMemory) }
     {

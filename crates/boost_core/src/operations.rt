@@ -63,7 +63,7 @@ impl Session {
             Err(refusal) => return Answer::Refused(refusal),
         };
         match locks.lock(caller, stripe) {
-            LockAnswer::Granted => self.granted(pending),
+            LockAnswer::Granted => self.grant(pending),
             LockAnswer::Busy(holder) => busy(pending, holder as u64, table),
         }
     }
@@ -85,7 +85,7 @@ impl Session {
     }
 
     /// The stripe is the caller's: the operation waits.
-    fn granted(&mut self, pending: Pending) -> Answer
+    fn grant(&mut self, pending: Pending) -> Answer
         ensures answer { result ≡ Answer.Asked }
         ensures becomes { self.new ≡ record self.old { pending = Some pending } }
     {

@@ -26,7 +26,7 @@ impl Core {
         ensures ok { IfOk result (λ core. core ≡ start_with_words limits) }
         ensures err { IfErr result (λ refusal. refusal ≡ Refusal.NoMemory) }
     {
-        Core::made(alloc, limits, true)
+        Core::make(alloc, limits, true)
     }
 
     /// Whether stripes are words: no step changes it. Constant time.

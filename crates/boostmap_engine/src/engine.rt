@@ -11,7 +11,7 @@ use crate::judgement::{is_legal, judge, line_of};
 use crate::mixture::mixture;
 use crate::output::write_text;
 use crate::report::report;
-use crate::threaded::threaded;
+use crate::threaded::run_in_threads;
 use std::alloc::Global;
 use std::io::{Read, Write};
 use std::sync::Wait;
@@ -146,6 +146,6 @@ pub fn run<T: Threads + Wait + Sync, R: Read, W: Write>(
         (W.contents output.old) (W.contents output.new)) }
 {
     let bytes = read_input(alloc, input)?;
-    let history = threaded(rt, alloc, bytes)?;
+    let history = run_in_threads(rt, alloc, bytes)?;
     write_text(output, history.as_bytes())
 }

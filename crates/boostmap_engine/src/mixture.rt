@@ -4,7 +4,7 @@ ghost use Rattle.boostmap_engine.specs.Written.{HasNone};
 
 use crate::fault::Fault;
 use crate::input::scripts_in;
-use script_mix::mixed;
+use script_mix::mix_scripts;
 use std::alloc::Global;
 use txn_files::history_text;
 
@@ -24,7 +24,7 @@ pub fn mixture(alloc: Global, seed: u64, bytes: Vec<u8>) -> Result<String, Fault
     ensures err { IfErr result (HasNone IsNoScriptFile bytes.items) }
 {
     let work = scripts_in(alloc, bytes)?;
-    let core = mixed(alloc, seed, &work)?;
+    let core = mix_scripts(alloc, seed, &work)?;
     let limits = work.limits();
     let version = work.version();
     drop(work);

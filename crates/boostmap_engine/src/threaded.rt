@@ -23,7 +23,7 @@ use txn_trace::Refusal;
 /// `Input` where the bytes are no script file; `NoMemory` where memory is refused outside a call;
 /// `NoThread` where a thread could not be started; `OutOfStep` where the history is not what the
 /// workers saw.
-pub fn threaded<R: Threads + Wait + Sync>(
+pub fn run_in_threads<R: Threads + Wait + Sync>(
     rt: &R,
     alloc: Global,
     bytes: Vec<u8>,

@@ -12,7 +12,7 @@ ghost use Rattle.bucket_table.specs.Links.{IsUnlinked, LinksAt};
 ghost use Rattle.bucket_table.specs.Dummies.{IsBeforeBucket, IsKeyed, has_dummy};
 
 use crate::answer::{Double, InitLink, InitRefusal, InitSeek};
-use crate::fill::filled;
+use crate::fill::vec_of;
 use crate::helper::Helper;
 use crate::segments::Segments;
 use list_steps::{Again, Cursor, link_at, look, seek};
@@ -64,7 +64,7 @@ impl Buckets {
         Ok(Buckets {
             size: 2,
             entries: Segments::new(alloc, max, list.head())?,
-            helpers: filled(alloc, helpers, Helper::Idle)?,
+            helpers: vec_of(alloc, helpers, Helper::Idle)?,
         })
     }
 

@@ -4,7 +4,7 @@ ghost use Rattle.std.specs.Prelude.{◌≡◌, replicate, IfOk};
 use std::alloc::{AllocError, Global};
 
 /// A vector of so many equal values.
-pub(crate) fn filled<T: Copy>(alloc: Global, count: u32, value: T) -> Result<Vec<T>, AllocError>
+pub(crate) fn vec_of<T: Copy>(alloc: Global, count: u32, value: T) -> Result<Vec<T>, AllocError>
     ensures { IfOk result (λ items. items.items ≡ replicate count value) }
 {
     let mut items = Vec::with_capacity(alloc, count as usize)?;

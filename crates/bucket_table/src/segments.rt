@@ -3,7 +3,7 @@
 ghost use Rattle.std.specs.Prelude.{◌≡◌, ℕ, ◌-◌, ◌*◌, ◌<◌, ◌≤◌, ◌^◌, ◌∷◌, List, Option, Some, None, length, replicate, slice_index_or, slice_set, IfOk, OnErr};
 ghost use Rattle.bucket_table.specs.Segments.{LacksSegment, Puts};
 
-use crate::fill::filled;
+use crate::fill::vec_of;
 use node_list::NodeRef;
 use std::alloc::{AllocError, Global};
 use std::marker::Model;
@@ -34,7 +34,7 @@ impl Segment {
         requires { place < 64 }
         ensures { IfOk result (λ segment. Puts None (Some segment) place dummy) }
     {
-        let mut entries = filled(alloc, 64, None)?;
+        let mut entries = vec_of(alloc, 64, None)?;
         entries[place] = Some(dummy);
         Ok(Segment { entries })
     }

@@ -65,7 +65,7 @@ impl KeyWords {
         match Table::new(alloc, &words, slots, &()) {
             Ok((table, first)) => {
                 let words = KeyWords { table };
-                let all = words.seated(first, room, seats);
+                let all = words.make_seats(first, room, seats);
                 Ok((words, all))
             }
             Err(Refused { mut slots }) => {
@@ -76,7 +76,7 @@ impl KeyWords {
     }
 
     /// Splits the other seats from the first, by rising number.
-    fn seated(
+    fn make_seats(
         &self,
         mut first: Seat<Slot, View>,
         mut all: Vec<KeySeat>,

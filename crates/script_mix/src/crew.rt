@@ -46,7 +46,7 @@ fn live_count(workers: &[Worker]) -> usize
 ///
 /// Draws a number below how many such workers there are, also where there is one, and takes the
 /// worker at that place of them, in rising order.
-pub(crate) fn drawn(generator: &mut Pcg32, workers: &[Worker]) -> Option<usize>
+pub(crate) fn draw_worker(generator: &mut Pcg32, workers: &[Worker]) -> Option<usize>
     ensures drawn { IfSome result (λ number.
         IsAtPlace workers.now ((pcg32 generator.old).0 % live workers.now) number) }
     ensures generator { IfSome result (λ number. generator.new ≡ (pcg32 generator.old).1) }

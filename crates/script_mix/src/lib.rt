@@ -6,13 +6,14 @@
 //! takes its next turn: one step, or two where the worker has waited long. So a seed names one
 //! interleaving, and the same seed gives the same history.
 //!
-//! Proved (`mixed`): the core afterwards is one of the limits asked for, whose history is therefore
-//! legal, and each worker's committed transactions play scripts of its own, with rising numbers;
-//! and it came from a new core by turns, each of the worker drawn, until no worker had a step or a
-//! script left (`specs/Turns.antt`) or 2^64 - 1 turns were taken, which no run lives to see; each
-//! of these turns takes a step. `draw` is the generator's next word modulo the number of live
-//! workers. Memory is taken for the workers at the beginning, and then by the core's steps alone. A
-//! turn costs a look at each worker, of which there are at most 64, and what its steps cost.
+//! Proved (`mix_scripts`): the core afterwards is one of the limits asked for, whose history is
+//! therefore legal, and each worker's committed transactions play scripts of its own, with rising
+//! numbers; and it came from a new core by turns, each of the worker drawn, until no worker had a
+//! step or a script left (`specs/Turns.antt`) or 2^64 - 1 turns were taken, which no run lives to
+//! see; each of these turns takes a step. `draw` is the generator's next word modulo the number of
+//! live workers. Memory is taken for the workers at the beginning, and then by the core's steps
+//! alone. A turn costs a look at each worker, of which there are at most 64, and what its steps
+//! cost.
 #![tactic(auto)]
 
 mod crew;
@@ -24,4 +25,4 @@ mod tests;
 mod turn;
 
 pub use drawing::draw;
-pub use mix::mixed;
+pub use mix::mix_scripts;

@@ -1,7 +1,7 @@
 ghost use Rattle.std.specs.Prelude.{IfOk};
 ghost use Rattle.script_mix.specs.Crews.{IsMixed};
 
-use crate::crew::{drawn, workers_of};
+use crate::crew::{draw_worker, workers_of};
 use crate::ordinary::OrdinaryCore;
 use crate::turn::take_turn;
 use boost_core::Core;
@@ -22,7 +22,7 @@ use txn_trace::Scripts;
 /// # Cost
 ///
 /// What the steps cost, and a look at each worker for each turn.
-pub fn mixed(alloc: Global, seed: u64, work: &Scripts) -> Result<Core, AllocError>
+pub fn mix_scripts(alloc: Global, seed: u64, work: &Scripts) -> Result<Core, AllocError>
     ensures { IfOk result (λ core. IsMixed work.now seed core) }
 {
     let limits = work.limits();
@@ -32,7 +32,7 @@ pub fn mixed(alloc: Global, seed: u64, work: &Scripts) -> Result<Core, AllocErro
     let mut workers = workers_of(alloc, limits, work.scripts())?;
     let mut generator = Pcg32::seed_from_u64(seed);
     for _turn in 0..u64::MAX {
-        let Some(number) = drawn(&mut generator, &workers) else {
+        let Some(number) = draw_worker(&mut generator, &workers) else {
             break;
         };
         take_turn(

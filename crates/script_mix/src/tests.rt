@@ -1,5 +1,5 @@
 use crate::crew::{at_place, workers_of};
-use crate::{draw, mixed};
+use crate::{draw, mix_scripts};
 use rand_core::SeedableRng;
 use rand_core::utils::NextWord;
 use rand_pcg::Pcg32;
@@ -56,7 +56,7 @@ fn mixed_commits_an_empty_script(rt: HostRuntime) -> Result<(), Fail> {
         return Err("refused")?;
     };
     for seed in 0..20 {
-        let core = mixed(rt.alloc(), seed, &work)?;
+        let core = mix_scripts(rt.alloc(), seed, &work)?;
         let trace = core.trace();
         assert_eq!(rt; trace.len(), 7, "{seed}");
         let commits = trace
@@ -78,7 +78,7 @@ fn the_worker_drawn_goes(rt: HostRuntime) -> Result<(), Fail> {
         return Err("refused")?;
     };
     for seed in 0..50 {
-        let core = mixed(rt.alloc(), seed, &work)?;
+        let core = mix_scripts(rt.alloc(), seed, &work)?;
         let mut words = Pcg32::seed_from_u64(seed);
         // Each live worker with the turns that it still has to take.
         let mut live = Vec::from_array(rt.alloc(), [(0, 4), (1, 4), (2, 2)])?;
@@ -150,7 +150,7 @@ fn bad_helps_beside_a_put(rt: HostRuntime) -> Result<(), Fail> {
         return Err("refused")?;
     };
     for seed in 0..20 {
-        let core = mixed(rt.alloc(), seed, &work)?;
+        let core = mix_scripts(rt.alloc(), seed, &work)?;
         let mut entries = core.trace().iter();
         let mut words = Pcg32::seed_from_u64(seed);
         let mut live = Vec::from_array(

@@ -95,14 +95,14 @@ impl Attempt {
         ensures { result ≡ progress_of script.now tries self end }
     {
         match end {
-            End::Answered(_) | End::Helped => self.done(script),
+            End::Answered(_) | End::Helped => self.after_done(script),
             End::Busy(_) => self.busy(tries),
-            End::Refused(refusal) => self.refused(script, refusal),
+            End::Refused(refusal) => self.after_refusal(script, refusal),
         }
     }
 
     /// What follows where the call is done.
-    fn done(self, script: &[Action]) -> Progress
+    fn after_done(self, script: &[Action]) -> Progress
         ensures { result ≡ done_at script.now self.again self.stage }
     {
         match self.stage {
@@ -131,7 +131,7 @@ impl Attempt {
     }
 
     /// What follows where the call was refused.
-    fn refused(self, script: &[Action], refusal: Refusal) -> Progress
+    fn after_refusal(self, script: &[Action], refusal: Refusal) -> Progress
         ensures { result ≡ refused_at script.now self.again self.stage refusal }
     {
         let over = Progress::Over(Outcome::Refused(refusal));

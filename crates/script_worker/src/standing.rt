@@ -25,7 +25,7 @@ impl Standing {
         Standing {
             number,
             limits,
-            task: started(number, number, limits, scripts),
+            task: start(number, number, limits, scripts),
         }
     }
 
@@ -117,7 +117,7 @@ impl Standing {
             }
             Progress::Over(outcome) => {
                 let next = task.script.saturating_add(self.limits.callers() as usize);
-                self.task = started(self.number, next, self.limits, scripts);
+                self.task = start(self.number, next, self.limits, scripts);
                 Some(outcome)
             }
         }
@@ -125,7 +125,7 @@ impl Standing {
 }
 
 /// The first attempt at the script of this number, where there is one.
-fn started(number: usize, script: usize, limits: Limits, scripts: &[Script]) -> Option<Task>
+fn start(number: usize, script: usize, limits: Limits, scripts: &[Script]) -> Option<Task>
     ensures { result ≡ started limits.half scripts.now number script }
 {
     if script < scripts.len() {

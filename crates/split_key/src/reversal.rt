@@ -5,7 +5,7 @@ ghost use Rattle.split_key.specs.Swap.{swapped_place};
 
 /// The word with each two neighbouring groups of `width` bits swapped, where `low` has a 1 at each
 /// bit of the lower group of each two.
-fn swapped(word: u64, width: u32, low: u64) -> u64
+fn swap_groups(word: u64, width: u32, low: u64) -> u64
     requires some { 0 < width }
     requires fits { width < 64 }
     requires groups { (place : ℕ) → place < 64 → bit_at low place ≡ 1 - place / width % 2 }
@@ -24,10 +24,10 @@ pub fn reverse(word: u64) -> u64
     ensures bits { (place : ℕ) → place < 64 → bit_at result place ≡ bit_at word (63 - place) }
     ensures again { reversed result ≡ word }
 {
-    let pairs = swapped(word, 1, 0x5555_5555_5555_5555);
-    let nibbles = swapped(pairs, 2, 0x3333_3333_3333_3333);
-    let bytes = swapped(nibbles, 4, 0x0f0f_0f0f_0f0f_0f0f);
-    let double_bytes = swapped(bytes, 8, 0x00ff_00ff_00ff_00ff);
-    let halves = swapped(double_bytes, 16, 0x0000_ffff_0000_ffff);
-    swapped(halves, 32, 0x0000_0000_ffff_ffff)
+    let pairs = swap_groups(word, 1, 0x5555_5555_5555_5555);
+    let nibbles = swap_groups(pairs, 2, 0x3333_3333_3333_3333);
+    let bytes = swap_groups(nibbles, 4, 0x0f0f_0f0f_0f0f_0f0f);
+    let double_bytes = swap_groups(bytes, 8, 0x00ff_00ff_00ff_00ff);
+    let halves = swap_groups(double_bytes, 16, 0x0000_ffff_0000_ffff);
+    swap_groups(halves, 32, 0x0000_0000_ffff_ffff)
 }

@@ -90,7 +90,7 @@ fn run_under<L: Ledger + Send + Sync, T: Task + Send + Sync, G: Gate, R: Threads
         task: PhantomData,
     };
     let reports = in_threads(rt, alloc, limits, &job, passes)?;
-    let (callers, rows) = match parted(alloc, reports) {
+    let (callers, rows) = match unzip(alloc, reports) {
         Ok(parts) => parts,
         Err(AllocError) => return Err(Refusal::NoMemory),
     };
@@ -107,7 +107,7 @@ fn run_under<L: Ledger + Send + Sync, T: Task + Send + Sync, G: Gate, R: Threads
 }
 
 /// The callers of the reports, and their outcomes, the last one first.
-fn parted<L: Ledger>(
+fn unzip<L: Ledger>(
     alloc: Global,
     reports: Vec<Report<L>>,
 ) -> Result<(Vec<Caller<L, NoSide>>, Vec<Vec<Outcome>>), AllocError>

@@ -73,7 +73,7 @@ pub(crate) fn in_threads<
                     return Err(Refusal::NoMemory);
                 };
             }
-            match joined(rt, alloc, limits, threads) {
+            match join_all(rt, alloc, limits, threads) {
                 Ok(reports) => Ok(reports),
                 Err(AllocError) => Err(Refusal::NoMemory),
             }
@@ -82,7 +82,7 @@ pub(crate) fn in_threads<
 }
 
 /// Waits for the thread of each worker, and gives what each hands back.
-fn joined<L: Ledger, T: Task, R: Threads>(
+fn join_all<L: Ledger, T: Task, R: Threads>(
     rt: &R,
     alloc: Global,
     limits: Limits,

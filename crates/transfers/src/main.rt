@@ -64,7 +64,7 @@ impl Transfer {
     }
 
     /// Moves the sum, if the first account has as much.
-    fn moved<L: Ledger, R: Wait>(
+    fn try_move<L: Ledger, R: Wait>(
         self,
         rt: &R,
         map: &SharedMap<L>,
@@ -90,7 +90,7 @@ impl Transfer {
         me: &mut Caller<L, NoSide>,
     ) -> Result<(), Stop> {
         map.begin(rt, me)?;
-        match self.moved(rt, map, me) {
+        match self.try_move(rt, map, me) {
             Ok(()) => {
                 map.commit(rt, me)?;
                 Ok(())
@@ -147,7 +147,7 @@ fn callers_of<L: Ledger>(
 }
 
 /// The core after all transfers.
-fn played<L: Ledger + Send + Sync, R: Threads + Wait + Sync>(
+fn play_all<L: Ledger + Send + Sync, R: Threads + Wait + Sync>(
     rt: &R,
     alloc: Global,
     blank: Blank,
@@ -186,7 +186,7 @@ fn show<R: Threads + Wait + Sync + Print>(rt: &R, alloc: Global) -> io::Result<(
         return println!(rt; "limits");
     };
     let blank = Blank::new(u64::from(limits.callers()));
-    match played::<Brand, R>(rt, alloc, blank, limits) {
+    match play_all::<Brand, R>(rt, alloc, blank, limits) {
         Ok(core) => println!(rt;
             "opening {}, now {}",
             ACCOUNTS * OPENING,

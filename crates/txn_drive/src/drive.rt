@@ -7,7 +7,7 @@ ghost use Rattle.txn_drive.specs.Made.{made, IsMade, HasMade};
 use crate::call::Call;
 use crate::end::End;
 use crate::phase::{Phase, Work};
-use crate::turn::{Turn, paired};
+use crate::turn::{Turn, one_or_two};
 use txn_trace::{Answer, Limits, Refusal, Step};
 
 /// A caller's call on its way: which step comes next, and what was told so far.
@@ -54,7 +54,7 @@ impl Drive {
         if let Phase::Doubling(_) = self.phase {
             self.phase = Phase::Doubling(size);
         }
-        self.shown()
+        self.show()
     }
 
     /// How the call has ended, if it has. Constant time.
@@ -82,18 +82,18 @@ impl Drive {
     }
 
     /// The turn of the phase.
-    fn shown(self) -> Turn
+    fn show(self) -> Turn
         ensures { result ≡ turn_of self }
     {
         let caller = self.caller;
         match self.phase {
             Phase::Fresh => Turn::One(self.call.first_step(caller)),
-            Phase::Seeking(_, again) => paired(again, Step::Seek(caller), Step::Act(caller)),
+            Phase::Seeking(_, again) => one_or_two(again, Step::Seek(caller), Step::Act(caller)),
             Phase::Acting(..) => Turn::One(Step::Act(caller)),
             Phase::Doubling(size) => Turn::One(Step::Double(u64::from(size))),
             Phase::Initialising(way, again) => {
                 let seek = Step::InitSeek(caller, u64::from(way.bucket));
-                paired(again, seek, Step::InitLink(caller))
+                one_or_two(again, seek, Step::InitLink(caller))
             }
             Phase::Linking(..) => Turn::One(Step::InitLink(caller)),
             Phase::Storing(_) => Turn::One(Step::InitStore(caller)),

@@ -120,7 +120,7 @@ fn visitors_of<L: Ledger>(
 }
 
 /// The callers of visitors, and their answers.
-fn parted<L: Ledger>(
+fn unzip<L: Ledger>(
     alloc: Global,
     visited: Vec<Visited<L>>,
 ) -> Result<(Vec<Caller<L, NoSide>>, Vec<Answer>), AllocError>
@@ -161,7 +161,7 @@ pub fn visit_all<L: Ledger + Send + Sync, R: Threads + Wait + Sync>(
     let Ok(visited) = thread::map_vec(rt, visitors, &|visitor| visitor.go(rt, &map)) else {
         return Err(Refusal::NoMemory);
     };
-    let Ok((callers, answers)) = parted(alloc, visited) else {
+    let Ok((callers, answers)) = unzip(alloc, visited) else {
         return Err(Refusal::NoMemory);
     };
     match map.close(callers) {

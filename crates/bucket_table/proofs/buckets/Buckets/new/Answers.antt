@@ -6,7 +6,7 @@ use Rattle.bucket_table.proofs.DirectoryLemmas.{sound_beginning}
 use Rattle.bucket_table.proofs.buckets.Buckets.new.Goals as goal
 
 pub invariant_of-result : goal.invariant_of-result
-invariant_of-result c = rw (c.in_ok-new.ensures, c.in_ok-filled.ensures) (sound_beginning c.args.max c.args.helpers _ c.requires.power c.requires.least c.ranges.max.fits)
+invariant_of-result c = rw (c.in_ok-new.ensures, c.in_ok-vec_of.ensures) (sound_beginning c.args.max c.args.helpers _ c.requires.power c.requires.least c.ranges.max.fits)
 
 pub returns-clause-ok : goal.returns-clause-ok
 returns-clause-ok c = search rules

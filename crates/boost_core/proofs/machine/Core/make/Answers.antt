@@ -3,7 +3,7 @@ use Rattle.boost_core.proofs.Beginners.{noted_none}
 use Rattle.boost_core.proofs.Powers.{IsPower}
 use Rattle.map_ops.specs.TableAt.{IsNew}
 use Rattle.boost_core.proofs.Starting.{buckets_power, start_tells, none_owed, start_is}
-use Rattle.boost_core.proofs.machine.Core.made.Goals as goal
+use Rattle.boost_core.proofs.machine.Core.make.Goals as goal
 
 pub new-requires-clause-power : goal.new-requires-clause-power
 new-requires-clause-power c = subst IsPower (sym c.buckets.ensures.value) (buckets_power c.args.limits.callers c.args.limits.stripes c.args.limits.buckets c.buckets.ensures.limits)

@@ -1,7 +1,7 @@
 use Rattle.std.proofs.Common.{◌≡◌, ℕ, List, length}
 use Rattle.script_mix.specs.Crews.{IsCrew}
 use Rattle.script_mix.specs.Turns.{beginning, TakeDrawn}
-use Rattle.script_mix.proofs.mix.mixed.Given as goal
+use Rattle.script_mix.proofs.mix.mix_scripts.Given as goal
 
 abbrev pub invariant-loop-turn : goal.invariant-loop-turn
 invariant-loop-turn l = record {

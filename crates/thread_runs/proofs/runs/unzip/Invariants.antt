@@ -1,5 +1,5 @@
 use Rattle.std.specs.Prelude.{◌≡◌, map, reverse}
-use Rattle.thread_runs.proofs.runs.parted.Given as goal
+use Rattle.thread_runs.proofs.runs.unzip.Given as goal
 
 abbrev pub invariant-loop-report : goal.invariant-loop-report
 invariant-loop-report g l =

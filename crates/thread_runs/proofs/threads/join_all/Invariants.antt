@@ -1,7 +1,7 @@
 use Rattle.std.specs.Prelude.{◌≡◌, length}
 use Rattle.thread_runs.specs.Each.{Each}
 use Rattle.thread_runs.specs.Runs.{HasReported}
-use Rattle.thread_runs.proofs.threads.joined.Given as goal
+use Rattle.thread_runs.proofs.threads.join_all.Given as goal
 
 abbrev pub invariant-loop-thread : goal.invariant-loop-thread
 invariant-loop-thread g l =

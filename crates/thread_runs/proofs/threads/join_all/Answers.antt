@@ -8,7 +8,7 @@ use Rattle.thread_runs.specs.Each.{Each}
 use Rattle.thread_runs.specs.Runs.{HasReported}
 use Rattle.thread_runs.proofs.Lists.{each_push}
 use Rattle.thread_runs.proofs.Reports.{reported_at, shown_at}
-use Rattle.thread_runs.proofs.threads.joined.Goals as goal
+use Rattle.thread_runs.proofs.threads.join_all.Goals as goal
 
 pub loop-thread-preserved : goal.loop-thread-preserved
 loop-thread-preserved g c =

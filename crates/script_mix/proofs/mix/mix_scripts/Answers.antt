@@ -8,8 +8,8 @@ use Rattle.script_mix.specs.Turns.{live, AreDone, IsAtPlace}
 use Rattle.script_mix.proofs.Turns.{crew_goes, crew_plays, member_keeps}
 use Rattle.script_mix.proofs.Lives.{drawn_lives}
 use Rattle.script_mix.proofs.Mixings.{begins, crew_begins, crew_first, turn_of_work}
-use Rattle.script_mix.proofs.mix.mixed.Goals as goal
-use Rattle.script_mix.proofs.mix.mixed.Goals.{else-loop-turn-test, then-loop-turn-test+in_default-drawn}
+use Rattle.script_mix.proofs.mix.mix_scripts.Goals as goal
+use Rattle.script_mix.proofs.mix.mix_scripts.Goals.{else-loop-turn-test, then-loop-turn-test+in_default-draw_worker}
 
 pub loop-turn-init : goal.loop-turn-init
 loop-turn-init c =
@@ -83,6 +83,6 @@ returns c =
       turns = turns;
       ended = elim c.loop-turn-test.branch [
         | else-loop-turn-test w ↦ inr (omega (arith, count, w.loop-turn-test.false, c.loop-turn.auto._turn-end))
-        | then-loop-turn-test+in_default-drawn w ↦ inl (subst (λ (ws : List Worker). (live ws ≡ 0) × AreDone ws) w.deref.ensures.value (w.drawn.ensures.none w.in_default-drawn.is))
+        | then-loop-turn-test+in_default-draw_worker w ↦ inl (subst (λ (ws : List Worker). (live ws ≡ 0) × AreDone ws) w.deref.ensures.value (w.drawn.ensures.none w.in_default-draw_worker.is))
       ];
     })
