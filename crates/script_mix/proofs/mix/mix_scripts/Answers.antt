@@ -83,6 +83,6 @@ returns c =
       turns = turns;
       ended = elim c.loop-turn-test.branch [
         | else-loop-turn-test w ↦ inr (omega (arith, count, w.loop-turn-test.false, c.loop-turn.auto._turn-end))
-        | then-loop-turn-test+in_default-draw_worker w ↦ inl (subst (λ (ws : List Worker). (live ws ≡ 0) × AreDone ws) w.deref.ensures.value (w.drawn.ensures.none w.in_default-draw_worker.is))
+        | then-loop-turn-test+in_default-draw_worker w ↦ inl (subst (λ (ws : List Worker). (live ws ≡ 0) × AreDone ws) w.deref.ensures.value (w.draw_worker.ensures.none w.in_default-draw_worker.is))
       ];
     })
