@@ -6,7 +6,7 @@ mod plain_map;
 mod words;
 
 use crate::Core;
-use std::alloc::{AllocError, Global};
+use std::alloc::Global;
 use std::process::Abort;
 use std::test::Fail;
 use txn_trace::{Answer, Entry, Limits, Op, Refusal, Step};
@@ -16,11 +16,16 @@ fn core_of(alloc: Global, callers: u64) -> Result<Core, Fail> {
     core_with(alloc, Limits::new(callers, 8, 8)?)
 }
 
-/// A core of these limits. Asks again where memory is refused once.
+/// A core of these limits.
 fn core_with(alloc: Global, limits: Limits) -> Result<Core, Fail> {
+    Ok(core_if_made(alloc, limits).ok_or("no core")?)
+}
+
+/// A core of these limits. Asks again where memory is refused once; none where it is refused again.
+fn core_if_made(alloc: Global, limits: Limits) -> Option<Core> {
     match Core::new(alloc, limits) {
-        Ok(core) => Ok(core),
-        Err(_) => Ok(Core::new(alloc, limits)?),
+        Ok(core) => Some(core),
+        Err(_) => Core::new(alloc, limits).ok(),
     }
 }
 
@@ -203,15 +208,14 @@ fn aborts(rt: HostRuntime) -> Result<(), Fail> {
     Ok(())
 }
 
-/// The pairs of the core. Asks again where memory is refused once.
-fn pairs_of(alloc: Global, core: &Core) -> Result<Vec<(u64, u64)>, AllocError> {
-    match core.regular_list(alloc) {
-        Ok(pairs) => Ok(pairs),
-        Err(AllocError) => core.regular_list(alloc),
-    }
+/// How many entries, keys and buckets there are, and how many entries are owed, for which no memory
+/// is wanted.
+fn figures(core: &Core) -> (usize, u64, u32, usize) {
+    (core.trace().len(), core.count(), core.size(), core.owed())
 }
 
-/// Takes a step. Where it is refused memory, all is as it was before, and the answer is false.
+/// Takes a step. Where it is refused memory, all is as it was before, and the answer is false. The
+/// pairs are compared where there is memory for their lists.
 fn took(
     rt: &impl Abort,
     alloc: Global,
@@ -219,17 +223,29 @@ fn took(
     step: Step,
     wanted: Answer,
 ) -> Result<bool, Fail> {
-    let pairs = pairs_of(alloc, core)?;
-    let entries = core.trace().len();
+    let pairs = core.regular_list(alloc);
+    let before = figures(core);
     let answer = stepped(core, step)?;
-    if answer == Answer::Refused(Refusal::NoMemory) {
-        let after = pairs_of(alloc, core)?;
-        assert_eq!(rt; after.as_slice(), pairs.as_slice());
-        assert_eq!(rt; core.trace().len(), entries);
-        return Ok(false);
+    if answer != Answer::Refused(Refusal::NoMemory) {
+        assert_eq!(rt; answer, wanted, "at {step:?}");
+        return Ok(true);
     }
-    assert_eq!(rt; answer, wanted, "at {step:?}");
-    Ok(true)
+    assert_eq!(rt; figures(core), before);
+    let after = core.regular_list(alloc);
+    if let (Ok(after), Ok(pairs)) = (&after, &pairs) {
+        assert_eq!(rt; after.as_slice(), pairs.as_slice());
+    }
+    Ok(false)
+}
+
+/// Aborts the callers below a number, each of which may not have begun, and looks that nothing is
+/// left. No memory is wanted.
+fn aborts_all(rt: &impl Abort, core: &mut Core, callers: u64) {
+    for caller in 0..callers {
+        let answer = core.abort(caller);
+        assert!(rt; answer == Answer::Aborted || answer == Answer::Refused(Refusal::NotOpen));
+    }
+    assert_eq!(rt; (core.count(), core.owed()), (0, 0));
 }
 
 /// A caller does an operation, or is refused memory.
@@ -272,101 +288,113 @@ fn five_changed(rt: &impl Abort, alloc: Global, core: &mut Core) -> Result<bool,
     Ok(true)
 }
 
-/// Each caller takes its newest change back, after which each key has this value.
-fn five_undone(
-    rt: &impl Abort,
-    alloc: Global,
-    core: &mut Core,
-    left: Option<u64>,
-) -> Result<(), Fail> {
+/// Each caller takes its newest change back, after which each key has this value. The pairs are
+/// compared where there is memory for their list, and else counted.
+fn five_undone(rt: &impl Abort, alloc: Global, core: &mut Core, left: Option<u64>) {
     for caller in 0..5 {
         assert_eq!(rt; core.step(Step::Seek(caller)), Answer::Placed);
         assert_eq!(rt; core.step(Step::Act(caller)), Answer::Undone);
     }
-    let pairs = pairs_of(alloc, core)?;
-    match left {
-        Some(value) => {
-            let wanted = [(4, value), (2, value), (1, value), (5, value), (3, value)];
-            assert_eq!(rt; pairs.as_slice(), wanted.as_slice());
-        }
-        None => assert!(rt; pairs.is_empty()),
+    assert_eq!(rt; core.count(), if left.is_some() { 5 } else { 0 });
+    if let (Ok(pairs), Some(value)) = (core.regular_list(alloc), left) {
+        let wanted = [(4, value), (2, value), (1, value), (5, value), (3, value)];
+        assert_eq!(rt; pairs.as_slice(), wanted.as_slice());
     }
-    Ok(())
 }
 
-/// Also run with each allocation refused in turn: then every caller aborts, for which no memory is
-/// wanted.
+/// Also run with each allocation refused in turn, and with all from one on: then every caller
+/// aborts, for which no memory is wanted. Without a core there is nothing to show.
 #[test]
 fn five_callers_undone(rt: HostRuntime) -> Result<(), Fail> {
     let alloc = rt.alloc();
-    let mut core = core_of(alloc, 5)?;
+    let Some(mut core) = core_if_made(alloc, Limits::new(5, 8, 8)?) else {
+        return Ok(());
+    };
     if five_changed(&rt, alloc, &mut core)? {
         assert_eq!(rt; core.owed(), 25);
         for caller in 0..5 {
             assert_eq!(rt; core.step(Step::Abort(caller)), Answer::Leaving);
         }
         assert_eq!(rt; core.owed(), 20);
-        five_undone(&rt, alloc, &mut core, Some(20))?;
-        five_undone(&rt, alloc, &mut core, Some(10))?;
-        five_undone(&rt, alloc, &mut core, None)?;
+        five_undone(&rt, alloc, &mut core, Some(20));
+        five_undone(&rt, alloc, &mut core, Some(10));
+        five_undone(&rt, alloc, &mut core, None);
         for caller in 0..5 {
             assert_eq!(rt; core.step(Step::Act(caller)), Answer::Aborted);
         }
-    } else {
-        for caller in 0..5 {
-            let answer = core.abort(caller);
-            assert!(rt; answer == Answer::Aborted || answer == Answer::Refused(Refusal::NotOpen));
-        }
     }
-    assert_eq!(rt; (core.size(), core.count()), (2, 0));
+    aborts_all(&rt, &mut core, 5);
+    assert_eq!(rt; core.size(), 2);
     Ok(())
 }
 
-/// Takes a step, and takes it once more where it is refused memory.
+/// Takes a step, and takes it once more where it is refused memory; false where it is refused again.
 fn takes(
     rt: &impl Abort,
     alloc: Global,
     core: &mut Core,
     step: Step,
     wanted: Answer,
-) -> Result<(), Fail> {
-    if !took(rt, alloc, core, step, wanted)? {
-        assert_eq!(rt; stepped(core, step)?, wanted, "again at {step:?}");
-    }
-    Ok(())
+) -> Result<bool, Fail> {
+    Ok(took(rt, alloc, core, step, wanted)? || took(rt, alloc, core, step, wanted)?)
 }
 
-/// Bucket 64 is the first of the second segment, so its store takes memory. Also run with each
-/// allocation refused in turn.
-#[test]
-fn segments(rt: HostRuntime) -> Result<(), Fail> {
-    let alloc = rt.alloc();
-    let mut core = core_with(alloc, Limits::new(1, 8, 128)?)?;
-    takes(&rt, alloc, &mut core, Step::Begin(0), Answer::Began(1))?;
+/// Caller 0 puts 129 keys; false where a step is refused memory twice.
+fn many_put(rt: &impl Abort, alloc: Global, core: &mut Core) -> Result<bool, Fail> {
+    let mut is_done = takes(rt, alloc, core, Step::Begin(0), Answer::Began(1))?;
     for key in 0..129 {
-        let put = Step::Ask(0, Op::Put(key, key));
-        takes(&rt, alloc, &mut core, put, Answer::Asked)?;
-        takes(&rt, alloc, &mut core, Step::Seek(0), Answer::Placed)?;
-        takes(&rt, alloc, &mut core, Step::Act(0), Answer::Done(None))?;
+        let lines = [
+            (Step::Ask(0, Op::Put(key, key)), Answer::Asked),
+            (Step::Seek(0), Answer::Placed),
+            (Step::Act(0), Answer::Done(None)),
+        ];
+        for (step, wanted) in lines {
+            is_done = is_done && takes(rt, alloc, core, step, wanted)?;
+        }
     }
-    for (seen, size) in [(2, 4), (4, 8), (8, 16), (16, 32), (32, 64), (64, 128)] {
-        let doubled = Answer::Doubled(size);
-        takes(&rt, alloc, &mut core, Step::Double(seen), doubled)?;
-    }
+    Ok(is_done)
+}
+
+/// Bucket 64, the first of the second segment, is stored; false where a step is refused memory
+/// twice.
+fn second_segment(rt: &impl Abort, alloc: Global, core: &mut Core) -> Result<bool, Fail> {
     let missing = Answer::Refused(Refusal::ParentMissing);
     let lines = [
+        (Step::Double(2), Answer::Doubled(4)),
+        (Step::Double(4), Answer::Doubled(8)),
+        (Step::Double(8), Answer::Doubled(16)),
+        (Step::Double(16), Answer::Doubled(32)),
+        (Step::Double(32), Answer::Doubled(64)),
+        (Step::Double(64), Answer::Doubled(128)),
         (Step::Double(128), Answer::AtLimit),
         (Step::InitSeek(0, 96), missing),
         (Step::InitSeek(0, 64), Answer::Placed),
         (Step::InitLink(0), Answer::Linked),
         (Step::InitStore(0), Answer::Stored),
         (Step::InitSeek(0, 64), Answer::Ready),
-        (Step::Commit(0), Answer::Committed(1)),
     ];
+    let mut is_done = true;
     for (step, wanted) in lines {
-        takes(&rt, alloc, &mut core, step, wanted)?;
+        is_done = is_done && takes(rt, alloc, core, step, wanted)?;
     }
-    assert_eq!(rt; (core.size(), core.count()), (128, 129));
+    Ok(is_done)
+}
+
+/// Bucket 64 is the first of the second segment, so its store takes memory. Also run with each
+/// allocation refused in turn, and with all from one on: where a step is refused it may be taken
+/// again, and where it is refused again the caller aborts, for which no memory is wanted.
+#[test]
+fn segments(rt: HostRuntime) -> Result<(), Fail> {
+    let alloc = rt.alloc();
+    let Some(mut core) = core_if_made(alloc, Limits::new(1, 8, 128)?) else {
+        return Ok(());
+    };
+    if many_put(&rt, alloc, &mut core)? && second_segment(&rt, alloc, &mut core)? {
+        assert_eq!(rt; core.step(Step::Commit(0)), Answer::Committed(1));
+        assert_eq!(rt; (core.size(), core.count()), (128, 129));
+    } else {
+        aborts_all(&rt, &mut core, 1);
+    }
     Ok(())
 }
 
@@ -384,7 +412,7 @@ fn nine_undone_newest_first(rt: HostRuntime) -> Result<(), Fail> {
     for key in [9, 8, 7, 6, 5, 4, 3, 2, 1] {
         assert_eq!(rt; core.step(Step::Seek(0)), Answer::Placed);
         assert_eq!(rt; core.step(Step::Act(0)), Answer::Undone);
-        let pairs = pairs_of(alloc, &core)?;
+        let pairs = core.regular_list(alloc)?;
         assert_eq!(rt; (pairs.len() as u64).wrapping_add(1), key);
         assert!(rt; pairs.iter().all(|pair| pair.0 < key));
     }
