@@ -40,6 +40,7 @@ undo_log tests::side_value_returns
 undo_log tests::a_settled_value_stays
 history_check tests::fed_entry_by_entry
 history_check tests::fed_with_savepoints
+thread_runs tests::refused::refused_memory_for_crossing_scripts
 """
 # Tests that pass whichever one allocation is refused, and that are refused no more.
 ALONE = """
@@ -55,7 +56,6 @@ GIVING_UP = """
 locked_map tests::refused::refused_memory_between_callers
 locked_map tests::refused::refused_memory_in_each_call
 locked_map tests::side_rows::side_value_returns
-thread_runs tests::refused::refused_memory_for_crossing_scripts
 """
 # Tests that may also stop at an assertion that says so.
 STOPPING = """
