@@ -32,14 +32,18 @@ map_ops tests::refused_memory_for_a_link
 boost_core tests::five_callers_undone
 boost_core tests::segments
 """
-# Tests that pass whichever one allocation is refused, and that are refused no more.
-ALONE = """
+# Tests that pass whichever one allocation is refused, eight in a row, or all from one on.
+WHOLE = """
 undo_log tests::nine_undone_newest_first
 undo_log tests::a_savepoint_keeps_its_jobs
 undo_log tests::side_value_returns
 undo_log tests::a_settled_value_stays
 history_check tests::fed_entry_by_entry
 history_check tests::fed_with_savepoints
+thread_runs tests::refused::refused_memory_for_crossing_scripts
+"""
+# Tests that pass whichever one allocation is refused, and that are refused no more.
+ALONE = """
 txn_files tests::memory_refused
 boostmap_engine tests::refused_allocations
 boostmap_engine check_tests::history_without_memory
@@ -52,7 +56,6 @@ GIVING_UP = """
 locked_map tests::refused::refused_memory_between_callers
 locked_map tests::refused::refused_memory_in_each_call
 locked_map tests::side_rows::side_value_returns
-thread_runs tests::refused::refused_memory_for_crossing_scripts
 """
 # Tests that may also stop at an assertion that says so.
 STOPPING = """
@@ -274,6 +277,7 @@ def all_tests(runner, crates):
     """For each test of these crates, or of all, whether all is right."""
     ends = [(ALONE, LENGTHS[:1], []), (PASSING, LENGTHS[:1], [])]
     ends += [(PASSING, LENGTHS[1:], ["gave up", "stopped"])]
+    ends += [(WHOLE, LENGTHS, [])]
     ends += [(GIVING_UP, LENGTHS, ["gave up"]), (STOPPING, LENGTHS, ["gave up", "stopped"])]
     for tests, lengths, kinds in ends:
         for crate, name in map(str.split, tests.strip().split("\n")):

@@ -1,7 +1,7 @@
 //! Two workers whose gate orders them.
 use super::waiting::await_flag;
 use crate::{Gate, Outcome, run_scripts};
-use std::alloc::Global;
+use std::alloc::{AllocError, Global};
 use std::process::Abort;
 use std::sync::Wait;
 use std::sync::atomic::{AtomicBool, Ordering};
@@ -40,7 +40,7 @@ impl<R: Abort + Clock + Sync> Gate for Crossing<'_, R> {
 }
 
 /// A script that puts two keys.
-fn two_puts(alloc: Global, first: Op, second: Op) -> Result<Script, Fail> {
+fn two_puts(alloc: Global, first: Op, second: Op) -> Result<Script, AllocError> {
     let mut actions = Vec::new(alloc);
     actions.push(Action::Op(first))?;
     actions.push(Action::Op(second))?;
@@ -48,7 +48,7 @@ fn two_puts(alloc: Global, first: Op, second: Op) -> Result<Script, Fail> {
 }
 
 /// Two scripts, each with two keys of its own.
-pub(super) fn crossing_scripts(alloc: Global) -> Result<Vec<Script>, Fail> {
+pub(super) fn crossing_scripts(alloc: Global) -> Result<Vec<Script>, AllocError> {
     let mut scripts = Vec::new(alloc);
     scripts.push(two_puts(alloc, Op::Put(1, 10), Op::Put(2, 20))?)?;
     scripts.push(two_puts(alloc, Op::Put(3, 30), Op::Put(4, 40))?)?;
