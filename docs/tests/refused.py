@@ -29,11 +29,11 @@ bucket_table tests::refused_allocations
 map_ops tests::refused_memory_for_puts
 map_ops tests::refused_memory_for_a_preparation
 map_ops tests::refused_memory_for_a_link
-boost_core tests::five_callers_undone
-boost_core tests::segments
 """
 # Tests that pass whichever one allocation is refused, eight in a row, or all from one on.
 WHOLE = """
+boost_core tests::five_callers_undone
+boost_core tests::segments
 undo_log tests::nine_undone_newest_first
 undo_log tests::a_savepoint_keeps_its_jobs
 undo_log tests::side_value_returns
