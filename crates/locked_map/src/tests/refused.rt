@@ -1,7 +1,7 @@
 //! What calls leave that are refused memory. `docs/tests/refused.sh` refuses it to them.
-use super::setting::{Play, callers_of, close, is_settled, play_with};
+use super::setting::{Play, callers_of, close, has_left, is_refused, play_where_made};
 use crate::shared_map::Unheard;
-use crate::{Caller, NoSide, Pass, SharedMap};
+use crate::{Caller, Closed, NoSide, Pass, SharedMap};
 use boost_core::{Call, End};
 use std::alloc::Global;
 use std::process::Abort;
@@ -18,25 +18,43 @@ const fn done(reply: Option<u64>) -> End {
     End::Answered(Answer::Done(reply))
 }
 
-/// Takes the calls in turn, as far as the first that is refused memory, which leaves `seen` as it
-/// was. Whether none was.
+/// How a call ends, which is made once more where it is refused memory. A refused one leaves `seen`
+/// as it was.
+fn end_of<L: Ledger, R: Wait + Abort>(
+    rt: &R,
+    map: &SharedMap<L>,
+    me: &mut Caller<L, NoSide>,
+    call: Call,
+) -> End {
+    let before = me.seen().len();
+    for _ in 0..2 {
+        let end = map.run(rt, me, call, &Unheard);
+        if end != End::Refused(Refusal::NoMemory) {
+            return end;
+        }
+        assert_eq!(rt; me.seen().len(), before);
+    }
+    End::Refused(Refusal::NoMemory)
+}
+
+/// Takes the calls in turn, as far as the first that is refused memory twice. Whether none was.
 fn is_whole<L: Ledger, R: Wait + Abort>(
     rt: &R,
+    alloc: Global,
     map: &SharedMap<L>,
     callers: &mut [Caller<L, NoSide>],
     calls: &[Wanted],
-) -> Result<bool, Fail> {
+) -> bool {
     for &(place, call, wanted) in calls {
-        let me = callers.get_mut(place).ok_or("a caller")?;
-        let before = me.seen().len();
-        let end = map.run(rt, me, call, &Unheard);
+        assert!(rt; place < callers.len());
+        let end = end_of(rt, map, &mut callers[place], call);
         if end == End::Refused(Refusal::NoMemory) {
-            assert_eq!(rt; me.seen().len(), before);
-            return Ok(false);
+            assert!(rt; is_refused(alloc));
+            return false;
         }
         assert_eq!(rt; end, wanted);
     }
-    Ok(true)
+    true
 }
 
 /// Gives up each caller's transaction, if it has one, for which no memory is wanted.
@@ -57,11 +75,12 @@ fn give_up<L: Ledger, R: Wait + Abort>(
     }
 }
 
-/// Calls of which all but the first refused one are made; then all give up. Nothing is left, but
-/// one key where no call was refused.
+/// Calls that are made as far as the first that is refused memory twice; then all give up. Nothing
+/// is left, but one key and so many entries where none was.
 #[derive(Clone, Copy)]
 struct Refused<'a> {
     calls: &'a [Wanted],
+    entries: usize,
 }
 
 impl Play for Refused<'_> {
@@ -72,12 +91,15 @@ impl Play for Refused<'_> {
         map: SharedMap<L>,
         passes: Vec<Pass<L>>,
     ) -> Result<(), Fail> {
-        let mut callers = callers_of(alloc, passes)?;
-        let whole = is_whole(rt, &map, callers.as_mut_slice(), self.calls)?;
+        let Ok(mut callers) = callers_of(alloc, passes) else {
+            assert!(rt; is_refused(alloc));
+            return Ok(());
+        };
+        let whole = is_whole(rt, alloc, &map, callers.as_mut_slice(), self.calls);
         give_up(rt, &map, callers.as_mut_slice());
-        let closed = close(map, callers)?;
-        assert_eq!(rt; closed.core.count(), u64::from(whole));
-        assert!(rt; is_settled(alloc, closed.core.trace())?);
+        let Closed { core, callers: _ } = close(map, callers)?;
+        assert!(rt; has_left(rt, alloc, &core, u64::from(whole)));
+        assert!(rt; !whole || core.trace().len() == self.entries);
         Ok(())
     }
 }
@@ -96,8 +118,9 @@ fn refused_memory_between_callers(rt: HostRuntime) -> Result<(), Fail> {
     ];
     let what = Refused {
         calls: calls.as_slice(),
+        entries: 9,
     };
-    play_with(&rt, rt.alloc(), 2, &what)
+    play_where_made(&rt, rt.alloc(), 2, &what)
 }
 
 /// Each kind of call, among them a help that doubles and makes buckets.
@@ -119,6 +142,7 @@ fn refused_memory_in_each_call(rt: HostRuntime) -> Result<(), Fail> {
     ];
     let what = Refused {
         calls: calls.as_slice(),
+        entries: 24,
     };
-    play_with(&rt, rt.alloc(), 2, &what)
+    play_where_made(&rt, rt.alloc(), 2, &what)
 }
