@@ -40,6 +40,9 @@ undo_log tests::side_value_returns
 undo_log tests::a_settled_value_stays
 history_check tests::fed_entry_by_entry
 history_check tests::fed_with_savepoints
+locked_map tests::refused::refused_memory_between_callers
+locked_map tests::refused::refused_memory_in_each_call
+locked_map tests::side_rows::side_value_returns
 thread_runs tests::refused::refused_memory_for_crossing_scripts
 """
 # Tests that pass whichever one allocation is refused, and that are refused no more.
@@ -50,12 +53,6 @@ boostmap_engine check_tests::history_without_memory
 boostmap_engine mix_tests::mix_without_memory
 boostmap_engine run_tests::run_without_memory
 command_line tests::refused_allocations
-"""
-# Tests that may also give up, by an error, where one is.
-GIVING_UP = """
-locked_map tests::refused::refused_memory_between_callers
-locked_map tests::refused::refused_memory_in_each_call
-locked_map tests::side_rows::side_value_returns
 """
 # Tests that may also stop at an assertion that says so.
 STOPPING = """
@@ -277,8 +274,7 @@ def all_tests(runner, crates):
     """For each test of these crates, or of all, whether all is right."""
     ends = [(ALONE, LENGTHS[:1], []), (PASSING, LENGTHS[:1], [])]
     ends += [(PASSING, LENGTHS[1:], ["gave up", "stopped"])]
-    ends += [(WHOLE, LENGTHS, [])]
-    ends += [(GIVING_UP, LENGTHS, ["gave up"]), (STOPPING, LENGTHS, ["gave up", "stopped"])]
+    ends += [(WHOLE, LENGTHS, []), (STOPPING, LENGTHS, ["gave up", "stopped"])]
     for tests, lengths, kinds in ends:
         for crate, name in map(str.split, tests.strip().split("\n")):
             program = f"crates/{crate}/out/{crate}_tests"
