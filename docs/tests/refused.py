@@ -20,8 +20,8 @@ PROGRAM = "crates/boostmap/out/boostmap"
 # How many allocations are refused, from the one whose turn it is on: one, a few, all.
 LENGTHS = [1, 8, 2**62]
 
-# Tests that pass whichever one allocation is refused: crate and name. Where more are, they may end
-# as the ones below.
+# Tests that pass whichever one allocation is refused: crate and name. Where more are, they may also
+# give up by an error, or stop at an assertion that says so.
 PASSING = """
 key_locks tests::a_stripe_is_held_until_its_holder_releases
 node_list tests::refused_allocations
@@ -54,8 +54,8 @@ boostmap_engine mix_tests::mix_without_memory
 boostmap_engine run_tests::run_without_memory
 command_line tests::refused_allocations
 """
-# Tests that may also stop at an assertion that says so.
-STOPPING = """
+# Tests that may also give up, by an error, where what they work on cannot be made.
+GIVING_UP = """
 bucket_table tests::bucket_initialisation
 """
 # What an assertion says of a call that was refused memory.
@@ -274,7 +274,7 @@ def all_tests(runner, crates):
     """For each test of these crates, or of all, whether all is right."""
     ends = [(ALONE, LENGTHS[:1], []), (PASSING, LENGTHS[:1], [])]
     ends += [(PASSING, LENGTHS[1:], ["gave up", "stopped"])]
-    ends += [(WHOLE, LENGTHS, []), (STOPPING, LENGTHS, ["gave up", "stopped"])]
+    ends += [(WHOLE, LENGTHS, []), (GIVING_UP, LENGTHS, ["gave up"])]
     for tests, lengths, kinds in ends:
         for crate, name in map(str.split, tests.strip().split("\n")):
             program = f"crates/{crate}/out/{crate}_tests"

@@ -1,11 +1,11 @@
 #!/usr/bin/env bash
 # Refuses memory to the built program, in each command on small files, and to the built tests that
 # are meant for it. Allocation 1 is refused, then 2, and so on until a run meets no refusal; then,
-# to the commands and to those tests that say what ended them, so again with eight in a row refused,
-# and with all from that one on. A command must end as with memory, or with status 4 and nothing but
-# `no memory` (of `run` also `no thread`); or, where steps were answered `refused 14`, all the rest
-# must be as if they were not there, and a history that `mix` or `run` wrote must be legal. A test
-# must pass; some may also give up where they are refused memory. None may crash, or take ten seconds.
+# to the commands and to most of those tests, so again with eight in a row refused, and with all
+# from that one on. A command must end as with memory, or with status 4 and nothing but `no memory`
+# (of `run` also `no thread`); or, where steps were answered `refused 14`, all the rest must be as if
+# they were not there, and a history that `mix` or `run` wrote must be legal. A test must pass; where
+# what it works on cannot be made, some may give up. None may crash, or take ten seconds.
 #
 # With words it tries the tests of those crates, as 'map_ops boost_core', or `commands`. `rt ci`
 # builds all that it wants, and `rt test` the tests of one crate. It needs a C compiler (CC) and
