@@ -44,58 +44,17 @@ fn made(list: &mut NodeList, buckets: &mut Buckets, call: Call) -> Answer
     }
 }
 
-/// Whether a call was refused memory.
-fn is_refused(answer: Answer) -> bool {
-    matches!(
-        answer,
-        Answer::Link(Err(InitRefusal::NoMemory)) | Answer::Store(Err(InitRefusal::NoMemory))
-    )
-}
-
-/// What is seen of list and buckets without memory.
-fn figures(list: &NodeList, buckets: &Buckets) -> (u32, u64, u64) {
-    (buckets.size(), list.count(), list.changes())
-}
-
-/// Makes one call, once more where it is refused memory. What is seen stays where it is refused.
-fn make_again(rt: &impl Abort, list: &mut NodeList, buckets: &mut Buckets, call: Call) -> Answer
-    requires home { IsHome buckets.old list.old }
-    requires keyed { IsKeyed list.old.nodes }
-    ensures home { IsHome buckets.new list.new }
-    ensures keyed { IsKeyed list.new.nodes }
-{
-    let before = figures(list, buckets);
-    let first = made(list, buckets, call);
-    if !is_refused(first) {
-        return first;
-    }
-    assert_eq!(rt; figures(list, buckets), before);
-    let second = made(list, buckets, call);
-    assert!(rt; !is_refused(second) || figures(list, buckets) == before);
-    second
-}
-
-/// Makes calls in turn as far as the first that is refused memory twice, and compares their
-/// answers. Whether none was.
-fn make_all(
-    rt: &impl Abort,
-    list: &mut NodeList,
-    buckets: &mut Buckets,
-    calls: &[(Call, Answer)],
-) -> bool
+/// Makes calls in turn, and compares their answers.
+fn make_all(rt: &impl Abort, list: &mut NodeList, buckets: &mut Buckets, calls: &[(Call, Answer)])
     requires home { IsHome buckets.old list.old }
     requires keyed { IsKeyed list.old.nodes }
     ensures home { IsHome buckets.new list.new }
     ensures keyed { IsKeyed list.new.nodes }
 {
     for (call, wanted) in calls {
-        let answer = make_again(rt, list, buckets, *call);
-        if is_refused(answer) {
-            return false;
-        }
+        let answer = made(list, buckets, *call);
         assert_eq!(rt; answer, *wanted, "to {call:?}");
     }
-    true
 }
 
 /// Links the node of a key, sought from the nearest stored bucket.
@@ -182,11 +141,7 @@ fn initialised(rt: &impl Abort, alloc: Global) -> Result<(NodeList, Buckets), Fa
         store_by(1, Ok(())),
         seek_by(1, 3, Ok(InitSeek::Ready)),
     ];
-    let is_whole = make_all(rt, &mut list, &mut buckets, &calls);
-    assert!(rt;
-        is_whole || Box::new(alloc, 0).is_err(),
-        "only where memory is refused still"
-    );
+    make_all(rt, &mut list, &mut buckets, &calls);
     Ok((list, buckets))
 }
 
@@ -202,8 +157,6 @@ fn kinds(list: &NodeList) -> [Option<(u64, Kind, u64)>; 9] {
     kinds
 }
 
-/// Also run with allocations refused: what is refused is tried once more, and where it is refused
-/// again, list and buckets are as they were.
 #[test]
 fn bucket_initialisation(rt: HostRuntime) -> Result<(), Fail> {
     let (_list, buckets) = initialised(&rt, rt.alloc())?;
@@ -245,7 +198,7 @@ fn stamps_used_up(rt: HostRuntime) -> Result<(), Fail> {
         link_by(0, Err(InitRefusal::StampsUsedUp)),
         link_by(1, Err(InitRefusal::NoSuchHelper)),
     ];
-    assert!(rt; make_all(&rt, &mut list, &mut buckets, &calls));
+    make_all(&rt, &mut list, &mut buckets, &calls);
     assert_eq!(rt; buckets.nearest(1), list.head());
     Ok(())
 }
