@@ -184,7 +184,7 @@ impl Core {
         }
         if self
             .history
-            .reserve(self.owed + step.reserved() as usize)
+            .reserve(self.owed + step.entry_room() as usize)
             .is_err()
         {
             return Answer::Refused(Refusal::NoMemory);

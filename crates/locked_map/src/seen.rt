@@ -99,7 +99,7 @@ impl<L: Ledger> Seen<L> {
         ensures full { OnErr result (HasRoomFor self.old step → ⊥) }
     {
         let least = u64::from(adds_entry(step));
-        let wanted = (self.seat.owed() + step.reserved()).max(least);
+        let wanted = (self.seat.owed() + step.entry_room()).max(least);
         self.entries.reserve(wanted as usize)?;
         if let Step::Save(_) = step {
             self.seat.reserve_level()?;

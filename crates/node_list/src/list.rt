@@ -64,7 +64,7 @@ impl NodeList {
         let marks = Tally::new(alloc)?;
         let mut slab = Slab::new(alloc);
         let node = Node::dummy(SortKey::dummy(0), first_stamp);
-        match slab.insert(Slot::linked(node)) {
+        match slab.insert(Slot::of_linked(node)) {
             // The first place of a slab is 0.
             Ok(_) => Ok(NodeList {
                 slab,
@@ -137,7 +137,7 @@ impl NodeList {
         let next = replace_next(&mut self.slab, pred.place(), Some(place));
         let node = spare.into_node(next);
         let weight = node.kind.weight();
-        set_slot(&mut self.slab, place.place(), Slot::linked(node));
+        set_slot(&mut self.slab, place.place(), Slot::of_linked(node));
         // No more nodes are counted than places are in use, so the counts fit.
         let _places = self.slab.len();
         self.count += weight;

@@ -28,7 +28,7 @@ impl Model for Slot {
 
 impl Slot {
     /// A linked node.
-    pub fn linked(node: Node) -> Self
+    pub fn of_linked(node: Node) -> Self
         requires { node.is_linked ≡ true }
         ensures { result ≡ Linked node }
     {

@@ -76,7 +76,7 @@ pub enum Step {
 impl Step {
     /// How many entries a core reserves room for in its history before it takes the step. Constant
     /// time.
-    pub fn reserved(self) -> u64
+    pub fn entry_room(self) -> u64
         ensures { result ≡ reserved self }
     {
         match self {

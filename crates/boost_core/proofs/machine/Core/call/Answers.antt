@@ -24,7 +24,7 @@ use Rattle.boost_core.specs.Core.{World}
 use Rattle.boost_core.proofs.machine.Core.call.Goals as goal
 
 pub overflow_add-self-inside : goal.overflow_add-self-inside
-overflow_add-self-inside c = omega (arith, reserved_few c.args.step, c.reserved.ensures, c.self.invariant.owes, c.self.invariant.room, c.self.inside.history.ok, c.self.inside.history.small)
+overflow_add-self-inside c = omega (arith, reserved_few c.args.step, c.entry_room.ensures, c.self.invariant.owes, c.self.invariant.room, c.self.inside.history.ok, c.self.inside.history.small)
 
 pub answer-answer-requires : goal.answer-answer-requires
 answer-answer-requires c =
@@ -42,7 +42,7 @@ add-self-inside-requires c =
     called _ c.self.invariant.tells c.index_mut-session.result.now c.answer-answer.new.self c.answer-answer.new.table c.answer-answer.new.locks c.answer-answer.ensures.placed c.answer-answer.ensures.rises c.args.claim c.args.caller c.args.step c.requires.owner at none (some_stripe c.self.inside.limits.callers c.self.inside.limits.stripes c.self.inside.limits.buckets c.stripes.ensures.limits) (claims_of c.args.claim _ _ c.args.step c.self.view_is c.requires.claim) c.answer-answer.result
     (subst (λ s. Does c.args.claim s c.self.inside.counts c.args.step c.index_mut-session.result.now c.self.inside.table c.self.inside.locks c.answer-answer.result c.answer-answer.new.self c.answer-answer.new.table c.answer-answer.new.locks) (c.from-stripes.ensures ∙ c.stripes.ensures.value) c.answer-answer.ensures.does) in
     let room = when_ok c.reserve.result c.if-is_err.ensures.value c.reserve.ensures.ok in
-    can_add _ c.self.invariant.tells c.args.caller c.index_mut-session.result.now c.answer-answer.new.self at c.args.step c.answer-answer.result c.answer-answer.new.table c.answer-answer.new.locks is c.entry_of-entry.result c.entry_of-entry.ensures (vec_len c.reserve.new.self) (vec_capacity c.reserve.new.self) c.self.inside.owed c.self.invariant.owes (omega (arith, room, c.reserved.ensures)) (omega (arith, c.reserve.new.self.ok, c.reserve.new.self.small))
+    can_add _ c.self.invariant.tells c.args.caller c.index_mut-session.result.now c.answer-answer.new.self at c.args.step c.answer-answer.result c.answer-answer.new.table c.answer-answer.new.locks is c.entry_of-entry.result c.entry_of-entry.ensures (vec_len c.reserve.new.self) (vec_capacity c.reserve.new.self) c.self.inside.owed c.self.invariant.owes (omega (arith, room, c.entry_room.ensures)) (omega (arith, c.reserve.new.self.ok, c.reserve.new.self.small))
 
 pub invariant_of-self-2 : goal.invariant_of-self-2
 invariant_of-self-2 c =
@@ -53,7 +53,7 @@ invariant_of-self-2 c =
     (subst (λ s. Does c.args.claim s c.self.inside.counts c.args.step c.index_mut-session.result.now c.self.inside.table c.self.inside.locks c.answer-answer.result c.answer-answer.new.self c.answer-answer.new.table c.answer-answer.new.locks) (c.from-stripes.ensures ∙ c.stripes.ensures.value) c.answer-answer.ensures.does) in
     let room = when_ok c.reserve.result c.if-is_err.ensures.value c.reserve.ensures.ok in
     let owes : sum_by owed_of c.self.inside.sessions.items ≡ c.self.inside.owed = sym c.self.invariant.owes in
-    let fits = called_room _ c.self.invariant.tells c.args.caller c.index_mut-session.result.now c.answer-answer.new.self at c.args.step c.answer-answer.result c.answer-answer.new.table c.answer-answer.new.locks is c.add-self-inside.new.seat c.entry_of-entry.result c.entry_of-entry.ensures c.add-self-inside.ensures.seat (vec_len c.reserve.new.self) (vec_capacity c.reserve.new.self) (omega (arith, room, c.reserved.ensures)) in
+    let fits = called_room _ c.self.invariant.tells c.args.caller c.index_mut-session.result.now c.answer-answer.new.self at c.args.step c.answer-answer.result c.answer-answer.new.table c.answer-answer.new.locks is c.add-self-inside.new.seat c.entry_of-entry.result c.entry_of-entry.ensures c.add-self-inside.ensures.seat (vec_len c.reserve.new.self) (vec_capacity c.reserve.new.self) (omega (arith, room, c.entry_room.ensures)) in
     let pushed = c.add-self-inside.ensures.items ∙ ap (λ (es : List Entry). es ++ option_to_list c.entry_of-entry.result) c.reserve.ensures.items in
     record {
       tells = subst (λ (n : Counts). Tells (world_after (world_of c.self.inside.limits c.self.inside.history c.self.inside.counts c.self.inside.table c.self.inside.sessions c.self.inside.locks c.self.inside.placed c.self.inside.words) c.args.caller (seated_as c.answer-answer.new.self c.add-self-inside.new.seat) c.add-self-inside.new.history.items n c.answer-answer.new.table c.answer-answer.new.locks c.placed_after-self-inside.result)) (sym c.after-self-inside.ensures)
@@ -104,7 +104,7 @@ returns-then-is_err-clause-moves c =
     let none = none_of _ _ c.args.step _ c.self.view_is c.refusal.ensures c.in_default.is in
     let w : World = world_of c.self.inside.limits c.self.inside.history c.self.inside.counts c.self.inside.table c.self.inside.sessions c.self.inside.locks c.self.inside.placed c.self.inside.words in
     let full = when_err c.reserve.result c.if-is_err.ensures.value c.reserve.ensures.full in
-    let some : 0 < reserved c.args.step = omega (arith, full, c.reserved.ensures, c.self.invariant.owes, c.self.invariant.room) in
+    let some : 0 < reserved c.args.step = omega (arith, full, c.entry_room.ensures, c.self.invariant.owes, c.self.invariant.room) in
     goes_of c.args.claim _ _ _ _ _ c.self.view_is (subst (λ (h : List Entry). Goes c.args.claim (state_of w) c.args.step (answers.Refused refusals.NoMemory) (state_of (record w { history = h }))) (sym c.reserve.ensures.items) (goes_lacking c.args.claim (state_of w) c.args.step (no_memory (state_of w) c.args.step none some)))
 
 pub returns-then-is_err-clause-lists : goal.returns-then-is_err-clause-lists

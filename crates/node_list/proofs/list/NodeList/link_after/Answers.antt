@@ -31,7 +31,7 @@ overflow_add-self c =
     let pointed = rw (c.place.ensures, c.node-place.ensures) at c.replace_next-next.ensures.now slot.0 in
     let order = rising_vacant _ _ (filled c.args.spare) c.self.invariant.kept.laid_out.rising vacant in
     let weight = rw c.into_node-node.ensures at c.weight-weight.ensures in
-    let filled = rw (c.place-2.ensures, c.node-place.ensures, c.linked.ensures, c.into_node-node.ensures) at c.set_slot.ensures in
+    let filled = rw (c.place-2.ensures, c.node-place.ensures, c.of_linked.ensures, c.into_node-node.ensures) at c.set_slot.ensures in
     let now = filled_in _ _ c.self.inside.changes _ _ _ c.self.invariant.kept _ _ _ slot.0 c.args.spare _ slot.1 out (next_was slot.1) (pointed slot.1) _ weight filled linked order in
     let fits = counted_fit _ _ _ _ _ now.0 in
     omega (arith, fits, c.len-places.ensures, c.len-places.type_inv)
@@ -46,7 +46,7 @@ invariant_of-self c =
     let pointed = rw (c.place.ensures, c.node-place.ensures) at c.replace_next-next.ensures.now slot.0 in
     let order = rising_vacant _ _ (filled c.args.spare) c.self.invariant.kept.laid_out.rising vacant in
     let weight = rw c.into_node-node.ensures at c.weight-weight.ensures in
-    let filled = rw (c.place-2.ensures, c.node-place.ensures, c.linked.ensures, c.into_node-node.ensures) at c.set_slot.ensures in
+    let filled = rw (c.place-2.ensures, c.node-place.ensures, c.of_linked.ensures, c.into_node-node.ensures) at c.set_slot.ensures in
     let now = filled_in _ _ c.self.inside.changes _ _ _ c.self.invariant.kept _ _ _ slot.0 c.args.spare _ slot.1 out (next_was slot.1) (pointed slot.1) _ weight filled linked order in
     record { kept = now.0; tallied = tallied_linked c.self.inside.marks _ _ _ _ c.self.invariant.tallied linked refl now.1.nodes }
 
@@ -60,7 +60,7 @@ returns-clause-linked c =
     let pointed = rw (c.place.ensures, c.node-place.ensures) at c.replace_next-next.ensures.now slot.0 in
     let order = rising_vacant _ _ (filled c.args.spare) c.self.invariant.kept.laid_out.rising vacant in
     let weight = rw c.into_node-node.ensures at c.weight-weight.ensures in
-    let filled = rw (c.place-2.ensures, c.node-place.ensures, c.linked.ensures, c.into_node-node.ensures) at c.set_slot.ensures in
+    let filled = rw (c.place-2.ensures, c.node-place.ensures, c.of_linked.ensures, c.into_node-node.ensures) at c.set_slot.ensures in
     let now = filled_in _ _ c.self.inside.changes _ _ _ c.self.invariant.kept _ _ _ slot.0 c.args.spare _ slot.1 out (next_was slot.1) (pointed slot.1) _ weight filled linked order in
     rw (c.advance.ensures.next, ← c.self.view_is) now.1
 
@@ -74,7 +74,7 @@ returns-clause-node c =
     let pointed = rw (c.place.ensures, c.node-place.ensures) at c.replace_next-next.ensures.now slot.0 in
     let order = rising_vacant _ _ (filled c.args.spare) c.self.invariant.kept.laid_out.rising vacant in
     let weight = rw c.into_node-node.ensures at c.weight-weight.ensures in
-    let filled = rw (c.place-2.ensures, c.node-place.ensures, c.linked.ensures, c.into_node-node.ensures) at c.set_slot.ensures in
+    let filled = rw (c.place-2.ensures, c.node-place.ensures, c.of_linked.ensures, c.into_node-node.ensures) at c.set_slot.ensures in
     let now = filled_in _ _ c.self.inside.changes _ _ _ c.self.invariant.kept _ _ _ slot.0 c.args.spare _ slot.1 out (next_was slot.1) (pointed slot.1) _ weight filled linked order in
     now.2
 
@@ -88,6 +88,6 @@ returns-clause-follows c =
     let pointed = rw (c.place.ensures, c.node-place.ensures) at c.replace_next-next.ensures.now slot.0 in
     let order = rising_vacant _ _ (filled c.args.spare) c.self.invariant.kept.laid_out.rising vacant in
     let weight = rw c.into_node-node.ensures at c.weight-weight.ensures in
-    let filled = rw (c.place-2.ensures, c.node-place.ensures, c.linked.ensures, c.into_node-node.ensures) at c.set_slot.ensures in
+    let filled = rw (c.place-2.ensures, c.node-place.ensures, c.of_linked.ensures, c.into_node-node.ensures) at c.set_slot.ensures in
     let now = filled_in _ _ c.self.inside.changes _ _ _ c.self.invariant.kept _ _ _ slot.0 c.args.spare _ slot.1 out (next_was slot.1) (pointed slot.1) _ weight filled linked order in
     rw (c.advance.ensures.next, ← c.self.view_is) (now.3 c.advance.ensures.fits)
