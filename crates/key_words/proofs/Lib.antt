@@ -1,3 +1,4 @@
 pub mod Keeps
 pub mod Moves
+pub mod RightLemmas
 pub mod SeatLemmas

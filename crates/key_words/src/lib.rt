@@ -10,10 +10,12 @@
 //! one seat at most (`held_once`), the one that its word names; its right is in its slot exactly
 //! where the word is 0, and so is handed to one seat at a time; a seat is named as a holder only
 //! once it has taken the stripe, so that no take can answer that an untouched stripe is held. No
-//! call waits, and none but `KeyWords::new` takes memory. Nothing says that a take ever succeeds.
+//! call waits, and none but `KeyWords::new` and `Rights::take` takes memory. Nothing says that a
+//! take ever succeeds.
 #![tactic(auto)]
 
 mod law;
+mod rights;
 mod rule;
 mod seat;
 mod slots;
@@ -23,8 +25,9 @@ mod words;
 
 pub use key_locks::StripeRight;
 pub use law::held_once;
+pub use rights::Rights;
 pub use seat::KeySeat;
-pub use taken::Taken;
+pub use taken::{Taken, Tried};
 pub use view::View;
 pub use words::KeyWords;
 

@@ -8,3 +8,12 @@ pub enum Taken {
     /// The stripe is held: its word, one more than the number of the seat that held it.
     Held(u64),
 }
+
+/// What a take answers to whoever keeps its rights.
+#[derive(Clone, Copy, Debug, PartialEq, Eq)]
+pub enum Tried {
+    /// The stripe is the seat's: the place of its right.
+    Mine(usize),
+    /// The stripe is held by another seat: its word, one more than that seat's number.
+    Another(u64),
+}

@@ -2,7 +2,8 @@ ghost use Rattle.std.specs.Prelude.{◌≡◌, ◌<◌, ◌-◌, IfSome, OnSome}
 ghost use Rattle.std.specs.Thread.{IsSync};
 ghost use Rattle.key_words.specs.Seats.{AreSeats, IsOf, stripes_of};
 
-use crate::{KeySeat, KeyWords, StripeRight, Taken};
+use crate::{KeySeat, KeyWords, Rights, StripeRight, Taken, Tried};
+use std::alloc::AllocError;
 use std::test::Fail;
 use std::thread::{Threads, join};
 
@@ -24,6 +25,71 @@ fn words_of_stripes(rt: HostRuntime) -> Result<(), Fail> {
     assert!(rt; matches!(words.take(&mut one, 1), Taken::Granted(_)));
     assert!(rt; matches!(words.take(&mut zero, 1), Taken::Held(2)));
     Ok(())
+}
+
+/// What a caller does in its turn.
+#[derive(Clone, Copy, Debug)]
+enum Turn {
+    /// It takes a stripe, and is to be answered this.
+    Take(usize, Tried),
+    /// It gives all its rights back.
+    GiveBack,
+}
+
+/// A stripe that the caller has is its own at its right's place, a free one at the next place, and
+/// one of the other caller is the other's, by one more than its number.
+#[test]
+fn rights_of_two_callers(rt: HostRuntime) -> Result<(), Fail> {
+    let rights = StripeRight::all(rt.alloc(), 8)?;
+    let Ok((words, mut seats)) = KeyWords::new(rt.alloc(), rights, 2) else {
+        return Err("memory")?;
+    };
+    let mut one = Rights::new(rt.alloc(), seats.pop().ok_or("no seat 1")?);
+    let mut zero = Rights::new(rt.alloc(), seats.pop().ok_or("no seat 0")?);
+    for (caller, turn) in [
+        (0, Turn::Take(3, Tried::Mine(0))),
+        (0, Turn::Take(5, Tried::Mine(1))),
+        (0, Turn::Take(3, Tried::Mine(0))),
+        (0, Turn::Take(6, Tried::Mine(2))),
+        (1, Turn::Take(3, Tried::Another(1))),
+        (1, Turn::Take(4, Tried::Mine(0))),
+        (0, Turn::Take(4, Tried::Another(2))),
+        (0, Turn::GiveBack),
+        (1, Turn::Take(3, Tried::Mine(1))),
+        (1, Turn::Take(5, Tried::Mine(2))),
+        (0, Turn::Take(5, Tried::Another(2))),
+        (1, Turn::GiveBack),
+        (0, Turn::Take(5, Tried::Mine(0))),
+    ] {
+        let is_answered = if caller == 0 {
+            is_answered(&words, &mut zero, turn)?
+        } else {
+            is_answered(&words, &mut one, turn)?
+        };
+        assert!(rt; is_answered, "caller {caller}: {turn:?}");
+    }
+    Ok(())
+}
+
+/// Plays a turn over eight stripes. Whether a take answers what it is to, and a right at the place
+/// is the stripe's.
+fn is_answered(words: &KeyWords, rights: &mut Rights, turn: Turn) -> Result<bool, AllocError>
+    requires seat { IsOf rights.old.seat words.now }
+    requires stripes { stripes_of words.now ≡ 8 }
+    ensures { IsOf rights.new.seat words.now }
+{
+    let Turn::Take(stripe, wanted) = turn else {
+        rights.give_back(words);
+        return Ok(true);
+    };
+    if stripe >= 8 {
+        return Ok(false);
+    }
+    let tried = rights.take(words, stripe)?;
+    Ok(match tried {
+        Tried::Mine(place) => tried == wanted && rights.right(place).stripe() == stripe,
+        Tried::Another(_) => tried == wanted,
+    })
 }
 
 /// Takes the last of so many seats out.

@@ -1,0 +1,33 @@
+-- What a caller does with its seat and its rights.
+use Rattle.std.specs.Prelude.{◌≡◌, ◌≢◌, ℕ, ◌+◌, List, [], ◌∷◌, ◌++◌, slice_get, Some}
+use Rattle.key_words.specs.declared.rights.Rights.{Rights}
+use Rattle.key_words.specs.declared.taken.Tried.{Tried}
+use Rattle.key_words.specs.declared.taken.Tried.TheVariants.{Mine, Another}
+use Rattle.key_words.specs.declared.view.View.{View}
+use Rattle.key_words.specs.Rule.{Holds, view}
+use Rattle.key_words.specs.Seats.{known}
+use Rattle.key_words.specs.Steps.{gained, noted}
+
+-- Seat and rights are as they were.
+abbrev pub IsSame : Rights → Rights → Type 0
+IsSame r q = (q.seat ≡ r.seat) × (q.rights.items ≡ r.rights.items)
+
+-- The seat has the stripe now, and its right is the newest.
+abbrev pub Gains : Rights → ℕ → Rights → Type 0
+Gains r stripe q = (known q.seat ≡ gained (known r.seat) stripe)
+    × (q.rights.items ≡ r.rights.items ++ stripe ∷ [])
+
+-- A take by whoever keeps its rights. Mine: the stripe's right lies at the place; where the seat
+-- held the stripe before, nothing was done, and else it was free and is the seat's. Another: the
+-- seat did not hold the stripe, another does, the word is noted, and the rights are as they were.
+abbrev pub Tries : Rights → ℕ → Tried → Rights → Type 0
+Tries r stripe (Mine place) q = (slice_get q.rights.items place ≡ Some stripe)
+    × (Holds (known r.seat) stripe → IsSame r q)
+    × (¬ Holds (known r.seat) stripe → Gains r stripe q)
+Tries r stripe (Another word) q = (word ≢ 0) × (word ≢ (known r.seat).number + 1)
+    × (¬ Holds (known r.seat) stripe)
+    × (known q.seat ≡ noted (known r.seat) stripe word) × (q.rights.items ≡ r.rights.items)
+
+-- The view, once no stripe is held.
+abbrev pub none_held : View → View
+none_held v = view v.number v.made [] v.notes

@@ -1,0 +1,99 @@
+ghost use Rattle.std.specs.Prelude.{◌≡◌, ◌<◌, [], reverse, vec_len, slice_get, Some, IfErr, IfOk, IfSome, IfNone};
+ghost use Rattle.key_words.specs.Rule.{Holds};
+ghost use Rattle.key_words.specs.Seats.{IsOf, known, stripes_of};
+
+use crate::seat::KeySeat;
+use crate::taken::{Taken, Tried};
+use crate::words::KeyWords;
+use key_locks::StripeRight;
+use std::alloc::{AllocError, Global};
+
+/// A caller's seat, and the rights of the stripes that it holds, the newest last.
+///
+/// That the rights are of just the stripes that the seat holds, each once, is a fact of the type.
+/// So no call loses one; whoever drops the whole loses its rights.
+#[derive(Drop)]
+pub struct Rights {
+    pub(crate) seat: KeySeat,
+    pub(crate) rights: Vec<StripeRight>,
+    ghost kept: { (known seat).held ≡ reverse rights.items },
+}
+
+impl Rights {
+    ghost use Rattle.key_words.specs.Kept.{IsSame, Tries, none_held};
+
+    /// A seat that holds nothing, with no rights. Takes no memory.
+    pub fn new(alloc: Global, seat: KeySeat) -> Rights
+        requires { (known seat).held ≡ [] }
+        ensures { (result.seat ≡ seat) × (result.rights.items ≡ []) }
+    {
+        Rights {
+            seat,
+            rights: Vec::new(alloc),
+        }
+    }
+
+    /// The place of the stripe's right.
+    fn place(&self, stripe: usize) -> Option<usize>
+        ensures some { IfSome result (λ place.
+            slice_get self.now.rights.items place ≡ Some stripe) }
+        ensures held { IfSome result (λ _. Holds (known self.now.seat) stripe) }
+        ensures none { IfNone result (¬ Holds (known self.now.seat) stripe) }
+    {
+        for (place, right) in self.rights.iter().enumerate() {
+            if right.stripe() == stripe {
+                return Some(place);
+            }
+        }
+        None
+    }
+
+    /// Takes the stripe's word, in one try, unless the right is there already.
+    ///
+    /// Room for a right is made before the word is tried. Takes time in proportion to the rights.
+    ///
+    /// # Errors
+    ///
+    /// `AllocError` where memory is refused: no word was tried, and seat and rights are as before.
+    pub fn take(&mut self, words: &KeyWords, stripe: usize) -> Result<Tried, AllocError>
+        requires seat { IsOf self.old.seat words.now }
+        requires stripe { stripe < stripes_of words.now }
+        ensures seat { IsOf self.new.seat words.now }
+        ensures tries { IfOk result (λ tried. Tries self.old stripe tried self.new) }
+        ensures refused { IfErr result (λ _. IsSame self.old self.new) }
+    {
+        if let Some(place) = self.place(stripe) {
+            return Ok(Tried::Mine(place));
+        }
+        self.rights.reserve(1)?;
+        match words.take(&mut self.seat, stripe) {
+            Taken::Granted(right) => {
+                self.rights.push_reserved(right);
+                Ok(Tried::Mine(self.rights.len() - 1))
+            }
+            Taken::Held(word) => Ok(Tried::Another(word)),
+        }
+    }
+
+    /// The right at a place. Constant time.
+    pub fn right(&self, place: usize) -> &StripeRight
+        requires { place < vec_len self.now.rights }
+        ensures { Some result.now ≡ slice_get self.now.rights.items place }
+    {
+        &self.rights[place]
+    }
+
+    /// Gives all rights back, the newest first.
+    ///
+    /// Takes no memory, and time in proportion to the rights.
+    pub fn give_back(&mut self, words: &KeyWords)
+        requires { IsOf self.old.seat words.now }
+        ensures seat { IsOf self.new.seat words.now }
+        ensures rights { self.new.rights.items ≡ [] }
+        ensures given { known self.new.seat ≡ none_held (known self.old.seat) }
+    {
+        while let Some(right) = self.rights.pop() {
+            words.give(&mut self.seat, right);
+        }
+    }
+}
