@@ -34,6 +34,7 @@ map_ops tests::refused_memory_for_a_link
 WHOLE = """
 boost_core tests::five_callers_undone
 boost_core tests::segments
+bucket_table tests::bucket_initialisation
 undo_log tests::nine_undone_newest_first
 undo_log tests::a_savepoint_keeps_its_jobs
 undo_log tests::side_value_returns
@@ -44,6 +45,7 @@ locked_map tests::refused::refused_memory_between_callers
 locked_map tests::refused::refused_memory_in_each_call
 locked_map tests::side_rows::side_value_returns
 thread_runs tests::refused::refused_memory_for_crossing_scripts
+boostmap_engine refused_tests::five_callers_undone_is_legal
 """
 # Tests that pass whichever one allocation is refused, and that are refused no more.
 ALONE = """
@@ -53,10 +55,6 @@ boostmap_engine check_tests::history_without_memory
 boostmap_engine mix_tests::mix_without_memory
 boostmap_engine run_tests::run_without_memory
 command_line tests::refused_allocations
-"""
-# Tests that may also give up, by an error, where what they work on cannot be made.
-GIVING_UP = """
-bucket_table tests::bucket_initialisation
 """
 # What an assertion says of a call that was refused memory.
 OF_MEMORY = re.compile("AllocError|AllocFailed|NoMemory")
@@ -274,7 +272,7 @@ def all_tests(runner, crates):
     """For each test of these crates, or of all, whether all is right."""
     ends = [(ALONE, LENGTHS[:1], []), (PASSING, LENGTHS[:1], [])]
     ends += [(PASSING, LENGTHS[1:], ["gave up", "stopped"])]
-    ends += [(WHOLE, LENGTHS, []), (GIVING_UP, LENGTHS, ["gave up"])]
+    ends += [(WHOLE, LENGTHS, [])]
     for tests, lengths, kinds in ends:
         for crate, name in map(str.split, tests.strip().split("\n")):
             program = f"crates/{crate}/out/{crate}_tests"

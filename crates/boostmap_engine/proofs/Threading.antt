@@ -18,10 +18,10 @@ use Rattle.thread_runs.specs.Runs.{HasRunScripts}
 use Rattle.boostmap_engine.specs.Threaded.{IsThreadedOf}
 
 -- What a run has come to, where it was given the parts of a file's work.
-pub threaded_is : (bytes : List ℕ) (work : Work) (limits : Sizes) (workers tries version stripes : ℕ) (scripts : List (List Action)) (outcomes : List Outcome) (trace : List Entry) (text whole : List ℕ) → scripts_of bytes ≡ Ok work
-    → limits ≡ work.sizes → workers ≡ limits.callers → tries ≡ work.tries → version ≡ work.version → stripes ≡ limits.stripes → scripts ≡ work.scripts
-    → HasRunScripts limits workers tries scripts outcomes trace → text ≡ text_of_history version stripes trace → whole ≡ text ++ 10 ∷ [] → IsThreadedOf bytes whole
-threaded_is bytes work limits workers tries version stripes scripts outcomes trace text whole file limits_is workers_is tries_is version_is stripes_is scripts_is run text_is whole_is =
+pub threaded_is : (bytes : List ℕ) (work : Work) (limits : Sizes) (workers tries stripes : ℕ) (scripts : List (List Action)) (outcomes : List Outcome) (trace : List Entry) (text whole : List ℕ) → scripts_of bytes ≡ Ok work
+    → limits ≡ work.sizes → workers ≡ limits.callers → tries ≡ work.tries → stripes ≡ limits.stripes → scripts ≡ work.scripts
+    → HasRunScripts limits workers tries scripts outcomes trace → text ≡ text_of_history 3 stripes trace → whole ≡ text ++ 10 ∷ [] → IsThreadedOf bytes whole
+threaded_is bytes work limits workers tries stripes scripts outcomes trace text whole file limits_is workers_is tries_is stripes_is scripts_is run text_is whole_is =
     let callers : workers ≡ work.sizes.callers = workers_is ∙ ap (λ (s : Sizes). s.callers) limits_is in (
       work,
       file,
@@ -32,8 +32,8 @@ threaded_is bytes work limits workers tries version stripes scripts outcomes tra
             (subst (λ n. HasRunScripts work.sizes work.sizes.callers n scripts outcomes trace) tries_is
             (subst (λ n. HasRunScripts work.sizes n tries scripts outcomes trace) callers
             (subst (λ (s : Sizes). HasRunScripts s workers tries scripts outcomes trace) limits_is run)));
-        whole = whole_is ∙ ap (λ t. t ++ 10 ∷ []) (text_is ∙ ap (λ n. text_of_history n stripes trace) version_is
-            ∙ ap (λ n. text_of_history work.version n trace) (stripes_is ∙ ap (λ (s : Sizes). s.stripes) limits_is));
+        whole = whole_is ∙ ap (λ t. t ++ 10 ∷ []) (text_is
+            ∙ ap (λ n. text_of_history 3 n trace) (stripes_is ∙ ap (λ (s : Sizes). s.stripes) limits_is));
       },
     )
 

@@ -13,13 +13,13 @@ use Rattle.boostmap_engine.specs.Mixture.{IsNoScriptFile}
 use Rattle.boostmap_engine.specs.Report.{line}
 use Rattle.boostmap_engine.specs.Written.{HasNone, Leaves}
 
--- The outcomes and the history of a run of the scripts in threads; and the history's text, of the
--- version of the scripts.
+-- The outcomes and the history of a run of the scripts in threads; and the history's text, of
+-- version 3.
 pub record IsThreaded (work : Work) (text : List ℕ) : Type 0 where
   pub outcomes : List Outcome
   pub trace : List Entry
   pub run : HasRunScripts work.sizes work.sizes.callers work.tries work.scripts outcomes trace
-  pub whole : text ≡ line (text_of_history work.version work.sizes.stripes trace)
+  pub whole : text ≡ line (text_of_history 3 work.sizes.stripes trace)
 
 -- The same of the scripts that the bytes are.
 abbrev pub IsThreadedOf : List ℕ → List ℕ → Type 0

@@ -5,12 +5,15 @@ use std::test::Fail;
 
 /// One transaction that commits, one that aborts, and one that reads `10`: a legal history.
 const CHECKED: &str =
-    "{\"version\":1,\"stripes\":8,\"entries\":[[\"began\",0,1],[\"asked\",0,\"put\",1,10],[\"did\",0,null],[\"committed\",0,1],[\"began\",1,2],[\"asked\",1,\"put\",1,99],[\"did\",1,10],[\"leave\",1,null],[\"undone\",1],[\"aborted\",1],[\"began\",0,3],[\"asked\",0,\"get\",1],[\"did\",0,10],[\"committed\",0,2]]}";
+    "{\"version\":1,\"stripes\":8,\"entries\":[[\"began\",0,1],[\"asked\",0,\"put\",1,10],\
+    [\"did\",0,null],[\"committed\",0,1],[\"began\",1,2],[\"asked\",1,\"put\",1,99],[\"did\",1,10],\
+    [\"leave\",1,null],[\"undone\",1],[\"aborted\",1],[\"began\",0,3],[\"asked\",0,\"get\",1],\
+    [\"did\",0,10],[\"committed\",0,2]]}";
 
 const LEGAL: &str = "legal 2 commits 0 open\n";
 
 /// What `check` prints of these bytes, or the line of the fault, and the status.
-fn checked(rt: &(impl Abort + AllocGlobal), bytes: &[u8]) -> Result<(String, u8), Fail> {
+fn check_text(rt: &(impl Abort + AllocGlobal), bytes: &[u8]) -> Result<(String, u8), Fail> {
     let mut input = bytes;
     let mut output: Vec<u8> = Vec::new(rt.alloc());
     let status = match check(rt.alloc(), &mut input, &mut output) {
@@ -37,7 +40,7 @@ fn says(
     let text = format!(in rt.alloc();
         "{{\"version\":1,\"stripes\":{stripes},\"entries\":[{entries}]}}"
     )?;
-    let answer = checked(rt, text.as_bytes())?;
+    let answer = check_text(rt, text.as_bytes())?;
     assert_eq!(rt; (answer.0.as_str(), answer.1), (line, status), "{entries}");
     Ok(())
 }
@@ -45,8 +48,8 @@ fn says(
 /// A change of `put_if` is taken back once, and one that changed nothing never.
 #[test]
 fn put_if_history(rt: HostRuntime) -> Result<(), Fail> {
-    let before =
-        "[\"began\",0,1],[\"asked\",0,\"put_if\",1,null,5],[\"did\",0,null],[\"asked\",0,\"put_if\",1,4,6],[\"did\",0,5],[\"leave\",0,null],[\"undone\",0],";
+    let before = "[\"began\",0,1],[\"asked\",0,\"put_if\",1,null,5],[\"did\",0,null],\
+        [\"asked\",0,\"put_if\",1,4,6],[\"did\",0,5],[\"leave\",0,null],[\"undone\",0],";
     let rows = [
         ("", "legal 0 commits 0 open\n", 0),
         ("[\"undone\",0],", "illegal entry 7 rule 3\n", 1),
@@ -55,7 +58,7 @@ fn put_if_history(rt: HostRuntime) -> Result<(), Fail> {
         let text = format!(in rt.alloc();
             "{{\"version\":2,\"stripes\":8,\"entries\":[{before}{more}[\"aborted\",0]]}}"
         )?;
-        let (line, found) = checked(&rt, text.as_bytes())?;
+        let (line, found) = check_text(&rt, text.as_bytes())?;
         assert_eq!(rt; (line.as_str(), found), (wanted, status));
     }
     Ok(())
@@ -73,9 +76,10 @@ fn versions_of_histories(rt: HostRuntime) -> Result<(), Fail> {
     ];
     for (version, wanted, status) in rows {
         let text = format!(in rt.alloc();
-            "{{\"version\":{version},\"stripes\":8,\"entries\":[[\"began\",0,1],[\"asked\",0,\"put_if\",1,null,5]]}}"
+            "{{\"version\":{version},\"stripes\":8,\"entries\":\
+            [[\"began\",0,1],[\"asked\",0,\"put_if\",1,null,5]]}}"
         )?;
-        let (line, found) = checked(&rt, text.as_bytes())?;
+        let (line, found) = check_text(&rt, text.as_bytes())?;
         assert_eq!(rt; (line.as_str(), found), (wanted, status), "{version}");
     }
     Ok(())
@@ -84,8 +88,8 @@ fn versions_of_histories(rt: HostRuntime) -> Result<(), Fail> {
 /// A Busy that names a caller which holds nothing now: the version says whether it may.
 #[test]
 fn holder_has_begun(rt: HostRuntime) -> Result<(), Fail> {
-    let ended =
-        "[\"began\",0,1],[\"asked\",0,\"put\",1,10],[\"did\",0,null],[\"committed\",0,1],[\"began\",1,2],[\"busy\",1,\"get\",9,0]";
+    let ended = "[\"began\",0,1],[\"asked\",0,\"put\",1,10],[\"did\",0,null],[\"committed\",0,1],\
+        [\"began\",1,2],[\"busy\",1,\"get\",9,0]";
     let none = "[\"began\",1,1],[\"busy\",1,\"get\",9,0]";
     let rows = [
         (3, ended, "legal 1 commits 1 open\n", 0),
@@ -97,7 +101,7 @@ fn holder_has_begun(rt: HostRuntime) -> Result<(), Fail> {
         let text = format!(in rt.alloc();
             "{{\"version\":{version},\"stripes\":8,\"entries\":[{entries}]}}"
         )?;
-        let (line, found) = checked(&rt, text.as_bytes())?;
+        let (line, found) = check_text(&rt, text.as_bytes())?;
         assert_eq!(rt; (line.as_str(), found), (wanted, status), "{version}");
     }
     Ok(())
@@ -105,7 +109,7 @@ fn holder_has_begun(rt: HostRuntime) -> Result<(), Fail> {
 
 #[test]
 fn checker_replies(rt: HostRuntime) -> Result<(), Fail> {
-    let (line, status) = checked(&rt, CHECKED.as_bytes())?;
+    let (line, status) = check_text(&rt, CHECKED.as_bytes())?;
     assert_eq!(rt; (line.as_str(), status), (LEGAL, 0));
     for (old, new, wanted) in [
         (
@@ -116,7 +120,7 @@ fn checker_replies(rt: HostRuntime) -> Result<(), Fail> {
         ("[\"undone\",1],", "", "illegal entry 8 rule 3\n"),
     ] {
         let text = CHECKED.replace(rt.alloc(), old, new)?;
-        let (line, status) = checked(&rt, text.as_bytes())?;
+        let (line, status) = check_text(&rt, text.as_bytes())?;
         assert_eq!(rt; (line.as_str(), status), (wanted, 1));
     }
     Ok(())
@@ -127,7 +131,8 @@ fn checker_locks(rt: HostRuntime) -> Result<(), Fail> {
     says(
         &rt,
         8,
-        "[\"began\",0,1],[\"asked\",0,\"put\",1,10],[\"did\",0,null],[\"began\",1,2],[\"asked\",1,\"get\",9]",
+        "[\"began\",0,1],[\"asked\",0,\"put\",1,10],[\"did\",0,null],[\"began\",1,2],\
+        [\"asked\",1,\"get\",9]",
         "illegal entry 4 rule 2\n",
         1,
     )?;
@@ -177,7 +182,7 @@ fn forged_histories(rt: HostRuntime) -> Result<(), Fail> {
 #[test]
 fn refused_histories(rt: HostRuntime) -> Result<(), Fail> {
     let (cut, _) = CHECKED.as_bytes().split_at_checked(70).ok_or("short")?;
-    let (line, status) = checked(&rt, cut)?;
+    let (line, status) = check_text(&rt, cut)?;
     assert_eq!(rt; (line.as_str(), status), ("refused 20", 3));
     for (old, new, wanted) in [
         ("[\"undone\",1]", "[\"undone\"]", "refused 21 entry 8"),
@@ -185,7 +190,7 @@ fn refused_histories(rt: HostRuntime) -> Result<(), Fail> {
         ("\"stripes\":8", "\"stripes\":0", "refused 22"),
     ] {
         let text = CHECKED.replace(rt.alloc(), old, new)?;
-        let (line, status) = checked(&rt, text.as_bytes())?;
+        let (line, status) = check_text(&rt, text.as_bytes())?;
         assert_eq!(rt; (line.as_str(), status), (wanted, 3));
     }
     Ok(())

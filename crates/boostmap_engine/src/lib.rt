@@ -37,6 +37,8 @@ mod check_tests;
 #[cfg(test)]
 mod mix_tests;
 #[cfg(test)]
+mod refused_tests;
+#[cfg(test)]
 mod rows;
 #[cfg(test)]
 mod run_tests;

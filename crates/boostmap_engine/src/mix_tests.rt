@@ -7,10 +7,13 @@ use txn_files::{FileFault, Part};
 
 /// Three workers, whose scripts meet on two stripes.
 const THREE_WORKERS: &str =
-    "{\"version\":1,\"workers\":3,\"stripes\":2,\"buckets\":8,\"tries\":3,\"scripts\":[[[\"put\",1,10],[\"put\",2,20]],[[\"put\",2,21],[\"take\",1]],[[\"get\",1],[\"save\"],[\"put\",3,30],[\"back\",1]],[[\"take\",2],[\"help\",5]],[[\"put\",4,40],[\"abort\"]],[[\"get\",2]]]}";
+    "{\"version\":1,\"workers\":3,\"stripes\":2,\"buckets\":8,\"tries\":3,\"scripts\":\
+    [[[\"put\",1,10],[\"put\",2,20]],[[\"put\",2,21],[\"take\",1]],\
+    [[\"get\",1],[\"save\"],[\"put\",3,30],[\"back\",1]],[[\"take\",2],[\"help\",5]],\
+    [[\"put\",4,40],[\"abort\"]],[[\"get\",2]]]}";
 
 /// What `mix` prints of these bytes with this seed.
-fn mixed(rt: &(impl Abort + AllocGlobal), seed: u64, bytes: &[u8]) -> Result<Vec<u8>, Fail> {
+fn mix_text(rt: &(impl Abort + AllocGlobal), seed: u64, bytes: &[u8]) -> Result<Vec<u8>, Fail> {
     let mut input = bytes;
     let mut output: Vec<u8> = Vec::new(rt.alloc());
     let result = mix(rt.alloc(), seed, &mut input, &mut output);
@@ -21,7 +24,7 @@ fn mixed(rt: &(impl Abort + AllocGlobal), seed: u64, bytes: &[u8]) -> Result<Vec
 #[test]
 fn mix_one_worker(rt: HostRuntime) -> Result<(), Fail> {
     for seed in [0, 1, 7, 199, u64::MAX] {
-        let history = mixed(&rt, seed, ONE_WORKER.as_bytes())?;
+        let history = mix_text(&rt, seed, ONE_WORKER.as_bytes())?;
         assert_eq!(rt; history.as_slice(), ONE_HISTORY.as_bytes(), "{seed}");
         let mut input = history.as_slice();
         let mut line: Vec<u8> = Vec::new(rt.alloc());
@@ -36,10 +39,12 @@ fn mix_one_worker(rt: HostRuntime) -> Result<(), Fail> {
 #[test]
 fn mix_of_version_2(rt: HostRuntime) -> Result<(), Fail> {
     let scripts =
-        "{\"version\":2,\"workers\":1,\"stripes\":8,\"buckets\":8,\"tries\":0,\"scripts\":[[[\"put_if\",9223372036854775808,null,5],[\"help\",9223372036854775808]]]}";
+        "{\"version\":2,\"workers\":1,\"stripes\":8,\"buckets\":8,\"tries\":0,\"scripts\":\
+        [[[\"put_if\",9223372036854775808,null,5],[\"help\",9223372036854775808]]]}";
     let wanted =
-        "{\"entries\":[[\"began\",0,1],[\"asked\",0,\"put_if\",9223372036854775808,null,5],[\"did\",0,null],[\"committed\",0,1]],\"stripes\":8,\"version\":2}\n";
-    let history = mixed(&rt, 7, scripts.as_bytes())?;
+        "{\"entries\":[[\"began\",0,1],[\"asked\",0,\"put_if\",9223372036854775808,null,5],\
+        [\"did\",0,null],[\"committed\",0,1]],\"stripes\":8,\"version\":2}\n";
+    let history = mix_text(&rt, 7, scripts.as_bytes())?;
     assert_eq!(rt; history.as_slice(), wanted.as_bytes());
     let mut line: Vec<u8> = Vec::new(rt.alloc());
     assert!(rt;
@@ -57,8 +62,8 @@ fn mix_of_version_2(rt: HostRuntime) -> Result<(), Fail> {
 fn any_seed_from(rt: &(impl Abort + AllocGlobal), first: u64) -> Result<(), Fail> {
     for place in 0..50 {
         let seed = first.saturating_add(place);
-        let history = mixed(rt, seed, THREE_WORKERS.as_bytes())?;
-        let again = mixed(rt, seed, THREE_WORKERS.as_bytes())?;
+        let history = mix_text(rt, seed, THREE_WORKERS.as_bytes())?;
+        let again = mix_text(rt, seed, THREE_WORKERS.as_bytes())?;
         assert_eq!(rt; history.as_slice(), again.as_slice(), "{seed}");
         let mut input = history.as_slice();
         let mut line: Vec<u8> = Vec::new(rt.alloc());
@@ -97,7 +102,7 @@ fn mix_any_seed_from_150(rt: HostRuntime) -> Result<(), Fail> {
 fn mix_prints_nothing(rt: HostRuntime) -> Result<(), Fail> {
     let nothing = b"{\"entries\":[],\"stripes\":2,\"version\":1}\n";
     for seed in 0..20 {
-        let history = mixed(&rt, seed, THREE_WORKERS.as_bytes())?;
+        let history = mix_text(&rt, seed, THREE_WORKERS.as_bytes())?;
         assert!(rt; history.as_slice() != nothing.as_slice(), "{seed}");
     }
     Ok(())
@@ -106,10 +111,10 @@ fn mix_prints_nothing(rt: HostRuntime) -> Result<(), Fail> {
 /// Not all seeds give the same history.
 #[test]
 fn mix_by_the_seed(rt: HostRuntime) -> Result<(), Fail> {
-    let first = mixed(&rt, 0, THREE_WORKERS.as_bytes())?;
+    let first = mix_text(&rt, 0, THREE_WORKERS.as_bytes())?;
     let mut differs = false;
     for seed in 1..20 {
-        let other = mixed(&rt, seed, THREE_WORKERS.as_bytes())?;
+        let other = mix_text(&rt, seed, THREE_WORKERS.as_bytes())?;
         differs = differs || other.as_slice() != first.as_slice();
     }
     assert!(rt; differs);
@@ -125,12 +130,15 @@ fn mix_of_a_bad_key(rt: HostRuntime) -> Result<(), Fail> {
         "[\"back\",1]",
     ] {
         let text = format!(in rt.alloc();
-            "{{\"version\":1,\"workers\":1,\"stripes\":8,\"buckets\":8,\"tries\":0,\"scripts\":[[{action},[\"put\",1,1]]]}}"
+            "{{\"version\":1,\"workers\":1,\"stripes\":8,\"buckets\":8,\"tries\":0,\"scripts\":\
+            [[{action},[\"put\",1,1]]]}}"
         )?;
-        let history = mixed(&rt, 3, text.as_bytes())?;
+        let history = mix_text(&rt, 3, text.as_bytes())?;
         assert_eq!(rt;
             history.as_slice(),
-            b"{\"entries\":[[\"began\",0,1],[\"leave\",0,null],[\"aborted\",0]],\"stripes\":8,\"version\":1}\n".as_slice(),
+            b"{\"entries\":[[\"began\",0,1],[\"leave\",0,null],[\"aborted\",0]],\
+            \"stripes\":8,\"version\":1}\n"
+                .as_slice(),
             "{action}"
         );
     }
@@ -143,7 +151,8 @@ fn mix_of_bad_input(rt: HostRuntime) {
         (&EMPTY_SCRIPT[..60], FileFault::NotJson),
         ("[]", FileFault::Member),
         (
-            "{\"version\":1,\"workers\":1,\"stripes\":8,\"buckets\":8,\"tries\":0,\"scripts\":[[],[[\"put\",1]]]}",
+            "{\"version\":1,\"workers\":1,\"stripes\":8,\"buckets\":8,\"tries\":0,\"scripts\":\
+            [[],[[\"put\",1]]]}",
             FileFault::Piece(Part::Script, 1),
         ),
         (
@@ -209,18 +218,28 @@ fn mix_of_failing_writes(rt: HostRuntime) {
 
 /// One worker with two scripts, of which the first sets a savepoint.
 const TWO_SCRIPTS: &str =
-    "{\"version\":1,\"workers\":1,\"stripes\":8,\"buckets\":8,\"tries\":0,\"scripts\":[[[\"put\",1,10],[\"save\"]],[[\"get\",1]]]}";
+    "{\"version\":1,\"workers\":1,\"stripes\":8,\"buckets\":8,\"tries\":0,\"scripts\":\
+    [[[\"put\",1,10],[\"save\"]],[[\"get\",1]]]}";
 
 /// The histories of these scripts: the whole one, and those where memory was refused to one step of
 /// it, which ended its script: to the begin, the ask or the save of the first script, or to the
 /// begin or the ask of the second.
 const TWO_SCRIPTS_HISTORIES: [&str; 6] = [
-    "{\"entries\":[[\"began\",0,1],[\"asked\",0,\"put\",1,10],[\"did\",0,null],[\"saved\",0],[\"committed\",0,1],[\"began\",0,2],[\"asked\",0,\"get\",1],[\"did\",0,10],[\"committed\",0,2]],\"stripes\":8,\"version\":1}\n",
-    "{\"entries\":[[\"began\",0,1],[\"asked\",0,\"get\",1],[\"did\",0,null],[\"committed\",0,1]],\"stripes\":8,\"version\":1}\n",
-    "{\"entries\":[[\"began\",0,1],[\"leave\",0,null],[\"aborted\",0],[\"began\",0,2],[\"asked\",0,\"get\",1],[\"did\",0,null],[\"committed\",0,1]],\"stripes\":8,\"version\":1}\n",
-    "{\"entries\":[[\"began\",0,1],[\"asked\",0,\"put\",1,10],[\"did\",0,null],[\"leave\",0,null],[\"undone\",0],[\"aborted\",0],[\"began\",0,2],[\"asked\",0,\"get\",1],[\"did\",0,null],[\"committed\",0,1]],\"stripes\":8,\"version\":1}\n",
-    "{\"entries\":[[\"began\",0,1],[\"asked\",0,\"put\",1,10],[\"did\",0,null],[\"saved\",0],[\"committed\",0,1]],\"stripes\":8,\"version\":1}\n",
-    "{\"entries\":[[\"began\",0,1],[\"asked\",0,\"put\",1,10],[\"did\",0,null],[\"saved\",0],[\"committed\",0,1],[\"began\",0,2],[\"leave\",0,null],[\"aborted\",0]],\"stripes\":8,\"version\":1}\n",
+    "{\"entries\":[[\"began\",0,1],[\"asked\",0,\"put\",1,10],[\"did\",0,null],[\"saved\",0],\
+    [\"committed\",0,1],[\"began\",0,2],[\"asked\",0,\"get\",1],[\"did\",0,10],\
+    [\"committed\",0,2]],\"stripes\":8,\"version\":1}\n",
+    "{\"entries\":[[\"began\",0,1],[\"asked\",0,\"get\",1],[\"did\",0,null],[\"committed\",0,1]],\
+    \"stripes\":8,\"version\":1}\n",
+    "{\"entries\":[[\"began\",0,1],[\"leave\",0,null],[\"aborted\",0],[\"began\",0,2],\
+    [\"asked\",0,\"get\",1],[\"did\",0,null],[\"committed\",0,1]],\"stripes\":8,\"version\":1}\n",
+    "{\"entries\":[[\"began\",0,1],[\"asked\",0,\"put\",1,10],[\"did\",0,null],[\"leave\",0,null],\
+    [\"undone\",0],[\"aborted\",0],[\"began\",0,2],[\"asked\",0,\"get\",1],[\"did\",0,null],\
+    [\"committed\",0,1]],\"stripes\":8,\"version\":1}\n",
+    "{\"entries\":[[\"began\",0,1],[\"asked\",0,\"put\",1,10],[\"did\",0,null],[\"saved\",0],\
+    [\"committed\",0,1]],\"stripes\":8,\"version\":1}\n",
+    "{\"entries\":[[\"began\",0,1],[\"asked\",0,\"put\",1,10],[\"did\",0,null],[\"saved\",0],\
+    [\"committed\",0,1],[\"began\",0,2],[\"leave\",0,null],[\"aborted\",0]],\
+    \"stripes\":8,\"version\":1}\n",
 ];
 
 /// Is to be run with each allocation refused in turn: nothing is written, or a whole history, in

@@ -39,7 +39,7 @@ fn add(steps: &mut String, answers: &mut String, line: Line) -> Result<(), Fail>
 }
 
 /// The report of a file with these steps, which have a comma behind each.
-fn replayed(
+fn replay_steps(
     rt: &impl AllocGlobal,
     version: u64,
     callers: u64,
@@ -48,7 +48,8 @@ fn replayed(
 ) -> Result<String, Fail> {
     let steps = steps.trim_end_matches(',').replace(rt.alloc(), "'", "\"")?;
     let text = format!(in rt.alloc();
-        "{{\"version\":{version},\"callers\":{callers},\"stripes\":8,\"buckets\":{buckets},\"steps\":[{steps}]}}"
+        "{{\"version\":{version},\"callers\":{callers},\"stripes\":8,\"buckets\":{buckets},\
+        \"steps\":[{steps}]}}"
     )?;
     let mut output: Vec<u8> = Vec::new(rt.alloc());
     replay(rt.alloc(), &mut text.as_bytes(), &mut output)?;
@@ -82,7 +83,7 @@ fn play_version(
         add(&mut steps, &mut report, *line)?;
     }
     writeln!(report, "{rest}")?;
-    let printed = replayed(rt, version, callers, buckets, steps.as_str())?;
+    let printed = replay_steps(rt, version, callers, buckets, steps.as_str())?;
     assert_eq!(rt; printed.as_str(), report.as_str());
     Ok(())
 }
@@ -297,7 +298,7 @@ fn segments(rt: HostRuntime) -> Result<(), Fail> {
         add(&mut steps, &mut report, line)?;
     }
     writeln!(report, "size 128 count 129\n0 0\n128 128\n64 64\n")?;
-    let printed = replayed(&rt, 1, 1, 128, steps.as_str())?;
+    let printed = replay_steps(&rt, 1, 1, 128, steps.as_str())?;
     assert!(rt; printed.starts_with(report.trim_end()));
     Ok(())
 }

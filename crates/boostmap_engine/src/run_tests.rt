@@ -1,5 +1,5 @@
 use super::*;
-use crate::samples::{EMPTY_SCRIPT, ONE_HISTORY, ONE_WORKER, SHORT_HISTORY};
+use crate::samples::{EMPTY_SCRIPT, ONE_WORKER};
 use crate::streams::{Narrow, Trickle};
 use std::process::Abort;
 use std::sync::Wait;
@@ -7,15 +7,30 @@ use std::test::Fail;
 use std::thread::Threads;
 use txn_files::{FileFault, Part};
 
+/// The history of `ONE_WORKER` as a run.
+const ONE_RUN: &str = "{\"entries\":[[\"began\",0,1],[\"asked\",0,\"put\",1,10],[\"did\",0,null],\
+    [\"saved\",0],[\"asked\",0,\"take\",1],[\"did\",0,10],[\"leave\",0,1],[\"undone\",0],\
+    [\"returned\",0,1],[\"committed\",0,1],[\"began\",0,2],[\"asked\",0,\"get\",1],[\"did\",0,10],\
+    [\"leave\",0,null],[\"aborted\",0]],\"stripes\":8,\"version\":3}\n";
+
+/// The history of `EMPTY_SCRIPT` as a run.
+const SHORT_RUN: &str =
+    "{\"entries\":[[\"began\",0,1],[\"committed\",0,1]],\"stripes\":8,\"version\":3}\n";
+
+/// The same where memory was refused to the script.
+const NO_ENTRIES: &str = "{\"entries\":[],\"stripes\":8,\"version\":3}\n";
+
 /// What stands before the number of workers in the file, and after it: scripts that meet on two
 /// stripes.
 const ANY_WORKERS: [&str; 2] = [
     "{\"version\":1,\"workers\":",
-    ",\"stripes\":2,\"buckets\":8,\"tries\":3,\"scripts\":[[[\"put\",1,10],[\"put\",2,20]],[[\"put\",2,21],[\"take\",1]],[[\"get\",1],[\"save\"],[\"put\",3,30],[\"back\",1]],[[\"take\",2],[\"help\",5]],[[\"put\",4,40],[\"abort\"]],[[\"get\",2]]]}",
+    ",\"stripes\":2,\"buckets\":8,\"tries\":3,\"scripts\":[[[\"put\",1,10],[\"put\",2,20]],\
+        [[\"put\",2,21],[\"take\",1]],[[\"get\",1],[\"save\"],[\"put\",3,30],[\"back\",1]],\
+        [[\"take\",2],[\"help\",5]],[[\"put\",4,40],[\"abort\"]],[[\"get\",2]]]}",
 ];
 
 /// What `run` prints of these bytes.
-fn ran<R: Abort + AllocGlobal + Threads + Wait + Sync>(
+fn run_text<R: Abort + AllocGlobal + Threads + Wait + Sync>(
     rt: &R,
     bytes: &[u8],
 ) -> Result<Vec<u8>, Fail> {
@@ -26,11 +41,11 @@ fn ran<R: Abort + AllocGlobal + Threads + Wait + Sync>(
     Ok(output)
 }
 
-/// One worker has the history that it has where turns are mixed.
+/// One worker does what it does where turns are mixed; the history is of version 3.
 #[test]
 fn run_one_worker(rt: HostRuntime) -> Result<(), Fail> {
-    let history = ran(&rt, ONE_WORKER.as_bytes())?;
-    assert_eq!(rt; history.as_slice(), ONE_HISTORY.as_bytes());
+    let history = run_text(&rt, ONE_WORKER.as_bytes())?;
+    assert_eq!(rt; history.as_slice(), ONE_RUN.as_bytes());
     Ok(())
 }
 
@@ -40,7 +55,7 @@ fn run_any_workers(rt: HostRuntime) -> Result<(), Fail> {
     let [before, after] = ANY_WORKERS;
     for workers in ["1", "2", "3", "4", "5", "6"] {
         let text = format!(in rt.alloc(); "{before}{workers}{after}")?;
-        let history = ran(&rt, text.as_bytes())?;
+        let history = run_text(&rt, text.as_bytes())?;
         let mut line: Vec<u8> = Vec::new(rt.alloc());
         let is_legal = check(rt.alloc(), &mut history.as_slice(), &mut line);
         assert!(rt; matches!(is_legal, Ok(true)), "{workers}");
@@ -53,14 +68,15 @@ fn run_any_workers(rt: HostRuntime) -> Result<(), Fail> {
     Ok(())
 }
 
-/// A script file of version 2 has a history of version 2.
+/// Keys of a script file of version 2 are every number; its history is of version 3 too.
 #[test]
 fn run_of_version_2(rt: HostRuntime) -> Result<(), Fail> {
-    let scripts =
-        "{\"version\":2,\"workers\":1,\"stripes\":8,\"buckets\":8,\"tries\":0,\"scripts\":[[[\"put_if\",9223372036854775808,null,5],[\"help\",9223372036854775808]]]}";
-    let wanted =
-        "{\"entries\":[[\"began\",0,1],[\"asked\",0,\"put_if\",9223372036854775808,null,5],[\"did\",0,null],[\"committed\",0,1]],\"stripes\":8,\"version\":2}\n";
-    let history = ran(&rt, scripts.as_bytes())?;
+    let scripts = "{\"version\":2,\"workers\":1,\"stripes\":8,\"buckets\":8,\"tries\":0,\
+        \"scripts\":[[[\"put_if\",9223372036854775808,null,5],[\"help\",9223372036854775808]]]}";
+    let wanted = "{\"entries\":[[\"began\",0,1],\
+        [\"asked\",0,\"put_if\",9223372036854775808,null,5],[\"did\",0,null],\
+        [\"committed\",0,1]],\"stripes\":8,\"version\":3}\n";
+    let history = run_text(&rt, scripts.as_bytes())?;
     assert_eq!(rt; history.as_slice(), wanted.as_bytes());
     Ok(())
 }
@@ -68,11 +84,11 @@ fn run_of_version_2(rt: HostRuntime) -> Result<(), Fail> {
 /// A key of 2^63 is refused before any step of help: the transaction aborts.
 #[test]
 fn run_of_a_bad_key(rt: HostRuntime) -> Result<(), Fail> {
-    let scripts =
-        "{\"version\":1,\"workers\":1,\"stripes\":8,\"buckets\":8,\"tries\":0,\"scripts\":[[[\"help\",9223372036854775808],[\"put\",1,1]]]}";
-    let wanted =
-        "{\"entries\":[[\"began\",0,1],[\"leave\",0,null],[\"aborted\",0]],\"stripes\":8,\"version\":1}\n";
-    let history = ran(&rt, scripts.as_bytes())?;
+    let scripts = "{\"version\":1,\"workers\":1,\"stripes\":8,\"buckets\":8,\"tries\":0,\
+        \"scripts\":[[[\"help\",9223372036854775808],[\"put\",1,1]]]}";
+    let wanted = "{\"entries\":[[\"began\",0,1],[\"leave\",0,null],[\"aborted\",0]],\
+        \"stripes\":8,\"version\":3}\n";
+    let history = run_text(&rt, scripts.as_bytes())?;
     assert_eq!(rt; history.as_slice(), wanted.as_bytes());
     Ok(())
 }
@@ -83,11 +99,13 @@ fn run_of_bad_input(rt: HostRuntime) {
         (&EMPTY_SCRIPT[..60], FileFault::NotJson),
         ("[]", FileFault::Member),
         (
-            "{\"version\":1,\"workers\":1,\"stripes\":8,\"buckets\":8,\"tries\":0,\"scripts\":[[],[[\"put\",1]]]}",
+            "{\"version\":1,\"workers\":1,\"stripes\":8,\"buckets\":8,\"tries\":0,\
+                \"scripts\":[[],[[\"put\",1]]]}",
             FileFault::Piece(Part::Script, 1),
         ),
         (
-            "{\"version\":1,\"workers\":65,\"stripes\":8,\"buckets\":8,\"tries\":0,\"scripts\":[]}",
+            "{\"version\":1,\"workers\":65,\"stripes\":8,\"buckets\":8,\"tries\":0,\
+                \"scripts\":[]}",
             FileFault::Limit,
         ),
     ] {
@@ -109,9 +127,9 @@ fn run_one_byte_at_a_time(rt: HostRuntime) {
     let mut output = Narrow::new(usize::MAX, false);
     let result = run(&rt, rt.alloc(), &mut input, &mut output);
     assert!(rt; result.is_ok());
-    assert_eq!(rt; output.written(), SHORT_HISTORY.as_bytes());
+    assert_eq!(rt; output.written(), SHORT_RUN.as_bytes());
     assert_eq!(rt; input.calls, EMPTY_SCRIPT.len() + 1);
-    assert_eq!(rt; output.calls, SHORT_HISTORY.len());
+    assert_eq!(rt; output.calls, SHORT_RUN.len());
 }
 
 #[test]
@@ -132,14 +150,14 @@ fn run_of_failing_reads(rt: HostRuntime) {
 #[test]
 fn run_of_failing_writes(rt: HostRuntime) {
     for takes_nothing in [false, true] {
-        for fails_at in 0..SHORT_HISTORY.len() {
+        for fails_at in 0..SHORT_RUN.len() {
             let mut input = EMPTY_SCRIPT.as_bytes();
             let mut output = Narrow::new(fails_at, takes_nothing);
             let result = run(&rt, rt.alloc(), &mut input, &mut output);
             assert!(rt; matches!(result, Err(Fault::Write)), "{fails_at}");
             assert_eq!(rt; output.calls, fails_at + 1, "{fails_at}");
             assert!(rt;
-                SHORT_HISTORY.as_bytes().starts_with(output.written()),
+                SHORT_RUN.as_bytes().starts_with(output.written()),
                 "{fails_at}"
             );
         }
@@ -154,8 +172,8 @@ fn run_without_memory(rt: HostRuntime) {
     let mut output = Narrow::new(usize::MAX, false);
     match run(&rt, rt.alloc(), &mut input, &mut output) {
         Ok(()) => {
-            let is_known = output.written() == SHORT_HISTORY.as_bytes()
-                || output.written() == b"{\"entries\":[],\"stripes\":8,\"version\":1}\n".as_slice();
+            let is_known = output.written() == SHORT_RUN.as_bytes()
+                || output.written() == NO_ENTRIES.as_bytes();
             assert!(rt; is_known);
         }
         Err(fault) => {

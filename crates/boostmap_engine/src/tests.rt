@@ -19,17 +19,18 @@ impl Read for Endless {
     }
 }
 
-const FIRST_COMMIT: &str =
-    "{\"version\":1,\"callers\":1,\"stripes\":8,\"buckets\":8,\"steps\":[[\"begin\",0],[\"ask\",0,\"put\",1,10],[\"seek\",0],[\"act\",0],[\"commit\",0]]}";
+const FIRST_COMMIT: &str = "{\"version\":1,\"callers\":1,\"stripes\":8,\"buckets\":8,\"steps\":\
+    [[\"begin\",0],[\"ask\",0,\"put\",1,10],[\"seek\",0],[\"act\",0],[\"commit\",0]]}";
 
 /// The same transaction in a file of two callers.
 const FIRST_COMMIT_OF_TWO: &str =
-    "{\"version\":1,\"callers\":2,\"stripes\":8,\"buckets\":8,\"steps\":[[\"begin\",0],[\"ask\",0,\"put\",1,10],[\"seek\",0],[\"act\",0],[\"commit\",0]]}";
+    "{\"version\":1,\"callers\":2,\"stripes\":8,\"buckets\":8,\"steps\":\
+    [[\"begin\",0],[\"ask\",0,\"put\",1,10],[\"seek\",0],[\"act\",0],[\"commit\",0]]}";
 
 const FIRST_REPORT: &str = "began 1\nasked\nplaced\ndone none\ncommitted 1\nsize 2 count 1\n1 10\n";
 
 /// What `replay` prints of a file with these steps.
-fn printed(rt: &(impl Abort + AllocGlobal), callers: u64, steps: &str) -> Result<String, Fail> {
+fn report_of(rt: &(impl Abort + AllocGlobal), callers: u64, steps: &str) -> Result<String, Fail> {
     let text = format!(in rt.alloc();
         "{{\"version\":1,\"callers\":{callers},\"stripes\":8,\"buckets\":8,\"steps\":[{steps}]}}"
     )?;
@@ -47,9 +48,9 @@ fn printed(rt: &(impl Abort + AllocGlobal), callers: u64, steps: &str) -> Result
 
 #[test]
 fn empty_file(rt: HostRuntime) -> Result<(), Fail> {
-    assert_eq!(rt; printed(&rt, 1, "")?.as_str(), "size 2 count 0\n");
-    assert_eq!(rt; printed(&rt, 2, "")?.as_str(), "size 2 count 0\n");
-    assert_eq!(rt; printed(&rt, 65, "")?.as_str(), "refused 22");
+    assert_eq!(rt; report_of(&rt, 1, "")?.as_str(), "size 2 count 0\n");
+    assert_eq!(rt; report_of(&rt, 2, "")?.as_str(), "size 2 count 0\n");
+    assert_eq!(rt; report_of(&rt, 65, "")?.as_str(), "refused 22");
     Ok(())
 }
 
@@ -157,7 +158,8 @@ fn versions_of_step_files(rt: HostRuntime) -> Result<(), Fail> {
         (9, "", "refused 22"),
     ] {
         let text = format!(in rt.alloc();
-            "{{\"version\":{version},\"callers\":1,\"stripes\":8,\"buckets\":8,\"steps\":[{more}{put_if}]}}"
+            "{{\"version\":{version},\"callers\":1,\"stripes\":8,\"buckets\":8,\"steps\":\
+            [{more}{put_if}]}}"
         )?;
         let mut output: Vec<u8> = Vec::new(rt.alloc());
         if let Err(fault) = replay(rt.alloc(), &mut text.as_bytes(), &mut output) {

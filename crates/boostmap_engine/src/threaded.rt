@@ -11,8 +11,12 @@ use thread_runs::{Open, run_scripts};
 use txn_files::history_text;
 use txn_trace::Refusal;
 
+/// The version of a history file of a run.
+const VERSION: u64 = 3;
+
 /// The text of a history of the scripts that the bytes are, each worker in a thread of its own,
-/// with its line feed. The history has its script file's version.
+/// with its line feed. The history has version 3, whatever version its script file has: a Busy
+/// entry names a caller that has begun a transaction, and may have ended it.
 ///
 /// # Cost
 ///
@@ -46,10 +50,9 @@ pub fn run_in_threads<R: Threads + Wait + Sync>(
         Ok(ran) => ran,
         Err(refusal) => return Err(fault_of(refusal)),
     };
-    let version = work.version();
     drop(work);
     drop(ran.outcomes);
-    let mut text = history_text(alloc, version, limits.stripes(), &ran.trace)?;
+    let mut text = history_text(alloc, VERSION, limits.stripes(), &ran.trace)?;
     text.push_str("\n")?;
     Ok(text)
 }

@@ -1,11 +1,12 @@
 //! Worked runs, and refused allocations.
-ghost use Rattle.std.specs.Prelude.{IfOk};
+ghost use Rattle.std.specs.Prelude.{◌≤◌, IfOk, IfSome};
+ghost use Rattle.split_key.specs.Split.{IsPowerOfTwo};
 ghost use Rattle.bucket_table.specs.Home.{IsHome};
 ghost use Rattle.bucket_table.specs.Dummies.{IsKeyed};
 
 use crate::{Buckets, Double, InitLink, InitRefusal, InitSeek};
 use list_steps::{link_at, look, seek};
-use node_list::{Kind, NodeList};
+use node_list::{Kind, NodeList, SpareFault};
 use split_key::{Key, SortKey, bucket_of};
 use std::alloc::{AllocError, Global};
 use std::process::Abort;
@@ -57,8 +58,41 @@ fn make_all(rt: &impl Abort, list: &mut NodeList, buckets: &mut Buckets, calls: 
     }
 }
 
+/// Whether memory is refused now.
+fn is_refused(alloc: Global) -> bool {
+    Box::new(alloc, 0).is_err()
+}
+
+/// A list of the dummy of bucket 0, made once more where memory is refused; none where it is
+/// refused again.
+fn list_if_made(alloc: Global) -> Option<NodeList>
+    ensures { IfSome result (λ list. IsKeyed list.nodes) }
+{
+    match NodeList::new(alloc, 0) {
+        Ok(list) => Some(list),
+        Err(AllocError) => NodeList::new(alloc, 0).ok(),
+    }
+}
+
+/// Buckets on a list, made once more where memory is refused; none where it is refused again.
+fn buckets_if_made(alloc: Global, max: u32, helpers: u32, list: &NodeList) -> Option<Buckets>
+    requires power { IsPowerOfTwo max }
+    requires least { 2 ≤ max }
+    ensures { IfSome result (λ buckets. IsHome buckets list.now) }
+{
+    match Buckets::new(alloc, max, helpers, list) {
+        Ok(buckets) => Some(buckets),
+        Err(AllocError) => Buckets::new(alloc, max, helpers, list).ok(),
+    }
+}
+
 /// Links the node of a key, sought from the nearest stored bucket.
-fn put(list: &mut NodeList, buckets: &Buckets, number: u64) -> Result<(), Fail>
+fn put(
+    rt: &impl Abort,
+    list: &mut NodeList,
+    buckets: &Buckets,
+    number: u64,
+) -> Result<(), SpareFault>
     requires home { IsHome buckets.now list.old }
     requires keyed { IsKeyed list.old.nodes }
     ensures home { IsHome buckets.now list.new }
@@ -70,39 +104,48 @@ fn put(list: &mut NodeList, buckets: &Buckets, number: u64) -> Result<(), Fail>
     spare.fill(SortKey::regular(key), Kind::Regular, 0);
     let cursor = seek(list, from, SortKey::regular(key));
     let Ok(None) = look(list, &cursor) else {
-        return Err("the key was there".into());
+        panic!(rt; "key {number} was there");
     };
     let _ = link_at(list, cursor.pred(), spare);
     Ok(())
 }
 
-/// Links the nodes of keys in turn.
-fn put_all(list: &mut NodeList, buckets: &Buckets, numbers: &[u64]) -> Result<(), Fail>
+/// Puts a key, once more where memory is refused, which leaves the list. The answer is whether the
+/// key is there now.
+fn has_put(rt: &impl Abort, list: &mut NodeList, buckets: &Buckets, number: u64) -> bool
+    requires home { IsHome buckets.now list.old }
+    requires keyed { IsKeyed list.old.nodes }
+    ensures home { IsHome buckets.now list.new }
+    ensures keyed { IsKeyed list.new.nodes }
+{
+    let before = (list.count(), list.changes());
+    for _ in 0..2 {
+        if put(rt, list, buckets, number).is_ok() {
+            return true;
+        }
+        assert_eq!(rt; (list.count(), list.changes()), before);
+    }
+    false
+}
+
+/// Puts keys in turn, up to the first that is refused. The answer is whether all are there.
+fn put_all(rt: &impl Abort, list: &mut NodeList, buckets: &Buckets, numbers: &[u64]) -> bool
     requires home { IsHome buckets.now list.old }
     requires keyed { IsKeyed list.old.nodes }
     ensures home { IsHome buckets.now list.new }
     ensures keyed { IsKeyed list.new.nodes }
 {
     for number in numbers {
-        put(list, buckets, *number)?;
+        if !has_put(rt, list, buckets, *number) {
+            return false;
+        }
     }
-    Ok(())
+    true
 }
 
-/// A table of largest size 8 for two helpers, with keys 1 to 5 at size 4.
-fn five_keys(rt: &impl Abort, alloc: Global) -> Result<(NodeList, Buckets), Fail>
-    ensures home { IfOk result (λ made. IsHome made.1 made.0) }
-    ensures keyed { IfOk result (λ made. IsKeyed made.0.nodes) }
-{
-    let mut list = NodeList::new(alloc, 0)?;
-    let mut buckets = Buckets::new(alloc, 8, 2, &list)?;
-    put_all(&mut list, &buckets, &[1, 2, 3, 4])?;
-    assert_eq!(rt; buckets.double(&list, 2), Double::Light);
-    put_all(&mut list, &buckets, &[5])?;
-    assert_eq!(rt; buckets.double(&list, 2), Double::Doubled(4));
-    assert_eq!(rt; buckets.double(&list, 2), Double::Moved(4));
-    assert_eq!(rt; buckets.double(&list, 4), Double::Light);
-    Ok((list, buckets))
+/// A doubling of the size that was seen, and its answer.
+fn double_from(seen: u64, wanted: Double) -> (Call, Answer) {
+    (Call::Double { seen }, Answer::Double(wanted))
 }
 
 /// A seek by a helper for a bucket, and its answer.
@@ -120,8 +163,57 @@ fn store_by(helper: u64, wanted: Result<(), InitRefusal>) -> (Call, Answer) {
     (Call::Store { helper }, Answer::Store(wanted))
 }
 
-/// The five keys, with buckets 1 and 3 initialised by two helpers in turn.
-fn initialised(rt: &impl Abort, alloc: Global) -> Result<(NodeList, Buckets), Fail> {
+/// With fewer than five keys the table does not double, but helpers go on: one that is refused
+/// memory keeps its cursor.
+fn help_few_keys(rt: &impl Abort, list: &mut NodeList, buckets: &mut Buckets)
+    requires home { IsHome buckets.old list.old }
+    requires keyed { IsKeyed list.old.nodes }
+{
+    let calls = [
+        double_from(2, Double::Light),
+        seek_by(0, 1, Ok(InitSeek::Placed)),
+    ];
+    make_all(rt, list, buckets, &calls);
+    if buckets.init_link(list, 0) == Err(InitRefusal::NoMemory) {
+        assert_eq!(rt; buckets.nearest(1), list.head());
+        let answer = buckets.init_link(list, 0);
+        assert!(rt; answer == Ok(InitLink::Linked) || answer == Err(InitRefusal::NoMemory));
+    } else {
+        let calls = [store_by(0, Ok(())), seek_by(0, 1, Ok(InitSeek::Ready))];
+        make_all(rt, list, buckets, &calls);
+    }
+}
+
+/// A table of largest size 8 for two helpers, with keys 1 to 5 at size 4; none where memory is
+/// refused still.
+fn five_keys(rt: &impl Abort, alloc: Global) -> Option<(NodeList, Buckets)>
+    ensures home { IfSome result (λ made. IsHome made.1 made.0) }
+    ensures keyed { IfSome result (λ made. IsKeyed made.0.nodes) }
+{
+    let mut list = list_if_made(alloc)?;
+    let mut buckets = buckets_if_made(alloc, 8, 2, &list)?;
+    if !put_all(rt, &mut list, &buckets, &[1, 2, 3, 4]) {
+        help_few_keys(rt, &mut list, &mut buckets);
+        return None;
+    }
+    let light = [double_from(2, Double::Light)];
+    make_all(rt, &mut list, &mut buckets, &light);
+    if !put_all(rt, &mut list, &buckets, &[5]) {
+        help_few_keys(rt, &mut list, &mut buckets);
+        return None;
+    }
+    let doublings = [
+        double_from(2, Double::Doubled(4)),
+        double_from(2, Double::Moved(4)),
+        double_from(4, Double::Light),
+    ];
+    make_all(rt, &mut list, &mut buckets, &doublings);
+    Some((list, buckets))
+}
+
+/// The five keys, with buckets 1 and 3 initialised by two helpers in turn; none where memory is
+/// refused still.
+fn initialised(rt: &impl Abort, alloc: Global) -> Option<(NodeList, Buckets)> {
     let (mut list, mut buckets) = five_keys(rt, alloc)?;
     let calls = [
         seek_by(0, 3, Err(InitRefusal::ParentMissing)),
@@ -142,7 +234,7 @@ fn initialised(rt: &impl Abort, alloc: Global) -> Result<(NodeList, Buckets), Fa
         seek_by(1, 3, Ok(InitSeek::Ready)),
     ];
     make_all(rt, &mut list, &mut buckets, &calls);
-    Ok((list, buckets))
+    Some((list, buckets))
 }
 
 /// The first nodes of a list.
@@ -157,16 +249,20 @@ fn kinds(list: &NodeList) -> [Option<(u64, Kind, u64)>; 9] {
     kinds
 }
 
+/// Is to be run with allocations refused: only where memory is refused still are there fewer keys,
+/// or no table.
 #[test]
-fn bucket_initialisation(rt: HostRuntime) -> Result<(), Fail> {
-    let (_list, buckets) = initialised(&rt, rt.alloc())?;
+fn bucket_initialisation(rt: HostRuntime) {
+    let Some((_list, buckets)) = initialised(&rt, rt.alloc()) else {
+        assert!(rt; is_refused(rt.alloc()));
+        return;
+    };
     assert_eq!(rt; buckets.size(), 4);
-    Ok(())
 }
 
 #[test]
 fn nodes_after_initialisation(rt: HostRuntime) -> Result<(), Fail> {
-    let (list, buckets) = initialised(&rt, rt.alloc())?;
+    let (list, buckets) = initialised(&rt, rt.alloc()).ok_or("no table")?;
     assert_eq!(rt;
         kinds(&list),
         [
@@ -217,10 +313,7 @@ fn maximum_size(rt: HostRuntime) -> Result<(), Fail> {
 fn with_spares(alloc: Global, spares: u32) -> Result<NodeList, Fail>
     ensures { IfOk result (λ list. IsKeyed list.nodes) }
 {
-    let mut list = match NodeList::new(alloc, 0) {
-        Ok(list) => list,
-        Err(AllocError) => NodeList::new(alloc, 0)?,
-    };
+    let mut list = list_if_made(alloc).ok_or("no list")?;
     for _ in 0..spares {
         if list.spare().is_err() {
             let _spare = list.spare()?;
@@ -235,10 +328,7 @@ fn with_spares(alloc: Global, spares: u32) -> Result<NodeList, Fail>
 fn refused_allocations(rt: HostRuntime) -> Result<(), Fail> {
     for spares in 0..9 {
         let mut list = with_spares(rt.alloc(), spares)?;
-        let mut buckets = match Buckets::new(rt.alloc(), 2, 1, &list) {
-            Ok(buckets) => buckets,
-            Err(AllocError) => Buckets::new(rt.alloc(), 2, 1, &list)?,
-        };
+        let mut buckets = buckets_if_made(rt.alloc(), 2, 1, &list).ok_or("no buckets")?;
         assert_eq!(rt; buckets.init_seek(&mut list, 0, 1), Ok(InitSeek::Placed));
         let mut answer = buckets.init_link(&mut list, 0);
         if answer == Err(InitRefusal::NoMemory) {

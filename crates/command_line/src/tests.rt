@@ -8,34 +8,45 @@ use std::test::Fail;
 use std::thread::Threads;
 
 /// One transaction that commits.
-const STEPS: &[u8] =
-    b"{\"version\":1,\"callers\":2,\"stripes\":8,\"buckets\":8,\"steps\":[[\"begin\",0],[\"ask\",0,\"put\",1,10],[\"seek\",0],[\"act\",0],[\"commit\",0]]}";
+const STEPS: &[u8] = b"{\"version\":1,\"callers\":2,\"stripes\":8,\"buckets\":8,\"steps\":\
+    [[\"begin\",0],[\"ask\",0,\"put\",1,10],[\"seek\",0],[\"act\",0],[\"commit\",0]]}";
 
 const REPORT: &str = "began 1\nasked\nplaced\ndone none\ncommitted 1\nsize 2 count 1\n1 10\n";
 
 /// The same, with a step in place 4 that has a text where a number belongs.
-const BAD_STEPS: &[u8] =
-    b"{\"version\":1,\"callers\":2,\"stripes\":8,\"buckets\":8,\"steps\":[[\"begin\",0],[\"ask\",0,\"put\",1,10],[\"seek\",0],[\"act\",0],[\"ask\",0,\"put\",\"1\",10],[\"commit\",0]]}";
+const BAD_STEPS: &[u8] = b"{\"version\":1,\"callers\":2,\"stripes\":8,\"buckets\":8,\"steps\":\
+    [[\"begin\",0],[\"ask\",0,\"put\",1,10],[\"seek\",0],[\"act\",0],[\"ask\",0,\"put\",\"1\",10],\
+    [\"commit\",0]]}";
 
 /// One transaction that commits, as a history.
 const LEGAL: &[u8] =
-    b"{\"version\":1,\"stripes\":8,\"entries\":[[\"began\",0,1],[\"asked\",0,\"put\",1,10],[\"did\",0,null],[\"committed\",0,1]]}";
+    b"{\"version\":1,\"stripes\":8,\"entries\":[[\"began\",0,1],[\"asked\",0,\"put\",1,10],\
+    [\"did\",0,null],[\"committed\",0,1]]}";
 
 /// The same with a reply that nobody put.
 const ILLEGAL: &[u8] =
-    b"{\"version\":1,\"stripes\":8,\"entries\":[[\"began\",0,1],[\"asked\",0,\"put\",1,10],[\"did\",0,7],[\"committed\",0,1]]}";
+    b"{\"version\":1,\"stripes\":8,\"entries\":[[\"began\",0,1],[\"asked\",0,\"put\",1,10],\
+    [\"did\",0,7],[\"committed\",0,1]]}";
 
 /// One worker with one script.
 const SCRIPT: &[u8] =
-    b"{\"version\":1,\"workers\":1,\"stripes\":8,\"buckets\":8,\"tries\":0,\"scripts\":[[[\"put\",1,10]]]}";
+    b"{\"version\":1,\"workers\":1,\"stripes\":8,\"buckets\":8,\"tries\":0,\"scripts\":\
+    [[[\"put\",1,10]]]}";
 
-const HISTORY: &str =
-    "{\"entries\":[[\"began\",0,1],[\"asked\",0,\"put\",1,10],[\"did\",0,null],[\"committed\",0,1]],\"stripes\":8,\"version\":1}\n";
+const HISTORY: &str = "{\"entries\":[[\"began\",0,1],[\"asked\",0,\"put\",1,10],[\"did\",0,null],\
+    [\"committed\",0,1]],\"stripes\":8,\"version\":1}\n";
+
+const RUN_HISTORY: &str = "{\"entries\":[[\"began\",0,1],[\"asked\",0,\"put\",1,10],\
+    [\"did\",0,null],[\"committed\",0,1]],\"stripes\":8,\"version\":3}\n";
 
 /// Two workers with a script each, of twelve gets: the order of the workers' turns shows in the
 /// history.
 const TWO_WORKERS: &[u8] =
-    b"{\"version\":1,\"workers\":2,\"stripes\":8,\"buckets\":8,\"tries\":0,\"scripts\":[[[\"get\",1],[\"get\",1],[\"get\",1],[\"get\",1],[\"get\",1],[\"get\",1],[\"get\",1],[\"get\",1],[\"get\",1],[\"get\",1],[\"get\",1],[\"get\",1]],[[\"get\",2],[\"get\",2],[\"get\",2],[\"get\",2],[\"get\",2],[\"get\",2],[\"get\",2],[\"get\",2],[\"get\",2],[\"get\",2],[\"get\",2],[\"get\",2]]]}";
+    b"{\"version\":1,\"workers\":2,\"stripes\":8,\"buckets\":8,\"tries\":0,\"scripts\":\
+    [[[\"get\",1],[\"get\",1],[\"get\",1],[\"get\",1],[\"get\",1],[\"get\",1],\
+    [\"get\",1],[\"get\",1],[\"get\",1],[\"get\",1],[\"get\",1],[\"get\",1]],\
+    [[\"get\",2],[\"get\",2],[\"get\",2],[\"get\",2],[\"get\",2],[\"get\",2],\
+    [\"get\",2],[\"get\",2],[\"get\",2],[\"get\",2],[\"get\",2],[\"get\",2]]]}";
 
 const FILES: &[(&str, &[u8])] = &[
     ("steps", STEPS),
@@ -67,7 +78,7 @@ Example: boostmap check examples/checked.json
 ";
 
 /// What the program wrote to standard output and to standard error, and its status.
-fn ran<R: Abort + AllocGlobal + Threads + Wait + Sync>(
+fn run_words<R: Abort + AllocGlobal + Threads + Wait + Sync>(
     rt: &R,
     desk: &Desk<'_>,
 ) -> Result<(String, String, u8), Fail> {
@@ -87,7 +98,7 @@ fn each_command_and_each_status(rt: HostRuntime) -> Result<(), Fail> {
         ("boostmap mix --seed 7 script", HISTORY, "", 0),
         ("boostmap check legal", "legal 1 commits 0 open\n", "", 0),
         ("boostmap check illegal", "illegal entry 2 rule 1\n", "", 1),
-        ("boostmap run script", HISTORY, "", 0),
+        ("boostmap run script", RUN_HISTORY, "", 0),
         ("boostmap run steps", "", "refused 21\n", 3),
         ("boostmap run missing", "", "read failed\n", 4),
         ("boostmap walk steps", "", USAGE, 2),
@@ -99,7 +110,7 @@ fn each_command_and_each_status(rt: HostRuntime) -> Result<(), Fail> {
         ("boostmap check missing", "", "read failed\n", 4),
     ] {
         let desk = Desk::new(words, FILES);
-        let (printed, told, ended) = ran(&rt, &desk)?;
+        let (printed, told, ended) = run_words(&rt, &desk)?;
         assert_eq!(rt;
             (printed.as_str(), told.as_str(), ended),
             (output, errors, status),
@@ -112,9 +123,9 @@ fn each_command_and_each_status(rt: HostRuntime) -> Result<(), Fail> {
 /// The whole seed counts: its high half and its low half.
 #[test]
 fn seeds_that_differ_in_one_half(rt: HostRuntime) -> Result<(), Fail> {
-    let low = ran(&rt, &Desk::new("boostmap mix --seed 1 two", FILES))?;
-    let high = ran(&rt, &Desk::new("boostmap mix --seed 4294967297 two", FILES))?;
-    let other = ran(&rt, &Desk::new("boostmap mix --seed 4294967296 two", FILES))?;
+    let low = run_words(&rt, &Desk::new("boostmap mix --seed 1 two", FILES))?;
+    let high = run_words(&rt, &Desk::new("boostmap mix --seed 4294967297 two", FILES))?;
+    let other = run_words(&rt, &Desk::new("boostmap mix --seed 4294967296 two", FILES))?;
     assert_eq!(rt; (low.2, high.2, other.2), (0, 0, 0));
     assert!(rt; low.0.as_str() != high.0.as_str());
     assert!(rt; high.0.as_str() != other.0.as_str());
@@ -130,14 +141,14 @@ fn what_the_system_refuses(rt: HostRuntime) -> Result<(), Fail> {
     ] {
         let mut desk = Desk::new("boostmap replay steps", FILES);
         desk.words_fail = Some(kind);
-        let (printed, told, ended) = ran(&rt, &desk)?;
+        let (printed, told, ended) = run_words(&rt, &desk)?;
         assert_eq!(rt;
             (printed.as_str(), told.as_str(), ended),
             ("", of_words, of_words_status)
         );
         desk.words_fail = None;
         desk.open_fails = Some(kind);
-        let (printed, told, ended) = ran(&rt, &desk)?;
+        let (printed, told, ended) = run_words(&rt, &desk)?;
         assert_eq!(rt; (printed.as_str(), told.as_str(), ended), ("", of_open, 4));
     }
     Ok(())

@@ -40,7 +40,7 @@ fn replies(last: u64) -> [Entry; 14] {
 
 /// The verdict of the plain program, which `check` and a checker that is fed entry by entry must
 /// share.
-fn agreed<R: AllocGlobal + Abort>(
+fn verdict_of<R: AllocGlobal + Abort>(
     rt: &R,
     entries: &[Entry],
     stripes: u64,
@@ -68,7 +68,7 @@ fn agreed<R: AllocGlobal + Abort>(
 }
 
 /// The verdict, asked for once more where memory is refused.
-fn judged_by<R: AllocGlobal + Abort>(
+fn judge_by<R: AllocGlobal + Abort>(
     rt: &R,
     entries: &[Entry],
     stripes: u64,
@@ -76,26 +76,26 @@ fn judged_by<R: AllocGlobal + Abort>(
 ) -> Result<Verdict, AllocError>
     requires { 0 < stripes }
 {
-    agreed(rt, entries, stripes, holder).or_else(|_| agreed(rt, entries, stripes, holder))
+    verdict_of(rt, entries, stripes, holder).or_else(|_| verdict_of(rt, entries, stripes, holder))
 }
 
 /// The verdict where a Busy names a holder of now.
-fn judged<R: AllocGlobal + Abort>(
+fn judge<R: AllocGlobal + Abort>(
     rt: &R,
     entries: &[Entry],
     stripes: u64,
 ) -> Result<Verdict, AllocError>
     requires { 0 < stripes }
 {
-    judged_by(rt, entries, stripes, Holder::Now)
+    judge_by(rt, entries, stripes, Holder::Now)
 }
 
 #[test]
 fn checker_replies(rt: HostRuntime) -> Result<(), Fail> {
     let stale = replies(99);
-    assert_eq!(rt; judged(&rt, &stale, 8)?, illegal(12, Rule::Replies));
+    assert_eq!(rt; judge(&rt, &stale, 8)?, illegal(12, Rule::Replies));
     let right = replies(10);
-    assert_eq!(rt; judged(&rt, &right, 8)?, legal(2, 0));
+    assert_eq!(rt; judge(&rt, &right, 8)?, legal(2, 0));
     let not_undone = [
         Entry::Began(0, 1),
         Entry::Asked(0, Op::Put(1, 10)),
@@ -107,7 +107,7 @@ fn checker_replies(rt: HostRuntime) -> Result<(), Fail> {
         Entry::Leave(1, None),
         Entry::Aborted(1),
     ];
-    assert_eq!(rt; judged(&rt, &not_undone, 8)?, illegal(8, Rule::Shape));
+    assert_eq!(rt; judge(&rt, &not_undone, 8)?, illegal(8, Rule::Shape));
     Ok(())
 }
 
@@ -120,9 +120,9 @@ fn checker_locks(rt: HostRuntime) -> Result<(), Fail> {
         Entry::Began(1, 2),
         Entry::Asked(1, Op::Get(9)),
     ];
-    assert_eq!(rt; judged(&rt, &asked, 8)?, illegal(4, Rule::Locks));
+    assert_eq!(rt; judge(&rt, &asked, 8)?, illegal(4, Rule::Locks));
     let busy = [Entry::Began(0, 1), Entry::Busy(0, Op::Get(9), 1)];
-    assert_eq!(rt; judged(&rt, &busy, 8)?, illegal(1, Rule::Locks));
+    assert_eq!(rt; judge(&rt, &busy, 8)?, illegal(1, Rule::Locks));
     Ok(())
 }
 
@@ -138,13 +138,13 @@ const HOLDER_HAS_BEGUN: [Entry; 6] = [
 
 #[test]
 fn holder_has_begun(rt: HostRuntime) -> Result<(), Fail> {
-    let begun = judged_by(&rt, &HOLDER_HAS_BEGUN, 8, Holder::Begun)?;
+    let begun = judge_by(&rt, &HOLDER_HAS_BEGUN, 8, Holder::Begun)?;
     assert_eq!(rt; begun, legal(1, 1));
-    let now = judged_by(&rt, &HOLDER_HAS_BEGUN, 8, Holder::Now)?;
+    let now = judge_by(&rt, &HOLDER_HAS_BEGUN, 8, Holder::Now)?;
     assert_eq!(rt; now, illegal(5, Rule::Locks));
     for named in [0, 1, 64, u64::MAX] {
         let busy = [Entry::Began(1, 1), Entry::Busy(1, Op::Get(9), named)];
-        let begun = judged_by(&rt, &busy, 8, Holder::Begun)?;
+        let begun = judge_by(&rt, &busy, 8, Holder::Begun)?;
         assert_eq!(rt; begun, illegal(1, Rule::Locks), "of {named}");
     }
     Ok(())
@@ -152,28 +152,28 @@ fn holder_has_begun(rt: HostRuntime) -> Result<(), Fail> {
 
 #[test]
 fn forged_histories(rt: HostRuntime) -> Result<(), Fail> {
-    assert_eq!(rt; judged(&rt, &[], 8)?, legal(0, 0));
+    assert_eq!(rt; judge(&rt, &[], 8)?, legal(0, 0));
     let undone = [Entry::Undone(0)];
-    assert_eq!(rt; judged(&rt, &undone, 8)?, illegal(0, Rule::Shape));
+    assert_eq!(rt; judge(&rt, &undone, 8)?, illegal(0, Rule::Shape));
     let second_place = [Entry::Began(0, 1), Entry::Committed(0, 2)];
-    assert_eq!(rt; judged(&rt, &second_place, 8)?, illegal(1, Rule::Shape));
+    assert_eq!(rt; judge(&rt, &second_place, 8)?, illegal(1, Rule::Shape));
     let no_savepoint = [Entry::Began(0, 1), Entry::Leave(0, Some(1))];
-    assert_eq!(rt; judged(&rt, &no_savepoint, 8)?, illegal(1, Rule::Shape));
+    assert_eq!(rt; judge(&rt, &no_savepoint, 8)?, illegal(1, Rule::Shape));
     let invented = [
         Entry::Began(0, 1),
         Entry::Asked(0, Op::Get(5)),
         Entry::Did(0, Some(7)),
         Entry::Leave(0, None),
     ];
-    assert_eq!(rt; judged(&rt, &invented, 8)?, illegal(2, Rule::Replies));
+    assert_eq!(rt; judge(&rt, &invented, 8)?, illegal(2, Rule::Replies));
     let one_stripe = [
         Entry::Began(0, 1),
         Entry::Asked(0, Op::Get(1)),
         Entry::Began(1, 2),
         Entry::Asked(1, Op::Get(9)),
     ];
-    assert_eq!(rt; judged(&rt, &one_stripe, 8)?, illegal(3, Rule::Locks));
-    assert_eq!(rt; judged(&rt, &one_stripe, 16)?, legal(0, 2));
+    assert_eq!(rt; judge(&rt, &one_stripe, 8)?, illegal(3, Rule::Locks));
+    assert_eq!(rt; judge(&rt, &one_stripe, 16)?, legal(0, 2));
     Ok(())
 }
 
@@ -191,14 +191,14 @@ const PUT_IF_HISTORY: [Entry; 8] = [
 
 #[test]
 fn put_if_history(rt: HostRuntime) -> Result<(), Fail> {
-    assert_eq!(rt; judged(&rt, &PUT_IF_HISTORY, 8)?, legal(0, 0));
+    assert_eq!(rt; judge(&rt, &PUT_IF_HISTORY, 8)?, legal(0, 0));
     let mut undone_twice = PUT_IF_HISTORY[..7].to_vec(rt.alloc())?;
     undone_twice.push(Entry::Undone(0))?;
     undone_twice.push(Entry::Aborted(0))?;
-    assert_eq!(rt; judged(&rt, &undone_twice, 8)?, illegal(7, Rule::Shape));
+    assert_eq!(rt; judge(&rt, &undone_twice, 8)?, illegal(7, Rule::Shape));
     let mut not_put = PUT_IF_HISTORY;
     not_put[4] = Entry::Did(0, None);
-    assert_eq!(rt; judged(&rt, &not_put, 8)?, illegal(4, Rule::Replies));
+    assert_eq!(rt; judge(&rt, &not_put, 8)?, illegal(4, Rule::Replies));
     Ok(())
 }
 
@@ -217,10 +217,10 @@ fn keys_that_share_a_split_key(rt: HostRuntime) -> Result<(), Fail> {
         Entry::Did(0, Some(11)),
         Entry::Committed(0, 1),
     ];
-    assert_eq!(rt; judged(&rt, &apart, 8)?, legal(1, 0));
+    assert_eq!(rt; judge(&rt, &apart, 8)?, legal(1, 0));
     let mut taken_for_one = apart;
     taken_for_one[4] = Entry::Did(0, Some(11));
-    assert_eq!(rt; judged(&rt, &taken_for_one, 8)?, illegal(4, Rule::Replies));
+    assert_eq!(rt; judge(&rt, &taken_for_one, 8)?, illegal(4, Rule::Replies));
     Ok(())
 }
 
@@ -230,7 +230,7 @@ fn is_refused(alloc: Global) -> bool {
 }
 
 /// Begins to check, once more where that is refused; none where memory is refused still.
-fn started<R: AllocGlobal + Abort>(rt: &R) -> Option<Checker> {
+fn start_checker<R: AllocGlobal + Abort>(rt: &R) -> Option<Checker> {
     for _ in 0..2 {
         if let Ok(checker) = Checker::new(rt.alloc(), 8, Holder::Now) {
             return Some(checker);
@@ -269,7 +269,7 @@ fn end_refused<R: AllocGlobal + Abort>(rt: &R, checker: &mut Checker, taken: usi
 /// Is to be run with allocations refused: a refused entry changes nothing, and is fed once more.
 #[test]
 fn fed_entry_by_entry(rt: HostRuntime) {
-    let Some(mut checker) = started(&rt) else {
+    let Some(mut checker) = start_checker(&rt) else {
         return;
     };
     for (i, entry) in replies(99).iter().enumerate() {
@@ -309,9 +309,9 @@ const WITH_SAVEPOINTS: [Entry; 16] = [
 #[test]
 fn savepoints(rt: HostRuntime) -> Result<(), Fail> {
     let back_at_1 = &WITH_SAVEPOINTS[..15];
-    assert_eq!(rt; judged(&rt, back_at_1, 8)?, legal(0, 1));
+    assert_eq!(rt; judge(&rt, back_at_1, 8)?, legal(0, 1));
     assert_eq!(rt;
-        judged(&rt, &WITH_SAVEPOINTS, 8)?,
+        judge(&rt, &WITH_SAVEPOINTS, 8)?,
         illegal(15, Rule::Shape),
         "savepoint 2 is gone"
     );
@@ -321,7 +321,7 @@ fn savepoints(rt: HostRuntime) -> Result<(), Fail> {
 /// Is to be run with allocations refused: a refused entry changes nothing, and is fed once more.
 #[test]
 fn fed_with_savepoints(rt: HostRuntime) {
-    let Some(mut checker) = started(&rt) else {
+    let Some(mut checker) = start_checker(&rt) else {
         return;
     };
     for (i, entry) in WITH_SAVEPOINTS.iter().enumerate() {
@@ -368,7 +368,7 @@ impl Tally {
 
 /// Draws a legal history from the seed, which must be found so, and gives the verdict on it with
 /// one fault.
-fn spoiled<R: AllocGlobal + Abort>(
+fn judge_seed<R: AllocGlobal + Abort>(
     rt: &R,
     seed: u64,
     holder: Holder,
@@ -377,10 +377,10 @@ fn spoiled<R: AllocGlobal + Abort>(
     let stripes = draws.below(4) + 1;
     let length = draws.below(31);
     let mut history = generated::legal_history(rt.alloc(), &mut draws, stripes, length, holder)?;
-    let verdict = agreed(rt, &history, stripes, holder)?;
+    let verdict = verdict_of(rt, &history, stripes, holder)?;
     assert!(rt; matches!(verdict, Verdict::Legal { .. }), "{history:?}");
     generated::spoil(&mut draws, &mut history)?;
-    agreed(rt, &history, stripes, holder)
+    verdict_of(rt, &history, stripes, holder)
 }
 
 #[test]
@@ -388,7 +388,7 @@ fn agrees_with_the_plain_program(rt: HostRuntime) -> Result<(), Fail> {
     let mut tally = Tally::default();
     for seed in 0..1000 {
         for holder in [Holder::Now, Holder::Begun] {
-            tally.count(spoiled(&rt, seed, holder).or_else(|_| spoiled(&rt, seed, holder))?);
+            tally.count(judge_seed(&rt, seed, holder).or_else(|_| judge_seed(&rt, seed, holder))?);
         }
     }
     assert!(rt; 500 < tally.legal, "legal: {}", tally.legal);

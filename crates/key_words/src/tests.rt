@@ -105,7 +105,7 @@ fn last_seat(words: &KeyWords, seats: &mut Vec<KeySeat>, count: usize) -> Option
 const TRIES: usize = 100_000;
 
 /// Takes the 64 stripes in turn, from one on, and gives back each that is granted.
-fn churned(words: &KeyWords, mut seat: KeySeat, first: usize) -> KeySeat
+fn take_and_give_back(words: &KeyWords, mut seat: KeySeat, first: usize) -> KeySeat
     requires seat { IsOf seat words.now }
     requires stripes { stripes_of words.now ≡ 64 }
     requires first { first < 64 }
@@ -120,7 +120,7 @@ fn churned(words: &KeyWords, mut seat: KeySeat, first: usize) -> KeySeat
 }
 
 /// The same in two threads, which begin at the same stripe.
-fn churned_by_two<R: Threads + Sync>(
+fn take_and_give_back_by_two<R: Threads + Sync>(
     rt: &R,
     words: &KeyWords,
     seats: (KeySeat, KeySeat),
@@ -134,13 +134,13 @@ fn churned_by_two<R: Threads + Sync>(
     let (one, other) = seats;
     join(
         rt,
-        move || churned(words, one, first),
-        move || churned(words, other, first),
+        move || take_and_give_back(words, one, first),
+        move || take_and_give_back(words, other, first),
     )
 }
 
 /// How many of the stripes the seat is granted, each with its own right.
-fn granted(words: &KeyWords, mut seat: KeySeat) -> usize
+fn count_granted(words: &KeyWords, mut seat: KeySeat) -> usize
     requires seat { IsOf seat words.now }
     requires stripes { stripes_of words.now ≡ 64 }
 {
@@ -156,7 +156,7 @@ fn granted(words: &KeyWords, mut seat: KeySeat) -> usize
 }
 
 /// The same in four threads.
-fn churned_by_four<R: Threads + Sync>(
+fn take_and_give_back_by_four<R: Threads + Sync>(
     rt: &R,
     words: &KeyWords,
     seats: ((KeySeat, KeySeat), (KeySeat, KeySeat)),
@@ -176,17 +176,17 @@ fn churned_by_four<R: Threads + Sync>(
             requires { IsSync R.row × IsOf some.0 words.now × IsOf some.1 words.now
                 × (stripes_of words.now ≡ 64) × (first < 64) }
             ensures { IsOf result.0 words.entry.now × IsOf result.1 words.entry.now }
-        { churned_by_two(rt, words, some, first) },
+        { take_and_give_back_by_two(rt, words, some, first) },
         move || -> (KeySeat, KeySeat)
             requires { IsSync R.row × IsOf others.0 words.now × IsOf others.1 words.now
                 × (stripes_of words.now ≡ 64) × (first < 64) }
             ensures { IsOf result.0 words.entry.now × IsOf result.1 words.entry.now }
-        { churned_by_two(rt, words, others, first) },
+        { take_and_give_back_by_two(rt, words, others, first) },
     )
 }
 
 /// The same in eight threads, of which the first's seat is left.
-fn churned_by_eight<R: Threads + Sync>(
+fn take_and_give_back_by_eight<R: Threads + Sync>(
     rt: &R,
     words: &KeyWords,
     low: ((KeySeat, KeySeat), (KeySeat, KeySeat)),
@@ -205,13 +205,13 @@ fn churned_by_eight<R: Threads + Sync>(
             requires { IsSync R.row × (IsOf low.0.0 words.now × IsOf low.0.1 words.now)
                 × (IsOf low.1.0 words.now × IsOf low.1.1 words.now) × (stripes_of words.now ≡ 64) }
             ensures { IsOf result.0.0 words.entry.now }
-        { churned_by_four(rt, words, low, 0) },
+        { take_and_give_back_by_four(rt, words, low, 0) },
         move || -> ((KeySeat, KeySeat), (KeySeat, KeySeat))
             requires { IsSync R.row × (IsOf high.0.0 words.now × IsOf high.0.1 words.now)
                 × (IsOf high.1.0 words.now × IsOf high.1.1 words.now)
                 × (stripes_of words.now ≡ 64) }
             ensures { IsOf result.0.0 words.entry.now }
-        { churned_by_four(rt, words, high, 0) },
+        { take_and_give_back_by_four(rt, words, high, 0) },
     );
     let (pair, _) = low;
     let (seat, _) = pair;
@@ -234,7 +234,7 @@ fn eight_threads_leave_all_words_free(rt: HostRuntime) -> Result<(), Fail> {
     let a = last_seat(&words, &mut seats, 1).ok_or("no seat 0")?;
     let low = ((a, b), (c, d));
     let high = ((e, f), (g, h));
-    let seat = churned_by_eight(&rt, &words, low, high);
-    assert_eq!(rt; granted(&words, seat), 64);
+    let seat = take_and_give_back_by_eight(&rt, &words, low, high);
+    assert_eq!(rt; count_granted(&words, seat), 64);
     Ok(())
 }

@@ -69,7 +69,7 @@ fn regular_there(list: &NodeList, cursor: &Cursor) -> Result<NodeRef, Fail>
 }
 
 /// Links a spare where its sort key was sought, which has to be vacant.
-fn linked(list: &mut NodeList, cursor: &Cursor, spare: Spare) -> Result<NodeRef, Fail>
+fn link_here(list: &mut NodeList, cursor: &Cursor, spare: Spare) -> Result<NodeRef, Fail>
     requires placed { IsPlaced list.old cursor.now }
     requires out { IsOut list.old spare }
     requires at { spare.at ≡ at_of cursor.now }
@@ -182,7 +182,7 @@ fn put(list: &mut NodeList, number: u64) -> Result<(), Fail> {
     let at = at(number);
     let spare = regular_spare(list, at, number)?;
     let cursor = seek_from_head(list, at);
-    let _ = linked(list, &cursor, spare)?;
+    let _ = link_here(list, &cursor, spare)?;
     Ok(())
 }
 
@@ -319,7 +319,7 @@ fn dummy_of_1(list: &mut NodeList) -> Result<NodeRef, Fail>
     let mut spare = list.spare()?;
     spare.fill(at, Kind::Dummy, 0);
     let cursor = seek_from_head(list, at);
-    linked(list, &cursor, spare)
+    link_here(list, &cursor, spare)
 }
 
 /// Sweeps from a dummy where no marked node may stand before it, and else from the head.

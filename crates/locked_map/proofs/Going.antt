@@ -1,5 +1,5 @@
 -- A call goes on over its steps.
-use Rattle.std.proofs.Common.{◌≡◌, ℕ, true, List, ◌++◌, append_assoc, is_some, Option, Some, None, refl, sym, ap, subst, ◌∙◌}
+use Rattle.std.proofs.Common.{◌≡◌, ℕ, Bool, true, false, if◌then◌else◌, nat_lt, List, ◌++◌, append_assoc, is_some, Option, Some, None, refl, sym, ap, subst, ◌∙◌}
 use Rattle.std.specs.Prelude.{unwrap_or}
 use Rattle.std.specs.List.{fold}
 use Rattle.std.specs.Option.{option_and_then}
@@ -8,6 +8,7 @@ use Rattle.txn_trace.specs.declared.answer.Answer.{Answer}
 use Rattle.txn_trace.specs.declared.answer.Answer.TheVariants as answers
 use Rattle.txn_trace.specs.declared.entry.Entry.{Entry}
 use Rattle.txn_trace.specs.declared.step.Step.{Step}
+use Rattle.txn_trace.specs.declared.step.Step.TheVariants as steps
 use Rattle.txn_trace.specs.Entries.{entries_of}
 use Rattle.txn_trace.specs.Sizes.{Sizes}
 use Rattle.txn_trace.specs.Shape.{Seat, closed_seat, row, seat_after}
@@ -16,12 +17,13 @@ use Rattle.txn_drive.specs.declared.drive.Drive.{Drive}
 use Rattle.txn_drive.specs.declared.phase.Phase.{Phase}
 use Rattle.txn_drive.specs.declared.phase.Phase.TheVariants.{Seeking, Doubling, Initialising}
 use Rattle.txn_drive.specs.declared.turn.Turn.{Turn}
-use Rattle.txn_drive.specs.declared.turn.Turn.TheVariants.{Two}
-use Rattle.txn_drive.specs.Drives.{step_of, sized_in, sized_of, told_in, told_of, turn_in, turn_of}
+use Rattle.txn_drive.specs.declared.turn.Turn.TheVariants.{One, Two}
+use Rattle.txn_drive.specs.Drives.{step_in, step_of, sized_in, sized_of, told_in, told_of, turn_in, turn_of}
 use Rattle.txn_drive.specs.Made.{made}
 use Rattle.txn_drive.proofs.MadeLemmas.{made-told_of}
 use Rattle.txn_drive.proofs.DriveLaws.{made-sized}
 use Rattle.boost_core.specs.State.{State}
+use Rattle.locked_map.specs.Claims.{Trial}
 use Rattle.locked_map.specs.Suits.{Fits, IsSized, IsInStep}
 use Rattle.locked_map.specs.Holds.{TakesSecond, FitsIf, GoesOn}
 use Rattle.locked_map.proofs.Phases.{seat_on, seat_told, fits_told}
@@ -59,9 +61,26 @@ pub second_sized : (size : ℕ) (d e : Drive) (a : Answer) (turn : Turn) (step n
 second_sized size d e a turn step next is two told placed =
     subst (λ (x : Drive). IsSized size x.phase) (sym (told ∙ ap (told_of d) placed)) (second_sized_in size d.caller d.call d.phase step next (sym is ∙ two))
 
-pub no_second : (m : State) (seen : List Entry) (d : Drive) (next : Step) (a : Answer) → (a ≡ answers.Placed → ⊥) → TakesSecond m seen d next a m seen d
-no_second m seen d next answers.Placed not_so = absurd (not_so refl)
-no_second m seen d next a not_so = (refl, refl, refl)
+-- The second step of a turn is the drive's after `placed`.
+second_in : (c : ℕ) (call : Call) (phase : Phase) (step next : Step) → turn_in c call phase ≡ Two step next → step_in c call (told_in call phase answers.Placed) ≡ Some next
+second_in c call (Seeking work again) step next is = by (nat_lt again 8) is
+  where
+    by : (b : Bool) → (if b then One (steps.Seek c) else Two (steps.Seek c) (steps.Act c)) ≡ Two step next → Some (steps.Act c) ≡ Some next
+    by true is = absurd (cc is)
+    by false is = cc is
+second_in c call (Initialising way again) step next is = by (nat_lt again 8) is
+  where
+    by : (b : Bool) → (if b then One (steps.InitSeek c way.bucket) else Two (steps.InitSeek c way.bucket) (steps.InitLink c)) ≡ Two step next → Some (steps.InitLink c) ≡ Some next
+    by true is = absurd (cc is)
+    by false is = cc is
+second_in c call phase step next is = absurd (cc is)
+
+pub second_step : (d e : Drive) (a : Answer) (turn : Turn) (step next : Step) → turn ≡ turn_of d → turn ≡ Two step next → e ≡ told_of d a → a ≡ answers.Placed → step_of e ≡ Some next
+second_step d e a turn step next is two told placed = ap step_of (told ∙ ap (told_of d) placed) ∙ second_in d.caller d.call d.phase step next (sym is ∙ two)
+
+pub no_second : (tried : Option Trial) (m : State) (seen : List Entry) (d : Drive) (next : Step) (a : Answer) → (a ≡ answers.Placed → ⊥) → TakesSecond tried m seen d next a m seen d
+no_second tried m seen d next answers.Placed not_so = absurd (not_so refl)
+no_second tried m seen d next a not_so = (refl, refl, refl)
 
 -- The size at this moment.
 pub goes_sized : (base seen : List Entry) (d : Drive) (size : ℕ) → GoesOn base seen d → GoesOn base seen (sized_of size d)

@@ -20,9 +20,9 @@ use Rattle.txn_drive.specs.Drives.{sized_of, turn_in, turn_of, end_of, ended_by}
 use Rattle.txn_drive.specs.Made.{made, IsMade}
 use Rattle.txn_drive.proofs.DriveLaws.{made_at_end}
 use Rattle.boost_core.specs.State.{State, seat_in}
-use Rattle.locked_map.specs.Tokens.{Token}
+use Rattle.locked_map.specs.Tokens.{Token, IsSameCaller, IsSameClaims}
 use Rattle.locked_map.specs.Suits.{may_refuse, is_odd, IsSized, Suits, IsInStep}
-use Rattle.locked_map.specs.Holds.{TookTurn, TakesTurn, Held, InStep, odd_if, end_in, is_out, out_if, GoesOn, GoesTo, HasRun, MayEnd, CommitNothing, IsQuiet}
+use Rattle.locked_map.specs.Holds.{FoundOther, HadNoRoom, TookTurn, TakesTurn, Held, InStep, odd_if, end_in, is_out, out_if, GoesOn, GoesTo, HasRun, MayEnd, CommitNothing, IsQuiet}
 use Rattle.locked_map.proofs.Quiet.{odd_quiet, going_quiet}
 use Rattle.locked_map.proofs.Going.{goes_sized, in_step_sized, is_sized}
 
@@ -143,22 +143,40 @@ no_room_run base seen seen' d e same is starts goes = record {
     none_made c call = refl
 
 pub held_took : {S : Type 0} (m n : State) (t k l : Token S) (d d' e : Drive) (turn : Turn) (size : ℕ) (end r : Option End) (whole : Bool) → t ≡ k → t.broken ≡ false → size ≡ m.size → d' ≡ sized_of size d → turn ≡ turn_of d'
-    → TakesTurn m t.seen d' turn n l.seen e → whole ≡ is_some (seat_after l.seen) → end ≡ end_of e → l.broken ≡ (not whole || odd_if e.call end) → r ≡ end_in l.broken end
-    → l.number ≡ t.number → l.limits ≡ t.limits → l.side ≡ t.side → Held m k d r n l e
-held_took {S} m n t k l d d' e turn size end r whole view sound size_is is turn_is took whole_is end_is broken ends_is number limits side =
+    → m.limits.stripes ≡ t.limits.stripes → TakesTurn t.tried m t.seen d' turn n l.seen e → whole ≡ is_some (seat_after l.seen) → end ≡ end_of e → l.broken ≡ (not whole || odd_if e.call end) → r ≡ end_in l.broken end
+    → IsSameCaller t l → IsSameClaims t l → l.side ≡ t.side → Held m k d r n l e
+held_took {S} m n t k l d d' e turn size end r whole view sound size_is is turn_is stripes took whole_is end_is broken ends_is whose claims side =
     let sized : d' ≡ sized_of m.size d = is ∙ ap (λ z. sized_of z d) size_is in
     subst (λ (x : Token S). Held m x d r n l e) view (
       TookTurn,
       record {
         sound = sound;
-        turn = subst (λ x. TakesTurn m t.seen x (turn_of x) n l.seen e) sized (subst (λ x. TakesTurn m t.seen d' x n l.seen e) turn_is took);
+        stripes = stripes;
+        turn = subst (λ x. TakesTurn t.tried m t.seen x (turn_of x) n l.seen e) sized (subst (λ x. TakesTurn t.tried m t.seen d' x n l.seen e) turn_is took);
         broken = broken ∙ (λ i. not (whole_is i) || odd_if e.call (end_is i));
         ends = ends_is ∙ ap (end_in l.broken) end_is;
-        number = number;
-        limits = limits;
+        whose = whose;
+        claims = claims;
         side = side;
       },
     )
+
+-- A core with another number of stripes is not in step, and nothing is done on it.
+pub held_other : {S : Type 0} (m : State) (t k : Token S) (d d' : Drive) (size : ℕ) → t ≡ k → t.broken ≡ false → size ≡ m.size → d' ≡ sized_of size d → (m.limits.stripes ≡ t.limits.stripes → ⊥)
+    → Held m k d (Some (ends.Refused OutOfStep)) m (record t { broken = true }) d'
+held_other {S} m t k d d' size view sound size_is is other =
+    subst (λ (x : Token S). Held m x d (Some (ends.Refused OutOfStep)) m (record t { broken = true }) d') view
+    (FoundOther, (sound, other, refl, refl, refl, is ∙ ap (λ z. sized_of z d) size_is))
+
+-- A hold without room.
+pub held_no_room : {S : Type 0} (m n : State) (t k : Token S) (d d' e : Drive) (size : ℕ) (seen : List Entry) → t ≡ k → t.broken ≡ false → size ≡ m.size → d' ≡ sized_of size d → n ≡ m → seen ≡ t.seen → e ≡ d'
+    → Held m k d (Some (ends.Refused NoMemory)) n (record t { seen = seen }) e
+held_no_room {S} m n t k d d' e size seen view sound size_is is core_is seen_is drive_is =
+    subst (λ (x : Token S). Held m x d (Some (ends.Refused NoMemory)) n (record t { seen = seen }) e) view
+    (HadNoRoom, (sound, refl, core_is, ap (λ (es : List Entry). record t { seen = es }) seen_is, drive_is ∙ is ∙ ap (λ z. sized_of z d) size_is))
+
+pub other_in_step : {S : Type 0} (m : State) (t k : Token S) (d : Drive) → t ≡ k → (m.limits.stripes ≡ t.limits.stripes → ⊥) → InStep m k d → ⊥
+other_in_step {S} m t k d view other ins = other (ap (λ (z : Sizes). z.stripes) (ins.1.same_limits ∙ ap (λ (x : Token S). x.limits) (sym view)))
 
 pub held_in_step : (n : State) (limits : Sizes) (number : ℕ) (seen : List Entry) (b : Bool) (e : Drive) (end r : Option End) (whole : Bool) → IsInStep n limits number seen e → IsShaped n.history
     → whole ≡ is_some (seat_after seen) → end ≡ end_of e → b ≡ (not whole || odd_if e.call end) → r ≡ end_in b end → ((b ≡ false) × IsInStep n limits number seen e) × IfSome r (λ x. x ≢ ends.Refused OutOfStep)

@@ -1,4 +1,7 @@
 pub mod Noting
+pub mod Claiming
+pub mod Passing
+pub mod Running
 pub mod Phases
 pub mod Starting
 pub mod Working

@@ -16,7 +16,7 @@ use Rattle.txn_drive.specs.Made.{IsMade}
 use Rattle.locked_map.specs.Holds.{CommitNothing}
 use Rattle.locked_map.specs.Sides.{IsSameSide, Follows}
 use Rattle.locked_map.specs.Suits.{may_refuse}
-use Rattle.locked_map.specs.Tokens.{Token, IsSameCaller}
+use Rattle.locked_map.specs.Tokens.{Token, IsSameCaller, RightsLeft, RightsOf}
 use Rattle.locked_map.specs.declared.stop.Stop.{Stop}
 use Rattle.locked_map.specs.declared.stop.Stop.TheVariants as stops
 
@@ -37,7 +37,7 @@ abbrev pub refused_by : {S : Type 0} → Token S → Call → Option Refusal
 refused_by k call = refused_at k.limits.half k.broken (seat_after k.seen) call
 
 -- A call that its token let pass, and that did what it was asked, or found a stripe held and took
--- all back: it added what belongs to its end, and the side value followed.
+-- all back: it added what belongs to its end, and side value and rights followed.
 pub record Ran {S : Type 0} (words : S → List ℕ) (k : Token S) (call : Call) (outcome : End)
     (l : Token S) : Type 0 where
   pub free : refused_by k call ≡ None
@@ -47,8 +47,10 @@ pub record Ran {S : Type 0} (words : S → List ℕ) (k : Token S) (call : Call)
   pub entries : l.seen ≡ k.seen ++ added
   pub made : IsMade k.number call outcome added
   pub side : Follows words outcome k.side l.side
+  pub rights : RightsLeft k call outcome l
 
--- A call that its token let pass, and that found no memory or no stamp: it added nothing.
+-- A call that its token let pass, and that found no memory, no stamp or a stale word: it added
+-- nothing.
 pub record FoundNone {S : Type 0} (k : Token S) (call : Call) (refusal : Refusal) (l : Token S) :
     Type 0 where
   pub may : may_refuse call refusal ≡ true
@@ -56,19 +58,22 @@ pub record FoundNone {S : Type 0} (k : Token S) (call : Call) (refusal : Refusal
   pub sound : l.broken ≡ false
   pub seen : l.seen ≡ k.seen
   pub side : IsSameSide k.side l.side
+  pub rights : RightsOf k call l
 
 -- A call that its token let pass, and that fell out of step: it added the entries of its moves,
--- none of which commits as long as all that was seen has rows, and the token is broken.
-pub record FellOut {S : Type 0} (k l : Token S) : Type 0 where
+-- none of which commits as long as all that was seen has rows, and the token is broken. It keeps
+-- its rights.
+pub record FellOut {S : Type 0} (k : Token S) (call : Call) (l : Token S) : Type 0 where
   pub whose : IsSameCaller k l
   pub broken : l.broken ≡ true
   pub added : List Entry
   pub entries : l.seen ≡ k.seen ++ added
   pub quiet : is_some (seat_after l.seen) ≡ true → CommitNothing added
   pub side : IsSameSide k.side l.side
+  pub rights : RightsOf k call l
 
 abbrev pub Failed : {S : Type 0} → Token S → Call → Refusal → Token S → Type 0
-Failed k call OutOfStep l = FellOut k l
+Failed k call OutOfStep l = FellOut k call l
 Failed k call refusal l = FoundNone k call refusal l
 
 -- A call that was refused: by its token, which is as it was, or else later.

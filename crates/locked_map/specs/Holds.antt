@@ -18,14 +18,17 @@ use Rattle.txn_drive.specs.declared.turn.Turn.TheVariants.{One, Two, Ended}
 use Rattle.txn_drive.specs.declared.phase.Phase.{Phase}
 use Rattle.txn_drive.specs.Made.{made, IsMade}
 use Rattle.txn_drive.specs.Drives.{sized_of, turn_of, told_of, end_of}
-use Rattle.boost_core.specs.Machine.{State, Move}
-use Rattle.locked_map.specs.Tokens.{Token}
+use Rattle.boost_core.specs.State.{State}
+use Rattle.boost_core.specs.Words.{Goes}
+use Rattle.locked_map.specs.Claims.{Trial, claim_in}
+use Rattle.locked_map.specs.Tokens.{Token, IsSameCaller, IsSameClaims}
 use Rattle.locked_map.specs.Suits.{is_odd, Fits, IsInStep}
 
--- How a hold went: the token was broken; there was no room for what the turn may add; or the turn
--- was taken.
+-- How a hold went: the token was broken; the core has not as many stripes as there are words; there
+-- was no room for what the turn may add; or the turn was taken.
 pub data How : Type 0 where
   WasBroken : How
+  FoundOther : How
   HadNoRoom : How
   TookTurn : How
 
@@ -48,54 +51,60 @@ abbrev pub out_if : Option End → Bool
 out_if None = false
 out_if (Some outcome) = is_out outcome
 
--- A step is taken: the core makes its move, the drive is told the answer, and the step's entries
--- are seen.
-pub record Takes (m : State) (seen : List Entry) (d : Drive) (step : Step) (answer : Answer)
-    (n : State) (seen' : List Entry) (e : Drive) : Type 0 where
-  pub move : Move m step answer n
+-- A step is taken: the core makes its move, or where an operation is asked for does what the claim
+-- to its stripe comes to; the drive is told the answer, and the step's entries are seen.
+pub record Takes (tried : Option Trial) (m : State) (seen : List Entry) (d : Drive) (step : Step)
+    (answer : Answer) (n : State) (seen' : List Entry) (e : Drive) : Type 0 where
+  pub goes : Goes (claim_in tried m step) m step answer n
   pub told : e ≡ told_of d answer
   pub entries : seen' ≡ seen ++ entries_of step answer
 
 -- After the first step of two the second is taken where the answer was `placed`.
-abbrev pub TakesSecond : State → List Entry → Drive → Step → Answer → State → List Entry → Drive
-    → Type 0
-TakesSecond m seen d step answers.Placed n seen' e =
-    (answer : Answer) × Takes m seen d step answer n seen' e
-TakesSecond m seen d step answer n seen' e = (n ≡ m) × (seen' ≡ seen) × (e ≡ d)
+abbrev pub TakesSecond : Option Trial → State → List Entry → Drive → Step → Answer → State
+    → List Entry → Drive → Type 0
+TakesSecond tried m seen d step answers.Placed n seen' e =
+    (answer : Answer) × Takes tried m seen d step answer n seen' e
+TakesSecond tried m seen d step answer n seen' e = (n ≡ m) × (seen' ≡ seen) × (e ≡ d)
 
 -- A turn is taken: its steps and no other.
-abbrev pub TakesTurn : State → List Entry → Drive → Turn → State → List Entry → Drive → Type 0
-TakesTurn m seen d (One step) n seen' e =
-    (answer : Answer) × Takes m seen d step answer n seen' e
-TakesTurn m seen d (Two step next) n seen' e =
+abbrev pub TakesTurn : Option Trial → State → List Entry → Drive → Turn → State → List Entry
+    → Drive → Type 0
+TakesTurn tried m seen d (One step) n seen' e =
+    (answer : Answer) × Takes tried m seen d step answer n seen' e
+TakesTurn tried m seen d (Two step next) n seen' e =
     (answer : Answer) × (between : State) × (middle : List Entry) × (half : Drive)
-    × Takes m seen d step answer between middle half
-    × TakesSecond between middle half next answer n seen' e
-TakesTurn m seen d (Ended outcome) n seen' e = (n ≡ m) × (seen' ≡ seen) × (e ≡ d)
+    × Takes tried m seen d step answer between middle half
+    × TakesSecond tried between middle half next answer n seen' e
+TakesTurn tried m seen d (Ended outcome) n seen' e = (n ≡ m) × (seen' ≡ seen) × (e ≡ d)
 
--- A hold that took the drive's turn: the core made the moves of the turn and no other, their
+-- A hold that took the drive's turn: the core took the steps of the turn and no other, their
 -- entries are seen and no other, and the drive was told their answers. The token breaks where an
 -- entry has no row, or where the call may not end so.
 pub record TurnHeld {S : Type 0} (m : State) (k : Token S) (d : Drive) (outcome : Option End)
     (n : State) (l : Token S) (e : Drive) : Type 0 where
   pub sound : k.broken ≡ false
-  pub turn : TakesTurn m k.seen d (turn_of d) n l.seen e
+  pub stripes : m.limits.stripes ≡ k.limits.stripes
+  pub turn : TakesTurn k.tried m k.seen d (turn_of d) n l.seen e
   pub broken : l.broken ≡ (not (is_some (seat_after l.seen)) || odd_if e.call (end_of e))
   pub ends : outcome ≡ end_in l.broken (end_of e)
-  pub number : l.number ≡ k.number
-  pub limits : l.limits ≡ k.limits
+  pub whose : IsSameCaller k l
+  pub claims : IsSameClaims k l
   pub side : l.side ≡ k.side
 
 abbrev pub HeldBy : {S : Type 0} → How → State → Token S → Drive → Option End → State → Token S
     → Drive → Type 0
 HeldBy WasBroken m k d outcome n l e =
     (k.broken ≡ true) × (outcome ≡ Some (ends.Refused OutOfStep)) × (n ≡ m) × (l ≡ k) × (e ≡ d)
+HeldBy FoundOther m k d outcome n l e =
+    (k.broken ≡ false) × (m.limits.stripes ≢ k.limits.stripes)
+    × (outcome ≡ Some (ends.Refused OutOfStep)) × (n ≡ m) × (l ≡ record k { broken = true })
+    × (e ≡ d)
 HeldBy HadNoRoom m k d outcome n l e =
     (k.broken ≡ false) × (outcome ≡ Some (ends.Refused NoMemory)) × (n ≡ m) × (l ≡ k) × (e ≡ d)
 HeldBy TookTurn m k d outcome n l e = TurnHeld m k d outcome n l e
 
 -- What a hold does: the drive is told the size, and its turn is taken, where the token is sound
--- and has room.
+-- and has room and the core as many stripes as there are words.
 abbrev pub Held : {S : Type 0} → State → Token S → Drive → Option End → State → Token S → Drive
     → Type 0
 Held m k d outcome n l e = (how : How) × HeldBy how m k (sized_of m.size d) outcome n l e

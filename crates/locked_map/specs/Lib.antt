@@ -1,4 +1,5 @@
 pub mod Calls
+pub mod Claims
 pub mod Closes
 pub mod Holds
 pub mod Noted

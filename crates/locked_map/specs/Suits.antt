@@ -3,7 +3,7 @@ use Rattle.std.specs.Prelude.{ℕ, ◌≡◌, ◌<◌, ◌≤◌, Bool, true, fa
 use Rattle.split_key.specs.Split.{parent_of, IsAncestor}
 use Rattle.txn_trace.specs.declared.entry.Entry.{Entry}
 use Rattle.txn_trace.specs.declared.refusal.Refusal.{Refusal}
-use Rattle.txn_trace.specs.declared.refusal.Refusal.TheVariants.{NoMemory, StampsUsedUp, OutOfStep}
+use Rattle.txn_trace.specs.declared.refusal.Refusal.TheVariants.{NoMemory, StampsUsedUp, StaleWord, OutOfStep}
 use Rattle.txn_trace.specs.declared.step.Step.TheVariants.{Act}
 use Rattle.txn_trace.specs.Sizes.{Sizes}
 use Rattle.txn_trace.specs.declared.seat.Phase.{Phase as Standing}
@@ -41,6 +41,7 @@ abbrev pub may_refuse : Call → Refusal → Bool
 may_refuse calls.Begin NoMemory = true
 may_refuse (calls.Op op) NoMemory = true
 may_refuse (calls.Op op) StampsUsedUp = true
+may_refuse (calls.Op op) StaleWord = true
 may_refuse calls.Save NoMemory = true
 may_refuse (calls.Back n) NoMemory = true
 may_refuse (calls.Help key) NoMemory = true

@@ -5,12 +5,14 @@ ghost use Rattle.txn_trace.specs.Shape.{seat_after};
 ghost use Rattle.txn_drive.specs.declared.«end».End.{End};
 ghost use Rattle.txn_drive.specs.Drives.{first_step};
 ghost use Rattle.locked_map.specs.Calls.{Failed, refused_by, refused_help, refused_side};
+ghost use Rattle.locked_map.specs.Claims.{GivesBack};
 ghost use Rattle.locked_map.specs.Holds.{Held, InStep, IsGoing, GoesTo, out_if};
 ghost use Rattle.locked_map.specs.Noted.{last_txn};
 ghost use Rattle.locked_map.specs.Sides.{CanFollow, Follows, IsReadyFor, IsSameSide};
-ghost use Rattle.locked_map.specs.Tokens.{IsSameCaller, IsSameButSide};
+ghost use Rattle.locked_map.specs.Tokens.{HasTried, IsSameButSide, IsSameCaller, IsSameClaims, IsSameSeen, IsSeated, RightsOf};
 
 use crate::booked::Booked;
+use crate::claims::Claims;
 use crate::ends::{breaks, end_in};
 use crate::seen::Seen;
 use crate::turns::take_turn;
@@ -18,27 +20,32 @@ use boost_core::{Call, Drive, End};
 use std::alloc::{AllocError, Global};
 use std::marker::Model;
 use std::sync::ledger::{Ledger, Share};
-use txn_trace::{Answer, Entry, Limits, Refusal, Step};
+use txn_trace::{Answer, Entry, Limits, Op, Refusal, Step};
 use undo_log::{Side, SideJob, SideValue};
 
 /// One caller of a shared map: its token. It is not cloned, so each number is in one place.
 ///
 /// A contract sees its number, the limits of its map, its side value, in `seen` the entries that
-/// its calls have added, and whether it is `broken`: a call that falls out of step breaks it, and
-/// from then on each call answers `Refusal::OutOfStep`.
+/// its calls have added, in `held` the stripes whose rights it holds, in `tried` what it found at
+/// the word that it tried last, and whether it is `broken`: a call that falls out of step breaks
+/// it, and from then on each call answers `Refusal::OutOfStep`.
+///
+/// It keeps its rights until its transaction has committed or aborted. A broken token keeps them
+/// for good, and a token that is dropped loses them: their stripes stay held.
 #[derive(Drop)]
 pub struct Caller<L: Ledger, S: Side> {
     number: u64,
     limits: Limits,
     side: SideValue<S>,
     pub(crate) seen: Seen<L>,
+    claims: Claims,
     is_broken: bool,
 }
 
 impl<L: Ledger, S: Side> Model for Caller<L, S> {
     ghost use Rattle.std.specs.Prelude.{◌≡◌, true, false, is_some};
     ghost use Rattle.txn_trace.specs.Shape.{seat_after};
-    ghost use Rattle.locked_map.specs.Tokens.{Token};
+    ghost use Rattle.locked_map.specs.Tokens.{IsSeated, Token};
 
     ghost Value = { Token S };
 
@@ -47,10 +54,13 @@ impl<L: Ledger, S: Side> Model for Caller<L, S> {
       limits = c.limits;
       side = c.side;
       seen = c.seen.entries;
+      held = c.claims.held;
+      tried = c.claims.tried;
       broken = c.is_broken;
     } };
 
-    ghost invariant = { λ c. c.is_broken ≡ false → is_some (seat_after c.seen.entries) ≡ true };
+    ghost invariant = { λ c. IsSeated c.number c.limits c.claims
+        × (c.is_broken ≡ false → is_some (seat_after c.seen.entries) ≡ true) };
 }
 
 impl<L: Ledger, S: Side> Caller<L, S> {
@@ -60,13 +70,16 @@ impl<L: Ledger, S: Side> Caller<L, S> {
         number: u64,
         limits: Limits,
         share: Share<L>,
+        claims: Claims,
         side: S,
     ) -> Caller<L, S>
         requires parts { share.parts ≡ 1 }
         requires amount { share.amount ≡ 0 }
+        requires seat { IsSeated number limits claims }
         ensures number { result.number ≡ number }
         ensures limits { result.limits ≡ limits }
         ensures seen { result.seen ≡ [] }
+        ensures held { result.held ≡ claims.held }
         ensures broken { result.broken ≡ false }
         ensures value { result.side.value ≡ side }
         ensures levels { result.side.levels ≡ S.words_of side ∷ [] }
@@ -78,6 +91,7 @@ impl<L: Ledger, S: Side> Caller<L, S> {
             limits,
             side: SideValue::new(alloc, side),
             seen: Seen::new(alloc, share),
+            claims,
             is_broken: false,
         }
     }
@@ -115,15 +129,18 @@ impl<L: Ledger, S: Side> Caller<L, S> {
     /// Takes the drive's next turn on the core, under a lock that the caller holds, and gives the
     /// end, if the drive has ended with it or before.
     ///
-    /// The core makes the moves of the turn and no other, and `seen` gains their entries and no
-    /// other. The side value stays: a shared call returns it once its drive has ended.
+    /// The core takes the steps of the turn and no other, and `seen` gains their entries and no
+    /// other. An operation is asked for by the word that was tried last: so before its first turn
+    /// comes `try_word`. Side value and rights stay: a shared call returns the one and gives back
+    /// the others once its drive has ended.
     ///
     /// # Errors
     ///
     /// The end is `Refused` with
-    /// - `OutOfStep` where the token is broken, and then nothing is done; and where the core
-    ///   answers what the token's state excludes, or the token would have refused the call, as
-    ///   `help` of a bad key, which breaks it;
+    /// - `OutOfStep` where the token is broken, and then nothing is done; where the core has not as
+    ///   many stripes as the map's words, and then nothing is done, but the token is broken; and
+    ///   where the core answers what the token's state excludes, or the token would have refused
+    ///   the call, as `help` of a bad key, which breaks it;
     /// - `NoMemory` where room in `seen` is refused, and then no step is taken.
     ///
     /// Core and token that are in step stay so, and then `OutOfStep` is not answered.
@@ -132,11 +149,13 @@ impl<L: Ledger, S: Side> Caller<L, S> {
     ///
     /// That of the one or two steps; amortized constant time beside it.
     pub fn hold(&mut self, booked: &mut Booked<L>, drive: &mut Drive) -> Option<End>
-        requires { drive.old.caller ≡ self.old.number }
+        requires caller { drive.old.caller ≡ self.old.number }
+        requires tried { HasTried self.old drive.old.call }
         ensures held { Held booked.old.core self.old drive.old result
             booked.new.core self.new drive.new }
         ensures same { self.new.side ≡ self.old.side }
         ensures caller { IsSameCaller self.old self.new }
+        ensures claims { IsSameClaims self.old self.new }
         ensures drive { (drive.new.caller ≡ drive.old.caller) × (drive.new.call ≡ drive.old.call) }
         ensures broken { self.new.broken ≡ out_if result }
         ensures in_step { InStep booked.old.core self.old drive.old
@@ -149,7 +168,11 @@ impl<L: Ledger, S: Side> Caller<L, S> {
         if self.is_broken {
             return Some(End::Refused(Refusal::OutOfStep));
         }
-        if !take_turn(&mut self.seen, booked, drive, turn) {
+        if booked.core.limits().stripes() != self.limits.stripes() {
+            self.is_broken = true;
+            return Some(End::Refused(Refusal::OutOfStep));
+        }
+        if !take_turn(&mut self.seen, &self.claims, booked, drive, turn) {
             return Some(End::Refused(Refusal::NoMemory));
         }
         let _core = booked.core.trace();
@@ -177,8 +200,36 @@ impl<L: Ledger, S: Side> Caller<L, S> {
         self.seen.txn()
     }
 
-    /// Makes the side value ready for what a call may ask at its end: a save wants room for a
-    /// level, a return the level.
+    /// Tries the word of the stripe of an operation's key, outside the lock, unless the token has
+    /// the stripe's right. A shared call does so by itself; it is for who calls `hold`.
+    ///
+    /// Where the word was free the token has the right now, and keeps it until its transaction has
+    /// committed or aborted. Else the word is kept, and the operation is asked for by it.
+    ///
+    /// # Errors
+    ///
+    /// `NoMemory` where memory is refused for one right more: no word was tried.
+    ///
+    /// # Cost
+    ///
+    /// Time in proportion to the rights that it holds, and one try of one word.
+    pub fn try_word(&mut self, op: Op) -> Result<(), Refusal>
+        ensures same { IsSameSeen self.old self.new }
+        ensures side { self.new.side ≡ self.old.side }
+        ensures tried { OnOk result (HasTried self.new (Call.Op op)) }
+        ensures rights { RightsOf self.old (Call.Op op) self.new }
+        ensures err { IfErr result (λ refusal. (refusal ≡ Refusal.NoMemory)
+            × (self.new ≡ self.old)) }
+    {
+        let stripe = op.key() % u64::from(self.limits.stripes());
+        match self.claims.try_word(stripe) {
+            Ok(()) => Ok(()),
+            Err(AllocError) => Err(Refusal::NoMemory),
+        }
+    }
+
+    /// Makes the caller ready for a call: an operation wants its word tried, a save room for a
+    /// level of the side value, which it may ask at its end, and a return the level.
     ///
     /// # Errors
     ///
@@ -186,12 +237,15 @@ impl<L: Ledger, S: Side> Caller<L, S> {
     /// - `OutOfStep` where there is no such level, which breaks the token.
     pub(crate) fn make_ready(&mut self, call: Call) -> Result<(), Refusal>
         requires { self.old.broken ≡ false }
-        ensures same { OnOk result (IsSameButSide self.old self.new) }
+        ensures same { OnOk result (IsSameSeen self.old self.new) }
         ensures side { OnOk result (IsSameSide self.old.side self.new.side) }
         ensures ready { OnOk result (IsReadyFor call self.new.side) }
+        ensures tried { OnOk result (HasTried self.new call) }
+        ensures rights { RightsOf self.old call self.new }
         ensures err { IfErr result (λ refusal. Failed self.old call refusal self.new) }
     {
         match call {
+            Call::Op(op) => self.try_word(op),
             Call::Save => match self.side.save_room() {
                 Ok(()) => Ok(()),
                 Err(AllocError) => Err(Refusal::NoMemory),
@@ -207,12 +261,15 @@ impl<L: Ledger, S: Side> Caller<L, S> {
         }
     }
 
-    /// Makes of the side value what the end of a call asks.
+    /// Makes of the side value what the end of a call asks, and gives all rights back where it has
+    /// ended the transaction.
     pub(crate) fn follow(&mut self, end: End)
         requires { CanFollow end self.old.side }
-        ensures same { IsSameButSide self.old self.new }
+        ensures same { IsSameSeen self.old self.new }
         ensures side { Follows S.words_of end self.old.side self.new.side }
+        ensures rights { GivesBack end self.old.held self.new.held }
     {
+        self.claims.follow(end);
         let _levels = self.side.level();
         match end {
             End::Answered(Answer::Began(_) | Answer::Committed(_)) => self.side.settle(),

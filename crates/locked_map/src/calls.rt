@@ -8,6 +8,8 @@
 //! and `close` compares. Each call has the clauses
 //! - `ok`: what it has added, where it did what it was asked;
 //! - `side`: what it has then made of the side value;
+//! - `rights`: which rights to stripes it has then: an operation may take the right to the stripe
+//!   of its key, and the end of the transaction gives all back;
 //! - `leaves`: that its token let it pass, or why it did not do it and what it leaves then; and
 //!   that after `OutOfStep` every call answers that and nothing changes any more (`Leaves` in
 //!   `specs/Calls.antt`).
@@ -18,7 +20,8 @@ ghost use Rattle.txn_drive.specs.Made.{undone_by};
 ghost use Rattle.locked_map.specs.Calls.{Leaves, refused_side};
 ghost use Rattle.locked_map.specs.Noted.{last_txn};
 ghost use Rattle.locked_map.specs.Sides.{HasLevel, IsBackAt, IsSameSide, IsSettled};
-ghost use Rattle.locked_map.specs.Tokens.{IsSameButSide};
+ghost use Rattle.locked_map.specs.Claims.{KeepsRights};
+ghost use Rattle.locked_map.specs.Tokens.{IsSameButSide, RightsOf};
 
 use crate::caller::Caller;
 use crate::receipt::Receipt;
@@ -48,6 +51,7 @@ impl<L: Ledger> SharedMap<L> {
         ensures ok { IfOk result (λ txn. me.new.seen
             ≡ me.old.seen ++ entries.Began me.old.number txn ∷ []) }
         ensures side { OnOk result (IsSettled S.words_of me.old.side me.new.side) }
+        ensures rights { OnOk result (KeepsRights me.old.held me.new.held) }
         ensures leaves { Leaves S.words_of me.old Call.Begin result me.new }
     {
         match self.call(rt, me, Call::Begin)? {
@@ -64,15 +68,19 @@ impl<L: Ledger> SharedMap<L> {
     ///   - `OutOfStep` of a token that is broken.
     ///   - `NotOpen`, `Leaving`, `OperationUnfinished` and `BadKey` (a key of 2^63 or more,
     ///     where the limits have half keys), the first that holds.
-    ///   - Then `NoMemory` where a growth was refused, `StampsUsedUp` where none is left, and
-    ///     `OutOfStep`, which breaks the token.
-    /// - `Busy` where another caller holds the key's stripe: the transaction is aborted, with all
-    ///   its changes taken back, and the side value has the words that it had when the transaction
-    ///   began.
+    ///   - Then `NoMemory` where room for one right more was refused, before any word is tried, or
+    ///     a growth was, `StampsUsedUp` where none is left, `StaleWord` where by the core's record
+    ///     the word of the key's stripe does not say who holds it, and `OutOfStep`, which breaks
+    ///     the token.
+    /// - `Busy` where the word of the key's stripe names another caller: the transaction is
+    ///   aborted, with all its changes taken back and all its rights given back, and the side value
+    ///   has the words that it had when the transaction began.
     ///
     /// # Cost
     ///
-    /// Three holds of the lock, and two more for each time that the place found no longer fits.
+    /// One try of the word, outside the lock, unless the token has its right; time in proportion to
+    /// the rights that it has; three holds of the lock, and two more for each time that the place
+    /// found no longer fits.
     pub fn put<S: Side, R: Wait>(
         &self,
         rt: &R,
@@ -84,6 +92,7 @@ impl<L: Ledger> SharedMap<L> {
             ++ entries.Asked me.old.number (Op.Put key value)
             ∷ entries.Did me.old.number reply ∷ []) }
         ensures side { OnOk result (IsSameSide me.old.side me.new.side) }
+        ensures rights { OnOk result (RightsOf me.old (Call.Op (Op.Put key value)) me.new) }
         ensures leaves { Leaves S.words_of me.old (Call.Op (Op.Put key value)) result me.new }
     {
         self.operate(rt, me, Op::Put(key, value))
@@ -97,15 +106,19 @@ impl<L: Ledger> SharedMap<L> {
     ///   - `OutOfStep` of a token that is broken.
     ///   - `NotOpen`, `Leaving`, `OperationUnfinished` and `BadKey` (a key of 2^63 or more,
     ///     where the limits have half keys), the first that holds.
-    ///   - Then `NoMemory` where a growth was refused, `StampsUsedUp` where none is left, and
-    ///     `OutOfStep`, which breaks the token.
-    /// - `Busy` where another caller holds the key's stripe: the transaction is aborted, with all
-    ///   its changes taken back, and the side value has the words that it had when the transaction
-    ///   began.
+    ///   - Then `NoMemory` where room for one right more was refused, before any word is tried, or
+    ///     a growth was, `StampsUsedUp` where none is left, `StaleWord` where by the core's record
+    ///     the word of the key's stripe does not say who holds it, and `OutOfStep`, which breaks
+    ///     the token.
+    /// - `Busy` where the word of the key's stripe names another caller: the transaction is
+    ///   aborted, with all its changes taken back and all its rights given back, and the side value
+    ///   has the words that it had when the transaction began.
     ///
     /// # Cost
     ///
-    /// Three holds of the lock, and two more for each time that the place found no longer fits.
+    /// One try of the word, outside the lock, unless the token has its right; time in proportion to
+    /// the rights that it has; three holds of the lock, and two more for each time that the place
+    /// found no longer fits.
     pub fn take<S: Side, R: Wait>(
         &self,
         rt: &R,
@@ -115,6 +128,7 @@ impl<L: Ledger> SharedMap<L> {
         ensures ok { IfOk result (λ reply. me.new.seen ≡ me.old.seen
             ++ entries.Asked me.old.number (Op.Take key) ∷ entries.Did me.old.number reply ∷ []) }
         ensures side { OnOk result (IsSameSide me.old.side me.new.side) }
+        ensures rights { OnOk result (RightsOf me.old (Call.Op (Op.Take key)) me.new) }
         ensures leaves { Leaves S.words_of me.old (Call.Op (Op.Take key)) result me.new }
     {
         self.operate(rt, me, Op::Take(key))
@@ -129,15 +143,19 @@ impl<L: Ledger> SharedMap<L> {
     ///   - `OutOfStep` of a token that is broken.
     ///   - `NotOpen`, `Leaving`, `OperationUnfinished` and `BadKey` (a key of 2^63 or more, where
     ///     the limits have half keys), the first that holds.
-    ///   - Then `NoMemory` where a growth was refused, `StampsUsedUp` where none is left, and
-    ///     `OutOfStep`, which breaks the token.
-    /// - `Busy` where another caller holds the key's stripe: the transaction is aborted, with all
-    ///   its changes taken back, and the side value has the words that it had when the transaction
-    ///   began.
+    ///   - Then `NoMemory` where room for one right more was refused, before any word is tried, or
+    ///     a growth was, `StampsUsedUp` where none is left, `StaleWord` where by the core's record
+    ///     the word of the key's stripe does not say who holds it, and `OutOfStep`, which breaks
+    ///     the token.
+    /// - `Busy` where the word of the key's stripe names another caller: the transaction is
+    ///   aborted, with all its changes taken back and all its rights given back, and the side value
+    ///   has the words that it had when the transaction began.
     ///
     /// # Cost
     ///
-    /// Three holds of the lock, and two more for each time that the place found no longer fits.
+    /// One try of the word, outside the lock, unless the token has its right; time in proportion to
+    /// the rights that it has; three holds of the lock, and two more for each time that the place
+    /// found no longer fits.
     pub fn put_if<S: Side, R: Wait>(
         &self,
         rt: &R,
@@ -150,6 +168,8 @@ impl<L: Ledger> SharedMap<L> {
             ++ entries.Asked me.old.number (Op.PutIf key expected value)
             ∷ entries.Did me.old.number reply ∷ []) }
         ensures side { OnOk result (IsSameSide me.old.side me.new.side) }
+        ensures rights { OnOk result (RightsOf me.old (Call.Op (Op.PutIf key expected value))
+            me.new) }
         ensures leaves { Leaves S.words_of me.old (Call.Op (Op.PutIf key expected value))
             result me.new }
     {
@@ -164,15 +184,19 @@ impl<L: Ledger> SharedMap<L> {
     ///   - `OutOfStep` of a token that is broken.
     ///   - `NotOpen`, `Leaving`, `OperationUnfinished` and `BadKey` (a key of 2^63 or more,
     ///     where the limits have half keys), the first that holds.
-    ///   - Then `NoMemory` where a growth was refused, `StampsUsedUp` where none is left, and
-    ///     `OutOfStep`, which breaks the token.
-    /// - `Busy` where another caller holds the key's stripe: the transaction is aborted, with all
-    ///   its changes taken back, and the side value has the words that it had when the transaction
-    ///   began.
+    ///   - Then `NoMemory` where room for one right more was refused, before any word is tried, or
+    ///     a growth was, `StampsUsedUp` where none is left, `StaleWord` where by the core's record
+    ///     the word of the key's stripe does not say who holds it, and `OutOfStep`, which breaks
+    ///     the token.
+    /// - `Busy` where the word of the key's stripe names another caller: the transaction is
+    ///   aborted, with all its changes taken back and all its rights given back, and the side value
+    ///   has the words that it had when the transaction began.
     ///
     /// # Cost
     ///
-    /// Three holds of the lock, and two more for each time that the place found no longer fits.
+    /// One try of the word, outside the lock, unless the token has its right; time in proportion to
+    /// the rights that it has; three holds of the lock, and two more for each time that the place
+    /// found no longer fits.
     pub fn get<S: Side, R: Wait>(
         &self,
         rt: &R,
@@ -182,6 +206,7 @@ impl<L: Ledger> SharedMap<L> {
         ensures ok { IfOk result (λ reply. me.new.seen ≡ me.old.seen
             ++ entries.Asked me.old.number (Op.Get key) ∷ entries.Did me.old.number reply ∷ []) }
         ensures side { OnOk result (IsSameSide me.old.side me.new.side) }
+        ensures rights { OnOk result (RightsOf me.old (Call.Op (Op.Get key)) me.new) }
         ensures leaves { Leaves S.words_of me.old (Call.Op (Op.Get key)) result me.new }
     {
         self.operate(rt, me, Op::Get(key))
@@ -202,6 +227,7 @@ impl<L: Ledger> SharedMap<L> {
     pub fn save<S: Side, R: Wait>(&self, rt: &R, me: &mut Caller<L, S>) -> Result<u64, Stop>
         ensures ok { OnOk result (me.new.seen ≡ me.old.seen ++ entries.Saved me.old.number ∷ []) }
         ensures side { OnOk result (HasLevel S.words_of me.old.side me.new.side) }
+        ensures rights { OnOk result (KeepsRights me.old.held me.new.held) }
         ensures leaves { Leaves S.words_of me.old Call.Save result me.new }
     {
         match self.call(rt, me, Call::Save)? {
@@ -236,6 +262,7 @@ impl<L: Ledger> SharedMap<L> {
             ++ (entries.Leave me.old.number (Some level) ∷ undone_by me.old.number undone
             ++ entries.Returned me.old.number level ∷ []))) }
         ensures side { OnOk result (IsBackAt S.words_of level me.old.side me.new.side) }
+        ensures rights { OnOk result (KeepsRights me.old.held me.new.held) }
         ensures leaves { Leaves S.words_of me.old (Call.Back level) result me.new }
     {
         match self.call(rt, me, Call::Back(level))? {
@@ -245,7 +272,7 @@ impl<L: Ledger> SharedMap<L> {
     }
 
     /// Commits the transaction, and answers its number and its place in the commit order. Level 0
-    /// of the side value is then here.
+    /// of the side value is then here. All rights are given back, outside the lock.
     ///
     /// # Errors
     ///
@@ -256,11 +283,13 @@ impl<L: Ledger> SharedMap<L> {
     ///
     /// # Cost
     ///
-    /// One hold of the lock, with time in proportion to the changes and the stripes.
+    /// One hold of the lock, with time in proportion to the changes and the stripes; then one step
+    /// for each right.
     pub fn commit<S: Side, R: Wait>(&self, rt: &R, me: &mut Caller<L, S>) -> Result<Receipt, Stop>
         ensures ok { IfOk result (λ receipt. (receipt.txn ≡ last_txn me.old.seen) × (me.new.seen
             ≡ me.old.seen ++ entries.Committed me.old.number receipt.place ∷ [])) }
         ensures side { OnOk result (IsSettled S.words_of me.old.side me.new.side) }
+        ensures rights { OnOk result (me.new.held ≡ []) }
         ensures leaves { Leaves S.words_of me.old Call.Commit result me.new }
     {
         let txn = me.txn();
@@ -271,7 +300,8 @@ impl<L: Ledger> SharedMap<L> {
     }
 
     /// Aborts the transaction: takes back all its changes, and withdraws an operation that waits.
-    /// The side value has the words that it had when the transaction began.
+    /// The side value has the words that it had when the transaction began. All rights are given
+    /// back, outside the lock.
     ///
     /// # Errors
     ///
@@ -289,6 +319,7 @@ impl<L: Ledger> SharedMap<L> {
             ++ (entries.Leave me.old.number None ∷ undone_by me.old.number undone
             ++ entries.Aborted me.old.number ∷ []))) }
         ensures side { OnOk result (IsBackAt S.words_of 0 me.old.side me.new.side) }
+        ensures rights { OnOk result (me.new.held ≡ []) }
         ensures leaves { Leaves S.words_of me.old Call.Abort result me.new }
     {
         match self.call(rt, me, Call::Abort)? {
@@ -323,6 +354,7 @@ impl<L: Ledger> SharedMap<L> {
         ensures side { OnOk result (IsSameSide me.old.side me.new.side) }
         ensures bad_key { me.old.broken ≡ false → (result ≡ Err (Stop.Refused Refusal.BadKey))
             ↔ (is_bad_key me.old.limits.half key ≡ true) }
+        ensures rights { OnOk result (KeepsRights me.old.held me.new.held) }
         ensures leaves { Leaves S.words_of me.old (Call.Help key) result me.new }
     {
         let _seen = me.seen();
@@ -378,6 +410,7 @@ impl<L: Ledger> SharedMap<L> {
         ensures ok { IfOk result (λ reply. me.new.seen ≡ me.old.seen
             ++ entries.Asked me.old.number op ∷ entries.Did me.old.number reply ∷ []) }
         ensures side { OnOk result (IsSameSide me.old.side me.new.side) }
+        ensures rights { OnOk result (RightsOf me.old (Call.Op op) me.new) }
         ensures leaves { Leaves S.words_of me.old (Call.Op op) result me.new }
     {
         match self.call(rt, me, Call::Op(op))? {

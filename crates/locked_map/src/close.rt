@@ -1,7 +1,7 @@
 //! Closing a map: its history is compared with what the callers saw.
 ghost use Rattle.std.specs.Prelude.{◌≡◌, ◌+◌, ◌==◌, ◌↔◌, All, IsTrue, IfOk, IfErr, length};
 ghost use Rattle.std.specs.List.{list_any, sum_by};
-ghost use Rattle.txn_trace.specs.declared.holder.Holder.TheVariants.{Now};
+ghost use Rattle.txn_trace.specs.declared.holder.Holder.TheVariants.{Begun};
 ghost use Rattle.txn_trace.specs.Legal.{IsLegal};
 ghost use Rattle.txn_trace.specs.Shape.{own};
 ghost use Rattle.locked_map.specs.Closes.{AreCounted, IsAllHere, IsBeside, IsCounted, IsOwn, IsWhy, back_of};
@@ -20,9 +20,10 @@ impl<L: Ledger> SharedMap<L> {
     /// Takes the core out, once the callers of all numbers are back, and compares its history with
     /// what they saw.
     ///
-    /// With `Ok` the core has the map's limits, the history is legal, each caller's own entries in
-    /// it are just those that it saw, and it has no other entries. The callers come back as they
-    /// were, in their order, with each answer.
+    /// With `Ok` the core has the map's limits, the history is legal, where a Busy may name any
+    /// caller that has begun a transaction, each caller's own entries in it are just those that it
+    /// saw, and it has no other entries. The callers come back as they were, in their order, with
+    /// each answer.
     ///
     /// # Errors
     ///
@@ -38,7 +39,7 @@ impl<L: Ledger> SharedMap<L> {
         requires { self.limits.callers ≡ L.parts }
         ensures callers { IfOk result (λ c. c.callers.items ≡ callers.items) }
         ensures limits { IfOk result (λ c. c.core.limits ≡ self.limits) }
-        ensures legal { IfOk result (λ c. IsLegal Now c.core.limits.stripes c.core.history) }
+        ensures legal { IfOk result (λ c. IsLegal Begun c.core.limits.stripes c.core.history) }
         ensures own { IfOk result (λ c. All (λ k. IsOwn c.core.history k) callers.items) }
         ensures here { IfOk result (λ c. IsAllHere self.limits.callers callers.items) }
         ensures counted { IfOk result (λ c. AreCounted c.core.history callers.items) }

@@ -50,9 +50,11 @@ fn may_refuse(call: Call, refusal: Refusal) -> bool
 {
     match call {
         Call::Begin | Call::Save | Call::Back(_) => matches!(refusal, Refusal::NoMemory),
-        Call::Op(_) | Call::Help(_) => {
-            matches!(refusal, Refusal::NoMemory | Refusal::StampsUsedUp)
-        }
+        Call::Op(_) => matches!(
+            refusal,
+            Refusal::NoMemory | Refusal::StampsUsedUp | Refusal::StaleWord
+        ),
+        Call::Help(_) => matches!(refusal, Refusal::NoMemory | Refusal::StampsUsedUp),
         Call::Commit | Call::Abort => false,
     }
 }

@@ -9,6 +9,12 @@
 //! - A *hold* of the lock is one turn of a call, one step of the core or two. So the steps of other
 //!   callers come between any two turns, also while changes are taken back. What is done under the
 //!   lock is `Caller::hold`: the core makes the moves of the turn, and `seen` gains their entries.
+//! - An operation first tries the *word* of its key's stripe outside the lock, an atomic word that
+//!   says who holds the stripe, unless its token has the stripe's right. Where the word was free
+//!   the token has the right then, and the core is asked by it; else the core is asked by the word,
+//!   and the operation is busy with whom it names. A token keeps its rights until its transaction
+//!   has committed or aborted, and then gives all of them back outside the lock. So a Busy entry
+//!   may name a caller whose transaction has just ended.
 //! - What a token knows of the core at its next hold is what its type says: where it stands after
 //!   its own entries. If the core answers what that excludes, the call ends with `OutOfStep`.
 //! - `SharedMap::close` takes all tokens back and compares: the history is legal, each caller's own
@@ -38,6 +44,7 @@
 mod booked;
 mod caller;
 mod calls;
+mod claims;
 mod close;
 mod closed;
 mod ends;

@@ -1,6 +1,7 @@
 ghost use Rattle.std.specs.Prelude.{◌≡◌, false, [], ◌∷◌};
 
 use crate::caller::Caller;
+use crate::claims::Claims;
 use std::alloc::Global;
 use std::marker::Model;
 use std::sync::ledger::{Ledger, Share};
@@ -9,36 +10,44 @@ use undo_log::Side;
 
 /// The right to be the caller of a number. It is not cloned.
 ///
-/// A contract sees its number and the limits of its map. It carries one part of the map's ledger.
+/// A contract sees its number and the limits of its map. It carries one part of the map's ledger,
+/// and the number's seat at the map's words.
 #[derive(Drop)]
 pub struct Pass<L: Ledger> {
     number: u64,
     limits: Limits,
     share: Share<L>,
+    claims: Claims,
 }
 
 impl<L: Ledger> Model for Pass<L> {
     ghost use Rattle.std.specs.Prelude.{◌≡◌};
-    ghost use Rattle.locked_map.specs.Tokens.{Ticket};
+    ghost use Rattle.locked_map.specs.Tokens.{IsUnused, Ticket};
 
     ghost Value = { Ticket };
 
     ghost view = { λ p. record { number = p.number; limits = p.limits } };
 
-    ghost invariant = { λ p. (p.share.parts ≡ 1) × (p.share.amount ≡ 0) };
+    ghost invariant = { λ p. (p.share.parts ≡ 1) × (p.share.amount ≡ 0)
+        × IsUnused p.number p.limits p.claims };
 }
 
 impl<L: Ledger> Pass<L> {
-    /// The pass of a number, with a share of one part that has counted nothing.
-    pub(crate) fn new(number: u64, limits: Limits, share: Share<L>) -> Pass<L>
+    ghost use Rattle.locked_map.specs.Tokens.{IsUnused};
+
+    /// The pass of a number, with a share of one part that has counted nothing, and the number's
+    /// seat.
+    pub(crate) fn new(number: u64, limits: Limits, share: Share<L>, claims: Claims) -> Pass<L>
         requires parts { share.parts ≡ 1 }
         requires amount { share.amount ≡ 0 }
+        requires unused { IsUnused number limits claims }
         ensures { result ≡ record { number = number; limits = limits } }
     {
         Pass {
             number,
             limits,
             share,
+            claims,
         }
     }
 
@@ -58,6 +67,7 @@ impl<L: Ledger> Pass<L> {
         ensures number { result.number ≡ self.number }
         ensures limits { result.limits ≡ self.limits }
         ensures seen { result.seen ≡ [] }
+        ensures held { result.held ≡ [] }
         ensures broken { result.broken ≡ false }
         ensures value { result.side.value ≡ side }
         ensures levels { result.side.levels ≡ S.words_of side ∷ [] }
@@ -68,7 +78,8 @@ impl<L: Ledger> Pass<L> {
             number,
             limits,
             share,
+            claims,
         } = self;
-        Caller::new(alloc, number, limits, share, side)
+        Caller::new(alloc, number, limits, share, claims, side)
     }
 }

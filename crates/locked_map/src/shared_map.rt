@@ -1,23 +1,27 @@
-ghost use Rattle.std.specs.Prelude.{◌≡◌, IfOk, IfErr, map};
+ghost use Rattle.std.specs.Prelude.{◌≡◌, ◌<◌, ◌≤◌, IfOk, IfErr, map};
 ghost use Rattle.std.specs.List.{range_with_len};
 ghost use Rattle.txn_trace.specs.Shape.{seat_after};
 ghost use Rattle.txn_drive.specs.Drives.{first_phase};
 ghost use Rattle.locked_map.specs.Calls.{Ended, IsDone, Leaves, Ran};
 ghost use Rattle.locked_map.specs.Holds.{FitsIf, HasRun, is_out};
-ghost use Rattle.locked_map.specs.Tokens.{IsSameCaller, new_ticket};
+ghost use Rattle.locked_map.specs.Tokens.{HasTried, IsSameCaller, IsSameClaims, new_ticket};
+ghost use Rattle.key_words.specs.Seats.{AreSeats, stripes_of};
 
 use crate::booked::Booked;
 use crate::caller::Caller;
+use crate::claims::Claims;
 use crate::pass::Pass;
 use crate::stop::Stop;
 use boost_core::{Call, Core, Drive, End};
+use key_words::{KeySeat, KeyWords, StripeRight};
 use std::alloc::{AllocError, Global};
 use std::sync::ledger::{Blank, Ledger, Share};
-use std::sync::{Mutex, Wait};
+use std::sync::{Arc, Mutex, Wait};
 use txn_trace::{Limits, Refusal};
 use undo_log::Side;
 
-/// A map that callers in several threads share: a core under a lock.
+/// A map that callers in several threads share: a core under a lock. Its callers share the words of
+/// its stripes, which lie outside the lock.
 ///
 /// A contract sees its limits. The lock is taken for one turn of a call at a time, of one step or
 /// two, so that the steps of other callers come between any two turns.
@@ -66,9 +70,10 @@ impl<L: Ledger> SharedMap<L> {
     {
         let (book, mut all) = blank.open::<L>();
         let none = all.empty();
-        let core = Core::new(alloc, limits)?;
+        let core = Core::with_words(alloc, limits)?;
+        let (words, seats) = words_of(alloc, limits)?;
         let booked = Mutex::new(Booked { core, book, none });
-        match passes_of(alloc, limits, &mut all) {
+        match passes_of(alloc, limits, words, seats, &mut all) {
             Ok(passes) => Ok((SharedMap { booked, limits }, passes)),
             Err(AllocError) => Err(Refusal::NoMemory),
         }
@@ -98,8 +103,10 @@ impl<L: Ledger> SharedMap<L> {
     ) -> End
         requires fits { FitsIf (seat_after me.old.seen) call
             (first_phase me.old.limits.half call) }
+        requires tried { HasTried me.old call }
         ensures side { me.new.side ≡ me.old.side }
         ensures caller { IsSameCaller me.old me.new }
+        ensures claims { IsSameClaims me.old me.new }
         ensures broken { me.new.broken ≡ is_out result }
         ensures run { HasRun me.old.seen me.new.seen me.old.number call result }
     {
@@ -163,22 +170,50 @@ impl<L: Ledger> SharedMap<L> {
     }
 }
 
-/// A pass for each caller, with one part of the share each.
+/// The words of a map with these limits, all of them free, and a seat for each caller.
+///
+/// # Errors
+///
+/// `NoMemory` where memory is refused.
+fn words_of(alloc: Global, limits: Limits) -> Result<(Arc<KeyWords, Global>, Vec<KeySeat>), Refusal>
+    ensures words { IfOk result (λ r. stripes_of r.0.value ≡ limits.stripes) }
+    ensures seats { IfOk result (λ r. AreSeats r.0.value limits.callers r.1.items) }
+    ensures err { IfErr result (λ refusal. refusal ≡ Refusal.NoMemory) }
+{
+    let Ok(rights) = StripeRight::all(alloc, limits.stripes() as usize) else {
+        return Err(Refusal::NoMemory);
+    };
+    let Ok((words, seats)) = KeyWords::new(alloc, rights, limits.callers() as usize) else {
+        return Err(Refusal::NoMemory);
+    };
+    let Ok(words) = Arc::new(alloc, words) else {
+        return Err(Refusal::NoMemory);
+    };
+    Ok((words, seats))
+}
+
+/// A pass for each seat, by rising number, with one part of the share each. The seats are taken out
+/// of their list, the last first.
 fn passes_of<L: Ledger>(
     alloc: Global,
     limits: Limits,
+    words: Arc<KeyWords, Global>,
+    mut seats: Vec<KeySeat>,
     all: &mut Share<L>,
 ) -> Result<Vec<Pass<L>>, AllocError>
+    requires stripes { stripes_of words.value ≡ limits.stripes }
+    requires seats { AreSeats words.value limits.callers seats.items }
     requires parts { all.old.parts ≡ limits.callers }
     requires amount { all.old.amount ≡ 0 }
     ensures { IfOk result (λ passes. passes.items
         ≡ map (new_ticket limits) (range_with_len 0 limits.callers)) }
 {
-    let callers = u64::from(limits.callers());
-    let mut passes = Vec::new(alloc);
-    for number in 0..callers {
+    let mut passes = Vec::with_capacity(alloc, seats.len())?;
+    while let Some(seat) = seats.pop() {
+        let number = seats.len() as u64;
         let share = all.split_off(1, 0);
-        passes.push(Pass::new(number, limits, share))?;
+        let claims = Claims::new(alloc, Arc::try_clone(&words)?, seat);
+        passes.insert(0, Pass::new(number, limits, share, claims))?;
     }
     Ok(passes)
 }

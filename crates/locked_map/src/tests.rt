@@ -6,3 +6,4 @@ mod rows;
 mod setting;
 mod side_rows;
 mod threads;
+mod word_rows;

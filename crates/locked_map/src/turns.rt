@@ -7,11 +7,13 @@ ghost use Rattle.txn_trace.specs.Shape.{seat_after};
 ghost use Rattle.txn_trace.specs.Sizes.{Sizes};
 ghost use Rattle.txn_drive.specs.Drives.{step_of, turn_of};
 ghost use Rattle.txn_drive.specs.Made.{made};
+ghost use Rattle.locked_map.specs.Claims.{HasTriedFor};
 ghost use Rattle.locked_map.specs.Noted.{HasRoomFor};
 ghost use Rattle.locked_map.specs.Suits.{may_refuse, IsSized, IsInStep};
 ghost use Rattle.locked_map.specs.Holds.{Takes, TakesTurn, GoesOn};
 
 use crate::booked::Booked;
+use crate::claims::Claims;
 use crate::seen::Seen;
 use boost_core::{Drive, Turn};
 use std::sync::ledger::Ledger;
@@ -20,14 +22,17 @@ use txn_trace::{Answer, Step};
 /// Takes a turn if there is room for what it may add, and says whether there was.
 pub(crate) fn take_turn<L: Ledger>(
     seen: &mut Seen<L>,
+    claims: &Claims,
     booked: &mut Booked<L>,
     drive: &mut Drive,
     turn: Turn,
 ) -> bool
     requires turn { turn ≡ turn_of drive.old }
     requires whole { is_some (seat_after seen.old.entries) ≡ true }
+    requires stripes { booked.old.core.limits.stripes ≡ claims.now.stripes }
+    requires tried { HasTriedFor claims.now.tried claims.now.stripes drive.old.call }
     ensures took { result ≡ true
-        → TakesTurn booked.old.core seen.old.entries drive.old turn
+        → TakesTurn claims.now.tried booked.old.core seen.old.entries drive.old turn
         booked.new.core seen.new.entries drive.new }
     ensures whose { (drive.new.caller ≡ drive.old.caller) × (drive.new.call ≡ drive.old.call) }
     ensures no_room { result ≡ false
@@ -47,14 +52,14 @@ pub(crate) fn take_turn<L: Ledger>(
             if seen.reserve(step).is_err() {
                 return false;
             }
-            take(seen, booked, drive, step);
+            take(seen, claims, booked, drive, step);
         }
         Turn::Two(first, second) => {
             if seen.reserve(second).is_err() {
                 return false;
             }
-            if let Answer::Placed = take(seen, booked, drive, first) {
-                take(seen, booked, drive, second);
+            if let Answer::Placed = take(seen, claims, booked, drive, first) {
+                take(seen, claims, booked, drive, second);
             }
         }
         Turn::Ended(_) => {}
@@ -64,8 +69,10 @@ pub(crate) fn take_turn<L: Ledger>(
 
 /// Takes a step, for which there is room: on the core, in the book, in what is seen, and in the
 /// drive.
+#[tactic(auto, using(crate::proofs::Claiming::tried_step))]
 fn take<L: Ledger>(
     seen: &mut Seen<L>,
+    claims: &Claims,
     booked: &mut Booked<L>,
     drive: &mut Drive,
     step: Step,
@@ -73,8 +80,11 @@ fn take<L: Ledger>(
     requires step { step_of drive.old ≡ Some step }
     requires whole { is_some (seat_after seen.old.entries) ≡ true }
     requires room { HasRoomFor seen.old step }
-    ensures takes { Takes booked.old.core seen.old.entries drive.old step result
+    requires stripes { booked.old.core.limits.stripes ≡ claims.now.stripes }
+    requires tried { HasTriedFor claims.now.tried claims.now.stripes drive.old.call }
+    ensures takes { Takes claims.now.tried booked.old.core seen.old.entries drive.old step result
         booked.new.core seen.new.entries drive.new }
+    ensures limits { booked.new.core.limits ≡ booked.old.core.limits }
     ensures whose { (drive.new.caller ≡ drive.old.caller) × (drive.new.call ≡ drive.old.call) }
     ensures same { entries_of step result ≡ [] → seen.new ≡ seen.old }
     ensures in_step { (limits : Sizes) (c : ℕ) → IsSized booked.old.core.size drive.old.phase
@@ -89,7 +99,7 @@ fn take<L: Ledger>(
         none: _,
     } = booked;
     let _before = core.trace();
-    let answer = core.step(step);
+    let answer = claims.step(core, step);
     let _after = core.trace();
     seen.note(book, step, answer);
     let _seen = seen.entries();

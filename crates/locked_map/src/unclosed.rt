@@ -9,7 +9,7 @@ use undo_log::Side;
 pub enum Unclosed<L: Ledger, S: Side> {
     /// A caller's number is missing or was handed in twice (refusal 17). The map is as it was.
     Missing(SharedMap<L>, Vec<Caller<L, S>>),
-    /// The core has other limits, or the entries of some caller in the history are not those that it
-    /// saw.
+    /// The core has other limits, or the entries of some caller in the history are not those that
+    /// it saw.
     Differs(Core, Vec<Caller<L, S>>),
 }

@@ -51,8 +51,8 @@ fn advance(changes: &mut u64)
 impl NodeList {
     /// The list of the dummy of bucket 0 alone, with this stamp. Its change number is 0.
     ///
-    /// Allocates three times: twice for the counts of marked nodes, which take 33,280 bytes, then for
-    /// the node. Constant time.
+    /// Allocates three times: twice for the counts of marked nodes, which take 33,280 bytes, then
+    /// for the node. Constant time.
     pub fn new(alloc: Global, first_stamp: u64) -> Result<Self, AllocError>
         requires { first_stamp < 2 ^ 64 - 1 }
         ensures nodes { IfOk result (λ list. list.nodes ≡ first_dummy list.head first_stamp ∷ []) }
@@ -245,8 +245,9 @@ impl NodeList {
         self.marks.total()
     }
 
-    /// Where in the order the marked nodes begin, or none exactly where no node is marked: no marked
-    /// node has a split key below it, and the first one has a split key less than 2^52 above it.
+    /// Where in the order the marked nodes begin, or none exactly where no node is marked: no
+    /// marked node has a split key below it, and the first one has a split key less than 2^52 above
+    /// it.
     ///
     /// # Cost
     ///

@@ -40,8 +40,8 @@ impl Model for Spare {
     } };
 }
 
-/// A spare as a list gives it, to be kept until it is filled: its place and its stamp alone, so that
-/// it is small.
+/// A spare as a list gives it, to be kept until it is filled: its place and its stamp alone, so
+/// that it is small.
 #[derive(Debug, Drop)]
 pub struct Unfilled {
     stamp: u64,

@@ -76,11 +76,13 @@ fn drawings(rt: HostRuntime) -> Result<(), Fail> {
             &few,
         ),
         (
-            "{\"x\":[[1e5],{\"width\":8}],\"width\":7,\"version\":1,\"points\":[[1,2],[3,4]],\"\":null}",
+            "{\"x\":[[1e5],{\"width\":8}],\"width\":7,\"version\":1,\
+            \"points\":[[1,2],[3,4]],\"\":null}",
             &few,
         ),
         (
-            "{\"points\":0,\"width\":8,\"version\":2,\"width\":7,\"version\":1,\"points\":[[1,2],[3,4]]}",
+            "{\"points\":0,\"width\":8,\"version\":2,\"width\":7,\"version\":1,\
+            \"points\":[[1,2],[3,4]]}",
             &few,
         ),
         (

@@ -10,7 +10,7 @@ use Rattle.txn_trace.specs.declared.answer.Answer.{Answer}
 use Rattle.txn_trace.specs.declared.answer.Answer.TheVariants as answers
 use Rattle.txn_trace.specs.declared.entry.Entry.{Entry}
 use Rattle.txn_trace.specs.declared.refusal.Refusal.{Refusal}
-use Rattle.txn_trace.specs.declared.refusal.Refusal.TheVariants.{BadKey, NoSuchLevel, NoMemory, StampsUsedUp, OutOfStep}
+use Rattle.txn_trace.specs.declared.refusal.Refusal.TheVariants.{BadKey, NoSuchLevel, NoMemory, StampsUsedUp, StaleWord, OutOfStep}
 use Rattle.txn_trace.specs.declared.seat.Phase.{Phase}
 use Rattle.txn_trace.specs.declared.seat.Phase.TheVariants.{Closed, Opened}
 use Rattle.txn_trace.specs.Map.{key_of}
@@ -35,7 +35,7 @@ use Rattle.locked_map.specs.Calls.{Ran, Failed, refused_at as refused_token, ref
 use Rattle.locked_map.specs.Suits.{may_refuse}
 use Rattle.locked_map.specs.Tokens.{Token}
 use Rattle.thread_runs.specs.Accounts.{Outcome}
-use Rattle.thread_runs.specs.Possible.{has_bad_key, is_back, is_abort, MayBeRefused, MayCome}
+use Rattle.thread_runs.specs.Possible.{has_bad_key, is_back, is_abort, MayBeRefused, MayCome, is_op}
 use Rattle.thread_runs.specs.Runs.{HasPhase, IsIn, HasEnded, phase_at, outcome_by}
 use Rattle.thread_runs.proofs.Lists.{get_empty}
 use Rattle.thread_runs.proofs.Seating.{is_refusal, phase_by, made_landed}
@@ -181,21 +181,23 @@ token_refused half script stage false (Some s) refusal is (inr at) =
     let phase : s.phase ≡ phase_at stage = ap (λ (t : Seat). t.phase) same ∙ at.2 in
     inr (seat_refused half script stage s refusal (subst (λ (p : Phase). option_or (refusal_in half (record s { phase = p }) (first_step 0 (call_at script stage))) (refused_help half (call_at script stage)) ≡ Some refusal) phase is))
 
--- Want of memory or of stamps is good where the call may want it.
+-- Want of memory or of stamps is good where the call may want it, and a stale word where it asks for
+-- an operation.
 want_good : (half : Bool) (script : List Action) (stage : Stage) (refusal : Refusal) → may_refuse (call_at script stage) refusal ≡ true → IsGoodAt half script refusal stage
 want_good half script Beginning NoMemory may = tt
 want_good half script Beginning refusal may = absurd (false≢true may)
-want_good half script (Acting i) refusal may = by (slice_get script i) refusal may
+want_good half script (Acting i) refusal may = by (slice_get script i) refl refusal may
   where
-    by : (o : Option Action) (r : Refusal) → may_refuse (call_of o) r ≡ true → IsGood half script r o
-    by (Some (actions.Op op)) NoMemory may = tt
-    by (Some (actions.Op op)) StampsUsedUp may = tt
-    by (Some actions.Save) NoMemory may = tt
-    by (Some (actions.Back n)) NoMemory may = tt
-    by (Some (actions.Help key)) NoMemory may = tt
-    by (Some (actions.Help key)) StampsUsedUp may = tt
-    by None r may = absurd (false≢true may)
-    by (Some action) r may = absurd (false≢true may)
+    by : (o : Option Action) → slice_get script i ≡ o → (r : Refusal) → may_refuse (call_of o) r ≡ true → IsGood half script r o
+    by (Some (actions.Op op)) at NoMemory may = tt
+    by (Some (actions.Op op)) at StampsUsedUp may = tt
+    by (Some (actions.Op op)) at StaleWord may = any_at is_op script i (actions.Op op) at refl
+    by (Some actions.Save) at NoMemory may = tt
+    by (Some (actions.Back n)) at NoMemory may = tt
+    by (Some (actions.Help key)) at NoMemory may = tt
+    by (Some (actions.Help key)) at StampsUsedUp may = tt
+    by None at r may = absurd (false≢true may)
+    by (Some action) at r may = absurd (false≢true may)
 want_good half script (Leaving why) refusal may = absurd (false≢true may)
 
 -- A token that lets a call pass is not broken.

@@ -6,7 +6,7 @@ use Rattle.std.proofs.lemmas.List.FromFn.{length-map-range_with_len, get_or-map-
 use Rattle.std.proofs.Math.Nat.{mod-lt}
 use Rattle.std.proofs.lemmas.List.{get_or-map, length-map, length-reverse, reverse-reverse}
 use Rattle.std.proofs.lemmas.Option.{slice_get_cases}
-use Rattle.txn_trace.specs.declared.holder.Holder.TheVariants.{Now}
+use Rattle.txn_trace.specs.declared.holder.Holder.TheVariants.{Begun}
 use Rattle.txn_trace.specs.declared.action.Action.{Action}
 use Rattle.txn_trace.specs.declared.entry.Entry.{Entry}
 use Rattle.txn_trace.specs.History.{caller_of}
@@ -89,10 +89,10 @@ module _ {L W : Type 0} (items : W → List codes.Outcome) (half : Bool) (worker
 -- What a run has come to, by its reports, the callers and the rows that these are parted into, and the history of the map.
 pub run_true : {L W : Type 0} (items : W → List codes.Outcome) (limits sizes : Sizes) (workers tries : ℕ) (scripts : List (List Action)) (reports : List (Report L)) (callers : List _) (rows : List W) (outcomes : List codes.Outcome) (trace h : List Entry)
     → 0 < workers → length reports ≡ workers → Each (HasReported limits.half workers tries scripts) reports → callers ≡ map (λ r. r.caller) reports → map items rows ≡ map (λ r. reverse r.outcomes.items) reports → length outcomes ≡ length scripts
-    → Each (λ c row. every (length rows) c outcomes ≡ reverse (items row)) rows → trace ≡ h → sizes ≡ limits → workers ≡ limits.callers → IsLegal Now sizes.stripes h → All (λ e. caller_of e < sizes.callers) h → All (λ k. IsOwn h k) callers
+    → Each (λ c row. every (length rows) c outcomes ≡ reverse (items row)) rows → trace ≡ h → sizes ≡ limits → workers ≡ limits.callers → IsLegal Begun sizes.stripes h → All (λ e. caller_of e < sizes.callers) h → All (λ k. IsOwn h k) callers
     → HasRunScripts limits workers tries scripts (map told_of outcomes) trace
 run_true items limits sizes workers tries scripts reports callers rows outcomes trace h some as_many each callers_are rows_are one_each order same is all_workers legal below own = record {
-  legal = subst (IsLegal Now limits.stripes) (sym same) (subst (λ (z : Sizes). IsLegal Now z.stripes h) is legal);
+  legal = subst (IsLegal Begun limits.stripes) (sym same) (subst (λ (z : Sizes). IsLegal Begun z.stripes h) is legal);
   callers = subst (All (λ e. caller_of e < workers)) (sym same) (subst (λ (n : ℕ). All (λ e. caller_of e < n) h) (ap (λ (z : Sizes). z.callers) is ∙ sym all_workers) below);
   one_each = length-map outcomes told_of ∙ one_each;
   true_of = subst (AreAllTrue workers tries scripts (map told_of outcomes)) (sym same)

@@ -44,8 +44,8 @@ pub record AreBusy (attempts : ℕ) (es : List Entry) : Type 0 where
   pub nothing : CommitNothing es
   pub enough : attempts ≤ how_many is_busy es
 
--- The entries are those of a transaction of the caller, from its Began to its Committed, which plays
--- the script and has these replies.
+-- The entries are those of a transaction of the caller, from its Began to its Committed, which
+-- plays the script and has these replies.
 pub record IsPlayedBy (c : ℕ) (script : List Action) (txn place : ℕ) (replies : List (Option ℕ))
     (es : List Entry) : Type 0 where
   pub inner : List Entry

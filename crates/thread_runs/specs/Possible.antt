@@ -4,7 +4,7 @@ use Rattle.std.specs.List.{list_any}
 use Rattle.txn_trace.specs.declared.action.Action.{Action}
 use Rattle.txn_trace.specs.declared.action.Action.TheVariants as actions
 use Rattle.txn_trace.specs.declared.refusal.Refusal.{Refusal}
-use Rattle.txn_trace.specs.declared.refusal.Refusal.TheVariants.{BadKey, NoSuchLevel, NoMemory, StampsUsedUp, OutOfStep}
+use Rattle.txn_trace.specs.declared.refusal.Refusal.TheVariants.{BadKey, NoSuchLevel, NoMemory, StampsUsedUp, StaleWord, OutOfStep}
 use Rattle.txn_trace.specs.Map.{key_of}
 use Rattle.txn_trace.specs.Sizes.{is_bad_key}
 use Rattle.thread_runs.specs.Accounts.{Outcome, Aborted, Refused}
@@ -15,6 +15,10 @@ has_bad_key half (actions.Op op) = is_bad_key half (key_of op)
 has_bad_key half (actions.Help key) = is_bad_key half key
 has_bad_key half action = false
 
+abbrev pub is_op : Action → Bool
+is_op (actions.Op op) = true
+is_op action = false
+
 abbrev pub is_back : Action → Bool
 is_back (actions.Back level) = true
 is_back action = false
@@ -23,11 +27,13 @@ abbrev pub is_abort : Action → Bool
 is_abort actions.Abort = true
 is_abort action = false
 
--- With which refusals a script may end: a bad key or a missing level only where it has an action
--- that can be refused so; want of memory or of stamps, and a call out of step, always.
+-- With which refusals a script may end: a bad key, a missing level or a stale word only where it
+-- has an action that can be refused so; want of memory or of stamps, and a call out of step,
+-- always.
 abbrev pub MayBeRefused : Bool → List Action → Refusal → Type 0
 MayBeRefused half script BadKey = IsTrue (list_any (has_bad_key half) script)
 MayBeRefused half script NoSuchLevel = IsTrue (list_any is_back script)
+MayBeRefused half script StaleWord = IsTrue (list_any is_op script)
 MayBeRefused half script NoMemory = Unit {0}
 MayBeRefused half script StampsUsedUp = Unit {0}
 MayBeRefused half script OutOfStep = Unit {0}

@@ -1,7 +1,7 @@
 -- What a worker's run of a script has added.
 use Rattle.std.specs.Prelude.{◌≡◌, ◌<◌, ◌⊎◌, ℕ, Bool, Option, Some, true, List, [], ◌∷◌, ◌++◌, length, map, slice_get, is_some}
 use Rattle.std.specs.List.{All, AllByRecursion}
-use Rattle.txn_trace.specs.declared.holder.Holder.TheVariants.{Now}
+use Rattle.txn_trace.specs.declared.holder.Holder.TheVariants.{Begun}
 use Rattle.txn_trace.specs.declared.action.Action.{Action}
 use Rattle.txn_trace.specs.declared.answer.Answer.TheVariants as answers
 use Rattle.txn_trace.specs.declared.entry.Entry.{Entry}
@@ -132,7 +132,7 @@ pub record HasReported {L : Type 0} (half : Bool) (workers tries : ℕ)
 -- allows.
 pub record HasRunScripts (limits : Sizes) (workers tries : ℕ) (scripts : List (List Action))
     (outcomes : List Outcome) (trace : List Entry) : Type 0 where
-  pub legal : IsLegal Now limits.stripes trace
+  pub legal : IsLegal Begun limits.stripes trace
   pub callers : All (λ e. caller_of e < workers) trace
   pub one_each : length outcomes ≡ length scripts
   pub true_of : AreAllTrue workers tries scripts outcomes trace

@@ -21,8 +21,8 @@ use txn_trace::{Limits, Refusal, Script};
 /// callers. Script `i` is one of worker `i` modulo the workers, and worker `w` is caller `w`. A
 /// script that found a stripe held is tried again at most `tries` times.
 ///
-/// With `Ok` the history is legal and of these workers, and each script has one outcome, which is
-/// true of it:
+/// With `Ok` the history is legal, where a Busy may name any worker that has begun a transaction,
+/// and of these workers, and each script has one outcome, which is true of it:
 ///
 /// - `Committed` stands for a transaction of the script's worker, which plays the script, is
 ///   committed at that place and has just those replies. Each Committed entry of the history
@@ -30,7 +30,8 @@ use txn_trace::{Limits, Refusal, Script};
 /// - A worker with `b` outcomes `Busy` has at least `b * (tries + 1)` Busy entries.
 /// - `Aborted` comes only for a script with an abort.
 /// - `Refused` comes with `BadKey` only for a script with such a key, with `NoSuchLevel` only for
-///   one that goes back, and else only with `NoMemory`, `StampsUsedUp` or `OutOfStep`.
+///   one that goes back, with `StaleWord` only for one with an operation, and else only with
+///   `NoMemory`, `StampsUsedUp` or `OutOfStep`.
 ///
 /// # Errors
 ///

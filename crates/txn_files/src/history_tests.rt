@@ -6,10 +6,10 @@ use txn_trace::{Entry, Op};
 /// Each kind of entry, as JSON.
 const EVERY_KIND: &str =
     "[[\"began\",0,1],[\"saved\",0],[\"asked\",0,\"put\",1,10],[\"did\",0,null],\
-    [\"asked\",0,\"take\",2],[\"did\",0,18446744073709551615],[\"asked\",0,\"get\",9223372036854775808],\
-    [\"did\",0,0],[\"leave\",0,1],[\"undone\",0],[\"returned\",0,1],[\"committed\",0,1],\
-    [\"busy\",63,\"put\",1,20,0],[\"busy\",1,\"take\",7,63],[\"busy\",1,\"get\",0,2],[\"leave\",5,null],\
-    [\"aborted\",5]]";
+    [\"asked\",0,\"take\",2],[\"did\",0,18446744073709551615],\
+    [\"asked\",0,\"get\",9223372036854775808],[\"did\",0,0],[\"leave\",0,1],[\"undone\",0],\
+    [\"returned\",0,1],[\"committed\",0,1],[\"busy\",63,\"put\",1,20,0],\
+    [\"busy\",1,\"take\",7,63],[\"busy\",1,\"get\",0,2],[\"leave\",5,null],[\"aborted\",5]]";
 
 /// The same entries.
 const EVERY_ENTRY: [Entry; 17] = [
@@ -62,8 +62,8 @@ fn every_entry(rt: HostRuntime) -> Result<(), Fail> {
 
 #[test]
 fn members_in_any_order(rt: HostRuntime) -> Result<(), Fail> {
-    let text =
-        " { \"entries\" : [ [ \"undone\" , 3 ] ],\n\"note\":null,\"stripes\":0,\"stripes\":1,\"version\":1}\n";
+    let text = " { \"entries\" : [ [ \"undone\" , 3 ] ],\n\
+        \"note\":null,\"stripes\":0,\"stripes\":1,\"version\":1}\n";
     let Ok((stripes, entries, version)) = read_history(rt.alloc(), text.as_bytes()) else {
         return Err("refused")?;
     };

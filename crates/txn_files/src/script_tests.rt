@@ -15,7 +15,8 @@ fn file_with(
     scripts: &str,
 ) -> Result<String, Fail> {
     let text = format!(in rt.alloc();
-        "{{\"version\":{version},\"workers\":1,\"stripes\":2,\"buckets\":8,\"tries\":3,\"scripts\":{scripts}}}"
+        "{{\"version\":{version},\"workers\":1,\"stripes\":2,\"buckets\":8,\"tries\":3,\
+        \"scripts\":{scripts}}}"
     )?;
     Ok(text)
 }
@@ -286,9 +287,12 @@ fn large_numbers_in_scripts(rt: HostRuntime) {
     for text in [
         "{\"version\":1,\"workers\":1e999,\"stripes\":8,\"buckets\":8,\"tries\":0,\"scripts\":[]}",
         "{\"version\":1,\"workers\":1,\"stripes\":8,\"buckets\":8,\"tries\":0,\"scripts\":1e999}",
-        "{\"version\":1,\"workers\":1,\"stripes\":8,\"buckets\":8,\"tries\":0,\"scripts\":[[1e999]]}",
-        "{\"version\":1,\"workers\":1,\"stripes\":8,\"buckets\":8,\"tries\":0,\"scripts\":[[[\"put\",1e999,1]]]}",
-        "{\"version\":1,\"workers\":1,\"stripes\":8,\"buckets\":8,\"tries\":0,\"scripts\":[[[\"save\"]]],\"x\":{\"y\":1e999}}",
+        "{\"version\":1,\"workers\":1,\"stripes\":8,\"buckets\":8,\"tries\":0,\"scripts\":\
+        [[1e999]]}",
+        "{\"version\":1,\"workers\":1,\"stripes\":8,\"buckets\":8,\"tries\":0,\"scripts\":\
+        [[[\"put\",1e999,1]]]}",
+        "{\"version\":1,\"workers\":1,\"stripes\":8,\"buckets\":8,\"tries\":0,\"scripts\":\
+        [[[\"save\"]]],\"x\":{\"y\":1e999}}",
     ] {
         let wanted = Some(FileFault::NotJson);
         assert_eq!(rt; fault_of(&rt, text.as_bytes()), wanted, "{text}");

@@ -47,8 +47,10 @@ fn every_step(rt: HostRuntime) -> Result<(), Fail> {
     // given twice.
     let text = " { \"steps\" : [[\"abort\",18446744073709551615], [\"ask\",7,\"take\",0],\n\
         [\"ask\",0,\"get\",9223372036854775808],[\"ask\",1,\"put\",18446744073709551615,0],\n\
-        [\"save\",3],[\"back\",4,2],[\"sweep\"],[\"init_seek\",5,6],[\"init_link\",7],[\"init_store\",8],[\"double\",9]], \"note\" : null,\n\
-        \"buckets\":65536,\"stripes\":4096,\"callers\":64,\"version\":7,\"version\":1,\"\":[{\"steps\":-1.5e3}]}\n";
+        [\"save\",3],[\"back\",4,2],[\"sweep\"],[\"init_seek\",5,6],[\"init_link\",7],\
+        [\"init_store\",8],[\"double\",9]], \"note\" : null,\n\
+        \"buckets\":65536,\"stripes\":4096,\"callers\":64,\"version\":7,\"version\":1,\
+        \"\":[{\"steps\":-1.5e3}]}\n";
     let Ok((limits, steps)) = read_steps(rt.alloc(), text.as_bytes()) else {
         return Err("refused")?;
     };
@@ -147,12 +149,11 @@ fn wrong_put_ifs(rt: HostRuntime) -> Result<(), Fail> {
     Ok(())
 }
 
-/// Each kind of bad input, and its fault.
+/// Each kind of bad input but a bad step, and its fault.
 #[test]
 fn bad_input(rt: HostRuntime) -> Result<(), Fail> {
     let too_long = vec![in rt.alloc(); b' '; 16_777_217]?;
-    let step = FileFault::Piece(Part::Step, 0);
-    let cases: [(&str, &[u8], FileFault); 12] = [
+    let cases: [(&str, &[u8], FileFault); 5] = [
         ("the empty file", "".as_bytes(), FileFault::NotJson),
         ("no UTF-8", &[34, 255, 34], FileFault::NotJson),
         ("16,777,217 bytes", &too_long, FileFault::Limit),
@@ -166,44 +167,28 @@ fn bad_input(rt: HostRuntime) -> Result<(), Fail> {
             "{\"version\":1,\"callers\":2,\"stripes\":8,\"buckets\":8,\"steps\":{}}".as_bytes(),
             FileFault::Member,
         ),
-        (
-            "a negative number",
-            "{\"version\":1,\"callers\":2,\"stripes\":8,\"buckets\":8,\"steps\":[[\"begin\",-1]]}".as_bytes(),
-            step,
-        ),
-        (
-            "a fraction",
-            "{\"version\":1,\"callers\":2,\"stripes\":8,\"buckets\":8,\"steps\":[[\"begin\",0.5]]}".as_bytes(),
-            step,
-        ),
-        (
-            "an exponent",
-            "{\"version\":1,\"callers\":2,\"stripes\":8,\"buckets\":8,\"steps\":[[\"begin\",1e1]]}".as_bytes(),
-            step,
-        ),
-        (
-            "2^64",
-            "{\"version\":1,\"callers\":2,\"stripes\":8,\"buckets\":8,\"steps\":[[\"begin\",18446744073709551616]]}".as_bytes(),
-            step,
-        ),
-        (
-            "a text for a number",
-            "{\"version\":1,\"callers\":2,\"stripes\":8,\"buckets\":8,\"steps\":[[\"begin\",\"0\"]]}".as_bytes(),
-            step,
-        ),
-        (
-            "an element too many",
-            "{\"version\":1,\"callers\":2,\"stripes\":8,\"buckets\":8,\"steps\":[[\"begin\",0,0]]}".as_bytes(),
-            step,
-        ),
-        (
-            "an unknown step",
-            "{\"version\":1,\"callers\":2,\"stripes\":8,\"buckets\":8,\"steps\":[[\"start\",0]]}".as_bytes(),
-            step,
-        ),
     ];
     for (kind, bytes, wanted) in cases {
         assert_eq!(rt; fault_of(&rt, bytes), Some(wanted), "{kind}");
+    }
+    Ok(())
+}
+
+/// Each kind of bad step, as the only one of a file.
+#[test]
+fn bad_only_steps(rt: HostRuntime) -> Result<(), Fail> {
+    let wanted = Some(FileFault::Piece(Part::Step, 0));
+    for (kind, steps) in [
+        ("a negative number", "[[\"begin\",-1]]"),
+        ("a fraction", "[[\"begin\",0.5]]"),
+        ("an exponent", "[[\"begin\",1e1]]"),
+        ("2^64", "[[\"begin\",18446744073709551616]]"),
+        ("a text for a number", "[[\"begin\",\"0\"]]"),
+        ("an element too many", "[[\"begin\",0,0]]"),
+        ("an unknown step", "[[\"start\",0]]"),
+    ] {
+        let text = file_with(&rt, "2", steps)?;
+        assert_eq!(rt; fault_of(&rt, text.as_bytes()), wanted, "{kind}");
     }
     Ok(())
 }
@@ -385,9 +370,9 @@ fn wrong_steps(rt: HostRuntime) -> Result<(), Fail> {
 /// Memory may be refused anywhere in it: then that is the answer, and no other fault.
 #[test]
 fn memory_refused(rt: HostRuntime) {
-    let text =
-        "{\"x\":[{\"\\n\":[1,\"\\t\"]},\"\\n\"],\"version\":1,\"callers\":1,\"stripes\":8,\"buckets\":8,\"steps\":\
-        [[\"begin\",0],[\"\\u0061sk\",0,\"put\",1,10],[\"seek\",0],[\"act\",0],[\"sweep\"],[\"commit\",0]]}";
+    let text = "{\"x\":[{\"\\n\":[1,\"\\t\"]},\"\\n\"],\"version\":1,\"callers\":1,\"stripes\":8,\
+        \"buckets\":8,\"steps\":[[\"begin\",0],[\"\\u0061sk\",0,\"put\",1,10],[\"seek\",0],\
+        [\"act\",0],[\"sweep\"],[\"commit\",0]]}";
     let fault = fault_of(&rt, text.as_bytes());
     assert!(rt; fault.is_none() || fault == Some(FileFault::NoMemory));
     let text = "{\"version\":1,\"workers\":1,\"stripes\":8,\"buckets\":8,\"tries\":1,\"scripts\":\
@@ -395,7 +380,8 @@ fn memory_refused(rt: HostRuntime) {
     let fault = read_scripts(rt.alloc(), text.as_bytes()).err();
     assert!(rt; fault.is_none() || fault == Some(FileFault::NoMemory));
     let text =
-        "{\"version\":1,\"stripes\":8,\"entries\":[[\"began\",0,1],[\"saved\",0],[\"undone\",0],[\"aborted\",0],[\"began\",0,2]]}";
+        "{\"version\":1,\"stripes\":8,\"entries\":[[\"began\",0,1],[\"saved\",0],[\"undone\",0],\
+        [\"aborted\",0],[\"began\",0,2]]}";
     let fault = read_history(rt.alloc(), text.as_bytes()).err();
     assert!(rt; fault.is_none() || fault == Some(FileFault::NoMemory));
 }
@@ -407,7 +393,8 @@ fn file_beside(
     behind: &str,
 ) -> Result<String, Fail> {
     let text = format!(in rt.alloc();
-        "{{{before}\"version\":1,\"callers\":1,\"stripes\":8,\"buckets\":8,\"steps\":[[\"sweep\"]]{behind}}}"
+        "{{{before}\"version\":1,\"callers\":1,\"stripes\":8,\"buckets\":8,\"steps\":\
+        [[\"sweep\"]]{behind}}}"
     )?;
     Ok(text)
 }
@@ -553,7 +540,8 @@ fn large_numbers_in_steps(rt: HostRuntime) {
         "{\"version\":1,\"callers\":1,\"stripes\":8,\"buckets\":-1e999,\"steps\":[]}",
         "{\"version\":1,\"callers\":1,\"stripes\":8,\"buckets\":8,\"steps\":1e999}",
         "{\"version\":1,\"callers\":1,\"stripes\":8,\"buckets\":8,\"steps\":[1e999]}",
-        "{\"version\":1,\"callers\":1,\"stripes\":8,\"buckets\":8,\"steps\":[[\"begin\",0],[\"begin\",1e999]]}",
+        "{\"version\":1,\"callers\":1,\"stripes\":8,\"buckets\":8,\"steps\":\
+        [[\"begin\",0],[\"begin\",1e999]]}",
     ] {
         let wanted = Some(FileFault::NotJson);
         assert_eq!(rt; fault_of(&rt, text.as_bytes()), wanted, "{text}");

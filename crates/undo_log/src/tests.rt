@@ -154,7 +154,7 @@ fn one_log_for_each_caller(rt: HostRuntime) -> Result<(), Fail> {
 }
 
 /// Boxes a value, and asks twice where memory is refused once; none where it is refused still.
-fn boxed<T: Drop>(rt: &impl Abort, alloc: Global, value: T) -> Option<Box<T>>
+fn in_box<T: Drop>(rt: &impl Abort, alloc: Global, value: T) -> Option<Box<T>>
     ensures { IfSome result (λ block. block.value ≡ value) }
 {
     let refused = match Box::new(alloc, value) {
@@ -329,7 +329,7 @@ fn words_back<S: Side, F: FnOnce(S) -> S>(
 #[test]
 fn a_settled_value_stays(rt: HostRuntime) {
     for (settles, words) in [(false, [0, 0, 0, 0]), (true, [1, 0, 0, 0])] {
-        let Some(run) = boxed(&rt, rt.alloc(), |_| a_register([0, 0, 0, 0])) else {
+        let Some(run) = in_box(&rt, rt.alloc(), |_| a_register([0, 0, 0, 0])) else {
             return;
         };
         let job = RegisterJob {
@@ -349,13 +349,13 @@ fn a_settled_value_stays(rt: HostRuntime) {
 /// back.
 #[test]
 fn side_value_returns(rt: HostRuntime) {
-    let Some(to_zero) = boxed(&rt, rt.alloc(), |_| a_register([0, 0, 0, 0])) else {
+    let Some(to_zero) = in_box(&rt, rt.alloc(), |_| a_register([0, 0, 0, 0])) else {
         return;
     };
-    let Some(to_one) = boxed(&rt, rt.alloc(), |_| a_register([1, 0, 0, 0])) else {
+    let Some(to_one) = in_box(&rt, rt.alloc(), |_| a_register([1, 0, 0, 0])) else {
         return;
     };
-    let Some(to_two) = boxed(&rt, rt.alloc(), |_| a_register([2, 0, 0, 0])) else {
+    let Some(to_two) = in_box(&rt, rt.alloc(), |_| a_register([2, 0, 0, 0])) else {
         return;
     };
     let first = RegisterJob {

@@ -7,7 +7,7 @@ use Rattle.std.proofs.lemmas.Bool.{false≢true}
 use Rattle.std.proofs.lemmas.List.{append-nil, length-map, get_or-map}
 use Rattle.std.proofs.lemmas.Option.{slice_get-map, slice_get_within, get_or_from_slice_get}
 use Rattle.txn_trace.specs.declared.entry.Entry.{Entry}
-use Rattle.txn_trace.specs.declared.holder.Holder.TheVariants.{Now}
+use Rattle.txn_trace.specs.declared.holder.Holder.TheVariants.{Begun}
 use Rattle.txn_trace.specs.declared.entry.Entry.TheVariants.{Asked, Did, Committed}
 use Rattle.txn_trace.specs.declared.op.Op.TheVariants.{Put, Get}
 use Rattle.txn_trace.specs.declared.refusal.Refusal.{Refusal}
@@ -39,7 +39,7 @@ got_alone m c visit txn before reply place =
     ]
 
 -- So it is in every legal history that has the visitor's entries, whatever the other callers do.
-pub got_at_close : {S : Type 0} (visit : Visit) (reply : Option ℕ) (me : Token S) (stripes : ℕ) (h : List Entry) → HasVisited visit reply me → IsLegal Now stripes h → IsOwn h me → IsAnswered h visit reply
+pub got_at_close : {S : Type 0} (visit : Visit) (reply : Option ℕ) (me : Token S) (stripes : ℕ) (h : List Entry) → HasVisited visit reply me → IsLegal Begun stripes h → IsOwn h me → IsAnswered h visit reply
 got_at_close visit reply me stripes h visited legal own_is =
     let c : ℕ = me.number in
     let committed = has_committed c visited.txn visited.place h visited.earlier
@@ -65,7 +65,7 @@ if_ok visit reply answer me is made = subst (λ a. IfOk a (λ r. HasVisited visi
 pub all_answered : {J V S : Type 0} (visit_of : J → Visit) (me_of : V → Token S) (answer_of : V → Result (Option ℕ) Refusal) (visits : List Visit) (jobs : List J) (visited : List V) (stripes : ℕ) (h : List Entry)
     → map visit_of jobs ≡ visits → length visited ≡ length jobs
     → ((i : ℕ) (d : V) → i < length jobs → (job : J) × ((x : J) → slice_index_or jobs i x ≡ job) × IfOk (answer_of (slice_index_or visited i d)) (λ reply. HasVisited (visit_of job) reply (me_of (slice_index_or visited i d))))
-    → IsLegal Now stripes h → All (IsOwn h) (map me_of visited) → AreAnswered h visits (map answer_of visited)
+    → IsLegal Begun stripes h → All (IsOwn h) (map me_of visited) → AreAnswered h visits (map answer_of visited)
 all_answered visit_of me_of answer_of visits jobs visited stripes h visits_are count made_each legal own = record {
   count = length-map visited answer_of ∙ count ∙ sym (length-map jobs visit_of) ∙ ap length visits_are;
   each = λ i visit reply at_visit at_answer.

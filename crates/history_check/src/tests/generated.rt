@@ -83,8 +83,8 @@ fn next_entry(
     requires { 0 < stripes }
 {
     let entries = plain::last_of(alloc, caller, history)?;
-    let kept = plain::kept(alloc, &entries)?;
-    let standing = plain::standing(&entries);
+    let kept = plain::standing_at_levels(alloc, &entries)?;
+    let standing = plain::count_standing(&entries);
     Ok(match plain::place_after(&entries) {
         Place::Closed => Entry::Began(caller, plain::next_txn(history)),
         Place::Asked if draws.below(10) == 0 => Entry::Leave(caller, None),
@@ -99,7 +99,7 @@ fn next_entry(
             0 | 1 => Entry::Saved(caller),
             2 => Entry::Leave(caller, None),
             3 => Entry::Leave(caller, Some(draws.below((kept.len() as u64).max(1)))),
-            4 => Entry::Committed(caller, plain::committed(history).saturating_add(1)),
+            4 => Entry::Committed(caller, plain::count_committed(history).saturating_add(1)),
             _ => {
                 let is_early = holder == Holder::Begun && draws.below(4) == 0;
                 next_operation(history, caller, draws.op(), stripes, is_early)
@@ -136,7 +136,7 @@ pub(super) fn spoil(draws: &mut Draws, history: &mut Vec<Entry>) -> Result<(), A
         1 => history.insert(place, history[place])?,
         2 => history.swap(place / 2, place),
         3 if 0 < place => history.swap(place - 1, place),
-        4..8 => history[place] = changed(draws, history[place]),
+        4..8 => history[place] = change_entry(draws, history[place]),
         _ => change_operation(draws, history, place),
     }
     Ok(())
@@ -146,14 +146,14 @@ pub(super) fn spoil(draws: &mut Draws, history: &mut Vec<Entry>) -> Result<(), A
 fn change_operation(draws: &mut Draws, history: &mut [Entry], place: usize) {
     for entry in history.iter_mut().skip(place) {
         if let Entry::Asked(..) | Entry::Did(..) | Entry::Busy(..) = *entry {
-            *entry = changed(draws, *entry);
+            *entry = change_entry(draws, *entry);
             return;
         }
     }
 }
 
 /// The entry with another number, reply, operation or caller; now and then with the same.
-fn changed(draws: &mut Draws, entry: Entry) -> Entry {
+fn change_entry(draws: &mut Draws, entry: Entry) -> Entry {
     let caller = entry.caller();
     let other = draws.caller(4);
     let number = draws.below(6);

@@ -58,7 +58,7 @@ pub(super) fn place_after(entries: &[Entry]) -> Place {
 }
 
 /// How many changes stand after a transaction's entries.
-pub(super) fn standing(entries: &[Entry]) -> usize {
+pub(super) fn count_standing(entries: &[Entry]) -> usize {
     let changes = entries
         .windows(2)
         .filter(|pair| is_change_done(pair))
@@ -82,11 +82,14 @@ fn is_change_done(pair: &[Entry]) -> bool {
 
 /// How many changes stood at each level: none at level 0, then those at each savepoint that is
 /// left.
-pub(super) fn kept(alloc: Global, entries: &[Entry]) -> Result<Vec<usize>, AllocError> {
+pub(super) fn standing_at_levels(
+    alloc: Global,
+    entries: &[Entry],
+) -> Result<Vec<usize>, AllocError> {
     let mut kept = vec![in alloc; 0usize]?;
     for (i, entry) in entries.iter().enumerate() {
         match *entry {
-            Entry::Saved(_) => kept.push(standing(&entries[..i]))?,
+            Entry::Saved(_) => kept.push(count_standing(&entries[..i]))?,
             Entry::Returned(_, level) => kept.truncate((level as usize).saturating_add(1)),
             _ => {}
         }
@@ -95,22 +98,22 @@ pub(super) fn kept(alloc: Global, entries: &[Entry]) -> Result<Vec<usize>, Alloc
 }
 
 /// How many transactions began.
-fn begun(history: &[Entry]) -> u64 {
+fn count_begun(history: &[Entry]) -> u64 {
     history.iter().filter(|entry| is_began(entry)).count() as u64
 }
 
 /// The number of the next transaction.
 pub(super) fn next_txn(history: &[Entry]) -> u64 {
-    begun(history).saturating_add(1)
+    count_begun(history).saturating_add(1)
 }
 
 /// How many transactions are committed.
-pub(super) fn committed(history: &[Entry]) -> u64 {
+pub(super) fn count_committed(history: &[Entry]) -> u64 {
     history.iter().filter(|entry| is_commit(entry)).count() as u64
 }
 
 /// How many transactions aborted.
-fn aborted(history: &[Entry]) -> u64 {
+fn count_aborted(history: &[Entry]) -> u64 {
     history.iter().filter(|entry| is_abort(entry)).count() as u64
 }
 
@@ -133,8 +136,8 @@ fn is_undone(entry: &Entry) -> bool {
 /// Whether the state table has a row for one more entry, and its number is right.
 fn has_shape(alloc: Global, history: &[Entry], entry: &Entry) -> Result<bool, AllocError> {
     let entries = last_of(alloc, entry.caller(), history)?;
-    let kept = kept(alloc, &entries)?;
-    let standing = standing(&entries);
+    let kept = standing_at_levels(alloc, &entries)?;
+    let standing = count_standing(&entries);
     let at_level = |level: u64| kept.get(level as usize).copied();
     Ok(match (place_after(&entries), *entry) {
         (Place::Closed, Entry::Began(_, txn)) => txn == next_txn(history),
@@ -142,7 +145,7 @@ fn has_shape(alloc: Global, history: &[Entry], entry: &Entry) -> Result<bool, Al
         (Place::Open | Place::Asked, Entry::Leave(_, None)) => true,
         (Place::Open, Entry::Leave(_, Some(level))) => at_level(level).is_some(),
         (Place::Open, Entry::Committed(_, place)) => {
-            place.checked_sub(1) == Some(committed(history))
+            place.checked_sub(1) == Some(count_committed(history))
         }
         (Place::Asked, Entry::Did(..)) => true,
         (Place::LeavingTo(level), Entry::Undone(_)) => at_level(level) < Some(standing),
@@ -196,7 +199,12 @@ fn is_locked(history: &[Entry], entry: &Entry, stripes: u64, holder: Holder) -> 
 }
 
 /// The entries of a caller's transaction: each belongs to the one that the caller began last.
-fn of(alloc: Global, caller: u64, txn: u64, history: &[Entry]) -> Result<Vec<Entry>, AllocError> {
+fn entries_of_txn(
+    alloc: Global,
+    caller: u64,
+    txn: u64,
+    history: &[Entry],
+) -> Result<Vec<Entry>, AllocError> {
     let mut last = None;
     let mut entries = Vec::new(alloc);
     for entry in history.iter().filter(|entry| entry.caller() == caller) {
@@ -211,7 +219,7 @@ fn of(alloc: Global, caller: u64, txn: u64, history: &[Entry]) -> Result<Vec<Ent
 }
 
 /// The map that an operation leaves.
-fn after(values: &Values, op: Op) -> Result<Values, AllocError> {
+fn map_after(values: &Values, op: Op) -> Result<Values, AllocError> {
     let mut left = values.clone()?;
     match op {
         Op::Put(key, value) => {
@@ -293,7 +301,7 @@ impl Running {
             return Ok(false);
         }
         if is_change(last, op) {
-            let next = after(last, op)?;
+            let next = map_after(last, op)?;
             self.maps.push(next)?;
         }
         Ok(true)
@@ -302,7 +310,11 @@ impl Running {
 
 /// The last map of a transaction that runs alone on these values; none where it has another reply
 /// than it would have.
-fn alone(start: &Values, entries: &[Entry], alloc: Global) -> Result<Option<Values>, AllocError> {
+fn run_alone(
+    start: &Values,
+    entries: &[Entry],
+    alloc: Global,
+) -> Result<Option<Values>, AllocError> {
     let mut run = Running::new(alloc, start)?;
     for entry in entries {
         if !run.act(entry)? {
@@ -319,7 +331,7 @@ pub(super) fn reply_alone(
     caller: u64,
 ) -> Result<Reply, AllocError> {
     let entries = last_of(alloc, caller, history)?;
-    let values = alone(&serial(alloc, history)?, &entries, alloc)?;
+    let values = run_alone(&serial_map(alloc, history)?, &entries, alloc)?;
     Ok(match (entries.last(), values) {
         (Some(Entry::Asked(_, op)), Some(values)) => reply_of(&values, *op),
         _ => None,
@@ -327,12 +339,12 @@ pub(super) fn reply_alone(
 }
 
 /// The map that the committed transactions leave, one after another in commit order.
-fn serial(alloc: Global, history: &[Entry]) -> Result<Values, AllocError> {
+fn serial_map(alloc: Global, history: &[Entry]) -> Result<Values, AllocError> {
     let mut values = BTreeMap::new(alloc);
     for (i, entry) in history.iter().enumerate() {
         if let Entry::Committed(caller, _) = *entry {
             let entries = last_of(alloc, caller, &history[..i])?;
-            if let Some(left) = alone(&values, &entries, alloc)? {
+            if let Some(left) = run_alone(&values, &entries, alloc)? {
                 values = left;
             }
         }
@@ -345,7 +357,7 @@ fn open_txns(alloc: Global, history: &[Entry]) -> Result<Vec<Vec<Entry>>, AllocE
     let mut open = Vec::new(alloc);
     for entry in history {
         if let Entry::Began(caller, txn) = *entry {
-            let entries = of(alloc, caller, txn, history)?;
+            let entries = entries_of_txn(alloc, caller, txn, history)?;
             if place_after(&entries) != Place::Closed {
                 open.push(entries)?;
             }
@@ -356,9 +368,9 @@ fn open_txns(alloc: Global, history: &[Entry]) -> Result<Vec<Vec<Entry>>, AllocE
 
 /// Whether each open transaction has the replies of running alone after the committed ones.
 fn replies_hold(alloc: Global, history: &[Entry]) -> Result<bool, AllocError> {
-    let settled = serial(alloc, history)?;
+    let settled = serial_map(alloc, history)?;
     for entries in &open_txns(alloc, history)? {
-        if alone(&settled, entries, alloc)?.is_none() {
+        if run_alone(&settled, entries, alloc)?.is_none() {
             return Ok(false);
         }
     }
@@ -366,7 +378,7 @@ fn replies_hold(alloc: Global, history: &[Entry]) -> Result<bool, AllocError> {
 }
 
 /// The rule that the last entry of a beginning breaks.
-fn broken(
+fn broken_rule(
     alloc: Global,
     beginning: &[Entry],
     stripes: u64,
@@ -396,7 +408,7 @@ pub(super) fn first_bad(
     requires { 0 < stripes }
 {
     for i in 0..history.len() {
-        if let Some(rule) = broken(alloc, &history[..i + 1], stripes, holder)? {
+        if let Some(rule) = broken_rule(alloc, &history[..i + 1], stripes, holder)? {
             return Ok(Some((i, rule)));
         }
     }
@@ -410,8 +422,8 @@ pub(super) fn verdict(history: &[Entry], bad: Option<(usize, Rule)>) -> Verdict 
         let entry = entry as u64;
         return Verdict::Illegal { entry, rule };
     }
-    let commits = committed(history);
-    let ended = commits.saturating_add(aborted(history));
-    let running = begun(history).saturating_sub(ended);
+    let commits = count_committed(history);
+    let ended = commits.saturating_add(count_aborted(history));
+    let running = count_begun(history).saturating_sub(ended);
     Verdict::Legal { commits, running }
 }

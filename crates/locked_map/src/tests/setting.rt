@@ -161,7 +161,7 @@ pub(super) fn is_settled(alloc: Global, trace: &[Entry]) -> Result<bool, AllocEr
     if !has_callers(trace) {
         return Ok(false);
     }
-    let verdict = check(alloc, trace, 8, Holder::Now)?;
+    let verdict = check(alloc, trace, 8, Holder::Begun)?;
     Ok(matches!(verdict, Verdict::Legal { running: 0, .. }))
 }
 

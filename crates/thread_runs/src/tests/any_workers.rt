@@ -45,7 +45,7 @@ fn run_once<R: Threads + Wait + Abort + Sync>(
     let count = limits.callers() as usize;
     let ran = run_scripts(rt, alloc, limits, scripts.as_slice(), count, 3, &Open)?;
     assert_eq!(rt; ran.outcomes.len(), 6);
-    let verdict = check(alloc, ran.trace.as_slice(), 2, Holder::Now)?;
+    let verdict = check(alloc, ran.trace.as_slice(), 2, Holder::Begun)?;
     assert!(rt;
         matches!(verdict, Verdict::Legal { running: 0, .. }),
         "{workers}"

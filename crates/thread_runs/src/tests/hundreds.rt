@@ -51,7 +51,7 @@ fn run_all<R: Threads + Wait + Abort + Sync>(rt: &R, alloc: Global) -> Result<()
     }
     places.sort()?;
     assert!(rt; places.iter().copied().eq(1..401));
-    let verdict = check(alloc, ran.trace.as_slice(), 4096, Holder::Now)?;
+    let verdict = check(alloc, ran.trace.as_slice(), 4096, Holder::Begun)?;
     assert_eq!(rt;
         verdict,
         Verdict::Legal {

@@ -46,7 +46,7 @@ fn is_settled<R: Abort>(rt: &R, alloc: Global, trace: &[Entry]) -> bool {
     assert_eq!(rt; began.checked_sub(committed), Some(aborted));
     assert!(rt; trace.iter().all(|entry| entry.caller() < 64));
     for _ in 0..2 {
-        if let Ok(verdict) = check(alloc, trace, 8, Holder::Now) {
+        if let Ok(verdict) = check(alloc, trace, 8, Holder::Begun) {
             return matches!(verdict, Verdict::Legal { running: 0, .. });
         }
     }

@@ -195,8 +195,8 @@ fn write_entry(text: &mut String, entry: &Entry) -> fmt::Result {
     Ok(())
 }
 
-/// The history as one line of JSON.
-pub fn history_text(entries: &[Entry], stripes: u32) -> String {
+/// The history as one line of JSON, of this version.
+pub fn history_text(entries: &[Entry], stripes: u32, version: u64) -> String {
     let mut text = String::from(r#"{"entries":["#);
     for (index, entry) in entries.iter().enumerate() {
         if index > 0 {
@@ -204,6 +204,6 @@ pub fn history_text(entries: &[Entry], stripes: u32) -> String {
         }
         let _ = write_entry(&mut text, entry);
     }
-    let _ = writeln!(text, r#"],"stripes":{stripes},"version":1}}"#);
+    let _ = writeln!(text, r#"],"stripes":{stripes},"version":{version}}}"#);
     text
 }

@@ -52,7 +52,7 @@ fn output() -> Result<String, Box<dyn Error>> {
             core.run(&file.steps);
             let entries = core.history();
             let most = entries.len().min(most.parse()?);
-            Ok(history_text(&entries[..most], file.stripes))
+            Ok(history_text(&entries[..most], file.stripes, 1))
         }
         ["check", file] => {
             let file: HistoryFile = serde_json::from_slice(&fs::read(file)?)?;
@@ -61,11 +61,11 @@ fn output() -> Result<String, Box<dyn Error>> {
         ["mix", "--seed", seed, file] => {
             let file: ScriptFile = serde_json::from_slice(&fs::read(file)?)?;
             let core = mix::mix(seed.parse()?, &file);
-            Ok(history_text(core.history(), file.stripes))
+            Ok(history_text(core.history(), file.stripes, 1))
         }
         ["run", file] => {
             let file: ScriptFile = serde_json::from_slice(&fs::read(file)?)?;
-            Ok(history_text(run::run(&file).history(), file.stripes))
+            Ok(history_text(run::run(&file).history(), file.stripes, 3))
         }
         _ => Err("no such words".into()),
     }

@@ -10,6 +10,6 @@ run_scripts-requires-clause-tries g c κs within =
 
 pub returns-clause-ok : goal.returns-clause-ok
 returns-clause-ok g c =
-    threaded_is c.args.bytes.items c.in_ok-work.work c.limits-limits.result c.callers-workers.result c.tries.result c.version-version.result c.stripes.result c.scripts.result.now (map told_of c.in-Ok.ran.outcomes.items) c.in-Ok.ran.trace.items
-    (string_bytes c.in_ok-text.text) (string_bytes c.push_str.new.self) c.in_ok-work.ensures c.limits-limits.ensures c.callers-workers.ensures.value c.tries.ensures c.version-version.ensures c.stripes.ensures.value c.scripts.ensures
-    c.in-Ok.ensures.ran (c.in_ok-text.ensures ∙ ap (text_of_history c.version-version.result c.stripes.result) c.deref.ensures.value) c.in_ok-push_str.ensures.bytes
+    threaded_is c.args.bytes.items c.in_ok-work.work c.limits-limits.result c.callers-workers.result c.tries.result c.stripes.result c.scripts.result.now (map told_of c.in-Ok.ran.outcomes.items) c.in-Ok.ran.trace.items
+    (string_bytes c.in_ok-text.text) (string_bytes c.push_str.new.self) c.in_ok-work.ensures c.limits-limits.ensures c.callers-workers.ensures.value c.tries.ensures c.stripes.ensures.value c.scripts.ensures
+    c.in-Ok.ensures.ran (c.in_ok-text.ensures ∙ ap (text_of_history 3 c.stripes.result) c.deref.ensures.value) c.in_ok-push_str.ensures.bytes

@@ -8,15 +8,8 @@ use Rattle.bucket_table.proofs.HomeLemmas.{still_home}
 use Rattle.bucket_table.proofs.DummyLemmas.{each_sought}
 use Rattle.bucket_table.proofs.tests.put.Goals as goal
 
-pub returns-in_default-clause-home : goal.returns-in_default-clause-home
-returns-in_default-clause-home c =
-    still_home _ _ c.seek-cursor.ensures.follows _ (still_home _ _ c.in_ok-spare.ensures.follows _ c.requires.home)
-
-pub returns-in_default-clause-keyed : goal.returns-in_default-clause-keyed
-returns-in_default-clause-keyed c = rw (c.seek-cursor.ensures.nodes, c.in_ok-spare.ensures.ok.nodes) (each_sought IsKeyedNode _ _ _ c.requires.keyed)
-
 pub returns-clause-home : goal.returns-clause-home
-returns-clause-home c =
+returns-clause-home g c =
     still_home _ _ c.link_at.ensures.follows _ (still_home _ _ c.seek-cursor.ensures.follows _ (still_home _ _ c.in_ok-spare.ensures.follows _ c.requires.home))
 
 -- A regular node where its key belongs.
@@ -26,13 +19,13 @@ regular_keyed n number at regular =
     at ∙ ap regular_at (sym own)
 
 pub returns-clause-keyed : goal.returns-clause-keyed
-returns-clause-keyed c =
+returns-clause-keyed g c =
     let own = regular_keyed (filled c.fill.new.self) c.args.number (ap (λ (s : SpareAt). s.at) c.fill.ensures ∙ c.regular.ensures.value ∙ ap regular_at c.new-key.ensures) in
     rw (c.link_at.ensures.links.takes.nodes, c.seek-cursor.ensures.nodes, c.in_ok-spare.ensures.ok.nodes)
     (each_linked IsKeyedNode _ _ (filled c.fill.new.self) own (each_sought IsKeyedNode _ _ _ c.requires.keyed))
 
 pub link_at-requires-clause-vacant : goal.link_at-requires-clause-vacant
-link_at-requires-clause-vacant c =
+link_at-requires-clause-vacant g c =
     let here = rw c.in-Ok-None.field-0-is at c.in-Ok-None.ensures.ok in
     let at = ap (λ (s : SpareAt). s.at) c.fill.ensures ∙ c.regular.ensures.value in
     rw (c.pred.ensures, at, ← c.regular-2.ensures.value, ← c.seek-cursor.ensures.at) here.vacant

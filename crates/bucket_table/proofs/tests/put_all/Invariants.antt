@@ -3,4 +3,4 @@ use Rattle.bucket_table.specs.Home.{IsHome}
 use Rattle.bucket_table.proofs.tests.put_all.Given as goal
 
 abbrev pub invariant-loop-number : goal.invariant-loop-number
-invariant-loop-number l = IsHome l.buckets l.list × IsKeyed l.list.nodes
+invariant-loop-number g l = IsHome l.buckets l.list × IsKeyed l.list.nodes

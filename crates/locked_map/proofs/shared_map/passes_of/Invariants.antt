@@ -1,7 +1,12 @@
-use Rattle.std.specs.Prelude.{◌≡◌, ◌+◌, map}
+use Rattle.std.specs.Prelude.{◌≡◌, ◌+◌, length, map}
 use Rattle.std.specs.List.{range_with_len}
+use Rattle.key_words.specs.Seats.{AreSeats}
 use Rattle.locked_map.specs.Tokens.{new_ticket}
 use Rattle.locked_map.proofs.shared_map.passes_of.Given as goal
 
-abbrev pub invariant-loop-number : goal.invariant-loop-number
-invariant-loop-number g l = (l.all.parts + l.number ≡ l.callers) × (l.all.amount ≡ 0) × (l.passes.items ≡ map (new_ticket l.limits) (range_with_len 0 l.number))
+abbrev pub invariant-loop-seat : goal.invariant-loop-seat
+invariant-loop-seat g l = (l.all.parts ≡ length l.seats.items) × (l.all.amount ≡ 0) × AreSeats l.words.value (length l.seats.items) l.seats.items × (length l.seats.items + length l.passes.items ≡ l.limits.callers)
+    × (l.passes.items ≡ map (new_ticket l.limits) (range_with_len (length l.seats.items) (length l.passes.items)))
+
+abbrev pub decreases-loop-seat : goal.decreases-loop-seat
+decreases-loop-seat g l = length l.seats.items

@@ -5,7 +5,7 @@ use Rattle.txn_drive.specs.declared.turn.Turn.{Turn}
 use Rattle.txn_trace.specs.Sizes.{Sizes}
 use Rattle.locked_map.specs.Suits.{IsInStep}
 use Rattle.locked_map.specs.Holds.{TakesTurn, GoesOn}
-use Rattle.locked_map.proofs.Going.{second_sized, no_second}
+use Rattle.locked_map.proofs.Going.{second_sized, second_step, no_second}
 use Rattle.locked_map.proofs.Room.{asked_of, no_room_starts, on_err}
 use Rattle.locked_map.proofs.turns.take_turn.Goals as goal
 
@@ -32,14 +32,14 @@ returns-in-Placed-clause-in_step g c = λ limits number sized ins.
 pub returns-in_default : goal.returns-in_default
 returns-in_default g c =
     record {
-      took = λ yes. subst (λ t. TakesTurn c.args.booked.now.core c.args.seen.now.entries c.args.drive.now t c.take-in-Two.new.booked.core c.take-in-Two.new.seen.entries c.take-in-Two.new.drive) (sym c.in-Two.is)
-          (subst (λ h. TakesTurn c.args.booked.now.core h c.args.drive.now (Turn.Two c.in-Two.first c.in-Two.second) c.take-in-Two.new.booked.core c.take-in-Two.new.seen.entries c.take-in-Two.new.drive) c.reserve-in-Two.ensures.entries (
+      took = λ yes. subst (λ t. TakesTurn c.args.claims.now.tried c.args.booked.now.core c.args.seen.now.entries c.args.drive.now t c.take-in-Two.new.booked.core c.take-in-Two.new.seen.entries c.take-in-Two.new.drive) (sym c.in-Two.is)
+          (subst (λ h. TakesTurn c.args.claims.now.tried c.args.booked.now.core h c.args.drive.now (Turn.Two c.in-Two.first c.in-Two.second) c.take-in-Two.new.booked.core c.take-in-Two.new.seen.entries c.take-in-Two.new.drive) c.reserve-in-Two.ensures.entries (
             c.take-in-Two.result,
             c.take-in-Two.new.booked.core,
             c.take-in-Two.new.seen.entries,
             c.take-in-Two.new.drive,
             c.take-in-Two.ensures.takes,
-            no_second c.take-in-Two.new.booked.core c.take-in-Two.new.seen.entries c.take-in-Two.new.drive c.in-Two.second c.take-in-Two.result c.in_default.not-Placed,
+            no_second c.args.claims.now.tried c.take-in-Two.new.booked.core c.take-in-Two.new.seen.entries c.take-in-Two.new.drive c.in-Two.second c.take-in-Two.result c.in_default.not-Placed,
           ));
       whose = c.take-in-Two.ensures.whose;
       no_room = λ is. absurd (cc is);
@@ -47,3 +47,6 @@ returns-in_default g c =
       goes = λ base goes. c.take-in-Two.ensures.goes base (subst (λ h. GoesOn base h c.args.drive.now) (sym c.reserve-in-Two.ensures.entries) goes);
       starts = λ is. absurd (cc is);
     }
+
+pub take-requires-in-Placed-clause-step : goal.take-requires-in-Placed-clause-step
+take-requires-in-Placed-clause-step g c = second_step c.args.drive.now _ c.take-in-Two.result c.args.turn c.in-Two.first c.in-Two.second c.requires.turn c.in-Two.is c.take-in-Two.ensures.takes.told c.in-Placed.is

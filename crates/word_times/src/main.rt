@@ -1,0 +1,132 @@
+//! Times a take and a give of free stripes by their atomic words.
+//!
+//! Each of so many threads takes a stripe that nobody has, and gives it back, over and over; the
+//! stripes of one thread are no other's. One line on standard error says how long a take and a give
+//! took together, and how many takes were granted. The arguments are how many threads there are, up
+//! to 64, and how many takes each has; without any there are two threads, with few. Nothing is
+//! written on standard output.
+#![tactic(auto)]
+
+ghost use Rattle.std.specs.Prelude.{◌≡◌, ◌<◌, ◌≤◌, All};
+ghost use Rattle.key_words.specs.Seats.{IsOf, stripes_of};
+ghost use Rattle.word_times.specs.Takers.{IsIdle};
+
+use anyhow::{Context, Result, anyhow, ensure};
+use key_words::{KeySeat, KeyWords, Rights, StripeRight, Tried};
+use std::alloc::{AllocError, Global};
+use std::sync::{Arc, Wait};
+use std::thread::Threads;
+use std::time::Instant;
+use std::{env, thread};
+
+/// How many stripes there are.
+const STRIPES: u64 = 4096;
+
+/// From a stripe that a thread takes to its next, for each thread: so that no two lie side by side.
+const STRIDE: u64 = 1021;
+
+/// How many threads there are, and how many takes each has, if no argument says how many.
+const FEW: (u64, u64) = (2, 10_000);
+
+/// A thread's seat at the words. No two of them, side by side in a list, share a line of cache.
+#[derive(Drop)]
+struct Taker {
+    words: Arc<KeyWords, Global>,
+    rights: Rights,
+    first: u64,
+    granted: u64,
+    _apart: [u64; 16],
+    ghost of: { IsOf rights.seat words.value },
+    ghost sized: { stripes_of words.value ≡ 4096 },
+}
+
+impl Taker {
+    /// Takes so many stripes and gives each back, every one `step` after the last, and counts those
+    /// that were free.
+    fn run(&mut self, takes: u64, step: u64) -> std::result::Result<(), AllocError> {
+        let mut stripe = self.first % STRIPES;
+        for _ in 0..takes {
+            if let Tried::Mine(_) = self.rights.take(&self.words, stripe as usize)? {
+                self.granted = self.granted.wrapping_add(1);
+            }
+            self.rights.give_back(&self.words);
+            stripe = stripe.wrapping_add(step) % STRIPES;
+        }
+        Ok(())
+    }
+}
+
+/// Makes a taker of each seat, the last first.
+fn seat_all(
+    alloc: Global,
+    words: &Arc<KeyWords, Global>,
+    seats: &mut Vec<KeySeat>,
+    takers: &mut Vec<Taker>,
+) -> std::result::Result<(), AllocError>
+    requires seats { All (IsIdle words.now.value) seats.old.items }
+    requires stripes { stripes_of words.now.value ≡ 4096 }
+{
+    let Some(seat) = seats.pop() else {
+        return Ok(());
+    };
+    takers.push(Taker {
+        words: Arc::try_clone(words)?,
+        rights: Rights::new(alloc, seat),
+        first: seats.len() as u64,
+        granted: 0,
+        _apart: [0; 16],
+    })?;
+    seat_all(alloc, words, seats, takers)
+}
+
+/// So many takers at the same words.
+fn takers_of(alloc: Global, count: usize) -> Result<Vec<Taker>>
+    requires { (0 < count) × (count ≤ 64) }
+{
+    let rights = StripeRight::all(alloc, STRIPES as usize)?;
+    let Ok((words, mut seats)) = KeyWords::new(alloc, rights, count) else {
+        return Err(anyhow!("no memory"));
+    };
+    let Ok(words) = Arc::new(alloc, words) else {
+        return Err(anyhow!("no memory"));
+    };
+    let mut takers = Vec::new(alloc);
+    seat_all(alloc, &words, &mut seats, &mut takers)?;
+    Ok(takers)
+}
+
+/// Each taker takes so often, in a thread of its own.
+fn run_all<R: Threads + Wait + Sync>(rt: &R, takers: &mut [Taker], takes: u64) {
+    let step = STRIDE.wrapping_mul(takers.len() as u64);
+    thread::scope(thread::scope_env(), rt, |scope| {
+        for taker in takers {
+            let _ = scope.spawn(move || taker.run(takes, step));
+        }
+    });
+}
+
+fn main(rt: HostRuntime) -> Result<()> {
+    let mut words = env::args(&rt)?.skip(1);
+    let threads = match words.next() {
+        Some(text) => text.parse::<u64>().context("the number of threads")?,
+        None => FEW.0,
+    };
+    let takes = match words.next() {
+        Some(text) => text.parse::<u64>().context("the number of takes")?,
+        None => FEW.1,
+    };
+    ensure!(1 <= threads && threads <= 64, "1 to 64 threads");
+    let mut takers = takers_of(rt.alloc(), threads as usize)?;
+    let start = Instant::now(&rt)?;
+    run_all(&rt, takers.as_mut_slice(), takes);
+    let nanos = start.elapsed(&rt)?.as_nanos();
+    let mut granted = 0u64;
+    for taker in &takers {
+        granted = granted.wrapping_add(taker.granted);
+    }
+    let each = nanos / u128::from(takes.max(1));
+    eprintln!(rt;
+        "{threads} threads, {takes} takes each, {each} ns a take and a give, {granted} granted"
+    )?;
+    Ok(())
+}

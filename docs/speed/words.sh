@@ -1,0 +1,24 @@
+#!/usr/bin/env bash
+# Takes and gives back free stripes on 1, 2 and 4 threads, by the atomic words of `key_words` and by a mutex a stripe in plain
+# Rust, and prints the median time of one take and give in nanoseconds, and the ratio. Each take must be granted.
+# Usage: docs/speed/words.sh [TAKES [ROUNDS]]
+source "$(dirname "${BASH_SOURCE[0]}")/common.sh"
+takes=${1:-1000000}
+rounds=${2:-9}
+build_proved word_times 1 1000
+rustc -O -o "$work/plain" docs/speed/words.rs
+
+# The middle of so many runs of a program with so many threads, in nanoseconds.
+nanoseconds() {
+  for _ in $(seq "$rounds"); do
+    "$work/$1" "$2" "$takes" 2>&1
+  done | awk -v all=$(($2 * takes)) '$(NF - 1) != all { exit 1 } { print $6 }' | sort -n | sed -n "$(((rounds + 1) / 2))p"
+}
+
+printf '%8s %8s %8s %7s\n' threads words mutex ratio
+for threads in 1 2 4; do
+  words=$(nanoseconds proved "$threads")
+  mutex=$(nanoseconds plain "$threads")
+  awk -v threads="$threads" -v words="$words" -v mutex="$mutex" 'BEGIN {
+    printf "%8d %8d %8d %7.2f\n", threads, words, mutex, words / mutex }'
+done
