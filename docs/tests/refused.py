@@ -46,6 +46,7 @@ locked_map tests::refused::refused_memory_in_each_call
 locked_map tests::side_rows::side_value_returns
 thread_runs tests::refused::refused_memory_for_crossing_scripts
 boostmap_engine refused_tests::five_callers_undone_is_legal
+boostmap_engine refused_tests::a_cursor_stands_beside_a_refusal
 """
 # Tests that pass whichever one allocation is refused, and that are refused no more.
 ALONE = """

@@ -40,7 +40,7 @@ fn is_ordinary(core: &Core) -> Result<(), Fail>
 }
 
 /// Takes a step on an ordinary core.
-fn stepped(core: &mut Core, step: Step) -> Result<Answer, Fail> {
+fn take_step(core: &mut Core, step: Step) -> Result<Answer, Fail> {
     is_ordinary(core)?;
     Ok(core.step(step))
 }
@@ -63,7 +63,7 @@ enum Call {
     Abort(u64),
 }
 
-fn called(alloc: Global, core: &mut Core, call: Call) -> Result<Answer, Fail> {
+fn make_call(alloc: Global, core: &mut Core, call: Call) -> Result<Answer, Fail> {
     is_ordinary(core)?;
     match call {
         Call::Run(step) => {
@@ -79,14 +79,14 @@ fn called(alloc: Global, core: &mut Core, call: Call) -> Result<Answer, Fail> {
     }
 }
 
-fn plays(
+fn play_calls(
     rt: &impl Abort,
     alloc: Global,
     core: &mut Core,
     lines: &[(Call, Answer)],
 ) -> Result<(), Fail> {
     for (call, wanted) in lines {
-        let answer = called(alloc, core, *call)?;
+        let answer = make_call(alloc, core, *call)?;
         assert_eq!(rt; answer, *wanted, "at {call:?}");
     }
     Ok(())
@@ -112,7 +112,7 @@ fn savepoints(rt: HostRuntime) -> Result<(), Fail> {
         (Call::Get(0, 1), Answer::Done(None)),
         (Call::Run(Step::Commit(0)), Answer::Committed(1)),
     ];
-    plays(&rt, alloc, &mut core, &lines)?;
+    play_calls(&rt, alloc, &mut core, &lines)?;
     assert_eq!(rt; (core.size(), core.count()), (2, 0));
     let wanted = [
         Entry::Began(0, 1),
@@ -170,7 +170,7 @@ fn steps_in_turn(rt: HostRuntime) -> Result<(), Fail> {
         (Step::Sweep, Answer::Clean),
     ];
     for (step, wanted) in lines {
-        assert_eq!(rt; stepped(&mut core, step)?, wanted, "at {step:?}");
+        assert_eq!(rt; take_step(&mut core, step)?, wanted, "at {step:?}");
     }
     let map = core.map(alloc)?;
     assert_eq!(rt; (map.len(), map.get(&3).copied()), (1, Some(30)));
@@ -203,7 +203,7 @@ fn aborts(rt: HostRuntime) -> Result<(), Fail> {
         (Call::Run(Step::Abort(0)), Answer::Leaving),
         (Call::Abort(0), Answer::Aborted),
     ];
-    plays(&rt, alloc, &mut core, &lines)?;
+    play_calls(&rt, alloc, &mut core, &lines)?;
     assert_eq!(rt; core.count(), 0);
     Ok(())
 }
@@ -216,7 +216,7 @@ fn figures(core: &Core) -> (usize, u64, u32, usize) {
 
 /// Takes a step. Where it is refused memory, all is as it was before, and the answer is false. The
 /// pairs are compared where there is memory for their lists.
-fn took(
+fn try_step(
     rt: &impl Abort,
     alloc: Global,
     core: &mut Core,
@@ -225,7 +225,7 @@ fn took(
 ) -> Result<bool, Fail> {
     let pairs = core.regular_list(alloc);
     let before = figures(core);
-    let answer = stepped(core, step)?;
+    let answer = take_step(core, step)?;
     if answer != Answer::Refused(Refusal::NoMemory) {
         assert_eq!(rt; answer, wanted, "at {step:?}");
         return Ok(true);
@@ -240,7 +240,7 @@ fn took(
 
 /// Aborts the callers below a number, each of which may not have begun, and looks that nothing is
 /// left. No memory is wanted.
-fn aborts_all(rt: &impl Abort, core: &mut Core, callers: u64) {
+fn abort_all(rt: &impl Abort, core: &mut Core, callers: u64) {
     for caller in 0..callers {
         let answer = core.abort(caller);
         assert!(rt; answer == Answer::Aborted || answer == Answer::Refused(Refusal::NotOpen));
@@ -249,7 +249,7 @@ fn aborts_all(rt: &impl Abort, core: &mut Core, callers: u64) {
 }
 
 /// A caller does an operation, or is refused memory.
-fn did(
+fn try_op(
     rt: &impl Abort,
     alloc: Global,
     core: &mut Core,
@@ -258,29 +258,29 @@ fn did(
     reply: Option<u64>,
 ) -> Result<bool, Fail> {
     Ok(
-        took(rt, alloc, core, Step::Ask(caller, op), Answer::Asked)?
-            && took(rt, alloc, core, Step::Seek(caller), Answer::Placed)?
-            && took(rt, alloc, core, Step::Act(caller), Answer::Done(reply))?,
+        try_step(rt, alloc, core, Step::Ask(caller, op), Answer::Asked)?
+            && try_step(rt, alloc, core, Step::Seek(caller), Answer::Placed)?
+            && try_step(rt, alloc, core, Step::Act(caller), Answer::Done(reply))?,
     )
 }
 
 /// Five callers begin and change a key each three times; false where memory is refused.
-fn five_changed(rt: &impl Abort, alloc: Global, core: &mut Core) -> Result<bool, Fail> {
+fn change_five(rt: &impl Abort, alloc: Global, core: &mut Core) -> Result<bool, Fail> {
     for caller in 0..5 {
-        if !took(
+        if !try_step(
             rt,
             alloc,
             core,
             Step::Begin(caller),
             Answer::Began(caller + 1),
-        )? || !did(rt, alloc, core, caller, Op::Put(caller + 1, 10), None)?
+        )? || !try_op(rt, alloc, core, caller, Op::Put(caller + 1, 10), None)?
         {
             return Ok(false);
         }
     }
     for caller in 0..5 {
-        if !did(rt, alloc, core, caller, Op::Put(caller + 1, 20), Some(10))?
-            || !did(rt, alloc, core, caller, Op::Take(caller + 1), Some(20))?
+        if !try_op(rt, alloc, core, caller, Op::Put(caller + 1, 20), Some(10))?
+            || !try_op(rt, alloc, core, caller, Op::Take(caller + 1), Some(20))?
         {
             return Ok(false);
         }
@@ -290,7 +290,7 @@ fn five_changed(rt: &impl Abort, alloc: Global, core: &mut Core) -> Result<bool,
 
 /// Each caller takes its newest change back, after which each key has this value. The pairs are
 /// compared where there is memory for their list, and else counted.
-fn five_undone(rt: &impl Abort, alloc: Global, core: &mut Core, left: Option<u64>) {
+fn undo_five(rt: &impl Abort, alloc: Global, core: &mut Core, left: Option<u64>) {
     for caller in 0..5 {
         assert_eq!(rt; core.step(Step::Seek(caller)), Answer::Placed);
         assert_eq!(rt; core.step(Step::Act(caller)), Answer::Undone);
@@ -310,38 +310,39 @@ fn five_callers_undone(rt: HostRuntime) -> Result<(), Fail> {
     let Some(mut core) = core_if_made(alloc, Limits::new(5, 8, 8)?) else {
         return Ok(());
     };
-    if five_changed(&rt, alloc, &mut core)? {
+    if change_five(&rt, alloc, &mut core)? {
         assert_eq!(rt; core.owed(), 25);
         for caller in 0..5 {
             assert_eq!(rt; core.step(Step::Abort(caller)), Answer::Leaving);
         }
         assert_eq!(rt; core.owed(), 20);
-        five_undone(&rt, alloc, &mut core, Some(20));
-        five_undone(&rt, alloc, &mut core, Some(10));
-        five_undone(&rt, alloc, &mut core, None);
+        undo_five(&rt, alloc, &mut core, Some(20));
+        undo_five(&rt, alloc, &mut core, Some(10));
+        undo_five(&rt, alloc, &mut core, None);
         for caller in 0..5 {
             assert_eq!(rt; core.step(Step::Act(caller)), Answer::Aborted);
         }
     }
-    aborts_all(&rt, &mut core, 5);
+    abort_all(&rt, &mut core, 5);
     assert_eq!(rt; core.size(), 2);
     Ok(())
 }
 
-/// Takes a step, and takes it once more where it is refused memory; false where it is refused again.
-fn takes(
+/// Takes a step, and takes it once more where it is refused memory; false where it is refused
+/// again.
+fn try_step_twice(
     rt: &impl Abort,
     alloc: Global,
     core: &mut Core,
     step: Step,
     wanted: Answer,
 ) -> Result<bool, Fail> {
-    Ok(took(rt, alloc, core, step, wanted)? || took(rt, alloc, core, step, wanted)?)
+    Ok(try_step(rt, alloc, core, step, wanted)? || try_step(rt, alloc, core, step, wanted)?)
 }
 
 /// Caller 0 puts 129 keys; false where a step is refused memory twice.
-fn many_put(rt: &impl Abort, alloc: Global, core: &mut Core) -> Result<bool, Fail> {
-    let mut is_done = takes(rt, alloc, core, Step::Begin(0), Answer::Began(1))?;
+fn put_many(rt: &impl Abort, alloc: Global, core: &mut Core) -> Result<bool, Fail> {
+    let mut is_done = try_step_twice(rt, alloc, core, Step::Begin(0), Answer::Began(1))?;
     for key in 0..129 {
         let lines = [
             (Step::Ask(0, Op::Put(key, key)), Answer::Asked),
@@ -349,7 +350,7 @@ fn many_put(rt: &impl Abort, alloc: Global, core: &mut Core) -> Result<bool, Fai
             (Step::Act(0), Answer::Done(None)),
         ];
         for (step, wanted) in lines {
-            is_done = is_done && takes(rt, alloc, core, step, wanted)?;
+            is_done = is_done && try_step_twice(rt, alloc, core, step, wanted)?;
         }
     }
     Ok(is_done)
@@ -375,7 +376,7 @@ fn second_segment(rt: &impl Abort, alloc: Global, core: &mut Core) -> Result<boo
     ];
     let mut is_done = true;
     for (step, wanted) in lines {
-        is_done = is_done && takes(rt, alloc, core, step, wanted)?;
+        is_done = is_done && try_step_twice(rt, alloc, core, step, wanted)?;
     }
     Ok(is_done)
 }
@@ -389,11 +390,11 @@ fn segments(rt: HostRuntime) -> Result<(), Fail> {
     let Some(mut core) = core_if_made(alloc, Limits::new(1, 8, 128)?) else {
         return Ok(());
     };
-    if many_put(&rt, alloc, &mut core)? && second_segment(&rt, alloc, &mut core)? {
+    if put_many(&rt, alloc, &mut core)? && second_segment(&rt, alloc, &mut core)? {
         assert_eq!(rt; core.step(Step::Commit(0)), Answer::Committed(1));
         assert_eq!(rt; (core.size(), core.count()), (128, 129));
     } else {
-        aborts_all(&rt, &mut core, 1);
+        abort_all(&rt, &mut core, 1);
     }
     Ok(())
 }
@@ -445,7 +446,7 @@ fn owed_entries(rt: HostRuntime) -> Result<(), Fail> {
         (Step::Act(1), 0),
     ];
     for (step, owed) in lines {
-        stepped(&mut core, step)?;
+        take_step(&mut core, step)?;
         assert_eq!(rt; core.owed(), owed, "after {step:?}");
     }
     Ok(())
@@ -480,7 +481,7 @@ fn sweeps_and_cursors(rt: HostRuntime) -> Result<(), Fail> {
         (Call::Put(1, 12, 120), Answer::Done(None)),
         (Call::Run(Step::InitLink(0)), Answer::Linked),
     ];
-    plays(&rt, alloc, &mut core, &lines)?;
+    play_calls(&rt, alloc, &mut core, &lines)?;
     let pairs = core.regular_list(alloc)?;
     let wanted = [(8, 80), (4, 40), (12, 120), (2, 21)];
     assert_eq!(rt; pairs.as_slice(), wanted.as_slice());
@@ -521,15 +522,15 @@ fn wide_pairs() -> [(u64, u64); 4] {
 fn keys_of_64_bits(rt: HostRuntime) -> Result<(), Fail> {
     let alloc = rt.alloc();
     let mut core = core_of(alloc, 1)?;
-    plays(
+    play_calls(
         &rt,
         alloc,
         &mut core,
         &[(Call::Run(Step::Begin(0)), Answer::Began(1))],
     )?;
-    plays(&rt, alloc, &mut core, &puts_of_wide_keys())?;
+    play_calls(&rt, alloc, &mut core, &puts_of_wide_keys())?;
     let commit = [(Call::Run(Step::Commit(0)), Answer::Committed(1))];
-    plays(&rt, alloc, &mut core, &commit)?;
+    play_calls(&rt, alloc, &mut core, &commit)?;
     assert_eq!(rt; (core.size(), core.count()), (2, 4));
     let pairs = core.regular_list(alloc)?;
     assert_eq!(rt; pairs.as_slice(), wide_pairs().as_slice());
@@ -541,7 +542,7 @@ fn keys_of_64_bits(rt: HostRuntime) -> Result<(), Fail> {
 fn wide_keys_aborted(rt: HostRuntime) -> Result<(), Fail> {
     let alloc = rt.alloc();
     let mut core = core_of(alloc, 1)?;
-    plays(
+    play_calls(
         &rt,
         alloc,
         &mut core,
@@ -553,7 +554,7 @@ fn wide_keys_aborted(rt: HostRuntime) -> Result<(), Fail> {
             Call::PutIf(_, key, expected, value) => Op::PutIf(key, expected, value),
             _ => return Err("no put".into()),
         };
-        assert_eq!(rt; stepped(&mut core, Step::Ask(0, op))?, Answer::Asked);
+        assert_eq!(rt; take_step(&mut core, Step::Ask(0, op))?, Answer::Asked);
         assert_eq!(rt; core.step(Step::Seek(0)), Answer::Placed);
         assert_eq!(rt; core.step(Step::Act(0)), wanted);
     }
@@ -592,7 +593,7 @@ fn half_keys(rt: HostRuntime) -> Result<(), Fail> {
             Answer::Done(Some(2)),
         ),
     ];
-    plays(&rt, alloc, &mut core, &lines)?;
+    play_calls(&rt, alloc, &mut core, &lines)?;
     let helped = core.help(0, 9_223_372_036_854_775_808);
     assert_eq!(rt; helped, Err(Refusal::BadKey));
     Ok(())

@@ -25,14 +25,15 @@ pub record IsThreaded (work : Work) (text : List ℕ) : Type 0 where
 abbrev pub IsThreadedOf : List ℕ → List ℕ → Type 0
 IsThreadedOf bytes text = (work : Work) × (scripts_of bytes ≡ Ok work) × IsThreaded work text
 
--- Why bytes have no such text: as they have none that is mixed, or for want of a thread, or since a
--- worker fell out of step.
+-- Why bytes have no such text: as they have none that is mixed, or for want of a thread, or since
+-- the history is not what the workers saw.
 abbrev pub HasNoneThreaded : List ℕ → Fault → Type 0
 HasNoneThreaded bytes faults.NoThread = Unit {0}
 HasNoneThreaded bytes faults.OutOfStep = Unit {0}
 HasNoneThreaded bytes fault = HasNone IsNoScriptFile bytes fault
 
--- What was written at a fault: nothing where a thread was wanting or a worker fell out of step.
+-- What was written at a fault: nothing for want of a thread, or where the history is not what the
+-- workers saw.
 abbrev pub LeavesThreaded : Option (List ℕ) → Option (List ℕ) → Option (List ℕ) → Fault → Type 0
 LeavesThreaded remaining old new faults.NoThread = Keeps old new
 LeavesThreaded remaining old new faults.OutOfStep = Keeps old new

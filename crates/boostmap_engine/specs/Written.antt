@@ -9,7 +9,7 @@ use Rattle.boostmap_engine.specs.declared.fault.Fault.TheVariants as faults
 abbrev pub max_read : ℕ
 max_read = 16777217
 
--- The bytes that a reader had left, or as many of them as show that there are too many.
+-- The bytes that a reader had left, or the first of them, one more than a file may have.
 abbrev pub IsRead : Option (List ℕ) → List ℕ → Type 0
 IsRead remaining bytes = IfSome remaining (λ all. bytes ≡ take max_read all)
 

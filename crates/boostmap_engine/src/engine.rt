@@ -81,9 +81,9 @@ pub fn check<R: Read, W: Write>(alloc: Global, input: &mut R, output: &mut W) ->
 /// the seed says, and writes the history as one line of compact JSON, which ends with a line feed,
 /// and nothing else.
 ///
-/// Before each turn the next word of the generator `Pcg32` of this seed, modulo the number of
-/// workers that still have a step to take, names the place of the worker, of those in rising order,
-/// that takes its next turn, also where there is only one. So the same seed gives the same bytes.
+/// Before each turn the generator `Pcg32` of this seed gives its next word, also where only one
+/// worker still has a step to take. Modulo the number of such workers, this word is the place, from
+/// 0 in rising order, of the one that takes its next turn. So the same seed gives the same bytes.
 ///
 /// At most 16,777,217 bytes are read, and no call of the reader or the writer is made again after
 /// it failed. Costs what the steps cost and a look at each worker for each turn, and time and
@@ -116,8 +116,8 @@ pub fn mix<R: Read, W: Write>(
 
 /// Reads a script file to its end, runs its scripts on one map, each worker in a thread of its own,
 /// and writes the history as one line of compact JSON, which ends with a line feed, and nothing
-/// else. The order between workers is open, so that two runs of a file may differ; that the history
-/// is legal is not.
+/// else. The order between workers is open, so two runs of a file may write different histories;
+/// each is legal.
 ///
 /// At most 16,777,217 bytes are read, and no call of the reader or the writer is made again after
 /// it failed. Costs what the calls cost, and time and memory in proportion to the file and the

@@ -41,7 +41,7 @@ pub enum Fault {
     Read,
     /// A write failed, or took nothing of the bytes that there were.
     Write,
-    /// A core answered what the state of a caller excludes.
+    /// The history of a run in threads is not what its workers saw.
     OutOfStep,
 }
 

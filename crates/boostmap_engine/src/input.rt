@@ -22,8 +22,8 @@ fn zeros(alloc: Global, count: usize) -> Result<Vec<u8>, AllocError>
     vec![in alloc; 0u8; count]
 }
 
-/// Reads to the end, or as far as shows that there is too much: at most 16,777,217 bytes. Costs
-/// time and memory in proportion to the bytes.
+/// Reads to the end, or at most one byte more than a file may have. Costs time and memory in
+/// proportion to the bytes.
 ///
 /// # Errors
 ///

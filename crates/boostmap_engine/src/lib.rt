@@ -14,9 +14,8 @@
 //! a failed read, and want of memory (outside a step) or of a thread leave nothing written; a
 //! failed write leaves a proper beginning of the text (`specs/Written.antt`).
 //!
-//! No read and no write is tried again. The whole text is made before the first byte is written, so
-//! memory is needed for what the file holds and the text at once, and but for `replay` for the file
-//! too.
+//! No read and no write is tried again. Memory is needed for the file and what it holds at once.
+//! Then the file is given back, and the whole text is made before its first byte is written.
 #![tactic(auto)]
 
 mod engine;

@@ -325,7 +325,7 @@ fn compare_pairs(rt: &impl Abort, alloc: Global, core: &Core, entries: &[Entry])
     assert_eq!(rt; found.next(), None);
 }
 
-/// Takes a step of the onlooker; none where memory is refused.
+/// Takes a step; none where memory is refused.
 fn answer_if_given(rt: &impl Abort, core: &mut Core, step: Step) -> Option<Answer> {
     for _ in 0..TRIES {
         let answer = take(rt, core, step);
@@ -451,5 +451,41 @@ fn five_callers_undone_is_legal(rt: HostRuntime) -> Result<(), Fail> {
     }
     compare(&rt, alloc, &mut core, &ENTRIES);
     judge(&rt, alloc, &core);
+    Ok(())
+}
+
+/// Has a caller begin, ask for an operation and seek; none where memory is refused.
+fn placed_if_given(rt: &impl Abort, core: &mut Core, caller: u64, op: Op) -> Option<Answer> {
+    let began = answer_if_given(rt, core, Step::Begin(caller))?;
+    assert!(rt; matches!(began, Answer::Began(_)));
+    let asked = answer_if_given(rt, core, Step::Ask(caller, op))?;
+    assert_eq!(rt; asked, Answer::Asked);
+    Some(take(rt, core, Step::Seek(caller)))
+}
+
+/// Is to be run with allocations refused, as the test above. A caller has sought the place of its
+/// put when another caller's step is refused memory: its cursor stands, since it acts by it and
+/// need not seek again.
+#[test]
+fn a_cursor_stands_beside_a_refusal(rt: HostRuntime) -> Result<(), Fail> {
+    let alloc = rt.alloc();
+    let Some(mut core) = core_if_made(alloc, Limits::new(2, 8, 8)?) else {
+        assert!(rt; is_refused(alloc));
+        return Ok(());
+    };
+    for step in [Step::Begin(1), Step::Ask(1, Op::Put(2, 20))] {
+        let Some(placed) = placed_if_given(&rt, &mut core, 0, Op::Put(1, 10)) else {
+            assert!(rt; is_refused(alloc));
+            assert!(rt; matches!(core.abort(0), Answer::Aborted | Answer::Refused(_)));
+            continue;
+        };
+        assert_eq!(rt; placed, Answer::Placed);
+        let length = core.trace().len();
+        if take(&rt, &mut core, step) == NO_MEMORY {
+            assert_eq!(rt; core.trace().len(), length);
+        }
+        assert_eq!(rt; take(&rt, &mut core, Step::Act(0)), Answer::Done(None));
+        assert_eq!(rt; core.abort(0), Answer::Aborted);
+    }
     Ok(())
 }

@@ -4,7 +4,7 @@ use crate::replay;
 use std::process::Abort;
 use std::test::Fail;
 
-/// What a step file has, and what its report says to it. A name in a step stands between single
+/// Steps of a file, and what the report says to them. A name in a step stands between single
 /// quotes.
 #[derive(Clone, Copy)]
 enum Line {

@@ -165,7 +165,7 @@ fn run_of_failing_writes(rt: HostRuntime) {
 }
 
 /// Is to be run with each allocation refused in turn: nothing is written, or the whole history of a
-/// worker whose script was refused memory, or was not.
+/// worker, whether its script was refused memory or not.
 #[test]
 fn run_without_memory(rt: HostRuntime) {
     let mut input = EMPTY_SCRIPT.as_bytes();

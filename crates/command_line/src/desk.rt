@@ -10,7 +10,7 @@ pub struct Desk<'a> {
     pub words: &'a str,
     /// The files: names and bytes.
     pub files: &'a [(&'a str, &'a [u8])],
-    /// What fails in the stead of the words, where anything does.
+    /// What asking for the words fails with, where it does.
     pub words_fail: Option<ErrorKind>,
     /// What opening a file fails with, where it does.
     pub open_fails: Option<ErrorKind>,

@@ -33,7 +33,7 @@ impl Rights {
         }
     }
 
-    /// The place of the stripe's right.
+    /// The place of the stripe's right, if the seat has it.
     fn place(&self, stripe: usize) -> Option<usize>
         ensures some { IfSome result (λ place.
             slice_get self.now.rights.items place ≡ Some stripe) }

@@ -36,8 +36,8 @@ enum Turn {
     GiveBack,
 }
 
-/// A stripe that the caller has is its own at its right's place, a free one at the next place, and
-/// one of the other caller is the other's, by one more than its number.
+/// A take answers the place of the right where the caller has the stripe, the next place where the
+/// stripe is free, and one more than the other caller's number where that one has it.
 #[test]
 fn rights_of_two_callers(rt: HostRuntime) -> Result<(), Fail> {
     let rights = StripeRight::all(rt.alloc(), 8)?;
@@ -71,8 +71,8 @@ fn rights_of_two_callers(rt: HostRuntime) -> Result<(), Fail> {
     Ok(())
 }
 
-/// Plays a turn over eight stripes. Whether a take answers what it is to, and a right at the place
-/// is the stripe's.
+/// Plays a turn over eight stripes. The answer is whether a take answered what it is to, and the
+/// right at its place is the stripe's.
 fn is_answered(words: &KeyWords, rights: &mut Rights, turn: Turn) -> Result<bool, AllocError>
     requires seat { IsOf rights.old.seat words.now }
     requires stripes { stripes_of words.now ≡ 8 }

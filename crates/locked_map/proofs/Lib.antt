@@ -1,7 +1,6 @@
 pub mod Noting
 pub mod Claiming
 pub mod Passing
-pub mod Running
 pub mod Phases
 pub mod Starting
 pub mod Working

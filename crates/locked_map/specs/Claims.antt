@@ -74,8 +74,8 @@ HasTriedStep tried stripes step = Unit {0}
 abbrev pub claim_by : State → ℕ → Trial → Claim
 claim_by m c trial = if trial.word == 0 then Right else claim_of m c (trial.word - 1)
 
--- By what a step claims its stripe: an operation that is asked for by the last trial, and any other
--- step by none.
+-- By what a step claims its stripe: an operation by the last trial, any other step by no right and
+-- no word.
 abbrev pub claim_in : Option Trial → State → Step → Claim
 claim_in None m step = Lock
 claim_in (Some trial) m (Ask c op) = claim_by m c trial

@@ -33,7 +33,7 @@ IsWhy limits ks (Missing map callers) = IsAllHere limits.callers ks → ⊥
 IsWhy limits ks (Differs core callers) =
     (core.limits ≡ limits) × All (λ k. IsOwn core.history k) ks → ⊥
 
--- What holds beside: the map that is handed back has its limits; no caller is missing.
+-- What else holds: a map that is handed back has its limits; where a core is, no caller is missing.
 abbrev pub IsBeside : {L S J : Type 0} → Sizes → List (Token S) → Unclosed L S J → Type 0
 IsBeside limits ks (Missing map callers) = map.limits ≡ limits
 IsBeside limits ks (Differs core callers) = IsAllHere limits.callers ks

@@ -32,7 +32,7 @@ pub data How : Type 0 where
   HadNoRoom : How
   TookTurn : How
 
--- Whether a call that has ended so may not end so.
+-- Whether a call has ended, and in a way that it may not.
 abbrev pub odd_if : Call → Option End → Bool
 odd_if call None = false
 odd_if call (Some outcome) = is_odd call outcome

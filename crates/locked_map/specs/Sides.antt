@@ -14,14 +14,14 @@ pub record IsSameSide {S : Type 0} (a b : Leveled S) : Type 0 where
   pub changes : b.changes ≡ a.changes
   pub kept : b.kept ≡ a.kept
 
--- The value is as it was, level 0 is here, and no change can be taken back.
+-- The value is as it was, and is level 0 and the only level; no change can be taken back.
 pub record IsSettled {S : Type 0} (words : S → List ℕ) (a b : Leveled S) : Type 0 where
   pub value : b.value ≡ a.value
   pub levels : b.levels ≡ words a.value ∷ []
   pub changes : b.changes ≡ 0
   pub kept : b.kept ≡ 0 ∷ []
 
--- The value is as it was, and there is one level more, which is here and keeps all changes.
+-- The value is as it was, and is one level more, which keeps all changes.
 pub record HasLevel {S : Type 0} (words : S → List ℕ) (a b : Leveled S) : Type 0 where
   pub value : b.value ≡ a.value
   pub levels : b.levels ≡ a.levels ++ words a.value ∷ []

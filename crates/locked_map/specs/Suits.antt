@@ -36,7 +36,7 @@ abbrev pub is_help : Call → Bool
 is_help (calls.Help key) = true
 is_help call = false
 
--- With which refusals a call may end that its token lets pass.
+-- With which refusals a call may end once its token has let it pass.
 abbrev pub may_refuse : Call → Refusal → Bool
 may_refuse calls.Begin NoMemory = true
 may_refuse (calls.Op op) NoMemory = true
@@ -66,7 +66,7 @@ undone_of (Seeking work again) = undone_in work
 undone_of (Acting work again) = undone_in work
 undone_of phase = 0
 
--- The size that a drive was told before a doubling.
+-- A drive that doubles was told this size.
 abbrev pub IsSized : ℕ → Phase → Type 0
 IsSized size (Doubling seen) = seen ≡ size
 IsSized size phase = Unit {0}

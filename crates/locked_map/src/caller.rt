@@ -131,17 +131,18 @@ impl<L: Ledger, S: Side> Caller<L, S> {
     ///
     /// The core takes the steps of the turn and no other, and `seen` gains their entries and no
     /// other. An operation is asked for by the word that was tried last: so before its first turn
-    /// comes `try_word`. Side value and rights stay: a shared call returns the one and gives back
-    /// the others once its drive has ended.
+    /// comes `try_word`. Side value and rights stay as they are: a shared call takes the one back,
+    /// and gives back the others, once its drive has ended.
     ///
     /// # Errors
     ///
     /// The end is `Refused` with
-    /// - `OutOfStep` where the token is broken, and then nothing is done; where the core has not as
-    ///   many stripes as the map's words, and then nothing is done, but the token is broken; and
-    ///   where the core answers what the token's state excludes, or the token would have refused
-    ///   the call, as `help` of a bad key, which breaks it;
-    /// - `NoMemory` where room in `seen` is refused, and then no step is taken.
+    /// - `OutOfStep` where the token is broken: nothing is done;
+    /// - `OutOfStep` where the core has not as many stripes as the map has words: no step is taken,
+    ///   and the token breaks;
+    /// - `NoMemory` where room in `seen` is refused: no step is taken;
+    /// - `OutOfStep` where the core answers what the token's state excludes, or where the token
+    ///   would have refused the call, as `help` of a bad key: the token breaks.
     ///
     /// Core and token that are in step stay so, and then `OutOfStep` is not answered.
     ///
@@ -201,7 +202,7 @@ impl<L: Ledger, S: Side> Caller<L, S> {
     }
 
     /// Tries the word of the stripe of an operation's key, outside the lock, unless the token has
-    /// the stripe's right. A shared call does so by itself; it is for who calls `hold`.
+    /// the stripe's right. A shared call does so by itself: this is for those who call `hold`.
     ///
     /// Where the word was free the token has the right now, and keeps it until its transaction has
     /// committed or aborted. Else the word is kept, and the operation is asked for by it.
@@ -228,8 +229,8 @@ impl<L: Ledger, S: Side> Caller<L, S> {
         }
     }
 
-    /// Makes the caller ready for a call: an operation wants its word tried, a save room for a
-    /// level of the side value, which it may ask at its end, and a return the level.
+    /// Makes the caller ready for a call: tries the word of an operation, makes room for the level
+    /// that a save adds to the side value, and sees that the level of a return is there.
     ///
     /// # Errors
     ///
@@ -261,8 +262,8 @@ impl<L: Ledger, S: Side> Caller<L, S> {
         }
     }
 
-    /// Makes of the side value what the end of a call asks, and gives all rights back where it has
-    /// ended the transaction.
+    /// Does to the side value what the end of a call asks, and gives all rights back where the call
+    /// has ended its transaction.
     pub(crate) fn follow(&mut self, end: End)
         requires { CanFollow end self.old.side }
         ensures same { IsSameSeen self.old self.new }

@@ -10,8 +10,8 @@
 //! - `side`: what it has then made of the side value;
 //! - `rights`: which rights to stripes it has then: an operation may take the right to the stripe
 //!   of its key, and the end of the transaction gives all back;
-//! - `leaves`: that its token let it pass, or why it did not do it and what it leaves then; and
-//!   that after `OutOfStep` every call answers that and nothing changes any more (`Leaves` in
+//! - `leaves`: that the token let it pass, or why it was not done and what is left then; and that
+//!   after `OutOfStep` every call answers that and nothing changes any more (`Leaves` in
 //!   `specs/Calls.antt`).
 ghost use Rattle.std.specs.Prelude.{◌≡◌, ◌↔◌, ℕ, ◌+◌, [], ◌∷◌, ◌++◌, None, Some, true, false, Err, IfOk, IfErr, OnOk};
 ghost use Rattle.txn_trace.specs.declared.entry.Entry.TheVariants as entries;
@@ -34,8 +34,8 @@ use txn_trace::{Answer, Op, Refusal, Reply};
 use undo_log::{Side, SideJob};
 
 impl<L: Ledger> SharedMap<L> {
-    /// Begins a transaction, and answers its number. Level 0 of the side value is then here: what
-    /// was changed before is not taken back by a later abort.
+    /// Begins a transaction, and answers its number. The side value as it is then is its level 0:
+    /// a later abort takes back nothing that was changed before.
     ///
     /// # Errors
     ///
@@ -69,9 +69,9 @@ impl<L: Ledger> SharedMap<L> {
     ///   - `NotOpen`, `Leaving`, `OperationUnfinished` and `BadKey` (a key of 2^63 or more,
     ///     where the limits have half keys), the first that holds.
     ///   - Then `NoMemory` where room for one right more was refused, before any word is tried, or
-    ///     a growth was, `StampsUsedUp` where none is left, `StaleWord` where by the core's record
-    ///     the word of the key's stripe does not say who holds it, and `OutOfStep`, which breaks
-    ///     the token.
+    ///     another growth was; `StampsUsedUp` where no stamp is left; `StaleWord` where by the
+    ///     core's record the word of the key's stripe does not say who holds it; and `OutOfStep`,
+    ///     which breaks the token.
     /// - `Busy` where the word of the key's stripe names another caller: the transaction is
     ///   aborted, with all its changes taken back and all its rights given back, and the side value
     ///   has the words that it had when the transaction began.
@@ -107,9 +107,9 @@ impl<L: Ledger> SharedMap<L> {
     ///   - `NotOpen`, `Leaving`, `OperationUnfinished` and `BadKey` (a key of 2^63 or more,
     ///     where the limits have half keys), the first that holds.
     ///   - Then `NoMemory` where room for one right more was refused, before any word is tried, or
-    ///     a growth was, `StampsUsedUp` where none is left, `StaleWord` where by the core's record
-    ///     the word of the key's stripe does not say who holds it, and `OutOfStep`, which breaks
-    ///     the token.
+    ///     another growth was; `StampsUsedUp` where no stamp is left; `StaleWord` where by the
+    ///     core's record the word of the key's stripe does not say who holds it; and `OutOfStep`,
+    ///     which breaks the token.
     /// - `Busy` where the word of the key's stripe names another caller: the transaction is
     ///   aborted, with all its changes taken back and all its rights given back, and the side value
     ///   has the words that it had when the transaction began.
@@ -144,9 +144,9 @@ impl<L: Ledger> SharedMap<L> {
     ///   - `NotOpen`, `Leaving`, `OperationUnfinished` and `BadKey` (a key of 2^63 or more, where
     ///     the limits have half keys), the first that holds.
     ///   - Then `NoMemory` where room for one right more was refused, before any word is tried, or
-    ///     a growth was, `StampsUsedUp` where none is left, `StaleWord` where by the core's record
-    ///     the word of the key's stripe does not say who holds it, and `OutOfStep`, which breaks
-    ///     the token.
+    ///     another growth was; `StampsUsedUp` where no stamp is left; `StaleWord` where by the
+    ///     core's record the word of the key's stripe does not say who holds it; and `OutOfStep`,
+    ///     which breaks the token.
     /// - `Busy` where the word of the key's stripe names another caller: the transaction is
     ///   aborted, with all its changes taken back and all its rights given back, and the side value
     ///   has the words that it had when the transaction began.
@@ -185,9 +185,9 @@ impl<L: Ledger> SharedMap<L> {
     ///   - `NotOpen`, `Leaving`, `OperationUnfinished` and `BadKey` (a key of 2^63 or more,
     ///     where the limits have half keys), the first that holds.
     ///   - Then `NoMemory` where room for one right more was refused, before any word is tried, or
-    ///     a growth was, `StampsUsedUp` where none is left, `StaleWord` where by the core's record
-    ///     the word of the key's stripe does not say who holds it, and `OutOfStep`, which breaks
-    ///     the token.
+    ///     another growth was; `StampsUsedUp` where no stamp is left; `StaleWord` where by the
+    ///     core's record the word of the key's stripe does not say who holds it; and `OutOfStep`,
+    ///     which breaks the token.
     /// - `Busy` where the word of the key's stripe names another caller: the transaction is
     ///   aborted, with all its changes taken back and all its rights given back, and the side value
     ///   has the words that it had when the transaction began.
@@ -212,7 +212,7 @@ impl<L: Ledger> SharedMap<L> {
         self.operate(rt, me, Op::Get(key))
     }
 
-    /// Sets a savepoint, and answers its number. The side value has a level more, which is here.
+    /// Sets a savepoint, and answers its number. The side value as it is then is one level more.
     ///
     /// # Errors
     ///
@@ -271,8 +271,8 @@ impl<L: Ledger> SharedMap<L> {
         }
     }
 
-    /// Commits the transaction, and answers its number and its place in the commit order. Level 0
-    /// of the side value is then here. All rights are given back, outside the lock.
+    /// Commits the transaction, and answers its number and its place in the commit order. The side
+    /// value as it is then is its level 0. All rights are given back, outside the lock.
     ///
     /// # Errors
     ///
@@ -337,7 +337,7 @@ impl<L: Ledger> SharedMap<L> {
     /// stay so:
     /// - `OutOfStep` of a token that is broken.
     /// - `BadKey` of a key of 2^63 or more, where the limits have half keys.
-    /// - Then `NoMemory` where a growth was refused, `StampsUsedUp` where none is left, and
+    /// - Then `NoMemory` where a growth was refused, `StampsUsedUp` where no stamp is left, and
     ///   `OutOfStep`, which breaks the token.
     ///
     /// # Cost

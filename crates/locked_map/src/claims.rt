@@ -76,8 +76,8 @@ impl Claims {
         Ok(())
     }
 
-    /// Takes a step of the caller on a core: one that asks for an operation by the right, or by the
-    /// word that was found.
+    /// Takes a step of the caller on a core. An operation is asked for by the right, or by the word
+    /// that was found.
     pub(crate) fn step(&self, core: &mut Core, step: Step) -> Answer
         requires words { core.old.words ≡ true }
         requires stripes { core.old.limits.stripes ≡ self.now.stripes }

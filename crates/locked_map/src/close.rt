@@ -20,17 +20,17 @@ impl<L: Ledger> SharedMap<L> {
     /// Takes the core out, once the callers of all numbers are back, and compares its history with
     /// what they saw.
     ///
-    /// With `Ok` the core has the map's limits, the history is legal, where a Busy may name any
-    /// caller that has begun a transaction, each caller's own entries in it are just those that it
-    /// saw, and it has no other entries. The callers come back as they were, in their order, with
-    /// each answer.
+    /// With `Ok` the core has the map's limits, and its history is legal, where a Busy may name any
+    /// other caller that has begun a transaction; each caller's own entries in it are just those
+    /// that the caller saw, and there are no others. With each answer the callers come back as they
+    /// were, in their order.
     ///
     /// # Errors
     ///
     /// - `Missing` exactly where a number is missing or was handed in twice.
     /// - Then `Differs` exactly where the core has other limits, or some caller's entries in the
-    ///   history are not those that it saw. The history has as many entries as all callers saw, all
-    ///   the same.
+    ///   history are not those that it saw. Even then the history has as many entries as all
+    ///   callers saw.
     ///
     /// # Cost
     ///
@@ -57,7 +57,7 @@ impl<L: Ledger> SharedMap<L> {
         let same = is_seen(&booked.core, limits, callers.as_slice());
         let _legal = booked.core.trace();
         let mut callers = callers;
-        let core = counted(booked, callers.as_mut_slice());
+        let core = core_of(booked, callers.as_mut_slice());
         if same {
             Ok(Closed { core, callers })
         } else {
@@ -132,7 +132,7 @@ fn is_same(one: &Entry, other: &Entry) -> bool
 }
 
 /// The core of a map whose callers are all there. Its history has as many entries as they saw.
-fn counted<L: Ledger, S: Side>(booked: Booked<L>, callers: &mut [Caller<L, S>]) -> Core
+fn core_of<L: Ledger, S: Side>(booked: Booked<L>, callers: &mut [Caller<L, S>]) -> Core
     requires { length callers.old ≡ L.parts }
     ensures core { result ≡ booked.core }
     ensures callers { callers.new ≡ callers.old }
@@ -147,8 +147,8 @@ fn counted<L: Ledger, S: Side>(booked: Booked<L>, callers: &mut [Caller<L, S>]) 
     core
 }
 
-/// Lends the shares of all callers to one, which then counts what the book has, and gives them
-/// back.
+/// Lends the shares of all callers to one share, which then counts what the book has, and gives
+/// them back.
 fn gather<L: Ledger, S: Side>(callers: &mut [Caller<L, S>], all: &mut Share<L>, book: &mut Book<L>)
     requires { all.old.parts + length callers.old ≡ L.parts }
     ensures total { all.old.amount + sum_by (λ k. length k.seen) callers.old ≡ book.old.total }

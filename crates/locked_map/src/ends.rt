@@ -24,7 +24,7 @@ pub(crate) fn end_in(is_broken: bool, end: Option<End>) -> Option<End>
     end
 }
 
-/// Whether a call that has ended so may not end so.
+/// Whether a call has ended, and in a way that it may not.
 fn odd_if(call: Call, end: Option<End>) -> bool
     ensures { result ≡ odd_if call end }
 {
@@ -44,7 +44,7 @@ fn is_odd(call: Call, end: End) -> bool
     }
 }
 
-/// With which refusals a call may end that its token lets pass.
+/// With which refusals a call may end once its token has let it pass.
 fn may_refuse(call: Call, refusal: Refusal) -> bool
     ensures { result ≡ may_refuse call refusal }
 {

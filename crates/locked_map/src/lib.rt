@@ -2,19 +2,19 @@
 //!
 //! - A *token*, `Caller`, is one caller. `SharedMap::new` gives a `Pass` for each number, and a
 //!   pass makes the token of its number, once. The calls are made on a `&SharedMap` with a `&mut
-//!   Caller`: `begin`, `put`, `take`, `get`, `save`, `back`, `commit`, `abort`, `help` and `side`;
-//!   `run` takes any of them by its value.
+//!   Caller`: `begin`, `put`, `put_if`, `take`, `get`, `save`, `back`, `commit`, `abort` and
+//!   `help`, any of which `run` takes by its value; and `side`.
 //!   A token keeps in `seen` the entries that its calls have added to the history, and a side value
 //!   of the caller's own, whose changes a transaction takes back with its others.
 //! - A *hold* of the lock is one turn of a call, one step of the core or two. So the steps of other
 //!   callers come between any two turns, also while changes are taken back. What is done under the
 //!   lock is `Caller::hold`: the core makes the moves of the turn, and `seen` gains their entries.
-//! - An operation first tries the *word* of its key's stripe outside the lock, an atomic word that
-//!   says who holds the stripe, unless its token has the stripe's right. Where the word was free
-//!   the token has the right then, and the core is asked by it; else the core is asked by the word,
-//!   and the operation is busy with whom it names. A token keeps its rights until its transaction
-//!   has committed or aborted, and then gives all of them back outside the lock. So a Busy entry
-//!   may name a caller whose transaction has just ended.
+//! - Unless its token has the right to the stripe of its key, an operation first tries the stripe's
+//!   *word*, an atomic word outside the lock that says who holds the stripe. Where the word was
+//!   free, the token has the right from then on, and the core is asked by it; else the core is
+//!   asked by the word, and the operation is busy with the caller that the word names. A token
+//!   keeps its rights until its transaction has committed or aborted, and then gives all of them
+//!   back outside the lock. So a Busy entry may name a caller whose transaction has just ended.
 //! - What a token knows of the core at its next hold is what its type says: where it stands after
 //!   its own entries. If the core answers what that excludes, the call ends with `OutOfStep`.
 //! - `SharedMap::close` takes all tokens back and compares: the history is legal, each caller's own
@@ -37,8 +37,9 @@
 //! }
 //! ```
 //!
-//! Where a call answers `Busy`, another caller held the key's stripe; the transaction is aborted,
-//! and may be begun anew. A whole program, with threads, is the crate `transfers`.
+//! Where a call answers `Busy`, another caller held the key's stripe when its word was tried; the
+//! transaction is aborted, and may be begun anew. A whole program, with threads, is the crate
+//! `transfers`.
 #![tactic(auto)]
 
 mod booked;
@@ -65,6 +66,6 @@ pub use closed::Closed;
 pub use no_side::{NoJob, NoSide};
 pub use pass::Pass;
 pub use receipt::Receipt;
-pub use shared_map::{Released, SharedMap};
+pub use shared_map::{OnRelease, SharedMap};
 pub use stop::Stop;
 pub use unclosed::Unclosed;

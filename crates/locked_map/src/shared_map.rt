@@ -32,16 +32,16 @@ pub struct SharedMap<L: Ledger> {
 }
 
 /// Hears of each hold of the lock, once it is over.
-pub trait Released {
-    /// A hold is over: who calls this has the lock no more.
-    fn released(&self);
+pub trait OnRelease {
+    /// A hold is over: the thread that calls this has given the lock back.
+    fn on_release(&self);
 }
 
-/// Nothing is done.
+/// Does nothing at a release.
 pub(crate) struct Unheard;
 
-impl Released for Unheard {
-    fn released(&self) {}
+impl OnRelease for Unheard {
+    fn on_release(&self) {}
 }
 
 impl<L: Ledger> SharedMap<L> {
@@ -94,7 +94,7 @@ impl<L: Ledger> SharedMap<L> {
 
     /// Takes the turns of a call, each under a hold of its own, until the call has ended.
     #[tactic(auto, using(crate::proofs::Quiet::new_quiet))]
-    fn drive<S: Side, H: Released, R: Wait>(
+    fn drive<S: Side, H: OnRelease, R: Wait>(
         &self,
         rt: &R,
         me: &mut Caller<L, S>,
@@ -113,7 +113,7 @@ impl<L: Ledger> SharedMap<L> {
         let mut drive = Drive::new(me.number(), call, me.limits());
         for _ in rt.forever() {
             let end = me.hold(&mut *self.booked.lock(rt), &mut drive);
-            hears.released();
+            hears.on_release();
             if let Some(end) = end {
                 return end;
             }
@@ -131,7 +131,7 @@ impl<L: Ledger> SharedMap<L> {
     /// # Cost
     ///
     /// That of the call of that name.
-    pub fn run<S: Side, H: Released, R: Wait>(
+    pub fn run<S: Side, H: OnRelease, R: Wait>(
         &self,
         rt: &R,
         me: &mut Caller<L, S>,
@@ -151,7 +151,7 @@ impl<L: Ledger> SharedMap<L> {
         end
     }
 
-    /// The same, as a public call gives it.
+    /// Takes a call by its value, and answers its end as the public calls do.
     pub(crate) fn call<S: Side, R: Wait>(
         &self,
         rt: &R,

@@ -3,8 +3,8 @@ use txn_trace::Refusal;
 /// Why a shared call did not do what it was asked.
 #[derive(Clone, Copy, Debug, PartialEq, Eq)]
 pub enum Stop {
-    /// The key's stripe was held by another caller, and the transaction is aborted: all its changes
-    /// are taken back, those of the side value too.
+    /// Another caller held the key's stripe when its word was tried. The transaction is aborted:
+    /// all its changes are taken back, those of the side value too.
     Busy {
         /// The caller that held the stripe.
         holder: u64,

@@ -1,5 +1,6 @@
 //! Worked runs with real threads.
 mod between;
+mod hold_rows;
 mod refused;
 mod register;
 mod rows;

@@ -1,4 +1,4 @@
-//! The steps of a turn, taken on the core with their entries seen.
+//! Takes the steps of a turn on the core, and notes their entries.
 ghost use Rattle.std.specs.Prelude.{◌≡◌, ℕ, true, false, Some, List, [], is_some};
 ghost use Rattle.txn_trace.specs.declared.entry.Entry.{Entry};
 ghost use Rattle.txn_trace.specs.declared.refusal.Refusal.{Refusal};

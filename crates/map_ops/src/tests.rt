@@ -22,7 +22,7 @@ fn small_table(alloc: Global) -> Result<Table, AllocError> {
 }
 
 /// Does an operation.
-fn applied(table: &mut Table, op: Op) -> Result<(Reply, Option<MapJob>), Refusal>
+fn apply_op(table: &mut Table, op: Op) -> Result<(Reply, Option<MapJob>), Refusal>
     ensures { IfOk result (λ done. IfSome done.1 (λ job. ShowsAfter job table.new)) }
 {
     table.apply(op)
@@ -37,7 +37,7 @@ fn gives(rt: &impl Abort, table: &mut Table, op: Op, wanted: Reply) -> Result<()
 
 /// Does an operation and takes it back.
 fn there_and_back(table: &mut Table, op: Op) -> Result<(), Refusal> {
-    let (_, job) = applied(table, op)?;
+    let (_, job) = apply_op(table, op)?;
     if let Some(job) = job {
         table.take_back(job);
     }
@@ -252,7 +252,7 @@ fn what_is_given_up_changes_nothing(rt: HostRuntime) -> Result<(), Fail> {
     assert_eq!(rt; pending.key().number(), 2);
     table.withdraw(pending);
     shows(&rt, rt.alloc(), &table, &[(1, 10)])?;
-    let (reply, job) = applied(&mut table, Op::Take(1))?;
+    let (reply, job) = apply_op(&mut table, Op::Take(1))?;
     assert_eq!(rt; reply, Some(10));
     if let Some(job) = job {
         table.discard(job);
@@ -263,7 +263,7 @@ fn what_is_given_up_changes_nothing(rt: HostRuntime) -> Result<(), Fail> {
 #[test]
 fn a_job_is_run_at_a_cursor(rt: HostRuntime) -> Result<(), Fail> {
     let mut table = table(rt.alloc())?;
-    let (_, job) = applied(&mut table, Op::Put(2, 20))?;
+    let (_, job) = apply_op(&mut table, Op::Put(2, 20))?;
     if let Some(job) = job {
         let cursor = table.place_job(&job);
         assert!(rt; matches!(table.undo(job, cursor), Undo::Undone));
@@ -351,7 +351,7 @@ fn apply_then_take_back(rt: HostRuntime) -> Result<(), Fail> {
     assert_eq!(rt; reply, None);
     let (reply, over) = table.apply(Op::Put(2, 21))?;
     assert_eq!(rt; reply, Some(20));
-    let (reply, taken) = applied(&mut table, Op::Take(2))?;
+    let (reply, taken) = apply_op(&mut table, Op::Take(2))?;
     assert_eq!(rt; reply, Some(21));
     shows(&rt, rt.alloc(), &table, &[])?;
     if let Some(job) = taken {

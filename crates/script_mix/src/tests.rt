@@ -50,8 +50,8 @@ fn places_among_live_workers(rt: HostRuntime) -> Result<(), Fail> {
 
 #[test]
 fn mixed_commits_an_empty_script(rt: HostRuntime) -> Result<(), Fail> {
-    let text =
-        "{\"version\":1,\"workers\":2,\"stripes\":1,\"buckets\":2,\"tries\":0,\"scripts\":[[],[[\"abort\"]],[]]}";
+    let text = "{\"version\":1,\"workers\":2,\"stripes\":1,\"buckets\":2,\"tries\":0,\"scripts\":\
+        [[],[[\"abort\"]],[]]}";
     let Ok(work) = read_scripts(rt.alloc(), text.as_bytes()) else {
         return Err("refused")?;
     };
@@ -72,8 +72,8 @@ fn mixed_commits_an_empty_script(rt: HostRuntime) -> Result<(), Fail> {
 /// took each turn.
 #[test]
 fn the_worker_drawn_goes(rt: HostRuntime) -> Result<(), Fail> {
-    let text =
-        "{\"version\":1,\"workers\":3,\"stripes\":1,\"buckets\":2,\"tries\":0,\"scripts\":[[],[],[],[],[]]}";
+    let text = "{\"version\":1,\"workers\":3,\"stripes\":1,\"buckets\":2,\"tries\":0,\"scripts\":\
+        [[],[],[],[],[]]}";
     let Ok(work) = read_scripts(rt.alloc(), text.as_bytes()) else {
         return Err("refused")?;
     };
@@ -128,7 +128,7 @@ const BAD_HELP_AND_PUT: [Option<&str>; 9] = [
 ];
 
 /// An entry's caller and its name.
-fn named(entry: &Entry) -> (u64, &'static str) {
+fn caller_and_name(entry: &Entry) -> (u64, &'static str) {
     match *entry {
         Entry::Began(caller, _) => (caller, "began"),
         Entry::Asked(caller, _) => (caller, "asked"),
@@ -144,8 +144,10 @@ fn named(entry: &Entry) -> (u64, &'static str) {
 /// 1 also puts and takes nine.
 #[test]
 fn bad_helps_beside_a_put(rt: HostRuntime) -> Result<(), Fail> {
-    let text =
-        "{\"version\":1,\"workers\":2,\"stripes\":1,\"buckets\":2,\"tries\":0,\"scripts\":[[[\"help\",9223372036854775808]],[[\"help\",9223372036854775808],[\"help\",9223372036854775808],[\"help\",9223372036854775808],[\"put\",1,10]],[[\"help\",9223372036854775808],[\"help\",18446744073709551615]],[[\"put\",1,10]]]}";
+    let text = "{\"version\":1,\"workers\":2,\"stripes\":1,\"buckets\":2,\"tries\":0,\"scripts\":\
+        [[[\"help\",9223372036854775808]],[[\"help\",9223372036854775808],\
+        [\"help\",9223372036854775808],[\"help\",9223372036854775808],[\"put\",1,10]],\
+        [[\"help\",9223372036854775808],[\"help\",18446744073709551615]],[[\"put\",1,10]]]}";
     let Ok(work) = read_scripts(rt.alloc(), text.as_bytes()) else {
         return Err("refused")?;
     };
@@ -166,7 +168,11 @@ fn bad_helps_beside_a_put(rt: HostRuntime) -> Result<(), Fail> {
                 return Err("no turn is left")?;
             };
             if let Some(name) = entry {
-                assert_eq!(rt; entries.next().map(named), Some((worker, *name)), "{seed}");
+                assert_eq!(rt;
+                    entries.next().map(caller_and_name),
+                    Some((worker, *name)),
+                    "{seed}"
+                );
             }
             if !later.is_empty() {
                 live.insert(place, (worker, later))?;

@@ -111,7 +111,7 @@ pub record AreTrue (c tries : ℕ) (h : List Entry) (tolds : List Told) : Type 0
   pub busy : length (filter (λ told. is_busy_outcome told.outcome) tolds) * (tries + 1)
       ≤ how_many is_busy (own c h)
 
--- Every so many-th element of a list, after this many others.
+-- Every `n`-th element of a list, after `after` others.
 abbrev pub every : {X : Type 0} → ℕ → ℕ → List X → List X
 every n after [] = []
 every n zero (x ∷ xs) = x ∷ every n (n - 1) xs
@@ -123,8 +123,8 @@ tolds_of (script ∷ scripts) (outcome ∷ outcomes) =
     record { script = script; outcome = outcome } ∷ tolds_of scripts outcomes
 tolds_of scripts outcomes = []
 
--- What the outcomes of all scripts say of the history, where every so many-th script is a caller's,
--- beginning with that of the caller's own number.
+-- What the outcomes of all scripts say of the history, where every `callers`-th script is a
+-- caller's, beginning with that of the caller's own number.
 abbrev pub AreAllTrue : ℕ → ℕ → List (List Action) → List Outcome → List Entry → Type 0
 AreAllTrue callers tries scripts outcomes h = (c : ℕ) → c < callers
     → AreTrue c tries h (tolds_of (every callers c scripts) (every callers c outcomes))

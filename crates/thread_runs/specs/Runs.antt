@@ -53,8 +53,8 @@ HasEnded {S} k call outcome l =
     ((words : S → List ℕ) × Ended words k call outcome l)
     ⊎ ((outcome ≡ ends.Refused NoMemory) × (may_refuse call NoMemory ≡ true) × (l ≡ k))
 
--- A call has added what belongs to its end, and has committed nothing out of step, as long as all
--- that was seen has rows.
+-- A call has added what belongs to its end; and where it ended out of step it has committed
+-- nothing, as long as all that was seen has rows.
 pub record Adds (c : ℕ) (call : Call) (outcome : End) (seen seen' : List Entry) : Type 0 where
   pub added : List Entry
   pub entries : seen' ≡ seen ++ added
@@ -108,7 +108,7 @@ abbrev pub AreToldIn : ℕ → ℕ → List (List Action) → List Outcome → L
 AreToldIn c tries scripts outcomes seen =
     is_some (seat_after seen) ≡ true → AreAccounts c tries (tolds_of scripts outcomes) seen
 
--- Each script that has its outcome may have it.
+-- Each script may have the outcome that it has.
 abbrev pub MayAllCome : Bool → List (List Action) → List Outcome → Type 0
 MayAllCome half scripts outcomes =
     AllByRecursion (λ told. MayCome half told.script told.outcome) (tolds_of scripts outcomes)
@@ -140,7 +140,7 @@ pub record HasRunScripts (limits : Sizes) (workers tries : ℕ) (scripts : List 
       → slice_get scripts i ≡ Some script → slice_get outcomes i ≡ Some outcome
       → MayCome limits.half script outcome
 
--- What a run has come to is such a run, its outcomes and its history.
+-- The outcomes and the history that a run has come to are those of such a run.
 abbrev pub IsRunOf : Sizes → ℕ → ℕ → List (List Action) → Ran → Type 0
 IsRunOf limits workers tries scripts ran =
     HasRunScripts limits workers tries scripts (map told_of ran.outcomes.items) ran.trace.items

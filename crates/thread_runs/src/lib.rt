@@ -1,9 +1,8 @@
 //! Scripts on threads: one thread a worker, each with a caller of one shared map.
 //!
 //! Worker `w` is caller `w`, and script `i` belongs to worker `i mod workers`. A worker runs its
-//! scripts in their order, each by the rules that `script_worker` gives its attempts: the same that
-//! the workers have who take turns. A gate hears what the workers do, so that a test can order
-//! them.
+//! scripts in their order, each by the rules of `script_worker`, as workers that take turns do. A
+//! gate hears what the workers do, so that a test can order them.
 #![tactic(auto)]
 
 mod gate;

@@ -7,8 +7,8 @@ use crate::outcome::Outcome;
 use std::alloc::{AllocError, Global};
 use txn_trace::Script;
 
-/// The outcomes of the workers' rows, of which each has its last one first, in the scripts' order:
-/// script `i` is one of worker `i` modulo the rows.
+/// The outcomes in the scripts' order, out of a row for each worker, its last outcome first: script
+/// `i` is one of worker `i` modulo the number of rows.
 pub(crate) fn in_order(
     alloc: Global,
     rows: Vec<Vec<Outcome>>,

@@ -16,7 +16,7 @@ pub enum Outcome {
     Aborted,
     /// Each attempt found a stripe in another's hands, and is aborted.
     Busy,
-    /// A call was refused so. Its transaction is aborted, or did not begin, but where it is
+    /// A call was refused so. Its transaction is aborted, or did not begin, unless the refusal is
     /// `OutOfStep`.
     Refused(Refusal),
 }

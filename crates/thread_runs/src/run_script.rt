@@ -11,11 +11,12 @@ ghost use Rattle.thread_runs.specs.Runs.{Adds, HasEnded, IsIn, HasRoomAt, HasRoo
 use crate::gate::Gate;
 use crate::outcome::Outcome;
 use boost_core::{Call, End};
-use locked_map::{Caller, NoSide, Released, SharedMap};
+use locked_map::{Caller, NoSide, OnRelease, SharedMap};
 use script_worker::{Attempt, Progress, Stage};
 use std::alloc::Global;
 use std::sync::Wait;
 use std::sync::ledger::Ledger;
+use std::thread::yield_now;
 use txn_trace::{Action, Answer, Refusal, Reply};
 
 /// Tells the gate of each release of the lock.
@@ -25,8 +26,8 @@ struct Freed<'a, G: Gate> {
     worker: usize,
 }
 
-impl<G: Gate> Released for Freed<'_, G> {
-    fn released(&self) {
+impl<G: Gate> OnRelease for Freed<'_, G> {
+    fn on_release(&self) {
         self.gate.freed(self.worker);
     }
 }
@@ -102,7 +103,7 @@ impl Heard {
 
     /// Makes a call, if there is room for its reply, and notes how it has ended.
     #[tactic(auto, using(crate::proofs::Adding::adds_of, crate::proofs::Adding::adds_none, crate::proofs::Adding::room_at))]
-    fn hear<L: Ledger, H: Released, R: Wait>(
+    fn hear<L: Ledger, H: OnRelease, R: Wait>(
         &mut self,
         rt: &R,
         map: &SharedMap<L>,
@@ -126,6 +127,14 @@ impl Heard {
         // A token that is not broken has entries with rows.
         let _seen = me.seen();
         end
+    }
+}
+
+/// Lets other threads go on where a stripe was held, so that its holder can end before the stripe
+/// is asked for again.
+fn give_way(end: End) {
+    if let End::Busy(_) = end {
+        yield_now();
     }
 }
 
@@ -158,6 +167,7 @@ pub(crate) fn run_script<L: Ledger, G: Gate, R: Wait>(
             gate.before(worker, number, action);
         }
         let end = heard.hear(rt, map, me, attempt.call(script), &freed);
+        give_way(end);
         match attempt.progress(script, tries, end) {
             Progress::Next(next) => attempt = next,
             Progress::Over(over) => return heard.outcome(over, end),

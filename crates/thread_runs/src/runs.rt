@@ -19,10 +19,12 @@ use txn_trace::{Limits, Refusal, Script};
 
 /// Runs each script in the thread of its worker, on a new map: as many workers as the limits have
 /// callers. Script `i` is one of worker `i` modulo the workers, and worker `w` is caller `w`. A
-/// script that found a stripe held is tried again at most `tries` times.
+/// script that found a stripe held is tried again at most `tries` times, and other threads are let
+/// go on before.
 ///
-/// With `Ok` the history is legal, where a Busy may name any worker that has begun a transaction,
-/// and of these workers, and each script has one outcome, which is true of it:
+/// With `Ok` the history is legal, where a Busy may name any other worker that has begun a
+/// transaction; each of its entries is of one of these workers; and each script has one outcome,
+/// which is true of the history:
 ///
 /// - `Committed` stands for a transaction of the script's worker, which plays the script, is
 ///   committed at that place and has just those replies. Each Committed entry of the history
@@ -107,7 +109,7 @@ fn run_under<L: Ledger + Send + Sync, T: Task + Send + Sync, G: Gate, R: Threads
     }
 }
 
-/// The callers of the reports, and their outcomes, the last one first.
+/// The callers of the reports, and each caller's outcomes, the last one first.
 fn unzip<L: Ledger>(
     alloc: Global,
     reports: Vec<Report<L>>,

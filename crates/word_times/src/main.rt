@@ -1,10 +1,10 @@
 //! Times a take and a give of free stripes by their atomic words.
 //!
-//! Each of so many threads takes a stripe that nobody has, and gives it back, over and over; the
-//! stripes of one thread are no other's. One line on standard error says how long a take and a give
-//! took together, and how many takes were granted. The arguments are how many threads there are, up
-//! to 64, and how many takes each has; without any there are two threads, with few. Nothing is
-//! written on standard output.
+//! Each thread takes a stripe and gives it back, over and over. Where the number of threads is a
+//! power of two, no two of them take the same stripe. One line on standard error says how long a
+//! take and a give took together, and how many takes were granted. The arguments are how many
+//! threads there are, up to 64, and how many takes each has; without any there are two threads,
+//! with few. Nothing is written on standard output.
 #![tactic(auto)]
 
 ghost use Rattle.std.specs.Prelude.{◌≡◌, ◌<◌, ◌≤◌, All};
@@ -22,7 +22,8 @@ use std::{env, thread};
 /// How many stripes there are.
 const STRIPES: u64 = 4096;
 
-/// From a stripe that a thread takes to its next, for each thread: so that no two lie side by side.
+/// How far a thread's next stripe is from its last, for each thread that there is: far enough that
+/// the two do not lie side by side.
 const STRIDE: u64 = 1021;
 
 /// How many threads there are, and how many takes each has, if no argument says how many.
@@ -41,8 +42,8 @@ struct Taker {
 }
 
 impl Taker {
-    /// Takes so many stripes and gives each back, every one `step` after the last, and counts those
-    /// that were free.
+    /// Takes so many stripes and gives each back, each `step` after the last, and counts those that
+    /// were free.
     fn run(&mut self, takes: u64, step: u64) -> std::result::Result<(), AllocError> {
         let mut stripe = self.first % STRIPES;
         for _ in 0..takes {

@@ -1,7 +1,7 @@
 //! Pairs of keys that share a split key, a key below 2^63 and the same with 2^63 more: two callers'
 //! steps in every order, each compared with a plain map that has an undo of its own.
 use super::plain_map::{PlainMap, Stage};
-use super::stepped;
+use super::take_step;
 use crate::Core;
 use std::alloc::Global;
 use std::process::Abort;
@@ -72,11 +72,11 @@ impl Compared {
     /// wanted only where the other caller came between.
     fn take(&mut self, rt: &impl Abort, caller: u64, step: Step) -> Result<(), Fail> {
         let wanted = self.plain.answer(step)?;
-        let mut answer = stepped(&mut self.core, step)?;
+        let mut answer = take_step(&mut self.core, step)?;
         if answer == Answer::Again {
             assert_ne!(rt; self.last, Some(caller), "at {step:?}");
             assert_eq!(rt; self.core.step(Step::Seek(caller)), Answer::Placed);
-            answer = stepped(&mut self.core, step)?;
+            answer = take_step(&mut self.core, step)?;
         }
         assert_eq!(rt; answer, wanted, "at {step:?}");
         assert_eq!(rt; self.core.count(), self.plain.count());

@@ -19,7 +19,7 @@ fn has_words(core: &Core) -> Result<(), Fail>
 }
 
 /// Asks with the right to a stripe of eight.
-fn asked(core: &mut Core, right: &StripeRight, caller: u64, op: Op) -> Result<Answer, Fail> {
+fn ask_by_right(core: &mut Core, right: &StripeRight, caller: u64, op: Op) -> Result<Answer, Fail> {
     has_words(core)?;
     if core.limits().stripes() != 8 || right.stripe() as u64 != op.key() % 8 {
         return Err("another stripe".into());
@@ -28,7 +28,7 @@ fn asked(core: &mut Core, right: &StripeRight, caller: u64, op: Op) -> Result<An
 }
 
 /// Asks where a word stands.
-fn held(core: &mut Core, caller: u64, op: Op, word: u64) -> Result<Answer, Fail> {
+fn ask_by_word(core: &mut Core, caller: u64, op: Op, word: u64) -> Result<Answer, Fail> {
     has_words(core)?;
     if word == 0 {
         return Err("a free word".into());
@@ -50,8 +50,8 @@ enum Ask {
 fn answer(core: &mut Core, right: &StripeRight, ask: Ask) -> Result<Answer, Fail> {
     match ask {
         Ask::Begin(caller) => Ok(core.step(Step::Begin(caller))),
-        Ask::Right(caller, op) => asked(core, right, caller, op),
-        Ask::Word(caller, op, word) => held(core, caller, op, word),
+        Ask::Right(caller, op) => ask_by_right(core, right, caller, op),
+        Ask::Word(caller, op, word) => ask_by_word(core, caller, op, word),
         Ask::Seek(caller) => Ok(core.step(Step::Seek(caller))),
         Ask::Act(caller) => Ok(core.step(Step::Act(caller))),
         Ask::Commit(caller) => Ok(core.step(Step::Commit(caller))),

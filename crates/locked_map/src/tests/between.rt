@@ -1,6 +1,6 @@
 //! Another caller's calls between two turns of one call: no lock is held over a whole call.
 use super::setting::{Play, both, close, play_with, two_of};
-use crate::shared_map::Released;
+use crate::shared_map::OnRelease;
 use crate::{Caller, NoSide, Pass, Receipt, SharedMap};
 use boost_core::{Call, End};
 use std::alloc::Global;
@@ -20,8 +20,8 @@ struct Between<'r, 'm, L: Ledger, R: Wait + Abort> {
     releases: AtomicU64,
 }
 
-impl<L: Ledger, R: Wait + Abort> Released for Between<'_, '_, L, R> {
-    fn released(&self) {
+impl<L: Ledger, R: Wait + Abort> OnRelease for Between<'_, '_, L, R> {
+    fn on_release(&self) {
         if self.releases.fetch_add(1, Ordering::SeqCst) == 1 {
             put_four(self.rt, self.map, &mut *self.other.lock(self.rt));
         }

@@ -18,8 +18,8 @@ const fn done(reply: Option<u64>) -> End {
     End::Answered(Answer::Done(reply))
 }
 
-/// How a call ends, which is made once more where it is refused memory. A refused one leaves `seen`
-/// as it was.
+/// Makes a call, once more where it is refused memory, and answers how it ends. Where it is refused
+/// memory, `seen` is as it was.
 fn end_of<L: Ledger, R: Wait + Abort>(
     rt: &R,
     map: &SharedMap<L>,
@@ -37,7 +37,7 @@ fn end_of<L: Ledger, R: Wait + Abort>(
     End::Refused(Refusal::NoMemory)
 }
 
-/// Takes the calls in turn, as far as the first that is refused memory twice. Whether none was.
+/// Makes the calls up to the first that is refused memory twice. The answer is whether none was.
 fn is_whole<L: Ledger, R: Wait + Abort>(
     rt: &R,
     alloc: Global,
@@ -75,8 +75,8 @@ fn give_up<L: Ledger, R: Wait + Abort>(
     }
 }
 
-/// Calls that are made as far as the first that is refused memory twice; then all give up. Nothing
-/// is left, but one key and so many entries where none was.
+/// Calls that are made up to the first that is refused memory twice; then all callers give up.
+/// Where a call was so refused, no key is left, and else one key, with this many entries.
 #[derive(Clone, Copy)]
 struct Refused<'a> {
     calls: &'a [Wanted],

@@ -166,8 +166,8 @@ pub(super) fn is_settled(alloc: Global, trace: &[Entry]) -> Result<bool, AllocEr
 }
 
 /// Whether a closed core has so many keys, each of them 1 with the value 10, and a history that is
-/// legal with no transaction open. Of list and history it does not ask where memory is refused for
-/// them, and once more.
+/// legal with no transaction open. Of list and history, what is refused memory twice is not looked
+/// at.
 pub(super) fn has_left<R: Abort>(rt: &R, alloc: Global, core: &Core, keys: u64) -> bool {
     let trace = core.trace();
     let Ok(settled) = is_settled(alloc, trace).or_else(|_| is_settled(alloc, trace)) else {

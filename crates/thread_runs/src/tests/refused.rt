@@ -37,8 +37,8 @@ fn is_aborted(entry: &Entry) -> bool {
     matches!(entry, Entry::Aborted(_))
 }
 
-/// Whether a history is legal, with nobody in a transaction. The checker is not asked where memory
-/// is refused to it, and once more.
+/// Whether a history is legal, with nobody in a transaction. Where the checker is refused memory
+/// twice, it is not asked.
 fn is_settled<R: Abort>(rt: &R, alloc: Global, trace: &[Entry]) -> bool {
     let began = trace.iter().filter(|entry| is_began(entry)).count();
     let committed = trace.iter().filter(|entry| is_committed(entry)).count();

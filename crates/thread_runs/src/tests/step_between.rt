@@ -10,8 +10,8 @@ use std::thread::Threads;
 use std::time::Clock;
 use txn_trace::{Action, Entry, Limits, Op, Script};
 
-/// Worker 1's action waits for worker 0's third release of the lock, after it has begun, asked and
-/// sought; and that does not return before script 1 is done.
+/// Worker 1's action waits for worker 0's third release of the lock, when worker 0 has begun, asked
+/// and sought; and worker 0 does not go on before script 1 is done.
 #[derive(Drop)]
 struct Between<'a, R: Abort + Clock + Sync> {
     rt: &'a R,

@@ -28,12 +28,12 @@ returns-then-same-clause-here g c =
 pub returns-then-same-clause-legal : goal.returns-then-same-clause-legal
 returns-then-same-clause-legal g c =
     let core = c.into_booked-booked.result.core in
-    subst (λ (s : State). IsLegal Begun s.limits.stripes s.history) (sym c.counted-core.ensures.core)
+    subst (λ (s : State). IsLegal Begun s.limits.stripes s.history) (sym c.core_of-core.ensures.core)
     (subst (λ words. IsLegal (holder_by words) core.limits.stripes core.history) c.into_booked-booked.result.of_words c.trace-legal.ensures.legal)
 
 pub returns-else-same-clause-why : goal.returns-else-same-clause-why
 returns-else-same-clause-why g c =
-    let core = c.counted-core.ensures.core in
+    let core = c.core_of-core.ensures.core in
     why_at c.is_seen-same.result _ _ c.limits-limits.result c.args.self.limits _ _ c.as_slice-2.result.now c.args.callers.items c.is_seen-same.ensures c.if-same.false (ap (λ (s : State). s.limits) core) (ap (λ (s : State). s.history) core) c.limits-limits.ensures c.as_slice-2.ensures.value
 
 pub returns-else-same-clause-beside : goal.returns-else-same-clause-beside

@@ -4,7 +4,7 @@ use Rattle.std.proofs.lemmas.Result.{IfOk-weaker}
 use Rattle.map_ops.specs.declared.job.MapJob.{MapJob}
 use Rattle.map_ops.specs.Changes.{Applies, ShowsAfter}
 use Rattle.map_ops.proofs.Laws.{applied_shows_after}
-use Rattle.map_ops.proofs.tests.applied.Goals as goal
+use Rattle.map_ops.proofs.tests.apply_op.Goals as goal
 
 pub returns : goal.returns
 returns c =
