@@ -37,9 +37,9 @@ use Rattle.boost_core.specs.declared.session.Session.{Session}
 use Rattle.boost_core.specs.State.{Owner, Caller, Helper, holder_by}
 use Rattle.boost_core.specs.Refusals.{refusal_of}
 use Rattle.boost_core.specs.Spares.{times_of, times_in, times_out, IsCovered}
-use Rattle.boost_core.specs.Core.{World, Tells, IsFresh, state_of, turn_at, gap_if}
+use Rattle.boost_core.specs.Core.{World, Tells, IsFresh, state_of, session_changes, gap_if}
 use Rattle.boost_core.proofs.Numbers.{no_more}
-use Rattle.boost_core.proofs.Moves.{Runs, state_is, turns_same, gaps_same}
+use Rattle.boost_core.proofs.Moves.{Runs, state_is, changes_same, gaps_same}
 use Rattle.boost_core.proofs.Grow.{Stays, world_after, seated_as, set_cases}
 use Rattle.boost_core.proofs.Outcomes.{Comes, Called, CalledBy, move_is, same_times, same_world}
 use Rattle.boost_core.specs.Refusals.{has_stamp_for, MayLack}
@@ -82,9 +82,9 @@ module _ (w : World) (tells : Tells w) (c : ℕ) (x : Session) (at : slice_get w
 
     lacking_goes : (seat' : RoomySeat) → Goes claim (state_of w) step (answers.Refused refusal) (state_of (world_after w c (seated_as y seat') w.history w.counts w.table w.locks w.placed))
     lacking_goes seat' =
-        let turns = sym (turns_same w.sessions c x (seated_as y seat') at (ap (option_map cursor_changes) stays.cursor)) in
+        let cursors = sym (changes_same w.sessions c x (seated_as y seat') at (ap (option_map cursor_changes) stays.cursor)) in
         let gaps = sym (gaps_same w.table w.sessions c x (seated_as y seat') at (ap (gap_if w.table) stays.cursor)) in
-        subst (Goes claim (state_of w) step (answers.Refused refusal)) (λ i. record (state_of w) { cursors = turns i; gaps = gaps i }) goes
+        subst (Goes claim (state_of w) step (answers.Refused refusal)) (λ i. record (state_of w) { cursors = cursors i; gaps = gaps i }) goes
 
     pub lacking_called : entries_of step (answers.Refused refusal) ≡ [] → CalledBy claim w c x step (answers.Refused refusal) y w.table w.locks
     lacking_called no_entry = record {
@@ -144,7 +144,7 @@ module _ (w : World) (tells : Tells w) (c : ℕ) (x : Session) (at : slice_get w
       stored = prepares.nodes.buckets.stored;
       linked = prepares.nodes.linked;
       helps = prepares.nodes.buckets.helps;
-      turn = let same = prepares.nodes.changes in omega arith;
+      rises = let same = prepares.nodes.changes in omega arith;
       last = last_rises w.table t' (takes_node op) pending.spare prepares.given;
       one_last = one_stamp_more w.table t' (takes_node op) pending.spare prepares.given;
     }
@@ -205,8 +205,8 @@ module _ (w : World) (tells : Tells w) (c : ℕ) (x : Session) (at : slice_get w
         };
         move = λ seat'. move_is w (world_after w c (seated_as y seat') (w.history ++ entry.Asked c op ∷ []) w.counts t' locks' None) (steps.Ask c op) answers.Asked
             (none, and_from (has_stamp_for (state_of w) op) (may_stand (state_of w) (entry.Asked c op)) (stamped w.table t' (takes_node op) asks.pending.spare asks.prepares.given) locked)
-            (state_is w (w.history ++ entry.Asked c op ∷ []) (w.history ++ entry.Asked c op ∷ []) w.counts t' (map turn_at w.sessions) (slice_set w.sessions c (seated_as y seat')) locks' None (prepared_runs t' asks.pending asks.prepares) refl
-            (turns_same w.sessions c x (seated_as y seat') at (ap (option_map cursor_changes) asks.cursor)))
+            (state_is w (w.history ++ entry.Asked c op ∷ []) (w.history ++ entry.Asked c op ∷ []) w.counts t' (map session_changes w.sessions) (slice_set w.sessions c (seated_as y seat')) locks' None (prepared_runs t' asks.pending asks.prepares) refl
+            (changes_same w.sessions c x (seated_as y seat') at (ap (option_map cursor_changes) asks.cursor)))
             (prepared_runs t' asks.pending asks.prepares) (λ kept. asks.prepares.nodes.changes);
         fresh = λ seat'. tt;
       }
@@ -232,7 +232,7 @@ module _ (w : World) (tells : Tells w) (c : ℕ) (x : Session) (at : slice_get w
             stored = meets.back.nodes.buckets.stored ∙ was.stored;
             linked = meets.back.nodes.linked ∙ was.linked;
             helps = meets.back.nodes.buckets.helps ∙ was.helps;
-            turn = let same = meets.back.nodes.changes in let before = was.turn in omega arith;
+            rises = let same = meets.back.nodes.changes in let before = was.rises in omega arith;
             last = let same = meets.back.last in let before = was.last in omega arith;
             one_last = let same = meets.back.last in let before = was.one_last in omega arith;
           }
@@ -276,8 +276,8 @@ module _ (w : World) (tells : Tells w) (c : ℕ) (x : Session) (at : slice_get w
         };
         move = λ seat'. move_is w (world_after w c (seated_as y seat') (w.history ++ entry.Busy c op holder ∷ []) w.counts t' locks' None) (steps.Ask c op) (answers.Busy holder)
             (none, and_from (w.words || has_stamp_for (state_of w) op) (may_stand (state_of w) (entry.Busy c op holder)) (or_right w.words (has_stamp_for (state_of w) op) busy_stamped) (stands words))
-            (state_is w (w.history ++ entry.Busy c op holder ∷ []) (w.history ++ entry.Busy c op holder ∷ []) w.counts t' (map turn_at w.sessions) (slice_set w.sessions c (seated_as y seat')) locks' None busy_runs refl
-            (turns_same w.sessions c x (seated_as y seat') at (ap (option_map cursor_changes) meets.cursor)))
+            (state_is w (w.history ++ entry.Busy c op holder ∷ []) (w.history ++ entry.Busy c op holder ∷ []) w.counts t' (map session_changes w.sessions) (slice_set w.sessions c (seated_as y seat')) locks' None busy_runs refl
+            (changes_same w.sessions c x (seated_as y seat') at (ap (option_map cursor_changes) meets.cursor)))
             busy_runs (λ kept. meets.back.nodes.changes ∙ meets.prepares.nodes.changes);
         fresh = λ seat'. tt;
       }

@@ -13,11 +13,11 @@ use Rattle.txn_trace.specs.declared.answer.Answer.TheVariants as answers
 use Rattle.map_ops.specs.TableAt.{TableAt, Cursor, cursor_changes, table_changes}
 use Rattle.boost_core.specs.declared.counts.Counts.{Counts}
 use Rattle.boost_core.specs.declared.session.Session.{Session}
-use Rattle.boost_core.specs.State.{Caller, turn_in}
+use Rattle.boost_core.specs.State.{Caller, caller_changes}
 use Rattle.boost_core.specs.Refusals.{refusal_of}
 use Rattle.boost_core.specs.Words.{Claim, Lock, Right, Held, Stale, IsClaim}
 use Rattle.boost_core.specs.Spares.{times_of, times_in, times_out}
-use Rattle.boost_core.specs.Core.{World, Tells, state_of, turn_at, all_times}
+use Rattle.boost_core.specs.Core.{World, Tells, state_of, session_changes, all_times}
 use Rattle.boost_core.proofs.Outcomes.{Called, CalledBy, same_world}
 use Rattle.txn_trace.specs.declared.refusal.Refusal.TheVariants as refusals
 use Rattle.txn_trace.specs.Map.{key_of}
@@ -207,13 +207,13 @@ placed_cursor claim stripes counts step x t locks answer y t' locks' does is = a
     at (steps.Abort c) does = absurd does
     at _ does = absurd does
 
--- The turn of the cursor of a caller whose side has changed.
-pub turn_there : (sessions : List Session) (c : ℕ) (x z : Session) → slice_get sessions c ≡ Some x → is_some z.cursor ≡ true → is_some (turn_in (map turn_at (slice_set sessions c z)) c) ≡ true
-turn_there sessions c x z at some =
+-- The change number of the cursor of a caller whose side has changed.
+pub changes_there : (sessions : List Session) (c : ℕ) (x z : Session) → slice_get sessions c ≡ Some x → is_some z.cursor ≡ true → is_some (caller_changes (map session_changes (slice_set sessions c z)) c) ≡ true
+changes_there sessions c x z at some =
     let within = slice_get_within sessions c x at in
     let long = length-set sessions c z in
     let there : slice_get (slice_set sessions c z) c ≡ Some z = index_at (slice_set sessions c z) c z (omega arith) (sym (get_or-set_same sessions c z z within)) in
-    ap (λ (o : Option (Option ℕ)). is_some (unwrap_or o None)) (slice_get-map turn_at (slice_set sessions c z) c ∙ ap (option_map turn_at) there) ∙ both z.cursor ∙ some
+    ap (λ (o : Option (Option ℕ)). is_some (unwrap_or o None)) (slice_get-map session_changes (slice_set sessions c z) c ∙ ap (option_map session_changes) there) ∙ both z.cursor ∙ some
   where
     both : (o : Option Cursor) → is_some (option_map cursor_changes o) ≡ is_some o
     both None = refl

@@ -23,9 +23,9 @@ use Rattle.txn_trace.specs.declared.seat.Phase.{Phase}
 use Rattle.txn_trace.specs.declared.seat.Phase.TheVariants.{Closed, Opened, Waiting, LeavingTo, LeavingToEnd}
 use Rattle.txn_trace.specs.Shape.{Seat, closed_seat, row, seat_after, own}
 use Rattle.txn_trace.proofs.Pushes.{own-push_in, seat_after-push}
-use Rattle.boost_core.specs.State.{State, Owner, Caller, seat_in, turn_in}
+use Rattle.boost_core.specs.State.{State, Owner, Caller, seat_in, caller_changes}
 use Rattle.boost_core.specs.Refusals.{refusal_of, lacks_in, MayLack, is_closed, is_waiting, is_leaving, has_job, has_target}
-use Rattle.boost_core.specs.Answers.{IsReply, is_back_at, is_at_end, end_of, turn_of, is_just_placed, may_be_stale}
+use Rattle.boost_core.specs.Answers.{IsReply, is_back_at, is_at_end, end_of, owner_changes, is_just_placed, may_be_stale}
 use Rattle.boost_core.specs.Machine.{Move}
 use Rattle.boost_core.specs.Plain.{Operates}
 use Rattle.boost_core.proofs.Refused.{or_else, refusal_parts, free, ask_open}
@@ -56,7 +56,7 @@ seek_free state c within there target =
     ∙ (λ i. cond (within i) (Some refusals.NoSuchCaller) (or_else (cond (there i) (Some refusals.NotOpen) (cond (not (target i)) (Some refusals.NothingToSeek) None)) None))
 
 pub act_free : (state : State) (c : ℕ) → nat_le state.limits.callers c ≡ false → is_closed (seat_in state.history c).phase ≡ false → (is_leaving (seat_in state.history c).phase || is_waiting (seat_in state.history c).phase) ≡ true
-    → lacks_in (seat_in state.history c) (is_some (turn_in state.cursors c)) (Act c) ≡ false → refusal_of state (Act c) ≡ None
+    → lacks_in (seat_in state.history c) (is_some (caller_changes state.cursors c)) (Act c) ≡ false → refusal_of state (Act c) ≡ None
 act_free state c within there busy cursor =
     refusal_parts state c (Act c) refl
     ∙ (λ i. cond (within i) (Some refusals.NoSuchCaller) (or_else (cond (there i) (Some refusals.NotOpen) (cond (not (busy i)) (Some refusals.NothingToSeek) None)) (cond (cursor i) (Some refusals.Unplaced) None)))
@@ -69,11 +69,11 @@ seek_places old new c _ none move = absurd move.allowed.1
 
 -- The cursor that was placed last fits.
 just_placed : (state : State) (c : ℕ) → state.placed ≡ Some (Caller c) → may_be_stale state (Caller c) ≡ false
-just_placed state c placed = at (turn_of state (Caller c))
+just_placed state c placed = at (owner_changes state (Caller c))
   where
-    at : (o : Option ℕ) → elim o as (λ _. Bool) [ None ↦ false | Some turn ↦ not (is_just_placed (Caller c) state.placed) && not (turn == state.changes && nat_lt turn (2 ^ 64 - 1)) ] ≡ false
+    at : (o : Option ℕ) → elim o as (λ _. Bool) [ None ↦ false | Some noted ↦ not (is_just_placed (Caller c) state.placed) && not (noted == state.changes && nat_lt noted (2 ^ 64 - 1)) ] ≡ false
     at None = refl
-    at (Some turn) = ap (λ (o : Option Owner). not (is_just_placed (Caller c) o) && not (turn == state.changes && nat_lt turn (2 ^ 64 - 1))) placed ∙ ap (λ b. not b && not (turn == state.changes && nat_lt turn (2 ^ 64 - 1))) (eq-eqb c c refl)
+    at (Some noted) = ap (λ (o : Option Owner). not (is_just_placed (Caller c) o) && not (noted == state.changes && nat_lt noted (2 ^ 64 - 1))) placed ∙ ap (λ b. not b && not (noted == state.changes && nat_lt noted (2 ^ 64 - 1))) (eq-eqb c c refl)
 
 never_again : (state : State) (c : ℕ) → state.placed ≡ Some (Caller c) → (has_target (seat_in state.history c) && may_be_stale state (Caller c)) ≡ true → ⊥
 never_again state c placed is = false≢true (sym (just_placed state c placed) ∙ (and_parts (has_target (seat_in state.history c)) (may_be_stale state (Caller c)) is).1)
@@ -83,7 +83,7 @@ and_none true = refl
 and_none false = refl
 
 -- An operation that waits is done, where its cursor was placed last.
-pub act_does : (old new : State) (c : ℕ) (op : Op) (answer : Answer) → nat_le old.limits.callers c ≡ false → (seat_in old.history c).phase ≡ Waiting op → is_some (turn_in old.cursors c) ≡ true → old.placed ≡ Some (Caller c)
+pub act_does : (old new : State) (c : ℕ) (op : Op) (answer : Answer) → nat_le old.limits.callers c ≡ false → (seat_in old.history c).phase ≡ Waiting op → is_some (caller_changes old.cursors c) ≡ true → old.placed ≡ Some (Caller c)
     → Move old (Act c) answer new → (reply : Option ℕ) × (answer ≡ Done reply)
 act_does old new c op answer within waits cursor placed move = at answer move
   where
@@ -139,7 +139,7 @@ act_ends old new c answer within leaves rests move = at answer move
     no_target = λ i. (leaving_open (seat_in old.history c).phase leaves).1 i || rests i
 
     none : refusal_of old (Act c) ≡ None
-    none = act_free old c within (leaving_open (seat_in old.history c).phase leaves).0 (ap (λ b. b || is_waiting (seat_in old.history c).phase) leaves) (ap (λ b. b && not (is_some (turn_in old.cursors c))) no_target)
+    none = act_free old c within (leaving_open (seat_in old.history c).phase leaves).0 (ap (λ b. b || is_waiting (seat_in old.history c).phase) leaves) (ap (λ b. b && not (is_some (caller_changes old.cursors c))) no_target)
 
     at : (answer : Answer) → Move old (Act c) answer new → answer ≡ end_of (seat_in old.history c).phase
     at (Refused refusal) move = absurd (never_refused old (Act c) refusal none move.allowed)
@@ -151,7 +151,7 @@ act_ends old new c answer within leaves rests move = at answer move
     at _ move = absurd move.allowed.1
 
 -- The newest change is taken back, where its cursor was placed last.
-pub act_undoes : (old new : State) (c : ℕ) (answer : Answer) → nat_le old.limits.callers c ≡ false → is_leaving (seat_in old.history c).phase ≡ true → has_job (seat_in old.history c) ≡ true → is_some (turn_in old.cursors c) ≡ true → old.placed ≡ Some (Caller c)
+pub act_undoes : (old new : State) (c : ℕ) (answer : Answer) → nat_le old.limits.callers c ≡ false → is_leaving (seat_in old.history c).phase ≡ true → has_job (seat_in old.history c) ≡ true → is_some (caller_changes old.cursors c) ≡ true → old.placed ≡ Some (Caller c)
     → Move old (Act c) answer new → answer ≡ Undone
 act_undoes old new c answer within leaves job cursor placed move = at answer move
   where
@@ -185,7 +185,7 @@ pub record TookBack (old between new : State) (c : ℕ) (first second : Answer) 
   pub fewer : (seat_in new.history c).standing < (seat_in old.history c).standing
 
 pub took_back : (old between new : State) (c : ℕ) (first second : Answer) → nat_le old.limits.callers c ≡ false → is_leaving (seat_in old.history c).phase ≡ true → has_job (seat_in old.history c) ≡ true
-    → Move old (Seek c) first between → (first ≡ Placed → is_some (turn_in between.cursors c) ≡ true) → Move between (Act c) second new → TookBack old between new c first second
+    → Move old (Seek c) first between → (first ≡ Placed → is_some (caller_changes between.cursors c) ≡ true) → Move between (Act c) second new → TookBack old between new c first second
 took_back old between new c first second within leaves job seeks cursor acts =
     let open_here = leaving_open (seat_in old.history c).phase leaves in
     let is_placed : first ≡ Placed = seek_places old between c first (seek_free old c within open_here.0 (ap (λ b. is_waiting (seat_in old.history c).phase || b) job ∙ or_true (is_waiting (seat_in old.history c).phase))) seeks in
@@ -221,7 +221,7 @@ done_so : (old asked sought new : State) (c : ℕ) (op : Op) (answer : Answer) (
 done_so old asked sought new c op answer reply is asks seeks acts = subst (λ a. Operates old c op a new) (sym is) (asked, asks, (sought, seeks, (new, subst (λ a. Move sought (Act c) a new) is acts, refl)))
 
 -- An operation that was asked for is done.
-pub operated : (old asked sought new : State) (c : ℕ) (op : Op) (first second : Answer) → Move old (Ask c op) Asked asked → Move asked (Seek c) first sought → (first ≡ Placed → is_some (turn_in sought.cursors c) ≡ true) → Move sought (Act c) second new
+pub operated : (old asked sought new : State) (c : ℕ) (op : Op) (first second : Answer) → Move old (Ask c op) Asked asked → Move asked (Seek c) first sought → (first ≡ Placed → is_some (caller_changes sought.cursors c) ≡ true) → Move sought (Act c) second new
     → Operates old c op second new
 operated old asked sought new c op first second asks seeks cursor acts =
     let is_free = free old c (Ask c op) refl asks.allowed.0 in

@@ -32,9 +32,9 @@ use Rattle.boost_core.specs.Refusals.{refusal_of, has_stamp_for}
 use Rattle.boost_core.specs.Answers.{may_stand}
 use Rattle.boost_core.specs.Words.{Right, Held, Stale, is_taken}
 use Rattle.boost_core.specs.Sessions.{target_in, IsSoughtAt, KeepsPlaced, Waits, StaysIn, MeetsIn}
-use Rattle.boost_core.specs.Core.{World, Tells, IsFresh, state_of, turn_at, nodes_at, gap_by, gap_at, gap_if, helper_gaps_of}
+use Rattle.boost_core.specs.Core.{World, Tells, IsFresh, state_of, session_changes, nodes_at, gap_by, gap_at, gap_if, helper_gaps_of}
 use Rattle.boost_core.proofs.Numbers.{no_more}
-use Rattle.boost_core.proofs.Moves.{runs_same, state_is, turns_same}
+use Rattle.boost_core.proofs.Moves.{runs_same, state_is, changes_same}
 use Rattle.boost_core.proofs.Grow.{Stays, world_after, seated_as, set_cases}
 use Rattle.boost_core.proofs.Outcomes.{CalledBy, move_is}
 use Rattle.boost_core.proofs.Quiet.{quiet, log_is}
@@ -104,9 +104,9 @@ module _ (w : World) (tells : Tells w) (c : ℕ) (x : Session) (at : slice_get w
     stale_state : (seat' : RoomySeat) → state_of (world_after w c (seated_as y seat') (w.history ++ []) w.counts t' locks' w.placed)
         ≡ record (state_of w) { stamp = last_of t'; nodes = nodes_at t'; gaps = map (gap_by t') (slice_set w.sessions c (seated_as y seat')); helper_gaps = helper_gaps_of t' }
     stale_state seat' =
-        state_is w (w.history ++ []) w.history w.counts t' (map turn_at w.sessions) (slice_set w.sessions c (seated_as y seat')) locks' w.placed (busy_runs w tells c x at op none holder y t' locks' meets keeps within) (append-nil w.history)
-        (turns_same w.sessions c x (seated_as y seat') at (ap (option_map cursor_changes) meets.cursor))
-        ∙ ap (λ (turn : ℕ). record (state_of w) { changes = turn; stamp = last_of t'; nodes = nodes_at t'; gaps = map (gap_by t') (slice_set w.sessions c (seated_as y seat')); helper_gaps = helper_gaps_of t' }) (meets.back.nodes.changes ∙ meets.prepares.nodes.changes)
+        state_is w (w.history ++ []) w.history w.counts t' (map session_changes w.sessions) (slice_set w.sessions c (seated_as y seat')) locks' w.placed (busy_runs w tells c x at op none holder y t' locks' meets keeps within) (append-nil w.history)
+        (changes_same w.sessions c x (seated_as y seat') at (ap (option_map cursor_changes) meets.cursor))
+        ∙ ap (λ (noted : ℕ). record (state_of w) { changes = noted; stamp = last_of t'; nodes = nodes_at t'; gaps = map (gap_by t') (slice_set w.sessions c (seated_as y seat')); helper_gaps = helper_gaps_of t' }) (meets.back.nodes.changes ∙ meets.prepares.nodes.changes)
 
     pub stale_called : CalledBy Right w c x (steps.Ask c op) (answers.Refused StaleWord) y t' locks'
     stale_called = record {
@@ -133,8 +133,8 @@ module _ (w : World) (tells : Tells w) (c : ℕ) (x : Session) (at : slice_get w
       eq-eqb named named refl,
       move_is w (world_after w c (seated_as x seat') (w.history ++ entry.Busy c op named ∷ []) w.counts w.table w.locks None) (steps.Ask c op) (answers.Busy named)
           (none, and_from (w.words || has_stamp_for (state_of w) op) (may_stand (state_of w) (entry.Busy c op named)) (or_left w.words (has_stamp_for (state_of w) op) words) stands)
-          (state_is w (w.history ++ entry.Busy c op named ∷ []) (w.history ++ entry.Busy c op named ∷ []) w.counts w.table (map turn_at w.sessions) (slice_set w.sessions c (seated_as x seat')) w.locks None (runs_same w.table) refl
-          (turns_same w.sessions c x (seated_as x seat') at refl))
+          (state_is w (w.history ++ entry.Busy c op named ∷ []) (w.history ++ entry.Busy c op named ∷ []) w.counts w.table (map session_changes w.sessions) (slice_set w.sessions c (seated_as x seat')) w.locks None (runs_same w.table) refl
+          (changes_same w.sessions c x (seated_as x seat') at refl))
           (runs_same w.table) (λ kept. refl),
     );
     fresh = λ seat'. tt;

@@ -21,7 +21,7 @@ use Rattle.txn_drive.proofs.WayLemmas.{IsAncestor-root, IsAncestor-child_towards
 use Rattle.split_key.specs.Split.{parent_of, IsAncestor}
 use Rattle.boost_core.specs.State.{State, Owner, Helper, Help, Nothing, Sought, Dummy, is_set, with_bucket, help_in, bucket_at}
 use Rattle.boost_core.specs.Refusals.{refusal_of, MayLack, has_cursor, has_dummy, first_of}
-use Rattle.boost_core.specs.Answers.{turn_of, is_just_placed, may_be_stale}
+use Rattle.boost_core.specs.Answers.{owner_changes, is_just_placed, may_be_stale}
 use Rattle.boost_core.specs.Machine.{Move}
 use Rattle.boost_core.specs.Whole.{IsWhole}
 use Rattle.boost_core.proofs.Refused.{index_at, le_false, le_false_lt}
@@ -49,7 +49,7 @@ abbrev pub Fits : State → ℕ → ℕ → Phase → Type 0
 Fits state c key (phases.Doubling seen) = Unit {0}
 Fits state c key (phases.Initialising way again) = OnWay state key way
 Fits state c key (phases.Linking way again) =
-    OnWay state key way × (turn : ℕ) × (help_in state.helpers c ≡ Sought way.bucket turn) × (state.placed ≡ Some (Helper c))
+    OnWay state key way × (noted : ℕ) × (help_in state.helpers c ≡ Sought way.bucket noted) × (state.placed ≡ Some (Helper c))
 Fits state c key (phases.Storing way) = OnWay state key way × (help_in state.helpers c ≡ Dummy way.bucket)
 Fits state c key phases.Helped = is_set state.stored (key % state.size) ≡ true
 Fits state c key (phases.Refused refusal) = MayEnd refusal
@@ -194,14 +194,14 @@ store_lacks state new c key bound refusal some lack = absurd lack
 
 -- The cursor that a helper placed last fits.
 just_placed : (state : State) (c : ℕ) → state.placed ≡ Some (Helper c) → may_be_stale state (Helper c) ≡ false
-just_placed state c placed = at (turn_of state (Helper c))
+just_placed state c placed = at (owner_changes state (Helper c))
   where
-    at : (o : Option ℕ) → elim o as (λ _. Bool) [ None ↦ false | Some turn ↦ not (is_just_placed (Helper c) state.placed) && not (turn == state.changes && nat_lt turn (2 ^ 64 - 1)) ] ≡ false
+    at : (o : Option ℕ) → elim o as (λ _. Bool) [ None ↦ false | Some noted ↦ not (is_just_placed (Helper c) state.placed) && not (noted == state.changes && nat_lt noted (2 ^ 64 - 1)) ] ≡ false
     at None = refl
-    at (Some turn) = ap (λ (o : Option Owner). not (is_just_placed (Helper c) o) && not (turn == state.changes && nat_lt turn (2 ^ 64 - 1))) placed ∙ ap (λ b. not b && not (turn == state.changes && nat_lt turn (2 ^ 64 - 1))) (eq-eqb c c refl)
+    at (Some noted) = ap (λ (o : Option Owner). not (is_just_placed (Helper c) o) && not (noted == state.changes && nat_lt noted (2 ^ 64 - 1))) placed ∙ ap (λ b. not b && not (noted == state.changes && nat_lt noted (2 ^ 64 - 1))) (eq-eqb c c refl)
 
 -- After the dummy was to be linked.
-linked_goes : (state new : State) (c key again turn : ℕ) (way : Way) (answer : Answer) → nat_le state.limits.callers c ≡ false → c < length state.helpers → OnWay state key way → help_in state.helpers c ≡ Sought way.bucket turn → state.placed ≡ Some (Helper c)
+linked_goes : (state new : State) (c key again turn : ℕ) (way : Way) (answer : Answer) → nat_le state.limits.callers c ≡ false → c < length state.helpers → OnWay state key way → help_in state.helpers c ≡ Sought way.bucket noted → state.placed ≡ Some (Helper c)
     → Move state (steps.InitLink c) answer new → Goes new c key (3 * (way.target - way.bucket) + 2) (told_link way again answer)
 linked_goes state new c key again turn way answer within there on has placed move = at answer move
   where

@@ -12,17 +12,17 @@ use Rattle.txn_trace.specs.Seats.{has_target}
 use Rattle.map_ops.specs.Jobs.{PendingAt}
 use Rattle.map_ops.specs.TableAt.{TableAt, Cursor, cursor_changes, map_of, table_changes, IsPlaced}
 use Rattle.boost_core.specs.declared.session.Session.{Session}
-use Rattle.boost_core.specs.State.{Owner, Caller, Helper, seat_in, turn_in}
+use Rattle.boost_core.specs.State.{Owner, Caller, Helper, seat_in, caller_changes}
 use Rattle.boost_core.specs.Refusals.{refusal_of}
 use Rattle.boost_core.specs.Spares.{IsCovered}
-use Rattle.boost_core.specs.Core.{World, Tells, IsFresh, state_of, turn_at}
-use Rattle.boost_core.proofs.Moves.{runs_same, state_is, turns_set}
+use Rattle.boost_core.specs.Core.{World, Tells, IsFresh, state_of, session_changes}
+use Rattle.boost_core.proofs.Moves.{runs_same, state_is, changes_set}
 use Rattle.boost_core.proofs.Grow.{world_after, seated_as, set_cases}
 use Rattle.boost_core.proofs.Outcomes.{Called, move_is, same_times}
 use Rattle.boost_core.specs.Answers.{is_just_placed, may_be_stale}
 use Rattle.boost_core.specs.Sessions.{target_in, target_of, IsPlacedFor, IsSoughtAt, KeepsPlaced, Waits, times_kept, SeeksIn, Drops}
 use Rattle.boost_core.proofs.Spares.{still_covered}
-use Rattle.boost_core.proofs.Refused.{seat_here, turn_here}
+use Rattle.boost_core.proofs.Refused.{seat_here, changes_here}
 use Rattle.boost_core.proofs.Working.{keeps_runs}
 
 module _ (w : World) (tells : Tells w) (c : ℕ) (x : Session) (at : slice_get w.sessions c ≡ Some x) where
@@ -31,8 +31,8 @@ module _ (w : World) (tells : Tells w) (c : ℕ) (x : Session) (at : slice_get w
 
   -- What a caller acts on next is sought.
   pub sought_called : refusal_of (state_of w) (steps.Seek c) ≡ None → (y : Session) (t' : TableAt) → SeeksIn x w.table y t' → KeepsPlaced w.table t' → table_changes w.table ≤ table_changes t' → Called w c x (steps.Seek c) answers.Placed y t' w.locks
-  sought_called none y t' seeks keeps turn =
-      let runs = keeps_runs w.table t' seeks.places.keeps turn in
+  sought_called none y t' seeks keeps rises =
+      let runs = keeps_runs w.table t' seeks.places.keeps rises in
       record {
         comes = record {
           same_seat = ap (λ (s : Session). s.seat.seat) seeks.becomes;
@@ -49,8 +49,8 @@ module _ (w : World) (tells : Tells w) (c : ℕ) (x : Session) (at : slice_get w
           same_counts = refl;
         };
         move = λ seat'. move_is w (world_after w c (seated_as y seat') (w.history ++ []) w.counts t' w.locks (Some (Caller c))) (steps.Seek c) answers.Placed (none, tt)
-            (state_is w (w.history ++ []) (w.history ++ []) w.counts t' (slice_set (map turn_at w.sessions) c (Some (table_changes t'))) (slice_set w.sessions c (seated_as y seat')) w.locks (Some (Caller c)) runs refl
-            (turns_set w.sessions c (seated_as y seat') (Some (table_changes t')) (ap turn_at seeks.becomes ∙ ap Some seeks.places.changes)))
+            (state_is w (w.history ++ []) (w.history ++ []) w.counts t' (slice_set (map session_changes w.sessions) c (Some (table_changes t'))) (slice_set w.sessions c (seated_as y seat')) w.locks (Some (Caller c)) runs refl
+            (changes_set w.sessions c (seated_as y seat') (Some (table_changes t')) (ap session_changes seeks.becomes ∙ ap Some seeks.places.changes)))
             runs (λ kept. absurd (false≢true kept));
         fresh = λ seat' s cursor at_c had. elim (set_cases w.sessions c c (seated_as y seat') s (slice_get_within w.sessions c x at) at_c) [
           | inl mine ↦
@@ -78,8 +78,8 @@ module _ (w : World) (tells : Tells w) (c : ℕ) (x : Session) (at : slice_get w
     has_key None is = absurd is
     has_key (Some key) is = (key, is)
 
-    not_in_turn : (cursor_changes drops.cursor == table_changes w.table && nat_lt (cursor_changes drops.cursor) (2 ^ 64 - 1)) ≡ false
-    not_in_turn = elim (cases_Bool (cursor_changes drops.cursor == table_changes w.table && nat_lt (cursor_changes drops.cursor) (2 ^ 64 - 1))) [
+    not_unmoved : (cursor_changes drops.cursor == table_changes w.table && nat_lt (cursor_changes drops.cursor) (2 ^ 64 - 1)) ≡ false
+    not_unmoved = elim (cases_Bool (cursor_changes drops.cursor == table_changes w.table && nat_lt (cursor_changes drops.cursor) (2 ^ 64 - 1))) [
       | inr is ↦ is
       | inl is ↦
           let parts = and_parts (cursor_changes drops.cursor == table_changes w.table) (nat_lt (cursor_changes drops.cursor) (2 ^ 64 - 1)) is in
@@ -91,9 +91,9 @@ module _ (w : World) (tells : Tells w) (c : ℕ) (x : Session) (at : slice_get w
 
     stale : may_be_stale (state_of w) (Caller c) ≡ true
     stale =
-        let turn : turn_in (map turn_at w.sessions) c ≡ Some (cursor_changes drops.cursor) = turn_here w tells c x at ∙ ap (option_map cursor_changes) drops.had in
-        ap (λ (o : Option ℕ). elim o as (λ _. Bool) [ None ↦ false | Some turn ↦ not (is_just_placed (Caller c) w.placed) && not (turn == table_changes w.table && nat_lt turn (2 ^ 64 - 1)) ]) turn
-        ∙ (λ i. not (not_fresh i) && not (not_in_turn i))
+        let noted : caller_changes (map session_changes w.sessions) c ≡ Some (cursor_changes drops.cursor) = changes_here w tells c x at ∙ ap (option_map cursor_changes) drops.had in
+        ap (λ (o : Option ℕ). elim o as (λ _. Bool) [ None ↦ false | Some noted ↦ not (is_just_placed (Caller c) w.placed) && not (noted == table_changes w.table && nat_lt noted (2 ^ 64 - 1)) ]) noted
+        ∙ (λ i. not (not_fresh i) && not (not_unmoved i))
 
     again : Called w c x (steps.Act c) answers.Again y w.table w.locks
     again = record {
@@ -113,8 +113,8 @@ module _ (w : World) (tells : Tells w) (c : ℕ) (x : Session) (at : slice_get w
       };
       move = λ seat'. move_is w (world_after w c (seated_as y seat') (w.history ++ []) w.counts w.table w.locks None) (steps.Act c) answers.Again
           (none, and_from (has_target (seat_in w.history c)) (may_be_stale (state_of w) (Caller c)) (ap has_target here ∙ target) stale)
-          (state_is w (w.history ++ []) (w.history ++ []) w.counts w.table (slice_set (map turn_at w.sessions) c None) (slice_set w.sessions c (seated_as y seat')) w.locks None (runs_same w.table) refl
-          (turns_set w.sessions c (seated_as y seat') None (ap (option_map cursor_changes) drops.dropped)))
+          (state_is w (w.history ++ []) (w.history ++ []) w.counts w.table (slice_set (map session_changes w.sessions) c None) (slice_set w.sessions c (seated_as y seat')) w.locks None (runs_same w.table) refl
+          (changes_set w.sessions c (seated_as y seat') None (ap (option_map cursor_changes) drops.dropped)))
           (runs_same w.table) (λ kept. refl);
       fresh = λ seat'. tt;
     }

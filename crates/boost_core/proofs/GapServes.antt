@@ -42,11 +42,11 @@ module _ (t t' : TableAt) (sound : IsSound t'.list) where
   sought_bucket bucket (Ok seeks.Placed) is = subst (Stay (nodes_of t)) (sym is.nodes) (stay_sought (dummy_at bucket) (nodes_of t) is.start)
   sought_bucket bucket (Err refusal) is = kept is
 
-  linked_dummy : (h : ℕ) (outcome : Result InitLink Refusal) → (outcome ≢ Err refusals.NoMemory → outcome ≡ link_answer_of t h) → ((bucket turn : ℕ) → slice_get (helps_of t) h ≡ Some (Sought bucket turn) → LinkWrites t t' bucket outcome) → LinkChanges t t' h outcome
+  linked_dummy : (h : ℕ) (outcome : Result InitLink Refusal) → (outcome ≢ Err refusals.NoMemory → outcome ≡ link_answer_of t h) → ((bucket noted : ℕ) → slice_get (helps_of t) h ≡ Some (Sought bucket noted) → LinkWrites t t' bucket outcome) → LinkChanges t t' h outcome
       → Stay (nodes_of t) (nodes_of t')
   linked_dummy h (Ok links.Again) says writes changes =
       let had = has_sought (helper_fits t h) (linked_of t) (last_of t) (slice_get (helps_of t) h) (Ok links.Again) (sym (says (λ e. cc (e)))) refl in
-      kept (writes had.bucket had.turn had.had)
+      kept (writes had.bucket had.noted had.had)
   linked_dummy h (Ok links.Present) says writes changes = kept (writes changes.bucket changes.changes changes.had)
   linked_dummy h (Ok links.Linked) says writes changes =
       let link = writes changes.bucket changes.changes changes.had in

@@ -21,7 +21,7 @@ use Rattle.map_ops.specs.TableAt.{TableAt, Help, Nothing, Sought, Dummy, Follows
 use Rattle.boost_core.specs.State.{Owner, Helper, is_set, help_in, bucket_at}
 use Rattle.boost_core.specs.Refusals.{refusal_of, has_dummy}
 use Rattle.boost_core.specs.Machine.{Move}
-use Rattle.boost_core.specs.Core.{World, Tells, IsFresh, state_of, turn_at, nodes_at, gap_by, helper_gaps_of, all_times}
+use Rattle.boost_core.specs.Core.{World, Tells, IsFresh, state_of, session_changes, nodes_at, gap_by, helper_gaps_of, all_times}
 use Rattle.boost_core.proofs.Spares.{still_covered}
 use Rattle.boost_core.proofs.Refused.{le_false}
 use Rattle.boost_core.proofs.Grow.{table_stayed}
@@ -55,12 +55,12 @@ append_none h = sym (append-nil h)
 
 pub swept_move : (w : World) (t' : TableAt) → Keeps w.table t' → table_changes w.table ≤ table_changes t'
     → Move (state_of w) steps.Sweep answers.Swept (state_of (served w t' None))
-swept_move w t' keeps turn =
-    let runs = keeps_runs w.table t' keeps turn in
+swept_move w t' keeps rises =
+    let runs = keeps_runs w.table t' keeps rises in
     record {
       allowed = (refl, tt);
-      state = state_is w w.history (w.history ++ []) w.counts t' (map turn_at w.sessions) w.sessions w.locks None runs (append_none w.history) refl;
-      changes = turn;
+      state = state_is w w.history (w.history ++ []) w.counts t' (map session_changes w.sessions) w.sessions w.locks None runs (append_none w.history) refl;
+      changes = rises;
       list_kept = λ kept. absurd (false≢true kept);
       stamp = runs.last;
       one_stamp = runs.one_last;
@@ -68,13 +68,13 @@ swept_move w t' keeps turn =
 
 pub clean_move : (w : World) (t' : TableAt) → Keeps w.table t' → table_changes t' ≡ table_changes w.table
     → Move (state_of w) steps.Sweep answers.Clean (state_of (served w t' None))
-clean_move w t' keeps turn =
+clean_move w t' keeps stays =
     let runs = keeps_runs w.table t' keeps (omega arith) in
     record {
       allowed = (refl, tt);
-      state = state_is w w.history (w.history ++ []) w.counts t' (map turn_at w.sessions) w.sessions w.locks None runs (append_none w.history) refl;
-      changes = runs.turn;
-      list_kept = λ kept. turn;
+      state = state_is w w.history (w.history ++ []) w.counts t' (map session_changes w.sessions) w.sessions w.locks None runs (append_none w.history) refl;
+      changes = runs.rises;
+      list_kept = λ kept. stays;
       stamp = runs.last;
       one_stamp = runs.one_last;
     }
@@ -89,8 +89,8 @@ becomes_tells w tells t' placed' size stored linked helps becomes many follows f
 
 -- The state then.
 pub becomes_state : (w : World) (t' : TableAt) (placed' : Option Owner) (size : ℕ) (stored linked : List Bool) (helps : List Help) → Becomes w.table t' size stored linked helps
-    → state_of (served w t' placed') ≡ record { limits = w.limits; words = w.words; history = w.history ++ []; size = size; stored = stored; linked = linked; nodes = nodes_at t'; changes = table_changes t'; stamp = last_of t'; cursors = map turn_at w.sessions; gaps = map (gap_by t') w.sessions; helper_gaps = helper_gaps_of t'; helpers = helps; placed = placed' }
-becomes_state w t' placed' size stored linked helps becomes = λ i. record { limits = w.limits; words = w.words; history = append_none w.history i; size = becomes.size_is i; stored = becomes.stored_is i; linked = becomes.linked_is i; nodes = nodes_at t'; changes = table_changes t'; stamp = last_of t'; cursors = map turn_at w.sessions; gaps = map (gap_by t') w.sessions; helper_gaps = helper_gaps_of t'; helpers = becomes.helps_is i; placed = placed' }
+    → state_of (served w t' placed') ≡ record { limits = w.limits; words = w.words; history = w.history ++ []; size = size; stored = stored; linked = linked; nodes = nodes_at t'; changes = table_changes t'; stamp = last_of t'; cursors = map session_changes w.sessions; gaps = map (gap_by t') w.sessions; helper_gaps = helper_gaps_of t'; helpers = helps; placed = placed' }
+becomes_state w t' placed' size stored linked helps becomes = λ i. record { limits = w.limits; words = w.words; history = append_none w.history i; size = becomes.size_is i; stored = becomes.stored_is i; linked = becomes.linked_is i; nodes = nodes_at t'; changes = table_changes t'; stamp = last_of t'; cursors = map session_changes w.sessions; gaps = map (gap_by t') w.sessions; helper_gaps = helper_gaps_of t'; helpers = becomes.helps_is i; placed = placed' }
 
 -- Double.
 pub double_tells : (w : World) → Tells w
@@ -159,11 +159,11 @@ placed_not t (Some help) bucket is = ap not (is_set_is (stored_of t) bucket) ∙
 pub seek_ready_move : (w : World) (t' : TableAt) (helper bucket : ℕ) → length (helps_of w.table) ≡ w.limits.callers
     → seek_answer (size_of w.table) (stored_of w.table) (slice_get (helps_of w.table) helper) bucket ≡ Ok seeks.Ready → Helps w.table t' helper Nothing → table_changes t' ≡ table_changes w.table
     → Move (state_of w) (steps.InitSeek helper bucket) answers.Ready (state_of (served w t' None))
-seek_ready_move w t' helper bucket many is helps turn = record {
+seek_ready_move w t' helper bucket many is helps stays = record {
   allowed = (seek_refusal w helper bucket many ∙ ap refusal_in_result is, ready_stored w.table (slice_get (helps_of w.table) helper) bucket is);
   state = becomes_state w t' None (size_of w.table) (stored_of w.table) (linked_of w.table) (slice_set (helps_of w.table) helper Nothing) helps.becomes;
   changes = omega arith;
-  list_kept = λ kept. turn;
+  list_kept = λ kept. stays;
   stamp = let same = helps.last in omega arith;
   one_stamp = let same = helps.last in omega arith;
 }
@@ -171,10 +171,10 @@ seek_ready_move w t' helper bucket many is helps turn = record {
 pub seek_placed_move : (w : World) (t' : TableAt) (helper bucket : ℕ) → length (helps_of w.table) ≡ w.limits.callers
     → seek_answer (size_of w.table) (stored_of w.table) (slice_get (helps_of w.table) helper) bucket ≡ Ok seeks.Placed → Seeks w.table t' helper bucket → table_changes w.table ≤ table_changes t'
     → Move (state_of w) (steps.InitSeek helper bucket) answers.Placed (state_of (served w t' (Some (Helper helper))))
-seek_placed_move w t' helper bucket many is places turn = record {
+seek_placed_move w t' helper bucket many is places rises = record {
   allowed = (seek_refusal w helper bucket many ∙ ap refusal_in_result is, placed_not w.table (slice_get (helps_of w.table) helper) bucket is);
   state = becomes_state w t' (Some (Helper helper)) (size_of w.table) (stored_of w.table) (linked_of w.table) (slice_set (helps_of w.table) helper (Sought bucket (table_changes t'))) places.helps.becomes;
-  changes = turn;
+  changes = rises;
   list_kept = λ kept. absurd (false≢true kept);
   stamp = let same = places.helps.last in omega arith;
   one_stamp = let same = places.helps.last in omega arith;
@@ -193,7 +193,7 @@ store_refusal w helper many = at (slice_get (helps_of w.table) helper) refl
   where
     held : (help : Help) → cond (not (has_dummy help)) (Some refusals.HelperOutOfOrder) None ≡ refusal_in_result (store_answer (Some help))
     held Nothing = refl
-    held (Sought bucket turn) = refl
+    held (Sought bucket noted) = refl
     held (Dummy bucket) = refl
 
     at : (o : Option Help) → slice_get (helps_of w.table) helper ≡ o → refusal_of (state_of w) (steps.InitStore helper) ≡ refusal_in_result (store_answer o)
@@ -207,7 +207,7 @@ store_lacks : (w : World) (helper : ℕ) (o : Option Help) → slice_get (helps_
     → ((bucket : ℕ) → slice_get (helps_of w.table) helper ≡ Some (Dummy bucket) → LacksSegment (stored_of w.table) bucket) → LacksSegment (stored_of w.table) (bucket_at (help_in (helps_of w.table) helper))
 store_lacks w helper None is answer lacks = absurd (cc answer)
 store_lacks w helper (Some Nothing) is answer lacks = absurd (cc answer)
-store_lacks w helper (Some (Sought bucket turn)) is answer lacks = absurd (cc answer)
+store_lacks w helper (Some (Sought bucket noted)) is answer lacks = absurd (cc answer)
 store_lacks w helper (Some (Dummy bucket)) is answer lacks =
     subst (LacksSegment (stored_of w.table)) (sym (ap (λ (o : Option Help). bucket_at (unwrap_or o Nothing)) is)) (lacks bucket is)
 
@@ -232,7 +232,7 @@ pub stored_move : (w : World) (t' : TableAt) (helper : ℕ) → length (helps_of
 stored_move w t' helper many is stores = record {
   allowed = (store_refusal w helper many ∙ ap refusal_in_result is, tt);
   state = becomes_state w t' None (size_of w.table) (slice_set (stored_of w.table) stores.bucket true) (linked_of w.table) (slice_set (helps_of w.table) helper Nothing) stores.becomes
-      ∙ ap (λ n. record { limits = w.limits; words = w.words; history = w.history ++ []; size = size_of w.table; stored = slice_set (stored_of w.table) n true; linked = linked_of w.table; nodes = nodes_at t'; changes = table_changes t'; stamp = last_of t'; cursors = map turn_at w.sessions; gaps = map (gap_by t') w.sessions; helper_gaps = helper_gaps_of t'; helpers = slice_set (helps_of w.table) helper Nothing; placed = None })
+      ∙ ap (λ n. record { limits = w.limits; words = w.words; history = w.history ++ []; size = size_of w.table; stored = slice_set (stored_of w.table) n true; linked = linked_of w.table; nodes = nodes_at t'; changes = table_changes t'; stamp = last_of t'; cursors = map session_changes w.sessions; gaps = map (gap_by t') w.sessions; helper_gaps = helper_gaps_of t'; helpers = slice_set (helps_of w.table) helper Nothing; placed = None })
       (ap (λ (o : Option Help). bucket_at (unwrap_or o Nothing)) (sym stores.had));
   changes = let same = stores.kept in omega arith;
   list_kept = λ kept. stores.kept;

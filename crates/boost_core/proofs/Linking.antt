@@ -13,11 +13,11 @@ use Rattle.map_ops.specs.Buckets.{Helps, Holds, Links, is_stored, answer_for, li
 use Rattle.txn_trace.specs.declared.step.Step.TheVariants as steps
 use Rattle.txn_trace.specs.declared.answer.Answer.TheVariants as answers
 use Rattle.map_ops.specs.TableAt.{TableAt, Help, Nothing, Sought, Dummy, size_of, stored_of, linked_of, helps_of, table_changes, last_of}
-use Rattle.boost_core.specs.State.{State, Owner, Caller, Helper, is_set, help_in, bucket_at, turn_at as state_turn_at}
+use Rattle.boost_core.specs.State.{State, Owner, Caller, Helper, is_set, help_in, bucket_at, helper_changes}
 use Rattle.boost_core.specs.Refusals.{refusal_of, has_cursor, has_stamp, lacks_dummy}
 use Rattle.boost_core.specs.Answers.{is_just_placed, may_be_stale}
 use Rattle.boost_core.specs.Machine.{Move}
-use Rattle.boost_core.specs.Core.{World, IsFresh, state_of, turn_at, nodes_at, gap_by, helper_gaps_of}
+use Rattle.boost_core.specs.Core.{World, IsFresh, state_of, session_changes, nodes_at, gap_by, helper_gaps_of}
 use Rattle.boost_core.proofs.Moves.{refused, lacks}
 use Rattle.boost_core.proofs.Helping.{served, becomes_state, helper_there, helper_none, is_set_is}
 
@@ -59,15 +59,15 @@ linking_used true false false is = absurd (cc (is))
 -- A helper that no test refuses has a cursor for a bucket.
 pub record HasSought (o : Option Help) (fitting : Bool) (linked : List Bool) (last : ℕ) (result : Result InitLink Refusal) : Type 0 where
   pub bucket : ℕ
-  pub turn : ℕ
-  pub had : o ≡ Some (Sought bucket turn)
+  pub noted : ℕ
+  pub had : o ≡ Some (Sought bucket noted)
   pub answer : linking fitting (is_stored linked bucket) (last == 2 ^ 64 - 2) ≡ result
 
 pub has_sought : (fitting : Bool) (linked : List Bool) (last : ℕ) (o : Option Help) (result : Result InitLink Refusal) → link_answer fitting linked last o ≡ result → refusal_by_test result ≡ None → HasSought o fitting linked last result
 has_sought fitting linked last None result is free = absurd (let e : Some refusals.NoSuchHelper ≡ None = ap refusal_by_test is ∙ free in cc)
 has_sought fitting linked last (Some Nothing) result is free = absurd (let e : Some refusals.HelperOutOfOrder ≡ None = ap refusal_by_test is ∙ free in cc)
 has_sought fitting linked last (Some (Dummy bucket)) result is free = absurd (let e : Some refusals.HelperOutOfOrder ≡ None = ap refusal_by_test is ∙ free in cc)
-has_sought fitting linked last (Some (Sought bucket turn)) result is free = record { bucket = bucket; turn = turn; had = refl; answer = is }
+has_sought fitting linked last (Some (Sought bucket noted)) result is free = record { bucket = bucket; noted = noted; had = refl; answer = is }
 
 -- A link is answered `again` where the helper's cursor fits no longer, and otherwise only where it fits.
 pub stale_where : (t : TableAt) (helper : ℕ) → link_answer_of t helper ≡ Ok links.Again → helper_fits t helper ≡ false
@@ -101,14 +101,14 @@ module _ (w : World) (helper : ℕ) (many : length (helps_of w.table) ≡ w.limi
       at None is = tested None (helper_none (helps_of w.table) w.limits.callers helper many is) is
       at (Some Nothing) is = tested (Some Nothing) (helper_there (helps_of w.table) w.limits.callers helper Nothing many is) is
       at (Some (Dummy bucket)) is = tested (Some (Dummy bucket)) (helper_there (helps_of w.table) w.limits.callers helper (Dummy bucket) many is) is
-      at (Some (Sought bucket turn)) is = tested (Some (Sought bucket turn)) (helper_there (helps_of w.table) w.limits.callers helper (Sought bucket turn) many is) is ∙ linking_test (helper_fits w.table helper) (is_stored (linked_of w.table) bucket) (last_of w.table == 2 ^ 64 - 2)
+      at (Some (Sought bucket noted)) is = tested (Some (Sought bucket noted)) (helper_there (helps_of w.table) w.limits.callers helper (Sought bucket noted) many is) is ∙ linking_test (helper_fits w.table helper) (is_stored (linked_of w.table) bucket) (last_of w.table == 2 ^ 64 - 2)
 
   -- The bucket that the helper sought, and whether its dummy is linked.
   bucket_had : (help : Help) → slice_get (helps_of w.table) helper ≡ Some help → bucket_at (help_in (helps_of w.table) helper) ≡ bucket_at help
   bucket_had help had = ap (λ (o : Option Help). bucket_at (unwrap_or o Nothing)) had
 
-  lacks_when : (bucket turn : ℕ) (there : Bool) → slice_get (helps_of w.table) helper ≡ Some (Sought bucket turn) → is_set (linked_of w.table) bucket ≡ there → lacks_dummy before helper ≡ not there
-  lacks_when bucket turn there had is = ap (λ n. not (is_set (linked_of w.table) n)) (bucket_had (Sought bucket turn) had) ∙ ap not is
+  lacks_when : (bucket noted : ℕ) (there : Bool) → slice_get (helps_of w.table) helper ≡ Some (Sought bucket noted) → is_set (linked_of w.table) bucket ≡ there → lacks_dummy before helper ≡ not there
+  lacks_when bucket noted there had is = ap (λ n. not (is_set (linked_of w.table) n)) (bucket_had (Sought bucket noted) had) ∙ ap not is
 
   -- Want of memory or of stamps, or a refusal by a test.
   pub link_refused_move : (result : Result InitLink Refusal) → (result ≢ Err refusals.NoMemory → result ≡ answer_now) → (result ≡ Err refusals.NoMemory → answer_now ≡ Ok links.Linked) → (refusal : Refusal) → result ≡ Err refusal → (t' : TableAt) → t' ≡ w.table
@@ -126,13 +126,13 @@ module _ (w : World) (helper : ℕ) (many : length (helps_of w.table) ≡ w.limi
           let sought = has_sought (helper_fits w.table helper) (linked_of w.table) (last_of w.table) (slice_get (helps_of w.table) helper) (Ok links.Linked) linked refl in
           let parts = linking_linked (helper_fits w.table helper) (is_stored (linked_of w.table) sought.bucket) (last_of w.table == 2 ^ 64 - 2) sought.answer in
           lacks before (steps.InitLink helper) refusals.NoMemory (link_refusal ∙ ap refusal_by_test linked)
-          (and_from (lacks_dummy before helper) (has_stamp before) (lacks_when sought.bucket sought.turn false sought.had (is_set_is (linked_of w.table) sought.bucket ∙ parts.0)) (ap not parts.1))
+          (and_from (lacks_dummy before helper) (has_stamp before) (lacks_when sought.bucket sought.noted false sought.had (is_set_is (linked_of w.table) sought.bucket ∙ parts.0)) (ap not parts.1))
       at refusals.StampsUsedUp is =
           let now : answer_now ≡ Err refusals.StampsUsedUp = sym (says (λ e. let both : Err refusals.StampsUsedUp ≡ Err refusals.NoMemory = sym is ∙ e in cc)) ∙ is in
           let sought = has_sought (helper_fits w.table helper) (linked_of w.table) (last_of w.table) (slice_get (helps_of w.table) helper) (Err refusals.StampsUsedUp) now refl in
           let parts = linking_used (helper_fits w.table helper) (is_stored (linked_of w.table) sought.bucket) (last_of w.table == 2 ^ 64 - 2) sought.answer in
           lacks before (steps.InitLink helper) refusals.StampsUsedUp (link_refusal ∙ ap refusal_by_test now)
-          (and_from (lacks_dummy before helper) (not (has_stamp before)) (lacks_when sought.bucket sought.turn false sought.had (is_set_is (linked_of w.table) sought.bucket ∙ parts.0)) (ap (λ b. not (not b)) parts.1))
+          (and_from (lacks_dummy before helper) (not (has_stamp before)) (lacks_when sought.bucket sought.noted false sought.had (is_set_is (linked_of w.table) sought.bucket ∙ parts.0)) (ap (λ b. not (not b)) parts.1))
       at refusals.BadKey is = by_test refusals.BadKey is (λ e. cc (e)) refl
       at refusals.NoSuchCaller is = by_test refusals.NoSuchCaller is (λ e. cc (e)) refl
       at refusals.NotOpen is = by_test refusals.NotOpen is (λ e. cc (e)) refl
@@ -157,13 +157,13 @@ module _ (w : World) (helper : ℕ) (many : length (helps_of w.table) ≡ w.limi
   -- The cursor did not fit, and is dropped.
   pub link_again_move : answer_now ≡ Ok links.Again → IsFresh w.table w.sessions w.placed → ((bucket : ℕ) → slice_get (helps_of w.table) helper ≡ Some (Sought bucket (table_changes w.table)) → table_changes w.table < 2 ^ 64 - 1 → ⊥) → (t' : TableAt) → Helps w.table t' helper Nothing → table_changes t' ≡ table_changes w.table
       → Move before (steps.InitLink helper) answers.Again (state_of (served w t' None))
-  link_again_move is fresh in_turn t' helps turn =
+  link_again_move is fresh unmoved t' helps stays =
       let sought = has_sought (helper_fits w.table helper) (linked_of w.table) (last_of w.table) (slice_get (helps_of w.table) helper) (Ok links.Again) is refl in
       record {
-        allowed = (link_refusal ∙ ap refusal_by_test is, stale sought.bucket sought.turn sought.had (linking_again (helper_fits w.table helper) (is_stored (linked_of w.table) sought.bucket) (last_of w.table == 2 ^ 64 - 2) sought.answer));
+        allowed = (link_refusal ∙ ap refusal_by_test is, stale sought.bucket sought.noted sought.had (linking_again (helper_fits w.table helper) (is_stored (linked_of w.table) sought.bucket) (last_of w.table == 2 ^ 64 - 2) sought.answer));
         state = becomes_state w t' None (size_of w.table) (stored_of w.table) (linked_of w.table) (slice_set (helps_of w.table) helper Nothing) helps.becomes;
         changes = omega arith;
-        list_kept = λ kept. turn;
+        list_kept = λ kept. stays;
         stamp = let same = helps.last in omega arith;
         one_stamp = let same = helps.last in omega arith;
       }
@@ -176,27 +176,27 @@ module _ (w : World) (helper : ℕ) (many : length (helps_of w.table) ≡ w.limi
         | inr other ↦ ne_eqb helper d other
       ]
 
-      not_in_turn : (bucket turn : ℕ) → slice_get (helps_of w.table) helper ≡ Some (Sought bucket turn) → (turn == table_changes w.table && nat_lt turn (2 ^ 64 - 1)) ≡ false
-      not_in_turn bucket turn had = elim (cases_Bool (turn == table_changes w.table && nat_lt turn (2 ^ 64 - 1))) [
+      not_unmoved : (bucket noted : ℕ) → slice_get (helps_of w.table) helper ≡ Some (Sought bucket noted) → (noted == table_changes w.table && nat_lt noted (2 ^ 64 - 1)) ≡ false
+      not_unmoved bucket noted had = elim (cases_Bool (noted == table_changes w.table && nat_lt noted (2 ^ 64 - 1))) [
         | inr is ↦ is
         | inl is ↦
-            let parts = and_parts (turn == table_changes w.table) (nat_lt turn (2 ^ 64 - 1)) is in
-            let same : turn ≡ table_changes w.table = eqb-true turn (table_changes w.table) parts.0 in
-            let below : turn < 2 ^ 64 - 1 = ltb-true turn (2 ^ 64 - 1) parts.1 in
-            absurd (in_turn bucket (had ∙ ap (λ n. Some (Sought bucket n)) same) (omega arith))
+            let parts = and_parts (noted == table_changes w.table) (nat_lt noted (2 ^ 64 - 1)) is in
+            let same : noted ≡ table_changes w.table = eqb-true noted (table_changes w.table) parts.0 in
+            let below : noted < 2 ^ 64 - 1 = ltb-true noted (2 ^ 64 - 1) parts.1 in
+            absurd (unmoved bucket (had ∙ ap (λ n. Some (Sought bucket n)) same) (omega arith))
       ]
 
-      stale : (bucket turn : ℕ) → slice_get (helps_of w.table) helper ≡ Some (Sought bucket turn) → helper_fits w.table helper ≡ false → may_be_stale before (Helper helper) ≡ true
-      stale bucket turn had misfit =
-          ap (λ (o : Option Help). elim (state_turn_at (unwrap_or o Nothing)) as (λ _. Bool) [ None ↦ false | Some turn ↦ not (is_just_placed (Helper helper) w.placed) && not (turn == table_changes w.table && nat_lt turn (2 ^ 64 - 1)) ]) had
-          ∙ (λ i. not (not_fresh misfit w.placed fresh i) && not (not_in_turn bucket turn had i))
+      stale : (bucket noted : ℕ) → slice_get (helps_of w.table) helper ≡ Some (Sought bucket noted) → helper_fits w.table helper ≡ false → may_be_stale before (Helper helper) ≡ true
+      stale bucket noted had misfit =
+          ap (λ (o : Option Help). elim (helper_changes (unwrap_or o Nothing)) as (λ _. Bool) [ None ↦ false | Some noted ↦ not (is_just_placed (Helper helper) w.placed) && not (noted == table_changes w.table && nat_lt noted (2 ^ 64 - 1)) ]) had
+          ∙ (λ i. not (not_fresh misfit w.placed fresh i) && not (not_unmoved bucket noted had i))
 
   -- The dummy was linked already.
   pub link_present_move : answer_now ≡ Ok links.Present → (t' : TableAt) → Holds w.table t' helper → Move before (steps.InitLink helper) answers.Present (state_of (served w t' None))
   link_present_move is t' holds = record {
     allowed = (link_refusal ∙ ap refusal_by_test is, ap not (lacks_when holds.bucket holds.changes true holds.had (ap (λ (o : Option Bool). unwrap_or o false) holds.there)));
     state = becomes_state w t' None (size_of w.table) (stored_of w.table) (linked_of w.table) (slice_set (helps_of w.table) helper (Dummy holds.bucket)) holds.helps.becomes
-        ∙ ap (λ n. record { limits = w.limits; words = w.words; history = w.history ++ []; size = size_of w.table; stored = stored_of w.table; linked = linked_of w.table; nodes = nodes_at t'; changes = table_changes t'; stamp = last_of t'; cursors = map turn_at w.sessions; gaps = map (gap_by t') w.sessions; helper_gaps = helper_gaps_of t'; helpers = slice_set (helps_of w.table) helper (Dummy n); placed = None })
+        ∙ ap (λ n. record { limits = w.limits; words = w.words; history = w.history ++ []; size = size_of w.table; stored = stored_of w.table; linked = linked_of w.table; nodes = nodes_at t'; changes = table_changes t'; stamp = last_of t'; cursors = map session_changes w.sessions; gaps = map (gap_by t') w.sessions; helper_gaps = helper_gaps_of t'; helpers = slice_set (helps_of w.table) helper (Dummy n); placed = None })
         (sym (bucket_had (Sought holds.bucket holds.changes) holds.had));
     changes = let same = holds.kept in omega arith;
     list_kept = λ kept. holds.kept;
@@ -206,15 +206,15 @@ module _ (w : World) (helper : ℕ) (many : length (helps_of w.table) ≡ w.limi
 
   -- The dummy is linked now.
   pub link_linked_move : answer_now ≡ Ok links.Linked → (t' : TableAt) → Links w.table t' helper → table_changes w.table ≤ table_changes t' → Move before (steps.InitLink helper) answers.Linked (state_of (served w t' None))
-  link_linked_move is t' linked turn =
+  link_linked_move is t' linked rises =
       let sought = has_sought (helper_fits w.table helper) (linked_of w.table) (last_of w.table) (slice_get (helps_of w.table) helper) (Ok links.Linked) is refl in
       let parts = linking_linked (helper_fits w.table helper) (is_stored (linked_of w.table) sought.bucket) (last_of w.table == 2 ^ 64 - 2) sought.answer in
       record {
         allowed = (link_refusal ∙ ap refusal_by_test is, and_from (lacks_dummy before helper) (has_stamp before) (lacks_when linked.bucket linked.changes false linked.had (ap (λ (o : Option Bool). unwrap_or o false) linked.absent)) (ap not parts.1));
         state = becomes_state w t' None (size_of w.table) (stored_of w.table) (slice_set (linked_of w.table) linked.bucket true) (slice_set (helps_of w.table) helper (Dummy linked.bucket)) linked.becomes
-            ∙ ap (λ n. record { limits = w.limits; words = w.words; history = w.history ++ []; size = size_of w.table; stored = stored_of w.table; linked = slice_set (linked_of w.table) n true; nodes = nodes_at t'; changes = table_changes t'; stamp = last_of t'; cursors = map turn_at w.sessions; gaps = map (gap_by t') w.sessions; helper_gaps = helper_gaps_of t'; helpers = slice_set (helps_of w.table) helper (Dummy n); placed = None })
+            ∙ ap (λ n. record { limits = w.limits; words = w.words; history = w.history ++ []; size = size_of w.table; stored = stored_of w.table; linked = slice_set (linked_of w.table) n true; nodes = nodes_at t'; changes = table_changes t'; stamp = last_of t'; cursors = map session_changes w.sessions; gaps = map (gap_by t') w.sessions; helper_gaps = helper_gaps_of t'; helpers = slice_set (helps_of w.table) helper (Dummy n); placed = None })
             (sym (bucket_had (Sought linked.bucket linked.changes) linked.had));
-        changes = turn;
+        changes = rises;
         list_kept = λ kept. absurd (false≢true kept);
         stamp = let more = linked.last in omega arith;
         one_stamp = let more = linked.last in omega arith;

@@ -17,7 +17,7 @@ use Rattle.boost_core.specs.declared.session.Session.{Session}
 use Rattle.boost_core.specs.State.{State, Owner}
 use Rattle.boost_core.specs.Refusals.{refusal_of, MayLack}
 use Rattle.boost_core.specs.Machine.{Move}
-use Rattle.boost_core.specs.Core.{World, state_of, turn_at, nodes_at, gap_by, helper_gaps_of}
+use Rattle.boost_core.specs.Core.{World, state_of, session_changes, nodes_at, gap_by, helper_gaps_of}
 
 -- A step that is refused leaves the state.
 pub refused : (state : State) (step : Step) (refusal : Refusal) → refusal_of state step ≡ Some refusal → Move state step (Refused refusal) state
@@ -32,12 +32,12 @@ pub record Runs (t t' : TableAt) : Type 0 where
   pub stored : stored_of t' ≡ stored_of t
   pub linked : linked_of t' ≡ linked_of t
   pub helps : helps_of t' ≡ helps_of t
-  pub turn : table_changes t ≤ table_changes t'
+  pub rises : table_changes t ≤ table_changes t'
   pub last : last_of t ≤ last_of t'
   pub one_last : last_of t' ≤ last_of t + 1
 
 pub runs_same : (t : TableAt) → Runs t t
-runs_same t = record { size = refl; stored = refl; linked = refl; helps = refl; turn = omega arith; last = omega arith; one_last = omega arith }
+runs_same t = record { size = refl; stored = refl; linked = refl; helps = refl; rises = omega arith; last = omega arith; one_last = omega arith }
 
 -- So it is where only spares have changed.
 pub rests_runs : (t t' : TableAt) → Rests t t' → Runs t t'
@@ -46,23 +46,23 @@ rests_runs t t' rests = record {
   stored = rests.nodes.buckets.stored;
   linked = rests.nodes.linked;
   helps = rests.nodes.buckets.helps;
-  turn = let same = rests.nodes.changes in omega arith;
+  rises = let same = rests.nodes.changes in omega arith;
   last = let same = rests.last in omega arith;
   one_last = let same = rests.last in omega arith;
 }
 
 -- The state after such a step, of a world with one caller's side changed.
-pub state_is : (w : World) (h' h'' : List Entry) (counts' : Counts) (t' : TableAt) (cursors : List (Option ℕ)) (sessions' : List Session) (locks' : List (Option ℕ)) (placed' : Option Owner) → Runs w.table t' → h' ≡ h'' → map turn_at sessions' ≡ cursors
+pub state_is : (w : World) (h' h'' : List Entry) (counts' : Counts) (t' : TableAt) (cursors : List (Option ℕ)) (sessions' : List Session) (locks' : List (Option ℕ)) (placed' : Option Owner) → Runs w.table t' → h' ≡ h'' → map session_changes sessions' ≡ cursors
     → state_of (record { limits = w.limits; history = h'; counts = counts'; table = t'; sessions = sessions'; locks = locks'; placed = placed'; words = w.words })
     ≡ record { limits = w.limits; words = w.words; history = h''; size = size_of w.table; stored = stored_of w.table; linked = linked_of w.table; nodes = nodes_at t'; changes = table_changes t'; stamp = last_of t'; cursors = cursors; gaps = map (gap_by t') sessions'; helper_gaps = helper_gaps_of t'; helpers = helps_of w.table; placed = placed' }
 state_is w h' h'' counts' t' cursors sessions' locks' placed' runs entries same = λ i. record { limits = w.limits; words = w.words; history = entries i; size = runs.size i; stored = runs.stored i; linked = runs.linked i; nodes = nodes_at t'; changes = table_changes t'; stamp = last_of t'; cursors = same i; gaps = map (gap_by t') sessions'; helper_gaps = helper_gaps_of t'; helpers = runs.helps i; placed = placed' }
 
--- The turns of the callers' cursors, where one changes.
-pub turns_set : (sessions : List Session) (c : ℕ) (y : Session) (turn : Option ℕ) → turn_at y ≡ turn → map turn_at (slice_set sessions c y) ≡ slice_set (map turn_at sessions) c turn
-turns_set sessions c y turn is = map-set turn_at sessions c y ∙ ap (set (map turn_at sessions) c) is
+-- The change numbers of the callers' cursors, where one is set.
+pub changes_set : (sessions : List Session) (c : ℕ) (y : Session) (noted : Option ℕ) → session_changes y ≡ noted → map session_changes (slice_set sessions c y) ≡ slice_set (map session_changes sessions) c noted
+changes_set sessions c y noted is = map-set session_changes sessions c y ∙ ap (set (map session_changes sessions) c) is
 
-pub turns_same : (sessions : List Session) (c : ℕ) (x y : Session) → slice_get sessions c ≡ Some x → turn_at y ≡ turn_at x → map turn_at (slice_set sessions c y) ≡ map turn_at sessions
-turns_same sessions c x y at same = map-set_same turn_at sessions c y x (same ∙ ap turn_at (sym (get_or_from_slice_get sessions c x x at)))
+pub changes_same : (sessions : List Session) (c : ℕ) (x y : Session) → slice_get sessions c ≡ Some x → session_changes y ≡ session_changes x → map session_changes (slice_set sessions c y) ≡ map session_changes sessions
+changes_same sessions c x y at same = map-set_same session_changes sessions c y x (same ∙ ap session_changes (sym (get_or_from_slice_get sessions c x x at)))
 
 -- The nodes beside the callers' cursors, where the cursor of the one that changes stays.
 pub gaps_same : (t : TableAt) (sessions : List Session) (c : ℕ) (x y : Session) → slice_get sessions c ≡ Some x → gap_by t y ≡ gap_by t x → map (gap_by t) (slice_set sessions c y) ≡ map (gap_by t) sessions

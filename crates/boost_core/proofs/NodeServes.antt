@@ -49,11 +49,11 @@ module _ (w w' : World) (home : NamesDummies w.table) where
   }
   sought h b (Err refusal) writes changes = record { nodes = kept w w' writes; stamp = ap last_of changes }
 
-  linked : (h : ℕ) (outcome : Result InitLink Refusal) → (outcome ≢ Err refusals.NoMemory → outcome ≡ link_answer_of w.table h) → ((bucket turn : ℕ) → slice_get (helps_of w.table) h ≡ Some (Sought bucket turn) → LinkWrites w.table w'.table bucket outcome) → LinkChanges w.table w'.table h outcome
+  linked : (h : ℕ) (outcome : Result InitLink Refusal) → (outcome ≢ Err refusals.NoMemory → outcome ≡ link_answer_of w.table h) → ((bucket noted : ℕ) → slice_get (helps_of w.table) h ≡ Some (Sought bucket noted) → LinkWrites w.table w'.table bucket outcome) → LinkChanges w.table w'.table h outcome
       → Lists (state_of w) (steps.InitLink h) (said.linked outcome) (state_of w')
   linked h (Ok links.Again) says writes changes =
       let had = has_sought (helper_fits w.table h) (linked_of w.table) (last_of w.table) (slice_get (helps_of w.table) h) (Ok links.Again) (sym (says (λ e. cc (e)))) refl in
-      record { nodes = kept w w' (writes had.bucket had.turn had.had); stamp = changes.0.last }
+      record { nodes = kept w w' (writes had.bucket had.noted had.had); stamp = changes.0.last }
   linked h (Ok links.Present) says writes changes = record { nodes = kept w w' (writes changes.bucket changes.changes changes.had); stamp = changes.helps.last }
   linked h (Ok links.Linked) says writes changes =
       let link = writes changes.bucket changes.changes changes.had in

@@ -62,7 +62,7 @@ pub move_is : (w w' : World) (step : Step) (answer : Answer) → IsAllowed (stat
 move_is w w' step answer allowed is runs kept = record {
   allowed = allowed;
   state = is;
-  changes = runs.turn;
+  changes = runs.rises;
   list_kept = kept;
   stamp = runs.last;
   one_stamp = runs.one_last;

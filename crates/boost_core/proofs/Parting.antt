@@ -28,7 +28,7 @@ use Rattle.boost_core.specs.State.{seat_in, holder_by}
 use Rattle.boost_core.specs.Refusals.{refusal_of}
 use Rattle.boost_core.specs.Answers.{is_back_at, is_at_end}
 use Rattle.boost_core.specs.Spares.{times_of, times_in, times_out, IsCovered}
-use Rattle.boost_core.specs.Core.{World, Tells, state_of, turn_at}
+use Rattle.boost_core.specs.Core.{World, Tells, state_of, session_changes}
 use Rattle.boost_core.proofs.Numbers.{no_more}
 use Rattle.boost_core.proofs.Moves.{runs_same, rests_runs, state_is}
 use Rattle.boost_core.proofs.Grow.{world_after, seated_as}
@@ -37,7 +37,7 @@ use Rattle.boost_core.specs.Sessions.{target_in, IsSoughtAt, Waits, spare_if, ti
 use Rattle.boost_core.proofs.Settling.{no_jobs}
 use Rattle.boost_core.proofs.Sides.{at_most}
 use Rattle.boost_core.proofs.Refused.{seat_here, seat_free, begin_closed, save_open, back_open, commit_open, abort_runs, le_false_lt}
-use Rattle.boost_core.proofs.Quiet.{idle_cursor, nothing_waits, quiet, level_in, log_is, same_turn, no_turn, released_holders, no_newest}
+use Rattle.boost_core.proofs.Quiet.{idle_cursor, nothing_waits, quiet, level_in, log_is, same_changes, no_changes, released_holders, no_newest}
 
 module _ (w : World) (tells : Tells w) (c : ℕ) (x : Session) (at : slice_get w.sessions c ≡ Some x) where
   -- Begin.
@@ -53,7 +53,7 @@ module _ (w : World) (tells : Tells w) (c : ℕ) (x : Session) (at : slice_get w
             refl stays.seat (λ is. absurd (false≢true is)) (sym level.1 ∙ (tells.seated c x at).agrees.kept ∙ ap (λ ks. 0 ∷ ks) (sym stays.kept)) refl (nothing_waits w tells c x at Closed closed refl) stays.waits stays.jobs (stays.cursor ∙ idle_cursor w tells c x at Closed closed refl)
             number (no_more w.counts.committed) refl tells.holders;
         move = λ seat'. move_is w (world_after w c (seated_as y seat') (w.history ++ entry.Began c n ∷ []) (record { began = n; committed = w.counts.committed }) w.table w.locks None) (steps.Begin c) (answers.Began n) (none, numbered)
-            (state_is w (w.history ++ entry.Began c n ∷ []) (w.history ++ entry.Began c n ∷ []) (record { began = n; committed = w.counts.committed }) w.table (map turn_at w.sessions) (slice_set w.sessions c (seated_as y seat')) w.locks None (runs_same w.table) refl (same_turn w tells c x at y stays.cursor seat'))
+            (state_is w (w.history ++ entry.Began c n ∷ []) (w.history ++ entry.Began c n ∷ []) (record { began = n; committed = w.counts.committed }) w.table (map session_changes w.sessions) (slice_set w.sessions c (seated_as y seat')) w.locks None (runs_same w.table) refl (same_changes w tells c x at y stays.cursor seat'))
             (runs_same w.table) (λ kept. refl);
         fresh = λ seat'. tt;
       }
@@ -70,7 +70,7 @@ module _ (w : World) (tells : Tells w) (c : ℕ) (x : Session) (at : slice_get w
             (no_more w.counts.began) (no_more w.counts.committed) refl tells.holders;
         move = λ seat'. move_is w (world_after w c (seated_as y seat') (w.history ++ entry.Saved c ∷ []) w.counts w.table w.locks None) (steps.Save c) (answers.Saved n)
             (none, saves.number ∙ one_more (length x.log.kept) ∙ ap length (sym agrees.kept) ∙ ap (λ (s : Seat). length s.kept) (sym (seat_here w tells c x at)))
-            (state_is w (w.history ++ entry.Saved c ∷ []) (w.history ++ entry.Saved c ∷ []) w.counts w.table (map turn_at w.sessions) (slice_set w.sessions c (seated_as y seat')) w.locks None (runs_same w.table) refl (same_turn w tells c x at y saves.cursor seat'))
+            (state_is w (w.history ++ entry.Saved c ∷ []) (w.history ++ entry.Saved c ∷ []) w.counts w.table (map session_changes w.sessions) (slice_set w.sessions c (seated_as y seat')) w.locks None (runs_same w.table) refl (same_changes w tells c x at y saves.cursor seat'))
             (runs_same w.table) (λ kept. refl);
         fresh = λ seat'. tt;
       }
@@ -89,7 +89,7 @@ module _ (w : World) (tells : Tells w) (c : ℕ) (x : Session) (at : slice_get w
             refl (ap (λ (s : Session). s.seat.seat) is) (λ saved. absurd (false≢true saved)) ((tells.seated c x at).agrees.kept ∙ ap (λ (s : Session). 0 ∷ s.log.kept) (sym is)) refl (nothing_waits w tells c x at Opened free.0 refl) (ap (λ (s : Session). s.pending) is) (ap (λ (s : Session). s.log.jobs) is) dropped
             (no_more w.counts.began) (no_more w.counts.committed) refl tells.holders;
         move = λ seat'. move_is w (world_after w c (seated_as y seat') (w.history ++ entry.Leave c (Some n) ∷ []) w.counts w.table w.locks None) (steps.Back c n) answers.Leaving (none, tt)
-            (state_is w (w.history ++ entry.Leave c (Some n) ∷ []) (w.history ++ entry.Leave c (Some n) ∷ []) w.counts w.table (slice_set (map turn_at w.sessions) c None) (slice_set w.sessions c (seated_as y seat')) w.locks None (runs_same w.table) refl (no_turn w tells c x at y dropped seat'))
+            (state_is w (w.history ++ entry.Leave c (Some n) ∷ []) (w.history ++ entry.Leave c (Some n) ∷ []) w.counts w.table (slice_set (map session_changes w.sessions) c None) (slice_set w.sessions c (seated_as y seat')) w.locks None (runs_same w.table) refl (no_changes w tells c x at y dropped seat'))
             (runs_same w.table) (λ kept. refl);
         fresh = λ seat'. tt;
       }
@@ -135,7 +135,7 @@ module _ (w : World) (tells : Tells w) (c : ℕ) (x : Session) (at : slice_get w
           holders = released_holders w tells c x at locks' releases;
         };
         move = λ seat'. move_is w (world_after w c (seated_as y seat') (w.history ++ entry.Committed c p ∷ []) (record { began = w.counts.began; committed = p }) t' locks' None) (steps.Commit c) (answers.Committed p) (none, numbered)
-            (state_is w (w.history ++ entry.Committed c p ∷ []) (w.history ++ entry.Committed c p ∷ []) (record { began = w.counts.began; committed = p }) t' (map turn_at w.sessions) (slice_set w.sessions c (seated_as y seat')) locks' None runs refl (same_turn w tells c x at y settles.cursor seat'))
+            (state_is w (w.history ++ entry.Committed c p ∷ []) (w.history ++ entry.Committed c p ∷ []) (record { began = w.counts.began; committed = p }) t' (map session_changes w.sessions) (slice_set w.sessions c (seated_as y seat')) locks' None runs refl (same_changes w tells c x at y settles.cursor seat'))
             runs (λ kept. settles.rests.nodes.changes);
         fresh = λ seat'. tt;
       }
@@ -178,7 +178,7 @@ module _ (w : World) (tells : Tells w) (c : ℕ) (x : Session) (at : slice_get w
           holders = tells.holders;
         };
         move = λ seat'. move_is w (world_after w c (seated_as y seat') (w.history ++ entry.Leave c None ∷ []) w.counts t' w.locks None) (steps.Abort c) answers.Leaving (none, tt)
-            (state_is w (w.history ++ entry.Leave c None ∷ []) (w.history ++ entry.Leave c None ∷ []) w.counts t' (slice_set (map turn_at w.sessions) c None) (slice_set w.sessions c (seated_as y seat')) w.locks None runs refl (no_turn w tells c x at y leaves.cursor seat'))
+            (state_is w (w.history ++ entry.Leave c None ∷ []) (w.history ++ entry.Leave c None ∷ []) w.counts t' (slice_set (map session_changes w.sessions) c None) (slice_set w.sessions c (seated_as y seat')) w.locks None runs refl (no_changes w tells c x at y leaves.cursor seat'))
             runs (λ kept. leaves.rests.nodes.changes);
         fresh = λ seat'. tt;
       }
@@ -216,7 +216,7 @@ module _ (w : World) (tells : Tells w) (c : ℕ) (x : Session) (at : slice_get w
               (returns.cursor ∙ idle_cursor w tells c x at (LeavingTo n) returns.phase (no_newest x.log n more)) (no_more w.counts.began) (no_more w.counts.committed) refl tells.holders;
           move = λ seat'. move_is w (world_after w c (seated_as y seat') (w.history ++ entry.Returned c n ∷ []) w.counts w.table w.locks None) (steps.Act c) (answers.Returned n)
               (none, and_from (not (has_job (seat_in w.history c))) (is_back_at n (seat_in w.history c).phase) no_job_here (ap (λ (s : Seat). is_back_at n s.phase) (seat_here w tells c x at) ∙ ap (is_back_at n) returns.phase ∙ eq-eqb n n refl))
-              (state_is w (w.history ++ entry.Returned c n ∷ []) (w.history ++ entry.Returned c n ∷ []) w.counts w.table (map turn_at w.sessions) (slice_set w.sessions c (seated_as y seat')) w.locks None (runs_same w.table) refl (same_turn w tells c x at y returns.cursor seat'))
+              (state_is w (w.history ++ entry.Returned c n ∷ []) (w.history ++ entry.Returned c n ∷ []) w.counts w.table (map session_changes w.sessions) (slice_set w.sessions c (seated_as y seat')) w.locks None (runs_same w.table) refl (same_changes w tells c x at y returns.cursor seat'))
               (runs_same w.table) (λ kept. refl);
           fresh = λ seat'. tt;
         }
@@ -238,7 +238,7 @@ module _ (w : World) (tells : Tells w) (c : ℕ) (x : Session) (at : slice_get w
               (ends.cursor ∙ idle_cursor w tells c x at LeavingToEnd ends.phase (no_newest x.log 0 more)) (no_more w.counts.began) (no_more w.counts.committed) ends.releases.as_many (released_holders w tells c x at locks' ends.releases);
           move = λ seat'. move_is w (world_after w c (seated_as y seat') (w.history ++ entry.Aborted c ∷ []) w.counts w.table locks' None) (steps.Act c) answers.Aborted
               (none, and_from (not (has_job (seat_in w.history c))) (is_at_end (seat_in w.history c).phase) no_job_here (ap (λ (s : Seat). is_at_end s.phase) (seat_here w tells c x at) ∙ ap is_at_end ends.phase))
-              (state_is w (w.history ++ entry.Aborted c ∷ []) (w.history ++ entry.Aborted c ∷ []) w.counts w.table (map turn_at w.sessions) (slice_set w.sessions c (seated_as y seat')) locks' None (runs_same w.table) refl (same_turn w tells c x at y ends.cursor seat'))
+              (state_is w (w.history ++ entry.Aborted c ∷ []) (w.history ++ entry.Aborted c ∷ []) w.counts w.table (map session_changes w.sessions) (slice_set w.sessions c (seated_as y seat')) locks' None (runs_same w.table) refl (same_changes w tells c x at y ends.cursor seat'))
               (runs_same w.table) (λ kept. refl);
           fresh = λ seat'. tt;
         }

@@ -23,8 +23,8 @@ use Rattle.map_ops.specs.Jobs.{PendingAt}
 use Rattle.map_ops.specs.TableAt.{Cursor, cursor_changes}
 use Rattle.boost_core.specs.declared.counts.Counts.{Counts}
 use Rattle.boost_core.specs.declared.session.Session.{Session}
-use Rattle.boost_core.specs.Core.{World, Tells, turn_at}
-use Rattle.boost_core.proofs.Moves.{turns_same, turns_set}
+use Rattle.boost_core.specs.Core.{World, Tells, session_changes}
+use Rattle.boost_core.proofs.Moves.{changes_same, changes_set}
 use Rattle.boost_core.proofs.Grow.{Grows, seated_as}
 use Rattle.boost_core.proofs.Outcomes.{same_times}
 use Rattle.boost_core.specs.Sessions.{target_in, key_of_newest, IsSoughtAt, Waits, changes_of, AreDue}
@@ -102,8 +102,8 @@ module _ (w : World) (tells : Tells w) (c : ℕ) (x : Session) (at : slice_get w
   pub log_is : (y : Session) → y.log.jobs ≡ x.log.jobs → log_of c w.history ≡ changes_of y.log.jobs
   log_is y jobs = (tells.seated c x at).log ∙ ap changes_of (sym jobs)
 
-  pub same_turn : (y : Session) → y.cursor ≡ x.cursor → (seat' : RoomySeat) → map turn_at (slice_set w.sessions c (seated_as y seat')) ≡ map turn_at w.sessions
-  same_turn y cursor seat' = turns_same w.sessions c x (seated_as y seat') at (ap (option_map cursor_changes) cursor)
+  pub same_changes : (y : Session) → y.cursor ≡ x.cursor → (seat' : RoomySeat) → map session_changes (slice_set w.sessions c (seated_as y seat')) ≡ map session_changes w.sessions
+  same_changes y cursor seat' = changes_same w.sessions c x (seated_as y seat') at (ap (option_map cursor_changes) cursor)
 
-  pub no_turn : (y : Session) → y.cursor ≡ None → (seat' : RoomySeat) → map turn_at (slice_set w.sessions c (seated_as y seat')) ≡ slice_set (map turn_at w.sessions) c None
-  no_turn y cursor seat' = turns_set w.sessions c (seated_as y seat') None (ap (option_map cursor_changes) cursor)
+  pub no_changes : (y : Session) → y.cursor ≡ None → (seat' : RoomySeat) → map session_changes (slice_set w.sessions c (seated_as y seat')) ≡ slice_set (map session_changes w.sessions) c None
+  no_changes y cursor seat' = changes_set w.sessions c (seated_as y seat') None (ap (option_map cursor_changes) cursor)

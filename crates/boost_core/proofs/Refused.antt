@@ -15,10 +15,10 @@ use Rattle.txn_trace.specs.declared.seat.Phase.TheVariants.{Closed, Opened, Wait
 use Rattle.txn_trace.specs.Shape.{Seat, closed_seat}
 use Rattle.map_ops.specs.TableAt.{TableAt, Cursor, cursor_changes}
 use Rattle.boost_core.specs.declared.session.Session.{Session}
-use Rattle.boost_core.specs.State.{State, Caller, seat_in, turn_in}
+use Rattle.boost_core.specs.State.{State, Caller, seat_in, caller_changes}
 use Rattle.boost_core.specs.Refusals.{owner_of, is_closed, is_waiting, is_leaving, has_target, tests_in, tests_of, first_of, refusal_in, refusal_of, lacks_in, lacks_cursor}
 use Rattle.boost_core.specs.Sessions.{IsSoughtAt}
-use Rattle.boost_core.specs.Core.{World, Tells, state_of, turn_at}
+use Rattle.boost_core.specs.Core.{World, Tells, state_of, session_changes}
 
 -- The one option, or else the other.
 abbrev pub or_else : Option Refusal → Option Refusal → Option Refusal
@@ -44,13 +44,13 @@ or_else_none (Some refusal) other none = absurd (cc (none))
 caller_same : (c d : ℕ) → Some (Caller c) ≡ Some (Caller d) → c ≡ d
 caller_same c d same = cc (same)
 
-lacks_is : (state : State) (c : ℕ) (step : Step) → owner_of step ≡ Some (Caller c) → lacks_cursor state step ≡ lacks_in (seat_in state.history c) (is_some (turn_in state.cursors c)) step
-lacks_is state c (Act d) owner = ap (λ (k : ℕ). lacks_in (seat_in state.history k) (is_some (turn_in state.cursors k)) (Act d)) (caller_same d c owner)
+lacks_is : (state : State) (c : ℕ) (step : Step) → owner_of step ≡ Some (Caller c) → lacks_cursor state step ≡ lacks_in (seat_in state.history c) (is_some (caller_changes state.cursors c)) step
+lacks_is state c (Act d) owner = ap (λ (k : ℕ). lacks_in (seat_in state.history k) (is_some (caller_changes state.cursors k)) (Act d)) (caller_same d c owner)
 lacks_is state c _ owner = refl
 
 -- The refusal of a caller's step.
 pub refusal_parts : (state : State) (c : ℕ) (step : Step) → owner_of step ≡ Some (Caller c)
-    → refusal_of state step ≡ cond (nat_le state.limits.callers c) (Some NoSuchCaller) (or_else (refusal_in state.limits.half (seat_in state.history c) step) (cond (lacks_in (seat_in state.history c) (is_some (turn_in state.cursors c)) step) (Some Unplaced) None))
+    → refusal_of state step ≡ cond (nat_le state.limits.callers c) (Some NoSuchCaller) (or_else (refusal_in state.limits.half (seat_in state.history c) step) (cond (lacks_in (seat_in state.history c) (is_some (caller_changes state.cursors c)) step) (Some Unplaced) None))
 refusal_parts state c step owner =
     ap (λ o. first_of (tests_of state o step)) owner
     ∙ ap (cond (nat_le state.limits.callers c) (Some NoSuchCaller))
@@ -61,7 +61,7 @@ refusal_parts state c step owner =
 pub record Free (state : State) (c : ℕ) (step : Step) : Type 0 where
   pub within : nat_le state.limits.callers c ≡ false
   pub seat : refusal_in state.limits.half (seat_in state.history c) step ≡ None
-  pub cursor : lacks_in (seat_in state.history c) (is_some (turn_in state.cursors c)) step ≡ false
+  pub cursor : lacks_in (seat_in state.history c) (is_some (caller_changes state.cursors c)) step ≡ false
 
 pub free : (state : State) (c : ℕ) (step : Step) → owner_of step ≡ Some (Caller c) → refusal_of state step ≡ None → Free state c step
 free state c step owner none =
@@ -124,15 +124,15 @@ slice_get-mapped : {A B : Type 0} (f : A → B) (xs : List A) (i : ℕ) (x : A) 
 slice_get-mapped f xs i x at = slice_get-map f xs i ∙ ap (option_map f) at
 
 module _ (w : World) (tells : Tells w) (c : ℕ) (x : Session) (at : slice_get w.sessions c ≡ Some x) where
-  -- A caller's seat and its cursor's turn are the machine's.
+  -- A caller's seat and its cursor's change number are the machine's.
   pub seat_here : seat_in w.history c ≡ x.seat.seat
   seat_here = ap (λ o. unwrap_or o closed_seat) (tells.seated c x at).seat
 
-  pub turn_here : turn_in (map turn_at w.sessions) c ≡ turn_at x
-  turn_here = ap (λ o. unwrap_or o None) (slice_get-mapped turn_at w.sessions c x at)
+  pub changes_here : caller_changes (map session_changes w.sessions) c ≡ session_changes x
+  changes_here = ap (λ o. unwrap_or o None) (slice_get-mapped session_changes w.sessions c x at)
 
-  pub turn_is_some : is_some (turn_in (map turn_at w.sessions) c) ≡ is_some x.cursor
-  turn_is_some = ap is_some turn_here ∙ both x.cursor
+  pub changes_is_some : is_some (caller_changes (map session_changes w.sessions) c) ≡ is_some x.cursor
+  changes_is_some = ap is_some changes_here ∙ both x.cursor
     where
       both : (o : Option Cursor) → is_some (option_map cursor_changes o) ≡ is_some o
       both None = refl
@@ -143,15 +143,15 @@ module _ (w : World) (tells : Tells w) (c : ℕ) (x : Session) (at : slice_get w
       → refusal_of (state_of w) step ≡ or_else (refusal_in w.limits.half x.seat.seat step) (cond (lacks_in x.seat.seat (is_some x.cursor) step) (Some Unplaced) None)
   refusal_here step owner within =
       refusal_parts (state_of w) c step owner
-      ∙ ap (λ b. cond b (Some NoSuchCaller) (or_else (refusal_in w.limits.half (seat_in w.history c) step) (cond (lacks_in (seat_in w.history c) (is_some (turn_in (map turn_at w.sessions) c)) step) (Some Unplaced) None))) within
-      ∙ (λ i. or_else (refusal_in w.limits.half (seat_here i) step) (cond (lacks_in (seat_here i) (turn_is_some i) step) (Some Unplaced) None))
+      ∙ ap (λ b. cond b (Some NoSuchCaller) (or_else (refusal_in w.limits.half (seat_in w.history c) step) (cond (lacks_in (seat_in w.history c) (is_some (caller_changes (map session_changes w.sessions) c)) step) (Some Unplaced) None))) within
+      ∙ (λ i. or_else (refusal_in w.limits.half (seat_here i) step) (cond (lacks_in (seat_here i) (changes_is_some i) step) (Some Unplaced) None))
 
   -- What nothing refuses, the caller's side does not refuse.
   pub seat_free : (step : Step) → owner_of step ≡ Some (Caller c) → refusal_of (state_of w) step ≡ None → refusal_in w.limits.half x.seat.seat step ≡ None
   seat_free step owner none = ap (λ s. refusal_in w.limits.half s step) (sym seat_here) ∙ (free (state_of w) c step owner none).seat
 
   pub cursor_free : (step : Step) → owner_of step ≡ Some (Caller c) → refusal_of (state_of w) step ≡ None → lacks_in x.seat.seat (is_some x.cursor) step ≡ false
-  cursor_free step owner none = (λ i. lacks_in (sym seat_here i) (sym turn_is_some i) step) ∙ (free (state_of w) c step owner none).cursor
+  cursor_free step owner none = (λ i. lacks_in (sym seat_here i) (sym changes_is_some i) step) ∙ (free (state_of w) c step owner none).cursor
 
 -- Where the seat refuses, that is the refusal; where it does not, want of a cursor is.
 pub or_else_some : (one other : Option Refusal) → is_some one ≡ true → or_else one other ≡ one

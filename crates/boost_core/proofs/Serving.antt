@@ -56,7 +56,7 @@ module _ (w : World) (tells : Tells w) (t' : TableAt) (follows : Follows w.table
 
   swept_by : (outcome : SweepOutcome) (answer : Answer) (is : Sweeping w.table t' answer) → is.outcome ≡ outcome → answer ≡ said.swept outcome → Served w steps.Sweep answer t'
   swept_by sweeps.Swept answer is says answer_is = subst (λ a. Served w steps.Sweep a t') (sym answer_is) (record { tells = sweep_tells w tells t' is.keeps is.spares follows; move = swept_move w t' is.keeps rises })
-  swept_by sweeps.Clean answer is says answer_is = subst (λ a. Served w steps.Sweep a t') (sym answer_is) (record { tells = sweep_tells w tells t' is.keeps is.spares follows; move = clean_move w t' is.keeps (is.turn says) })
+  swept_by sweeps.Clean answer is says answer_is = subst (λ a. Served w steps.Sweep a t') (sym answer_is) (record { tells = sweep_tells w tells t' is.keeps is.spares follows; move = clean_move w t' is.keeps (is.stays says) })
 
   sought_by : (h b : ℕ) (outcome : Result InitSeek Refusal) (answer : Answer) → answer ≡ said.sought outcome → outcome ≡ seek_answer (size_of w.table) (stored_of w.table) (slice_get (helps_of w.table) h) b
       → SeekChanges w.table t' h b outcome → Served w (steps.InitSeek h b) answer t'
@@ -79,7 +79,7 @@ module _ (w : World) (tells : Tells w) (t' : TableAt) (follows : Follows w.table
       let now_is = sym (is.says (λ e. let both = sym says ∙ e in cc)) ∙ says in
       subst (λ a. Served w (steps.InitLink h) a t') (sym answer_is) (record {
         tells = becomes_tells w tells t' None _ _ _ _ changes.0.becomes (length-set _ _ _) follows tt;
-        move = link_again_move w h tells.helpers now_is tells.fresh (λ bucket had below. is.in_turn bucket had below says) t' changes.0 changes.1;
+        move = link_again_move w h tells.helpers now_is tells.fresh (λ bucket had below. is.unmoved bucket had below says) t' changes.0 changes.1;
       })
   linked_by h (Ok links.Present) answer answer_is is says =
       let holds = subst (LinkChanges w.table t' h) says is.changes in

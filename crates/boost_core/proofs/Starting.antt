@@ -28,7 +28,7 @@ use Rattle.boost_core.specs.declared.session.Session.{Session}
 use Rattle.boost_core.specs.State.{start}
 use Rattle.boost_core.specs.Spares.{times_of, times_in}
 use Rattle.boost_core.specs.Sessions.{IsIdle, Agrees, Waits, IsSoughtAt, AreDue, level_of, owed_of, target_of, times_kept, spare_if, changes_of}
-use Rattle.boost_core.specs.Core.{World, Tells, state_of, turn_at, node_at, gap_if, gap_by, all_times}
+use Rattle.boost_core.specs.Core.{World, Tells, state_of, session_changes, node_at, gap_if, gap_by, all_times}
 use Rattle.boost_core.proofs.HelperGaps.{idle_cursors}
 use Rattle.boost_core.proofs.NodeLists.{node_here, node_later, none_of_none}
 use Rattle.boost_core.proofs.Spares.{none_covered}
@@ -167,7 +167,7 @@ module _ (limits : Sizes) (t : TableAt) (new : IsNew t limits.buckets limits.cal
     nodes = map node_at (new.nodes_are i);
     changes = new.changes_is i;
     stamp = new.last_is i;
-    cursors = (image_is turn_at None sessions (λ s c at. ap (option_map cursor_changes) (is_idle s c at).cursor) ∙ ap (λ n. replicate n None) count) i;
+    cursors = (image_is session_changes None sessions (λ s c at. ap (option_map cursor_changes) (is_idle s c at).cursor) ∙ ap (λ n. replicate n None) count) i;
     gaps = (image_is (gap_by t) None sessions (λ s c at. ap (gap_if t) (is_idle s c at).cursor) ∙ ap (λ n. replicate n None) count) i;
     helper_gaps = (ap (map (gap_if t)) (idle_cursors t.buckets.helpers limits.callers new.helps_is) ∙ none_fit t limits.callers) i;
     helpers = new.helps_is i;

@@ -38,9 +38,9 @@ use Rattle.boost_core.specs.declared.session.Session.{Session}
 use Rattle.boost_core.specs.State.{seat_in, holder_by}
 use Rattle.boost_core.specs.Refusals.{refusal_of}
 use Rattle.boost_core.specs.Spares.{times_of, times_in, times_out, IsCovered}
-use Rattle.boost_core.specs.Core.{World, Tells, state_of, turn_at}
+use Rattle.boost_core.specs.Core.{World, Tells, state_of, session_changes}
 use Rattle.boost_core.proofs.Numbers.{no_more}
-use Rattle.boost_core.proofs.Moves.{Runs, state_is, turns_set}
+use Rattle.boost_core.proofs.Moves.{Runs, state_is, changes_set}
 use Rattle.boost_core.proofs.Grow.{world_after, seated_as}
 use Rattle.boost_core.proofs.Outcomes.{Called, move_is}
 use Rattle.boost_core.specs.Answers.{IsReply}
@@ -52,12 +52,12 @@ use Rattle.boost_core.proofs.Refused.{seat_here}
 use Rattle.boost_core.proofs.SparesKept.{done_covered}
 
 pub keeps_runs : (t t' : TableAt) → Keeps t t' → table_changes t ≤ table_changes t' → Runs t t'
-keeps_runs t t' keeps turn = record {
+keeps_runs t t' keeps rises = record {
   size = keeps.buckets.size;
   stored = keeps.buckets.stored;
   linked = keeps.linked;
   helps = keeps.buckets.helps;
-  turn = turn;
+  rises = rises;
   last = let same = keeps.last in omega arith;
   one_last = let same = keeps.last in omega arith;
 }
@@ -117,18 +117,18 @@ module _ (w : World) (tells : Tells w) (c : ℕ) (x : Session) (at : slice_get w
         ∙ changes_noted (now w.history) does.pending.op does.pending.spare x.log.jobs does.job noted_here ∙ ap changes_of (sym does.jobs)
 
     did_runs : table_changes w.table ≤ table_changes t' → Runs w.table t'
-    did_runs turn = record {
+    did_runs rises = record {
       size = does.does.buckets.size;
       stored = does.does.buckets.stored;
       linked = does.does.linked;
       helps = does.does.buckets.helps;
-      turn = turn;
+      rises = rises;
       last = let same = does.does.last in omega arith;
       one_last = let same = does.does.last in omega arith;
     }
 
     pub did_called : table_changes w.table ≤ table_changes t' → Called w c x (steps.Act c) (answers.Done reply) y t' w.locks
-    did_called turn = record {
+    did_called rises = record {
       comes = record {
         seat = did_seat;
         committed = serial w.history;
@@ -159,9 +159,9 @@ module _ (w : World) (tells : Tells w) (c : ℕ) (x : Session) (at : slice_get w
       };
       move = λ seat'. move_is w (world_after w c (seated_as y seat') (w.history ++ entry.Did c reply ∷ []) w.counts t' w.locks None) (steps.Act c) (answers.Done reply)
           (none, subst (λ (q : Phase). IsReply q (now w.history) reply) (sym (ap (λ (s : Seat). s.phase) here ∙ phase_was)) reply_is)
-          (state_is w (w.history ++ entry.Did c reply ∷ []) (w.history ++ entry.Did c reply ∷ []) w.counts t' (slice_set (map turn_at w.sessions) c None) (slice_set w.sessions c (seated_as y seat')) w.locks None (did_runs turn) refl
-          (turns_set w.sessions c (seated_as y seat') None (ap (option_map cursor_changes) does.cursor)))
-          (did_runs turn) (λ kept. absurd (false≢true kept));
+          (state_is w (w.history ++ entry.Did c reply ∷ []) (w.history ++ entry.Did c reply ∷ []) w.counts t' (slice_set (map session_changes w.sessions) c None) (slice_set w.sessions c (seated_as y seat')) w.locks None (did_runs rises) refl
+          (changes_set w.sessions c (seated_as y seat') None (ap (option_map cursor_changes) does.cursor)))
+          (did_runs rises) (λ kept. absurd (false≢true kept));
       fresh = λ seat'. tt;
     }
 
@@ -201,12 +201,12 @@ module _ (w : World) (tells : Tells w) (c : ℕ) (x : Session) (at : slice_get w
         (log_held w.limits.stripes w.history tells.legal c (ap is_running (tells.seated c x at).seat ∙ going_runs x.seat.seat.phase goes.0))).0
 
     undone_runs : table_changes w.table ≤ table_changes t' → Runs w.table t'
-    undone_runs turn = record {
+    undone_runs rises = record {
       size = back.back.buckets.size;
       stored = back.back.buckets.stored;
       linked = back.back.linked;
       helps = back.back.buckets.helps;
-      turn = turn;
+      rises = rises;
       last = let same = back.back.last in omega arith;
       one_last = let same = back.back.last in omega arith;
     }
@@ -228,7 +228,7 @@ module _ (w : World) (tells : Tells w) (c : ℕ) (x : Session) (at : slice_get w
         regroup' a b d k n same exact = omega arith
 
     pub undone_called : table_changes w.table ≤ table_changes t' → Called w c x (steps.Act c) answers.Undone y t' w.locks
-    undone_called turn = record {
+    undone_called rises = record {
       comes = record {
         seat = undone_seat;
         committed = serial w.history;
@@ -256,8 +256,8 @@ module _ (w : World) (tells : Tells w) (c : ℕ) (x : Session) (at : slice_get w
         holders = tells.holders;
       };
       move = λ seat'. move_is w (world_after w c (seated_as y seat') (w.history ++ entry.Undone c ∷ []) w.counts t' w.locks None) (steps.Act c) answers.Undone (none, ap has_job here ∙ has)
-          (state_is w (w.history ++ entry.Undone c ∷ []) (w.history ++ entry.Undone c ∷ []) w.counts t' (slice_set (map turn_at w.sessions) c None) (slice_set w.sessions c (seated_as y seat')) w.locks None (undone_runs turn) refl
-          (turns_set w.sessions c (seated_as y seat') None (ap (option_map cursor_changes) back.cursor)))
-          (undone_runs turn) (λ kept. absurd (false≢true kept));
+          (state_is w (w.history ++ entry.Undone c ∷ []) (w.history ++ entry.Undone c ∷ []) w.counts t' (slice_set (map session_changes w.sessions) c None) (slice_set w.sessions c (seated_as y seat')) w.locks None (undone_runs rises) refl
+          (changes_set w.sessions c (seated_as y seat') None (ap (option_map cursor_changes) back.cursor)))
+          (undone_runs rises) (λ kept. absurd (false≢true kept));
       fresh = λ seat'. tt;
     }

@@ -14,7 +14,7 @@ use Rattle.txn_trace.specs.declared.seat.Phase.{Phase}
 use Rattle.txn_trace.specs.declared.seat.Phase.TheVariants.{Waiting, LeavingTo, LeavingToEnd}
 use Rattle.txn_trace.specs.Shape.{how_many}
 use Rattle.txn_trace.specs.Locks.{is_locked}
-use Rattle.boost_core.specs.State.{State, Owner, Caller, Helper, Help, Nothing, Sought, Dummy, seat_in, turn_in, help_in, turn_at, bucket_at, is_set, with_bucket, holder_by}
+use Rattle.boost_core.specs.State.{State, Owner, Caller, Helper, Help, Nothing, Sought, Dummy, seat_in, caller_changes, help_in, helper_changes, bucket_at, is_set, with_bucket, holder_by}
 use Rattle.boost_core.specs.Refusals.{has_job, has_target, has_stamp, has_stamp_for, lacks_dummy}
 
 -- Whether two cursors are of one owner.
@@ -28,19 +28,19 @@ abbrev pub is_just_placed : Owner → Option Owner → Bool
 is_just_placed owner None = false
 is_just_placed owner (Some other) = is_same_owner owner other
 
--- The turn of an owner's cursor, if it has one.
-abbrev pub turn_of : State → Owner → Option ℕ
-turn_of state (Caller c) = turn_in state.cursors c
-turn_of state (Helper h) = turn_at (help_in state.helpers h)
+-- The change number that an owner's cursor noted, if it has a cursor.
+abbrev pub owner_changes : State → Owner → Option ℕ
+owner_changes state (Caller c) = caller_changes state.cursors c
+owner_changes state (Helper h) = helper_changes (help_in state.helpers h)
 
--- Whether a cursor may be found to fit no longer: not where the last move placed it, nor where its
--- turn is still the list's change number, but where that is the last number.
+-- Whether a cursor may be found to fit no longer: not where the last move placed it, nor where the
+-- list's change number is still the one that it noted, unless that is the last number.
 abbrev pub may_be_stale : State → Owner → Bool
-may_be_stale state owner = elim (turn_of state owner) [
+may_be_stale state owner = elim (owner_changes state owner) [
   | None ↦ false
-  | Some turn ↦
+  | Some noted ↦
       not (is_just_placed owner state.placed)
-      && not (turn == state.changes && nat_lt turn (2 ^ 64 - 1))
+      && not (noted == state.changes && nat_lt noted (2 ^ 64 - 1))
 ]
 
 -- The reply to the operation that waits is that of a map.

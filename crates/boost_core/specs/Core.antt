@@ -50,9 +50,9 @@ world_of limits history counts table sessions locks placed words = record {
   words = words;
 }
 
--- The turn of each caller's cursor.
-abbrev pub turn_at : Session → Option ℕ
-turn_at s = option_map cursor_changes s.cursor
+-- The change number that a session's cursor noted, if it has a cursor.
+abbrev pub session_changes : Session → Option ℕ
+session_changes s = option_map cursor_changes s.cursor
 
 -- The linked nodes.
 abbrev pub node_at : NodeAt → Node
@@ -96,7 +96,7 @@ state_of w = record {
   nodes = nodes_at w.table;
   changes = table_changes w.table;
   stamp = last_of w.table;
-  cursors = map turn_at w.sessions;
+  cursors = map session_changes w.sessions;
   gaps = map (gap_by w.table) w.sessions;
   helper_gaps = helper_gaps_of w.table;
   helpers = helps_of w.table;

@@ -10,7 +10,7 @@ use Rattle.txn_trace.specs.declared.refusal.Refusal.{Refusal}
 use Rattle.txn_trace.specs.declared.refusal.Refusal.TheVariants.{NoSuchCaller, Unplaced, NoSuchBucket, ParentMissing, NoSuchHelper, HelperOutOfOrder, NoMemory, StampsUsedUp}
 use Rattle.txn_trace.specs.Shape.{Seat}
 use Rattle.map_ops.specs.Buckets.{parent_of, LacksSegment}
-use Rattle.boost_core.specs.State.{State, Owner, Caller, Helper, Help, Sought, Dummy, seat_in, turn_in, help_in, is_set, bucket_at}
+use Rattle.boost_core.specs.State.{State, Owner, Caller, Helper, Help, Sought, Dummy, seat_in, caller_changes, help_in, is_set, bucket_at}
 
 -- Whose a step is, if it is a caller's or a helper's.
 abbrev pub owner_of : Step → Option Owner
@@ -36,12 +36,12 @@ lacks_in seat there step = false
 -- Whether a step lacks the cursor that it acts on.
 abbrev pub lacks_cursor : State → Step → Bool
 lacks_cursor state (Act c) =
-    lacks_in (seat_in state.history c) (is_some (turn_in state.cursors c)) (Act c)
+    lacks_in (seat_in state.history c) (is_some (caller_changes state.cursors c)) (Act c)
 lacks_cursor state step = false
 
 -- Whether a helper has a cursor.
 abbrev pub has_cursor : Help → Bool
-has_cursor (Sought bucket turn) = true
+has_cursor (Sought bucket noted) = true
 has_cursor help = false
 
 -- Whether a helper has a dummy.

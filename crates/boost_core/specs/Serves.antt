@@ -64,7 +64,7 @@ pub record Sweeping (t t' : TableAt) (answer : Answer) : Type 0 where
   pub sweeps : Sweeps t t' outcome
   pub keeps : Keeps t t'
   pub spares : KeepsSpares t t'
-  pub turn : outcome ≡ outcomes.Clean → table_changes t' ≡ table_changes t
+  pub stays : outcome ≡ outcomes.Clean → table_changes t' ≡ table_changes t
 
 -- A helper seeks the place of a bucket's dummy.
 pub record Seeking (t t' : TableAt) (h b : ℕ) (answer : Answer) : Type 0 where
@@ -80,11 +80,11 @@ pub record Linking (t t' : TableAt) (h : ℕ) (answer : Answer) : Type 0 where
   pub answer_is : answer ≡ linked outcome
   pub says : outcome ≢ Err refusals.NoMemory → outcome ≡ link_answer_of t h
   pub no_memory : outcome ≡ Err refusals.NoMemory → link_answer_of t h ≡ Ok links.Linked
-  pub in_turn : (bucket : ℕ)
+  pub unmoved : (bucket : ℕ)
       → slice_get (helps_of t) h ≡ Some (tables.Sought bucket (table_changes t))
       → table_changes t < 2 ^ 64 - 1 → outcome ≢ Ok links.Again
   pub changes : LinkChanges t t' h outcome
-  pub writes : (bucket turn : ℕ) → slice_get (helps_of t) h ≡ Some (tables.Sought bucket turn)
+  pub writes : (bucket noted : ℕ) → slice_get (helps_of t) h ≡ Some (tables.Sought bucket noted)
       → LinkWrites t t' bucket outcome
 
 -- A helper stores the dummy that it has.

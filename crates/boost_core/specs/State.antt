@@ -31,7 +31,7 @@ pub record Gap : Type 0 where
 
 -- The limits, whether stripes are words, the history, the size, for each bucket whether it is
 -- stored and whether its dummy is linked, the linked nodes in order, the list's change number, the
--- last stamp given, for each caller the turn of its cursor and, where that fits, the nodes between
+-- last stamp given, for each caller its cursor's change number and, where it fits, the nodes between
 -- which it stands, the same nodes for each helper, what each helper has, and whose cursor the last
 -- move placed.
 pub record State : Type 0 where
@@ -85,9 +85,9 @@ holder_by true = Begun
 abbrev pub seat_in : List Entry → ℕ → Seat
 seat_in history c = unwrap_or (seat_after (own c history)) closed_seat
 
--- The turn of a caller's cursor, if it has one.
-abbrev pub turn_in : List (Option ℕ) → ℕ → Option ℕ
-turn_in cursors c = unwrap_or (slice_get cursors c) None
+-- The change number that a caller's cursor noted, if it has a cursor.
+abbrev pub caller_changes : List (Option ℕ) → ℕ → Option ℕ
+caller_changes cursors c = unwrap_or (slice_get cursors c) None
 
 -- The nodes between which one of these cursors stands, if it is there and fits.
 abbrev pub gap_in : List (Option Gap) → ℕ → Option Gap
@@ -113,11 +113,11 @@ with_bucket buckets bucket = slice_set buckets bucket true
 -- The bucket for which a helper has a cursor or a dummy.
 abbrev pub bucket_at : Help → ℕ
 bucket_at Nothing = 0
-bucket_at (Sought bucket turn) = bucket
+bucket_at (Sought bucket noted) = bucket
 bucket_at (Dummy bucket) = bucket
 
--- The turn of a helper's cursor, if it has one.
-abbrev pub turn_at : Help → Option ℕ
-turn_at Nothing = None
-turn_at (Sought bucket turn) = Some turn
-turn_at (Dummy bucket) = None
+-- The change number that a helper's cursor noted, if it has a cursor.
+abbrev pub helper_changes : Help → Option ℕ
+helper_changes Nothing = None
+helper_changes (Sought bucket noted) = Some noted
+helper_changes (Dummy bucket) = None

@@ -75,7 +75,7 @@ impl Core {
     ghost use Rattle.boost_core.specs.Words.{Goes, IsClaim, ListsBy, is_ask};
     ghost use Rattle.boost_core.specs.Refusals.{owner_of, refusal_of};
     ghost use Rattle.boost_core.specs.Serves.{is_served};
-    ghost use Rattle.boost_core.specs.State.{turn_in};
+    ghost use Rattle.boost_core.specs.State.{caller_changes};
 
     /// A core in which nothing has happened: no caller has a transaction, and the table has two
     /// buckets, of which bucket 0 is initialised. Allocates in proportion to the callers, the
@@ -177,7 +177,7 @@ impl Core {
         ensures lists { ListsBy claim self.old step result self.new }
         ensures cursors { Cursors self.old step result self.new }
         ensures words { self.new.words ≡ self.old.words }
-        ensures cursor { result ≡ Answer.Placed → is_some (turn_in self.new.cursors caller) ≡ true }
+        ensures cursor { result ≡ Answer.Placed → is_some (caller_changes self.new.cursors caller) ≡ true }
     {
         if let Some(refusal) = self.refusal(caller, step) {
             return Answer::Refused(refusal);

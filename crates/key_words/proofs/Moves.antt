@@ -12,7 +12,7 @@ use Rattle.std.proofs.lemmas.List.Elements.{Contains-push, Contains-append_left,
 use Rattle.atomic_table.proofs.Lists.{at_set, set_here, set_else, exchanged}
 use Rattle.key_words.specs.declared.view.View.{View}
 use Rattle.key_words.specs.Rule.{view, times, once_for, Holds, WasTaken, IsOrderly}
-use Rattle.key_words.specs.Steps.{Sat, noted, gained, removed, lost, elder, newborn, emptied, took, brought, freed}
+use Rattle.key_words.specs.Steps.{Sat, with_note, gained, removed, lost, elder, newborn, emptied, took, brought, freed}
 use Rattle.key_words.specs.Laws.{HeldOnce}
 use Rattle.key_words.proofs.Keeps.{St, board, once_yes, once_no, within, moved, unmoved, joined, none_in}
 
@@ -84,7 +84,7 @@ tries n id m i own said e lt s o wide me _ = let v : View = m.0 in let x : ℕ =
           (added_note s o id v me i 0 (λ ne. absurd (ne refl))),
       ((λ _. refl), λ ne. absurd (ne z)),
     ))
-    (λ ne. let w = noted v i x in (
+    (λ ne. let w = with_note v i x in (
       w,
       keeps,
       tt,

@@ -6,7 +6,7 @@ use Rattle.key_words.specs.declared.taken.Tried.TheVariants.{Mine, Another}
 use Rattle.key_words.specs.declared.view.View.{View}
 use Rattle.key_words.specs.Rule.{Holds, view}
 use Rattle.key_words.specs.Seats.{known}
-use Rattle.key_words.specs.Steps.{gained, noted}
+use Rattle.key_words.specs.Steps.{gained, with_note}
 
 -- Seat and rights are as they were.
 abbrev pub IsSame : Rights → Rights → Type 0
@@ -26,7 +26,7 @@ Tries r stripe (Mine place) q = (slice_get q.rights.items place ≡ Some stripe)
     × (¬ Holds (known r.seat) stripe → Gains r stripe q)
 Tries r stripe (Another word) q = (word ≢ 0) × (word ≢ (known r.seat).number + 1)
     × (¬ Holds (known r.seat) stripe)
-    × (known q.seat ≡ noted (known r.seat) stripe word) × (q.rights.items ≡ r.rights.items)
+    × (known q.seat ≡ with_note (known r.seat) stripe word) × (q.rights.items ≡ r.rights.items)
 
 -- The view, once no stripe is held.
 abbrev pub none_held : View → View

@@ -7,7 +7,7 @@ use Rattle.key_words.specs.declared.words.KeyWords.{KeyWords}
 use Rattle.key_words.specs.declared.taken.Taken.{Taken}
 use Rattle.key_words.specs.declared.taken.Taken.TheVariants.{Granted, Held}
 use Rattle.key_words.specs.Rule.{Holds}
-use Rattle.key_words.specs.Steps.{gained, noted}
+use Rattle.key_words.specs.Steps.{gained, with_note}
 
 -- What the seat knows.
 abbrev pub known : KeySeat → View
@@ -26,7 +26,7 @@ stripes_of words = words.table.shared.table_id.words
 -- the stripe before, so else another's.
 abbrev pub Takes : ℕ → View → Taken → View → Type 0
 Takes stripe v (Granted right) w = (right ≡ stripe) × (w ≡ gained v stripe)
-Takes stripe v (Held word) w = (word ≢ 0) × (w ≡ noted v stripe word)
+Takes stripe v (Held word) w = (word ≢ 0) × (w ≡ with_note v stripe word)
     × (Holds v stripe ↔ (word ≡ v.number + 1))
 
 -- A seat of these words that has done nothing yet.

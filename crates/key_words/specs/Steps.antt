@@ -13,8 +13,8 @@ abbrev pub Told : Type 1
 Told = Step (Option ℕ) → Sat → ℕ → Sat → Type 0
 
 -- The stripe and its word are noted.
-abbrev pub noted : View → ℕ → ℕ → View
-noted v stripe word = view v.number v.made v.held (v.notes ++ (stripe, word) ∷ [])
+abbrev pub with_note : View → ℕ → ℕ → View
+with_note v stripe word = view v.number v.made v.held (v.notes ++ (stripe, word) ∷ [])
 
 -- The stripe is held, and noted as free.
 abbrev pub gained : View → ℕ → View
@@ -46,7 +46,7 @@ emptied (stripe ∷ others) = (stripe, None) ∷ emptied others
 -- word, which is its own exactly where it held the stripe before.
 abbrev pub took : Told
 took st m found n = (found ≡ 0 → n ≡ (gained m.0 st.word, (st.word, Some st.word) ∷ m.1))
-    × (found ≢ 0 → (n ≡ (noted m.0 st.word found, m.1))
+    × (found ≢ 0 → (n ≡ (with_note m.0 st.word found, m.1))
     × (Holds m.0 st.word ↔ (found ≡ m.0.number + 1)))
 
 -- The stripe's slot is the first of the seat's.

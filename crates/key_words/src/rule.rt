@@ -42,9 +42,9 @@ impl Play<Slot, View> for Free {
 }
 
 /// One more seat, with the next number.
-pub(crate) struct Another;
+pub(crate) struct AddSeat;
 
-impl Split<View> for Another {
+impl Split<View> for AddSeat {
     ghost left = { elder };
 
     ghost right = { newborn };

@@ -3,7 +3,7 @@ ghost use Rattle.key_locks.specs.Rights.{AreAll};
 ghost use Rattle.key_words.specs.Rule.{Holds, view};
 ghost use Rattle.key_words.specs.Steps.{lost};
 
-use crate::rule::{Another, Bring, Free, Order, Slot, Take};
+use crate::rule::{AddSeat, Bring, Free, Order, Slot, Take};
 use crate::seat::KeySeat;
 use crate::slots::{empty_slots, lay, lift};
 use crate::taken::Taken;
@@ -90,7 +90,7 @@ impl KeyWords {
         ensures { AreSeats self.now seats result.items }
     {
         for number in 1..seats {
-            let seat = self.table.shared.split_seat::<Another>(&mut first);
+            let seat = self.table.shared.split_seat::<AddSeat>(&mut first);
             all.push_reserved(KeySeat::fresh(number, seat));
         }
         let Ok(()) = all.insert(0, KeySeat::fresh(0, first)) else {

@@ -22,7 +22,7 @@ use Rattle.txn_drive.specs.declared.phase.Work.{Work}
 use Rattle.txn_drive.specs.declared.phase.Work.TheVariants.{Operation, Busy, Leaving}
 use Rattle.txn_drive.specs.Drives.{end_last, told_seek, counted, undone_more, told_act}
 use Rattle.txn_drive.specs.Made.{undone_in}
-use Rattle.boost_core.specs.State.{State, seat_in, turn_in}
+use Rattle.boost_core.specs.State.{State, seat_in, caller_changes}
 use Rattle.boost_core.specs.Refusals.{lacks_in, has_job, has_target, is_closed, is_leaving, is_waiting}
 use Rattle.boost_core.specs.Answers.{IsReply, is_back_at, is_at_end}
 use Rattle.boost_core.specs.Machine.{IsAllowed, Move}
@@ -77,10 +77,10 @@ seek_refused m c r within there (inr lack) = absurd lack.1
 
 nothing_suits : (n : State) (c : ℕ) (s : Seat) (call : Call) (work : Work) (again : ℕ) → work_phase call work ≡ Some s.phase → has_target s ≡ false → Suits n s c call (told_seek work again (answers.Refused NothingToSeek))
 nothing_suits n c s call Operation again fits none = absurd (false≢true (sym none ∙ ap (λ b. b || has_job s) (subst IsAsking fits (asking call)).0))
-nothing_suits n c s call (Busy x k) again fits none = (fits, ap (λ b. b && not (is_some (turn_in n.cursors c))) none)
-nothing_suits n c s call (Leaving k) again fits none = (fits, ap (λ b. b && not (is_some (turn_in n.cursors c))) none)
+nothing_suits n c s call (Busy x k) again fits none = (fits, ap (λ b. b && not (is_some (caller_changes n.cursors c))) none)
+nothing_suits n c s call (Leaving k) again fits none = (fits, ap (λ b. b && not (is_some (caller_changes n.cursors c))) none)
 
-placed_suits : (n : State) (c : ℕ) (s : Seat) (call : Call) (work : Work) (again : ℕ) → work_phase call work ≡ Some s.phase → is_some (turn_in n.cursors c) ≡ true → Suits n s c call (told_seek work again answers.Placed)
+placed_suits : (n : State) (c : ℕ) (s : Seat) (call : Call) (work : Work) (again : ℕ) → work_phase call work ≡ Some s.phase → is_some (caller_changes n.cursors c) ≡ true → Suits n s c call (told_seek work again answers.Placed)
 placed_suits n c s call Operation again fits there = (fits, ap (λ b. has_target s && not b) there ∙ and_none (has_target s))
 placed_suits n c s call (Busy x k) again fits there = (fits, ap (λ b. has_target s && not b) there ∙ and_none (has_target s))
 placed_suits n c s call (Leaving k) again fits there = (fits, ap (λ b. has_target s && not b) there ∙ and_none (has_target s))
@@ -89,7 +89,7 @@ pub suits_seek : (m n : State) (c : ℕ) (s : Seat) (call : Call) (work : Work) 
     → work_phase call work ≡ Some s.phase → Move m (steps.Seek c) a n → Suits n s c call (told_seek work again a)
 suits_seek m n c s call work again answers.Placed within there is fits move =
     placed_suits n c s call work again fits
-    (ap (λ (cursors : List (Option ℕ)). is_some (turn_in cursors c)) (ap (λ (x : State). x.cursors) move.state) ∙ ap is_some (set_in m.cursors c (Some n.changes) None there))
+    (ap (λ (cursors : List (Option ℕ)). is_some (caller_changes cursors c)) (ap (λ (x : State). x.cursors) move.state) ∙ ap is_some (set_in m.cursors c (Some n.changes) None there))
 suits_seek m n c s call work again (answers.Refused r) within there is fits move =
     let open_so = (subst IsAtWork (fits ∙ ap (λ (t : Seat). Some t.phase) is) (at_work call work)).0 in
     let nothing = seek_refused m c r within open_so move.allowed in
@@ -134,7 +134,7 @@ undone_suits n c s t call (Leaving k) few at job fits =
     subst (λ p. Suits n s c call p) (sym is) (subst (λ p. Fits s call p) is fits)
 
 pub suits_act : (m n : State) (c : ℕ) (s : Seat) (call : Call) (work : Work) (again : ℕ) (a : Answer) → nat_le m.limits.callers c ≡ false → undone_in work < 2 ^ 64 - 1
-    → work_phase call work ≡ Some (seat_in m.history c).phase → lacks_in (seat_in m.history c) (is_some (turn_in m.cursors c)) (steps.Act c) ≡ false → Move m (steps.Act c) a n
+    → work_phase call work ≡ Some (seat_in m.history c).phase → lacks_in (seat_in m.history c) (is_some (caller_changes m.cursors c)) (steps.Act c) ≡ false → Move m (steps.Act c) a n
     → Fits s call (told_act work again a) → Suits n s c call (told_act work again a)
 suits_act m n c s call work again (answers.Refused r) within few at cursor move fits =
     let busy = subst IsAtWork at (at_work call work) in

@@ -21,7 +21,7 @@ use Rattle.txn_drive.specs.declared.phase.Work.TheVariants.{Operation, Busy, Lea
 use Rattle.txn_drive.specs.declared.way.Way.{Way}
 use Rattle.txn_drive.specs.Drives.{first_step, end_first, end_last}
 use Rattle.txn_drive.specs.Made.{undone_in}
-use Rattle.boost_core.specs.State.{State, seat_in, turn_in, help_in, is_set, bucket_at}
+use Rattle.boost_core.specs.State.{State, seat_in, caller_changes, help_in, is_set, bucket_at}
 use Rattle.boost_core.specs.Refusals.{refusal_in, lacks_in, has_cursor, has_dummy}
 
 -- The phase of a caller whose call does a work.
@@ -85,7 +85,7 @@ Suits m s c call Fresh =
 Suits m s c call (Seeking work again) = work_phase call work ≡ Some s.phase
 Suits m s c call (Acting work again) =
     (work_phase call work ≡ Some s.phase)
-    × (lacks_in s (is_some (turn_in m.cursors c)) (Act c) ≡ false)
+    × (lacks_in s (is_some (caller_changes m.cursors c)) (Act c) ≡ false)
 Suits m s c call (Doubling size) = is_help call ≡ true
 Suits m s c call (Initialising way again) = (is_help call ≡ true) × IsOnWay m way
 Suits m s c call (Linking way again) =

@@ -16,7 +16,7 @@ use Rattle.txn_trace.specs.Sizes.{Sizes}
 use Rattle.locked_map.specs.Closes.{IsOwn}
 use Rattle.locked_map.specs.Tokens.{Ticket, new_ticket}
 use Rattle.thread_runs.specs.declared.outcome.Outcome as codes
-use Rattle.thread_runs.specs.declared.worker.Report.{Report}
+use Rattle.thread_runs.specs.declared.worker.WorkerReport.{WorkerReport}
 use Rattle.thread_runs.specs.Accounts.{Outcome, every, AreAllTrue}
 use Rattle.thread_runs.specs.Each.{Each}
 use Rattle.thread_runs.specs.Possible.{MayCome}
@@ -26,17 +26,17 @@ use Rattle.thread_runs.proofs.Lists.{all_at, get_map, map_get}
 use Rattle.thread_runs.proofs.Working.{all_true, told_within}
 
 -- A report of a pass that has this number and these limits.
-pub reported_at : {L : Type 0} (limits : Sizes) (workers tries : ℕ) (scripts : List (List Action)) (c : ℕ) (pass : Ticket) (report : Report L) → pass ≡ new_ticket limits c → HasReported pass.limits.half workers tries scripts pass.number report
+pub reported_at : {L : Type 0} (limits : Sizes) (workers tries : ℕ) (scripts : List (List Action)) (c : ℕ) (pass : Ticket) (report : WorkerReport L) → pass ≡ new_ticket limits c → HasReported pass.limits.half workers tries scripts pass.number report
     → HasReported limits.half workers tries scripts c report
 reported_at limits workers tries scripts c pass report is = subst (λ (t : Ticket). HasReported t.limits.half workers tries scripts t.number report) is
 
 -- Reports of a work that has these numbers and scripts.
-pub reported_as : {L : Type 0} (half : Bool) (workers workers' tries tries' : ℕ) (scripts scripts' : List (List Action)) (reports : List (Report L)) → workers' ≡ workers → tries' ≡ tries → scripts' ≡ scripts
+pub reported_as : {L : Type 0} (half : Bool) (workers workers' tries tries' : ℕ) (scripts scripts' : List (List Action)) (reports : List (WorkerReport L)) → workers' ≡ workers → tries' ≡ tries → scripts' ≡ scripts
     → Each (HasReported half workers' tries' scripts') reports → Each (HasReported half workers tries scripts) reports
 reported_as half workers workers' tries tries' scripts scripts' reports same again all each =
     subst (λ (n : ℕ). Each (HasReported half n tries scripts) reports) same (subst (λ (n : ℕ). Each (HasReported half workers' n scripts) reports) again (subst (λ ss. Each (HasReported half workers' tries' ss) reports) all each))
 
-module _ {L W : Type 0} (items : W → List codes.Outcome) (half : Bool) (workers tries : ℕ) (scripts : List (List Action)) (reports : List (Report L)) (rows : List W) (as_many : length reports ≡ workers)
+module _ {L W : Type 0} (items : W → List codes.Outcome) (half : Bool) (workers tries : ℕ) (scripts : List (List Action)) (reports : List (WorkerReport L)) (rows : List W) (as_many : length reports ≡ workers)
     (each : Each (HasReported half workers tries scripts) reports) (rows_are : map items rows ≡ map (λ r. reverse r.outcomes.items) reports) where
   pub as_many_rows : length rows ≡ workers
   as_many_rows = sym (length-map rows items) ∙ ap length rows_are ∙ length-map reports (λ r. reverse r.outcomes.items) ∙ as_many
@@ -48,7 +48,7 @@ module _ {L W : Type 0} (items : W → List codes.Outcome) (half : Bool) (worker
       let ran = (each c r at).ran in
       ap length (sym row_is) ∙ length-reverse r.outcomes.items ∙ sym (length-map r.outcomes.items told_of) ∙ ran.all ∙ ap (λ (n : ℕ). length (every n c scripts)) (sym as_many_rows)
 
-  report_at : (c : ℕ) → c < workers → (r : Report L) × (slice_get reports c ≡ Some r)
+  report_at : (c : ℕ) → c < workers → (r : WorkerReport L) × (slice_get reports c ≡ Some r)
   report_at c below = elim ((slice_get_cases reports c).1) [
     | inl is ↦ (is.0, is.2)
     | inr over ↦ let past = over.0 in absurd (omega (arith, as_many))
@@ -56,14 +56,14 @@ module _ {L W : Type 0} (items : W → List codes.Outcome) (half : Bool) (worker
 
   module _ (outcomes : List codes.Outcome) (order : Each (λ c row. every (length rows) c outcomes ≡ reverse (items row)) rows) where
     -- Of all outcomes those of a worker are those that it has reported.
-    own_outcomes : (c : ℕ) (r : Report L) → slice_get reports c ≡ Some r → every workers c (map told_of outcomes) ≡ map told_of r.outcomes.items
+    own_outcomes : (c : ℕ) (r : WorkerReport L) → slice_get reports c ≡ Some r → every workers c (map told_of outcomes) ≡ map told_of r.outcomes.items
     own_outcomes c r at =
         let (row, in_rows, row_is) = get_map items rows c (reverse r.outcomes.items) (map_get (λ q. reverse q.outcomes.items) reports _ rows_are c r at) in
         every-map told_of workers outcomes c
         ∙ ap (map told_of) (ap (λ (n : ℕ). every n c outcomes) (sym as_many_rows) ∙ order c row in_rows ∙ ap reverse row_is ∙ reverse-reverse r.outcomes.items)
 
     -- Where each worker has seen its own entries of the history, the outcomes are true of it.
-    pub reports_true : (h : List Entry) → IsShaped h → ((c : ℕ) (r : Report L) → slice_get reports c ≡ Some r → own r.caller.number h ≡ r.caller.seen) → AreAllTrue workers tries scripts (map told_of outcomes) h
+    pub reports_true : (h : List Entry) → IsShaped h → ((c : ℕ) (r : WorkerReport L) → slice_get reports c ≡ Some r → own r.caller.number h ≡ r.caller.seen) → AreAllTrue workers tries scripts (map told_of outcomes) h
     reports_true h shape owns = all_true workers tries scripts (map told_of outcomes) h shape by
       where
         by : (c : ℕ) → c < workers → AreToldIn c tries (every workers c scripts) (every workers c (map told_of outcomes)) (own c h)
@@ -87,7 +87,7 @@ module _ {L W : Type 0} (items : W → List codes.Outcome) (half : Bool) (worker
         (subst (MayAllCome half (every workers c scripts)) (sym (own_outcomes c r here)) (each c r here).ran.may)
 
 -- What a run has come to, by its reports, the callers and the rows that these are parted into, and the history of the map.
-pub run_true : {L W : Type 0} (items : W → List codes.Outcome) (limits sizes : Sizes) (workers tries : ℕ) (scripts : List (List Action)) (reports : List (Report L)) (callers : List _) (rows : List W) (outcomes : List codes.Outcome) (trace h : List Entry)
+pub run_true : {L W : Type 0} (items : W → List codes.Outcome) (limits sizes : Sizes) (workers tries : ℕ) (scripts : List (List Action)) (reports : List (WorkerReport L)) (callers : List _) (rows : List W) (outcomes : List codes.Outcome) (trace h : List Entry)
     → 0 < workers → length reports ≡ workers → Each (HasReported limits.half workers tries scripts) reports → callers ≡ map (λ r. r.caller) reports → map items rows ≡ map (λ r. reverse r.outcomes.items) reports → length outcomes ≡ length scripts
     → Each (λ c row. every (length rows) c outcomes ≡ reverse (items row)) rows → trace ≡ h → sizes ≡ limits → workers ≡ limits.callers → IsLegal Begun sizes.stripes h → All (λ e. caller_of e < sizes.callers) h → All (λ k. IsOwn h k) callers
     → HasRunScripts limits workers tries scripts (map told_of outcomes) trace

@@ -32,7 +32,7 @@ use Rattle.thread_runs.specs.Possible.{MayCome}
 use Rattle.thread_runs.specs.declared.outcome.Outcome as codes
 use Rattle.thread_runs.specs.declared.outcome.Outcome.TheVariants as outcomes
 use Rattle.thread_runs.specs.declared.ran.Ran.{Ran}
-use Rattle.thread_runs.specs.declared.worker.Report.{Report}
+use Rattle.thread_runs.specs.declared.worker.WorkerReport.{WorkerReport}
 
 -- The phase of a caller's seat at a stage of an attempt.
 abbrev pub phase_at : Stage → Phase
@@ -122,7 +122,7 @@ pub record HasRunAll (half : Bool) (workers tries c : ℕ) (scripts : List (List
 
 -- The worker of a number hands back its caller, and has run each of its scripts.
 pub record HasReported {L : Type 0} (half : Bool) (workers tries : ℕ)
-    (scripts : List (List Action)) (c : ℕ) (report : Report L) : Type 0 where
+    (scripts : List (List Action)) (c : ℕ) (report : WorkerReport L) : Type 0 where
   pub number_is : report.caller.number ≡ c
   pub ran :
       HasRunAll half workers tries c scripts (map told_of report.outcomes.items) report.caller.seen

@@ -11,9 +11,9 @@ mod outcome;
 mod ran;
 mod run_script;
 mod runs;
-mod task;
 #[cfg(test)]
 mod tests;
+mod terms;
 mod threads;
 mod worker;
 

@@ -6,9 +6,9 @@ use crate::gate::Gate;
 use crate::merging::in_order;
 use crate::outcome::Outcome;
 use crate::ran::Ran;
-use crate::task::Task;
+use crate::terms::Terms;
 use crate::threads::in_threads;
-use crate::worker::{Job, Report};
+use crate::worker::{Orders, WorkerReport};
 use locked_map::{Caller, NoSide, SharedMap};
 use std::alloc::{AllocError, Global};
 use std::marker::{Brand, PhantomData};
@@ -63,7 +63,7 @@ pub fn run_scripts<G: Gate, R: Threads + Wait + Sync>(
 }
 
 /// The same under a ledger and for a work that are named.
-fn run_under<L: Ledger + Send + Sync, T: Task + Send + Sync, G: Gate, R: Threads + Wait + Sync>(
+fn run_under<L: Ledger + Send + Sync, T: Terms + Send + Sync, G: Gate, R: Threads + Wait + Sync>(
     rt: &R,
     alloc: Global,
     blank: Blank,
@@ -84,15 +84,15 @@ fn run_under<L: Ledger + Send + Sync, T: Task + Send + Sync, G: Gate, R: Threads
     ensures err { IfErr result IsRunRefusal }
 {
     let (map, passes) = SharedMap::<L>::new(alloc, blank, limits)?;
-    let job = Job::<L, G, T> {
+    let orders = Orders::<L, G, T> {
         map: &map,
         scripts,
         workers,
         tries,
         gate,
-        task: PhantomData,
+        terms: PhantomData,
     };
-    let reports = in_threads(rt, alloc, limits, &job, passes)?;
+    let reports = in_threads(rt, alloc, limits, &orders, passes)?;
     let (callers, rows) = match unzip(alloc, reports) {
         Ok(parts) => parts,
         Err(AllocError) => return Err(Refusal::NoMemory),
@@ -112,7 +112,7 @@ fn run_under<L: Ledger + Send + Sync, T: Task + Send + Sync, G: Gate, R: Threads
 /// The callers of the reports, and each caller's outcomes, the last one first.
 fn unzip<L: Ledger>(
     alloc: Global,
-    reports: Vec<Report<L>>,
+    reports: Vec<WorkerReport<L>>,
 ) -> Result<(Vec<Caller<L, NoSide>>, Vec<Vec<Outcome>>), AllocError>
     ensures callers { IfOk result (λ r. r.0.items ≡ map (λ report. report.caller) reports.items) }
     ensures rows { IfOk result (λ r. map (λ row. row.items) r.1.items
@@ -121,7 +121,7 @@ fn unzip<L: Ledger>(
     let mut callers = Vec::new(alloc);
     let mut rows = Vec::new(alloc);
     for report in reports {
-        let Report {
+        let WorkerReport {
             caller,
             mut outcomes,
         } = report;

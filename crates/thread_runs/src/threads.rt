@@ -6,8 +6,8 @@ ghost use Rattle.thread_runs.specs.Each.{Each};
 ghost use Rattle.thread_runs.specs.Runs.{HasReported, IsRunRefusal};
 
 use crate::gate::Gate;
-use crate::task::Task;
-use crate::worker::{Job, Report};
+use crate::terms::Terms;
+use crate::worker::{Orders, WorkerReport};
 use locked_map::Pass;
 use std::alloc::{AllocError, Global};
 use std::marker::PhantomData;
@@ -20,12 +20,12 @@ use txn_trace::{Limits, Refusal};
 
 /// That the thread of a pass hands back its caller, with its scripts run.
 #[derive(Drop)]
-struct Runs<L: Ledger, T: Task> {
+struct Runs<L: Ledger, T: Terms> {
     pass: Snapshot<Pass<L>>,
-    task: PhantomData<T>,
+    terms: PhantomData<T>,
 }
 
-impl<L: Ledger, T: Task> Promise<Result<Report<L>, AllocError>> for Runs<L, T> {
+impl<L: Ledger, T: Terms> Promise<Result<WorkerReport<L>, AllocError>> for Runs<L, T> {
     ghost kept_by = { λ p r. IfOk r (HasReported p.pass.value.limits.half T.workers T.tries
         T.scripts p.pass.value.number) };
 }
@@ -33,16 +33,16 @@ impl<L: Ledger, T: Task> Promise<Result<Report<L>, AllocError>> for Runs<L, T> {
 /// Runs each worker in a thread of its own, and gives what each hands back, by their numbers.
 pub(crate) fn in_threads<
     L: Ledger + Send + Sync,
-    T: Task + Send + Sync,
+    T: Terms + Send + Sync,
     G: Gate,
     R: Threads + Wait + Sync,
 >(
     rt: &R,
     alloc: Global,
     limits: Limits,
-    job: &Job<L, G, T>,
+    orders: &Orders<L, G, T>,
     passes: Vec<Pass<L>>,
-) -> Result<Vec<Report<L>>, Refusal>
+) -> Result<Vec<WorkerReport<L>>, Refusal>
     requires { passes.items ≡ map (new_ticket limits) (range_with_len 0 limits.callers) }
     ensures len { IfOk result (λ reports. length reports.items ≡ limits.callers) }
     ensures each { IfOk result (λ reports.
@@ -52,7 +52,7 @@ pub(crate) fn in_threads<
     thread::scope(
         thread::scope_env(),
         rt,
-        |scope| -> Result<Vec<Report<L>>, Refusal>
+        |scope| -> Result<Vec<WorkerReport<L>>, Refusal>
             requires { passes.items ≡ map (new_ticket limits) (range_with_len 0 limits.callers) }
             ensures len { IfOk result (λ reports. length reports.items ≡ limits.callers) }
             ensures each { IfOk result (λ reports.
@@ -63,9 +63,9 @@ pub(crate) fn in_threads<
             for pass in passes {
                 let promise = Runs::<L, T> {
                     pass: Snapshot::of(&pass),
-                    task: PhantomData,
+                    terms: PhantomData,
                 };
-                let started = scope.spawn_with(promise, move || job.work(rt, alloc, pass));
+                let started = scope.spawn_with(promise, move || orders.work(rt, alloc, pass));
                 let Ok(thread) = started else {
                     return Err(Refusal::NoThread);
                 };
@@ -82,12 +82,12 @@ pub(crate) fn in_threads<
 }
 
 /// Waits for the thread of each worker, and gives what each hands back.
-fn join_all<L: Ledger, T: Task, R: Threads>(
+fn join_all<L: Ledger, T: Terms, R: Threads>(
     rt: &R,
     alloc: Global,
     limits: Limits,
-    threads: Vec<PromisedHandle<Result<Report<L>, AllocError>, Runs<L, T>>>,
-) -> Result<Vec<Report<L>>, AllocError>
+    threads: Vec<PromisedHandle<Result<WorkerReport<L>, AllocError>, Runs<L, T>>>,
+) -> Result<Vec<WorkerReport<L>>, AllocError>
     requires { map (λ thread. thread.promise.pass.value) threads.items
         ≡ map (new_ticket limits) (range_with_len 0 limits.callers) }
     ensures len { IfOk result (λ reports. length reports.items ≡ limits.callers) }

@@ -6,7 +6,7 @@ ghost use Rattle.thread_runs.specs.Runs.{HasReported, HasRunAll, told_of};
 use crate::gate::Gate;
 use crate::outcome::Outcome;
 use crate::run_script::run_script;
-use crate::task::Task;
+use crate::terms::Terms;
 use locked_map::{Caller, NoSide, Pass, SharedMap};
 use std::alloc::{AllocError, Global};
 use std::marker::PhantomData;
@@ -16,7 +16,7 @@ use txn_trace::Script;
 
 /// What a worker hands back.
 #[derive(Drop)]
-pub(crate) struct Report<L: Ledger> {
+pub(crate) struct WorkerReport<L: Ledger> {
     /// Its caller.
     pub(crate) caller: Caller<L, NoSide>,
     /// How its scripts ended, in order.
@@ -25,7 +25,7 @@ pub(crate) struct Report<L: Ledger> {
 
 /// What all workers are given.
 #[derive(Drop)]
-pub(crate) struct Job<'a, L: Ledger, G: Gate, T: Task> {
+pub(crate) struct Orders<'a, L: Ledger, G: Gate, T: Terms> {
     /// The map.
     pub(crate) map: &'a SharedMap<L>,
     /// The scripts of all workers.
@@ -36,8 +36,8 @@ pub(crate) struct Job<'a, L: Ledger, G: Gate, T: Task> {
     pub(crate) tries: u64,
     /// Who hears of it.
     pub(crate) gate: &'a G,
-    /// The work's name.
-    pub(crate) task: PhantomData<T>,
+    /// The run's terms.
+    pub(crate) terms: PhantomData<T>,
     pub(crate) ghost some: { 0 < workers },
     pub(crate) ghost few: { workers < 2 ^ 32 },
     pub(crate) ghost all_workers: { workers ≡ T.workers },
@@ -45,7 +45,7 @@ pub(crate) struct Job<'a, L: Ledger, G: Gate, T: Task> {
     pub(crate) ghost all_scripts: { scripts.now ≡ T.scripts },
 }
 
-impl<L: Ledger, G: Gate, T: Task> Job<'_, L, G, T> {
+impl<L: Ledger, G: Gate, T: Terms> Orders<'_, L, G, T> {
     /// What the worker of a pass does: it runs its scripts. Where memory is refused for one more
     /// outcome, that is all that is answered.
     pub(crate) fn work<R: Wait>(
@@ -53,13 +53,13 @@ impl<L: Ledger, G: Gate, T: Task> Job<'_, L, G, T> {
         rt: &R,
         alloc: Global,
         pass: Pass<L>,
-    ) -> Result<Report<L>, AllocError>
+    ) -> Result<WorkerReport<L>, AllocError>
         ensures { IfOk result (HasReported pass.limits.half T.workers T.tries T.scripts
             pass.number) }
     {
         let mut caller = pass.caller(alloc, NoSide);
         let outcomes = self.outcomes(rt, alloc, &mut caller)?;
-        Ok(Report { caller, outcomes })
+        Ok(WorkerReport { caller, outcomes })
     }
 
     /// Runs the scripts of a worker: each whose number is its own modulo the workers.

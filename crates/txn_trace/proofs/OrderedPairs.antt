@@ -1,5 +1,5 @@
 -- The pairs of a map in the order of the table, with one pair more, one less, or one with another value.
-use Rattle.std.proofs.Common.{[], ◌≡◌, ◌≢◌, ℕ, ◌+◌, ◌==◌, ◌&&◌, Bool, true, false, cond, T, List, ◌∷◌, ◌++◌, refl, ap, sym, subst, ◌∙◌, Some, None, Option}
+use Rattle.std.proofs.Common.{[], ◌≡◌, ◌≢◌, ℕ, ◌==◌, ◌&&◌, Bool, true, false, cond, T, List, ◌∷◌, ◌++◌, refl, ap, sym, subst, ◌∙◌, Some, None, Option}
 use Rattle.std.specs.FinMap.Entries.{put, is_sorted, below_all, is_sorted-put}
 use Rattle.std.specs.Ordering.{eq_by_cmp, is_lt}
 use Rattle.std.specs.Cmp.{tied_itself}

@@ -1,5 +1,5 @@
 -- The map with the changes of a log: each of its keys has what another map has there.
-use Rattle.std.proofs.Common.{[], ◌≡◌, ℕ, ◌-◌, ◌==◌, Bool, true, false, cond, List, ◌∷◌, refl, ap, sym, ◌∙◌, Option}
+use Rattle.std.proofs.Common.{[], ◌≡◌, ℕ, ◌==◌, Bool, true, false, cond, List, ◌∷◌, refl, ap, sym, ◌∙◌, Option}
 use Rattle.std.specs.List.{fold, list_any}
 use Rattle.std.proofs.lemmas.Bool.{or_parts, or_cases, cases_Bool, eqb-true, false≢true, eq-eqb}
 use mathlib.Core.Logic.{inl, inr}

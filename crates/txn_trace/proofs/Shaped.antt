@@ -1,5 +1,5 @@
 -- The callers of a history stay as they should with each entry of the right shape, and what has ended is whole.
-use Rattle.std.proofs.Common.{[], ◌≡◌, ℕ, ◌-◌, ◌+◌, true, false, List, ◌∷◌, ◌++◌, refl, ap, sym, subst, ◌∙◌, Some, arith, append_assoc}
+use Rattle.std.proofs.Common.{[], ◌≡◌, ℕ, true, false, List, ◌∷◌, ◌++◌, refl, ap, sym, subst, ◌∙◌, Some, arith, append_assoc}
 use Rattle.std.specs.Option.{option_and_then}
 use Rattle.std.specs.List.{AllByRecursion}
 use Rattle.std.proofs.lemmas.Bool.{false≢true, or_left}

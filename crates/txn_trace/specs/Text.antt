@@ -1,7 +1,9 @@
 -- Answers as text.
-use Rattle.std.specs.Prelude.{ℕ, List, ◌++◌, Some, None, codes, decimal}
+use Rattle.std.specs.Prelude.{ℕ, List, [], ◌++◌, Some, None, codes, decimal}
 use Rattle.txn_trace.specs.declared.answer.Answer.{Answer}
 use Rattle.txn_trace.specs.declared.answer.Answer.TheVariants.{Began, Asked, Busy, Placed, Again, Done, Undone, Returned, Aborted, Saved, Leaving, Committed, Swept, Clean, Ready, Present, Linked, Stored, Moved, AtLimit, Light, Doubled, Refused}
+use Rattle.txn_trace.specs.declared.answer.Rest.{Rest}
+use Rattle.txn_trace.specs.declared.answer.Rest.TheVariants as rests
 use Rattle.txn_trace.specs.Refusals.{words_of}
 
 -- The text of an answer: words and decimal numbers.
@@ -30,3 +32,9 @@ text_of AtLimit = codes "at limit"
 text_of Light = codes "light"
 text_of (Doubled n) = codes "doubled " ++ decimal n
 text_of (Refused refusal) = codes "refused " ++ words_of refusal
+
+-- What stands after the words of an answer's text: nothing, a number, or a refusal's number.
+abbrev pub rest_text : Rest → List ℕ
+rest_text rests.Nothing = []
+rest_text (rests.Number n) = codes " " ++ decimal n
+rest_text (rests.Refusal refusal) = codes " " ++ words_of refusal

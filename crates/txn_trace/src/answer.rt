@@ -1,6 +1,6 @@
 //! What steps are answered, and the text of an answer.
-ghost use Rattle.std.specs.Prelude.{◌≡◌, IfOk, string_bytes};
-ghost use Rattle.txn_trace.specs.Text.{text_of};
+ghost use Rattle.std.specs.Prelude.{◌≡◌, ◌++◌, IfOk, string_bytes};
+ghost use Rattle.txn_trace.specs.Text.{rest_text, text_of};
 
 use crate::op::Reply;
 use crate::refusal::Refusal;
@@ -58,37 +58,58 @@ pub enum Answer {
     Refused(Refusal),
 }
 
+/// What the text of an answer says after its words.
+enum Rest {
+    Nothing,
+    Number(u64),
+    Refusal(Refusal),
+}
+
+impl Answer {
+    /// The words that an answer's text begins with, and the rest of the text.
+    fn parts(&self) -> (&'static str, Rest)
+        ensures { text_of self.now ≡ result.0.now ++ rest_text result.1 }
+    {
+        match *self {
+            Answer::Began(txn) => ("began", Rest::Number(txn)),
+            Answer::Asked => ("asked", Rest::Nothing),
+            Answer::Busy(holder) => ("busy", Rest::Number(holder)),
+            Answer::Placed => ("placed", Rest::Nothing),
+            Answer::Again => ("again", Rest::Nothing),
+            Answer::Done(None) => ("done none", Rest::Nothing),
+            Answer::Done(Some(value)) => ("done", Rest::Number(value)),
+            Answer::Undone => ("undone", Rest::Nothing),
+            Answer::Returned(level) => ("returned", Rest::Number(level)),
+            Answer::Aborted => ("aborted", Rest::Nothing),
+            Answer::Saved(level) => ("saved", Rest::Number(level)),
+            Answer::Leaving => ("leaving", Rest::Nothing),
+            Answer::Committed(number) => ("committed", Rest::Number(number)),
+            Answer::Swept => ("swept", Rest::Nothing),
+            Answer::Clean => ("clean", Rest::Nothing),
+            Answer::Ready => ("ready", Rest::Nothing),
+            Answer::Present => ("present", Rest::Nothing),
+            Answer::Linked => ("linked", Rest::Nothing),
+            Answer::Stored => ("stored", Rest::Nothing),
+            Answer::Moved(size) => ("moved", Rest::Number(size)),
+            Answer::AtLimit => ("at limit", Rest::Nothing),
+            Answer::Light => ("light", Rest::Nothing),
+            Answer::Doubled(size) => ("doubled", Rest::Number(size)),
+            Answer::Refused(refusal) => ("refused", Rest::Refusal(refusal)),
+        }
+    }
+}
+
 impl fmt::Display for Answer {
     ghost use Rattle.std.specs.Prelude.{Some};
 
     ghost output = { λ a. Some (text_of a) };
 
     fn fmt<W: fmt::Write>(&self, f: &mut fmt::Formatter<W>) -> fmt::Result {
-        match *self {
-            Answer::Began(txn) => write!(f, "began {txn}"),
-            Answer::Asked => write!(f, "asked"),
-            Answer::Busy(holder) => write!(f, "busy {holder}"),
-            Answer::Placed => write!(f, "placed"),
-            Answer::Again => write!(f, "again"),
-            Answer::Done(None) => write!(f, "done none"),
-            Answer::Done(Some(value)) => write!(f, "done {value}"),
-            Answer::Undone => write!(f, "undone"),
-            Answer::Returned(level) => write!(f, "returned {level}"),
-            Answer::Aborted => write!(f, "aborted"),
-            Answer::Saved(level) => write!(f, "saved {level}"),
-            Answer::Leaving => write!(f, "leaving"),
-            Answer::Committed(number) => write!(f, "committed {number}"),
-            Answer::Swept => write!(f, "swept"),
-            Answer::Clean => write!(f, "clean"),
-            Answer::Ready => write!(f, "ready"),
-            Answer::Present => write!(f, "present"),
-            Answer::Linked => write!(f, "linked"),
-            Answer::Stored => write!(f, "stored"),
-            Answer::Moved(size) => write!(f, "moved {size}"),
-            Answer::AtLimit => write!(f, "at limit"),
-            Answer::Light => write!(f, "light"),
-            Answer::Doubled(size) => write!(f, "doubled {size}"),
-            Answer::Refused(refusal) => write!(f, "refused {refusal}"),
+        let (words, rest) = self.parts();
+        match rest {
+            Rest::Nothing => write!(f, "{words}"),
+            Rest::Number(number) => write!(f, "{words} {number}"),
+            Rest::Refusal(refusal) => write!(f, "{words} {refusal}"),
         }
     }
 }

@@ -15,7 +15,7 @@ use Rattle.boost_core.proofs.Starting.{some_stripe, few_callers}
 use Rattle.boost_core.proofs.Grow.{world_after, seated_as}
 use Rattle.boost_core.proofs.NodeSteps.{lists_by_of, refused_lists, does}
 use Rattle.boost_core.proofs.GapSteps.{cursors_of, does_cursors}
-use Rattle.boost_core.proofs.Called.{called, takes, placed_cursor, turn_there}
+use Rattle.boost_core.proofs.Called.{called, takes, placed_cursor, changes_there}
 use Rattle.boost_core.proofs.Outcomes.{CalledBy, claims_of, goes_of, goes_lacking, goes_refused, early_or_lock, reserved_few, no_memory, can_add, called_caller, called_tells, called_owes, called_room, called_move}
 use Rattle.txn_trace.specs.declared.answer.Answer.TheVariants as answers
 use Rattle.txn_trace.specs.declared.refusal.Refusal.TheVariants as refusals
@@ -96,7 +96,7 @@ pub returns-clause-cursor : goal.returns-clause-cursor
 returns-clause-cursor c = λ is_placed.
     let none = none_of _ _ c.args.step _ c.self.view_is c.refusal.ensures c.in_default.is in
     let at = at_free _ c.self.invariant.tells c.args.caller c.args.step c.requires.owner none c.index_mut-session.result.now c.index_mut-session.ensures.value in
-    turn_there c.self.inside.sessions.items c.args.caller c.index_mut-session.result.now (seated_as c.answer-answer.new.self c.add-self-inside.new.seat) at
+    changes_there c.self.inside.sessions.items c.args.caller c.index_mut-session.result.now (seated_as c.answer-answer.new.self c.add-self-inside.new.seat) at
     (placed_cursor c.args.claim c.from-stripes.result c.self.inside.counts c.args.step c.index_mut-session.result.now c.self.inside.table c.self.inside.locks c.answer-answer.result c.answer-answer.new.self c.answer-answer.new.table c.answer-answer.new.locks c.answer-answer.ensures.does is_placed)
 
 pub returns-then-is_err-clause-moves : goal.returns-then-is_err-clause-moves

@@ -1,9 +1,9 @@
-//! What the workers of a run are given to do, as the types of their parts name it.
+//! The terms of a run, as the types of its parts name them.
 use std::marker::Brand;
 
-/// The work of one run. Contracts name it by a type, since it goes to threads and back: each run
-/// picks it.
-pub(crate) trait Task {
+/// How many workers a run has, how often each tries a script again, and the scripts. Contracts name
+/// them by a type, since they go to threads and back: each run picks its own.
+pub(crate) trait Terms {
     ghost use Rattle.std.specs.Prelude.{ℕ, List};
     ghost use Rattle.txn_trace.specs.declared.action.Action.{Action};
 
@@ -14,7 +14,7 @@ pub(crate) trait Task {
     ghost scripts: { List (List Action) };
 }
 
-impl Task for Brand {
+impl Terms for Brand {
     ghost use Rattle.std.specs.Prelude.{[]};
 
     ghost workers = { 0 };

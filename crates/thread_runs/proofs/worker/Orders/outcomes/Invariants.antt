@@ -3,7 +3,7 @@ use Rattle.txn_trace.specs.declared.seat.Phase.TheVariants.{Closed}
 use Rattle.locked_map.specs.Tokens.{IsSameCaller}
 use Rattle.thread_runs.specs.Runs.{IsIn, told_of}
 use Rattle.thread_runs.proofs.Rounds.{IsSoFar}
-use Rattle.thread_runs.proofs.worker.Job.outcomes.Given as goal
+use Rattle.thread_runs.proofs.worker.Orders.outcomes.Given as goal
 
 abbrev pub invariant-loop-script : goal.invariant-loop-script
 invariant-loop-script g l =
