@@ -11,7 +11,7 @@ use Rattle.piece_files.specs.Elements.{number_at, optional_at, word_at, one_of, 
 use Rattle.piece_files.specs.Tokens.{are_plain}
 use Rattle.piece_files.proofs.PlainElements.{bound, chosen, never, tested, pick, number_first, optional_first, word_first, one_plain, two_plain, none_left, room, end_plain, optional_all_plain, unless}
 use Rattle.txn_files.specs.Actions.{action_of}
-use Rattle.txn_files.specs.Entries.{busy_of, entry_named, entry_of}
+use Rattle.txn_files.specs.Entries.{busy_of, entry_named, entry_of, transaction_entry}
 use Rattle.txn_files.specs.Operations.{op_at, op_of, put_if_at}
 use Rattle.txn_files.specs.Steps.{ask_of, step_of}
 
@@ -65,19 +65,24 @@ busy_plain c ds entry e =
     let x = bound (one_of op.0.1) _ entry op.2 in
     op_at_plain 1 ds op.0 op.1 (one_plain 0 op.0.1 x.0 x.1)
 
+transaction_plain : (name : List ℕ) (c : ℕ) (ds : List Data) (entry : Entry) → transaction_entry name c ds ≡ Some entry → are_plain 5 ds ≡ true
+unfolding transaction_entry
+transaction_plain name c ds entry e =
+    chosen (bytes_eq name (codes "began")) _ _ e (λ h. let a = bound (one_of ds) _ entry h in one_plain 4 ds a.0 a.1)
+    (λ r0. chosen (bytes_eq name (codes "saved")) _ _ r0 (λ h. let a = bound (end_of ds) _ entry h in end_plain 5 ds a.0 a.1)
+    (λ r1. chosen (bytes_eq name (codes "leave")) _ _ r1 (λ h. let a = bound (optional_of ds) _ entry h in optional_all_plain 4 ds a.0 a.1)
+    (λ r2. chosen (bytes_eq name (codes "returned")) _ _ r2 (λ h. let a = bound (one_of ds) _ entry h in one_plain 4 ds a.0 a.1)
+    (λ r3. chosen (bytes_eq name (codes "committed")) _ _ r3 (λ h. let a = bound (one_of ds) _ entry h in one_plain 4 ds a.0 a.1)
+    (λ r4. chosen (bytes_eq name (codes "aborted")) _ _ r4 (λ h. let a = bound (end_of ds) _ entry h in end_plain 5 ds a.0 a.1) never)))))
+
 named_plain : (name : List ℕ) (c : ℕ) (ds : List Data) (entry : Entry) → entry_named name c ds ≡ Some entry → are_plain 5 ds ≡ true
 unfolding entry_named
 named_plain name c ds entry e =
-    chosen (bytes_eq name (codes "began")) _ _ e (λ h. let a = bound (one_of ds) _ entry h in one_plain 4 ds a.0 a.1)
-    (λ r0. chosen (bytes_eq name (codes "asked")) _ _ r0 (λ h. let a = bound (op_of ds) _ entry h in op_plain 1 ds a.0 a.1)
+    chosen (bytes_eq name (codes "asked")) _ _ e (λ h. let a = bound (op_of ds) _ entry h in op_plain 1 ds a.0 a.1)
+    (λ r0. chosen (bytes_eq name (codes "busy")) _ _ r0 (λ h. busy_plain c ds entry h)
     (λ r1. chosen (bytes_eq name (codes "did")) _ _ r1 (λ h. let a = bound (optional_of ds) _ entry h in optional_all_plain 4 ds a.0 a.1)
-    (λ r2. chosen (bytes_eq name (codes "saved")) _ _ r2 (λ h. let a = bound (end_of ds) _ entry h in end_plain 5 ds a.0 a.1)
-    (λ r3. chosen (bytes_eq name (codes "leave")) _ _ r3 (λ h. let a = bound (optional_of ds) _ entry h in optional_all_plain 4 ds a.0 a.1)
-    (λ r4. chosen (bytes_eq name (codes "undone")) _ _ r4 (λ h. let a = bound (end_of ds) _ entry h in end_plain 5 ds a.0 a.1)
-    (λ r5. chosen (bytes_eq name (codes "returned")) _ _ r5 (λ h. let a = bound (one_of ds) _ entry h in one_plain 4 ds a.0 a.1)
-    (λ r6. chosen (bytes_eq name (codes "committed")) _ _ r6 (λ h. let a = bound (one_of ds) _ entry h in one_plain 4 ds a.0 a.1)
-    (λ r7. chosen (bytes_eq name (codes "busy")) _ _ r7 (λ h. busy_plain c ds entry h)
-    (λ r8. chosen (bytes_eq name (codes "aborted")) _ _ r8 (λ h. let a = bound (end_of ds) _ entry h in end_plain 5 ds a.0 a.1) never)))))))))
+    (λ r2. chosen (bytes_eq name (codes "undone")) _ _ r2 (λ h. let a = bound (end_of ds) _ entry h in end_plain 5 ds a.0 a.1)
+    (transaction_plain name c ds entry))))
 
 entry_plain : (ds : List Data) (entry : Entry) → entry_of ds ≡ Some entry → are_plain 7 ds ≡ true
 unfolding entry_of

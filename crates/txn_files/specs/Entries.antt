@@ -14,20 +14,26 @@ busy_of c ds = do
   x ← one_of op.1
   Some (Busy c op.0 x)
 
--- The entry of this name and caller that has these further elements.
-unfoldable pub entry_named : List ℕ → ℕ → List Data → Option Entry
-entry_named name c ds =
+-- The entry of this name and caller that has these further elements, if it says where a transaction
+-- is: that it began, has set a savepoint, takes changes back, is back at a level, or is over.
+unfoldable pub transaction_entry : List ℕ → ℕ → List Data → Option Entry
+transaction_entry name c ds =
     if bytes_eq name (codes "began") then (one_of ds >>= λ t. Some (Began c t))
-    else if bytes_eq name (codes "asked") then (op_of ds >>= λ op. Some (Asked c op))
-    else if bytes_eq name (codes "did") then (optional_of ds >>= λ r. Some (Did c r))
     else if bytes_eq name (codes "saved") then (end_of ds >>= λ none. Some (Saved c))
     else if bytes_eq name (codes "leave") then (optional_of ds >>= λ n. Some (Leave c n))
-    else if bytes_eq name (codes "undone") then (end_of ds >>= λ none. Some (Undone c))
     else if bytes_eq name (codes "returned") then (one_of ds >>= λ n. Some (Returned c n))
     else if bytes_eq name (codes "committed") then (one_of ds >>= λ p. Some (Committed c p))
-    else if bytes_eq name (codes "busy") then busy_of c ds
     else if bytes_eq name (codes "aborted") then (end_of ds >>= λ none. Some (Aborted c))
     else None
+
+-- The same of every entry: also of those that say what became of an operation.
+unfoldable pub entry_named : List ℕ → ℕ → List Data → Option Entry
+entry_named name c ds =
+    if bytes_eq name (codes "asked") then (op_of ds >>= λ op. Some (Asked c op))
+    else if bytes_eq name (codes "busy") then busy_of c ds
+    else if bytes_eq name (codes "did") then (optional_of ds >>= λ r. Some (Did c r))
+    else if bytes_eq name (codes "undone") then (end_of ds >>= λ none. Some (Undone c))
+    else transaction_entry name c ds
 
 -- An entry by its name and its caller.
 unfoldable pub entry_of : List Data → Option Entry

@@ -1,5 +1,5 @@
 -- A history as compact JSON.
-use Rattle.std.specs.Prelude.{ℕ, List, [], ◌∷◌, ◌++◌, map, Some, None, codes, decimal}
+use Rattle.std.specs.Prelude.{ℕ, List, [], ◌∷◌, ◌++◌, map, Option, Some, None, codes, decimal}
 use Rattle.std.specs.List.{join_with_byte}
 use Rattle.txn_trace.specs.declared.entry.Entry.{Entry}
 use Rattle.txn_trace.specs.declared.entry.Entry.TheVariants.{Began, Asked, Did, Saved, Leave, Undone, Returned, Committed, Busy, Aborted}
@@ -13,20 +13,28 @@ comma = 44
 abbrev pub array_text : List (List ℕ) → List ℕ
 array_text elements = codes "[" ++ (join_with_byte comma elements ++ codes "]")
 
+-- A word in quotation marks.
+abbrev pub quoted : List ℕ → List ℕ
+quoted word = codes "\"" ++ (word ++ codes "\"")
+
+-- A number, or null.
+abbrev pub optional_text : Option ℕ → List ℕ
+optional_text None = codes "null"
+optional_text (Some n) = decimal n
+
 -- The elements of an entry: its name, its caller and what is entered.
 abbrev pub elements_of_entry : Entry → List (List ℕ)
-elements_of_entry (Began c t) = codes "\"began\"" ∷ decimal c ∷ decimal t ∷ []
-elements_of_entry (Asked c op) = codes "\"asked\"" ∷ decimal c ∷ elements_of_op op
-elements_of_entry (Did c None) = codes "\"did\"" ∷ decimal c ∷ codes "null" ∷ []
-elements_of_entry (Did c (Some v)) = codes "\"did\"" ∷ decimal c ∷ decimal v ∷ []
-elements_of_entry (Saved c) = codes "\"saved\"" ∷ decimal c ∷ []
-elements_of_entry (Leave c None) = codes "\"leave\"" ∷ decimal c ∷ codes "null" ∷ []
-elements_of_entry (Leave c (Some n)) = codes "\"leave\"" ∷ decimal c ∷ decimal n ∷ []
-elements_of_entry (Undone c) = codes "\"undone\"" ∷ decimal c ∷ []
-elements_of_entry (Returned c n) = codes "\"returned\"" ∷ decimal c ∷ decimal n ∷ []
-elements_of_entry (Committed c p) = codes "\"committed\"" ∷ decimal c ∷ decimal p ∷ []
-elements_of_entry (Busy c op x) = codes "\"busy\"" ∷ decimal c ∷ elements_of_op op ++ decimal x ∷ []
-elements_of_entry (Aborted c) = codes "\"aborted\"" ∷ decimal c ∷ []
+elements_of_entry (Began c t) = quoted (codes "began") ∷ decimal c ∷ decimal t ∷ []
+elements_of_entry (Asked c op) = quoted (codes "asked") ∷ decimal c ∷ elements_of_op op
+elements_of_entry (Did c r) = quoted (codes "did") ∷ decimal c ∷ optional_text r ∷ []
+elements_of_entry (Saved c) = quoted (codes "saved") ∷ decimal c ∷ []
+elements_of_entry (Leave c n) = quoted (codes "leave") ∷ decimal c ∷ optional_text n ∷ []
+elements_of_entry (Undone c) = quoted (codes "undone") ∷ decimal c ∷ []
+elements_of_entry (Returned c n) = quoted (codes "returned") ∷ decimal c ∷ decimal n ∷ []
+elements_of_entry (Committed c p) = quoted (codes "committed") ∷ decimal c ∷ decimal p ∷ []
+elements_of_entry (Busy c op x) =
+    quoted (codes "busy") ∷ decimal c ∷ elements_of_op op ++ decimal x ∷ []
+elements_of_entry (Aborted c) = quoted (codes "aborted") ∷ decimal c ∷ []
 
 -- An entry as an array.
 abbrev pub entry_text : Entry → List ℕ

@@ -2,7 +2,7 @@ ghost use Rattle.std.specs.Prelude.{◌≡◌, map, true, false};
 ghost use Rattle.std.specs.List.{list_all};
 ghost use Rattle.piece_files.specs.Plain.{data_of};
 ghost use Rattle.piece_files.specs.Faults.{Gives};
-ghost use Rattle.txn_files.specs.Entries.{busy_of, entry_named, entry_of, is_old_entry};
+ghost use Rattle.txn_files.specs.Entries.{busy_of, entry_named, entry_of, is_old_entry, transaction_entry};
 ghost use Rattle.txn_files.specs.HistoryFile.{max_entries, is_in_range, is_history, entries_from, history_of};
 
 use crate::operation::{is_old_op, leading_op_in, op_in};
@@ -33,36 +33,47 @@ fn busy_in(caller: u64, values: &[Plain<'_>]) -> Option<Entry>
     Some(Entry::Busy(caller, op, holder))
 }
 
-/// The entry of this name and caller that has these further elements.
-#[tactic(auto, unfolding(crate::specs::Entries::entry_named))]
-fn entry_named_in(name: &str, caller: u64, values: &[Plain<'_>]) -> Option<Entry>
-    ensures { result ≡ entry_named name.now caller (map data_of values.now) }
+/// The entry of this name and caller that has these further elements, if it says where a transaction
+/// is: that it began, has set a savepoint, takes changes back, is back at a level, or is over.
+#[tactic(auto, unfolding(crate::specs::Entries::transaction_entry))]
+fn transaction_entry_in(name: &str, caller: u64, values: &[Plain<'_>]) -> Option<Entry>
+    ensures { result ≡ transaction_entry name.now caller (map data_of values.now) }
 {
     if name == "began" {
         Some(Entry::Began(caller, one_in(values)?))
-    } else if name == "asked" {
-        Some(Entry::Asked(caller, op_in(values)?))
-    } else if name == "did" {
-        Some(Entry::Did(caller, optional_in(values)?))
     } else if name == "saved" {
         end_in(values)?;
         Some(Entry::Saved(caller))
     } else if name == "leave" {
         Some(Entry::Leave(caller, optional_in(values)?))
-    } else if name == "undone" {
-        end_in(values)?;
-        Some(Entry::Undone(caller))
     } else if name == "returned" {
         Some(Entry::Returned(caller, one_in(values)?))
     } else if name == "committed" {
         Some(Entry::Committed(caller, one_in(values)?))
-    } else if name == "busy" {
-        busy_in(caller, values)
     } else if name == "aborted" {
         end_in(values)?;
         Some(Entry::Aborted(caller))
     } else {
         None
+    }
+}
+
+/// The same of every entry: also of those that say what became of an operation.
+#[tactic(auto, unfolding(crate::specs::Entries::entry_named))]
+fn entry_named_in(name: &str, caller: u64, values: &[Plain<'_>]) -> Option<Entry>
+    ensures { result ≡ entry_named name.now caller (map data_of values.now) }
+{
+    if name == "asked" {
+        Some(Entry::Asked(caller, op_in(values)?))
+    } else if name == "busy" {
+        busy_in(caller, values)
+    } else if name == "did" {
+        Some(Entry::Did(caller, optional_in(values)?))
+    } else if name == "undone" {
+        end_in(values)?;
+        Some(Entry::Undone(caller))
+    } else {
+        transaction_entry_in(name, caller, values)
     }
 }
 

@@ -1,35 +1,78 @@
-ghost use Rattle.std.specs.Prelude.{◌≡◌, ◌∷◌, ◌++◌, map, OnOk, IfOk, string_bytes};
+ghost use Rattle.std.specs.Prelude.{◌≡◌, [], ◌∷◌, ◌++◌, decimal, map, OnOk, IfOk, string_bytes};
 ghost use Rattle.std.specs.List.{flat_map, join_with_byte};
-ghost use Rattle.txn_files.specs.HistoryText.{comma, entry_text, text_of_history};
+ghost use Rattle.txn_files.specs.HistoryText.{array_text, comma, entry_text, optional_text, quoted, text_of_history};
+ghost use Rattle.txn_trace.specs.declared.entry.Entry.TheVariants as entries;
 
 use crate::operation::put_op;
 use std::alloc::{AllocError, Global};
-use txn_trace::Entry;
+use txn_trace::{Entry, Op};
+
+/// Adds an array of a name and a caller.
+fn put_short(text: &mut String, name: &str, caller: u64) -> Result<(), AllocError>
+    ensures { OnOk result (string_bytes text.new
+        ≡ string_bytes text.old ++ array_text (quoted name.now ∷ decimal caller ∷ [])) }
+{
+    write!(text, "[\"{name}\",{caller}]")
+}
+
+/// Adds an array of a name, a caller and a number.
+fn put_numbered(text: &mut String, name: &str, caller: u64, number: u64) -> Result<(), AllocError>
+    ensures { OnOk result (string_bytes text.new ≡ string_bytes text.old
+        ++ array_text (quoted name.now ∷ decimal caller ∷ decimal number ∷ [])) }
+{
+    write!(text, "[\"{name}\",{caller},{number}]")
+}
+
+/// Adds an array of a name, a caller, and a number or null.
+fn put_optional(
+    text: &mut String,
+    name: &str,
+    caller: u64,
+    number: Option<u64>,
+) -> Result<(), AllocError>
+    ensures { OnOk result (string_bytes text.new ≡ string_bytes text.old
+        ++ array_text (quoted name.now ∷ decimal caller ∷ optional_text number ∷ [])) }
+{
+    match number {
+        Some(number) => put_numbered(text, name, caller, number),
+        None => write!(text, "[\"{name}\",{caller},null]"),
+    }
+}
+
+/// Adds what a caller asked for.
+fn put_asked(text: &mut String, caller: u64, op: Op) -> Result<(), AllocError>
+    ensures { OnOk result (string_bytes text.new
+        ≡ string_bytes text.old ++ entry_text (entries.Asked caller op)) }
+{
+    write!(text, "[\"asked\",{caller},")?;
+    put_op(text, op)?;
+    text.push_str("]")
+}
+
+/// Adds what a caller asked for that found its stripe held, and the holder.
+fn put_busy(text: &mut String, caller: u64, op: Op, holder: u64) -> Result<(), AllocError>
+    ensures { OnOk result (string_bytes text.new
+        ≡ string_bytes text.old ++ entry_text (entries.Busy caller op holder)) }
+{
+    write!(text, "[\"busy\",{caller},")?;
+    put_op(text, op)?;
+    write!(text, ",{holder}]")
+}
 
 fn put_entry(text: &mut String, entry: &Entry) -> Result<(), AllocError>
     ensures { OnOk result (string_bytes text.new ≡ string_bytes text.old ++ entry_text entry.now) }
 {
     match *entry {
-        Entry::Began(caller, txn) => write!(text, "[\"began\",{caller},{txn}]"),
-        Entry::Asked(caller, op) => {
-            write!(text, "[\"asked\",{caller},")?;
-            put_op(text, op)?;
-            text.push_str("]")
-        }
-        Entry::Did(caller, None) => write!(text, "[\"did\",{caller},null]"),
-        Entry::Did(caller, Some(value)) => write!(text, "[\"did\",{caller},{value}]"),
-        Entry::Saved(caller) => write!(text, "[\"saved\",{caller}]"),
-        Entry::Leave(caller, None) => write!(text, "[\"leave\",{caller},null]"),
-        Entry::Leave(caller, Some(level)) => write!(text, "[\"leave\",{caller},{level}]"),
-        Entry::Undone(caller) => write!(text, "[\"undone\",{caller}]"),
-        Entry::Returned(caller, level) => write!(text, "[\"returned\",{caller},{level}]"),
-        Entry::Committed(caller, place) => write!(text, "[\"committed\",{caller},{place}]"),
-        Entry::Busy(caller, op, holder) => {
-            write!(text, "[\"busy\",{caller},")?;
-            put_op(text, op)?;
-            write!(text, ",{holder}]")
-        }
-        Entry::Aborted(caller) => write!(text, "[\"aborted\",{caller}]"),
+        Entry::Began(caller, txn) => put_numbered(text, "began", caller, txn),
+        Entry::Asked(caller, op) => put_asked(text, caller, op),
+        Entry::Did(caller, reply) => put_optional(text, "did", caller, reply),
+        Entry::Saved(caller) => put_short(text, "saved", caller),
+        Entry::Leave(caller, level) => put_optional(text, "leave", caller, level),
+        Entry::Undone(caller) => put_short(text, "undone", caller),
+        Entry::Returned(caller, level) => put_numbered(text, "returned", caller, level),
+        Entry::Committed(caller, place) => put_numbered(text, "committed", caller, place),
+        Entry::Busy(caller, op, holder) => put_busy(text, caller, op, holder),
+        Entry::Aborted(caller) => put_short(text, "aborted", caller),
     }
 }
 
