@@ -12,9 +12,8 @@
 //! Beside the one list the buckets are a row of segments, each with the entries of 64 buckets. A
 //! segment is there exactly where one of its buckets is stored: the first from the beginning, and
 //! each other one from the first store of a bucket of its own on, which takes the memory for it. A
-//! contract sees the row as the flat array of its entries. In the test
-//! `nodes_after_initialisation` the size is 4, the keys are 1 to 5, and all buckets but bucket 2
-//! are stored. The list is in the order that `split_key` draws:
+//! contract sees the row as the flat array of its entries. Here the size is 4, the keys are 1 to 5,
+//! and all buckets but bucket 2 are stored. The list is in the order that `split_key` draws:
 //!
 //! ```text
 //!     buckets            list         bucket of the key
