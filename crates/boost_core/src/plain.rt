@@ -136,9 +136,9 @@ impl Core {
     ///
     /// # Cost
     ///
-    /// A step to double, and three for each bucket that is initialised, of which there are at most
-    /// 16; a step a node where a bucket is sought. May take memory for each bucket's dummy and
-    /// segment.
+    /// A step to double; then for each bucket on the way, of which there are at most 16, one step
+    /// where it is initialised, and else three, with time in proportion to the nodes that are
+    /// passed to its place; may take memory for each bucket's dummy and segment.
     pub fn help(&mut self, caller: u64, key: u64) -> Result<(), Refusal>
         ensures helps { Helps self.old caller key result self.new }
         ensures words { self.new.words ≡ self.old.words }
