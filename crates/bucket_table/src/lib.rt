@@ -43,7 +43,7 @@
 //! Memory is taken by `Buckets::new`, for a new dummy by `Buckets::init_link`, and for a new
 //! segment by `Buckets::init_store`. `nearest` walks up the ancestors of a bucket, of which there
 //! are as many as the bucket has 1 bits; `init_seek` walks the list from the parent's dummy; the
-//! other steps take constant time.
+//! other steps take constant time, amortized where a dummy is linked.
 #![tactic(auto)]
 
 mod answer;

@@ -160,7 +160,7 @@ impl Table {
     ///
     /// # Cost
     ///
-    /// That of `place`.
+    /// That of `place`; takes no memory.
     pub fn place_job(&mut self, job: &MapJob) -> Cursor
         ensures places { Places self.old self.new (key_of_job job.now) result }
         ensures near { SeeksNear self.old self.new (key_of_job job.now) }
@@ -221,7 +221,7 @@ impl Table {
     ///
     /// # Cost
     ///
-    /// That of `prepare` and of `place`.
+    /// That of `prepare` and of `place`; may take memory for a node.
     pub fn apply(&mut self, op: Op) -> Result<(Reply, Option<MapJob>), Refusal>
         ensures ok { IfOk result (λ done. Applies self.old self.new op done.0 done.1) }
         ensures err { IfErr result (IsRefused self.old op) }
@@ -243,7 +243,7 @@ impl Table {
     ///
     /// # Cost
     ///
-    /// That of `place_job`, and constant time beside it.
+    /// That of `place_job`, and constant time beside it; takes no memory.
     pub fn take_back(&mut self, job: MapJob)
         requires due { IsDue (content self.old) job }
         requires owned { OwnsIf self.old (spare_of_job job) }
