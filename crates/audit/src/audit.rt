@@ -15,6 +15,10 @@ use txn_trace::{Entry, Holder};
 /// # Errors
 ///
 /// `AllocError` where memory is refused.
+///
+/// # Cost
+///
+/// That of `history_check::check`, and a look at each entry.
 pub fn is_legal(alloc: Global, entries: &[Entry], stripes: u64) -> Result<Option<bool>, AllocError>
     requires { 0 < stripes }
     ensures legal { IfOk result (λ answer.

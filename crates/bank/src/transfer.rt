@@ -13,6 +13,10 @@ use txn_trace::{Answer, Step};
 /// Nothing is moved, and the map is as it was, where the first has too little or the second would
 /// pass 2^64 - 1; where another caller holds one of the stripes (try again later); and where a step
 /// is refused, as for want of memory.
+///
+/// # Cost
+///
+/// A begin, two `get`s, two `put`s and a commit, or an abort where it does not get so far.
 pub fn transfer(core: &mut Core, caller: u64, from: u64, to: u64, sum: u64) -> bool
     requires ordinary { core.old.words ≡ false }
     requires apart { from ≢ to }

@@ -19,7 +19,7 @@ impl Core {
     ///
     /// # Cost
     ///
-    /// That of giving the table, the callers and the stripes back; no memory.
+    /// That of giving the table, the callers and the stripes back; takes no memory.
     pub fn into_trace(self) -> Vec<Entry>
         ensures value { result.items ≡ self.history }
         ensures shape { HasShape self }

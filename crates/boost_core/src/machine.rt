@@ -78,12 +78,15 @@ impl Core {
     ghost use Rattle.boost_core.specs.State.{caller_changes};
 
     /// A core in which nothing has happened: no caller has a transaction, and the table has two
-    /// buckets, of which bucket 0 is initialised. Allocates in proportion to the callers, the
-    /// stripes and the largest number of buckets.
+    /// buckets, of which bucket 0 is initialised.
     ///
     /// # Errors
     ///
     /// `Refusal::NoMemory` where memory is refused.
+    ///
+    /// # Cost
+    ///
+    /// Time and memory in proportion to the callers, the stripes and the largest number of buckets.
     pub fn new(alloc: Global, limits: Limits) -> Result<Core, Refusal>
         ensures ok { IfOk result (λ core. core ≡ start limits) }
         ensures err { IfErr result (λ refusal. refusal ≡ Refusal.NoMemory) }
@@ -136,11 +139,14 @@ impl Core {
     /// exactly where the cursor of the caller or the helper fits no longer, and drops it: so never
     /// where the two nodes beside it were side by side all the time, whatever was done elsewhere.
     ///
-    /// A seek walks from the nearest initialised bucket on, a commit and the end of an abort take a
-    /// step for each job and each stripe of the transaction, a sweep walks up to the first marked
-    /// node; each other step takes amortized constant time.
-    ///
     /// Where stripes are words, no step may be an `Ask`: `ask_with` and `ask_held` stand for it.
+    ///
+    /// # Cost
+    ///
+    /// A `Seek` and an `InitSeek` walk from the nearest initialised bucket to the place, and a
+    /// `Sweep` up to the first marked node; a `Commit` takes a step for each job and each stripe of
+    /// the transaction, the end of an abort one for each stripe; each other step takes amortized
+    /// constant time. Only the steps that may be answered `NoMemory` take memory.
     pub fn step(&mut self, step: Step) -> Answer
         requires { self.old.words ≡ true → is_ask step ≡ false }
         ensures moves { Move self.old step result self.new }
@@ -228,6 +234,10 @@ impl Core {
     /// # Errors
     ///
     /// `AllocError` where that room is refused: then no step is taken.
+    ///
+    /// # Cost
+    ///
+    /// That of each step, and memory for the answers.
     pub fn run(&mut self, alloc: Global, steps: &[Step]) -> Result<Vec<Answer>, AllocError>
         requires { self.old.words ≡ true → All (λ step. is_ask step ≡ false) steps.now }
         ensures ok { IfOk result (λ answers. Moves self.old steps.now answers.items self.new) }
@@ -261,12 +271,16 @@ impl Core {
     }
 
     /// The map as it is now: what the committed transactions left, with the standing changes of the
-    /// open ones. Takes a step a node and, with n keys, n log n for the map; memory for the pairs
-    /// twice while it runs.
+    /// open ones.
     ///
     /// # Errors
     ///
     /// `AllocError` where memory is refused.
+    ///
+    /// # Cost
+    ///
+    /// Time in proportion to the nodes, and to n log n for the map of n keys; memory for the pairs
+    /// twice while it runs.
     pub fn map(&self, alloc: Global) -> Result<BTreeMap<u64, u64>, AllocError>
         ensures { IfOk result (IsContent self.now) }
     {
@@ -274,11 +288,15 @@ impl Core {
     }
 
     /// Key and value of each pair of the map as it is now, in the order of the list, which is that
-    /// of reversed bits. Takes a step a node.
+    /// of reversed bits.
     ///
     /// # Errors
     ///
     /// `AllocError` where memory is refused.
+    ///
+    /// # Cost
+    ///
+    /// Time in proportion to the nodes, and memory in proportion to the pairs.
     pub fn regular_list(&self, alloc: Global) -> Result<Vec<(u64, u64)>, AllocError>
         ensures { IfOk result (λ pairs. IsRegular self.now pairs.items) }
     {
@@ -299,7 +317,7 @@ impl Core {
         self.table.size()
     }
 
-    /// How many keys the map has now. It is kept, so this takes constant time.
+    /// How many keys the map has now. Constant time.
     pub fn count(&self) -> u64
         ensures { result ≡ count_of (now self.now.history) }
     {
@@ -307,8 +325,7 @@ impl Core {
     }
 
     /// How many entries the history keeps room for: so many that each open transaction can be ended
-    /// and all its changes taken back, without taking memory. It is kept, so this takes constant
-    /// time.
+    /// and all its changes taken back, without taking memory. Constant time.
     pub fn owed(&self) -> usize
         ensures { result ≡ owed self.now.limits.callers self.now.history }
     {

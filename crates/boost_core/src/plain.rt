@@ -15,15 +15,20 @@ impl Core {
     ghost use Rattle.boost_core.specs.Whole.{IsWhole};
     ghost use Rattle.txn_drive.specs.Drives.{sized_of, step_of};
 
-    /// Puts a value at a key: asks, seeks and acts. `Again` is never met. One step a node from the
-    /// nearest bucket on. Nothing doubles by itself: a table that nobody doubles, by `help` or
-    /// `Double`, is one long list, through which each seek walks.
+    /// Puts a value at a key: asks, seeks and acts. `Again` is never met. Nothing doubles by
+    /// itself: a table that nobody doubles, by `help` or `Double`, is one long list, through which
+    /// each seek walks.
     ///
     /// The answer is `Done` with the reply, or the first that is not `Asked`: `Busy`, where another
     /// caller holds the key's stripe and this one now leaves to the end, or a refusal, which leaves
     /// the state: in this order `NoSuchCaller`, `NotOpen`, `Leaving`, `OperationUnfinished`,
     /// `BadKey` where the limits have half keys and the key is 2^63 or more, `NoMemory` for the
     /// history and the log, `StampsUsedUp`, `NoMemory` for the node.
+    ///
+    /// # Cost
+    ///
+    /// Time in proportion to the nodes from the nearest initialised bucket to the key's place; may
+    /// take memory for the history, the log and a node.
     pub fn put(&mut self, caller: u64, key: u64, value: u64) -> Answer
         requires { self.old.words ≡ false }
         ensures operates { Operates self.old caller (Op.Put key value) result self.new }
@@ -35,6 +40,10 @@ impl Core {
     /// Puts a value at a key exactly where the key has what is expected, a value or none, by the
     /// same steps as `put` and with the same refusals. The reply is what the key had, so the value
     /// was put exactly where the reply is what was expected.
+    ///
+    /// # Cost
+    ///
+    /// That of `put`.
     pub fn put_if(&mut self, caller: u64, key: u64, expected: Option<u64>, value: u64) -> Answer
         requires { self.old.words ≡ false }
         ensures operates { Operates self.old caller (Op.PutIf key expected value) result self.new }
@@ -44,6 +53,10 @@ impl Core {
     }
 
     /// Takes a key out, by the same steps as `put` and with the same refusals.
+    ///
+    /// # Cost
+    ///
+    /// That of `put`.
     pub fn take(&mut self, caller: u64, key: u64) -> Answer
         requires { self.old.words ≡ false }
         ensures operates { Operates self.old caller (Op.Take key) result self.new }
@@ -54,6 +67,10 @@ impl Core {
 
     /// Gets the value at a key, by the same steps as `put` and with the same refusals, but the last
     /// two.
+    ///
+    /// # Cost
+    ///
+    /// That of `put`, without the memory for a node.
     pub fn get(&mut self, caller: u64, key: u64) -> Answer
         requires { self.old.words ≡ false }
         ensures operates { Operates self.old caller (Op.Get key) result self.new }
@@ -63,11 +80,14 @@ impl Core {
     }
 
     /// Goes back to a level, a savepoint's number or 0 for the beginning: takes back every later
-    /// change, newest first, and keeps the savepoint of that level. Stripes stay held. A seek and
-    /// an act for each change.
+    /// change, newest first, and keeps the savepoint of that level. Stripes stay held.
     ///
     /// The answer is `Returned` with the level, or a refusal, which leaves the state: in this order
     /// `NoSuchCaller`, `NotOpen`, `Leaving`, `OperationUnfinished`, `NoSuchLevel`, `NoMemory`.
+    ///
+    /// # Cost
+    ///
+    /// A seek and an act for each change that is taken back; may take memory for the history alone.
     pub fn back(&mut self, caller: u64, level: u64) -> Answer
         ensures returns { Returns self.old caller level result self.new }
         ensures words { self.new.words ≡ self.old.words }
@@ -80,10 +100,14 @@ impl Core {
 
     /// Aborts: withdraws an operation that waits, takes back every change, newest first, gives all
     /// stripes back and closes. Goes on where the caller leaves to the end already, as after
-    /// `Busy`. Takes no memory. A seek and an act for each change.
+    /// `Busy`.
     ///
     /// The answer is `Aborted`, or a refusal, which leaves the state: in this order `NoSuchCaller`,
     /// `NotOpen`, and `Leaving` where the caller leaves to a level.
+    ///
+    /// # Cost
+    ///
+    /// A seek and an act for each change, and a step for each stripe; takes no memory.
     pub fn abort(&mut self, caller: u64) -> Answer
         ensures aborts { Aborts self.old caller result self.new }
         ensures words { self.new.words ≡ self.old.words }
@@ -112,8 +136,9 @@ impl Core {
     ///
     /// # Cost
     ///
-    /// A step to double, and three for each bucket that is initialised, of which there are at most
-    /// 16; a step a node where a bucket is sought.
+    /// A step to double; then for each bucket on the way, of which there are at most 16, one step
+    /// where it is initialised, and else three, with time in proportion to the nodes that are
+    /// passed to its place; may take memory for each bucket's dummy and segment.
     pub fn help(&mut self, caller: u64, key: u64) -> Result<(), Refusal>
         ensures helps { Helps self.old caller key result self.new }
         ensures words { self.new.words ≡ self.old.words }

@@ -22,6 +22,10 @@ impl Core {
     /// # Errors
     ///
     /// `Refusal::NoMemory` where memory is refused.
+    ///
+    /// # Cost
+    ///
+    /// Time and memory in proportion to the callers, the stripes and the largest number of buckets.
     pub fn with_words(alloc: Global, limits: Limits) -> Result<Core, Refusal>
         ensures ok { IfOk result (λ core. core ≡ start_with_words limits) }
         ensures err { IfErr result (λ refusal. refusal ≡ Refusal.NoMemory) }
@@ -43,7 +47,11 @@ impl Core {
     /// `Leaving`, `OperationUnfinished`, `BadKey`, `NoMemory` for the history and the log,
     /// `StampsUsedUp`, `NoMemory` for the node, and `StaleWord` where by the core's own record
     /// another caller holds the stripe. A refusal leaves the state, but that `StaleWord` may use a
-    /// stamp up. Amortized constant time.
+    /// stamp up.
+    ///
+    /// # Cost
+    ///
+    /// Amortized constant time; may take memory for the history, the log and a node.
     pub fn ask_with(&mut self, caller: u64, op: Op, right: &StripeRight) -> Answer
         requires words { self.old.words ≡ true }
         requires right { right.now ≡ stripe_of self.old.limits.stripes (key_of op) }
@@ -63,7 +71,10 @@ impl Core {
     /// first refusal whose test holds: `NoSuchCaller`, `NotOpen`, `Leaving`, `OperationUnfinished`,
     /// `BadKey`, `NoMemory` for the history, and `StaleWord` where the word names the caller itself
     /// or one that has never begun a transaction. A refusal leaves the state. No spare is made.
-    /// Amortized constant time.
+    ///
+    /// # Cost
+    ///
+    /// Amortized constant time; may take memory for the history.
     pub fn ask_held(&mut self, caller: u64, op: Op, word: u64) -> Answer
         requires words { self.old.words ≡ true }
         requires word { word ≢ 0 }

@@ -23,18 +23,21 @@ use std::thread::Threads;
 /// feed, and nothing else is written.
 ///
 /// At most 16,777,217 bytes are read, and no call of the reader or the writer is made again after
-/// it failed. Costs what the steps cost, and time and memory in proportion to the file and the
-/// report.
+/// it failed.
 ///
 /// # Errors
 ///
 /// At each of them but `Write` nothing is written.
 ///
-/// - `Input` where the file is refused.
 /// - `Read` where a read fails.
+/// - `Input` where the file is refused.
 /// - `NoMemory` where memory is refused outside a step. A step that is refused memory is answered
 ///   `refused 14` and changes nothing.
 /// - `Write` where a write fails or takes nothing: a proper beginning of the report is written.
+///
+/// # Cost
+///
+/// What the steps cost, and time and memory in proportion to the file and the report.
 pub fn replay<R: Read, W: Write>(alloc: Global, input: &mut R, output: &mut W) -> Result<(), Fault>
     ensures reports { OnOk result (Writes IsReportOf (R.remaining input.old)
         (W.contents output.old) (W.contents output.new)) }
@@ -53,17 +56,20 @@ pub fn replay<R: Read, W: Write>(alloc: Global, input: &mut R, output: &mut W) -
 /// answer is whether the history is legal.
 ///
 /// At most 16,777,217 bytes are read, and no call of the reader or the writer is made again after
-/// it failed. An entry costs the logarithm of the number of keys; memory is in proportion to the
-/// file.
+/// it failed.
 ///
 /// # Errors
 ///
 /// At each of them but `Write` nothing is written.
 ///
-/// - `Input` where the file is refused.
 /// - `Read` where a read fails.
+/// - `Input` where the file is refused.
 /// - `NoMemory` where memory is refused.
 /// - `Write` where a write fails or takes nothing: a proper beginning of the line is written.
+///
+/// # Cost
+///
+/// That of `history_check::check`, and time and memory in proportion to the file.
 pub fn check<R: Read, W: Write>(alloc: Global, input: &mut R, output: &mut W) -> Result<bool, Fault>
     ensures judges { IfOk result (λ legal. Writes (IsJudgement legal) (R.remaining input.old)
         (W.contents output.old) (W.contents output.new)) }
@@ -86,18 +92,22 @@ pub fn check<R: Read, W: Write>(alloc: Global, input: &mut R, output: &mut W) ->
 /// 0 in rising order, of the one that takes its next turn. So the same seed gives the same bytes.
 ///
 /// At most 16,777,217 bytes are read, and no call of the reader or the writer is made again after
-/// it failed. Costs what the steps cost and a look at each worker for each turn, and time and
-/// memory in proportion to the file and the history.
+/// it failed.
 ///
 /// # Errors
 ///
 /// At each of them but `Write` nothing is written.
 ///
-/// - `Input` where the file is refused.
 /// - `Read` where a read fails.
+/// - `Input` where the file is refused.
 /// - `NoMemory` where memory is refused outside a step. A step that is refused memory ends its
 ///   script as refused.
 /// - `Write` where a write fails or takes nothing: a proper beginning of the line is written.
+///
+/// # Cost
+///
+/// What the steps cost and a look at each worker for each turn, and time and memory in proportion
+/// to the file and the history.
 pub fn mix<R: Read, W: Write>(
     alloc: Global,
     seed: u64,
@@ -120,20 +130,24 @@ pub fn mix<R: Read, W: Write>(
 /// each is legal.
 ///
 /// At most 16,777,217 bytes are read, and no call of the reader or the writer is made again after
-/// it failed. Costs what the calls cost, and time and memory in proportion to the file and the
-/// history.
+/// it failed.
 ///
 /// # Errors
 ///
 /// At each of them but `Write` nothing is written.
 ///
-/// - `Input` where the file is refused.
 /// - `Read` where a read fails.
+/// - `Input` where the file is refused.
 /// - `NoMemory` where memory is refused outside a call. A call that is refused memory ends its
 ///   script as refused.
 /// - `NoThread` where a thread could not be started; the workers that were started finish.
 /// - `OutOfStep` where the history is not what the workers saw.
 /// - `Write` where a write fails or takes nothing: a proper beginning of the line is written.
+///
+/// # Cost
+///
+/// What the calls cost, and time in proportion to the file and, for each worker, to the history;
+/// memory in proportion to the file and the history, besides what the calls take.
 pub fn run<T: Threads + Wait + Sync, R: Read, W: Write>(
     rt: &T,
     alloc: Global,

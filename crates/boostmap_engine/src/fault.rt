@@ -78,8 +78,11 @@ impl Fault {
         Message { fault: self }
     }
 
-    /// The exit status of the program: 2 for `Usage`, 3 for `Input`, 4 for every other. Constant
-    /// time.
+    /// The exit status of the program: 2 for `Usage`, 3 for `Input`, 4 for every other.
+    ///
+    /// # Cost
+    ///
+    /// Constant time; takes no memory.
     pub fn status(&self) -> u8
         ensures { result ≡ status_of self.now }
     {

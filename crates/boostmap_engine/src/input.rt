@@ -22,13 +22,16 @@ fn zeros(alloc: Global, count: usize) -> Result<Vec<u8>, AllocError>
     vec![in alloc; 0u8; count]
 }
 
-/// Reads to the end, or at most one byte more than a file may have. Costs time and memory in
-/// proportion to the bytes.
+/// Reads to the end, or at most one byte more than a file may have.
 ///
 /// # Errors
 ///
 /// `Read` where a read fails, after which the reader is not called again; `NoMemory` where memory
 /// is refused.
+///
+/// # Cost
+///
+/// Time and memory in proportion to the bytes.
 pub fn read_input<R: Read>(alloc: Global, input: &mut R) -> Result<Vec<u8>, Fault>
     ensures ok { IfOk result (λ bytes. IsRead (R.remaining input.old) bytes.items) }
     ensures err { IfErr result IsReadFault }
@@ -50,6 +53,14 @@ pub fn read_input<R: Read>(alloc: Global, input: &mut R) -> Result<Vec<u8>, Faul
 }
 
 /// The work that the bytes of a script file are, with no bytes left.
+///
+/// # Errors
+///
+/// Those of `read_scripts`, in its order.
+///
+/// # Cost
+///
+/// Time and memory in proportion to the bytes.
 pub fn scripts_in(alloc: Global, bytes: Vec<u8>) -> Result<Scripts, FileFault>
     ensures { Gives (λ work. work) result (scripts_of bytes.items) }
 {

@@ -35,13 +35,13 @@ fn history_in(alloc: Global, bytes: Vec<u8>) -> Result<(u32, Vec<Entry>, u64), F
 
 /// The verdict on the history that the bytes are, by the rule of their version.
 ///
-/// # Cost
-///
-/// The logarithm of the number of keys for an entry; memory in proportion to the bytes.
-///
 /// # Errors
 ///
 /// `Input` where the bytes are no history file; `NoMemory` where memory is refused.
+///
+/// # Cost
+///
+/// That of `history_check::check`, and time and memory in proportion to the bytes.
 pub fn judge(alloc: Global, bytes: Vec<u8>) -> Result<Verdict, Fault>
     ensures ok { IfOk result (λ verdict. IsJudged bytes.items (meaning_of verdict)) }
     ensures err { IfErr result (HasNone IsNoHistoryFile bytes.items) }
@@ -53,13 +53,13 @@ pub fn judge(alloc: Global, bytes: Vec<u8>) -> Result<Verdict, Fault>
 
 /// The line of a verdict, with its line feed.
 ///
-/// # Cost
-///
-/// Time and memory in proportion to the line, which is at most 61 bytes.
-///
 /// # Errors
 ///
 /// `AllocError` where memory is refused.
+///
+/// # Cost
+///
+/// Time and memory in proportion to the line, which is at most 61 bytes.
 pub fn line_of(alloc: Global, verdict: Verdict) -> Result<String, AllocError>
     ensures { IfOk result (λ line. string_bytes line ≡ verdict_line (meaning_of verdict)) }
 {
@@ -76,7 +76,11 @@ pub fn line_of(alloc: Global, verdict: Verdict) -> Result<String, AllocError>
     Ok(line)
 }
 
-/// Whether a verdict is that the history is legal. Constant time.
+/// Whether a verdict is that the history is legal.
+///
+/// # Cost
+///
+/// Constant time; takes no memory.
 pub fn is_legal(verdict: Verdict) -> bool
     ensures { result ≡ says_legal (meaning_of verdict) }
 {

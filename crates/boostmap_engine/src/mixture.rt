@@ -11,14 +11,14 @@ use txn_files::history_text;
 /// The text of a history of the scripts that the bytes are, the workers' turns mixed as the seed
 /// says, with its line feed. The history has its script file's version.
 ///
-/// # Cost
-///
-/// What the steps cost and a look at each worker for each turn, and time and memory in proportion
-/// to bytes and text.
-///
 /// # Errors
 ///
 /// `Input` where the bytes are no script file; `NoMemory` where memory is refused outside a step.
+///
+/// # Cost
+///
+/// What the steps cost and a look at each worker for each turn, and time and memory in proportion
+/// to the bytes and the text.
 pub fn mixture(alloc: Global, seed: u64, bytes: Vec<u8>) -> Result<String, Fault>
     ensures ok { IfOk result (λ text. IsMixtureOf seed bytes.items (string_bytes text)) }
     ensures err { IfErr result (HasNone IsNoScriptFile bytes.items) }

@@ -6,12 +6,16 @@ ghost use Rattle.boostmap_engine.specs.Written.{AppendsPart};
 use crate::fault::Fault;
 use std::io::Write;
 
-/// Writes the whole text. Costs a call of the writer for each part that it takes.
+/// Writes the whole text.
 ///
 /// # Errors
 ///
 /// `Write` where the writer fails or takes nothing, after which it is not called again: a proper
 /// beginning of the text is written.
+///
+/// # Cost
+///
+/// A call of the writer for each part that it takes; takes no memory.
 pub fn write_text<W: Write>(output: &mut W, text: &[u8]) -> Result<(), Fault>
     ensures ok { OnOk result (Appends (W.contents output.old) (W.contents output.new) text.now) }
     ensures err { OnErr result (AppendsPart (W.contents output.old)

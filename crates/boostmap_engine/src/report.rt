@@ -70,13 +70,13 @@ fn text_of_run(alloc: Global, limits: Limits, steps: Vec<Step>) -> Result<String
 /// The report of the steps that the bytes are, run on a new core, which takes half keys alone where
 /// the file is of version 1. No bytes are left when the first step is taken.
 ///
-/// # Cost
-///
-/// What the steps cost, and time and memory in proportion to the bytes and the report.
-///
 /// # Errors
 ///
 /// `Input` where the bytes are no step file; `NoMemory` where memory is refused outside a step.
+///
+/// # Cost
+///
+/// What the steps cost, and time and memory in proportion to the bytes and the report.
 pub fn report(alloc: Global, bytes: Vec<u8>) -> Result<String, Fault>
     ensures ok { IfOk result (λ text. IsReportOf bytes.items (string_bytes text)) }
     ensures err { IfErr result (HasNone IsNoStepFile bytes.items) }

@@ -18,15 +18,16 @@ const VERSION: u64 = 3;
 /// with its line feed. The history has version 3, whatever version its script file has: a Busy
 /// entry names a caller that has begun a transaction, and may have ended it.
 ///
-/// # Cost
-///
-/// What the calls cost, and time and memory in proportion to bytes and text.
-///
 /// # Errors
 ///
 /// `Input` where the bytes are no script file; `NoMemory` where memory is refused outside a call;
 /// `NoThread` where a thread could not be started; `OutOfStep` where the history is not what the
 /// workers saw.
+///
+/// # Cost
+///
+/// What the calls cost, and time in proportion to the bytes and, for each worker, to the history;
+/// memory in proportion to the bytes and the text, besides what the calls take.
 pub fn run_in_threads<R: Threads + Wait + Sync>(
     rt: &R,
     alloc: Global,

@@ -53,8 +53,13 @@ impl Buckets {
     /// Two buckets, of which bucket 0 is stored with the list's first node, and idle helpers. `max`
     /// is the largest size, in buckets.
     ///
-    /// `AllocError` where memory is refused. Takes memory for the row of segments, for the first
-    /// segment and for the helpers, and time in proportion.
+    /// # Errors
+    ///
+    /// `AllocError` where memory is refused.
+    ///
+    /// # Cost
+    ///
+    /// Time and memory in proportion to `max / 64`, the number of segments, and to the helpers.
     pub fn new(alloc: Global, max: u32, helpers: u32, list: &NodeList) -> Result<Self, AllocError>
         requires power { IsPowerOfTwo max }
         requires least { 2 ≤ max }
@@ -87,7 +92,9 @@ impl Buckets {
     /// The dummy of a bucket, or that of its nearest stored ancestor: a seek for any key of the
     /// bucket may begin there, since it stands before all of them.
     ///
-    /// Takes no memory, and one step for each ancestor that is passed.
+    /// # Cost
+    ///
+    /// One step for each ancestor that is passed; takes no memory.
     pub fn nearest(&self, bucket: u32) -> NodeRef
         ensures nearest { IsNearest self.now bucket result }
         ensures before { (list : Listing) → IsHome self.now list
@@ -143,11 +150,17 @@ impl Buckets {
     /// cursor there. Whatever the helper had is dropped. A bucket that is stored is `Ready`, and
     /// leaves the helper idle.
     ///
-    /// Refused, in this order: `NoSuchHelper`, `NoSuchBucket`; then, unless the bucket is stored,
-    /// `ParentMissing`. The helper, the buckets and the list are then as they were.
+    /// The seek unlinks the marked nodes that it passes, and leaves the content of the list.
     ///
-    /// The seek unlinks the marked nodes that it passes, and leaves the content of the list. Takes
-    /// no memory. Visits each node between the parent's dummy and the place.
+    /// # Errors
+    ///
+    /// In this order: `NoSuchHelper`; `NoSuchBucket` where the bucket is not below the size; and,
+    /// unless the bucket is stored, `ParentMissing` where its parent is not either. The helper, the
+    /// buckets and the list are then as they were.
+    ///
+    /// # Cost
+    ///
+    /// Time in proportion to the nodes from the parent's dummy to the place; takes no memory.
     pub fn init_seek(
         &mut self,
         list: &mut NodeList,
@@ -228,11 +241,17 @@ impl Buckets {
     /// already, and gives the helper that dummy. Where the cursor does not fit, it is dropped and
     /// the helper is idle.
     ///
-    /// Refused, in this order: `NoSuchHelper`; `HelperOutOfOrder` where the helper has no cursor;
-    /// and where a dummy is to be linked, `StampsUsedUp`, then `NoMemory`. The helper keeps its
-    /// cursor then, and the buckets and the list are as they were.
+    /// The content of the list stays.
     ///
-    /// The content of the list stays. May take memory for one node. Amortised constant time.
+    /// # Errors
+    ///
+    /// In this order: `NoSuchHelper`; `HelperOutOfOrder` where the helper has no cursor; and, where
+    /// a dummy is to be linked, `StampsUsedUp`, then `NoMemory` where memory is refused. The helper
+    /// keeps its cursor then, and the buckets and the list are as they were.
+    ///
+    /// # Cost
+    ///
+    /// Amortized constant time; may take memory for a node.
     pub fn init_link(&mut self, list: &mut NodeList, helper: u64) -> Result<InitLink, InitRefusal>
         requires home { IsHome self.old list.old }
         requires keyed { IsKeyed list.old.nodes }
@@ -254,11 +273,15 @@ impl Buckets {
     /// Stores a helper's dummy as that of its bucket, also where the bucket was stored since; the
     /// helper is idle then.
     ///
-    /// Refused, in this order: `NoSuchHelper`; `HelperOutOfOrder` where the helper has no dummy;
-    /// `NoMemory`, only where no bucket of the bucket's segment is stored. The helper, with its
-    /// dummy, and the buckets are then as they were.
+    /// # Errors
     ///
-    /// Takes memory for the bucket's segment, where it is not there. Constant time.
+    /// In this order: `NoSuchHelper`; `HelperOutOfOrder` where the helper has no dummy; `NoMemory`
+    /// where memory is refused, and only where no bucket of the bucket's segment is stored. The
+    /// helper, with its dummy, and the buckets are then as they were.
+    ///
+    /// # Cost
+    ///
+    /// Constant time; takes memory only for the bucket's segment, where it is not there.
     pub fn init_store(&mut self, helper: u64) -> Result<(), InitRefusal>
         ensures answer { result ≢ Err InitRefusal.NoMemory
             → result ≡ store_answer (help_at self.old helper) }
@@ -278,8 +301,11 @@ impl Buckets {
     /// Doubles the size, where it is the one that the caller saw, is not the largest, and the list
     /// has more than twice as many keys as there are buckets; these are tested in this order.
     ///
-    /// Nothing else changes: no node moves, and the new buckets are not stored yet. Takes no
-    /// memory. Constant time.
+    /// Nothing else changes: no node moves, and the new buckets are not stored yet.
+    ///
+    /// # Cost
+    ///
+    /// Constant time; takes no memory.
     pub fn double(&mut self, list: &NodeList, seen: u64) -> Double
         ensures answer { result
             ≡ double_answer self.old.size (limit_of self.old) (live_count list.now.nodes) seen }

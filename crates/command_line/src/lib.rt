@@ -7,11 +7,10 @@
 //! seed says; `boostmap check FILE` says whether the recorded history of a file is legal.
 //!
 //! `run` does all that the program does, over any system that gives words and opens files, and over
-//! any two writers, so that tests and contracts reach all of it. What it promises
-//! (`specs/Runs.antt`): the engine of the call's own command ran on the call's own file; standard
-//! output holds what that engine wrote and nothing else; standard error holds the line of the
-//! fault, where there is one, and nothing else; and the status is that of what came of it. That the
-//! words ask for the call that a user means by them is shown by tests alone.
+//! any two writers. What it promises (`specs/Runs.antt`): the engine of the call's own command ran
+//! on the call's own file; standard output holds what that engine wrote and nothing else; standard
+//! error holds the line of the fault, where there is one, and nothing else; and the status is that
+//! of what came of it. Which call the words ask for, no contract says.
 #![tactic(auto)]
 
 mod program;

@@ -19,6 +19,10 @@ pub trait System {
     /// # Errors
     ///
     /// `OutOfMemory` where memory is refused; another kind where a word is no text.
+    ///
+    /// # Cost
+    ///
+    /// The system's own.
     fn words(&self, alloc: Global) -> io::Result<Vec<String>>;
 
     /// Opens the file of this name for reading.
@@ -26,6 +30,10 @@ pub trait System {
     /// # Errors
     ///
     /// `OutOfMemory` where memory is refused; another kind where the file cannot be opened.
+    ///
+    /// # Cost
+    ///
+    /// The system's own.
     fn open(&self, name: &str) -> io::Result<Self::Input>
         ensures { IfOk result (λ input. IfSome (bytes self.now name.now)
             (λ known. Self.Input.remaining input ≡ Some known)) };

@@ -82,13 +82,16 @@ fn seed_in(word: &str) -> Option<u64> {
     }
 }
 
-/// What the words ask for, of which the first is the program's name. Costs time in proportion to
-/// the words.
+/// What the words ask for, of which the first is the program's name.
 ///
 /// # Errors
 ///
 /// - `Usage` for words that are no call of the program, a call for help among them.
 /// - `NoMemory` where memory is refused.
+///
+/// # Cost
+///
+/// Time and memory in proportion to the words.
 pub fn call_in<'a>(alloc: Global, words: &'a [String]) -> Result<Call<'a>, Fault>
     ensures { IfErr result (λ fault. (fault ≡ faults.Usage) ⊎ (fault ≡ faults.NoMemory)) }
 {

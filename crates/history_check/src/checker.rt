@@ -29,11 +29,13 @@ impl Checker {
     /// A checker of the history of a map with so many stripes, whose Busy entries may name such a
     /// caller, before the first entry.
     ///
-    /// It takes memory for 64 callers and for the stripes.
-    ///
     /// # Errors
     ///
     /// `AllocError` where memory is refused.
+    ///
+    /// # Cost
+    ///
+    /// Time and memory in proportion to the stripes, and for 64 callers.
     pub fn new(alloc: Global, stripes: u64, holder: Holder) -> Result<Checker, AllocError>
         requires { 0 < stripes }
         ensures { IfOk result (IsFed holder stripes []) }
@@ -46,16 +48,20 @@ impl Checker {
         })
     }
 
-    /// Feeds it the next entry, whose caller is below 64.
-    ///
-    /// Costs the logarithm of the number of keys. A Committed or an Aborted also takes a step for
-    /// each stripe that it gives back and each change that stood. After the first bad entry all
-    /// further ones cost nothing and change nothing.
+    /// Feeds it the next entry, whose caller is below 64. After the first bad entry all further
+    /// ones change nothing.
     ///
     /// # Errors
     ///
-    /// `AllocError` where memory is refused for a change or a savepoint, or where 2^64 - 1 entries
-    /// were fed. Then it was fed no entry more, and the same one may be fed again.
+    /// `AllocError` where memory is refused, or where 2^64 - 1 entries were fed. Then it was fed no
+    /// entry more, and the same one may be fed again.
+    ///
+    /// # Cost
+    ///
+    /// Time in proportion to the logarithm of the number of keys; for a Committed or an Aborted
+    /// also to the stripes that it gives back and the changes that stood. Takes memory only for a
+    /// change, for one that is taken back and for a savepoint. After the first bad entry constant
+    /// time, and no memory.
     pub fn feed(&mut self, entry: &Entry) -> Result<(), AllocError>
         requires { caller_of entry.now < 64 }
         ensures ok { OnOk result ((holder : Holder) (stripes : ℕ) (h : List Entry) →
@@ -76,7 +82,9 @@ impl Checker {
 
     /// What it says of the entries so far: the verdict on the history that they are.
     ///
-    /// A fixed number of steps, one for each of 64 callers.
+    /// # Cost
+    ///
+    /// Constant time: a look at each of 64 callers; takes no memory.
     pub fn verdict(&self) -> Verdict
         ensures { (holder : Holder) (stripes : ℕ) (h : List Entry) →
             IsFed holder stripes h self.now → meaning_of result ≡ verdict holder stripes h }

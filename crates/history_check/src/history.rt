@@ -18,14 +18,16 @@ use txn_trace::{Entry, Holder};
 /// first entry that breaks a rule, from 0, and the rule: shape, or of replies and locks the first
 /// that it breaks.
 ///
-/// Each entry costs the logarithm of the number of keys; a Committed or an Aborted also takes a
-/// step for each stripe that it gives back and each change that stood. Memory is in proportion to
-/// the stripes, and to the most keys, changes that can be taken back and savepoints that there are
-/// at one time.
-///
 /// # Errors
 ///
 /// `AllocError` where memory is refused.
+///
+/// # Cost
+///
+/// Time for each entry in proportion to the logarithm of the number of keys, and for a Committed or
+/// an Aborted also to the stripes that it gives back and the changes that stood; memory in
+/// proportion to the stripes, and to the most keys, changes that can be taken back and savepoints
+/// that there are at one time.
 pub fn check(
     alloc: Global,
     entries: &[Entry],

@@ -14,9 +14,10 @@
 //! locks do in Herlihy and Koskinen, "Transactional Boosting" (PPoPP 2008). So the checker keeps
 //! that map, the holder of each stripe, and of each caller its phase, its standing changes with the
 //! values before them, its savepoints and whether it has begun a transaction: it copies no map and
-//! keeps no list of the entries. An entry costs the logarithm of the number of keys. Memory is in
-//! proportion to the stripes, and to the most keys, changes that can be taken back and savepoints
-//! that there are at one time.
+//! keeps no list of the entries. An entry costs the logarithm of the number of keys, and one that
+//! ends a transaction also a step for each of its stripes and changes. Memory is in proportion to
+//! the stripes, and to the most keys, changes that can be taken back and savepoints that there are
+//! at one time.
 //!
 //! Proved: `check`, and a `Checker` that was fed the same entries, say what the definition
 //! `verdict` of `txn_trace` says, and they say legal exactly where `IsLegal` holds. An entry that

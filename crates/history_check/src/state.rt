@@ -12,7 +12,7 @@ use std::alloc::{AllocError, Global};
 use std::collections::BTreeMap;
 use txn_trace::{Entry, Holder, Op, Phase, Reply};
 
-/// What a legal history says, as far as the next entry is judged by it.
+/// What is needed of a legal history to judge the next entry.
 #[derive(Drop)]
 pub(crate) struct State {
     /// Whom a Busy may name.

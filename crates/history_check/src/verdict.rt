@@ -17,7 +17,11 @@ pub enum Rule {
 }
 
 impl Rule {
-    /// The rule's number, from 1 to 3. Constant time.
+    /// The rule's number, from 1 to 3.
+    ///
+    /// # Cost
+    ///
+    /// Constant time; takes no memory.
     pub fn number(self) -> u8
         ensures { result ≡ number_of self }
     {

@@ -43,11 +43,15 @@ impl KeyLocks {
     ghost use Rattle.key_locks.specs.Locks.{Locks, Releases};
 
     /// So many stripes that no caller holds. This takes all the memory that the locks will ever
-    /// need. Time and memory in proportion to the stripes.
+    /// need.
     ///
     /// # Errors
     ///
     /// `AllocError` where memory is refused.
+    ///
+    /// # Cost
+    ///
+    /// Time and memory in proportion to the stripes.
     pub fn new(alloc: Global, stripes: usize) -> Result<KeyLocks, AllocError>
         ensures { IfOk result (λ locks. locks ≡ replicate stripes None) }
     {
@@ -63,7 +67,11 @@ impl KeyLocks {
 
     /// Makes the caller the holder of the stripe, unless another caller holds it: then nothing
     /// changes, and the answer names that one. A stripe that the caller holds is granted again. No
-    /// other stripe changes. Takes no memory, constant time.
+    /// other stripe changes.
+    ///
+    /// # Cost
+    ///
+    /// Constant time; takes no memory.
     pub fn lock(&mut self, caller: usize, stripe: usize) -> LockAnswer
         requires caller { caller < CALLERS }
         requires stripe { stripe < length self.old }
@@ -81,8 +89,11 @@ impl KeyLocks {
         }
     }
 
-    /// Frees all stripes that the caller holds, and no other. Takes no memory, and time in
-    /// proportion to the stripes that it frees.
+    /// Frees all stripes that the caller holds, and no other.
+    ///
+    /// # Cost
+    ///
+    /// Time in proportion to the stripes that it frees; takes no memory.
     pub fn release_all(&mut self, caller: usize)
         requires { caller < CALLERS }
         ensures { Releases caller self.old self.new }

@@ -22,11 +22,13 @@ impl Model for StripeRight {
 impl StripeRight {
     /// One right for each of so many stripes, by rising number.
     ///
-    /// Takes time and memory in proportion to the stripes.
-    ///
     /// # Errors
     ///
     /// `AllocError` where memory is refused.
+    ///
+    /// # Cost
+    ///
+    /// Time and memory in proportion to the stripes.
     pub fn all(alloc: Global, stripes: usize) -> Result<Vec<StripeRight>, AllocError>
         ensures { IfOk result (λ rights. AreAll stripes rights.items) }
     {

@@ -22,7 +22,11 @@ pub struct Rights {
 impl Rights {
     ghost use Rattle.key_words.specs.Kept.{IsSame, Tries, none_held};
 
-    /// A seat that holds nothing, with no rights. Takes no memory.
+    /// A seat that holds nothing, with no rights.
+    ///
+    /// # Cost
+    ///
+    /// Constant time; takes no memory.
     pub fn new(alloc: Global, seat: KeySeat) -> Rights
         requires { (known seat).held ≡ [] }
         ensures { (result.seat ≡ seat) × (result.rights.items ≡ []) }
@@ -50,11 +54,16 @@ impl Rights {
 
     /// Takes the stripe's word, in one try, unless the right is there already.
     ///
-    /// Room for a right is made before the word is tried. Takes time in proportion to the rights.
+    /// Room for a right is made before the word is tried.
     ///
     /// # Errors
     ///
     /// `AllocError` where memory is refused: no word was tried, and seat and rights are as before.
+    ///
+    /// # Cost
+    ///
+    /// Time in proportion to the rights, and one try of one word; takes memory only where there is
+    /// no room for a right.
     pub fn take(&mut self, words: &KeyWords, stripe: usize) -> Result<Tried, AllocError>
         requires seat { IsOf self.old.seat words.now }
         requires stripe { stripe < stripes_of words.now }
@@ -75,7 +84,11 @@ impl Rights {
         }
     }
 
-    /// The right at a place. Constant time.
+    /// The right at a place.
+    ///
+    /// # Cost
+    ///
+    /// Constant time; takes no memory.
     pub fn right(&self, place: usize) -> &StripeRight
         requires { place < vec_len self.now.rights }
         ensures { Some result.now ≡ slice_get self.now.rights.items place }
@@ -85,7 +98,9 @@ impl Rights {
 
     /// Gives all rights back, the newest first.
     ///
-    /// Takes no memory, and time in proportion to the rights.
+    /// # Cost
+    ///
+    /// Time in proportion to the rights; takes no memory.
     pub fn give_back(&mut self, words: &KeyWords)
         requires { IsOf self.old.seat words.now }
         ensures seat { IsOf self.new.seat words.now }

@@ -32,11 +32,13 @@ impl KeyWords {
 
     /// The words of these stripes, all of them free, and their seats by rising number.
     ///
-    /// Takes time and memory in proportion to the stripes and seats.
-    ///
     /// # Errors
     ///
     /// `Refusal::NoMemory` where memory is refused, with the rights that were handed in.
+    ///
+    /// # Cost
+    ///
+    /// Time and memory in proportion to the stripes and seats.
     pub fn new(
         alloc: Global,
         mut rights: Vec<StripeRight>,
@@ -103,7 +105,11 @@ impl KeyWords {
     /// seat notes.
     ///
     /// Granted, with the stripe's right, exactly where the word was 0 then; else `Held` with the
-    /// word. Takes no memory, constant time.
+    /// word.
+    ///
+    /// # Cost
+    ///
+    /// Constant time; takes no memory.
     pub fn take(&self, seat: &mut KeySeat, stripe: usize) -> Taken
         requires seat { IsOf seat.old self.now }
         requires stripe { stripe < stripes_of self.now }
@@ -126,7 +132,9 @@ impl KeyWords {
     /// slot and frees the word by one store. Before it one load, which changes nothing, puts the
     /// stripe's slot in front of the seat's others.
     ///
-    /// Takes no memory, constant time.
+    /// # Cost
+    ///
+    /// Constant time; takes no memory.
     pub fn give(&self, seat: &mut KeySeat, right: StripeRight)
         requires seat { IsOf seat.old self.now }
         requires held { Holds (known seat.old) right }

@@ -13,7 +13,7 @@ use node_list::{NodeList, NodeRef, Spare};
 /// and filled with the sort key sought; where the cursor fits, no node may have that sort key, as
 /// `look` tells.
 ///
-/// The content gains the pair of a regular node; a dummy keeps it as it was. Takes no memory.
+/// The content gains the pair of a regular node; a dummy keeps it as it was.
 ///
 /// # Errors
 ///
@@ -21,7 +21,7 @@ use node_list::{NodeList, NodeRef, Spare};
 ///
 /// # Cost
 ///
-/// A fixed number of look-ups.
+/// Constant time; takes no memory.
 pub fn link(list: &mut NodeList, cursor: Cursor, spare: Spare) -> Result<NodeRef, (Again, Spare)>
     requires out { IsOut list.old spare }
     requires filled { spare.at ≡ at_of cursor }
@@ -47,7 +47,7 @@ pub fn link(list: &mut NodeList, cursor: Cursor, spare: Spare) -> Result<NodeRef
 /// that node has to be there, as `look` tells.
 ///
 /// Its pair leaves the content. The node stays linked until a seek passes it or a sweep comes to
-/// it. Takes no memory.
+/// it.
 ///
 /// # Errors
 ///
@@ -55,7 +55,7 @@ pub fn link(list: &mut NodeList, cursor: Cursor, spare: Spare) -> Result<NodeRef
 ///
 /// # Cost
 ///
-/// A fixed number of look-ups.
+/// Constant time; takes no memory.
 pub fn mark(list: &mut NodeList, cursor: Cursor) -> Result<u64, Again>
     requires placed { IsPlaced list.old cursor }
     requires there { IsKeyThere list.old cursor }
@@ -75,7 +75,7 @@ pub fn mark(list: &mut NodeList, cursor: Cursor) -> Result<u64, Again>
 /// Writes a value into the regular node of the sort key sought, and answers the value that it had.
 /// Where the cursor fits, that node has to be there, as `look` tells.
 ///
-/// In the content its pair has the new value, at its old place. Takes no memory.
+/// In the content its pair has the new value, at its old place.
 ///
 /// # Errors
 ///
@@ -83,7 +83,7 @@ pub fn mark(list: &mut NodeList, cursor: Cursor) -> Result<u64, Again>
 ///
 /// # Cost
 ///
-/// A fixed number of look-ups.
+/// Constant time; takes no memory.
 pub fn swap(list: &mut NodeList, cursor: Cursor, value: u64) -> Result<u64, Again>
     requires placed { IsPlaced list.old cursor }
     requires there { IsKeyThere list.old cursor }

@@ -11,12 +11,15 @@ use node_list::{NodeList, NodeRef};
 use split_key::SortKey;
 
 /// Seeks the place of a sort key from a dummy before it, and unlinks the marked nodes that it
-/// passes: all between its start and the first unmarked node that is not below the sort key.
+/// passes: all between its start and the first unmarked node that is not below the sort key (the
+/// search of Harris, DISC 2001, which unlinks marked nodes).
 ///
 /// The cursor fits the list as the seek leaves it. The change number grows by the number of nodes
-/// that are unlinked. The content stays as it was, and so do the spares that are out. Takes no
-/// memory. Each node from the start to the place is visited once (the search of Harris, DISC 2001,
-/// which unlinks marked nodes).
+/// that are unlinked. The content stays as it was, and so do the spares that are out.
+///
+/// # Cost
+///
+/// Time in proportion to the nodes from the start to the place, each visited once; takes no memory.
 pub fn seek(list: &mut NodeList, from: NodeRef, at: SortKey) -> Cursor
     requires { IsStart list.old.nodes from at }
     ensures nodes { list.new.nodes ≡ sought list.old.nodes from at }

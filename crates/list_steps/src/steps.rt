@@ -27,8 +27,7 @@ fn node_there(list: &NodeList, cursor: &Cursor) -> Option<NodeRef>
 /// sort key, which belongs right behind `cursor.pred()`.
 ///
 /// What is done next goes by the answer alone, until the list changes: `link_at` behind
-/// `cursor.pred()` where there is no node, `mark_at` or `swap_at` at a
-/// regular one.
+/// `cursor.pred()` where there is no node, `mark_at` or `swap_at` at a regular one.
 ///
 /// # Errors
 ///
@@ -36,7 +35,7 @@ fn node_there(list: &NodeList, cursor: &Cursor) -> Option<NodeRef>
 ///
 /// # Cost
 ///
-/// A fixed number of look-ups.
+/// Constant time; takes no memory.
 pub fn look(list: &NodeList, cursor: &Cursor) -> Result<Option<NodeRef>, Again>
     requires { IsPlaced list.now cursor.now }
     ensures again { is_ok result ≡ fits list.now cursor.now }
@@ -54,11 +53,11 @@ pub fn look(list: &NodeList, cursor: &Cursor) -> Result<Option<NodeRef>, Again>
 /// Links the node of a spare behind a linked node, where its sort key is vacant, and answers it.
 /// The spare is this list's.
 ///
-/// The content gains the pair of a regular node; a dummy keeps it as it was. Takes no memory.
+/// The content gains the pair of a regular node; a dummy keeps it as it was.
 ///
 /// # Cost
 ///
-/// A fixed number of look-ups.
+/// Constant time; takes no memory.
 pub fn link_at(list: &mut NodeList, pred: NodeRef, spare: Spare) -> NodeRef
     requires out { IsOut list.old spare }
     requires vacant { IsVacant list.old.nodes pred spare.at }
@@ -74,11 +73,11 @@ pub fn link_at(list: &mut NodeList, pred: NodeRef, spare: Spare) -> NodeRef
 /// Marks an unmarked regular node, and answers its value.
 ///
 /// Its pair leaves the content. The node stays linked until a seek passes it or a sweep comes to it
-/// (Harris, DISC 2001). Takes no memory.
+/// (Harris, DISC 2001).
 ///
 /// # Cost
 ///
-/// A fixed number of look-ups.
+/// Constant time; takes no memory.
 pub fn mark_at(list: &mut NodeList, node: NodeRef) -> u64
     requires { IsRegularAt list.old.nodes node }
     ensures marks { Marks list.old list.new node result }
@@ -91,11 +90,11 @@ pub fn mark_at(list: &mut NodeList, node: NodeRef) -> u64
 
 /// Writes the value of an unmarked regular node, and answers the one that it had.
 ///
-/// In the content its pair has the new value, at its old place. Takes no memory.
+/// In the content its pair has the new value, at its old place.
 ///
 /// # Cost
 ///
-/// A fixed number of look-ups.
+/// Constant time; takes no memory.
 pub fn swap_at(list: &mut NodeList, node: NodeRef, value: u64) -> u64
     requires { IsRegularAt list.old.nodes node }
     ensures swaps { Swaps list.old list.new node result value }

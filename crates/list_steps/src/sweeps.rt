@@ -38,9 +38,13 @@ fn before_first_marked(list: &NodeList, start: NodeRef) -> NodeRef
 
 /// Unlinks the first marked node, and nothing else, or answers that no node is marked.
 ///
-/// `Clean` exactly where none is, which is known at once; the list is then as it was. The content
-/// and the spares that are out stay as they were. Takes no memory. The walk to the first marked
-/// node is the whole cost.
+/// `Clean` exactly where none is; the list is then as it was. The content and the spares that are
+/// out stay as they were.
+///
+/// # Cost
+///
+/// Time in proportion to the nodes from the first one to the first marked one, and constant time
+/// where none is marked; takes no memory.
 pub fn sweep(list: &mut NodeList) -> SweepOutcome
     ensures clean { (result ≡ SweepOutcome.Clean) ↔
         AllByRecursion (λ n. n.marked ≡ false) list.old.nodes }
@@ -53,7 +57,12 @@ pub fn sweep(list: &mut NodeList) -> SweepOutcome
 }
 
 /// Does what `sweep` does, from a node that all marked ones stand behind, so that the walk need not
-/// begin at the first node. The walk from there to the first marked node is the whole cost.
+/// begin at the first node.
+///
+/// # Cost
+///
+/// Time in proportion to the nodes from `start` to the first marked one, and constant time where
+/// none is marked; takes no memory.
 pub fn sweep_from(list: &mut NodeList, start: NodeRef) -> SweepOutcome
     requires { IsBeforeMarks list.old.nodes start }
     ensures clean { (result ≡ SweepOutcome.Clean) ↔

@@ -119,7 +119,11 @@ impl<L: Ledger, S: Side> Caller<L, S> {
         self.seen.entries()
     }
 
-    /// The four words of the side value: one call of the side type's `words`.
+    /// The four words of the side value.
+    ///
+    /// # Cost
+    ///
+    /// One call of the side type's `words`.
     pub fn words(&self) -> [u64; 4]
         ensures { result ≡ S.words_of self.now.side.value }
     {
@@ -140,7 +144,8 @@ impl<L: Ledger, S: Side> Caller<L, S> {
     /// - `OutOfStep` where the token is broken: nothing is done;
     /// - `OutOfStep` where the core has not as many stripes as the map has words: no step is taken,
     ///   and the token breaks;
-    /// - `NoMemory` where room in `seen` is refused: no step is taken;
+    /// - `NoMemory` where memory is refused for room in `seen`: no step is taken;
+    /// - `NoMemory`, `StampsUsedUp` or `StaleWord` where the core refuses the step so;
     /// - `OutOfStep` where the core answers what the token's state excludes, or where the token
     ///   would have refused the call, as `help` of a bad key: the token breaks.
     ///
@@ -148,7 +153,8 @@ impl<L: Ledger, S: Side> Caller<L, S> {
     ///
     /// # Cost
     ///
-    /// That of the one or two steps; amortized constant time beside it.
+    /// That of the one or two steps, and amortized constant time beside it; may take memory, for
+    /// the steps and for `seen`.
     pub fn hold(&mut self, booked: &mut Booked<L>, drive: &mut Drive) -> Option<End>
         requires caller { drive.old.caller ≡ self.old.number }
         requires tried { HasTried self.old drive.old.call }
@@ -213,7 +219,8 @@ impl<L: Ledger, S: Side> Caller<L, S> {
     ///
     /// # Cost
     ///
-    /// Time in proportion to the rights that it holds, and one try of one word.
+    /// Time in proportion to the rights that it holds, and one try of one word; takes memory only
+    /// where there is no room for one right more.
     pub fn try_word(&mut self, op: Op) -> Result<(), Refusal>
         ensures same { IsSameSeen self.old self.new }
         ensures side { self.new.side ≡ self.old.side }

@@ -42,11 +42,12 @@ impl<L: Ledger> SharedMap<L> {
     /// `Refused`, and the transaction, if there is one, is as it was:
     /// - `OutOfStep` of a token that is broken.
     /// - `Leaving` of a caller that takes changes back, `AlreadyOpen` of one with a transaction.
-    /// - Then `NoMemory` where a growth was refused, and `OutOfStep`, which breaks the token.
+    /// - Then `NoMemory` where memory is refused, and `OutOfStep`, which breaks the token.
     ///
     /// # Cost
     ///
-    /// One hold of the lock, of constant time.
+    /// One hold of the lock, of amortized constant time, and a step for each side job, which is
+    /// dropped; may take memory.
     pub fn begin<S: Side, R: Wait>(&self, rt: &R, me: &mut Caller<L, S>) -> Result<u64, Stop>
         ensures ok { IfOk result (λ txn. me.new.seen
             ≡ me.old.seen ++ entries.Began me.old.number txn ∷ []) }
@@ -66,21 +67,22 @@ impl<L: Ledger> SharedMap<L> {
     ///
     /// - `Refused`, and the transaction is as it was:
     ///   - `OutOfStep` of a token that is broken.
-    ///   - `NotOpen`, `Leaving`, `OperationUnfinished` and `BadKey` (a key of 2^63 or more,
-    ///     where the limits have half keys), the first that holds.
-    ///   - Then `NoMemory` where room for one right more was refused, before any word is tried, or
-    ///     another growth was; `StampsUsedUp` where no stamp is left; `StaleWord` where by the
-    ///     core's record the word of the key's stripe does not say who holds it; and `OutOfStep`,
-    ///     which breaks the token.
+    ///   - `NotOpen`, `Leaving`, `OperationUnfinished` and `BadKey` (a key of 2^63 or more, where
+    ///     the limits have half keys), the first that holds.
+    ///   - Then `NoMemory` where memory is refused: for one right more, before any word is tried, or
+    ///     for the operation; `StampsUsedUp` where no stamp is left; `StaleWord` where by the core's
+    ///     record the word of the key's stripe does not say who holds it; and `OutOfStep`, which
+    ///     breaks the token.
     /// - `Busy` where the word of the key's stripe names another caller: the transaction is
     ///   aborted, with all its changes taken back and all its rights given back, and the side value
     ///   has the words that it had when the transaction began.
     ///
     /// # Cost
     ///
-    /// One try of the word, outside the lock, unless the token has its right; time in proportion to
-    /// the rights that it has; three holds of the lock, and two more for each time that the place
-    /// found no longer fits.
+    /// One try of the word, outside the lock, unless the token has its right, and time in
+    /// proportion to the rights that it has; three holds of the lock, one of which seeks the place
+    /// of the key, and at most two more for each time that the place no longer fits, and for each
+    /// change that is taken back where the key is busy; may take memory.
     pub fn put<S: Side, R: Wait>(
         &self,
         rt: &R,
@@ -104,21 +106,22 @@ impl<L: Ledger> SharedMap<L> {
     ///
     /// - `Refused`, and the transaction is as it was:
     ///   - `OutOfStep` of a token that is broken.
-    ///   - `NotOpen`, `Leaving`, `OperationUnfinished` and `BadKey` (a key of 2^63 or more,
-    ///     where the limits have half keys), the first that holds.
-    ///   - Then `NoMemory` where room for one right more was refused, before any word is tried, or
-    ///     another growth was; `StampsUsedUp` where no stamp is left; `StaleWord` where by the
-    ///     core's record the word of the key's stripe does not say who holds it; and `OutOfStep`,
-    ///     which breaks the token.
+    ///   - `NotOpen`, `Leaving`, `OperationUnfinished` and `BadKey` (a key of 2^63 or more, where
+    ///     the limits have half keys), the first that holds.
+    ///   - Then `NoMemory` where memory is refused: for one right more, before any word is tried, or
+    ///     for the operation; `StampsUsedUp` where no stamp is left; `StaleWord` where by the core's
+    ///     record the word of the key's stripe does not say who holds it; and `OutOfStep`, which
+    ///     breaks the token.
     /// - `Busy` where the word of the key's stripe names another caller: the transaction is
     ///   aborted, with all its changes taken back and all its rights given back, and the side value
     ///   has the words that it had when the transaction began.
     ///
     /// # Cost
     ///
-    /// One try of the word, outside the lock, unless the token has its right; time in proportion to
-    /// the rights that it has; three holds of the lock, and two more for each time that the place
-    /// found no longer fits.
+    /// One try of the word, outside the lock, unless the token has its right, and time in
+    /// proportion to the rights that it has; three holds of the lock, one of which seeks the place
+    /// of the key, and at most two more for each time that the place no longer fits, and for each
+    /// change that is taken back where the key is busy; may take memory.
     pub fn take<S: Side, R: Wait>(
         &self,
         rt: &R,
@@ -143,19 +146,20 @@ impl<L: Ledger> SharedMap<L> {
     ///   - `OutOfStep` of a token that is broken.
     ///   - `NotOpen`, `Leaving`, `OperationUnfinished` and `BadKey` (a key of 2^63 or more, where
     ///     the limits have half keys), the first that holds.
-    ///   - Then `NoMemory` where room for one right more was refused, before any word is tried, or
-    ///     another growth was; `StampsUsedUp` where no stamp is left; `StaleWord` where by the
-    ///     core's record the word of the key's stripe does not say who holds it; and `OutOfStep`,
-    ///     which breaks the token.
+    ///   - Then `NoMemory` where memory is refused: for one right more, before any word is tried, or
+    ///     for the operation; `StampsUsedUp` where no stamp is left; `StaleWord` where by the core's
+    ///     record the word of the key's stripe does not say who holds it; and `OutOfStep`, which
+    ///     breaks the token.
     /// - `Busy` where the word of the key's stripe names another caller: the transaction is
     ///   aborted, with all its changes taken back and all its rights given back, and the side value
     ///   has the words that it had when the transaction began.
     ///
     /// # Cost
     ///
-    /// One try of the word, outside the lock, unless the token has its right; time in proportion to
-    /// the rights that it has; three holds of the lock, and two more for each time that the place
-    /// found no longer fits.
+    /// One try of the word, outside the lock, unless the token has its right, and time in
+    /// proportion to the rights that it has; three holds of the lock, one of which seeks the place
+    /// of the key, and at most two more for each time that the place no longer fits, and for each
+    /// change that is taken back where the key is busy; may take memory.
     pub fn put_if<S: Side, R: Wait>(
         &self,
         rt: &R,
@@ -182,21 +186,22 @@ impl<L: Ledger> SharedMap<L> {
     ///
     /// - `Refused`, and the transaction is as it was:
     ///   - `OutOfStep` of a token that is broken.
-    ///   - `NotOpen`, `Leaving`, `OperationUnfinished` and `BadKey` (a key of 2^63 or more,
-    ///     where the limits have half keys), the first that holds.
-    ///   - Then `NoMemory` where room for one right more was refused, before any word is tried, or
-    ///     another growth was; `StampsUsedUp` where no stamp is left; `StaleWord` where by the
-    ///     core's record the word of the key's stripe does not say who holds it; and `OutOfStep`,
-    ///     which breaks the token.
+    ///   - `NotOpen`, `Leaving`, `OperationUnfinished` and `BadKey` (a key of 2^63 or more, where
+    ///     the limits have half keys), the first that holds.
+    ///   - Then `NoMemory` where memory is refused: for one right more, before any word is tried, or
+    ///     for the operation; `StampsUsedUp` where no stamp is left; `StaleWord` where by the core's
+    ///     record the word of the key's stripe does not say who holds it; and `OutOfStep`, which
+    ///     breaks the token.
     /// - `Busy` where the word of the key's stripe names another caller: the transaction is
     ///   aborted, with all its changes taken back and all its rights given back, and the side value
     ///   has the words that it had when the transaction began.
     ///
     /// # Cost
     ///
-    /// One try of the word, outside the lock, unless the token has its right; time in proportion to
-    /// the rights that it has; three holds of the lock, and two more for each time that the place
-    /// found no longer fits.
+    /// One try of the word, outside the lock, unless the token has its right, and time in
+    /// proportion to the rights that it has; three holds of the lock, one of which seeks the place
+    /// of the key, and at most two more for each time that the place no longer fits, and for each
+    /// change that is taken back where the key is busy; may take memory.
     pub fn get<S: Side, R: Wait>(
         &self,
         rt: &R,
@@ -219,11 +224,11 @@ impl<L: Ledger> SharedMap<L> {
     /// `Refused`, and the transaction is as it was:
     /// - `OutOfStep` of a token that is broken.
     /// - `NotOpen`, `Leaving` and `OperationUnfinished`, the first that holds.
-    /// - Then `NoMemory` where a growth was refused, and `OutOfStep`, which breaks the token.
+    /// - Then `NoMemory` where memory is refused, and `OutOfStep`, which breaks the token.
     ///
     /// # Cost
     ///
-    /// One hold of the lock, of constant time.
+    /// One hold of the lock, of amortized constant time; may take memory.
     pub fn save<S: Side, R: Wait>(&self, rt: &R, me: &mut Caller<L, S>) -> Result<u64, Stop>
         ensures ok { OnOk result (me.new.seen ≡ me.old.seen ++ entries.Saved me.old.number ∷ []) }
         ensures side { OnOk result (HasLevel S.words_of me.old.side me.new.side) }
@@ -244,14 +249,15 @@ impl<L: Ledger> SharedMap<L> {
     /// `Refused`, and the transaction is as it was:
     /// - `OutOfStep` of a token that is broken.
     /// - `NotOpen`, `Leaving`, `OperationUnfinished` and `NoSuchLevel`, the first that holds.
-    /// - Then `NoMemory` where a growth was refused, which is before anything is taken back, and
+    /// - Then `NoMemory` where memory is refused, which is before anything is taken back, and
     ///   `OutOfStep`, which breaks the token. That comes too where the side value has no such
     ///   level, since a save was made by `hold` alone.
     ///
     /// # Cost
     ///
-    /// Two holds of the lock, and two for each change that is taken back; then its side jobs are
-    /// run.
+    /// Three holds of the lock, at most two more for each change that is taken back and for each
+    /// time that a place no longer fits, and a run of each side job above the level; may take
+    /// memory, before anything is taken back.
     pub fn back<S: Side, R: Wait>(
         &self,
         rt: &R,
@@ -279,12 +285,12 @@ impl<L: Ledger> SharedMap<L> {
     /// `Refused`, and the transaction is as it was:
     /// - `OutOfStep` of a token that is broken.
     /// - `NotOpen`, `Leaving` and `OperationUnfinished`, the first that holds.
-    /// - Then `OutOfStep`, which breaks the token. It wants no memory.
+    /// - Then `OutOfStep`, which breaks the token.
     ///
     /// # Cost
     ///
-    /// One hold of the lock, with time in proportion to the changes and the stripes; then one step
-    /// for each right.
+    /// One hold of the lock, with time in proportion to the changes and the stripes, and a step for
+    /// each right and each side job; takes no memory.
     pub fn commit<S: Side, R: Wait>(&self, rt: &R, me: &mut Caller<L, S>) -> Result<Receipt, Stop>
         ensures ok { IfOk result (λ receipt. (receipt.txn ≡ last_txn me.old.seen) × (me.new.seen
             ≡ me.old.seen ++ entries.Committed me.old.number receipt.place ∷ [])) }
@@ -308,12 +314,13 @@ impl<L: Ledger> SharedMap<L> {
     /// `Refused`, and the transaction is as it was:
     /// - `OutOfStep` of a token that is broken.
     /// - `NotOpen` and `Leaving`, the first that holds.
-    /// - Then `OutOfStep`, which breaks the token. It wants no memory.
+    /// - Then `OutOfStep`, which breaks the token.
     ///
     /// # Cost
     ///
-    /// Two holds of the lock, and two for each change that is taken back; then its side jobs are
-    /// run.
+    /// Three holds of the lock, at most two more for each change that is taken back and for each
+    /// time that a place no longer fits, a run of each side job, and a step for each right; takes
+    /// no memory.
     pub fn abort<S: Side, R: Wait>(&self, rt: &R, me: &mut Caller<L, S>) -> Result<(), Stop>
         ensures ok { OnOk result ((undone : ℕ) × (me.new.seen ≡ me.old.seen
             ++ (entries.Leave me.old.number None ∷ undone_by me.old.number undone
@@ -337,12 +344,14 @@ impl<L: Ledger> SharedMap<L> {
     /// stay so:
     /// - `OutOfStep` of a token that is broken.
     /// - `BadKey` of a key of 2^63 or more, where the limits have half keys.
-    /// - Then `NoMemory` where a growth was refused, `StampsUsedUp` where no stamp is left, and
+    /// - Then `NoMemory` where memory is refused, `StampsUsedUp` where no stamp is left, and
     ///   `OutOfStep`, which breaks the token.
     ///
     /// # Cost
     ///
-    /// One hold of the lock to double, and three for each bucket that is initialised.
+    /// One hold of the lock to double; for each bucket on the way one where it is initialised, and
+    /// else three, and at most two more for each time that its place no longer fits; may take
+    /// memory.
     #[tactic(auto, using(crate::proofs::Refusing::help_bad_key))]
     pub fn help<S: Side, R: Wait>(
         &self,
@@ -373,11 +382,12 @@ impl<L: Ledger> SharedMap<L> {
     ///
     /// The change was not called, nothing has changed, and change and job are handed back:
     /// - `OutOfStep` of a token that is broken;
-    /// - `NoMemory` where a growth was refused.
+    /// - `NoMemory` where memory is refused.
     ///
     /// # Cost
     ///
-    /// One call of `change`, and amortized constant time. The lock is not taken.
+    /// One call of `change`, and amortized constant time beside it, without the lock; takes memory
+    /// only where there is no room for a change.
     pub fn side<S: Side, F: FnOnce(S) -> S>(
         &self,
         me: &mut Caller<L, S>,

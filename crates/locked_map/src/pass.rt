@@ -62,7 +62,7 @@ impl<L: Ledger> Pass<L> {
     ///
     /// # Cost
     ///
-    /// Constant time; no memory.
+    /// Constant time; takes no memory.
     pub fn caller<S: Side>(self, alloc: Global, side: S) -> Caller<L, S>
         ensures number { result.number ≡ self.number }
         ensures limits { result.limits ≡ self.limits }

@@ -34,6 +34,10 @@ pub struct SharedMap<L: Ledger> {
 /// Hears of each hold of the lock, once it is over.
 pub trait OnRelease {
     /// A hold is over: the thread that calls this has given the lock back.
+    ///
+    /// # Cost
+    ///
+    /// The hearer's own.
     fn on_release(&self);
 }
 
@@ -54,7 +58,7 @@ impl<L: Ledger> SharedMap<L> {
     ///
     /// # Cost
     ///
-    /// Memory and time in proportion to callers, stripes and buckets.
+    /// Time and memory in proportion to the callers, the stripes and the largest number of buckets.
     pub fn new(
         alloc: Global,
         blank: Blank,
@@ -130,7 +134,7 @@ impl<L: Ledger> SharedMap<L> {
     ///
     /// # Cost
     ///
-    /// That of the call of that name.
+    /// That of the call of that name, and one `on_release` for each hold.
     pub fn run<S: Side, H: OnRelease, R: Wait>(
         &self,
         rt: &R,

@@ -12,8 +12,11 @@ ghost use Rattle.map_ops.specs.Laws.{GoesAndReturns, IsInOrder, TakesBackTwo};
 /// which has the pairs of the content in their order (`Table::size` says so of every table). An
 /// operation without a job leaves the content too.
 ///
-/// Does nothing when it runs: its contract is the law, of what `Table::apply` and
-/// `Table::take_back` promise.
+/// The contract is the law, of what `Table::apply` and `Table::take_back` promise.
+///
+/// # Cost
+///
+/// None: it does nothing when it runs.
 pub fn there_and_back()
     ensures content { (old new : TableAt) → GoesAndReturns old new → content new ≡ content old }
     ensures regular { (old new : TableAt) → GoesAndReturns old new
@@ -27,7 +30,11 @@ pub fn there_and_back()
 /// own), and both orders leave the same content, with it the same list of pairs, and the same
 /// spares out.
 ///
-/// Does nothing when it runs: its contract is the law, of what `Table::take_back` promises.
+/// The contract is the law, of what `Table::take_back` promises.
+///
+/// # Cost
+///
+/// None: it does nothing when it runs.
 pub fn either_order()
     ensures due { (old new : TableAt) (first second : MapJob)
         → key_of_job first ≢ key_of_job second → AreApart (spare_of_job first) (spare_of_job second)

@@ -27,7 +27,7 @@
 //! bucket's parent, and `sweep` from the nearest initialised dummy before the first marked node to
 //! that node. `content` and `regular_list` walk the whole list (`content` also sorts its pairs),
 //! and `new` takes time in proportion to `max / 64` and `callers`. Each other call takes constant
-//! time, amortised where it may take memory for a node (`prepare`, `init_link`).
+//! time, amortized where it may take memory for a node (`prepare`, `init_link`).
 #![tactic(auto)]
 
 mod act;

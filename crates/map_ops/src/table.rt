@@ -55,12 +55,13 @@ impl Table {
     /// An empty table of two buckets, of which bucket 0 is initialised, and of so many idle
     /// helpers. It can grow to `max` buckets, a power of two.
     ///
-    /// Allocates a place for each segment of 64 buckets, the first segment, and an entry a helper,
-    /// and takes time in proportion to these.
-    ///
     /// # Errors
     ///
     /// `AllocError` where memory is refused.
+    ///
+    /// # Cost
+    ///
+    /// Time and memory in proportion to `max / 64`, the number of segments, and to the helpers.
     pub fn new(alloc: Global, max: u32, callers: u32) -> Result<Table, AllocError>
         requires power { (exponent : ℕ) × (max ≡ 2 ^ exponent) }
         requires least { 2 ≤ max }
@@ -74,12 +75,14 @@ impl Table {
     /// Prepares an operation: takes the spare that it needs unless it is a get, so that no memory
     /// is wanted from here on. Content and list stay.
     ///
-    /// May allocate a node. Amortised constant time.
-    ///
     /// # Errors
     ///
     /// Unless it is a get, `StampsUsedUp` where the last stamp, 2^64 - 2, is given, and else
     /// `NoMemory` where memory is refused. Each leaves the table as it was.
+    ///
+    /// # Cost
+    ///
+    /// Amortized constant time; may take memory for a node.
     #[inline(always)]
     pub fn prepare(&mut self, op: Op) -> Result<Pending, Refusal>
         ensures ok { IfOk result (Prepares self.old self.new op) }
@@ -95,8 +98,12 @@ impl Table {
     /// is initialised (Shalev and Shavit 2006, section 3.2), and unlinks the marked nodes that it
     /// passes. Content and list of pairs stay.
     ///
-    /// The cursor fits until something changes where it is. Takes no memory. One step a node from
-    /// that dummy to the key's place, and one an ancestor up to there.
+    /// The cursor fits until something changes where it is.
+    ///
+    /// # Cost
+    ///
+    /// Time in proportion to the nodes from that dummy to the key's place, and to the ancestors up
+    /// to there; takes no memory.
     pub fn place(&mut self, pending: &Pending) -> Cursor
         ensures places { Places self.old self.new (key_of pending.now.op) result }
         ensures near { SeeksNear self.old self.new (key_of pending.now.op) }
@@ -112,7 +119,11 @@ impl Table {
     ///
     /// `Again` comes exactly where the cursor no longer fits, so never while the change number is
     /// still the cursor's and below 2^64 - 1: then nothing has changed, and the operation comes
-    /// back. Takes no memory. Constant time.
+    /// back.
+    ///
+    /// # Cost
+    ///
+    /// Constant time; takes no memory.
     #[inline(always)]
     pub fn act(&mut self, pending: Pending, cursor: Cursor) -> Act
         requires placed { IsPlaced self.old cursor (key_of pending.op) }
@@ -134,7 +145,9 @@ impl Table {
 
     /// Gives up an operation that is not done: its spare goes back to the list, and all else stays.
     ///
-    /// Takes no memory. Constant time.
+    /// # Cost
+    ///
+    /// Constant time; takes no memory.
     pub fn withdraw(&mut self, pending: Pending)
         requires { OwnsIf self.old pending.spare }
         ensures back { GivesBack self.old self.new pending.spare }
@@ -143,9 +156,11 @@ impl Table {
         give_up(&mut self.list, pending.into_plan());
     }
 
-    /// Seeks the key of a job, as `place` seeks that of an operation, with the same cost.
+    /// Seeks the key of a job, as `place` seeks that of an operation.
     ///
-    /// Takes no memory.
+    /// # Cost
+    ///
+    /// That of `place`; takes no memory.
     pub fn place_job(&mut self, job: &MapJob) -> Cursor
         ensures places { Places self.old self.new (key_of_job job.now) result }
         ensures near { SeeksNear self.old self.new (key_of_job job.now) }
@@ -160,7 +175,11 @@ impl Table {
     /// is marked, written or linked, and none is unlinked.
     ///
     /// `Again` comes exactly where the cursor no longer fits: then nothing has changed, and the job
-    /// comes back. Takes no memory. Constant time.
+    /// comes back.
+    ///
+    /// # Cost
+    ///
+    /// Constant time; takes no memory.
     pub fn undo(&mut self, job: MapJob, cursor: Cursor) -> Undo
         requires placed { IsPlaced self.old cursor (key_of_job job) }
         requires due { IsDue (content self.old) job }
@@ -182,7 +201,9 @@ impl Table {
     /// Gives up a job whose change is to stay: the spare of a `Relink` goes back to the list, and
     /// all else stays.
     ///
-    /// Takes no memory. Constant time.
+    /// # Cost
+    ///
+    /// Constant time; takes no memory.
     pub fn discard(&mut self, job: MapJob)
         requires { OwnsIf self.old (spare_of_job job) }
         ensures back { GivesBack self.old self.new (spare_of_job job) }
@@ -194,12 +215,13 @@ impl Table {
     /// Does an operation at once: its reply and what it leaves are those of a plain map, and a job
     /// is given exactly where it is a change.
     ///
-    /// May allocate a node, as `prepare` does. Takes the time of `place`: one step a node from the
-    /// nearest initialised dummy to the key's place.
-    ///
     /// # Errors
     ///
     /// Those of `prepare`, which leave the table as it was.
+    ///
+    /// # Cost
+    ///
+    /// That of `prepare` and of `place`; may take memory for a node.
     pub fn apply(&mut self, op: Op) -> Result<(Reply, Option<MapJob>), Refusal>
         ensures ok { IfOk result (λ done. Applies self.old self.new op done.0 done.1) }
         ensures err { IfErr result (IsRefused self.old op) }
@@ -219,8 +241,9 @@ impl Table {
     /// they were (`law::there_and_back`), and jobs of different keys may run in either order
     /// (`law::either_order`).
     ///
-    /// Takes no memory. Takes the time of `place_job`: one step a node from the nearest initialised
-    /// dummy to the key's place.
+    /// # Cost
+    ///
+    /// That of `place_job`, and constant time beside it; takes no memory.
     pub fn take_back(&mut self, job: MapJob)
         requires due { IsDue (content self.old) job }
         requires owned { OwnsIf self.old (spare_of_job job) }
@@ -236,12 +259,16 @@ impl Table {
         }
     }
 
-    /// The keys with their values, as a map. Takes a step a node and, with n keys, n log n for the
-    /// map; memory for the pairs twice while it runs, in a vector and in the map.
+    /// The keys with their values, as a map.
     ///
     /// # Errors
     ///
     /// `AllocError` where memory is refused.
+    ///
+    /// # Cost
+    ///
+    /// Time in proportion to the nodes, and to n log n for the map of n keys; memory for the pairs
+    /// twice while it runs, in a vector and in the map.
     pub fn content(&self, alloc: Global) -> Result<BTreeMap<u64, u64>, AllocError>
         ensures { IfOk result (λ map. (key : ℕ)
             → value_at nat_cmp map key ≡ get (content self.now) key) }
@@ -250,12 +277,15 @@ impl Table {
         map_of(alloc, &pairs)
     }
 
-    /// The keys with their values, in the order of the list, which is that of split keys. Takes a
-    /// step a node.
+    /// The keys with their values, in the order of the list, which is that of split keys.
     ///
     /// # Errors
     ///
     /// `AllocError` where memory is refused.
+    ///
+    /// # Cost
+    ///
+    /// Time in proportion to the nodes, and memory in proportion to the pairs.
     pub fn regular_list(&self, alloc: Global) -> Result<Vec<(u64, u64)>, AllocError>
         ensures regular { IfOk result (λ pairs. pairs.items ≡ regular self.now) }
         ensures ordered { IfOk result (λ pairs. pairs.items ≡ ordered (content self.now)) }
@@ -288,7 +318,7 @@ impl Table {
         self.list.changes()
     }
 
-    /// How many keys there are. It is kept, so this takes constant time.
+    /// How many keys there are. Constant time.
     pub fn count(&self) -> u64
         ensures count { result ≡ count_of (content self.now) }
         ensures length { result ≡ length (regular self.now) }
@@ -300,7 +330,12 @@ impl Table {
     /// where none is.
     ///
     /// The walk begins at the nearest initialised dummy before the place where the marked nodes
-    /// begin (`NodeList::marks_begin`). Takes no memory. One step a node from there.
+    /// begin (`NodeList::marks_begin`).
+    ///
+    /// # Cost
+    ///
+    /// Time in proportion to the nodes from there to the first marked one, and constant time where
+    /// none is marked; takes no memory.
     pub fn sweep(&mut self) -> SweepOutcome
         ensures clean { (result ≡ SweepOutcome.Clean) ↔ IsClean self.old }
         ensures sweeps { Sweeps self.old self.new result }
@@ -319,14 +354,17 @@ impl Table {
     /// Content and list of pairs stay; the marked nodes that it passes are unlinked.
     ///
     /// `Ready` where the bucket is initialised already: then the helper is idle. Else `Placed`, and
-    /// the helper has a cursor that fits, in place of whatever it had. Takes no memory. One step a
-    /// node from the parent's dummy to the place.
+    /// the helper has a cursor that fits, in place of whatever it had.
     ///
     /// # Errors
     ///
     /// In this order: `NoSuchHelper`, `NoSuchBucket` where the bucket is not below the size,
     /// `ParentMissing` where it is not initialised and its parent is not either. Each leaves the
     /// table as it was.
+    ///
+    /// # Cost
+    ///
+    /// Time in proportion to the nodes from the parent's dummy to the place; takes no memory.
     pub fn init_seek(&mut self, helper: u64, bucket: u64) -> Result<InitSeek, Refusal>
         ensures answer { result
             ≡ seek_answer (size_of self.old) (stored_of self.old)
@@ -342,13 +380,17 @@ impl Table {
     /// Links the dummy of a helper's bucket at the helper's cursor. Content and list of pairs stay.
     ///
     /// `Again` where the cursor no longer fits: it is dropped. `Present` where that dummy is linked
-    /// already, else `Linked`: the helper has the dummy. May allocate a node. Amortised constant
-    /// time.
+    /// already, else `Linked`: the helper has the dummy.
     ///
     /// # Errors
     ///
-    /// In this order: `NoSuchHelper`, `HelperOutOfOrder` where the helper has no cursor,
-    /// `StampsUsedUp`, `NoMemory`. Each leaves the table as it was.
+    /// In this order: `NoSuchHelper`, `HelperOutOfOrder` where the helper has no cursor, and, where
+    /// a dummy is to be linked, `StampsUsedUp`, then `NoMemory` where memory is refused. Each
+    /// leaves the table as it was.
+    ///
+    /// # Cost
+    ///
+    /// Amortized constant time; may take memory for a node.
     pub fn init_link(&mut self, helper: u64) -> Result<InitLink, Refusal>
         ensures answer { result ≢ Err Refusal.NoMemory
             → result ≡ link_answer_of self.old helper }
@@ -370,13 +412,16 @@ impl Table {
     /// Stores a helper's dummy as its bucket's, which is initialised from then on, and leaves the
     /// helper idle.
     ///
-    /// Takes memory for the bucket's segment where no bucket of it is initialised, and else none.
-    /// Constant time.
-    ///
     /// # Errors
     ///
-    /// In this order: `NoSuchHelper`, `HelperOutOfOrder` where the helper has no dummy, `NoMemory`.
+    /// In this order: `NoSuchHelper`, `HelperOutOfOrder` where the helper has no dummy, `NoMemory`
+    /// where memory is refused, and only where no bucket of the bucket's segment is initialised.
     /// Each leaves the table as it was, and the helper has its dummy.
+    ///
+    /// # Cost
+    ///
+    /// Constant time; takes memory only for the bucket's segment, where no bucket of it is
+    /// initialised.
     pub fn init_store(&mut self, helper: u64) -> Result<(), Refusal>
         ensures answer { result ≢ Err Refusal.NoMemory
             → result ≡ store_answer (slice_get (helps_of self.old) helper) }
@@ -394,8 +439,11 @@ impl Table {
     /// Doubles the size. No node moves.
     ///
     /// Not so, in this order, where the size is not the one seen (`Moved`), where it is the largest
-    /// (`AtLimit`), and where there are at most twice as many keys as buckets (`Light`). Takes no
-    /// memory. Constant time.
+    /// (`AtLimit`), and where there are at most twice as many keys as buckets (`Light`).
+    ///
+    /// # Cost
+    ///
+    /// Constant time; takes no memory.
     pub fn double(&mut self, seen: u64) -> Double
         ensures answer { result
             ≡ double_answer (size_of self.old) (largest_of self.old)

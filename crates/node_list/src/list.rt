@@ -51,8 +51,14 @@ fn advance(changes: &mut u64)
 impl NodeList {
     /// The list of the dummy of bucket 0 alone, with this stamp. Its change number is 0.
     ///
-    /// Allocates three times: twice for the counts of marked nodes, which take 33,280 bytes, then
-    /// for the node. Constant time.
+    /// # Errors
+    ///
+    /// `AllocError` where memory is refused.
+    ///
+    /// # Cost
+    ///
+    /// Constant time, and three allocations: two for the counts of marked nodes, which take 33,280
+    /// bytes, and one for the node.
     pub fn new(alloc: Global, first_stamp: u64) -> Result<Self, AllocError>
         requires { first_stamp < 2 ^ 64 - 1 }
         ensures nodes { IfOk result (λ list. list.nodes ≡ first_dummy list.head first_stamp ∷ []) }
@@ -81,9 +87,14 @@ impl NodeList {
     /// A place that is kept for a node, with the stamp one above the last that was given. It is
     /// filled as the dummy of bucket 0.
     ///
-    /// `Worn` exactly where the last stamp was 2^64 - 2; then `NoMemory` where the slab could not
-    /// grow, or all of 2^32 places are in use. Either leaves the list as it was. May allocate.
-    /// Amortised constant time.
+    /// # Errors
+    ///
+    /// `Worn` exactly where the last stamp was 2^64 - 2; then `NoMemory` where memory is refused,
+    /// or all of 2^32 places are in use. Either leaves the list as it was.
+    ///
+    /// # Cost
+    ///
+    /// Amortized constant time; takes memory only where the slab has to grow.
     pub fn spare(&mut self) -> Result<Spare, SpareFault>
         ensures worn { (result ≡ Err SpareFault.Worn) ↔ (self.old.last ≡ 2 ^ 64 - 2) }
         ensures stamp { IfOk result (λ spare. spare.stamp ≡ self.old.last + 1) }
@@ -112,7 +123,9 @@ impl NodeList {
 
     /// Takes a spare back that was not linked, and frees its place. Its stamp is never given again.
     ///
-    /// Takes no memory. Constant time.
+    /// # Cost
+    ///
+    /// Constant time; takes no memory.
     pub fn give_back(&mut self, spare: Spare)
         requires { IsOut self.old spare }
         ensures back { TakesBack self.old self.new spare.place }
@@ -124,7 +137,9 @@ impl NodeList {
     /// Links the node of a spare behind a linked node, where its sort key belongs. The spare is out
     /// no more.
     ///
-    /// Takes no memory. Constant time.
+    /// # Cost
+    ///
+    /// Constant time; takes no memory.
     pub fn link_after(&mut self, pred: NodeRef, spare: Spare)
         requires vacant { IsVacant self.old.nodes pred spare.at }
         requires out { IsOut self.old spare }
@@ -146,7 +161,9 @@ impl NodeList {
 
     /// Unlinks the marked node behind a linked node, and frees its place.
     ///
-    /// Takes no memory. Constant time.
+    /// # Cost
+    ///
+    /// Constant time; takes no memory.
     pub fn unlink_after(&mut self, pred: NodeRef)
         requires { IsBeforeMarked self.old.nodes pred }
         ensures unlinked { Becomes self.old self.new (unlinked_after self.old.nodes pred) }
@@ -163,7 +180,9 @@ impl NodeList {
 
     /// Marks an unmarked regular node. It stays linked, and counts no more.
     ///
-    /// Takes no memory. Constant time.
+    /// # Cost
+    ///
+    /// Constant time; takes no memory.
     pub fn set_mark(&mut self, node: NodeRef)
         requires { IsRegularAt self.old.nodes node }
         ensures marked { Becomes self.old self.new (marked_at self.old.nodes node) }
@@ -180,7 +199,9 @@ impl NodeList {
 
     /// Writes the value of a linked node.
     ///
-    /// Takes no memory. Constant time.
+    /// # Cost
+    ///
+    /// Constant time; takes no memory.
     pub fn write(&mut self, node: NodeRef, value: u64)
         requires { IsLinked self.old.nodes node }
         ensures written { Becomes self.old self.new (written_at self.old.nodes node value) }
@@ -190,7 +211,11 @@ impl NodeList {
         advance(&mut self.changes);
     }
 
-    /// A linked node. Constant time.
+    /// A linked node.
+    ///
+    /// # Cost
+    ///
+    /// Constant time; takes no memory.
     pub fn node(&self, node: NodeRef) -> &Node
         requires { IsLinked self.now.nodes node }
         ensures node { node_of self.now.nodes node ≡ Some (seen node result.now) }
@@ -200,7 +225,11 @@ impl NodeList {
         node_at(&self.slab, node.place())
     }
 
-    /// The node that is linked at a place now, if one is. Constant time.
+    /// The node that is linked at a place now, if one is.
+    ///
+    /// # Cost
+    ///
+    /// Constant time; takes no memory.
     pub fn linked_node(&self, node: NodeRef) -> Option<&Node>
         ensures absent { IfNone result (node_of self.now.nodes node ≡ None) }
         ensures node { IfSome result (λ n. node_of self.now.nodes node ≡ Some (seen node n.now)) }
@@ -230,14 +259,14 @@ impl NodeList {
         self.changes
     }
 
-    /// How many regular nodes are linked and unmarked. It is kept, so this takes constant time.
+    /// How many regular nodes are linked and unmarked. Constant time.
     pub fn count(&self) -> u64
         ensures { result ≡ live_count self.now.nodes }
     {
         self.count
     }
 
-    /// How many linked nodes are marked. It is kept, so this takes constant time.
+    /// How many linked nodes are marked. Constant time.
     pub fn marked_count(&self) -> u64
         ensures count { result ≡ marked_count self.now.nodes }
         ensures none { (result ≡ 0) ↔ AllByRecursion (λ n. n.marked ≡ false) self.now.nodes }
@@ -251,7 +280,7 @@ impl NodeList {
     ///
     /// # Cost
     ///
-    /// At most 64 + 64 counts are looked at, whatever the length of the list.
+    /// Constant time: at most 64 + 64 counts are looked at; takes no memory.
     pub fn marks_begin(&self) -> Option<u64>
         ensures none { (result ≡ None) ↔ AllByRecursion (λ n. n.marked ≡ false) self.now.nodes }
         ensures from { IfSome result (λ split. AreMarksFrom split self.now.nodes) }

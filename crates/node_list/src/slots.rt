@@ -27,7 +27,7 @@ impl Model for Slot {
 }
 
 impl Slot {
-    /// A linked node.
+    /// A linked node. Constant time.
     pub fn of_linked(node: Node) -> Self
         requires { node.is_linked ≡ true }
         ensures { result ≡ Linked node }
@@ -35,7 +35,7 @@ impl Slot {
         Slot { node }
     }
 
-    /// The stamp of a spare whose place is kept, which is that of this node.
+    /// The stamp of a spare whose place is kept, which is that of this node. Constant time.
     pub fn out(node: &Node) -> Self
         ensures { result ≡ Out node.now.stamp }
     {
@@ -90,6 +90,10 @@ impl Slot {
 }
 
 /// The linked node at a place.
+///
+/// # Cost
+///
+/// Constant time; takes no memory.
 pub fn node_at(slab: &Slab<Slot>, place: usize) -> &Node
     requires { (node : Node) × (get slab.now place ≡ Some (Linked node)) }
     ensures { get slab.now place ≡ Some (Linked result.now) }
@@ -101,6 +105,10 @@ pub fn node_at(slab: &Slab<Slot>, place: usize) -> &Node
 }
 
 /// The linked node at a place, if there is one.
+///
+/// # Cost
+///
+/// Constant time; takes no memory.
 pub fn linked_at(slab: &Slab<Slot>, place: usize) -> Option<&Node>
     ensures { option_copied result ≡ node_in (get slab.now place) }
 {
@@ -111,6 +119,10 @@ pub fn linked_at(slab: &Slab<Slot>, place: usize) -> Option<&Node>
 }
 
 /// Writes what lies at a place that is in use.
+///
+/// # Cost
+///
+/// Constant time; takes no memory.
 pub fn set_slot(slab: &mut Slab<Slot>, place: usize, slot: Slot)
     requires { ContainsKey slab.old place }
     ensures { slab.new ≡ with_value slab.old place slot }
@@ -121,6 +133,10 @@ pub fn set_slot(slab: &mut Slab<Slot>, place: usize, slot: Slot)
 }
 
 /// Changes the next of a linked node, and returns the one that it had.
+///
+/// # Cost
+///
+/// Constant time; takes no memory.
 pub fn replace_next(slab: &mut Slab<Slot>, place: usize, next: Option<NodeRef>) -> Option<NodeRef>
     requires { (node : Node) × (get slab.old place ≡ Some (Linked node)) }
     ensures was { (node : Node) → get slab.old place ≡ Some (Linked node) → result ≡ node.next }
@@ -134,6 +150,10 @@ pub fn replace_next(slab: &mut Slab<Slot>, place: usize, next: Option<NodeRef>) 
 }
 
 /// Marks a linked node.
+///
+/// # Cost
+///
+/// Constant time; takes no memory.
 pub fn mark(slab: &mut Slab<Slot>, place: usize)
     requires { (node : Node) × (get slab.old place ≡ Some (Linked node)) }
     ensures { (node : Node) → get slab.old place ≡ Some (Linked node) →
@@ -145,6 +165,10 @@ pub fn mark(slab: &mut Slab<Slot>, place: usize)
 }
 
 /// Writes the value of a linked node.
+///
+/// # Cost
+///
+/// Constant time; takes no memory.
 pub fn set_value(slab: &mut Slab<Slot>, place: usize, value: u64)
     requires { (node : Node) × (get slab.old place ≡ Some (Linked node)) }
     ensures { (node : Node) → get slab.old place ≡ Some (Linked node) →

@@ -65,7 +65,7 @@ impl Model for Unfilled {
 pub enum SpareFault {
     /// The last stamp that was given is 2^64 - 2: the stamps are used up.
     Worn,
-    /// A growth of the slab was refused.
+    /// A growth of the slab was refused, or all of 2^32 places are in use.
     NoMemory,
 }
 
@@ -119,7 +119,11 @@ impl Spare {
         }
     }
 
-    /// The spare, to be kept until it is filled. Takes no memory.
+    /// The spare, to be kept until it is filled.
+    ///
+    /// # Cost
+    ///
+    /// Constant time; takes no memory.
     pub fn keep(self) -> Unfilled
         requires { filled self ≡ first_dummy self.place self.stamp }
         ensures { result ≡ self }
@@ -130,7 +134,11 @@ impl Spare {
         }
     }
 
-    /// Sets where the node will stand, its kind and its value. Takes no memory.
+    /// Sets where the node will stand, its kind and its value.
+    ///
+    /// # Cost
+    ///
+    /// Constant time; takes no memory.
     pub fn fill(&mut self, at: SortKey, kind: Kind, value: u64)
         ensures { self.new ≡ record self.old { at = at; kind = kind; value = value } }
     {
@@ -139,14 +147,14 @@ impl Spare {
         self.value = value;
     }
 
-    /// The node that the spare will become.
+    /// The node that the spare will become. Constant time.
     pub fn node(&self) -> NodeRef
         ensures { result ≡ self.now.place }
     {
         self.place
     }
 
-    /// The stamp that the node will have.
+    /// The stamp that the node will have. Constant time.
     pub fn stamp(&self) -> u64
         ensures { result ≡ self.now.stamp }
     {
@@ -156,6 +164,10 @@ impl Spare {
 
 impl Unfilled {
     /// The spare, to be filled or given back.
+    ///
+    /// # Cost
+    ///
+    /// Constant time; takes no memory.
     pub fn into_spare(self) -> Spare
         ensures { result ≡ self }
     {

@@ -61,7 +61,15 @@ fn first_of_run(counts: &[u64], from: usize) -> usize
 }
 
 impl Tally {
-    /// Nothing is counted. Allocates twice, room for all counts.
+    /// Nothing is counted.
+    ///
+    /// # Errors
+    ///
+    /// `AllocError` where memory is refused.
+    ///
+    /// # Cost
+    ///
+    /// Constant time, and two allocations, which take 33,280 bytes.
     pub fn new(alloc: Global) -> Result<Tally, AllocError>
         ensures total { IfOk result (λ tally. tally.total ≡ 0) }
         ensures counts { IfOk result (λ tally. (region : ℕ) → count_in tally region ≡ 0) }
@@ -75,7 +83,11 @@ impl Tally {
         })
     }
 
-    /// Counts one more in the region of a split key. Constant time.
+    /// Counts one more in the region of a split key.
+    ///
+    /// # Cost
+    ///
+    /// Constant time; takes no memory.
     pub fn add(&mut self, split: u64)
         requires { self.old.total < 2 ^ 64 - 1 }
         ensures total { self.new.total ≡ self.old.total + 1 }
@@ -88,7 +100,11 @@ impl Tally {
         self.total += 1;
     }
 
-    /// Counts one less in the region of a split key. Constant time.
+    /// Counts one less in the region of a split key.
+    ///
+    /// # Cost
+    ///
+    /// Constant time; takes no memory.
     pub fn take_away(&mut self, split: u64)
         requires { count_in self.old (region_of split) ≢ 0 }
         ensures total { self.new.total + 1 ≡ self.old.total }
@@ -108,8 +124,11 @@ impl Tally {
         self.total
     }
 
-    /// The first split key of the first region in which something is counted. At most 64 groups and
-    /// 64 regions are looked at.
+    /// The first split key of the first region in which something is counted.
+    ///
+    /// # Cost
+    ///
+    /// Constant time: at most 64 groups and 64 regions are looked at; takes no memory.
     pub fn first(&self) -> Option<u64>
         ensures none { (result ≡ None) ↔ (self.now.total ≡ 0) }
         ensures first { IfSome result (λ split. IsFirstCounted self.now split) }

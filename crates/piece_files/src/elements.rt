@@ -10,6 +10,10 @@ use crate::plain::Plain;
 
 /// The first element, which is a whole number below 2^64, and the elements after it. None where
 /// there is no element, or the first is no such number.
+///
+/// # Cost
+///
+/// Constant time; takes no memory.
 #[tactic(auto, unfolding(crate::specs::Elements::number_at))]
 pub fn number_in<'v, 'a>(values: &'v [Plain<'a>]) -> Option<(u64, &'v [Plain<'a>])>
     ensures { option_map (λ x. (x.0, map data_of x.1.now)) result
@@ -24,6 +28,10 @@ pub fn number_in<'v, 'a>(values: &'v [Plain<'a>]) -> Option<(u64, &'v [Plain<'a>
 
 /// The first element, which is a text, and the elements after it. None where there is no element,
 /// or the first is no text.
+///
+/// # Cost
+///
+/// Constant time; takes no memory.
 #[tactic(auto, unfolding(crate::specs::Elements::word_at))]
 pub fn word_in<'v, 'a>(values: &'v [Plain<'a>]) -> Option<(&'a str, &'v [Plain<'a>])>
     ensures { option_map (λ x. (x.0.now, map data_of x.1.now)) result
@@ -38,6 +46,10 @@ pub fn word_in<'v, 'a>(values: &'v [Plain<'a>]) -> Option<(&'a str, &'v [Plain<'
 
 /// The one element, which is a whole number below 2^64. None where there is no element, another
 /// one, or more than one.
+///
+/// # Cost
+///
+/// Constant time; takes no memory.
 #[tactic(auto, unfolding(crate::specs::Elements::one_of))]
 pub fn one_in(values: &[Plain<'_>]) -> Option<u64>
     ensures { result ≡ one_of (map data_of values.now) }
@@ -47,6 +59,10 @@ pub fn one_in(values: &[Plain<'_>]) -> Option<u64>
 }
 
 /// That there is no element. None where there is one.
+///
+/// # Cost
+///
+/// Constant time; takes no memory.
 #[tactic(auto, unfolding(crate::specs::Elements::end_of))]
 pub fn end_in(values: &[Plain<'_>]) -> Option<()>
     ensures { result ≡ end_of (map data_of values.now) }
@@ -56,6 +72,10 @@ pub fn end_in(values: &[Plain<'_>]) -> Option<()>
 
 /// The first element, which is a whole number below 2^64, or `null`, which is none within; and the
 /// elements after it. None where there is no element, or the first is another.
+///
+/// # Cost
+///
+/// Constant time; takes no memory.
 #[tactic(auto, unfolding(crate::specs::Elements::optional_at))]
 pub fn leading_optional_in<'v, 'a>(
     values: &'v [Plain<'a>],
@@ -73,6 +93,10 @@ pub fn leading_optional_in<'v, 'a>(
 
 /// The one element, which is a whole number below 2^64, or `null`, which is none within. None where
 /// there is no element, another one, or more than one.
+///
+/// # Cost
+///
+/// Constant time; takes no memory.
 #[tactic(auto, unfolding(crate::specs::Elements::optional_of))]
 pub fn optional_in(values: &[Plain<'_>]) -> Option<Option<u64>>
     ensures { result ≡ optional_of (map data_of values.now) }
@@ -83,6 +107,10 @@ pub fn optional_in(values: &[Plain<'_>]) -> Option<Option<u64>>
 
 /// The two elements, which are whole numbers below 2^64, in their order. None where there are not
 /// two of these, and nothing else.
+///
+/// # Cost
+///
+/// Constant time; takes no memory.
 #[tactic(auto, unfolding(crate::specs::Elements::two_of))]
 pub fn two_in(values: &[Plain<'_>]) -> Option<(u64, u64)>
     ensures { result ≡ two_of (map data_of values.now) }

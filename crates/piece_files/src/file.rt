@@ -86,23 +86,28 @@ fn contents_found<K: PieceKind, const N: usize>(
 /// member `version`, a number in each member of `numbers`, and an array of pieces in the member
 /// `pieces`.
 ///
-/// # Errors
-///
-/// The first of these, in this order: `Limit` where there are more than 16,777,216 bytes; `NotJson`
-/// where they are not UTF-8, or no JSON in which arrays and objects nest no deeper than 127 and
-/// each number is in range of a float; `Member` where the value is no object, or a member is
-/// missing or of the wrong kind; `Piece` for the first element of `pieces` that is none, or where
-/// the version is 1 none that version 1 has; `Limit` where the version is not 1 to 3 or there are
-/// more pieces than there may be. `NoMemory` where memory was refused: not for the length, nor
-/// where the bytes are not UTF-8.
-///
 /// Other members of the object are passed over, and of a member that is given twice the last
 /// counts. A number is written without a sign, a fraction or an exponent, and is below 2^64.
 ///
+/// # Errors
+///
+/// The first of these, in this order:
+///
+/// - `Limit` where there are more than 16,777,216 bytes.
+/// - `NotJson` where they are not UTF-8, or no JSON in which arrays and objects nest no deeper than
+///   127 and each number is in range of a float.
+/// - `Member` where the value is no object, or a member is missing or of the wrong kind.
+/// - `Piece` for the first element of `pieces` that is none, or where the version is 1 none that
+///   version 1 has.
+/// - `Limit` where the version is not 1 to 3 or there are more pieces than there may be.
+///
+/// `NoMemory` where memory is refused. It can come in place of any answer, but for bytes that are
+/// too many or not UTF-8.
+///
 /// # Cost
 ///
-/// Time is proportional to the number of bytes, as far as `K::read` is. Besides the pieces, memory
-/// is taken for the longest text in the file that is written with escapes.
+/// Time in proportion to the bytes, where that of `K::read` and `K::is_old` is so; memory for the
+/// pieces, and for the longest text in the file that is written with escapes.
 pub fn read_file<'n, K: PieceKind, const N: usize>(
     alloc: Global,
     bytes: &[u8],

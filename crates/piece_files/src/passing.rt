@@ -11,10 +11,14 @@ use json::{Invalid, Reader, Token};
 /// Passes over the value that begins with this token, which was taken from the reader. The reader
 /// is then behind the value.
 ///
+/// # Errors
+///
 /// `Invalid` where no value of JSON comes in which arrays and objects nest no deeper than `depth`,
 /// or a number is too large for a float. The reader is then anywhere in the text.
 ///
-/// Time is proportional to the tokens taken; nothing is kept of them.
+/// # Cost
+///
+/// Time in proportion to the text that is passed; takes no memory.
 #[cycle(pass)]
 pub fn pass_value(token: Token<'_>, reader: &mut Reader<'_>, depth: usize) -> Result<(), Invalid>
     ensures ok { OnOk result ((d : Data)

@@ -42,6 +42,10 @@ pub trait PieceKind {
         ensures { result ≡ part };
 
     /// Whether version 1 has a piece too.
+    ///
+    /// # Cost
+    ///
+    /// The kind's own, at most time in proportion to the piece.
     fn is_old(piece: &Self::Piece) -> bool
         ensures { result ≡ is_old piece.now };
 
@@ -52,9 +56,15 @@ pub trait PieceKind {
     /// The piece whose elements come next, after the bracket that opens it, or none where no piece
     /// of this kind has them in version 2. The reader is then behind the bracket that closes it.
     ///
+    /// # Errors
+    ///
     /// `NotJson` where what comes is not the rest of an array in which arrays and objects nest no
-    /// deeper than `depth`, `NoMemory` where memory was refused. The reader is then anywhere in the
-    /// text.
+    /// deeper than `depth`; `NoMemory` where memory is refused, and only of a kind that
+    /// `takes_memory`. The reader is then anywhere in the text.
+    ///
+    /// # Cost
+    ///
+    /// The kind's own.
     fn read(
         alloc: Global,
         reader: &mut Reader<'_>,
@@ -129,11 +139,16 @@ fn next_count(count: usize) -> Result<usize, Stop>
 /// The pieces of an array, whose bracket was taken from the reader. The reader is then behind the
 /// bracket that closes the array.
 ///
+/// # Errors
+///
 /// `NotJson` where what comes is not the rest of an array in which arrays and objects nest no
-/// deeper than `depth`, `NoMemory` where memory was refused. The reader is then anywhere in the
+/// deeper than `depth`; `NoMemory` where memory is refused. The reader is then anywhere in the
 /// text.
 ///
-/// Each piece is read once, by `K::read`, and memory is taken for those that are kept.
+/// # Cost
+///
+/// Time in proportion to the text that is read, where that of `K::read` and `K::is_old` is so;
+/// memory for the pieces that are kept, and what `K::read` takes.
 pub fn pieces_in<K: PieceKind>(
     alloc: Global,
     reader: &mut Reader<'_>,

@@ -69,7 +69,7 @@ pub(crate) fn plain_value<'a>(
 ///
 /// # Cost
 ///
-/// Time is proportional to the tokens taken. No memory is taken: a text stays where it was read.
+/// Time in proportion to the text that is read; takes no memory: a text stays where it was read.
 #[inline(always)]
 pub fn plain_elements<'a, const MOST: usize>(
     reader: &mut Reader<'a>,

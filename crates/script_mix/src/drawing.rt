@@ -4,7 +4,11 @@ ghost use Rattle.rand_pcg.specs.Pcg.{pcg32};
 use rand_core::utils::NextWord;
 use rand_pcg::Pcg32;
 
-/// Draws a place below `live`: the generator's next word modulo `live`. Constant time.
+/// Draws a place below `live`: the generator's next word modulo `live`.
+///
+/// # Cost
+///
+/// Constant time; takes no memory.
 pub fn draw(generator: &mut Pcg32, live: u64) -> u64
     requires { 0 < live }
     ensures place { result ≡ (pcg32 generator.old).0 % live }

@@ -21,7 +21,8 @@ use txn_trace::Scripts;
 ///
 /// # Cost
 ///
-/// What the steps cost, and a look at each worker for each turn.
+/// What the steps cost, and a look at each worker for each turn; memory for the workers, and what
+/// the steps take.
 pub fn mix_scripts(alloc: Global, seed: u64, work: &Scripts) -> Result<Core, AllocError>
     ensures { IfOk result (λ core. IsMixed work.now seed core) }
 {

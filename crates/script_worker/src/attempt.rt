@@ -72,7 +72,11 @@ impl Attempt {
         }
     }
 
-    /// The call that comes next in the attempt at this script. Constant time.
+    /// The call that comes next in the attempt at this script.
+    ///
+    /// # Cost
+    ///
+    /// Constant time; takes no memory.
     pub fn call(self, script: &[Action]) -> Call
         ensures { result ≡ call_at script.now self.stage }
     {
@@ -86,11 +90,15 @@ impl Attempt {
         }
     }
 
-    /// What follows once the call that `call` names has ended so. Constant time.
+    /// What follows once the call that `call` names has ended so.
     ///
     /// A script that found a stripe held is attempted again where fewer than `tries` attempts were
     /// made again. After a refusal of an operation, a savepoint, a return or help the transaction
     /// is aborted; every other refusal, and `OutOfStep` of any call, ends the script at once.
+    ///
+    /// # Cost
+    ///
+    /// Constant time; takes no memory.
     pub fn progress(self, script: &[Action], tries: u64, end: End) -> Progress
         ensures { result ≡ progress_of script.now tries self end }
     {

@@ -39,7 +39,11 @@ impl Model for Worker {
 
 impl Worker {
     /// The worker of this number before its first step, on a map of these limits, which has as many
-    /// workers as callers. Constant time.
+    /// workers as callers.
+    ///
+    /// # Cost
+    ///
+    /// Constant time; takes no memory.
     pub fn new(number: usize, limits: Limits, scripts: &[Script]) -> Worker
         requires { number < limits.callers }
         ensures worker { result ≡ new_worker scripts.now number limits }
@@ -69,7 +73,11 @@ impl Worker {
     }
 
     /// The next turn, of one step or of two, at the size that the table has at this moment; none
-    /// where the worker is not live. Constant time.
+    /// where the worker is not live.
+    ///
+    /// # Cost
+    ///
+    /// Constant time; takes no memory.
     pub fn turn(&mut self, size: u32) -> Option<Turn>
         ensures worker { self.new ≡ sized_by size self.old }
         ensures turn { result ≡ turn_by self.new }
@@ -126,8 +134,11 @@ impl Worker {
     /// by this answer.
     ///
     /// What follows without a step has happened then: a call that ended is followed by the next
-    /// one, of the same script or of the next. The cost is fixed, but for the search of a helper's
-    /// next bucket, which takes up to 32 rounds.
+    /// one, of the same script or of the next.
+    ///
+    /// # Cost
+    ///
+    /// Constant time: the search of a helper's next bucket takes up to 32 rounds; takes no memory.
     pub fn told(&mut self, scripts: &[Script], tries: u64, answer: Answer) -> Option<Outcome>
         ensures outcome { result ≡ outcome_told scripts.now tries self.old answer }
         ensures worker { self.new ≡ told_by scripts.now tries self.old answer }

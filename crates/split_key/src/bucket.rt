@@ -6,8 +6,11 @@ use crate::key::Key;
 use crate::reversal::reverse;
 
 /// The parent of a bucket other than 0: the bucket with its highest 1 bit cleared. The bucket's
-/// keys were the parent's when the table had half the size at which the bucket came up. Constant
-/// time.
+/// keys were the parent's when the table had half the size at which the bucket came up.
+///
+/// # Cost
+///
+/// Constant time; takes no memory.
 pub fn parent(bucket: u32) -> u32
     requires { 0 < bucket }
     ensures value { result ≡ parent_of bucket }
@@ -22,7 +25,11 @@ pub fn parent(bucket: u32) -> u32
 
 /// The bucket of a key in a table of this size, a power of two: the key's lowest bits. The dummies
 /// of the bucket and of all its ancestors stand before the key, so a search for the key may begin
-/// at any of them. Constant time.
+/// at any of them.
+///
+/// # Cost
+///
+/// Constant time; takes no memory.
 pub fn bucket_of(key: Key, size: u32) -> u32
     requires { IsPowerOfTwo size }
     ensures value { result ≡ key % size }
@@ -34,7 +41,11 @@ pub fn bucket_of(key: Key, size: u32) -> u32
 
 /// The bucket to which a place of the split order belongs, in a table of this size, a power of two:
 /// its dummy has the greatest split key of the table's dummies that is not above `split`. The
-/// dummies of its ancestors are not above `split` either. Constant time.
+/// dummies of its ancestors are not above `split` either.
+///
+/// # Cost
+///
+/// Constant time; takes no memory.
 pub fn bucket_at(split: u64, size: u32) -> u32
     requires { IsPowerOfTwo size }
     ensures value { result ≡ reversed split % size }

@@ -49,11 +49,15 @@ impl Key {
         Key { number }
     }
 
-    /// The key with this number, where it is one of the lower half of all keys. Constant time.
+    /// The key with this number, where it is one of the lower half of all keys.
     ///
     /// # Errors
     ///
     /// `BadKey` where the number is 2^63 or more.
+    ///
+    /// # Cost
+    ///
+    /// Constant time; takes no memory.
     pub fn half(number: u64) -> Result<Key, BadKey>
         ensures { MatchResult result
             (λ key. (key ≡ number) × (number < 2 ^ 63))

@@ -17,8 +17,11 @@ fn swap_groups(word: u64, width: u32, low: u64) -> u64
 
 /// The word with its 64 bits in reverse order: bit `i` of the result is bit `63 - i` of the word.
 ///
-/// Bits, pairs of bits, half bytes, bytes, pairs of bytes and halves change places: constant time,
-/// thirty operations without a branch.
+/// Bits, pairs of bits, half bytes, bytes, pairs of bytes and halves change places.
+///
+/// # Cost
+///
+/// Constant time: thirty operations without a branch; takes no memory.
 pub fn reverse(word: u64) -> u64
     ensures value { result ≡ reversed word }
     ensures bits { (place : ℕ) → place < 64 → bit_at result place ≡ bit_at word (63 - place) }

@@ -15,7 +15,11 @@ pub struct SortKey {
 
 impl SortKey {
     /// Where the node of a key stands, behind the dummy of bucket 0. No other key has its node
-    /// there. Constant time.
+    /// there.
+    ///
+    /// # Cost
+    ///
+    /// Constant time; takes no memory.
     pub fn regular(key: Key) -> SortKey
         ensures value { result ≡ regular_at key }
         ensures apart { (other : ℕ) → regular_at other ≡ result → other ≡ key }
@@ -27,7 +31,11 @@ impl SortKey {
         }
     }
 
-    /// Where the dummy of a bucket stands, behind that of bucket 0. Constant time.
+    /// Where the dummy of a bucket stands, behind that of bucket 0.
+    ///
+    /// # Cost
+    ///
+    /// Constant time; takes no memory.
     pub fn dummy(bucket: u32) -> SortKey
         ensures value { result ≡ dummy_at bucket }
         ensures behind_first { bucket ≢ 0 → IsBefore (dummy_at 0) result }
@@ -53,7 +61,11 @@ impl SortKey {
     }
 
     /// Whether this stands before the other: its split key is below the other's, or that is one and
-    /// its key is below the other's. Constant time.
+    /// its key is below the other's.
+    ///
+    /// # Cost
+    ///
+    /// Constant time; takes no memory.
     pub fn is_before(self, other: SortKey) -> bool
         ensures { result ≡ is_before self other }
     {

@@ -9,7 +9,11 @@ const TOP_BIT: u64 = 1 << 63;
 
 /// The split key of a key's node, a regular node: the key's 64 bits, the top one set, in reverse
 /// order. It is odd. Keys that agree below their top bit share it, and no others: two keys below
-/// 2^63 have one split key where they are one. Constant time.
+/// 2^63 have one split key where they are one.
+///
+/// # Cost
+///
+/// Constant time; takes no memory.
 pub fn regular(key: Key) -> u64
     ensures value { result ≡ split key }
     ensures odd { result % 2 ≡ 1 }
@@ -20,7 +24,11 @@ pub fn regular(key: Key) -> u64
 }
 
 /// The split key of a bucket's dummy node: the bucket's bits in reverse order. It is even, no other
-/// bucket has it, and it is above those of the bucket's ancestors. Constant time.
+/// bucket has it, and it is above those of the bucket's ancestors.
+///
+/// # Cost
+///
+/// Constant time; takes no memory.
 pub fn dummy(bucket: u32) -> u64
     ensures value { result ≡ reversed bucket }
     ensures even { result % 2 ≡ 0 }

@@ -1,12 +1,24 @@
 /// What workers in threads tell of their way. Each call may make its worker wait.
 pub trait Gate: Sync {
     /// A worker is about to do an action of a script; the commit is the action after the last.
+    ///
+    /// # Cost
+    ///
+    /// The gate's own.
     fn before(&self, worker: usize, script: usize, action: usize);
 
     /// A script has its outcome.
+    ///
+    /// # Cost
+    ///
+    /// The gate's own.
     fn done(&self, script: usize);
 
     /// A worker has let go of the lock.
+    ///
+    /// # Cost
+    ///
+    /// The gate's own.
     fn freed(&self, worker: usize);
 }
 

@@ -43,7 +43,8 @@ use txn_trace::{Limits, Refusal, Script};
 ///
 /// # Cost
 ///
-/// That of the calls, and memory in proportion to the history.
+/// That of the calls, and time in proportion to the history for each worker; memory in proportion
+/// to the history, besides what the calls take.
 pub fn run_scripts<G: Gate, R: Threads + Wait + Sync>(
     rt: &R,
     alloc: Global,

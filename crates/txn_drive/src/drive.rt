@@ -25,10 +25,14 @@ pub struct Drive {
 }
 
 impl Drive {
-    /// The drive of a caller's call on a map of these limits, before its first step. Constant time.
+    /// The drive of a caller's call on a map of these limits, before its first step.
     ///
     /// Where the limits take half keys alone, a call `Help` of a key of 2^63 or more has ended with
     /// `Refusal::BadKey`, before any step.
+    ///
+    /// # Cost
+    ///
+    /// Constant time; takes no memory.
     pub fn new(caller: u64, call: Call, limits: Limits) -> Drive
         ensures drive { result ≡ new_drive limits.half caller call }
         ensures made { made result ≡ [] }
@@ -40,10 +44,14 @@ impl Drive {
         }
     }
 
-    /// The next turn, at the size in buckets that the table has at this moment. Constant time.
+    /// The next turn, at the size in buckets that the table has at this moment.
     ///
     /// Only a helper that is to double the table notes the size. A drive whose turn says `Ended`
     /// says it at each later turn too.
+    ///
+    /// # Cost
+    ///
+    /// Constant time; takes no memory.
     pub fn turn(&mut self, size: u32) -> Turn
         ensures drive { self.new ≡ sized_of size self.old }
         ensures turn { result ≡ turn_of self.new }
@@ -57,7 +65,11 @@ impl Drive {
         self.show()
     }
 
-    /// How the call has ended, if it has. Constant time.
+    /// How the call has ended, if it has.
+    ///
+    /// # Cost
+    ///
+    /// Constant time; takes no memory.
     #[inline(always)]
     pub fn ended(self) -> Option<End>
         ensures drive { result ≡ end_of self }
@@ -105,10 +117,13 @@ impl Drive {
     }
 
     /// Says how the step that the turn named was answered; of a turn of two steps, each step taken.
-    /// Constant time, but for the search of a helper's next bucket, which takes up to 32 rounds.
     ///
     /// An answer that no rule foresees ends the call with `Refusal::OutOfStep`, and so does any
     /// answer that is told once the call has ended.
+    ///
+    /// # Cost
+    ///
+    /// Constant time: the search of a helper's next bucket takes up to 32 rounds; takes no memory.
     pub fn told(&mut self, answer: Answer)
         ensures drive { self.new ≡ told_of self.old answer }
         ensures made { (step : Step) → step_of self.old ≡ Some step

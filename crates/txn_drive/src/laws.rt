@@ -7,7 +7,11 @@ ghost use Rattle.txn_drive.specs.Ways.{child_towards};
 /// A helper's way to a bucket begins at bucket 0, goes from each bucket to a child of it, and stays
 /// on the bucket's ancestors: so each bucket on the way comes after its parent.
 ///
-/// Does nothing when it runs: its contract is the law.
+/// The contract is the law.
+///
+/// # Cost
+///
+/// None: it does nothing when it runs.
 pub fn ways()
     ensures root { (bucket : ℕ) → bucket < 2 ^ 32 → IsAncestor 0 bucket }
     ensures child { (last bucket : ℕ) → bucket < 2 ^ 32 → IsAncestor last bucket → last ≢ bucket

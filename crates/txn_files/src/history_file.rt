@@ -33,8 +33,9 @@ fn busy_in(caller: u64, values: &[Plain<'_>]) -> Option<Entry>
     Some(Entry::Busy(caller, op, holder))
 }
 
-/// The entry of this name and caller that has these further elements, if it says where a transaction
-/// is: that it began, has set a savepoint, takes changes back, is back at a level, or is over.
+/// The entry of this name and caller that has these further elements, if it says where a
+/// transaction is: that it began, has set a savepoint, takes changes back, is back at a level, or
+/// is over.
 #[tactic(auto, unfolding(crate::specs::Entries::transaction_entry))]
 fn transaction_entry_in(name: &str, caller: u64, values: &[Plain<'_>]) -> Option<Entry>
     ensures { result ≡ transaction_entry name.now caller (map data_of values.now) }
@@ -185,18 +186,27 @@ fn entries_in(
 /// `{"version":V,"stripes":S,"entries":[..]}`, where each entry is an array, as
 /// `["asked",0,"put",1,10]` or `["did",0,null]`. Version 1 has no `put_if`.
 ///
-/// The first fault in this order is the answer: `Limit` where there are more than 16,777,216 bytes;
-/// `NotJson`; `Member` where the value is no object or one of the three members, in the order
-/// above, is missing or of the wrong kind; `Piece` for the first entry that is none, or in version
-/// 1 has a `put_if`; `Limit` where the version is not 1 to 3, the stripes are not 1 to 4,096, a
-/// caller or the holder that an entry names is above 63, or there are more than 1,000,000 entries.
-/// `NoMemory` can come in place of any answer.
-///
 /// Other members of the object are passed over, and of a member that is given twice the last
 /// counts. A number is written without a sign, a fraction or an exponent, and is below 2^64.
 /// Whether the history is legal is not asked.
 ///
-/// Time and memory are proportional to the number of bytes.
+/// # Errors
+///
+/// The first of these, in this order:
+///
+/// - `Limit` where there are more than 16,777,216 bytes.
+/// - `NotJson` where they are no JSON as `piece_files::read_file` takes it.
+/// - `Member` where the value is no object or one of the three members, in the order above, is
+///   missing or of the wrong kind.
+/// - `Piece` for the first entry that is none, or in version 1 has a `put_if`.
+/// - `Limit` where the version is not 1 to 3, the stripes are not 1 to 4,096, a caller or the
+///   holder that an entry names is above 63, or there are more than 1,000,000 entries.
+///
+/// `NoMemory` where memory is refused. It can come in place of any answer.
+///
+/// # Cost
+///
+/// Time and memory in proportion to the bytes.
 pub fn read_history(alloc: Global, bytes: &[u8]) -> Result<(u32, Vec<Entry>, u64), FileFault>
     ensures { Gives (λ file. (file.0, file.1.items, file.2)) result (history_of bytes.now) }
 {

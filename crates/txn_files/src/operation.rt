@@ -23,6 +23,10 @@ fn leading_put_if_in<'v, 'a>(key: u64, values: &'v [Plain<'a>]) -> Option<(Op, &
 }
 
 /// The operation that the elements begin with, and the elements after it.
+///
+/// # Cost
+///
+/// Constant time; takes no memory.
 #[tactic(auto, unfolding(crate::specs::Operations::op_at))]
 pub fn leading_op_in<'v, 'a>(values: &'v [Plain<'a>]) -> Option<(Op, &'v [Plain<'a>])>
     ensures { option_map (λ x. (x.0, map data_of x.1.now)) result ≡ op_at (map data_of values.now) }
@@ -44,6 +48,10 @@ pub fn leading_op_in<'v, 'a>(values: &'v [Plain<'a>]) -> Option<(Op, &'v [Plain<
 }
 
 /// The operation that the elements are.
+///
+/// # Cost
+///
+/// Constant time; takes no memory.
 #[tactic(auto, unfolding(crate::specs::Operations::op_of))]
 pub fn op_in(values: &[Plain<'_>]) -> Option<Op>
     ensures { result ≡ op_of (map data_of values.now) }
@@ -53,6 +61,10 @@ pub fn op_in(values: &[Plain<'_>]) -> Option<Op>
 }
 
 /// Whether version 1 has an operation too.
+///
+/// # Cost
+///
+/// Constant time; takes no memory.
 pub fn is_old_op(op: Op) -> bool
     ensures { result ≡ is_old_op op }
 {
@@ -60,6 +72,14 @@ pub fn is_old_op(op: Op) -> bool
 }
 
 /// Adds the elements of an operation, with a comma between each two.
+///
+/// # Errors
+///
+/// `AllocError` where memory is refused.
+///
+/// # Cost
+///
+/// Amortized constant time; takes memory only where the text has no room.
 pub fn put_op(text: &mut String, op: Op) -> Result<(), AllocError>
     ensures { OnOk result (string_bytes text.new
         ≡ string_bytes text.old ++ join_with_byte comma (elements_of_op op)) }

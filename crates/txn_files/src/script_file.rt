@@ -177,18 +177,27 @@ fn work_in(version: u64, numbers: [u64; 4], scripts: Vec<Script>) -> Result<Scri
 /// script is an array of actions, and each action an array, as `["put",1,10]` or `["save"]`.
 /// Version 1 has no `put_if`, and its limits take half keys alone.
 ///
-/// The first fault in this order is the answer: `Limit` where there are more than 16,777,216 bytes;
-/// `NotJson`; `Member` where the value is no object or one of the six members, in the order above,
-/// is missing or of the wrong kind; `Piece` for the first script that is none, or in version 1 has
-/// a `put_if`, with its index; `Limit` where the version is not 1 or 2, `Limits::new` refuses the
-/// numbers with the workers as callers, the tries are above 1,000, there are more than 10,000
-/// scripts, or one of them has more than 10,000 actions. `NoMemory` can come in place of any
-/// answer.
-///
 /// Other members of the object are passed over, and of a member that is given twice the last
 /// counts. A number is written without a sign, a fraction or an exponent, and is below 2^64.
 ///
-/// Time and memory are proportional to the number of bytes.
+/// # Errors
+///
+/// The first of these, in this order:
+///
+/// - `Limit` where there are more than 16,777,216 bytes.
+/// - `NotJson` where they are no JSON as `piece_files::read_file` takes it.
+/// - `Member` where the value is no object or one of the six members, in the order above, is
+///   missing or of the wrong kind.
+/// - `Piece` for the first script that is none, or in version 1 has a `put_if`, with its index.
+/// - `Limit` where the version is not 1 or 2, `Limits::new` refuses the numbers with the workers as
+///   callers, the tries are above 1,000, there are more than 10,000 scripts, or one of them has
+///   more than 10,000 actions.
+///
+/// `NoMemory` where memory is refused. It can come in place of any answer.
+///
+/// # Cost
+///
+/// Time and memory in proportion to the bytes.
 pub fn read_scripts(alloc: Global, bytes: &[u8]) -> Result<Scripts, FileFault>
     ensures { Gives (λ work. work) result (scripts_of bytes.now) }
 {

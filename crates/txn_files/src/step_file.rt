@@ -130,6 +130,14 @@ const MAX_RUN_VERSION: u64 = 2;
 
 /// The limits of these numbers in a step file or script file of this version: those of version 1
 /// take half keys alone.
+///
+/// # Errors
+///
+/// `Limit` where the version is above 2, or `Limits::new` refuses the numbers.
+///
+/// # Cost
+///
+/// Constant time; takes no memory.
 pub fn limits_in(
     version: u64,
     callers: u64,
@@ -170,16 +178,26 @@ fn steps_in(
 /// `{"version":V,"callers":C,"stripes":S,"buckets":B,"steps":[..]}`, where each step is an array,
 /// as `["ask",0,"put",1,10]`. Version 1 has no `put_if`, and its limits take half keys alone.
 ///
-/// The first fault in this order is the answer: `Limit` where there are more than 16,777,216 bytes;
-/// `NotJson`; `Member` where the value is no object or one of the five members, in the order above,
-/// is missing or of the wrong kind; `Piece` for the first step that is none, or in version 1 a
-/// `put_if`; `Limit` where the version is not 1 or 2, `Limits::new` refuses the numbers, or there
-/// are more than 1,000,000 steps. `NoMemory` can come in place of any answer.
-///
 /// Other members of the object are passed over, and of a member that is given twice the last
 /// counts. A number is written without a sign, a fraction or an exponent, and is below 2^64.
 ///
-/// Time and memory are proportional to the number of bytes.
+/// # Errors
+///
+/// The first of these, in this order:
+///
+/// - `Limit` where there are more than 16,777,216 bytes.
+/// - `NotJson` where they are no JSON as `piece_files::read_file` takes it.
+/// - `Member` where the value is no object or one of the five members, in the order above, is
+///   missing or of the wrong kind.
+/// - `Piece` for the first step that is none, or in version 1 a `put_if`.
+/// - `Limit` where the version is not 1 or 2, `Limits::new` refuses the numbers, or there are more
+///   than 1,000,000 steps.
+///
+/// `NoMemory` where memory is refused. It can come in place of any answer.
+///
+/// # Cost
+///
+/// Time and memory in proportion to the bytes.
 pub fn read_steps(alloc: Global, bytes: &[u8]) -> Result<(Limits, Vec<Step>), FileFault>
     ensures { Gives (λ file. (file.0, file.1.items)) result (file_of bytes.now) }
 {

@@ -104,7 +104,13 @@ fn put_entries(text: &mut String, entries: &[Entry]) -> Result<(), AllocError>
 /// in this order, as `{"entries":[["began",0,1]],"stripes":8,"version":1}`, with no line feed.
 /// `read_history` reads it where it is in range, in version 1 where it has no `put_if`.
 ///
-/// `AllocError` where memory is refused. Time and memory are proportional to the number of entries.
+/// # Errors
+///
+/// `AllocError` where memory is refused.
+///
+/// # Cost
+///
+/// Time and memory in proportion to the entries.
 pub fn history_text(
     alloc: Global,
     version: u64,

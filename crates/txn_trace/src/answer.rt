@@ -116,11 +116,13 @@ impl fmt::Display for Answer {
 
 /// An answer as text, without a line feed.
 ///
-/// Costs one allocation, and time in proportion to the text's length.
-///
 /// # Errors
 ///
 /// `AllocError` where memory is refused.
+///
+/// # Cost
+///
+/// Time and memory in proportion to the text's length.
 pub fn answer_text(alloc: Global, answer: &Answer) -> Result<String, AllocError>
     ensures { IfOk result (λ text. string_bytes text ≡ text_of answer.now) }
 {

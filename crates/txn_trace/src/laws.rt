@@ -12,7 +12,11 @@ ghost use Rattle.txn_trace.specs.declared.holder.Holder.{Holder};
 /// Nothing is left of aborted transactions: a legal history without their entries says the same
 /// of the map and of the committed map, and its replies hold.
 ///
-/// Does nothing when it runs: its contract is the law.
+/// The contract is the law.
+///
+/// # Cost
+///
+/// None: it does nothing when it runs.
 pub fn erased()
     ensures now { (holder : Holder) (stripes : ℕ) (h : List Entry) → IsLegal holder stripes h
         → now (erase h) ≡ now h }

@@ -14,8 +14,9 @@
 //! Proved: the laws of histories in `proofs/`, entry by entry, for crates above to cite; and, as
 //! the contract of `laws::erased`, that nothing is left of aborted transactions. The code is that
 //! of definitions which crates above share: limits and texts, the entry of a step with its answer,
-//! what an operation and a step need in a history, and a caller's seat, in constant time but for
-//! one allocation of `answer_text` and those of `Seat::reserve_level`.
+//! what an operation and a step need in a history, and a caller's seat. Each call but `answer_text`
+//! takes constant time, amortized where savepoints come or go, and only `answer_text` and
+//! `Seat::reserve_level` take memory.
 #![tactic(auto)]
 
 mod action;

@@ -49,11 +49,13 @@ impl Limits {
     /// Limits that take every key and are in range: 1 to `MAX_CALLERS` callers, 1 to `MAX_STRIPES`
     /// stripes, and as the largest size a power of two from 2 to `MAX_BUCKETS` buckets.
     ///
-    /// Constant time.
-    ///
     /// # Errors
     ///
     /// `Refusal::Limit` where a number is out of range.
+    ///
+    /// # Cost
+    ///
+    /// Constant time; takes no memory.
     pub fn new(callers: u64, stripes: u64, buckets: u64) -> Result<Limits, Refusal>
         ensures { result ≡ limits_of callers stripes buckets }
     {
@@ -72,7 +74,7 @@ impl Limits {
         })
     }
 
-    /// How many callers there are.
+    /// How many callers there are. Constant time.
     pub fn callers(self) -> u32
         ensures value { result ≡ self.callers }
         ensures limits { IsTrue (are_limits self.callers self.stripes self.buckets) }
@@ -80,7 +82,7 @@ impl Limits {
         self.callers
     }
 
-    /// How many stripes the keys are shared out to.
+    /// How many stripes the keys are shared out to. Constant time.
     pub fn stripes(self) -> u32
         ensures value { result ≡ self.stripes }
         ensures limits { IsTrue (are_limits self.callers self.stripes self.buckets) }
@@ -88,7 +90,7 @@ impl Limits {
         self.stripes
     }
 
-    /// The largest size of the table, in buckets.
+    /// The largest size of the table, in buckets. Constant time.
     pub fn buckets(self) -> u32
         ensures value { result ≡ self.buckets }
         ensures limits { IsTrue (are_limits self.callers self.stripes self.buckets) }
@@ -113,7 +115,11 @@ impl Limits {
         self.half_keys
     }
 
-    /// Whether these limits refuse a key: half keys alone are taken, and it is none. Constant time.
+    /// Whether these limits refuse a key: half keys alone are taken, and it is none.
+    ///
+    /// # Cost
+    ///
+    /// Constant time; takes no memory.
     pub fn is_bad_key(self, key: u64) -> bool
         ensures { result ≡ is_bad_key self.half key }
     {

@@ -27,7 +27,11 @@ impl Op {
         key
     }
 
-    /// Whether the operation is a change on some map: all but `Get`. Constant time.
+    /// Whether the operation is a change on some map: all but `Get`.
+    ///
+    /// # Cost
+    ///
+    /// Constant time; takes no memory.
     pub fn may_change(self) -> bool
         ensures { result ≡ may_change self }
     {
@@ -35,7 +39,11 @@ impl Op {
     }
 
     /// Whether the operation was a change, if this is its reply: it put a value, or took a key out
-    /// that was there. Constant time.
+    /// that was there.
+    ///
+    /// # Cost
+    ///
+    /// Constant time; takes no memory.
     pub fn changes(self, reply: Reply) -> bool
         ensures { result ≡ changes self reply }
     {
@@ -48,7 +56,11 @@ impl Op {
     }
 
     /// How many entries are owed for the operation while it waits: its reply, and where it may
-    /// change something the undoing of it. Constant time.
+    /// change something the undoing of it.
+    ///
+    /// # Cost
+    ///
+    /// Constant time; takes no memory.
     pub fn owed(self) -> u64
         ensures { result ≡ owed_for self }
     {

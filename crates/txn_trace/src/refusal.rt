@@ -68,7 +68,11 @@ impl fmt::Display for Refusal {
 impl Error for Refusal {}
 
 impl Refusal {
-    /// The refusal's number, from 1 to 22. Constant time.
+    /// The refusal's number, from 1 to 22.
+    ///
+    /// # Cost
+    ///
+    /// Constant time; takes no memory.
     pub fn number(self) -> u64
         ensures { result ≡ number_of self }
     {

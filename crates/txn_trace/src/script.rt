@@ -21,7 +21,11 @@ impl Model for Script {
 }
 
 impl Script {
-    /// The script of these actions. Constant time, and no memory.
+    /// The script of these actions.
+    ///
+    /// # Cost
+    ///
+    /// Constant time; takes no memory.
     pub fn new(actions: Vec<Action>) -> Script
         ensures { result ≡ actions.items }
     {
@@ -35,7 +39,11 @@ impl Script {
         self.actions.as_slice()
     }
 
-    /// The actions in order, given back. Constant time, and no memory.
+    /// The actions in order, given back.
+    ///
+    /// # Cost
+    ///
+    /// Constant time; takes no memory.
     pub fn into_actions(self) -> Vec<Action>
         ensures { result.items ≡ self }
     {
@@ -68,7 +76,11 @@ impl Model for Scripts {
 }
 
 impl Scripts {
-    /// The work of these scripts. Constant time, and no memory.
+    /// The work of these scripts.
+    ///
+    /// # Cost
+    ///
+    /// Constant time; takes no memory.
     pub fn new(version: u64, limits: Limits, tries: u64, scripts: Vec<Script>) -> Scripts
         ensures { result ≡ record {
           version = version;

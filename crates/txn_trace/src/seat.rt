@@ -55,7 +55,11 @@ impl Model for Seat {
 }
 
 impl Seat {
-    /// The seat of a caller without a transaction. Takes no memory. Constant time.
+    /// The seat of a caller without a transaction.
+    ///
+    /// # Cost
+    ///
+    /// Constant time; takes no memory.
     pub fn new(alloc: Global) -> Seat
         ensures { result.seat ≡ closed_seat }
     {
@@ -88,7 +92,10 @@ impl Seat {
     }
 
     /// How many changes stood at a level: none at level 0. `None` where there is no such level.
-    /// Constant time.
+    ///
+    /// # Cost
+    ///
+    /// Constant time; takes no memory.
     pub fn kept(&self, level: u64) -> Option<u64>
         ensures { result ≡ slice_get self.now.seat.kept level }
     {
@@ -98,7 +105,11 @@ impl Seat {
         }
     }
 
-    /// Whether it takes changes back and one is left to take back. Constant time.
+    /// Whether it takes changes back and one is left to take back.
+    ///
+    /// # Cost
+    ///
+    /// Constant time; takes no memory.
     pub fn has_job(&self) -> bool
         ensures { result ≡ has_job self.now.seat }
     {
@@ -110,7 +121,10 @@ impl Seat {
     }
 
     /// Whether there is something to seek: an operation that waits, or a change to take back.
-    /// Constant time.
+    ///
+    /// # Cost
+    ///
+    /// Constant time; takes no memory.
     pub fn has_target(&self) -> bool
         ensures { result ≡ has_target self.now.seat }
     {
@@ -118,7 +132,11 @@ impl Seat {
     }
 
     /// The refusal of a step of its caller, as far as the seat decides it, and the limits which
-    /// keys are taken. Constant time.
+    /// keys are taken.
+    ///
+    /// # Cost
+    ///
+    /// Constant time; takes no memory.
     #[inline(always)]
     pub fn refusal(&self, limits: Limits, step: Step) -> Option<Refusal>
         ensures { result ≡ refusal_in limits.half self.now.seat step }
@@ -180,7 +198,11 @@ impl Seat {
     }
 
     /// How many entries its caller may add without a new reservation: its reply, the undoing of
-    /// each change that stands, and the end. Constant time.
+    /// each change that stands, and the end.
+    ///
+    /// # Cost
+    ///
+    /// Constant time; takes no memory.
     #[inline(always)]
     pub fn owed(&self) -> u64
         requires { owed_in self.now.seat.standing self.now.seat.phase < 2 ^ 64 }
@@ -198,12 +220,13 @@ impl Seat {
     /// Makes room for one savepoint, if there is none; the seat stays, and so does the room that
     /// there was.
     ///
-    /// Costs constant time on average, or where there is no room an allocation in proportion to the
-    /// savepoints.
-    ///
     /// # Errors
     ///
     /// `AllocError` where there is no room and memory is refused.
+    ///
+    /// # Cost
+    ///
+    /// Amortized constant time; takes memory only where there is no room.
     pub fn reserve_level(&mut self) -> Result<(), AllocError>
         ensures seat { self.new.seat ≡ self.old.seat }
         ensures room { self.old.room ≤ self.new.room }
@@ -213,8 +236,11 @@ impl Seat {
         self.savepoints.reserve(1)
     }
 
-    /// Whether an entry may come next: whether the rule of shape has a row for it here. Constant
-    /// time.
+    /// Whether an entry may come next: whether the rule of shape has a row for it here.
+    ///
+    /// # Cost
+    ///
+    /// Constant time; takes no memory.
     #[inline(always)]
     pub fn allows(&self, entry: &Entry) -> bool
         ensures { result ≡ is_some (row self.now.seat self.now.seat.phase entry.now) }
@@ -254,7 +280,10 @@ impl Seat {
     /// Goes on by an entry where it may come next, and says whether it may; else nothing changes.
     ///
     /// A `Saved` takes one of the room, and a savepoint that is dropped gives one back.
-    /// Constant time.
+    ///
+    /// # Cost
+    ///
+    /// Amortized constant time, since it may drop savepoints; takes no memory.
     #[inline(always)]
     pub fn enter(&mut self, entry: Entry) -> bool
         requires standing { self.old.seat.standing < 2 ^ 64 - 1 }

@@ -74,8 +74,11 @@ pub enum Step {
 }
 
 impl Step {
-    /// How many entries a core reserves room for in its history before it takes the step. Constant
-    /// time.
+    /// How many entries a core reserves room for in its history before it takes the step.
+    ///
+    /// # Cost
+    ///
+    /// Constant time; takes no memory.
     pub fn entry_room(self) -> u64
         ensures { result ≡ reserved self }
     {
@@ -89,7 +92,11 @@ impl Step {
     }
 }
 
-/// The entry that a step with its answer adds to the history, if it adds one. Constant time.
+/// The entry that a step with its answer adds to the history, if it adds one.
+///
+/// # Cost
+///
+/// Constant time; takes no memory.
 #[inline(always)]
 pub fn entry_of(step: Step, answer: Answer) -> Option<Entry>
     ensures { option_to_list result ≡ entries_of step answer }

@@ -19,6 +19,10 @@ pub trait UndoJob: Drop {
     ghost takes_back: { Self → Self.World → Self.World → Type 0 };
 
     /// Takes the change back.
+    ///
+    /// # Cost
+    ///
+    /// The job's own.
     fn run(self, world: Self::World) -> Self::World
         requires { shows_after self world }
         ensures before { shows_before self result }

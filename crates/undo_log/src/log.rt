@@ -44,7 +44,11 @@ impl<S: JobStore> Model for JobLog<S> {
 }
 
 impl<S: JobStore> JobLog<S> {
-    /// An empty log at level 0, with room for `S.inline` jobs. Takes no memory, constant time.
+    /// An empty log at level 0, with room for `S.inline` jobs.
+    ///
+    /// # Cost
+    ///
+    /// Constant time; takes no memory.
     pub fn new(alloc: Global) -> JobLog<S>
         ensures jobs { result.jobs ≡ [] }
         ensures kept { result.kept ≡ [] }
@@ -79,7 +83,11 @@ impl<S: JobStore> JobLog<S> {
     }
 
     /// The number of jobs that a return to the level keeps: those that were there at its savepoint,
-    /// none at level 0. Constant time.
+    /// none at level 0.
+    ///
+    /// # Cost
+    ///
+    /// Constant time; takes no memory.
     pub fn kept(&self, level: usize) -> usize
         requires { level ≤ length self.now.kept }
         ensures { result ≡ kept_at self.now.kept level }
@@ -90,15 +98,16 @@ impl<S: JobStore> JobLog<S> {
         }
     }
 
-    /// Makes room for one more job, if there is none: takes no memory where some is left. The room
-    /// stays until a job is pushed into it.
-    ///
-    /// Amortized constant time.
+    /// Makes room for one more job, if there is none. The room stays until a job is pushed into it.
     ///
     /// # Errors
     ///
     /// `AllocError` where memory is refused, and only where there was no room, so never while fewer
     /// than `S.inline` jobs are there. Then nothing has changed.
+    ///
+    /// # Cost
+    ///
+    /// Amortized constant time; takes memory only where there is no room.
     pub fn reserve_one(&mut self) -> Result<(), AllocError>
         ensures jobs { self.new.jobs ≡ self.old.jobs }
         ensures kept { self.new.kept ≡ self.old.kept }
@@ -112,7 +121,11 @@ impl<S: JobStore> JobLog<S> {
         self.jobs.reserve_one()
     }
 
-    /// Adds a job as the newest, in room that is there already. Takes no memory, constant time.
+    /// Adds a job as the newest, in room that is there already.
+    ///
+    /// # Cost
+    ///
+    /// Constant time; takes no memory.
     pub fn push_reserved(&mut self, job: S::Job)
         requires { 0 < self.old.room }
         ensures jobs { self.new.jobs ≡ self.old.jobs ++ job ∷ [] }
@@ -123,15 +136,16 @@ impl<S: JobStore> JobLog<S> {
         self.jobs.add(job);
     }
 
-    /// Makes room for one more savepoint, if there is none, so that the next `save` succeeds: takes
-    /// no memory where some is left.
-    ///
-    /// Amortized constant time.
+    /// Makes room for one more savepoint, if there is none, so that the next `save` succeeds.
     ///
     /// # Errors
     ///
     /// `AllocError` where memory is refused, and only where there was no room. Then nothing has
     /// changed.
+    ///
+    /// # Cost
+    ///
+    /// Amortized constant time; takes memory only where there is no room.
     pub fn save_room(&mut self) -> Result<(), AllocError>
         ensures jobs { self.new.jobs ≡ self.old.jobs }
         ensures kept { self.new.kept ≡ self.old.kept }
@@ -150,12 +164,14 @@ impl<S: JobStore> JobLog<S> {
     /// Makes a savepoint here, which keeps all jobs, and gives its number: one more than there were
     /// savepoints.
     ///
-    /// Amortized constant time.
-    ///
     /// # Errors
     ///
     /// `AllocError` where memory is refused, and only where there was no room for a savepoint. Then
     /// nothing has changed.
+    ///
+    /// # Cost
+    ///
+    /// Amortized constant time; takes memory only where there is no room for a savepoint.
     pub fn save(&mut self) -> Result<usize, AllocError>
         ensures jobs { self.new.jobs ≡ self.old.jobs }
         ensures room { self.new.room ≡ self.old.room }
@@ -170,7 +186,11 @@ impl<S: JobStore> JobLog<S> {
         Ok(self.kept.len())
     }
 
-    /// The job that `pop_above` would give. Constant time.
+    /// The job that `pop_above` would give.
+    ///
+    /// # Cost
+    ///
+    /// Constant time; takes no memory.
     pub fn newest_above(&self, level: usize) -> Option<&S::Job>
         requires { level ≤ length self.now.kept }
         ensures newest { option_copied result ≡ newest_above self.now level }
@@ -187,7 +207,11 @@ impl<S: JobStore> JobLog<S> {
     ///
     /// Savepoints stay, those above the level too, until `cut`. The job's place is room again, in
     /// which it may be pushed back. A transaction that commits takes out all its jobs so, by level
-    /// 0, discards them and cuts at 0. Takes no memory, constant time.
+    /// 0, discards them and cuts at 0.
+    ///
+    /// # Cost
+    ///
+    /// Constant time; takes no memory.
     pub fn pop_above(&mut self, level: usize) -> Option<S::Job>
         requires { level ≤ length self.old.kept }
         ensures newest { result ≡ newest_above self.old level }
@@ -204,7 +228,9 @@ impl<S: JobStore> JobLog<S> {
     /// Drops the savepoints above the level, once no job above it is left, and keeps the level's
     /// own.
     ///
-    /// Takes no memory, and time in proportion to the savepoints that are dropped.
+    /// # Cost
+    ///
+    /// Time in proportion to the savepoints that are dropped; takes no memory.
     pub fn cut(&mut self, level: usize)
         requires level { level ≤ length self.old.kept }
         requires none_above { length self.old.jobs ≤ kept_at self.old.kept level }

@@ -21,10 +21,18 @@ pub trait Side: Drop + Send {
     ghost after: { Self.Job → List ℕ };
 
     /// The four words of the value.
+    ///
+    /// # Cost
+    ///
+    /// The side type's own.
     fn words(&self) -> [u64; 4]
         ensures { result ≡ words_of self.now };
 
     /// The value without the job's change, by what the job keeps.
+    ///
+    /// # Cost
+    ///
+    /// The side type's own.
     fn undo(self, job: Self::Job) -> Self
         requires { words_of self ≡ after job }
         ensures { words_of result ≡ before job };

@@ -39,7 +39,11 @@ impl<S: Side> Model for SideValue<S> {
 }
 
 impl<S: Side> SideValue<S> {
-    /// The value as level 0, with no change to take back. Takes no memory, constant time.
+    /// The value as level 0, with no change to take back.
+    ///
+    /// # Cost
+    ///
+    /// Constant time; takes no memory.
     pub fn new(alloc: Global, value: S) -> SideValue<S>
         ensures value { result.value ≡ value }
         ensures levels { result.levels ≡ S.words_of value ∷ [] }
@@ -54,7 +58,11 @@ impl<S: Side> SideValue<S> {
         }
     }
 
-    /// The four words of the value now: one call of the side type's `words`.
+    /// The four words of the value now.
+    ///
+    /// # Cost
+    ///
+    /// One call of the side type's `words`.
     pub fn words(&self) -> [u64; 4]
         ensures { result ≡ S.words_of self.now.value }
     {
@@ -70,14 +78,18 @@ impl<S: Side> SideValue<S> {
 
     /// Changes the value, and logs the job that takes the change back.
     ///
-    /// The job names the words now as before, and those that `change` gives as after. Calls
-    /// `change` once, in amortized constant time beside it.
+    /// The job names the words now as before, and those that `change` gives as after.
     ///
     /// # Errors
     ///
     /// `AllocFailed` where memory is refused, and only where there was no room for a change. Then
     /// `change` was not called, nothing has changed, and the error's `value` is the change and the
     /// job that were handed in.
+    ///
+    /// # Cost
+    ///
+    /// One call of `change`, and amortized constant time beside it; takes memory only where there
+    /// is no room for a change.
     pub fn change<F: FnOnce(S) -> S>(
         &mut self,
         change: F,
@@ -116,12 +128,14 @@ impl<S: Side> SideValue<S> {
 
     /// Makes room for one more savepoint, if there is none, so that the next `save` succeeds.
     ///
-    /// Amortized constant time.
-    ///
     /// # Errors
     ///
     /// `AllocError` where memory is refused, and only where there was no room. Then nothing has
     /// changed.
+    ///
+    /// # Cost
+    ///
+    /// Amortized constant time; takes memory only where there is no room.
     pub fn save_room(&mut self) -> Result<(), AllocError>
         ensures value { self.new.value ≡ self.old.value }
         ensures levels { self.new.levels ≡ self.old.levels }
@@ -139,12 +153,14 @@ impl<S: Side> SideValue<S> {
     /// Makes a savepoint of the value as it is now, and gives its number: one more than there were
     /// savepoints.
     ///
-    /// Amortized constant time.
-    ///
     /// # Errors
     ///
     /// `AllocError` where memory is refused, and only where there was no room for a savepoint. Then
     /// nothing has changed.
+    ///
+    /// # Cost
+    ///
+    /// Amortized constant time; takes memory only where there is no room for a savepoint.
     pub fn save(&mut self) -> Result<usize, AllocError>
         ensures value { self.new.value ≡ self.old.value }
         ensures number { IfOk result (λ level. level ≡ length self.old.levels) }
@@ -162,8 +178,12 @@ impl<S: Side> SideValue<S> {
 
     /// Takes back each change since the level, newest first, and drops the savepoints above it.
     ///
-    /// The value then has the words that it had there. Takes no memory, and time in proportion to
-    /// the changes and savepoints above the level, with one job run for each change.
+    /// The value then has the words that it had there.
+    ///
+    /// # Cost
+    ///
+    /// Time in proportion to the changes and savepoints above the level, with one run of a job for
+    /// each change; takes no memory.
     pub fn back(&mut self, level: usize)
         requires { level < length self.old.levels }
         ensures words { slice_get self.old.levels level ≡ Some (S.words_of self.new.value) }
@@ -190,7 +210,9 @@ impl<S: Side> SideValue<S> {
     /// Keeps the value, which is level 0 from now on: drops all jobs, none of them run, and all
     /// savepoints.
     ///
-    /// Takes no memory, and time in proportion to the jobs and savepoints.
+    /// # Cost
+    ///
+    /// Time in proportion to the jobs and savepoints; takes no memory.
     pub fn settle(&mut self)
         ensures value { self.new.value ≡ self.old.value }
         ensures levels { self.new.levels ≡ S.words_of self.old.value ∷ [] }

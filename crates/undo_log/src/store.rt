@@ -1,8 +1,7 @@
 use crate::job::UndoJob;
 use std::alloc::{AllocError, Global};
 
-/// Where a log keeps its jobs, the newest at the end. Each call takes constant time, amortized
-/// where room has to grow, and only `reserve_one` takes memory.
+/// Where a log keeps its jobs, the newest at the end.
 pub trait JobStore: Drop {
     /// The inverse of one change.
     type Job: UndoJob;
@@ -19,11 +18,15 @@ pub trait JobStore: Drop {
     ghost room_of: { Self → ℕ };
 
     /// A store without a job.
+    ///
+    /// # Cost
+    ///
+    /// Constant time; takes no memory.
     fn empty(alloc: Global) -> Self
         ensures jobs { jobs_of result ≡ [] }
         ensures room { room_of result ≡ inline };
 
-    /// The number of jobs.
+    /// The number of jobs. Constant time.
     fn count(&self) -> usize
         ensures { result ≡ length (jobs_of self.now) };
 
@@ -33,6 +36,10 @@ pub trait JobStore: Drop {
     ///
     /// `AllocError` where memory is refused, and only where there was no room. Then nothing has
     /// changed.
+    ///
+    /// # Cost
+    ///
+    /// Amortized constant time; takes memory only where there is no room.
     fn reserve_one(&mut self) -> Result<(), AllocError>
         ensures jobs { jobs_of self.new ≡ jobs_of self.old }
         ensures ok { OnOk result (0 < room_of self.new) }
@@ -42,18 +49,30 @@ pub trait JobStore: Drop {
         ensures full { OnErr result (room_of self.old ≡ 0) };
 
     /// Adds a job as the newest, in room that is there already.
+    ///
+    /// # Cost
+    ///
+    /// Constant time; takes no memory.
     fn add(&mut self, job: Self::Job)
         requires { 0 < room_of self.old }
         ensures jobs { jobs_of self.new ≡ jobs_of self.old ++ job ∷ [] }
         ensures room { room_of self.new + 1 ≡ room_of self.old };
 
     /// The newest job.
+    ///
+    /// # Cost
+    ///
+    /// Constant time; takes no memory.
     fn newest(&self) -> Option<&Self::Job>
         ensures newest { option_copied result
             ≡ slice_get (jobs_of self.now) (length (jobs_of self.now) - 1) }
         ensures some { IsSome result ↔ (0 < length (jobs_of self.now)) };
 
     /// Takes out the newest job.
+    ///
+    /// # Cost
+    ///
+    /// Constant time; takes no memory.
     fn take_newest(&mut self) -> Option<Self::Job>
         ensures newest { result ≡ slice_get (jobs_of self.old) (length (jobs_of self.old) - 1) }
         ensures some { IsSome result ↔ (0 < length (jobs_of self.old)) }

@@ -144,6 +144,11 @@ fn unzip<L: Ledger>(
 ///
 /// `NoMemory` where memory is refused, `CallersMissing` where there are more visits than callers,
 /// `OutOfStep` where the map does not close, as with fewer visits than callers.
+///
+/// # Cost
+///
+/// A thread and a transaction for each visit, begun anew as long as its stripe is held, and that of
+/// the map's `new` and `close`.
 pub fn visit_all<L: Ledger + Send + Sync, R: Threads + Wait + Sync>(
     rt: &R,
     alloc: Global,
