@@ -17,9 +17,9 @@ mod outcome;
 mod ran;
 mod run_script;
 mod runs;
+mod terms;
 #[cfg(test)]
 mod tests;
-mod terms;
 mod threads;
 mod worker;
 
