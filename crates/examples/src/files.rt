@@ -1,5 +1,5 @@
 //! Runs the files of the folder `examples`, each by the engine of its command.
-use anyhow::{Result, anyhow};
+use anyhow::anyhow;
 use boostmap_engine::{Fault, check, mix, replay};
 use std::rt::Runtime;
 use std::{fmt, fs, io};
@@ -38,11 +38,7 @@ impl fmt::Display for Command {
 }
 
 /// Runs a file by a command.
-fn run<R: Runtime + AllocGlobal>(
-    rt: &R,
-    command: Command,
-    file: &str,
-) -> std::result::Result<(), Fault> {
+fn run<R: Runtime + AllocGlobal>(rt: &R, command: Command, file: &str) -> Result<(), Fault> {
     let Ok(mut input) = fs::open(rt, file) else {
         return Err(Fault::Read);
     };
@@ -55,7 +51,7 @@ fn run<R: Runtime + AllocGlobal>(
 }
 
 /// Prints for each file the words of the call, and then what the engine wrote.
-pub(crate) fn show<R: Runtime + AllocGlobal>(rt: &R) -> Result<()> {
+pub(crate) fn show<R: Runtime + AllocGlobal>(rt: &R) -> anyhow::Result<()> {
     for (command, file) in CALLS {
         println!(rt; "{command} {file}")?;
         run(rt, command, file).map_err(|fault| anyhow!("{fault}"))?;
