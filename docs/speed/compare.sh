@@ -6,12 +6,14 @@
 source "$(dirname "${BASH_SOURCE[0]}")/common.sh"
 keys=${1:-1000000}
 rounds=${2:-9}
-build_proved bench 1000
+build_proved bench nodes 1000
 build_twin twin
 
 for _ in $(seq "$rounds"); do
   for program in proved plain alike; do
-    "$work/$program" "$keys" nodes 2>&1 |
+    words=("$keys")
+    [ $program = proved ] && words=(nodes "$keys")
+    "$work/$program" "${words[@]}" 2>&1 |
       awk -v program=$program '{ print NR, $2, program, $5, $7, $11 }' >>"$work/times"
   done
 done

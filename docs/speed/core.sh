@@ -6,14 +6,14 @@
 # Usage: docs/speed/core.sh [ROUNDS]
 source "$(dirname "${BASH_SOURCE[0]}")/common.sh"
 rounds=${1:-9}
-build_proved bench 1000
+build_proved bench core 1000
 build_twin core_twin
 
 write_step_files <docs/speed/core_files.txt
 
 run_core() {
   if [ "$1" = proved ]; then
-    "$work/proved" 0 core "$2" 2>&1
+    "$work/proved" core 0 "$2" 2>&1
   else
     "$work/$1" "$2" 2>&1
   fi

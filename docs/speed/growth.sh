@@ -4,11 +4,11 @@
 # Usage: docs/speed/growth.sh [ROUNDS]
 source "$(dirname "${BASH_SOURCE[0]}")/common.sh"
 rounds=${1:-5}
-build_proved bench 1000
+build_proved bench maps 1000
 
 for _ in $(seq "$rounds"); do
   for keys in 1000 10000 100000 1000000; do
-    "$work/proved" "$keys" maps 2>&1 | awk -v keys=$keys '{ print keys, $2, $1, $7, $11 }' >>"$work/times"
+    "$work/proved" maps "$keys" 2>&1 | awk -v keys=$keys '{ print keys, $2, $1, $7, $11 }' >>"$work/times"
   done
 done
 

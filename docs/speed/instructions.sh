@@ -3,7 +3,7 @@
 # prints how many one step takes in each, and the ratio. Other work on the machine does not change them.
 # Usage: docs/speed/instructions.sh
 source "$(dirname "${BASH_SOURCE[0]}")/common.sh"
-build_proved bench 1000
+build_proved bench core 1000
 build_twin core_twin
 write_step_files <docs/speed/core_files.txt
 
@@ -24,7 +24,7 @@ for name in "${names[@]}"; do
   file=$work/$name.json
   # Both programs run the steps twice.
   steps=$((2 * ($(tr -cd '[' <"$file" | wc -c) - 1)))
-  proved=$(count 'core_phases::run_timed' 'Core::new' "$work/proved" 0 core "$file")
+  proved=$(count 'core_phases::run_timed' 'Core::new' "$work/proved" core 0 "$file")
   plain=$(count 'machine::Core::run' nothing "$work/plain" "$file")
   awk -v name="$name" -v steps=$steps -v proved="$proved" -v plain="$plain" 'BEGIN {
     printf "%-8s %10.1f %10.1f %8.2f\n", name, proved / steps, plain / steps, proved / plain }'

@@ -5,13 +5,22 @@
 source "$(dirname "${BASH_SOURCE[0]}")/common.sh"
 takes=${1:-1000000}
 rounds=${2:-9}
-build_proved word_times 1 1000
+build_proved bench words 1000 1
 rustc -O -o "$work/plain" docs/speed/words.rs
+
+# Runs a program with so many threads.
+run_words() {
+  if [ "$1" = proved ]; then
+    "$work/proved" words "$takes" "$2" 2>&1
+  else
+    "$work/$1" "$2" "$takes" 2>&1
+  fi
+}
 
 # The middle of so many runs of a program with so many threads, in nanoseconds.
 nanoseconds() {
   for _ in $(seq "$rounds"); do
-    "$work/$1" "$2" "$takes" 2>&1
+    run_words "$1" "$2"
   done | awk -v all=$(($2 * takes)) '$(NF - 1) != all { exit 1 } { print $6 }' | sort -n | sed -n "$(((rounds + 1) / 2))p"
 }
 

@@ -1,7 +1,8 @@
 #!/usr/bin/env bash
 # Tries what docs/LIBRARY.md says: for each row of its first table, the folders that it names and no others are
-# copied, with their lines of crates.txt and the caller's own, and the caller is run there, with no proof; it must
-# write its `stdout`. Then that each clause that the page shows stands in a caller. Takes two minutes.
+# copied, with their lines of crates.txt and the caller's own, and what `examples` does with the caller is run there as
+# a program of its own, with no proof; it must write what `examples` writes of it. Then that each clause that the page
+# shows stands in a caller. Takes two minutes.
 # The last line is 'library: N passed, M failed', and the status is 1 where M is not 0.
 set -u
 cd "$(dirname "${BASH_SOURCE[0]}")/../.."
@@ -20,21 +21,42 @@ judge() {
   fi
 }
 
-# Copies the folders of a row and runs its caller.
+# What `examples` writes of a caller: the lines between the caller's name and the next heading.
+wanted() {
+  awk -v name="$1" '
+    /^(bank|audit|visits|transfers|replay .*)$/ { inside = $0 == name; next }
+    inside { print }' crates/examples/stdout
+}
+
+# Copies the folders of a row, and runs there what `examples` does with its caller.
 runs() {
-  local folders=$1 line=$2 name=${2%%[ :]*} folder
-  rm -rf "$work/there"
-  mkdir -p "$work/there/crates"
-  cp HANDLES "$work/there/"
+  local folders=$1 line=$2 name=${2%%[ :]*} there=$work/there folder
+  local shown=$there/crates/shown
+  rm -rf "$there"
+  mkdir -p "$shown/src"
+  cp HANDLES "$there/"
   for folder in $folders $name; do
-    cp -r "crates/$folder" "$work/there/crates/" && rm -rf "$work/there/crates/$folder/out"
-    grep "^$folder\b" crates.txt >>"$work/there/crates.txt"
+    cp -r "crates/$folder" "$there/crates/" && rm -rf "$there/crates/$folder/out"
+    grep "^$folder\b" crates.txt >>"$there/crates.txt"
   done
   grep -qxF "$line" crates.txt
   judge "no such line: $line" $?
-  (cd "$work/there/crates/$name" && ${RT:-rt} try) >"$work/log" 2>&1 </dev/null
-  head -n "$(wc -l <"crates/$name/stdout")" "$work/log" | cmp -s - "crates/$name/stdout"
-  judge "$name does not write what it should" $?
+  echo "shown: $name ${line#*: } anyhow" >>"$there/crates.txt"
+  cp "crates/examples/src/call_$name.rt" "$shown/src/"
+  cat >"$shown/src/main.rt" <<MAIN
+#![tactic(auto)]
+
+mod call_$name;
+
+fn main(rt: HostRuntime) -> anyhow::Result<()> {
+    call_$name::show(&rt)?;
+    Ok(())
+}
+MAIN
+  (cd "$shown" && ${RT:-rt} try) >"$work/log" 2>&1 </dev/null
+  wanted "$name" >"$work/wanted"
+  [ -s "$work/wanted" ] && head -n "$(wc -l <"$work/wanted")" "$work/log" | cmp -s - "$work/wanted"
+  judge "$name does not give what it should" $?
 }
 
 kept=

@@ -1,11 +1,15 @@
 //! Times the nodes and cursors of the split-ordered list, as a table of 65,536 buckets uses them,
-//! the table itself beside other maps, and the core.
+//! the table itself beside other maps, the core, and the stripes as atomic words.
 //!
 //! Each phase writes one line on standard error: what it did, how many operations, how long, and
-//! the sum of what they answered, by which another program that does the same can be compared.
-//! Nothing is written on standard output. The first argument is how many keys there are; without
-//! one there are few. The second is `nodes`, `maps` or `core`, for that part alone. The third is a
-//! step file, whose steps the core then takes in place of puts at few keys.
+//! the sum of what they answered, by which another program that does the same can be compared; the
+//! words write how many takes were granted. Nothing is written on standard output.
+//!
+//! The first argument is `nodes`, `maps`, `core` or `words`, for that part alone, or `all`, as if
+//! there were none. The second is how many keys there are, of the words how many takes each thread
+//! has; without one there are few. The third is of `core` alone a step file, whose steps the core
+//! then takes in place of puts at few keys, and of `words` alone how many threads there are, up to
+//! 64; without one there are two.
 #![tactic(auto)]
 
 mod any_map;
@@ -16,38 +20,53 @@ mod map_phases;
 mod node_phases;
 mod node_table;
 mod stopwatch;
+mod words;
 
-use anyhow::{Context, Result};
+use anyhow::{Context, Result, ensure};
 use core_phases::{time_file, time_puts};
 use map_phases::time_maps;
 use node_phases::time_nodes;
 use std::env;
+use words::time_words;
 
-/// How many keys, and how many mixed operations, there are if no argument says how many keys.
+/// How many keys, mixed operations and takes there are if no argument says how many.
 const FEW: u64 = 10_000;
 
-/// How many mixed operations there are if one does.
+/// How many mixed operations there are if one says how many keys.
 const MANY: u64 = 1_000_000;
 
+/// How many threads take and give, if no argument says how many.
+const THREADS: u64 = 2;
+
 fn main(rt: HostRuntime) -> Result<()> {
-    let mut words = env::args(&rt)?.skip(1);
-    let (keys, operations) = match words.next() {
-        Some(text) => (text.parse::<u64>().context("the number of keys")?, MANY),
+    let mut arguments = env::args(&rt)?.skip(1);
+    let word = arguments.next();
+    let part = word.as_ref().map_or("all", |word| word.as_str());
+    let is_part = matches!(part, "all" | "nodes" | "maps" | "core" | "words");
+    ensure!(is_part, "no such part: {part}");
+    let wanted = |name: &str| part == name || part == "all";
+    let (count, operations) = match arguments.next() {
+        Some(text) => (text.parse::<u64>().context("how many")?, MANY),
         None => (FEW, FEW),
     };
-    let part = words.next();
-    let wanted = |name: &str| part.as_ref().is_none_or(|word| word.as_str() == name);
     if wanted("nodes") {
-        time_nodes(&rt, keys)?;
+        time_nodes(&rt, count)?;
     }
     if wanted("maps") {
-        time_maps(&rt, keys, operations)?;
+        time_maps(&rt, count, operations)?;
     }
     if wanted("core") {
-        match words.next() {
+        match arguments.next() {
             Some(file) => time_file(&rt, &file)?,
-            None => time_puts(&rt, keys)?,
+            None => time_puts(&rt, count)?,
         }
+    }
+    if wanted("words") {
+        let threads = match arguments.next() {
+            Some(text) => text.parse::<u64>().context("how many threads")?,
+            None => THREADS,
+        };
+        time_words(&rt, threads, count)?;
     }
     Ok(())
 }

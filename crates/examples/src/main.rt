@@ -1,68 +1,27 @@
-//! Runs the files of the folder `examples`, each by the engine of its command, and prints for each
-//! the words of the call and then what the engine wrote.
+//! Calls the libraries of callers, has threads move sums between the accounts of one map, and runs
+//! the files of the folder `examples`. A line with a name, or with the words of a call, comes
+//! before what each prints.
 //!
 //! The gate compares all of it with the file `stdout`, which was written by hand, so that what the
 //! documents say of their examples stays true. Nothing is promised of this program.
 #![tactic(auto)]
 
-use boostmap_engine::{Fault, check, mix, replay};
-use std::process::ExitCode;
-use std::rt::Runtime;
-use std::{fmt, fs, io};
+mod call_audit;
+mod call_bank;
+mod call_visits;
+mod files;
+mod transfers;
 
-/// The commands, with the file that each runs.
-const CALLS: [(Command, &str); 7] = [
-    (Command::Replay, "first_commit.json"),
-    (Command::Replay, "many_callers.json"),
-    (Command::Replay, "doubling.json"),
-    (Command::Replay, "keys_of_64_bits.json"),
-    (Command::Mix(7), "first_scripts.json"),
-    (Command::Mix(7), "scripts.json"),
-    (Command::Check, "checked.json"),
-];
+use anyhow::Result;
 
-/// A command of the program `boostmap`, with the seed where it has one. It is printed as the words
-/// that a user types.
-#[derive(Clone, Copy, Debug)]
-enum Command {
-    /// Runs the steps of a file.
-    Replay,
-    /// Runs the scripts of a file, their turns mixed as this seed says.
-    Mix(u64),
-    /// Judges the history of a file.
-    Check,
-}
-
-impl fmt::Display for Command {
-    fn fmt<W: fmt::Write>(&self, f: &mut fmt::Formatter<W>) -> fmt::Result {
-        match *self {
-            Command::Replay => write!(f, "replay"),
-            Command::Mix(seed) => write!(f, "mix --seed {seed}"),
-            Command::Check => write!(f, "check"),
-        }
-    }
-}
-
-/// Runs a file by a command.
-fn run<R: Runtime + AllocGlobal>(rt: &R, command: Command, file: &str) -> Result<(), Fault> {
-    let Ok(mut input) = fs::open(rt, file) else {
-        return Err(Fault::Read);
-    };
-    let mut output = io::writer(rt);
-    match command {
-        Command::Replay => replay(rt.alloc(), &mut input, &mut output),
-        Command::Mix(seed) => mix(rt.alloc(), seed, &mut input, &mut output),
-        Command::Check => check(rt.alloc(), &mut input, &mut output).map(|_| ()),
-    }
-}
-
-fn main(rt: HostRuntime) -> ExitCode {
-    for (command, file) in CALLS {
-        let _ = println!(rt; "{command} {file}");
-        if let Err(fault) = run(&rt, command, file) {
-            let _ = println!(rt; "{fault}");
-            return ExitCode::FAILURE;
-        }
-    }
-    ExitCode::SUCCESS
+fn main(rt: HostRuntime) -> Result<()> {
+    println!(rt; "bank")?;
+    call_bank::show(&rt)?;
+    println!(rt; "audit")?;
+    call_audit::show(&rt)?;
+    println!(rt; "visits")?;
+    call_visits::show(&rt)?;
+    println!(rt; "transfers")?;
+    transfers::show(&rt)?;
+    files::show(&rt)
 }

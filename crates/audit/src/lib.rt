@@ -1,4 +1,9 @@
-//! What is asked of a history.
+//! An auditor of recorded histories.
+//!
+//! An example of a caller of `history_check`. Proved: it says whether a history is legal, or that
+//! the history names a caller that the checker does not know.
+#![tactic(auto)]
+
 ghost use Rattle.std.specs.Prelude.{◌<◌, ◌↔◌, IsTrue, IsSome, IfOk, IfSome};
 ghost use Rattle.std.specs.List.{All};
 ghost use Rattle.txn_trace.specs.declared.holder.Holder.TheVariants.{Now};

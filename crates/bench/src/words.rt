@@ -1,23 +1,18 @@
 //! Times a take and a give of free stripes by their atomic words.
 //!
 //! Each thread takes a stripe and gives it back, over and over. Where the number of threads is a
-//! power of two, no two of them take the same stripe. One line on standard error says how long a
-//! take and a give took together, and how many takes were granted. The arguments are how many
-//! threads there are, up to 64, and how many takes each has; without any there are two threads,
-//! with few. Nothing is written on standard output.
-#![tactic(auto)]
-
+//! power of two, no two of them take the same stripe.
 ghost use Rattle.std.specs.Prelude.{◌≡◌, ◌<◌, ◌≤◌, All};
 ghost use Rattle.key_words.specs.Seats.{IsOf, stripes_of};
-ghost use Rattle.word_times.specs.Takers.{IsIdle};
+ghost use Rattle.bench.specs.Takers.{IsIdle};
 
-use anyhow::{Context, Result, anyhow, ensure};
+use anyhow::{Result, anyhow, ensure};
 use key_words::{KeySeat, KeyWords, Rights, StripeRight, Tried};
 use std::alloc::{AllocError, Global};
 use std::sync::{Arc, Wait};
+use std::thread;
 use std::thread::Threads;
-use std::time::Instant;
-use std::{env, thread};
+use std::time::{Clock, Instant};
 
 /// How many stripes there are.
 const STRIPES: u64 = 4096;
@@ -25,9 +20,6 @@ const STRIPES: u64 = 4096;
 /// How far a thread's next stripe is from its last, for each thread that there is: far enough that
 /// the two do not lie side by side.
 const STRIDE: u64 = 1021;
-
-/// How many threads there are, and how many takes each has, if no argument says how many.
-const FEW: (u64, u64) = (2, 10_000);
 
 /// A thread's seat at the words. No two of them, side by side in a list, share a line of cache.
 #[derive(Drop)]
@@ -106,21 +98,18 @@ fn run_all<R: Threads + Wait + Sync>(rt: &R, takers: &mut [Taker], takes: u64) {
     });
 }
 
-fn main(rt: HostRuntime) -> Result<()> {
-    let mut words = env::args(&rt)?.skip(1);
-    let threads = match words.next() {
-        Some(text) => text.parse::<u64>().context("the number of threads")?,
-        None => FEW.0,
-    };
-    let takes = match words.next() {
-        Some(text) => text.parse::<u64>().context("the number of takes")?,
-        None => FEW.1,
-    };
+/// Writes one line on standard error: how long a take and a give took together, with so many threads,
+/// up to 64, of so many takes each, and how many takes were granted.
+pub(crate) fn time_words<R: Threads + Wait + Sync + AllocGlobal + Clock + Eprint>(
+    rt: &R,
+    threads: u64,
+    takes: u64,
+) -> Result<()> {
     ensure!(1 <= threads && threads <= 64, "1 to 64 threads");
     let mut takers = takers_of(rt.alloc(), threads as usize)?;
-    let start = Instant::now(&rt)?;
-    run_all(&rt, takers.as_mut_slice(), takes);
-    let nanos = start.elapsed(&rt)?.as_nanos();
+    let start = Instant::now(rt)?;
+    run_all(rt, takers.as_mut_slice(), takes);
+    let nanos = start.elapsed(rt)?.as_nanos();
     let mut granted = 0u64;
     for taker in &takers {
         granted = granted.wrapping_add(taker.granted);

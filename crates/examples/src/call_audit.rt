@@ -1,8 +1,4 @@
-//! An auditor of recorded histories: an example of a program over `history_check`.
-#![tactic(auto)]
-
-mod audit;
-
+//! Calls `audit`: a history that is legal, and one that is not.
 use audit::is_legal;
 use std::io;
 use std::io::Print;
@@ -11,7 +7,7 @@ use txn_trace::{Entry, Op};
 /// The number of stripes of the map whose histories are judged.
 const STRIPES: u64 = 8;
 
-fn say<R: AllocGlobal + Print>(rt: &R, what: &str, history: &[Entry]) -> io::Result<()> {
+fn say<R: Print + AllocGlobal>(rt: &R, what: &str, history: &[Entry]) -> io::Result<()> {
     match is_legal(rt.alloc(), history, STRIPES)? {
         Some(true) => println!(rt; "{what}: legal"),
         Some(false) => println!(rt; "{what}: not legal"),
@@ -19,7 +15,9 @@ fn say<R: AllocGlobal + Print>(rt: &R, what: &str, history: &[Entry]) -> io::Res
     }
 }
 
-fn main(rt: HostRuntime) -> io::Result<()> {
+/// Prints of a history in which a caller gets what another put, and of the same with another reply,
+/// whether it is legal.
+pub(crate) fn show<R: Print + AllocGlobal>(rt: &R) -> io::Result<()> {
     let mut history = [
         Entry::Began(0, 1),
         Entry::Asked(0, Op::Put(1, 10)),
@@ -29,7 +27,7 @@ fn main(rt: HostRuntime) -> io::Result<()> {
         Entry::Asked(1, Op::Get(1)),
         Entry::Did(1, Some(10)),
     ];
-    say(&rt, "it got what was put", &history)?;
+    say(rt, "it got what was put", &history)?;
     history[6] = Entry::Did(1, Some(99));
-    say(&rt, "it got something else", &history)
+    say(rt, "it got something else", &history)
 }

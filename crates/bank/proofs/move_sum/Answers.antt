@@ -8,7 +8,7 @@ use Rattle.txn_trace.specs.Now.{now}
 use Rattle.bank.specs.Transfers.{balance, IsOpen, CanAbort}
 use Rattle.bank.proofs.Steps.{gets, puts, stops, commits, not_committed}
 use Rattle.bank.proofs.Sums.{transferred}
-use Rattle.bank.proofs.transfer.move_sum.Goals as goal
+use Rattle.bank.proofs.move_sum.Goals as goal
 
 pub returns-in_default : goal.returns-in_default
 returns-in_default c = record {

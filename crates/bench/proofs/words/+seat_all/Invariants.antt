@@ -1,5 +1,5 @@
 use Rattle.std.specs.Prelude.{length}
-use Rattle.word_times.proofs.+seat_all.Given as goal
+use Rattle.bench.proofs.words.+seat_all.Given as goal
 
 abbrev pub decreases-seat_all : goal.decreases-seat_all
 decreases-seat_all l = length l.seats.now.items

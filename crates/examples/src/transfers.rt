@@ -3,8 +3,6 @@
 //! Each transfer is one transaction: it reads two accounts and writes both. Where another thread
 //! has a key's stripe, the transaction is aborted and begun anew, a few times. Which transfers get
 //! through depends on the threads; that none gets through by half does not.
-#![tactic(auto)]
-
 ghost use Rattle.std.specs.Prelude.{◌≡◌};
 
 use boost_core::Core;
@@ -181,21 +179,17 @@ fn total(alloc: Global, core: &Core) -> Result<u64, AllocError> {
 }
 
 /// Plays under a ledger of its own, and prints the sum.
-fn show<R: Threads + Wait + Sync + Print>(rt: &R, alloc: Global) -> io::Result<()> {
+pub(crate) fn show<R: Threads + Wait + Sync + Print + AllocGlobal>(rt: &R) -> io::Result<()> {
     let Ok(limits) = Limits::new(THREADS, 8, 8) else {
         return println!(rt; "limits");
     };
     let blank = Blank::new(u64::from(limits.callers()));
-    match play_all::<Brand, R>(rt, alloc, blank, limits) {
+    match play_all::<Brand, R>(rt, rt.alloc(), blank, limits) {
         Ok(core) => println!(rt;
             "opening {}, now {}",
             ACCOUNTS * OPENING,
-            total(alloc, &core)?
+            total(rt.alloc(), &core)?
         ),
         Err(refusal) => println!(rt; "refused {}", refusal.number()),
     }
-}
-
-fn main(rt: HostRuntime) -> io::Result<()> {
-    show(&rt, rt.alloc())
 }

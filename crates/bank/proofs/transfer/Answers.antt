@@ -3,7 +3,7 @@ use Rattle.txn_trace.specs.Map.{Map}
 use Rattle.txn_trace.specs.Now.{now}
 use Rattle.bank.specs.Transfers.{IsTransfer}
 use Rattle.bank.proofs.Steps.{begins, not_begun, aborts}
-use Rattle.bank.proofs.transfer.transfer.Goals as goal
+use Rattle.bank.proofs.transfer.Goals as goal
 
 pub returns-in_default-clause-kept : goal.returns-in_default-clause-kept
 returns-in_default-clause-kept c = λ is. not_begun c.args.core.now c.step.new.self c.args.caller c.step.result c.in_default.not-Began c.step.ensures.moves

@@ -1,16 +1,12 @@
-//! A bank in a transactional map: a key is an account, its value what the account has.
-//!
-//! An example of a program over `boost_core`: one transfer that is done, and one that is not.
-#![tactic(auto)]
-
-mod transfer;
-
+//! Calls `bank`: one transfer that is done, and one that is not.
 use anyhow::{Result, anyhow};
+use bank::transfer;
 use boost_core::Core;
-use transfer::transfer;
+use std::io::Print;
 use txn_trace::{Limits, Step};
 
-fn main(rt: HostRuntime) -> Result<()> {
+/// Opens two accounts, moves a sum and then one that is too large, and prints what came of it.
+pub(crate) fn show<R: Print + AllocGlobal>(rt: &R) -> Result<()> {
     let limits = Limits::new(2, 8, 8).map_err(|refusal| anyhow!("refused {refusal}"))?;
     let mut core = Core::new(rt.alloc(), limits).map_err(|refusal| anyhow!("refused {refusal}"))?;
     core.step(Step::Begin(0));

@@ -1,4 +1,9 @@
-//! The transfer.
+//! A bank in a transactional map: a key is an account, its value what the account has.
+//!
+//! An example of a caller of `boost_core`. The map is seen as the history gives it. Proved: a
+//! transfer moves a sum between two accounts and touches no other, or leaves the map as it was.
+#![tactic(auto)]
+
 ghost use Rattle.std.specs.Prelude.{◌≡◌, ◌≢◌, true, false};
 ghost use Rattle.txn_trace.specs.Map.{Map};
 ghost use Rattle.txn_trace.specs.Now.{now};

@@ -1,6 +1,6 @@
 use Rattle.std.specs.Prelude.{◌≡◌, ◌<◌}
 use Rattle.key_words.specs.Seats.{IsOf, stripes_of}
-use Rattle.word_times.proofs.Taker.run.Given as goal
+use Rattle.bench.proofs.words.Taker.run.Given as goal
 
 abbrev pub invariant-loop : goal.invariant-loop
 invariant-loop l =

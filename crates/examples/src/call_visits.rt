@@ -1,10 +1,5 @@
-//! Visitors of a map that threads share: an example of a program over `locked_map`.
-//!
-//! Four visitors put a value of their own at the same key, all at once, and each gets what it put.
-#![tactic(auto)]
-
-mod visit;
-
+//! Calls `visits`: four visitors put a value of their own at the same key, all at once, and each
+//! gets what it put.
 use std::io;
 use std::io::Print;
 use std::marker::Brand;
@@ -12,7 +7,7 @@ use std::sync::Wait;
 use std::sync::ledger::Blank;
 use std::thread::Threads;
 use txn_trace::Limits;
-use visit::{Visit, visit_all};
+use visits::{Visit, visit_all};
 
 /// What the visitors put.
 const VISITS: [Visit; 4] = [
@@ -22,7 +17,9 @@ const VISITS: [Visit; 4] = [
     Visit { key: 7, value: 73 },
 ];
 
-fn show<R: Threads + Wait + Sync + Print + AllocGlobal>(rt: &R) -> io::Result<()> {
+/// Prints what each visitor put and got, in the order of the visits, and then how many keys there
+/// are.
+pub(crate) fn show<R: Threads + Wait + Sync + Print + AllocGlobal>(rt: &R) -> io::Result<()> {
     let Ok(limits) = Limits::new(4, 8, 8) else {
         return println!(rt; "limits");
     };
@@ -40,8 +37,4 @@ fn show<R: Threads + Wait + Sync + Print + AllocGlobal>(rt: &R) -> io::Result<()
         }
         Err(refusal) => println!(rt; "refused {}", refusal.number()),
     }
-}
-
-fn main(rt: HostRuntime) -> io::Result<()> {
-    show(&rt)
 }
