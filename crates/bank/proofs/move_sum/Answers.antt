@@ -1,11 +1,11 @@
-use Rattle.std.proofs.Common.{◌≡◌, ℕ, ◌+◌, false, true, refl, sym, ap, ◌∙◌, arith}
+use Rattle.std.proofs.Common.{◌≡◌, ap, ◌∙◌, arith}
 use Rattle.std.proofs.lemmas.Bool.{false≢true}
 use Rattle.std.specs.Prelude.{unwrap_or}
 use mathlib.Core.Logic.{inl}
 use Rattle.txn_trace.specs.declared.op.Op.TheVariants.{Put, Get}
-use Rattle.txn_trace.specs.Map.{Map, get, insert}
+use Rattle.txn_trace.specs.Map.{get, insert}
 use Rattle.txn_trace.specs.Now.{now}
-use Rattle.bank.specs.Transfers.{balance, IsOpen, CanAbort}
+use Rattle.bank.specs.Transfers.{balance}
 use Rattle.bank.proofs.Steps.{gets, puts, stops, commits, not_committed}
 use Rattle.bank.proofs.Sums.{transferred}
 use Rattle.bank.proofs.move_sum.Goals as goal

@@ -1,5 +1,4 @@
-use Rattle.std.proofs.Common.{◌≡◌, sym, subst, ◌∙◌}
-use Rattle.txn_trace.specs.Map.{Map}
+use Rattle.std.proofs.Common.{subst}
 use Rattle.txn_trace.specs.Now.{now}
 use Rattle.bank.specs.Transfers.{IsTransfer}
 use Rattle.bank.proofs.Steps.{begins, not_begun, aborts}

@@ -1,4 +1,4 @@
-use Rattle.std.proofs.Common.{◌∙◌, ap}
+use Rattle.std.proofs.Common.{ap}
 use Rattle.node_list.specs.Nodes.{SpareAt}
 use Rattle.bench.proofs.at_split.put.Goals as goal
 
