@@ -98,8 +98,8 @@ fn run_all<R: Threads + Wait + Sync>(rt: &R, takers: &mut [Taker], takes: u64) {
     });
 }
 
-/// Writes one line on standard error: how long a take and a give took together, with so many threads,
-/// up to 64, of so many takes each, and how many takes were granted.
+/// Writes one line on standard error: how long a take and a give took together, with so many
+/// threads, up to 64, of so many takes each, and how many takes were granted.
 pub(crate) fn time_words<R: Threads + Wait + Sync + AllocGlobal + Clock + Eprint>(
     rt: &R,
     threads: u64,
