@@ -24,6 +24,15 @@ build_proved() {
   cp "crates/$1/out/$1" "$work/proved"
 }
 
+# Takes the program, which is then `proved` in $work: the file that PROGRAM names, or else that of this repository, which is
+# proved and built where it is not.
+take_program() {
+  if [ -z "${PROGRAM:-}" ]; then
+    quietly ./boostmap check examples/checked.json
+  fi
+  cp "${PROGRAM:-crates/boostmap/out/boostmap}" "$work/proved"
+}
+
 # Builds a program in plain Rust, as rustc lays memory out, and as the proved program has it.
 build_twin() {
   rustc -O -o "$work/plain" "docs/speed/$1.rs"

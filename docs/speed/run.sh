@@ -8,8 +8,7 @@ source "$(dirname "${BASH_SOURCE[0]}")/common.sh"
 rounds=${1:-9}
 scripts=10000
 
-quietly ./boostmap check examples/checked.json
-cp crates/boostmap/out/boostmap "$work/proved"
+take_program
 build_whole
 
 # A script file for so many workers and keys.

@@ -10,14 +10,13 @@
 source "$(dirname "${BASH_SOURCE[0]}")/common.sh"
 rounds=${1:-5}
 
-quietly ./boostmap check examples/checked.json
-cp crates/boostmap/out/boostmap "$work/proved"
+take_program
 build_whole
 
 # Writes the files of a size: 0 is the full one.
 write_files() {
   local most=${1/#0/1000000} calls=${1/#0/500000}
-  "$work/core_steps" steps="$most" sweeps=50 stripes=256 keys=60000 >"$work/replay.json" 2>/dev/null
+  "$work/core_steps" steps="$most" stripes=256 keys=60000 >"$work/replay.json" 2>/dev/null
   "$work/core_steps" steps=1000000 stripes=256 keys=60000 >"$work/long.json" 2>/dev/null
   "$work/plain" history "$work/long.json" "$most" >"$work/check.json"
   docs/speed/scripts.sh every "$calls" 8 >"$work/mix.json"
