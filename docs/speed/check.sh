@@ -6,12 +6,11 @@ source "$(dirname "${BASH_SOURCE[0]}")/common.sh"
 rounds=${1:-5}
 history=$work/history.json
 
-quietly ./boostmap check examples/checked.json
-cp crates/boostmap/out/boostmap "$work/boostmap"
+take_program
 
 judge() {
   for _ in $(seq "$1"); do
-    "$work/boostmap" check "$history" >"$work/verdict"
+    "$work/proved" check "$history" >"$work/verdict"
   done
 }
 
@@ -22,7 +21,7 @@ for kind in saved undone deep savepoints short callers; do
     docs/speed/history.sh $kind $length >"$history"
     runs=$((rounds + rounds * 20000 / length))
     seconds=$({ time judge $runs; } 2>&1)
-    peak=$(/usr/bin/time -f '%M' "$work/boostmap" check "$history" 2>&1 >"$work/verdict")
+    peak=$(/usr/bin/time -f '%M' "$work/proved" check "$history" 2>&1 >"$work/verdict")
     entries=$(grep -o '\["' "$history" | wc -l)
     echo "$kind $entries $(wc -c <"$history") $runs $peak $seconds" | awk '{
       ms = 1000 * ($6 + $7) / $4

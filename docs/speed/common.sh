@@ -24,6 +24,15 @@ build_proved() {
   cp "crates/$1/out/$1" "$work/proved"
 }
 
+# Takes the program, which is then `proved` in $work: the file that PROGRAM names, or else that of this repository, which is
+# proved and built where it is not.
+take_program() {
+  if [ -z "${PROGRAM:-}" ]; then
+    quietly ./boostmap check examples/checked.json
+  fi
+  cp "${PROGRAM:-crates/boostmap/out/boostmap}" "$work/proved"
+}
+
 # Builds a program in plain Rust, as rustc lays memory out, and as the proved program has it.
 build_twin() {
   rustc -O -o "$work/plain" "docs/speed/$1.rs"
@@ -49,4 +58,36 @@ write_step_files() {
     "$work/core_steps" $words >"$work/$name.json" 2>/dev/null
     names+=("$name")
   done
+}
+
+# Writes a step file, a history and a script file of about so many pieces, as replay.json, check.json and mix.json in $work; 0 is
+# the full size. They are of the version that VERSION names, 1 or 2; without it of version 1. It takes `core_steps` and `plain`.
+write_whole_files() {
+  local most=${1/#0/1000000} calls=${1/#0/500000} version=${VERSION:-1}
+  local words=(version="$version" stripes=256 keys=60000)
+  "$work/core_steps" steps="$most" "${words[@]}" >"$work/replay.json" 2>/dev/null
+  "$work/core_steps" steps=1000000 "${words[@]}" >"$work/long.json" 2>/dev/null
+  "$work/plain" history "$work/long.json" "$most" >"$work/check.json"
+  docs/speed/scripts.sh every "$calls" 8 "$version" >"$work/mix.json"
+}
+
+# Writes a script file for so many workers and keys: 10,000 scripts, each of four operations and a help; a tenth aborts.
+write_run_file() {
+  awk -v workers="$1" -v keys="$2" -v scripts=10000 '
+    function word() { seed = (seed * 16807) % 2147483647; return seed }
+    BEGIN {
+      seed = 7
+      printf "{\"version\":1,\"workers\":%d,\"stripes\":4096,\"buckets\":65536,\"tries\":1000,\"scripts\":[", workers
+      for (script = 0; script < scripts; script++) {
+        printf script ? ",[" : "["
+        for (i = 0; i < 4; i++) {
+          key = word() % keys
+          action = word() % 4
+          if (action < 2) printf "[\"put\",%d,%d],", key, i
+          else printf "[\"%s\",%d],", action == 2 ? "take" : "get", key
+        }
+        printf "[\"help\",%d]%s]", key, script % 10 == 9 ? ",[\"abort\"]" : ""
+      }
+      print "]}"
+    }' >"$work/run.json"
 }

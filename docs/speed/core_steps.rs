@@ -8,6 +8,8 @@
 //! - steps: how many there are, at most 1,000,000; fewer where the file would have more than 16,777,216 bytes
 //! - callers, stripes, buckets: the limits
 //! - keys: how many keys there are; with wide=1 they have up to 19 digits
+//! - version: of the file; in 2 each second key is 2^63 more than the one before it, and a quarter of the puts are put_ifs,
+//!   which expect what was seen last of their key, or in one of eight another value
 //! - sweeps: a sweep comes by chance once in so many steps
 //! - turn: after a step another caller may take the next one, by chance once in so many steps; 0: only after a transaction
 //! - seed: where chance begins
@@ -17,14 +19,15 @@ mod list;
 mod machine;
 mod split;
 mod step;
+mod tally;
 
 use machine::Core;
 use split::key_at;
-use std::collections::VecDeque;
+use std::collections::{HashMap, VecDeque};
 use std::env;
 use std::error::Error;
 use std::fmt::Write as _;
-use step::{Answer, Limits, Op, Step, around_steps};
+use step::{Answer, Limits, Op, Reply, Step, around_steps};
 
 const MAX_BYTES: usize = 16_777_216;
 
@@ -70,10 +73,11 @@ impl Wishes {
                 callers: 8,
                 stripes: 4096,
                 buckets: 65_536,
+                half_keys: true,
             },
             keys: 100_000,
             wide: false,
-            sweeps: 1024,
+            sweeps: 50,
             turn: 8,
             seed: 1,
         };
@@ -87,6 +91,7 @@ impl Wishes {
                 "buckets" => wishes.limits.buckets = number as u32,
                 "keys" => wishes.keys = number,
                 "wide" => wishes.wide = number != 0,
+                "version" => wishes.limits.half_keys = number == 1,
                 "sweeps" => wishes.sweeps = number,
                 "turn" => wishes.turn = number,
                 "seed" => wishes.seed = number,
@@ -148,12 +153,7 @@ impl Caller {
             (Answer::Again, Next::UndoAt(aim)) => Next::Undo(aim),
             (Answer::Again, _) => Next::Seek,
             (Answer::Done(reply), _) => {
-                let is_change = match self.op {
-                    Op::Put(..) => true,
-                    Op::Take(_) => reply.is_some(),
-                    Op::Get(_) => false,
-                };
-                self.changes += u64::from(is_change);
+                self.changes += u64::from(self.op.changes(reply));
                 Next::Choose
             }
             (Answer::Saved(_), _) => {
@@ -189,6 +189,8 @@ struct Writer {
     // The buckets that are not initialised, parents first, and what a helper does next for the first of them.
     buckets: VecDeque<u32>,
     help: fn(u64, u64) -> Step,
+    // What was seen last of each key, in version 2.
+    seen: HashMap<u64, Reply>,
     text: String,
     steps: usize,
 }
@@ -203,6 +205,7 @@ impl Writer {
             at: 0,
             buckets: VecDeque::from([1]),
             help: Step::InitSeek,
+            seen: HashMap::new(),
             text,
             steps: 0,
             wishes,
@@ -222,18 +225,49 @@ impl Writer {
         Some(self.core.step(step))
     }
 
-    fn op(&mut self) -> Op {
+    fn key(&mut self) -> u64 {
         let position = self.chance.below(self.wishes.keys);
-        let key = if self.wishes.wide {
+        let (position, high) = if self.wishes.limits.half_keys {
+            (position, 0)
+        } else {
+            (position / 2, (position % 2) << 63)
+        };
+        let low = if self.wishes.wide {
             key_at(position)
         } else {
             position
         };
+        low | high
+    }
+
+    fn op(&mut self) -> Op {
+        let key = self.key();
         match self.chance.below(8) {
+            0 if !self.wishes.limits.half_keys => self.put_if(key),
             0..4 => Op::Put(key, self.chance.below(100)),
             4..6 => Op::Take(key),
             _ => Op::Get(key),
         }
+    }
+
+    fn put_if(&mut self, key: u64) -> Op {
+        let expected = if self.chance.once_in(8) {
+            Some(self.chance.below(100))
+        } else {
+            self.seen.get(&key).copied().flatten()
+        };
+        Op::PutIf(key, expected, self.chance.below(100))
+    }
+
+    /// Notes what an operation leaves at its key.
+    fn note(&mut self, op: Op, reply: Reply) {
+        let left = match op {
+            Op::Put(_, value) => Some(value),
+            Op::PutIf(_, _, value) if op.changes(reply) => Some(value),
+            Op::Take(_) => None,
+            Op::PutIf(..) | Op::Get(_) => reply,
+        };
+        self.seen.insert(op.key(), left);
     }
 
     /// What the caller does whose turn it is, if its transaction is open and at rest.
@@ -272,6 +306,9 @@ impl Writer {
             Next::Act | Next::Undo(_) | Next::UndoAt(_) => Step::Act(number),
         };
         let answer = self.take(step)?;
+        if let (Answer::Done(reply), false) = (answer, self.wishes.limits.half_keys) {
+            self.note(self.callers[self.at].op, reply);
+        }
         self.callers[self.at].see(step, answer, &mut self.chance);
         let is_over = matches!(answer, Answer::Committed(_) | Answer::Aborted);
         let turn = self.wishes.turn;

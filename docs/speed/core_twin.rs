@@ -9,6 +9,7 @@ mod machine;
 mod split;
 mod step;
 mod stopwatch;
+mod tally;
 
 use machine::Core;
 use std::env;

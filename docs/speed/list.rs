@@ -2,6 +2,8 @@
 //!
 //! With --cfg alike the fields and tags of a slab's entry lie in memory as the proved program has them, in 56 bytes;
 //! without it rustc packs them into 40, which is as small as they get.
+use crate::split::SortKey;
+use crate::tally::Tally;
 #[cfg(not(alike))]
 use std::num::NonZeroU32;
 
@@ -77,11 +79,10 @@ impl<T> Slab<T> {
 
 // ---- the list of nodes ----
 
-/// A dummy, or a regular node with its key.
-#[derive(Clone, Copy)]
+#[derive(Clone, Copy, PartialEq, Eq)]
 pub enum Kind {
     Dummy,
-    Regular(u64),
+    Regular,
 }
 
 /// The place behind a node, if there is one: one more than it, or as the proved program has it.
@@ -122,25 +123,30 @@ impl Next {
 #[cfg_attr(alike, repr(C))]
 #[derive(Clone, Copy)]
 pub struct Node {
-    pub split: u64,
-    #[allow(dead_code)]
-    pub key: u64,
+    pub at: SortKey,
     pub value: u64,
     pub stamp: u64,
     next: Next,
-    pub is_dummy: bool,
+    pub kind: Kind,
     pub marked: bool,
     is_linked: bool,
 }
 
 const _: () = assert!(size_of::<Entry<Node>>() == if cfg!(alike) { 56 } else { 40 });
 
-pub struct Spare {
-    pub place: usize,
+/// A place that is kept for a node which is not filled yet.
+pub struct Unfilled {
+    place: usize,
     stamp: u64,
-    split: u64,
-    kind: Kind,
+}
+
+/// A node that is not linked yet.
+pub struct Spare {
+    at: SortKey,
     value: u64,
+    stamp: u64,
+    place: usize,
+    kind: Kind,
 }
 
 pub struct NodeList {
@@ -149,31 +155,29 @@ pub struct NodeList {
     turn: u64,
     last: u64,
     pub count: u64,
-    marked: u64,
-    // The split keys of the marked nodes, for a sweep that does not walk from the head.
-    #[cfg(feature = "marks")]
-    marks: std::collections::BTreeSet<u64>,
+    marks: Tally,
+}
+
+impl Unfilled {
+    pub fn fill(self, at: SortKey, kind: Kind, value: u64) -> Spare {
+        Spare {
+            at,
+            value,
+            stamp: self.stamp,
+            place: self.place,
+            kind,
+        }
+    }
 }
 
 impl Spare {
-    pub fn fill(&mut self, split: u64, kind: Kind, value: u64) {
-        self.split = split;
-        self.kind = kind;
-        self.value = value;
-    }
-
     fn into_node(self, next: Next) -> Node {
-        let (key, is_dummy) = match self.kind {
-            Kind::Dummy => (0, true),
-            Kind::Regular(key) => (key, false),
-        };
         Node {
-            split: self.split,
-            key,
+            at: self.at,
             value: self.value,
             stamp: self.stamp,
             next,
-            is_dummy,
+            kind: self.kind,
             marked: false,
             is_linked: true,
         }
@@ -181,14 +185,13 @@ impl Spare {
 }
 
 impl Node {
-    fn dummy(split: u64, stamp: u64) -> Self {
+    fn dummy(at: SortKey, stamp: u64) -> Self {
         Node {
-            split,
-            key: 0,
+            at,
             value: 0,
             stamp,
             next: Next::NONE,
-            is_dummy: true,
+            kind: Kind::Dummy,
             marked: false,
             is_linked: true,
         }
@@ -203,38 +206,30 @@ impl Node {
 impl NodeList {
     pub fn new(first_stamp: u64) -> Self {
         let mut slab = Slab::new();
-        let head = slab.insert(Node::dummy(0, first_stamp));
+        let head = slab.insert(Node::dummy(SortKey::dummy(0), first_stamp));
         NodeList {
             slab,
             head,
             turn: 0,
             last: first_stamp,
             count: 0,
-            marked: 0,
-            #[cfg(feature = "marks")]
-            marks: std::collections::BTreeSet::new(),
+            marks: Tally::new(),
         }
     }
 
-    pub fn spare(&mut self) -> Option<Spare> {
+    pub fn spare(&mut self) -> Option<Unfilled> {
         if self.last >= u64::MAX - 1 {
             return None;
         }
         let stamp = self.last + 1;
-        let mut out = Node::dummy(0, stamp);
+        let mut out = Node::dummy(SortKey::dummy(0), stamp);
         out.is_linked = false;
         let place = self.slab.insert(out);
         self.last = stamp;
-        Some(Spare {
-            place,
-            stamp,
-            split: 0,
-            kind: Kind::Dummy,
-            value: 0,
-        })
+        Some(Unfilled { place, stamp })
     }
 
-    pub fn give_back(&mut self, spare: Spare) {
+    pub fn give_back(&mut self, spare: Unfilled) {
         let _ = self.slab.try_remove(spare.place);
     }
 
@@ -264,33 +259,26 @@ impl NodeList {
         if let Some(slot) = self.slab.get_mut(place) {
             *slot = node;
         }
-        self.count += u64::from(!node.is_dummy);
+        self.count += u64::from(node.kind == Kind::Regular);
         self.turn = self.turn.saturating_add(1);
     }
 
     fn unlink_after(&mut self, pred: usize) {
         if let Some(place) = self.node(pred).next() {
-            #[cfg(feature = "marks")]
-            {
-                let split = self.node(place).split;
-                self.marks.remove(&split);
-            }
-            self.node_mut(pred).next = self.node(place).next;
+            let Node { at, next, .. } = *self.node(place);
+            self.node_mut(pred).next = next;
             let _ = self.slab.try_remove(place);
-            self.marked -= 1;
+            self.marks.take_away(at.split);
             self.turn = self.turn.saturating_add(1);
         }
     }
 
     fn set_mark(&mut self, place: usize) {
-        #[cfg(feature = "marks")]
-        {
-            let split = self.node(place).split;
-            self.marks.insert(split);
-        }
-        self.node_mut(place).marked = true;
+        let node = self.node_mut(place);
+        node.marked = true;
+        let split = node.at.split;
         self.count -= 1;
-        self.marked += 1;
+        self.marks.add(split);
         self.turn = self.turn.saturating_add(1);
     }
 
@@ -312,7 +300,7 @@ pub struct Noted {
 pub struct Cursor {
     pred: Noted,
     cur: Option<Noted>,
-    split: u64,
+    at: SortKey,
     #[allow(dead_code)]
     turn: u64,
 }
@@ -338,13 +326,18 @@ fn is_unmarked_with(node: &Node, stamp: u64) -> bool {
 }
 
 impl Cursor {
-    fn behind(list: &NodeList, place: usize, split: u64) -> Cursor {
+    fn behind(list: &NodeList, place: usize, at: SortKey) -> Cursor {
         Cursor {
             pred: Noted::of(list, place),
             cur: Noted::behind(list, place),
-            split,
+            at,
             turn: list.turn,
         }
+    }
+
+    /// The place behind which the cursor stands.
+    pub fn pred(&self) -> usize {
+        self.pred.place
     }
 
     fn is_next_fitting(&self, list: &NodeList) -> bool {
@@ -365,24 +358,24 @@ impl Cursor {
     }
 }
 
-pub fn seek(list: &mut NodeList, from: usize, split: u64) -> Cursor {
+pub fn seek(list: &mut NodeList, from: usize, at: SortKey) -> Cursor {
     let mut place = from;
     while let Some(next) = list.node(place).next() {
         let node = list.node(next);
         if node.marked {
             list.unlink_after(place);
-        } else if node.split < split {
+        } else if node.at.is_before(at) {
             place = next;
         } else {
-            return Cursor::behind(list, place, split);
+            return Cursor::behind(list, place, at);
         }
     }
-    Cursor::behind(list, place, split)
+    Cursor::behind(list, place, at)
 }
 
 fn node_there(list: &NodeList, cursor: &Cursor) -> Option<usize> {
     let next = list.node(cursor.pred.place).next()?;
-    (list.node(next).split == cursor.split).then_some(next)
+    (list.node(next).at == cursor.at).then_some(next)
 }
 
 pub fn look(list: &NodeList, cursor: &Cursor) -> Result<Option<usize>, Again> {
@@ -393,11 +386,31 @@ pub fn look(list: &NodeList, cursor: &Cursor) -> Result<Option<usize>, Again> {
     }
 }
 
+// What is done by the answer of `look`.
+
+pub fn link_at(list: &mut NodeList, pred: usize, spare: Spare) -> usize {
+    let place = spare.place;
+    list.link_after(pred, spare);
+    place
+}
+
+pub fn mark_at(list: &mut NodeList, place: usize) -> u64 {
+    let value = list.node(place).value;
+    list.set_mark(place);
+    value
+}
+
+pub fn swap_at(list: &mut NodeList, place: usize, value: u64) -> u64 {
+    let was = list.node(place).value;
+    list.write(place, value);
+    was
+}
+
+// The test and the step in one call.
+
 pub fn link(list: &mut NodeList, cursor: Cursor, spare: Spare) -> Result<usize, (Again, Spare)> {
     if cursor.is_fitting(list) {
-        let place = spare.place;
-        list.link_after(cursor.pred.place, spare);
-        Ok(place)
+        Ok(link_at(list, cursor.pred(), spare))
     } else {
         Err((Again, spare))
     }
@@ -405,43 +418,33 @@ pub fn link(list: &mut NodeList, cursor: Cursor, spare: Spare) -> Result<usize, 
 
 pub fn mark(list: &mut NodeList, cursor: Cursor) -> Result<u64, Again> {
     match look(list, &cursor)? {
-        Some(place) => {
-            let value = list.node(place).value;
-            list.set_mark(place);
-            Ok(value)
-        }
+        Some(place) => Ok(mark_at(list, place)),
         None => unreachable!(),
     }
 }
 
 pub fn swap(list: &mut NodeList, cursor: Cursor, value: u64) -> Result<u64, Again> {
     match look(list, &cursor)? {
-        Some(place) => {
-            let was = list.node(place).value;
-            list.write(place, value);
-            Ok(was)
-        }
+        Some(place) => Ok(swap_at(list, place, value)),
         None => unreachable!(),
     }
 }
 
+/// The first split key of the first region in which a node is marked.
+pub fn marks_begin(list: &NodeList) -> Option<u64> {
+    list.marks.first()
+}
+
 /// Unlinks the first marked node, if there is one.
 pub fn sweep(list: &mut NodeList) -> bool {
-    if list.marked == 0 {
+    sweep_from(list, list.head)
+}
+
+/// Unlinks the first marked node, if there is one. None is marked up to this node.
+pub fn sweep_from(list: &mut NodeList, from: usize) -> bool {
+    if list.marks.total() == 0 {
         return false;
     }
-    sweep_from(list, list.head);
-    true
-}
-
-/// The split key of the first marked node.
-#[cfg(feature = "marks")]
-pub fn first_mark(list: &NodeList) -> Option<u64> {
-    list.marks.first().copied()
-}
-
-/// Unlinks the first marked node after this one.
-pub fn sweep_from(list: &mut NodeList, from: usize) {
     let mut place = from;
     while let Some(next) = list.node(place).next() {
         if list.node(next).marked {
@@ -450,4 +453,5 @@ pub fn sweep_from(list: &mut NodeList, from: usize) {
         place = next;
     }
     list.unlink_after(place);
+    true
 }

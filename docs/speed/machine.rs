@@ -1,22 +1,20 @@
 //! The core in plain Rust, as the proved one is built: the table over the list of nodes, the locks of the stripes, and for
 //! each caller its stage, its cursor and its undo log.
-use crate::list::{Again, Cursor, Kind, NodeList, Spare, link, look, mark, seek, swap};
-#[cfg(not(feature = "marks"))]
-use crate::list::sweep;
-#[cfg(feature = "marks")]
-use crate::list::{first_mark, sweep_from};
-use crate::split::{bucket_of, dummy, parent, regular};
+use crate::list::{
+    Cursor, Kind, NodeList, Unfilled, link_at, look, mark_at, marks_begin, seek, swap_at,
+    sweep_from,
+};
+use crate::split::{SortKey, bucket_at, bucket_of, parent};
 use crate::step::{Answer, Limits, Op, Refusal, Reply, Step};
 use std::mem;
-
-const KEYS_END: u64 = 1 << 63;
 
 // ---- the table ----
 
 /// An operation with what it needs.
 enum Plan {
-    Put(u64, u64, Spare),
-    Take(u64, Spare),
+    Put(u64, u64, Unfilled),
+    Take(u64, Unfilled),
+    PutIf(u64, Option<u64>, u64, Unfilled),
     Get(u64),
 }
 
@@ -24,7 +22,7 @@ enum Plan {
 enum Job {
     Unput(u64),
     Restore(u64, u64),
-    Relink(u64, u64, Spare),
+    Relink(u64, u64, Unfilled),
 }
 
 #[derive(Clone, Copy)]
@@ -43,13 +41,14 @@ struct Table {
 
 impl Plan {
     fn key(&self) -> u64 {
-        let (Plan::Put(key, _, _) | Plan::Take(key, _) | Plan::Get(key)) = self;
+        let (Plan::Put(key, ..) | Plan::Take(key, _) | Plan::PutIf(key, ..) | Plan::Get(key)) =
+            self;
         *key
     }
 
     fn owed(&self) -> usize {
         match self {
-            Plan::Put(..) | Plan::Take(..) => 2,
+            Plan::Put(..) | Plan::Take(..) | Plan::PutIf(..) => 2,
             Plan::Get(_) => 1,
         }
     }
@@ -76,17 +75,15 @@ impl Table {
     }
 
     fn prepare(&mut self, op: Op) -> Result<Plan, Refusal> {
-        if op.key() >= KEYS_END {
-            return Err(Refusal::BadKey);
-        }
         Ok(match op {
             Op::Put(key, value) => Plan::Put(key, value, self.spare()?),
             Op::Take(key) => Plan::Take(key, self.spare()?),
+            Op::PutIf(key, expected, value) => Plan::PutIf(key, expected, value, self.spare()?),
             Op::Get(key) => Plan::Get(key),
         })
     }
 
-    fn spare(&mut self) -> Result<Spare, Refusal> {
+    fn spare(&mut self) -> Result<Unfilled, Refusal> {
         self.list.spare().ok_or(Refusal::StampsUsedUp)
     }
 
@@ -106,40 +103,54 @@ impl Table {
 
     fn place(&mut self, key: u64) -> Cursor {
         let from = self.nearest(bucket_of(key, self.size));
-        seek(&mut self.list, from, regular(key))
+        seek(&mut self.list, from, SortKey::regular(key))
     }
 
-    fn find(&self, cursor: &Cursor) -> Result<Reply, Again> {
-        let there = look(&self.list, cursor)?;
-        Ok(there.map(|place| self.list.node(place).value))
+    fn link_key(&mut self, pred: usize, key: u64, value: u64, spare: Unfilled) {
+        let spare = spare.fill(SortKey::regular(key), Kind::Regular, value);
+        link_at(&mut self.list, pred, spare);
     }
 
-    fn link_key(&mut self, cursor: Cursor, key: u64, value: u64, mut spare: Spare) {
-        spare.fill(regular(key), Kind::Regular(key), value);
-        let _ = link(&mut self.list, cursor, spare);
+    /// Puts a value where the key's node is, or belongs behind `pred`, and gives what takes that
+    /// back.
+    fn put(
+        &mut self,
+        pred: usize,
+        there: Option<usize>,
+        key: u64,
+        value: u64,
+        spare: Unfilled,
+    ) -> Job {
+        match there {
+            None => {
+                self.link_key(pred, key, value, spare);
+                Job::Unput(key)
+            }
+            Some(place) => {
+                self.list.give_back(spare);
+                Job::Restore(key, swap_at(&mut self.list, place, value))
+            }
+        }
     }
 
+    /// Does an operation where the cursor stands, if it fits.
     fn act(&mut self, plan: Plan, cursor: Cursor) -> Result<(Reply, Option<Job>), Plan> {
-        let Ok(before) = self.find(&cursor) else {
+        let Ok(there) = look(&self.list, &cursor) else {
             return Err(plan);
         };
-        let job = match (plan, before) {
-            (Plan::Put(key, value, spare), None) => {
-                self.link_key(cursor, key, value, spare);
-                Some(Job::Unput(key))
+        let before = there.map(|place| self.list.node(place).value);
+        let pred = cursor.pred();
+        let job = match (plan, there) {
+            (Plan::Put(key, value, spare), _) => Some(self.put(pred, there, key, value, spare)),
+            (Plan::PutIf(key, expected, value, spare), _) if before == expected => {
+                Some(self.put(pred, there, key, value, spare))
             }
-            (Plan::Put(key, value, spare), Some(old)) => {
-                let _ = swap(&mut self.list, cursor, value);
-                self.list.give_back(spare);
-                Some(Job::Restore(key, old))
+            (Plan::Take(key, spare), Some(place)) => {
+                Some(Job::Relink(key, mark_at(&mut self.list, place), spare))
             }
-            (Plan::Take(_, spare), None) => {
+            (Plan::PutIf(.., spare) | Plan::Take(_, spare), _) => {
                 self.list.give_back(spare);
                 None
-            }
-            (Plan::Take(key, spare), Some(old)) => {
-                let _ = mark(&mut self.list, cursor);
-                Some(Job::Relink(key, old, spare))
             }
             (Plan::Get(_), _) => None,
         };
@@ -147,23 +158,25 @@ impl Table {
     }
 
     fn withdraw(&mut self, plan: Plan) {
-        if let Plan::Put(_, _, spare) | Plan::Take(_, spare) = plan {
+        if let Plan::Put(.., spare) | Plan::Take(_, spare) | Plan::PutIf(.., spare) = plan {
             self.list.give_back(spare);
         }
     }
 
+    /// Takes a change back where the cursor stands, if it fits.
     fn undo(&mut self, job: Job, cursor: Cursor) -> Result<(), Job> {
-        if self.find(&cursor).is_err() {
+        let Ok(there) = look(&self.list, &cursor) else {
             return Err(job);
-        }
-        match job {
-            Job::Unput(_) => {
-                let _ = mark(&mut self.list, cursor);
+        };
+        match (job, there) {
+            (Job::Unput(_), Some(place)) => {
+                mark_at(&mut self.list, place);
             }
-            Job::Restore(_, old) => {
-                let _ = swap(&mut self.list, cursor, old);
+            (Job::Restore(_, old), Some(place)) => {
+                swap_at(&mut self.list, place, old);
             }
-            Job::Relink(key, old, spare) => self.link_key(cursor, key, old, spare),
+            (Job::Relink(key, old, spare), _) => self.link_key(cursor.pred(), key, old, spare),
+            (Job::Unput(_) | Job::Restore(..), None) => unreachable!(),
         }
         Ok(())
     }
@@ -191,7 +204,7 @@ impl Table {
             return Ok(Answer::Ready);
         }
         let from = self.dummy(parent(bucket)).ok_or(Refusal::ParentMissing)?;
-        let cursor = seek(&mut self.list, from, dummy(bucket));
+        let cursor = seek(&mut self.list, from, SortKey::dummy(bucket));
         *self.helper(helper)? = Helper::Seeking(bucket, cursor);
         Ok(Answer::Placed)
     }
@@ -201,15 +214,13 @@ impl Table {
             return Err(Refusal::HelperOutOfOrder);
         };
         let (now, answer) = match look(&self.list, &cursor) {
-            Err(Again) => (Helper::Idle, Answer::Again),
+            Err(_) => (Helper::Idle, Answer::Again),
             Ok(Some(place)) => (Helper::Holding(bucket, place), Answer::Present),
             Ok(None) => {
-                let mut spare = self.spare()?;
-                spare.fill(dummy(bucket), Kind::Dummy, 0);
-                match link(&mut self.list, cursor, spare) {
-                    Ok(place) => (Helper::Holding(bucket, place), Answer::Linked),
-                    Err(_) => unreachable!(),
-                }
+                let spare = self.spare()?;
+                let spare = spare.fill(SortKey::dummy(bucket), Kind::Dummy, 0);
+                let place = link_at(&mut self.list, cursor.pred(), spare);
+                (Helper::Holding(bucket, place), Answer::Linked)
             }
         };
         *self.helper(helper)? = now;
@@ -243,8 +254,8 @@ impl Table {
         let mut place = self.list.head;
         while let Some(next) = self.list.node(place).next() {
             let node = self.list.node(next);
-            if !node.is_dummy && !node.marked {
-                pairs.push((node.key, node.value));
+            if node.kind == Kind::Regular && !node.marked {
+                pairs.push((node.at.key, node.value));
             }
             place = next;
         }
@@ -365,7 +376,6 @@ impl Session {
 // ---- the core ----
 
 /// One line of the history.
-#[allow(dead_code)]
 #[derive(Clone, Copy)]
 pub enum Entry {
     Began(u64, u64),
@@ -397,6 +407,9 @@ impl Entry {
     }
 }
 
+// As rustc lays it out.
+const _: () = assert!(size_of::<Entry>() == 48);
+
 pub struct Core {
     limits: Limits,
     history: Vec<Entry>,
@@ -427,6 +440,7 @@ impl Core {
             callers,
             stripes,
             buckets,
+            ..
         } = limits;
         Core {
             limits,
@@ -465,8 +479,8 @@ impl Core {
         steps.iter().map(|step| self.step(*step)).collect()
     }
 
-    pub fn history(&self) -> &[Entry] {
-        &self.history
+    pub fn into_history(self) -> Vec<Entry> {
+        self.history
     }
 
     pub fn size(&self) -> u32 {
@@ -499,7 +513,7 @@ impl Core {
     fn ask(&mut self, caller: u64, op: Op) -> Result<Answer, Refusal> {
         let session = seat(&mut self.sessions, caller)?;
         session.at_rest()?;
-        if op.key() >= KEYS_END {
+        if self.limits.is_bad_key(op.key()) {
             return Err(Refusal::BadKey);
         }
         reserve(&mut self.history, self.owed + 3)?;
@@ -661,24 +675,15 @@ impl Core {
         Ok(Answer::Leaving)
     }
 
-    /// Unlinks the first marked node, which is sought from the nearest dummy before it.
-    #[cfg(feature = "marks")]
+    /// Unlinks the first marked node, which is sought from the nearest dummy before the region in
+    /// which it is.
     fn sweep(&mut self) -> Answer {
         let table = &mut self.table;
-        let Some(split) = first_mark(&table.list) else {
-            return Answer::Clean;
+        let from = match marks_begin(&table.list) {
+            Some(split) => table.nearest(bucket_at(split, table.size)),
+            None => return Answer::Clean,
         };
-        let from = table.nearest(bucket_of(split.reverse_bits(), table.size));
         sweep_from(&mut table.list, from);
         Answer::Swept
-    }
-
-    #[cfg(not(feature = "marks"))]
-    fn sweep(&mut self) -> Answer {
-        if sweep(&mut self.table.list) {
-            Answer::Swept
-        } else {
-            Answer::Clean
-        }
     }
 }

@@ -6,7 +6,7 @@
 source "$(dirname "${BASH_SOURCE[0]}")/common.sh"
 rounds=${1:-5}
 file=$work/scripts.json
-build_proved boostmap mix --seed 7 "$PWD/examples/scripts.json"
+take_program
 
 printf '%-6s %8s %7s %9s %8s %8s %6s %6s %6s  %s\n' kind calls workers bytes entries ms 'a call' entry MB verdict
 while read -r kind calls workers; do

@@ -8,7 +8,7 @@ write_step_files < <(
   grep '^1' docs/speed/core_files.txt
   echo full wide=1 keys=200000
 )
-build_proved boostmap replay "$work/1000.json"
+take_program
 build_twin core_twin
 
 printf '%-8s %8s %9s %10s %10s %8s\n' file steps bytes ms 'a second' MB

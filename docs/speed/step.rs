@@ -1,11 +1,17 @@
 //! The steps of a core, as step files have them, and its answers, as a replay prints them.
 use std::fmt;
 
+/// The version of step and script files whose keys are below 2^63, and which have no `put_if`.
+const HALF_KEYS: u64 = 1;
+const LAST_VERSION: u64 = 2;
+const KEYS_END: u64 = 1 << 63;
+
 #[derive(Clone, Copy)]
 pub struct Limits {
     pub callers: u32,
     pub stripes: u32,
     pub buckets: u32,
+    pub half_keys: bool,
 }
 
 #[derive(Clone, Copy)]
@@ -13,9 +19,14 @@ pub enum Op {
     Put(u64, u64),
     Take(u64),
     Get(u64),
+    /// Puts a value at a key where the key has what is expected: the key, that, the value.
+    PutIf(u64, Option<u64>, u64),
 }
 
 pub type Reply = Option<u64>;
+
+// As rustc lays them out.
+const _: () = assert!(size_of::<Op>() == 32 && size_of::<Step>() == 40);
 
 #[derive(Clone, Copy)]
 pub enum Step {
@@ -80,10 +91,59 @@ pub enum Answer {
     Refused(Refusal),
 }
 
+impl Limits {
+    /// The limits of a step or script file, where they are in range.
+    pub fn new(version: u64, callers: u32, stripes: u32, buckets: u32) -> Option<Limits> {
+        let is_size = (2..=65_536).contains(&buckets) && buckets.is_power_of_two();
+        let are_in_range = (HALF_KEYS..=LAST_VERSION).contains(&version)
+            && (1..=64).contains(&callers)
+            && (1..=4096).contains(&stripes)
+            && is_size;
+        are_in_range.then_some(Limits {
+            callers,
+            stripes,
+            buckets,
+            half_keys: version == HALF_KEYS,
+        })
+    }
+
+    pub fn is_bad_key(self, key: u64) -> bool {
+        self.half_keys && key >= KEYS_END
+    }
+}
+
 impl Op {
     pub fn key(self) -> u64 {
-        let (Op::Put(key, _) | Op::Take(key) | Op::Get(key)) = self;
+        let (Op::Put(key, _) | Op::Take(key) | Op::Get(key) | Op::PutIf(key, ..)) = self;
         key
+    }
+
+    /// Whether the operation was a change, if this is its reply.
+    pub fn changes(self, reply: Reply) -> bool {
+        match self {
+            Op::Put(..) => true,
+            Op::Take(_) => reply.is_some(),
+            Op::Get(_) => false,
+            Op::PutIf(_, expected, _) => reply == expected,
+        }
+    }
+
+    /// Writes the operation's elements in JSON.
+    pub fn write<W: fmt::Write>(self, text: &mut W) -> fmt::Result {
+        match self {
+            Op::Put(key, value) => write!(text, r#""put",{key},{value}"#),
+            Op::Take(key) => write!(text, r#""take",{key}"#),
+            Op::Get(key) => write!(text, r#""get",{key}"#),
+            Op::PutIf(key, None, value) => write!(text, r#""put_if",{key},null,{value}"#),
+            Op::PutIf(key, Some(expected), value) => {
+                write!(text, r#""put_if",{key},{expected},{value}"#)
+            }
+        }
+    }
+
+    /// Whether there is such an operation in a file of this version.
+    pub fn is_of(self, version: u64) -> bool {
+        version != HALF_KEYS || !matches!(self, Op::PutIf(..))
     }
 }
 
@@ -91,11 +151,11 @@ impl fmt::Display for Step {
     fn fmt(&self, f: &mut fmt::Formatter) -> fmt::Result {
         match *self {
             Step::Begin(caller) => write!(f, r#"["begin",{caller}]"#),
-            Step::Ask(caller, Op::Put(key, value)) => {
-                write!(f, r#"["ask",{caller},"put",{key},{value}]"#)
+            Step::Ask(caller, op) => {
+                write!(f, r#"["ask",{caller},"#)?;
+                op.write(f)?;
+                f.write_str("]")
             }
-            Step::Ask(caller, Op::Take(key)) => write!(f, r#"["ask",{caller},"take",{key}]"#),
-            Step::Ask(caller, Op::Get(key)) => write!(f, r#"["ask",{caller},"get",{key}]"#),
             Step::Seek(caller) => write!(f, r#"["seek",{caller}]"#),
             Step::Act(caller) => write!(f, r#"["act",{caller}]"#),
             Step::Save(caller) => write!(f, r#"["save",{caller}]"#),
@@ -162,6 +222,13 @@ fn step_in(array: &str) -> Option<Step> {
                     "put" => Op::Put(key, next()?.parse().ok()?),
                     "take" => Op::Take(key),
                     "get" => Op::Get(key),
+                    "put_if" => {
+                        let expected = match next()? {
+                            "null" => None,
+                            number => Some(number.parse().ok()?),
+                        };
+                        Op::PutIf(key, expected, next()?.parse().ok()?)
+                    }
                     _ => return None,
                 },
             )
@@ -185,17 +252,17 @@ fn member(text: &str, name: &str) -> Option<u32> {
     rest.split([',', '}']).next()?.parse().ok()
 }
 
-/// The limits and the steps of a step file without spaces, as `file_text` writes them.
+/// The limits and the steps of a step file without spaces, as `core_steps` writes them.
 pub fn read_file(text: &str) -> Option<(Limits, Vec<Step>)> {
     let (head, rest) = text.split_once("\"steps\":[")?;
-    let limits = Limits {
-        callers: member(head, "callers")?,
-        stripes: member(head, "stripes")?,
-        buckets: member(head, "buckets")?,
-    };
+    let version = u64::from(member(head, "version")?);
+    let (callers, stripes) = (member(head, "callers")?, member(head, "stripes")?);
+    let limits = Limits::new(version, callers, stripes, member(head, "buckets")?)?;
     let arrays = rest.split('[').skip(1);
     let steps = arrays.map(|piece| step_in(piece.split(']').next()?));
-    Some((limits, steps.collect::<Option<_>>()?))
+    let steps = steps.collect::<Option<Vec<_>>>()?;
+    let are_old = |step: &Step| !matches!(step, Step::Ask(_, op) if !op.is_of(version));
+    steps.iter().all(are_old).then_some((limits, steps))
 }
 
 /// What stands in a step file before its steps, and after them.
@@ -204,9 +271,11 @@ pub fn around_steps(limits: &Limits) -> (String, &'static str) {
         callers,
         stripes,
         buckets,
+        half_keys,
     } = limits;
+    let version = if *half_keys { HALF_KEYS } else { LAST_VERSION };
     let head = format!(
-        r#"{{"version":1,"callers":{callers},"stripes":{stripes},"buckets":{buckets},"steps":["#
+        r#"{{"version":{version},"callers":{callers},"stripes":{stripes},"buckets":{buckets},"steps":["#
     );
     (head, "]}")
 }

@@ -1,14 +1,15 @@
 //! The program of crates/bench in plain Rust: the same representation (a slab with a free list, the same stamps, marks,
 //! change number and cursors) and the same phases of nodes and cursors. It is what crates/bench is compared with; see
 //! ../SPEED.md. `--cfg alike` is told of in list.rs.
-#![allow(unexpected_cfgs)]
+#![allow(dead_code, unexpected_cfgs)]
 
 mod list;
 mod split;
 mod stopwatch;
+mod tally;
 
 use list::{Cursor, Kind, NodeList, link, look, mark, seek, swap, sweep};
-use split::{bucket_of, dummy, key_at, parent, regular};
+use split::{SortKey, bucket_of, key_at, parent};
 use std::time::Instant;
 use stopwatch::report;
 
@@ -22,29 +23,28 @@ struct NodeTable {
     dummies: Vec<usize>,
 }
 
-fn is_start(list: &NodeList, from: usize, split: u64) -> bool {
+fn is_start(list: &NodeList, from: usize, at: SortKey) -> bool {
     match list.linked_node(from) {
-        Some(node) => node.is_dummy && node.split < split,
+        Some(node) => node.kind == Kind::Dummy && node.at.is_before(at),
         None => false,
     }
 }
 
 fn is_key_there(list: &NodeList, cursor: &Cursor) -> bool {
     match look(list, cursor) {
-        Ok(Some(place)) => !list.node(place).is_dummy,
+        Ok(Some(place)) => list.node(place).kind == Kind::Regular,
         _ => false,
     }
 }
 
-fn put(list: &mut NodeList, from: usize, split: u64, kind: Kind, value: u64) -> Option<usize> {
-    let mut spare = list.spare()?;
-    spare.fill(split, kind, value);
-    if !is_start(list, from, split) {
+fn put(list: &mut NodeList, from: usize, at: SortKey, kind: Kind, value: u64) -> Option<usize> {
+    let spare = list.spare()?;
+    if !is_start(list, from, at) {
         return None;
     }
-    let cursor = seek(list, from, split);
+    let cursor = seek(list, from, at);
     match look(list, &cursor) {
-        Ok(None) => link(list, cursor, spare).ok(),
+        Ok(None) => link(list, cursor, spare.fill(at, kind, value)).ok(),
         _ => {
             list.give_back(spare);
             None
@@ -52,33 +52,33 @@ fn put(list: &mut NodeList, from: usize, split: u64, kind: Kind, value: u64) -> 
     }
 }
 
-fn value_of(list: &mut NodeList, from: usize, split: u64) -> Option<u64> {
-    if !is_start(list, from, split) {
+fn value_of(list: &mut NodeList, from: usize, at: SortKey) -> Option<u64> {
+    if !is_start(list, from, at) {
         return None;
     }
-    let cursor = seek(list, from, split);
+    let cursor = seek(list, from, at);
     match look(list, &cursor) {
         Ok(Some(place)) => Some(list.node(place).value),
         _ => None,
     }
 }
 
-fn write(list: &mut NodeList, from: usize, split: u64, value: u64) -> Option<u64> {
-    if !is_start(list, from, split) {
+fn write(list: &mut NodeList, from: usize, at: SortKey, value: u64) -> Option<u64> {
+    if !is_start(list, from, at) {
         return None;
     }
-    let cursor = seek(list, from, split);
+    let cursor = seek(list, from, at);
     if !is_key_there(list, &cursor) {
         return None;
     }
     swap(list, cursor, value).ok()
 }
 
-fn take(list: &mut NodeList, from: usize, split: u64) -> Option<u64> {
-    if !is_start(list, from, split) {
+fn take(list: &mut NodeList, from: usize, at: SortKey) -> Option<u64> {
+    if !is_start(list, from, at) {
         return None;
     }
-    let cursor = seek(list, from, split);
+    let cursor = seek(list, from, at);
     if !is_key_there(list, &cursor) {
         return None;
     }
@@ -91,7 +91,7 @@ impl NodeTable {
         let mut dummies = vec![list.head];
         for bucket in 1..SIZE {
             let from = dummies[parent(bucket) as usize];
-            if let Some(place) = put(&mut list, from, dummy(bucket), Kind::Dummy, 0) {
+            if let Some(place) = put(&mut list, from, SortKey::dummy(bucket), Kind::Dummy, 0) {
                 dummies.push(place);
             }
         }
@@ -110,8 +110,8 @@ impl NodeTable {
         put(
             &mut self.list,
             from,
-            regular(key),
-            Kind::Regular(key),
+            SortKey::regular(key),
+            Kind::Regular,
             value,
         )
         .is_some()
@@ -119,17 +119,17 @@ impl NodeTable {
 
     fn get(&mut self, key: u64) -> Option<u64> {
         let from = self.dummy_of(key);
-        value_of(&mut self.list, from, regular(key))
+        value_of(&mut self.list, from, SortKey::regular(key))
     }
 
     fn swap(&mut self, key: u64, value: u64) -> Option<u64> {
         let from = self.dummy_of(key);
-        write(&mut self.list, from, regular(key), value)
+        write(&mut self.list, from, SortKey::regular(key), value)
     }
 
     fn mark(&mut self, key: u64) -> Option<u64> {
         let from = self.dummy_of(key);
-        take(&mut self.list, from, regular(key))
+        take(&mut self.list, from, SortKey::regular(key))
     }
 }
 

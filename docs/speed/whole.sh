@@ -4,24 +4,15 @@
 # in MB, and its ratio. What both print is compared.
 #
 # The files have every kind of step, at a rate that users would have: one step in 50 sweeps; savepoints, returns and aborts; eight
-# callers that find each other's stripes held; doublings, and the steps of each new bucket. The twin wants Debian's package
-# librust-serde-json-dev, or other sources of serde_json in the folder that CRATES names.
+# callers that find each other's stripes held; doublings, and the steps of each new bucket. With VERSION=2 they have put_if and
+# keys from 2^63 on as well. The twin wants Debian's package librust-serde-json-dev, or other sources of serde_json in the folder
+# that CRATES names. PROGRAM may name the program.
 # Usage: docs/speed/whole.sh [ROUNDS]
 source "$(dirname "${BASH_SOURCE[0]}")/common.sh"
 rounds=${1:-5}
 
-quietly ./boostmap check examples/checked.json
-cp crates/boostmap/out/boostmap "$work/proved"
+take_program
 build_whole
-
-# Writes the files of a size: 0 is the full one.
-write_files() {
-  local most=${1/#0/1000000} calls=${1/#0/500000}
-  "$work/core_steps" steps="$most" sweeps=50 stripes=256 keys=60000 >"$work/replay.json" 2>/dev/null
-  "$work/core_steps" steps=1000000 stripes=256 keys=60000 >"$work/long.json" 2>/dev/null
-  "$work/plain" history "$work/long.json" "$most" >"$work/check.json"
-  docs/speed/scripts.sh every "$calls" 8 >"$work/mix.json"
-}
 
 # The processor milliseconds of one run of a program, and the most memory of one in KB.
 costs() {
@@ -36,7 +27,7 @@ TIMEFORMAT='%U %S'
 rustc -O -o "$work/core_steps" docs/speed/core_steps.rs 2>/dev/null
 printf '%-7s %8s %9s %9s %9s %6s %7s %7s %6s\n' command pieces bytes proved plain ratio MB plain ratio
 for size in 1000 10000 100000 0; do
-  write_files $size
+  write_whole_files $size
   for command in replay check mix; do
     file=$work/$command.json
     words=("$command")

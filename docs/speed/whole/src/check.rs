@@ -1,5 +1,6 @@
-//! The judge of histories: a map as it is now, the holder of each stripe, and of each caller its phase, its changes with the
-//! values before them and its savepoints.
+//! The judge of histories: a map as it is now, the holder of each stripe, and of each caller its
+//! phase, its changes with the values before them and its savepoints.
+use crate::files::HistoryFile;
 use crate::machine::Entry;
 use crate::step::{Op, Reply};
 use std::collections::HashMap;
@@ -14,9 +15,17 @@ enum Phase {
     LeavingToEnd,
 }
 
+/// Whom a busy entry may name: a caller that holds the stripe, or one that has begun a transaction.
+#[derive(Clone, Copy)]
+enum Holder {
+    Now,
+    Begun,
+}
+
 #[derive(Clone, Default)]
 struct Caller {
     phase: Phase,
+    has_begun: bool,
     // Of each change that stands its key and the value before it.
     changes: Vec<(u64, Reply)>,
     // How many changes stood at each savepoint.
@@ -25,6 +34,7 @@ struct Caller {
 }
 
 struct Judge {
+    holder: Holder,
     began: u64,
     committed: u64,
     map: HashMap<u64, u64>,
@@ -59,20 +69,25 @@ impl Judge {
         if self.map.get(&op.key()).copied() != reply {
             return Err(Rule::Replies);
         }
-        let changes = &mut self.callers[caller].changes;
-        match op {
-            Op::Put(key, value) => {
-                self.map.insert(key, value);
-                changes.push((key, reply));
-            }
-            Op::Take(key) if reply.is_some() => {
-                self.map.remove(&key);
-                changes.push((key, reply));
-            }
-            _ => {}
+        let seat = &mut self.callers[caller];
+        if op.changes(reply) {
+            match op {
+                Op::Put(key, value) | Op::PutIf(key, _, value) => self.map.insert(key, value),
+                Op::Take(key) | Op::Get(key) => self.map.remove(&key),
+            };
+            seat.changes.push((op.key(), reply));
         }
-        self.callers[caller].phase = Phase::Open;
+        seat.phase = Phase::Open;
         Ok(())
+    }
+
+    /// Whether a busy entry may name this caller.
+    fn may_name(&self, caller: u64, op: Op, named: u64) -> bool {
+        let is_holder = match self.holder {
+            Holder::Now => self.holders[self.stripe(op)] == Some(named),
+            Holder::Begun => self.callers[named as usize].has_begun,
+        };
+        named != caller && is_holder
     }
 
     fn undo(&mut self, caller: usize, left: usize) -> Result<(), Rule> {
@@ -98,6 +113,7 @@ impl Judge {
             (Phase::Closed, Entry::Began(_, txn)) if txn == self.began + 1 => {
                 self.began = txn;
                 self.callers[caller].phase = Phase::Open;
+                self.callers[caller].has_begun = true;
             }
             (Phase::Open, Entry::Asked(_, op)) => {
                 let stripe = self.stripe(op);
@@ -111,8 +127,8 @@ impl Judge {
                 }
                 self.callers[caller].phase = Phase::Asked(op);
             }
-            (Phase::Open, Entry::Busy(_, op, holder)) => {
-                if holder == number || self.holders[self.stripe(op)] != Some(holder) {
+            (Phase::Open, Entry::Busy(_, op, named)) => {
+                if !self.may_name(number, op, named) {
                     return Err(Rule::Locks);
                 }
                 self.callers[caller].phase = Phase::LeavingToEnd;
@@ -155,21 +171,32 @@ impl Judge {
     }
 }
 
-/// The line of the verdict.
-pub fn verdict(entries: &[Entry], stripes: u32) -> String {
+/// The line of the verdict, and whether the history is legal.
+pub fn verdict(file: &HistoryFile) -> (String, bool) {
     let mut judge = Judge {
+        holder: if file.version < 3 {
+            Holder::Now
+        } else {
+            Holder::Begun
+        },
         began: 0,
         committed: 0,
         map: HashMap::new(),
-        holders: vec![None; stripes as usize],
+        holders: vec![None; file.stripes as usize],
         callers: vec![Caller::default(); 64],
     };
-    for (index, entry) in entries.iter().enumerate() {
+    for (index, entry) in file.entries.iter().enumerate() {
         if let Err(rule) = judge.judge(entry) {
-            return format!("illegal entry {index} rule {}\n", rule as u64);
+            return (
+                format!("illegal entry {index} rule {}\n", rule as u64),
+                false,
+            );
         }
     }
     let is_open = |caller: &&Caller| !matches!(caller.phase, Phase::Closed);
     let open = judge.callers.iter().filter(is_open).count();
-    format!("legal {} commits {open} open\n", judge.committed)
+    (
+        format!("legal {} commits {open} open\n", judge.committed),
+        true,
+    )
 }

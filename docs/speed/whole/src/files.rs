@@ -3,15 +3,16 @@ use crate::machine::Entry;
 use crate::step::{Limits, Op, Step};
 use serde::Deserialize;
 use serde::de::{Deserializer, Error, SeqAccess, Visitor};
+use std::error;
 use std::fmt::{self, Write as _};
 
 #[derive(Deserialize)]
-pub struct StepFile {
-    pub version: u64,
-    pub callers: u32,
-    pub stripes: u32,
-    pub buckets: u32,
-    pub steps: Vec<Step>,
+struct StepFile {
+    version: u64,
+    callers: u32,
+    stripes: u32,
+    buckets: u32,
+    steps: Vec<Step>,
 }
 
 #[derive(Deserialize)]
@@ -22,11 +23,18 @@ pub struct HistoryFile {
 }
 
 #[derive(Deserialize)]
-pub struct ScriptFile {
+struct ScriptFile {
+    version: u64,
+    workers: u32,
+    stripes: u32,
+    buckets: u32,
+    tries: u64,
+    scripts: Vec<Vec<Action>>,
+}
+
+pub struct Scripts {
     pub version: u64,
-    pub workers: u32,
-    pub stripes: u32,
-    pub buckets: u32,
+    pub limits: Limits,
     pub tries: u64,
     pub scripts: Vec<Vec<Action>>,
 }
@@ -41,13 +49,69 @@ pub enum Action {
     Abort,
 }
 
-impl StepFile {
-    pub fn limits(&self) -> Limits {
-        Limits {
-            callers: self.callers,
-            stripes: self.stripes,
-            buckets: self.buckets,
-        }
+type Refused = Box<dyn error::Error>;
+
+/// Refuses operations that a file of this version has not.
+fn are_of(version: u64, mut ops: impl Iterator<Item = Op>) -> Result<(), Refused> {
+    if ops.all(|op| op.is_of(version)) {
+        Ok(())
+    } else {
+        Err("an operation of a later version".into())
+    }
+}
+
+/// The version, the limits and the steps of a step file.
+pub fn read_steps(bytes: &[u8]) -> Result<(u64, Limits, Vec<Step>), Refused> {
+    let file: StepFile = serde_json::from_slice(bytes)?;
+    let ops = file.steps.iter().filter_map(|step| match *step {
+        Step::Ask(_, op) => Some(op),
+        _ => None,
+    });
+    are_of(file.version, ops)?;
+    let limits = Limits::new(file.version, file.callers, file.stripes, file.buckets);
+    Ok((
+        file.version,
+        limits.ok_or("a number out of range")?,
+        file.steps,
+    ))
+}
+
+pub fn read_scripts(bytes: &[u8]) -> Result<Scripts, Refused> {
+    let file: ScriptFile = serde_json::from_slice(bytes)?;
+    let ops = file
+        .scripts
+        .iter()
+        .flatten()
+        .filter_map(|action| match *action {
+            Action::Op(op) => Some(op),
+            _ => None,
+        });
+    are_of(file.version, ops)?;
+    let limits = Limits::new(file.version, file.workers, file.stripes, file.buckets);
+    Ok(Scripts {
+        version: file.version,
+        limits: limits.ok_or("a number out of range")?,
+        tries: file.tries,
+        scripts: file.scripts,
+    })
+}
+
+pub fn read_history(bytes: &[u8]) -> Result<HistoryFile, Refused> {
+    let file: HistoryFile = serde_json::from_slice(bytes)?;
+    let ops = file.entries.iter().filter_map(|entry| match *entry {
+        Entry::Asked(_, op) | Entry::Busy(_, op, _) => Some(op),
+        _ => None,
+    });
+    are_of(file.version, ops)?;
+    let are_callers = file.entries.iter().all(|entry| match *entry {
+        Entry::Busy(caller, _, holder) => caller < 64 && holder < 64,
+        _ => entry.caller() < 64,
+    });
+    let is_version = (1..=3).contains(&file.version);
+    if are_callers && is_version && (1..=4096).contains(&file.stripes) {
+        Ok(file)
+    } else {
+        Err("a number out of range".into())
     }
 }
 
@@ -71,6 +135,7 @@ impl<'de, A: SeqAccess<'de>> Elements<A> {
             "put" => Op::Put(self.next()?, self.next()?),
             "take" => Op::Take(self.next()?),
             "get" => Op::Get(self.next()?),
+            "put_if" => Op::PutIf(self.next()?, self.next()?, self.next()?),
             _ => return Err(Error::custom("no such word")),
         })
     }
@@ -127,7 +192,10 @@ fn step<'de, A: SeqAccess<'de>>(elements: &mut Elements<A>, name: &str) -> Resul
     })
 }
 
-fn entry<'de, A: SeqAccess<'de>>(elements: &mut Elements<A>, name: &str) -> Result<Entry, A::Error> {
+fn entry<'de, A: SeqAccess<'de>>(
+    elements: &mut Elements<A>,
+    name: &str,
+) -> Result<Entry, A::Error> {
     let caller = elements.next()?;
     Ok(match name {
         "began" => Entry::Began(caller, elements.next()?),
@@ -161,20 +229,12 @@ from_array!(Step, step);
 from_array!(Entry, entry);
 from_array!(Action, action);
 
-fn write_op(text: &mut String, op: Op) -> fmt::Result {
-    match op {
-        Op::Put(key, value) => write!(text, r#""put",{key},{value}"#),
-        Op::Take(key) => write!(text, r#""take",{key}"#),
-        Op::Get(key) => write!(text, r#""get",{key}"#),
-    }
-}
-
 fn write_entry(text: &mut String, entry: &Entry) -> fmt::Result {
     match *entry {
         Entry::Began(caller, txn) => write!(text, r#"["began",{caller},{txn}"#)?,
         Entry::Asked(caller, op) => {
             write!(text, r#"["asked",{caller},"#)?;
-            write_op(text, op)?;
+            op.write(text)?;
         }
         Entry::Did(caller, Some(value)) => write!(text, r#"["did",{caller},{value}"#)?,
         Entry::Did(caller, None) => write!(text, r#"["did",{caller},null"#)?,
@@ -186,7 +246,7 @@ fn write_entry(text: &mut String, entry: &Entry) -> fmt::Result {
         Entry::Committed(caller, number) => write!(text, r#"["committed",{caller},{number}"#)?,
         Entry::Busy(caller, op, holder) => {
             write!(text, r#"["busy",{caller},"#)?;
-            write_op(text, op)?;
+            op.write(text)?;
             write!(text, ",{holder}")?;
         }
         Entry::Aborted(caller) => write!(text, r#"["aborted",{caller}"#)?,

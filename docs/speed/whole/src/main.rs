@@ -17,21 +17,25 @@ mod run;
 mod split;
 #[path = "../../step.rs"]
 mod step;
+#[path = "../../tally.rs"]
+mod tally;
 
-use files::{HistoryFile, ScriptFile, StepFile, history_text};
+use files::{Scripts, history_text, read_history, read_scripts, read_steps};
 use machine::Core;
 use std::env;
 use std::error::Error;
 use std::fmt::Write as _;
 use std::fs;
 use std::io::{self, Write as _};
+use std::process::ExitCode;
 
 /// What `replay` prints.
-fn replay(bytes: &[u8]) -> Result<String, Box<dyn Error>> {
-    let file: StepFile = serde_json::from_slice(bytes)?;
-    let mut core = Core::new(file.limits());
+fn replay(bytes: Vec<u8>) -> Result<String, Box<dyn Error>> {
+    let (_, limits, steps) = read_steps(&bytes)?;
+    drop(bytes);
+    let mut core = Core::new(limits);
     let mut text = String::new();
-    for step in file.steps {
+    for step in steps {
         writeln!(text, "{}", core.step(step))?;
     }
     writeln!(text, "size {} count {}", core.size(), core.count())?;
@@ -41,37 +45,52 @@ fn replay(bytes: &[u8]) -> Result<String, Box<dyn Error>> {
     Ok(text)
 }
 
-fn output() -> Result<String, Box<dyn Error>> {
-    let words: Vec<String> = env::args().skip(1).collect();
-    let words: Vec<&str> = words.iter().map(String::as_str).collect();
-    match words.as_slice() {
-        ["replay", file] => replay(&fs::read(file)?),
-        ["history", file, most] => {
-            let file: StepFile = serde_json::from_slice(&fs::read(file)?)?;
-            let mut core = Core::new(file.limits());
-            core.run(&file.steps);
-            let entries = core.history();
-            let most = entries.len().min(most.parse()?);
-            Ok(history_text(&entries[..most], file.stripes, 1))
-        }
-        ["check", file] => {
-            let file: HistoryFile = serde_json::from_slice(&fs::read(file)?)?;
-            Ok(check::verdict(&file.entries, file.stripes))
-        }
-        ["mix", "--seed", seed, file] => {
-            let file: ScriptFile = serde_json::from_slice(&fs::read(file)?)?;
-            let core = mix::mix(seed.parse()?, &file);
-            Ok(history_text(core.history(), file.stripes, 1))
-        }
-        ["run", file] => {
-            let file: ScriptFile = serde_json::from_slice(&fs::read(file)?)?;
-            Ok(history_text(run::run(&file).history(), file.stripes, 3))
-        }
-        _ => Err("no such words".into()),
-    }
+/// The text of a core's history, with no script and no table left when it is written.
+fn history_of(core: Core, scripts: Scripts, version: u64) -> String {
+    let stripes = scripts.limits.stripes;
+    drop(scripts);
+    history_text(&core.into_history(), stripes, version)
 }
 
-fn main() -> Result<(), Box<dyn Error>> {
-    io::stdout().write_all(output()?.as_bytes())?;
-    Ok(())
+fn output() -> Result<(String, bool), Box<dyn Error>> {
+    let words: Vec<String> = env::args().skip(1).collect();
+    let words: Vec<&str> = words.iter().map(String::as_str).collect();
+    let text = match words.as_slice() {
+        ["replay", file] => replay(fs::read(file)?)?,
+        ["history", file, most] => {
+            let (version, limits, steps) = read_steps(&fs::read(file)?)?;
+            let mut core = Core::new(limits);
+            core.run(&steps);
+            let mut entries = core.into_history();
+            entries.truncate(most.parse()?);
+            history_text(&entries, limits.stripes, version)
+        }
+        ["check", file] => return Ok(check::verdict(&read_history(&fs::read(file)?)?)),
+        ["mix", "--seed", seed, file] => {
+            let scripts = read_scripts(&fs::read(file)?)?;
+            let version = scripts.version;
+            history_of(mix::mix(seed.parse()?, &scripts), scripts, version)
+        }
+        ["run", file] => {
+            let scripts = read_scripts(&fs::read(file)?)?;
+            history_of(run::run(&scripts), scripts, 3)
+        }
+        _ => return Err("no such words".into()),
+    };
+    Ok((text, true))
+}
+
+/// Writes the text; the status is that of the program: 1 of an illegal history, 3 of a file that is
+/// refused.
+fn main() -> ExitCode {
+    match output() {
+        Ok((text, is_legal)) => match io::stdout().write_all(text.as_bytes()) {
+            Ok(()) => ExitCode::from(u8::from(!is_legal)),
+            Err(_) => ExitCode::from(4),
+        },
+        Err(error) => {
+            eprintln!("{error}");
+            ExitCode::from(3)
+        }
+    }
 }

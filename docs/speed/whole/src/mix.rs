@@ -1,8 +1,8 @@
 //! Workers that take turns on one core, the next one drawn.
-use crate::files::{Action, ScriptFile};
+use crate::files::{Action, Scripts};
 use crate::machine::Core;
 use crate::split::parent;
-use crate::step::{Answer, Limits, Refusal, Step};
+use crate::step::{Answer, Refusal, Step};
 
 /// After so many `again` in a row a seek and its act are one turn.
 const PATIENCE: u8 = 8;
@@ -24,7 +24,9 @@ impl Generator {
     fn new(seed: u64) -> Generator {
         let mut state = seed;
         let mut word = || {
-            state = state.wrapping_mul(MULTIPLIER).wrapping_add(11_634_580_027_462_260_723);
+            state = state
+                .wrapping_mul(MULTIPLIER)
+                .wrapping_add(11_634_580_027_462_260_723);
             u64::from(output(state))
         };
         let first = word() | word() << 32;
@@ -173,7 +175,9 @@ impl Worker {
             (Phase::InitLink(bucket, target, _), Answer::Linked | Answer::Present) => {
                 self.phase = Phase::InitStore(bucket, target);
             }
-            (Phase::InitStore(bucket, target), Answer::Stored) => return self.heads(bucket, target),
+            (Phase::InitStore(bucket, target), Answer::Stored) => {
+                return self.heads(bucket, target);
+            }
             (_, Answer::Aborted) if self.was_busy => return Some(End::Busy),
             (_, Answer::Refused(_)) => return Some(End::Refused),
             _ => return Some(End::Done),
@@ -182,7 +186,7 @@ impl Worker {
     }
 
     /// Goes to the next call; answers whether there is one.
-    fn goes_on(&mut self, end: End, file: &ScriptFile) -> bool {
+    fn goes_on(&mut self, end: End, file: &Scripts) -> bool {
         let script = &file.scripts[self.script];
         self.phase = Phase::First;
         self.was_busy = false;
@@ -205,19 +209,24 @@ impl Worker {
             _ => true,
         };
         if is_over {
-            self.script += file.workers as usize;
+            self.script += file.limits.callers as usize;
             self.action = 0;
             self.again = 0;
             self.call = Call::Begin;
             return self.script < file.scripts.len();
         }
-        self.call = script.get(self.action).map_or(Call::Commit, |action| Call::Do(*action));
+        self.call = match script.get(self.action) {
+            // Such a help is refused before its first step.
+            Some(Action::Help(key)) if file.limits.is_bad_key(*key) => Call::GiveUp,
+            Some(action) => Call::Do(*action),
+            None => Call::Commit,
+        };
         true
     }
 }
 
 /// Takes a step, and answers whether the worker is live after it.
-fn take(core: &mut Core, worker: &mut Worker, file: &ScriptFile) -> (Answer, bool) {
+fn take(core: &mut Core, worker: &mut Worker, file: &Scripts) -> (Answer, bool) {
     let size = core.size();
     let answer = core.step(worker.step(size));
     let is_live = match worker.told(answer, size) {
@@ -228,7 +237,7 @@ fn take(core: &mut Core, worker: &mut Worker, file: &ScriptFile) -> (Answer, boo
 }
 
 /// Takes a worker's turn, of one step or two, and answers whether it is live after it.
-pub fn turn(core: &mut Core, worker: &mut Worker, file: &ScriptFile) -> bool {
+pub fn turn(core: &mut Core, worker: &mut Worker, file: &Scripts) -> bool {
     let is_pair = matches!(
         worker.phase,
         Phase::Seek(PATIENCE) | Phase::InitSeek(_, _, PATIENCE)
@@ -240,8 +249,8 @@ pub fn turn(core: &mut Core, worker: &mut Worker, file: &ScriptFile) -> bool {
 }
 
 /// The core after all scripts.
-pub fn mix(seed: u64, file: &ScriptFile) -> Core {
-    let mut core = Core::new(file.limits());
+pub fn mix(seed: u64, file: &Scripts) -> Core {
+    let mut core = Core::new(file.limits);
     let mut live = file.live_workers();
     let mut generator = Generator::new(seed);
     while !live.is_empty() {
@@ -253,18 +262,10 @@ pub fn mix(seed: u64, file: &ScriptFile) -> Core {
     core
 }
 
-impl ScriptFile {
-    pub fn limits(&self) -> Limits {
-        Limits {
-            callers: self.workers,
-            stripes: self.stripes,
-            buckets: self.buckets,
-        }
-    }
-
+impl Scripts {
     /// The workers that have a script.
     pub fn live_workers(&self) -> Vec<Worker> {
-        (0..u64::from(self.workers))
+        (0..u64::from(self.limits.callers))
             .filter(|number| (*number as usize) < self.scripts.len())
             .map(Worker::new)
             .collect()
