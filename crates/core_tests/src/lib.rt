@@ -10,3 +10,13 @@
 mod cores;
 #[cfg(test)]
 mod devices;
+#[cfg(test)]
+mod drives;
+#[cfg(test)]
+mod histories;
+#[cfg(test)]
+mod mixes;
+#[cfg(test)]
+mod traces;
+#[cfg(test)]
+mod workers;

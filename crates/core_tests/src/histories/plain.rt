@@ -1,0 +1,424 @@
+//! The rules of a legal history word for word, on whole maps: the slow program that the checker is
+//! compared with.
+//!
+//! It judges each beginning of a history from nothing. It counts and looks back in the list of
+//! entries where the checker keeps numbers, and it runs each transaction again on copies of maps
+//! where the checker keeps one map.
+
+use history_check::{Rule, Verdict};
+use std::alloc::{AllocError, Global};
+use std::collections::BTreeMap;
+use txn_trace::{Entry, Holder, Op, Reply};
+
+type Values = BTreeMap<u64, u64>;
+
+/// Where a caller is in the state table.
+#[derive(Clone, Copy, Debug, PartialEq, Eq)]
+pub(super) enum Place {
+    Closed,
+    Open,
+    Asked,
+    LeavingTo(u64),
+    LeavingToEnd,
+}
+
+/// The entries of a caller from its last Began on.
+pub(super) fn last_of(
+    alloc: Global,
+    caller: u64,
+    history: &[Entry],
+) -> Result<Vec<Entry>, AllocError> {
+    let mut entries = Vec::new(alloc);
+    for entry in history.iter().filter(|entry| entry.caller() == caller) {
+        if is_began(entry) {
+            entries.clear();
+        }
+        entries.push(*entry)?;
+    }
+    Ok(entries)
+}
+
+/// Where a transaction's entries leave its caller: the last of them says it, but for an Undone.
+pub(super) fn place_after(entries: &[Entry]) -> Place {
+    for entry in entries.iter().rev() {
+        return match *entry {
+            Entry::Undone(_) => continue,
+            Entry::Began(..) | Entry::Did(..) | Entry::Saved(_) | Entry::Returned(..) => {
+                Place::Open
+            }
+            Entry::Asked(..) => Place::Asked,
+            Entry::Leave(_, Some(level)) => Place::LeavingTo(level),
+            Entry::Leave(_, None) | Entry::Busy(..) => Place::LeavingToEnd,
+            Entry::Committed(..) | Entry::Aborted(_) => Place::Closed,
+        };
+    }
+    Place::Closed
+}
+
+/// How many changes stand after a transaction's entries.
+pub(super) fn count_standing(entries: &[Entry]) -> usize {
+    let changes = entries
+        .windows(2)
+        .filter(|pair| is_change_done(pair))
+        .count();
+    let taken_back = entries.iter().filter(|entry| is_undone(entry)).count();
+    changes.saturating_sub(taken_back)
+}
+
+/// Whether two entries of a caller are a change and its reply.
+fn is_change_done(pair: &[Entry]) -> bool {
+    match pair {
+        [Entry::Asked(_, Op::Put(..)), Entry::Did(..)] => true,
+        [Entry::Asked(_, Op::Take(_)), Entry::Did(_, reply)] => reply.is_some(),
+        [
+            Entry::Asked(_, Op::PutIf(_, expected, _)),
+            Entry::Did(_, reply),
+        ] => reply == expected,
+        _ => false,
+    }
+}
+
+/// How many changes stood at each level: none at level 0, then those at each savepoint that is
+/// left.
+pub(super) fn standing_at_levels(
+    alloc: Global,
+    entries: &[Entry],
+) -> Result<Vec<usize>, AllocError> {
+    let mut kept = vec![in alloc; 0usize]?;
+    for (i, entry) in entries.iter().enumerate() {
+        match *entry {
+            Entry::Saved(_) => kept.push(count_standing(&entries[..i]))?,
+            Entry::Returned(_, level) => kept.truncate((level as usize).saturating_add(1)),
+            _ => {}
+        }
+    }
+    Ok(kept)
+}
+
+/// How many transactions began.
+fn count_begun(history: &[Entry]) -> u64 {
+    history.iter().filter(|entry| is_began(entry)).count() as u64
+}
+
+/// The number of the next transaction.
+pub(super) fn next_txn(history: &[Entry]) -> u64 {
+    count_begun(history).saturating_add(1)
+}
+
+/// How many transactions are committed.
+pub(super) fn count_committed(history: &[Entry]) -> u64 {
+    history.iter().filter(|entry| is_commit(entry)).count() as u64
+}
+
+/// How many transactions aborted.
+fn count_aborted(history: &[Entry]) -> u64 {
+    history.iter().filter(|entry| is_abort(entry)).count() as u64
+}
+
+fn is_began(entry: &Entry) -> bool {
+    matches!(entry, Entry::Began(..))
+}
+
+fn is_commit(entry: &Entry) -> bool {
+    matches!(entry, Entry::Committed(..))
+}
+
+fn is_abort(entry: &Entry) -> bool {
+    matches!(entry, Entry::Aborted(_))
+}
+
+fn is_undone(entry: &Entry) -> bool {
+    matches!(entry, Entry::Undone(_))
+}
+
+/// Whether the state table has a row for one more entry, and its number is right.
+fn has_shape(alloc: Global, history: &[Entry], entry: &Entry) -> Result<bool, AllocError> {
+    let entries = last_of(alloc, entry.caller(), history)?;
+    let kept = standing_at_levels(alloc, &entries)?;
+    let standing = count_standing(&entries);
+    let at_level = |level: u64| kept.get(level as usize).copied();
+    Ok(match (place_after(&entries), *entry) {
+        (Place::Closed, Entry::Began(_, txn)) => txn == next_txn(history),
+        (Place::Open, Entry::Asked(..) | Entry::Busy(..) | Entry::Saved(_)) => true,
+        (Place::Open | Place::Asked, Entry::Leave(_, None)) => true,
+        (Place::Open, Entry::Leave(_, Some(level))) => at_level(level).is_some(),
+        (Place::Open, Entry::Committed(_, place)) => {
+            place.checked_sub(1) == Some(count_committed(history))
+        }
+        (Place::Asked, Entry::Did(..)) => true,
+        (Place::LeavingTo(level), Entry::Undone(_)) => at_level(level) < Some(standing),
+        (Place::LeavingTo(level), Entry::Returned(_, to)) => {
+            to == level && at_level(level) == Some(standing)
+        }
+        (Place::LeavingToEnd, Entry::Undone(_)) => 0 < standing,
+        (Place::LeavingToEnd, Entry::Aborted(_)) => standing == 0,
+        _ => false,
+    })
+}
+
+/// The stripe of an operation's key.
+pub(super) fn stripe_of(op: Op, stripes: u64) -> u64 {
+    op.key().checked_rem(stripes).unwrap_or(0)
+}
+
+/// Whether a caller has an open transaction that has asked for a key of the stripe.
+pub(super) fn holds(history: &[Entry], caller: u64, stripe: u64, stripes: u64) -> bool {
+    let mut holds = false;
+    for entry in history.iter().filter(|entry| entry.caller() == caller) {
+        match *entry {
+            Entry::Asked(_, op) => holds = holds || stripe_of(op, stripes) == stripe,
+            Entry::Committed(..) | Entry::Aborted(_) => holds = false,
+            _ => {}
+        }
+    }
+    holds
+}
+
+/// Whether a caller has begun a transaction.
+pub(super) fn has_begun(history: &[Entry], caller: u64) -> bool {
+    let mut own = history.iter().filter(|entry| entry.caller() == caller);
+    own.any(|entry| is_began(entry))
+}
+
+/// Whether one more entry keeps the rule of locks.
+fn is_locked(history: &[Entry], entry: &Entry, stripes: u64, holder: Holder) -> bool {
+    match *entry {
+        Entry::Asked(caller, op) => {
+            let stripe = stripe_of(op, stripes);
+            let mut others = history.iter().map(|entry| entry.caller());
+            !others.any(|other| other != caller && holds(history, other, stripe, stripes))
+        }
+        Entry::Busy(caller, _, other) if other == caller => false,
+        Entry::Busy(_, op, other) => match holder {
+            Holder::Now => holds(history, other, stripe_of(op, stripes), stripes),
+            Holder::Begun => has_begun(history, other),
+        },
+        _ => true,
+    }
+}
+
+/// The entries of a caller's transaction: each belongs to the one that the caller began last.
+fn entries_of_txn(
+    alloc: Global,
+    caller: u64,
+    txn: u64,
+    history: &[Entry],
+) -> Result<Vec<Entry>, AllocError> {
+    let mut last = None;
+    let mut entries = Vec::new(alloc);
+    for entry in history.iter().filter(|entry| entry.caller() == caller) {
+        if let Entry::Began(_, number) = *entry {
+            last = Some(number);
+        }
+        if last == Some(txn) {
+            entries.push(*entry)?;
+        }
+    }
+    Ok(entries)
+}
+
+/// The map that an operation leaves.
+fn map_after(values: &Values, op: Op) -> Result<Values, AllocError> {
+    let mut left = values.clone()?;
+    match op {
+        Op::Put(key, value) => {
+            left.insert(key, value)?;
+        }
+        Op::Take(key) => {
+            left.remove(&key);
+        }
+        Op::Get(_) => {}
+        Op::PutIf(key, expected, value) => {
+            if left.get(&key).copied() == expected {
+                left.insert(key, value)?;
+            }
+        }
+    }
+    Ok(left)
+}
+
+/// What an operation answers.
+fn reply_of(values: &Values, op: Op) -> Reply {
+    values.get(&op.key()).copied()
+}
+
+/// Whether an operation is a change.
+fn is_change(values: &Values, op: Op) -> bool {
+    match op {
+        Op::Put(..) => true,
+        Op::Take(key) => values.contains_key(&key),
+        Op::Get(_) => false,
+        Op::PutIf(key, expected, _) => values.get(&key).copied() == expected,
+    }
+}
+
+/// A transaction that runs alone.
+#[derive(Drop)]
+struct Running {
+    /// The map that it began with, and after each change that stands the map that it left.
+    maps: Vec<Values>,
+    pending: Option<Op>,
+    /// How many maps there were at each level, 1 at level 0.
+    notes: Vec<usize>,
+}
+
+impl Running {
+    fn new(alloc: Global, start: &Values) -> Result<Running, AllocError> {
+        Ok(Running {
+            maps: vec![in alloc; start.clone()?]?,
+            pending: None,
+            notes: vec![in alloc; 1usize]?,
+        })
+    }
+
+    /// Lets an entry act; answers whether it may.
+    fn act(&mut self, entry: &Entry) -> Result<bool, AllocError> {
+        match *entry {
+            Entry::Asked(_, op) => self.pending = Some(op),
+            Entry::Did(_, reply) => return self.reply(reply),
+            Entry::Undone(_) => {
+                self.maps.pop();
+                return Ok(!self.maps.is_empty());
+            }
+            Entry::Saved(_) => self.notes.push(self.maps.len())?,
+            Entry::Returned(_, level) => {
+                let noted = self.notes.get(level as usize).copied();
+                self.notes.truncate((level as usize).saturating_add(1));
+                return Ok(noted == Some(self.maps.len()));
+            }
+            _ => {}
+        }
+        Ok(true)
+    }
+
+    /// The operation that is pending has its reply; answers whether that is the last map's.
+    fn reply(&mut self, reply: Reply) -> Result<bool, AllocError> {
+        let (Some(op), Some(last)) = (self.pending.take(), self.maps.last()) else {
+            return Ok(false);
+        };
+        if reply != reply_of(last, op) {
+            return Ok(false);
+        }
+        if is_change(last, op) {
+            let next = map_after(last, op)?;
+            self.maps.push(next)?;
+        }
+        Ok(true)
+    }
+}
+
+/// The last map of a transaction that runs alone on these values; none where it has another reply
+/// than it would have.
+fn run_alone(
+    start: &Values,
+    entries: &[Entry],
+    alloc: Global,
+) -> Result<Option<Values>, AllocError> {
+    let mut run = Running::new(alloc, start)?;
+    for entry in entries {
+        if !run.act(entry)? {
+            return Ok(None);
+        }
+    }
+    Ok(run.maps.pop())
+}
+
+/// The reply that the operation a caller waits for has where its transaction runs alone.
+pub(super) fn reply_alone(
+    alloc: Global,
+    history: &[Entry],
+    caller: u64,
+) -> Result<Reply, AllocError> {
+    let entries = last_of(alloc, caller, history)?;
+    let values = run_alone(&serial_map(alloc, history)?, &entries, alloc)?;
+    Ok(match (entries.last(), values) {
+        (Some(Entry::Asked(_, op)), Some(values)) => reply_of(&values, *op),
+        _ => None,
+    })
+}
+
+/// The map that the committed transactions leave, one after another in commit order.
+fn serial_map(alloc: Global, history: &[Entry]) -> Result<Values, AllocError> {
+    let mut values = BTreeMap::new(alloc);
+    for (i, entry) in history.iter().enumerate() {
+        if let Entry::Committed(caller, _) = *entry {
+            let entries = last_of(alloc, caller, &history[..i])?;
+            if let Some(left) = run_alone(&values, &entries, alloc)? {
+                values = left;
+            }
+        }
+    }
+    Ok(values)
+}
+
+/// The entries of each open transaction.
+fn open_txns(alloc: Global, history: &[Entry]) -> Result<Vec<Vec<Entry>>, AllocError> {
+    let mut open = Vec::new(alloc);
+    for entry in history {
+        if let Entry::Began(caller, txn) = *entry {
+            let entries = entries_of_txn(alloc, caller, txn, history)?;
+            if place_after(&entries) != Place::Closed {
+                open.push(entries)?;
+            }
+        }
+    }
+    Ok(open)
+}
+
+/// Whether each open transaction has the replies of running alone after the committed ones.
+fn replies_hold(alloc: Global, history: &[Entry]) -> Result<bool, AllocError> {
+    let settled = serial_map(alloc, history)?;
+    for entries in &open_txns(alloc, history)? {
+        if run_alone(&settled, entries, alloc)?.is_none() {
+            return Ok(false);
+        }
+    }
+    Ok(true)
+}
+
+/// The rule that the last entry of a beginning breaks.
+fn broken_rule(
+    alloc: Global,
+    beginning: &[Entry],
+    stripes: u64,
+    holder: Holder,
+) -> Result<Option<Rule>, AllocError> {
+    let Some((entry, before)) = beginning.split_last() else {
+        return Ok(None);
+    };
+    if !has_shape(alloc, before, entry)? {
+        return Ok(Some(Rule::Shape));
+    }
+    if !replies_hold(alloc, beginning)? {
+        return Ok(Some(Rule::Replies));
+    }
+    Ok((!is_locked(before, entry, stripes, holder)).then_some(Rule::Locks))
+}
+
+/// The first entry that breaks a rule, and the rule.
+pub(super) fn first_bad(
+    alloc: Global,
+    history: &[Entry],
+    stripes: u64,
+    holder: Holder,
+) -> Result<Option<(usize, Rule)>, AllocError> {
+    for i in 0..history.len() {
+        if let Some(rule) = broken_rule(alloc, &history[..i + 1], stripes, holder)? {
+            return Ok(Some((i, rule)));
+        }
+    }
+    Ok(None)
+}
+
+/// The verdict on a history of which this is the first bad entry. A caller is in a transaction from
+/// its Began to its end.
+pub(super) fn verdict(history: &[Entry], bad: Option<(usize, Rule)>) -> Verdict {
+    if let Some((entry, rule)) = bad {
+        let entry = entry as u64;
+        return Verdict::Illegal { entry, rule };
+    }
+    let commits = count_committed(history);
+    let ended = commits.saturating_add(count_aborted(history));
+    let running = count_begun(history).saturating_sub(ended);
+    Verdict::Legal { commits, running }
+}
