@@ -4,8 +4,8 @@ mod plain_map;
 mod words;
 
 use crate::devices::{
-    abort, back, core_if_made, core_of, core_with, has_map, help, operate, owed_by, pairs_of,
-    run_step, sizes_of, take_step, trace_of,
+    abort, back, core_if_made, core_of, core_with, has_map, help, limits_of, operate, owed_by,
+    pairs_of, run_step, sizes_of, take_step, trace_of,
 };
 use boost_core::Core;
 use std::alloc::Global;
@@ -61,7 +61,7 @@ fn has_pairs(
 }
 
 /// Returns to savepoints, to one of them twice, and to the beginning.
-const SAVEPOINTS: [(Call, Answer); 14] = [
+static SAVEPOINTS: [(Call, Answer); 14] = [
     (Call::Run(Step::Begin(0)), Answer::Began(1)),
     (Call::Op(0, Op::Put(1, 10)), Answer::Done(None)),
     (Call::Run(Step::Save(0)), Answer::Saved(1)),
@@ -78,7 +78,7 @@ const SAVEPOINTS: [(Call, Answer); 14] = [
     (Call::Run(Step::Commit(0)), Answer::Committed(1)),
 ];
 
-const HISTORY_OF_SAVEPOINTS: [Entry; 25] = [
+static HISTORY_OF_SAVEPOINTS: [Entry; 25] = [
     Entry::Began(0, 1),
     Entry::Asked(0, Op::Put(1, 10)),
     Entry::Did(0, None),
@@ -117,7 +117,7 @@ fn savepoints(rt: HostRuntime) -> Result<(), Fail> {
 }
 
 /// Each kind of step, by `step`, with the bucket steps of one helper.
-const EACH_KIND: [(Call, Answer); 17] = [
+static EACH_KIND: [(Call, Answer); 17] = [
     (Call::Step(Step::Begin(0)), Answer::Began(1)),
     (Call::Step(Step::Ask(0, Op::Put(3, 30))), Answer::Asked),
     (Call::Step(Step::Seek(0)), Answer::Placed),
@@ -139,7 +139,7 @@ const EACH_KIND: [(Call, Answer); 17] = [
 
 /// An abort from each phase; one that has left to the end goes on, one that has left to a level is
 /// refused.
-const ABORTS: [(Call, Answer); 15] = [
+static ABORTS: [(Call, Answer); 15] = [
     (Call::Abort(0), Answer::Refused(Refusal::NotOpen)),
     (Call::Abort(3), Answer::Refused(Refusal::NoSuchCaller)),
     (Call::Run(Step::Begin(0)), Answer::Began(1)),
@@ -160,7 +160,7 @@ const ABORTS: [(Call, Answer); 15] = [
 /// Each marked node is swept by a sweep of its own. And an act is done at its cursor although the
 /// list has changed elsewhere since its seek, and although another caller has read; a helper's
 /// dummy is linked although the list has changed elsewhere.
-const SWEEPS_AND_CURSORS: [(Call, Answer); 20] = [
+static SWEEPS_AND_CURSORS: [(Call, Answer); 20] = [
     (Call::Run(Step::Begin(0)), Answer::Began(1)),
     (Call::Op(0, Op::Put(4, 40)), Answer::Done(None)),
     (Call::Op(0, Op::Put(2, 20)), Answer::Done(None)),
@@ -205,19 +205,19 @@ fn steps_and_calls(rt: HostRuntime) -> Result<(), Fail> {
     play_run(&rt, alloc, 2, &SWEEPS_AND_CURSORS, &pairs)
 }
 
-/// Puts of keys of 64 bits, with their replies: a put that expects another value is none.
-const WIDE_PUTS: [(Op, Reply); 7] = [
-    (Op::Put(9_223_372_036_854_775_809, 11), None),
-    (Op::Put(1, 10), None),
-    (Op::PutIf(1, None, 12), Some(10)),
-    (Op::PutIf(1, Some(10), 12), Some(10)),
-    (Op::PutIf(2, None, 20), None),
-    (Op::PutIf(3, Some(5), 6), None),
-    (Op::Put(18_446_744_073_709_551_615, 7), None),
+/// Puts of keys of 64 bits: a put that expects another value is none.
+static WIDE_PUTS: [(Op, Answer); 7] = [
+    (Op::Put(9_223_372_036_854_775_809, 11), Answer::Done(None)),
+    (Op::Put(1, 10), Answer::Done(None)),
+    (Op::PutIf(1, None, 12), Answer::Done(Some(10))),
+    (Op::PutIf(1, Some(10), 12), Answer::Done(Some(10))),
+    (Op::PutIf(2, None, 20), Answer::Done(None)),
+    (Op::PutIf(3, Some(5), 6), Answer::Done(None)),
+    (Op::Put(18_446_744_073_709_551_615, 7), Answer::Done(None)),
 ];
 
 /// What they leave: keys that share a split key stand by their numbers.
-const WIDE_PAIRS: [(u64, u64); 4] = [
+static WIDE_PAIRS: [(u64, u64); 4] = [
     (2, 20),
     (1, 12),
     (9_223_372_036_854_775_809, 11),
@@ -240,51 +240,86 @@ fn abort_by_steps(rt: &impl Abort, core: &mut Core, changes: u64) -> Result<(), 
     step_is(rt, core, Step::Act(0), Answer::Aborted)
 }
 
-/// By calls, and committed; and by steps, and aborted by steps: five changes are taken back.
-#[test]
-fn keys_of_64_bits(rt: HostRuntime) -> Result<(), Fail> {
-    let alloc = rt.alloc();
-    let mut core = core_of(alloc, 1)?;
-    step_is(&rt, &mut core, Step::Begin(0), Answer::Began(1))?;
-    for (op, reply) in WIDE_PUTS {
-        assert_eq!(rt;
-            operate(&mut core, 0, op)?,
-            Answer::Done(reply),
-            "at {op:?}"
-        );
+/// Caller 0 does operations by calls.
+fn operations_are(rt: &impl Abort, core: &mut Core, rows: &[(Op, Answer)]) -> Result<(), Fail> {
+    for (op, wanted) in rows {
+        assert_eq!(rt; operate(core, 0, *op)?, *wanted, "at {op:?}");
     }
-    step_is(&rt, &mut core, Step::Commit(0), Answer::Committed(1))?;
-    has_pairs(&rt, alloc, &core, 2, &WIDE_PAIRS)?;
-    let mut core = core_of(alloc, 1)?;
-    step_is(&rt, &mut core, Step::Begin(0), Answer::Began(1))?;
-    for (op, reply) in WIDE_PUTS {
-        step_is(&rt, &mut core, Step::Ask(0, op), Answer::Asked)?;
-        step_is(&rt, &mut core, Step::Seek(0), Answer::Placed)?;
-        step_is(&rt, &mut core, Step::Act(0), Answer::Done(reply))?;
+    Ok(())
+}
+
+/// Caller 0 does operations, each by three steps.
+fn operations_by_steps_are(
+    rt: &impl Abort,
+    core: &mut Core,
+    rows: &[(Op, Answer)],
+) -> Result<(), Fail> {
+    for (op, wanted) in rows {
+        step_is(rt, core, Step::Ask(0, *op), Answer::Asked)?;
+        step_is(rt, core, Step::Seek(0), Answer::Placed)?;
+        step_is(rt, core, Step::Act(0), *wanted)?;
     }
-    abort_by_steps(&rt, &mut core, 5)?;
-    has_pairs(&rt, alloc, &core, 2, &[])
+    Ok(())
+}
+
+/// A core whose caller 0 has begun a transaction.
+fn begun_core(rt: &impl Abort, alloc: Global, limits: Limits) -> Result<Core, Fail> {
+    let mut core = core_with(alloc, limits)?;
+    step_is(rt, &mut core, Step::Begin(0), Answer::Began(1))?;
+    Ok(core)
+}
+
+/// By calls, and committed.
+fn wide_keys_committed(rt: &impl Abort, alloc: Global) -> Result<(), Fail> {
+    let mut core = begun_core(rt, alloc, limits_of(1, 8, 8)?)?;
+    operations_are(rt, &mut core, &WIDE_PUTS)?;
+    step_is(rt, &mut core, Step::Commit(0), Answer::Committed(1))?;
+    has_pairs(rt, alloc, &core, 2, &WIDE_PAIRS)
+}
+
+/// By steps, and aborted by steps: five changes are taken back.
+fn wide_keys_aborted(rt: &impl Abort, alloc: Global) -> Result<(), Fail> {
+    let mut core = begun_core(rt, alloc, limits_of(1, 8, 8)?)?;
+    operations_by_steps_are(rt, &mut core, &WIDE_PUTS)?;
+    abort_by_steps(rt, &mut core, 5)?;
+    has_pairs(rt, alloc, &core, 2, &[])
 }
 
 /// With half keys alone the first key that is refused is 2^63, by every operation.
-#[test]
-fn half_keys(rt: HostRuntime) -> Result<(), Fail> {
-    let mut core = core_with(rt.alloc(), Limits::new(1, 8, 8)?.half_keys())?;
-    step_is(&rt, &mut core, Step::Begin(0), Answer::Began(1))?;
-    let bad = Answer::Refused(Refusal::BadKey);
-    for (op, wanted) in [
-        (Op::Put(9_223_372_036_854_775_808, 1), bad),
-        (Op::PutIf(9_223_372_036_854_775_808, None, 1), bad),
-        (Op::Take(9_223_372_036_854_775_808), bad),
-        (Op::Get(18_446_744_073_709_551_615), bad),
-        (Op::Put(9_223_372_036_854_775_807, 2), Answer::Done(None)),
-        (Op::Get(9_223_372_036_854_775_807), Answer::Done(Some(2))),
-    ] {
-        assert_eq!(rt; operate(&mut core, 0, op)?, wanted, "at {op:?}");
-    }
+static HALF_KEYS: [(Op, Answer); 6] = [
+    (
+        Op::Put(9_223_372_036_854_775_808, 1),
+        Answer::Refused(Refusal::BadKey),
+    ),
+    (
+        Op::PutIf(9_223_372_036_854_775_808, None, 1),
+        Answer::Refused(Refusal::BadKey),
+    ),
+    (
+        Op::Take(9_223_372_036_854_775_808),
+        Answer::Refused(Refusal::BadKey),
+    ),
+    (
+        Op::Get(18_446_744_073_709_551_615),
+        Answer::Refused(Refusal::BadKey),
+    ),
+    (Op::Put(9_223_372_036_854_775_807, 2), Answer::Done(None)),
+    (Op::Get(9_223_372_036_854_775_807), Answer::Done(Some(2))),
+];
+
+fn half_keys(rt: &impl Abort, alloc: Global) -> Result<(), Fail> {
+    let mut core = begun_core(rt, alloc, limits_of(1, 8, 8)?.half_keys())?;
+    operations_are(rt, &mut core, &HALF_KEYS)?;
     let helped = help(&mut core, 0, 9_223_372_036_854_775_808);
     assert_eq!(rt; helped, Err(Refusal::BadKey));
     Ok(())
+}
+
+#[test]
+fn keys_of_64_bits(rt: HostRuntime) -> Result<(), Fail> {
+    wide_keys_committed(&rt, rt.alloc())?;
+    wide_keys_aborted(&rt, rt.alloc())?;
+    half_keys(&rt, rt.alloc())
 }
 
 /// How many entries there are, how many buckets and keys, and how many entries are owed, for which
@@ -412,7 +447,7 @@ fn abort_all(rt: &impl Abort, core: &mut Core, callers: u64) {
 #[test]
 fn five_callers_undone(rt: HostRuntime) -> Result<(), Fail> {
     let alloc = rt.alloc();
-    let Some(mut core) = core_if_made(alloc, Limits::new(5, 8, 8)?) else {
+    let Some(mut core) = core_if_made(alloc, limits_of(5, 8, 8)?) else {
         return Ok(());
     };
     if change_five(&rt, alloc, &mut core)? {
@@ -455,7 +490,7 @@ fn put_many(rt: &impl Abort, alloc: Global, core: &mut Core) -> Result<bool, Fai
 }
 
 /// Bucket 64, the first of the second segment, is stored.
-const SECOND_SEGMENT: [(Step, Answer); 12] = [
+static SECOND_SEGMENT: [(Step, Answer); 12] = [
     (Step::Double(2), Answer::Doubled(4)),
     (Step::Double(4), Answer::Doubled(8)),
     (Step::Double(8), Answer::Doubled(16)),
@@ -479,7 +514,7 @@ const SECOND_SEGMENT: [(Step, Answer); 12] = [
 #[test]
 fn segments(rt: HostRuntime) -> Result<(), Fail> {
     let alloc = rt.alloc();
-    let Some(mut core) = core_if_made(alloc, Limits::new(1, 8, 128)?) else {
+    let Some(mut core) = core_if_made(alloc, limits_of(1, 8, 128)?) else {
         return Ok(());
     };
     let is_done = put_many(&rt, alloc, &mut core)?
@@ -493,27 +528,44 @@ fn segments(rt: HostRuntime) -> Result<(), Fail> {
     Ok(())
 }
 
+/// Caller 0 takes the newest of so many changes, each of a key of its number, back: those before it
+/// are left.
+fn undo_newest(rt: &impl Abort, alloc: Global, core: &mut Core, key: u64) -> Result<(), Fail> {
+    step_is(rt, core, Step::Seek(0), Answer::Placed)?;
+    step_is(rt, core, Step::Act(0), Answer::Undone)?;
+    let pairs = pairs_of(alloc, core)?;
+    assert_eq!(rt; (pairs.len() as u64).wrapping_add(1), key);
+    for pair in &pairs {
+        assert!(rt; pair.0 < key, "{pair:?} before {key}");
+    }
+    Ok(())
+}
+
+/// Caller 0 takes nine changes back.
+fn undo_nine(rt: &impl Abort, alloc: Global, core: &mut Core) -> Result<(), Fail> {
+    for key in &[9, 8, 7, 6, 5, 4, 3, 2, 1] {
+        undo_newest(rt, alloc, core, *key)?;
+    }
+    Ok(())
+}
+
+/// Caller 0 puts the keys from 1 to 9.
+fn put_nine(rt: &impl Abort, core: &mut Core) -> Result<(), Fail> {
+    for key in 1..10 {
+        assert_eq!(rt; operate(core, 0, Op::Put(key, 10))?, Answer::Done(None));
+    }
+    Ok(())
+}
+
 /// Nine changes of one transaction, of which eight jobs stand in the caller's log itself: each step
 /// back takes the newest key out, and leaves those before it.
 #[test]
 fn nine_undone_newest_first(rt: HostRuntime) -> Result<(), Fail> {
     let alloc = rt.alloc();
-    let mut core = core_of(alloc, 1)?;
-    step_is(&rt, &mut core, Step::Begin(0), Answer::Began(1))?;
-    for key in 1..10 {
-        assert_eq!(rt;
-            operate(&mut core, 0, Op::Put(key, 10))?,
-            Answer::Done(None)
-        );
-    }
+    let mut core = begun_core(&rt, alloc, limits_of(1, 8, 8)?)?;
+    put_nine(&rt, &mut core)?;
     step_is(&rt, &mut core, Step::Abort(0), Answer::Leaving)?;
-    for key in [9, 8, 7, 6, 5, 4, 3, 2, 1] {
-        step_is(&rt, &mut core, Step::Seek(0), Answer::Placed)?;
-        step_is(&rt, &mut core, Step::Act(0), Answer::Undone)?;
-        let pairs = pairs_of(alloc, &core)?;
-        assert_eq!(rt; (pairs.len() as u64).wrapping_add(1), key);
-        assert!(rt; pairs.iter().all(|pair| pair.0 < key));
-    }
+    undo_nine(&rt, alloc, &mut core)?;
     step_is(&rt, &mut core, Step::Act(0), Answer::Aborted)?;
     has_pairs(&rt, alloc, &core, 2, &[])
 }
@@ -521,7 +573,7 @@ fn nine_undone_newest_first(rt: HostRuntime) -> Result<(), Fail> {
 /// Steps, each with how many entries are owed after it: two for an open transaction and one for
 /// each change that stands; two more for a put that waits and one for a get; one more on the way to
 /// a level.
-const OWED: [(Step, usize); 16] = [
+static OWED: [(Step, usize); 16] = [
     (Step::Begin(0), 2),
     (Step::Ask(0, Op::Put(1, 10)), 4),
     (Step::Seek(0), 4),
@@ -540,19 +592,22 @@ const OWED: [(Step, usize); 16] = [
     (Step::Act(1), 0),
 ];
 
-#[test]
-fn owed_entries(rt: HostRuntime) -> Result<(), Fail> {
-    let mut core = core_of(rt.alloc(), 2)?;
-    for (step, owed) in OWED {
-        take_step(&mut core, step)?;
-        assert_eq!(rt; owed_by(&core), owed, "after {step:?}");
+fn owed_are(rt: &impl Abort, core: &mut Core, rows: &[(Step, usize)]) -> Result<(), Fail> {
+    for (step, owed) in rows {
+        take_step(core, *step)?;
+        assert_eq!(rt; owed_by(core), *owed, "after {step:?}");
     }
     Ok(())
 }
 
+#[test]
+fn owed_entries(rt: HostRuntime) -> Result<(), Fail> {
+    owed_are(&rt, &mut core_of(rt.alloc(), 2)?, &OWED)
+}
+
 /// A call for help doubles a table with more than two keys a bucket, and initialises the bucket of
 /// its key: the key, the size after it, and the bucket.
-const HELPED: [(u64, u32, u64); 9] = [
+static HELPED: [(u64, u32, u64); 9] = [
     (0, 2, 0),
     (1, 2, 1),
     (2, 2, 0),
@@ -564,37 +619,40 @@ const HELPED: [(u64, u32, u64); 9] = [
     (8, 8, 0),
 ];
 
-#[test]
-fn helps_to_grow(rt: HostRuntime) -> Result<(), Fail> {
-    let mut core = core_of(rt.alloc(), 1)?;
-    step_is(&rt, &mut core, Step::Begin(0), Answer::Began(1))?;
-    for (key, size, bucket) in HELPED {
-        assert_eq!(rt;
-            operate(&mut core, 0, Op::Put(key, key))?,
-            Answer::Done(None)
-        );
-        assert_eq!(rt; help(&mut core, 0, key), Ok(()));
-        assert_eq!(rt; sizes_of(&core), (size, key.wrapping_add(1)), "at {key}");
-        step_is(&rt, &mut core, Step::InitSeek(0, bucket), Answer::Ready)?;
+/// Caller 0 puts keys by their numbers and helps after each.
+fn helped_are(rt: &impl Abort, core: &mut Core, rows: &[(u64, u32, u64)]) -> Result<(), Fail> {
+    for (key, size, bucket) in rows {
+        assert_eq!(rt; operate(core, 0, Op::Put(*key, *key))?, Answer::Done(None));
+        assert_eq!(rt; help(core, 0, *key), Ok(()));
+        assert_eq!(rt; sizes_of(core).0, *size, "at {key}");
+        step_is(rt, core, Step::InitSeek(0, *bucket), Answer::Ready)?;
     }
-    assert_eq!(rt; help(&mut core, 1, 0), Err(Refusal::NoSuchHelper));
+    Ok(())
+}
+
+/// Caller 0 puts so many keys and helps before each.
+fn put_helped(rt: &impl Abort, core: &mut Core, keys: u64) -> Result<(), Fail> {
+    for key in 0..keys {
+        assert_eq!(rt; help(core, 0, key), Ok(()));
+        assert_eq!(rt; operate(core, 0, Op::Put(key, key))?, Answer::Done(None));
+    }
     Ok(())
 }
 
 /// 30,000 keys with help before each put, each from a bucket of its own: without help each seek
 /// would walk all keys.
-#[test]
-fn helped_table_stays_fast(rt: HostRuntime) -> Result<(), Fail> {
-    let mut core = core_with(rt.alloc(), Limits::new(1, 64, 65_536)?)?;
-    step_is(&rt, &mut core, Step::Begin(0), Answer::Began(1))?;
-    for key in 0..30_000 {
-        assert_eq!(rt; help(&mut core, 0, key), Ok(()));
-        assert_eq!(rt;
-            operate(&mut core, 0, Op::Put(key, key))?,
-            Answer::Done(None)
-        );
-    }
-    step_is(&rt, &mut core, Step::Commit(0), Answer::Committed(1))?;
+fn helped_table_stays_fast(rt: &impl Abort, alloc: Global) -> Result<(), Fail> {
+    let mut core = begun_core(rt, alloc, limits_of(1, 64, 65_536)?)?;
+    put_helped(rt, &mut core, 30_000)?;
+    step_is(rt, &mut core, Step::Commit(0), Answer::Committed(1))?;
     assert_eq!(rt; sizes_of(&core), (16_384, 30_000));
     Ok(())
+}
+
+#[test]
+fn helps_to_grow(rt: HostRuntime) -> Result<(), Fail> {
+    let mut core = begun_core(&rt, rt.alloc(), limits_of(1, 8, 8)?)?;
+    helped_are(&rt, &mut core, &HELPED)?;
+    assert_eq!(rt; help(&mut core, 1, 0), Err(Refusal::NoSuchHelper));
+    helped_table_stays_fast(&rt, rt.alloc())
 }

@@ -5,9 +5,14 @@ use std::process::Abort;
 use std::test::Fail;
 use txn_trace::{Answer, Entry, Limits, Op, Refusal, Step};
 
+/// Limits of these numbers that take every key.
+pub(crate) fn limits_of(callers: u64, stripes: u64, buckets: u64) -> Result<Limits, Fail> {
+    Ok(Limits::new(callers, stripes, buckets)?)
+}
+
 /// A core of so many callers, with 8 stripes and at most 8 buckets.
 pub(crate) fn core_of(alloc: Global, callers: u64) -> Result<Core, Fail> {
-    core_with(alloc, Limits::new(callers, 8, 8)?)
+    core_with(alloc, limits_of(callers, 8, 8)?)
 }
 
 /// A core of these limits.

@@ -43,6 +43,39 @@ fn verdict_so_far(checker: &Checker) -> Verdict {
     checker.verdict()
 }
 
+/// What the plain program says of the entries up to a place, by the first bad one of all.
+fn plain_at(entries: &[Entry], place: usize, bad: Option<(usize, Rule)>) -> Verdict {
+    match bad {
+        Some(bad) if bad.0 <= place => plain::verdict(entries, Some(bad)),
+        _ => plain::verdict(entries.get(..=place).unwrap_or(entries), None),
+    }
+}
+
+/// Sees that of so many entries this is said.
+fn says(rt: &impl Abort, said: Verdict, wanted: Verdict, entries: &[Entry], count: usize) {
+    assert_eq!(rt; said, wanted, "of the first {count} of {entries:?}");
+}
+
+/// Sees that a checker that is fed entry by entry says what the plain program says.
+fn feed_each(
+    rt: &impl Abort,
+    mut checker: Checker,
+    entries: &[Entry],
+    bad: Option<(usize, Rule)>,
+) -> Result<(), AllocError> {
+    for (i, entry) in entries.iter().enumerate() {
+        feed(rt, &mut checker, entry)?;
+        says(
+            rt,
+            verdict_so_far(&checker),
+            plain_at(entries, i, bad),
+            entries,
+            i + 1,
+        );
+    }
+    Ok(())
+}
+
 /// The verdict of the plain program, which `check` and a checker that is fed entry by entry must
 /// share.
 fn judge_once(
@@ -55,17 +88,8 @@ fn judge_once(
     let bad = plain::first_bad(alloc, entries, stripes, holder)?;
     let expected = plain::verdict(entries, bad);
     let whole = checked(rt, alloc, entries, stripes, holder)?;
-    assert_eq!(rt; whole, expected, "{entries:?}");
-    let mut checker = checker_of(rt, alloc, stripes, holder)?;
-    for (i, entry) in entries.iter().enumerate() {
-        feed(rt, &mut checker, entry)?;
-        let so_far = plain::verdict(&entries[..i + 1], bad.filter(|bad| bad.0 <= i));
-        assert_eq!(rt;
-            verdict_so_far(&checker),
-            so_far,
-            "after entry {i} of {entries:?}"
-        );
-    }
+    says(rt, whole, expected, entries, entries.len());
+    feed_each(rt, checker_of(rt, alloc, stripes, holder)?, entries, bad)?;
     Ok(expected)
 }
 
@@ -223,7 +247,7 @@ const WITH_SAVEPOINTS: [Entry; 16] = [
 type Row = (&'static [Entry], Option<(usize, Entry)>, u64, Verdict);
 
 /// What is said where a Busy names a holder of now.
-const BY_HOLDERS_OF_NOW: [Row; 19] = [
+static BY_HOLDERS_OF_NOW: [Row; 19] = [
     (
         &REPLIES,
         None,
@@ -398,7 +422,7 @@ const BY_HOLDERS_OF_NOW: [Row; 19] = [
 ];
 
 /// What is said where a Busy names a caller that has begun.
-const BY_HOLDERS_THAT_HAVE_BEGUN: [Row; 5] = [
+static BY_HOLDERS_THAT_HAVE_BEGUN: [Row; 5] = [
     (
         &HOLDER_HAS_BEGUN,
         None,
@@ -465,22 +489,35 @@ fn judge_rows(
     Ok(())
 }
 
+/// The history with savepoints up to where the first is reached again.
+fn back_at_1() -> &'static [Entry] {
+    &WITH_SAVEPOINTS[..15]
+}
+
+/// Sees that the rules have their numbers.
+fn rules_have_numbers(rt: &impl Abort) {
+    for (rule, number) in &[(Rule::Replies, 1), (Rule::Locks, 2), (Rule::Shape, 3)] {
+        assert_eq!(rt; rule.number(), *number);
+    }
+}
+
+/// Sees what is said of all worked histories.
+fn judge_all(rt: &impl Abort, alloc: Global) -> Result<(), AllocError> {
+    judge_rows(rt, alloc, Holder::Now, &BY_HOLDERS_OF_NOW)?;
+    judge_rows(rt, alloc, Holder::Begun, &BY_HOLDERS_THAT_HAVE_BEGUN)?;
+    let back = judge(rt, alloc, back_at_1(), 8, Holder::Now)?;
+    let wanted = Verdict::Legal {
+        commits: 0,
+        running: 1,
+    };
+    says(rt, back, wanted, back_at_1(), 15);
+    Ok(())
+}
+
 #[test]
 fn worked_histories(rt: HostRuntime) -> Result<(), Fail> {
-    let alloc = rt.alloc();
-    judge_rows(&rt, alloc, Holder::Now, &BY_HOLDERS_OF_NOW)?;
-    judge_rows(&rt, alloc, Holder::Begun, &BY_HOLDERS_THAT_HAVE_BEGUN)?;
-    // Back at the first savepoint, which is left.
-    let back = judge(&rt, alloc, &WITH_SAVEPOINTS[..15], 8, Holder::Now)?;
-    assert_eq!(rt;
-        back,
-        Verdict::Legal {
-            commits: 0,
-            running: 1
-        }
-    );
-    let numbers = [Rule::Replies, Rule::Locks, Rule::Shape].map(|rule| rule.number());
-    assert_eq!(rt; numbers, [1, 2, 3]);
+    rules_have_numbers(&rt);
+    judge_all(&rt, rt.alloc())?;
     Ok(())
 }
 

@@ -73,17 +73,37 @@ fn number_and_text(alloc: Global, refusal: Refusal) -> Result<(u64, String), All
     Ok((refusal.number(), format!(in alloc; "{refusal}")?))
 }
 
+/// Sees that the answers have these texts.
+fn answers_have_texts(
+    rt: &impl Abort,
+    alloc: Global,
+    rows: &[(Answer, &str)],
+) -> Result<(), AllocError> {
+    for (answer, wanted) in rows {
+        let text = text_of(alloc, answer)?;
+        assert_eq!(rt; text.as_str(), *wanted);
+    }
+    Ok(())
+}
+
+/// Sees that the refusals have these numbers and texts.
+fn refusals_have_numbers(
+    rt: &impl Abort,
+    alloc: Global,
+    rows: &[(Refusal, u64, &str)],
+) -> Result<(), AllocError> {
+    for (refusal, wanted, words) in rows {
+        let (number, text) = number_and_text(alloc, *refusal)?;
+        assert_eq!(rt; number, *wanted, "of {text}");
+        assert_eq!(rt; text.as_str(), *words);
+    }
+    Ok(())
+}
+
 #[test]
 fn numbers_and_texts(rt: HostRuntime) -> Result<(), Fail> {
-    for (answer, wanted) in ANSWERS {
-        let text = text_of(rt.alloc(), &answer)?;
-        assert_eq!(rt; text.as_str(), wanted);
-    }
-    for (refusal, wanted, words) in REFUSALS {
-        let (number, text) = number_and_text(rt.alloc(), refusal)?;
-        assert_eq!(rt; number, wanted, "of {text}");
-        assert_eq!(rt; text.as_str(), words);
-    }
+    answers_have_texts(&rt, rt.alloc(), &ANSWERS)?;
+    refusals_have_numbers(&rt, rt.alloc(), &REFUSALS)?;
     Ok(())
 }
 
@@ -139,29 +159,41 @@ fn are_half_keys_others() -> Result<bool, Refusal> {
     Ok(every.half_keys() != every)
 }
 
+/// Keys, each with what half keys alone refuse it with.
+const KEYS: [(u64, Option<Refusal>); 3] = [
+    (0x7fff_ffff_ffff_ffff, None),
+    (0x8000_0000_0000_0000, Some(Refusal::BadKey)),
+    (0xffff_ffff_ffff_ffff, Some(Refusal::BadKey)),
+];
+
+/// Sees that limits may have these numbers, or that they may not.
+fn limits_are(rt: &impl Abort, rows: &[(u64, u64, u64)], are_in_range: bool) {
+    for (callers, stripes, buckets) in rows {
+        let numbers = numbers_of(*callers, *stripes, *buckets);
+        let wanted = if are_in_range {
+            Ok((*callers, *stripes, *buckets))
+        } else {
+            Err(Refusal::Limit)
+        };
+        assert_eq!(rt; numbers, wanted, "{callers}, {stripes}, {buckets}");
+    }
+}
+
+/// Sees what an open transaction may not look up.
+fn keys_are(rt: &impl Abort, seat: &Seat, rows: &[(u64, Option<Refusal>)]) -> Result<(), Refusal> {
+    for (key, half) in rows {
+        assert_eq!(rt; refusals_of_key(seat, *key)?, (None, *half), "of key {key}");
+    }
+    Ok(())
+}
+
 #[test]
 fn limits_and_keys(rt: HostRuntime) -> Result<(), Fail> {
-    for (callers, stripes, buckets) in IN_RANGE {
-        let numbers = numbers_of(callers, stripes, buckets);
-        assert_eq!(rt; numbers, Ok((callers, stripes, buckets)));
-    }
-    for (callers, stripes, buckets) in OUT_OF_RANGE {
-        let numbers = numbers_of(callers, stripes, buckets);
-        assert_eq!(rt;
-            numbers,
-            Err(Refusal::Limit),
-            "{callers}, {stripes}, {buckets}"
-        );
-    }
+    limits_are(&rt, &IN_RANGE, true);
+    limits_are(&rt, &OUT_OF_RANGE, false);
     assert!(rt; are_half_keys_others()?);
     let seat = open_seat(&rt, rt.alloc());
-    for (key, half) in [
-        (0x7fff_ffff_ffff_ffff, None),
-        (0x8000_0000_0000_0000, Some(Refusal::BadKey)),
-        (0xffff_ffff_ffff_ffff, Some(Refusal::BadKey)),
-    ] {
-        assert_eq!(rt; refusals_of_key(&seat, key)?, (None, half), "of key {key}");
-    }
+    keys_are(&rt, &seat, &KEYS)?;
     Ok(())
 }
 
@@ -204,17 +236,18 @@ fn caller_of(entry: &Entry) -> u64 {
     entry.caller()
 }
 
+fn operations_are(rt: &impl Abort, rows: &[(Op, Reply, u64, bool)]) {
+    for (op, reply, key, is_change) in rows {
+        let found = key_and_change(*op, *reply);
+        assert_eq!(rt; found, (*key, *is_change), "{op:?} of {reply:?}");
+    }
+}
+
 #[test]
 fn operations_and_entries(rt: HostRuntime) {
-    for (op, reply, key, is_change) in OPERATIONS {
-        assert_eq!(rt;
-            key_and_change(op, reply),
-            (key, is_change),
-            "{op:?} of {reply:?}"
-        );
-    }
-    for entry in ENTRIES {
-        assert_eq!(rt; caller_of(&entry), 7, "{entry:?}");
+    operations_are(&rt, &OPERATIONS);
+    for entry in &ENTRIES {
+        assert_eq!(rt; caller_of(entry), 7, "{entry:?}");
     }
 }
 

@@ -1,12 +1,12 @@
 //! Pairs of keys that share a split key, a key below 2^63 and the same with 2^63 more: two callers'
 //! steps in every order, each compared with a plain map that has an undo of its own.
 use super::plain_map::{PlainMap, Stage};
-use crate::devices::{core_with, pairs_of, sizes_of, take_step};
+use crate::devices::{core_with, limits_of, pairs_of, sizes_of, take_step};
 use boost_core::Core;
 use std::alloc::Global;
 use std::process::Abort;
 use std::test::Fail;
-use txn_trace::{Answer, Limits, Op, Step};
+use txn_trace::{Answer, Op, Step};
 
 /// On how many pairs the orders are tried, one after the other.
 const PAIRS: u64 = 24;
@@ -62,7 +62,7 @@ struct Compared {
 
 impl Compared {
     fn new(alloc: Global, stripes: u64) -> Result<Compared, Fail> {
-        let core = core_with(alloc, Limits::new(2, stripes, 32)?)?;
+        let core = core_with(alloc, limits_of(2, stripes, 32)?)?;
         let plain = PlainMap::new(alloc, stripes);
         let last = None;
         Ok(Compared { core, plain, last })

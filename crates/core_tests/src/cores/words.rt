@@ -1,14 +1,15 @@
 //! Operations that are asked for where stripes are words.
-use crate::devices::{core_of, take_step, trace_of};
+use crate::devices::{core_of, limits_of, take_step, trace_of};
 use boost_core::Core;
 use key_locks::StripeRight;
 use std::alloc::Global;
+use std::process::Abort;
 use std::test::Fail;
-use txn_trace::{Answer, Entry, Limits, Op, Refusal, Step};
+use txn_trace::{Answer, Entry, Op, Refusal, Step};
 
 /// A core of 3 callers whose stripes, 8 of them, are words.
 fn core_with_words(alloc: Global) -> Result<Core, Fail> {
-    Ok(Core::with_words(alloc, Limits::new(3, 8, 8)?)?)
+    Ok(Core::with_words(alloc, limits_of(3, 8, 8)?)?)
 }
 
 /// Whether stripes are words.
@@ -56,7 +57,7 @@ fn answer(core: &mut Core, right: &StripeRight, ask: Ask) -> Result<Answer, Fail
 
 /// Caller 0 puts with the right to stripe 1. Caller 1 finds its word there and is busy; a right to
 /// the same stripe, a word of a caller that has never begun and one of its own are stale.
-const ASKS: [(Ask, Answer); 11] = [
+static ASKS: [(Ask, Answer); 11] = [
     (Ask::Step(Step::Begin(0)), Answer::Began(1)),
     (Ask::Right(0, Op::Put(1, 10)), Answer::Asked),
     (Ask::Step(Step::Seek(0)), Answer::Placed),
@@ -79,7 +80,7 @@ const ASKS: [(Ask, Answer); 11] = [
     (Ask::Step(Step::Commit(0)), Answer::Committed(1)),
 ];
 
-const HISTORY_OF_ASKS: [Entry; 7] = [
+static HISTORY_OF_ASKS: [Entry; 7] = [
     Entry::Began(0, 1),
     Entry::Asked(0, Op::Put(1, 10)),
     Entry::Did(0, None),
@@ -89,6 +90,18 @@ const HISTORY_OF_ASKS: [Entry; 7] = [
     Entry::Committed(0, 1),
 ];
 
+fn asks_are(
+    rt: &impl Abort,
+    core: &mut Core,
+    right: &StripeRight,
+    rows: &[(Ask, Answer)],
+) -> Result<(), Fail> {
+    for (ask, wanted) in rows {
+        assert_eq!(rt; answer(core, right, *ask)?, *wanted, "at {ask:?}");
+    }
+    Ok(())
+}
+
 /// And a core is ordinary unless it is made with words.
 #[test]
 fn rights_and_words(rt: HostRuntime) -> Result<(), Fail> {
@@ -97,9 +110,7 @@ fn rights_and_words(rt: HostRuntime) -> Result<(), Fail> {
     let rights = StripeRight::all(alloc, 8)?;
     let right = rights.get(1).ok_or("no right")?;
     let mut core = core_with_words(alloc)?;
-    for (ask, wanted) in ASKS {
-        assert_eq!(rt; answer(&mut core, right, ask)?, wanted, "at {ask:?}");
-    }
+    asks_are(&rt, &mut core, right, &ASKS)?;
     assert_eq!(rt; trace_of(&core), HISTORY_OF_ASKS.as_slice());
     Ok(())
 }

@@ -74,7 +74,10 @@ fn next_entry(
     let kept = plain::standing_at_levels(alloc, &entries)?;
     let standing = plain::count_standing(&entries);
     Ok(match plain::place_after(&entries) {
-        Place::Closed => Entry::Began(caller, plain::next_txn(history)),
+        Place::Closed => {
+            let began = plain::counts_of(history).began;
+            Entry::Began(caller, began.saturating_add(1))
+        }
         Place::Asked if draws.below(10) == 0 => Entry::Leave(caller, None),
         Place::Asked => Entry::Did(caller, plain::reply_alone(alloc, history, caller)?),
         Place::LeavingTo(level) => match kept.get(level as usize) {
@@ -83,17 +86,35 @@ fn next_entry(
         },
         Place::LeavingToEnd if standing == 0 => Entry::Aborted(caller),
         Place::LeavingToEnd => Entry::Undone(caller),
-        Place::Open => match draws.below(12) {
-            0 | 1 => Entry::Saved(caller),
-            2 => Entry::Leave(caller, None),
-            3 => Entry::Leave(caller, Some(draws.below((kept.len() as u64).max(1)))),
-            4 => Entry::Committed(caller, plain::count_committed(history).saturating_add(1)),
-            _ => {
-                let is_early = holder == Holder::Begun && draws.below(4) == 0;
-                next_operation(history, caller, draws.op(), stripes, is_early)
-            }
-        },
+        Place::Open => {
+            let levels = kept.len() as u64;
+            next_in_open(draws, history, caller, stripes, holder, levels)
+        }
     })
+}
+
+/// An entry that the caller may add in an open transaction with so many levels.
+fn next_in_open(
+    draws: &mut Draws,
+    history: &[Entry],
+    caller: u64,
+    stripes: u64,
+    holder: Holder,
+    levels: u64,
+) -> Entry {
+    match draws.below(12) {
+        0 | 1 => Entry::Saved(caller),
+        2 => Entry::Leave(caller, None),
+        3 => Entry::Leave(caller, Some(draws.below(levels))),
+        4 => {
+            let committed = plain::counts_of(history).committed;
+            Entry::Committed(caller, committed.saturating_add(1))
+        }
+        _ => {
+            let is_early = holder == Holder::Begun && draws.below(4) == 0;
+            next_operation(history, caller, draws.op(), stripes, is_early)
+        }
+    }
 }
 
 /// What comes of an operation in an open transaction: it is asked for, or a holder of its stripe is
