@@ -5,7 +5,7 @@ mod words;
 
 use crate::devices::{
     abort, back, core_if_made, core_of, core_with, has_map, help, limits_of, operate, owed_by,
-    pairs_of, run_step, sizes_of, take_step, trace_of,
+    pairs_of, run_step, sizes_of, step_is, take_step, trace_of,
 };
 use boost_core::Core;
 use std::alloc::Global;
@@ -13,7 +13,8 @@ use std::process::Abort;
 use std::test::Fail;
 use txn_trace::{Answer, Entry, Limits, Op, Refusal, Reply, Step};
 
-/// A step, by `step` or by `run`, or a plain call.
+/// A step, by `step` or by `run`, or a plain call. A call for help that is done is answered `Ready`
+/// here, as the step that finds the bucket initialised.
 #[derive(Clone, Copy, Debug)]
 enum Call {
     Step(Step),
@@ -21,6 +22,7 @@ enum Call {
     Op(u64, Op),
     Back(u64, u64),
     Abort(u64),
+    Help(u64, u64),
 }
 
 fn make_call(alloc: Global, core: &mut Core, call: Call) -> Result<Answer, Fail> {
@@ -30,6 +32,10 @@ fn make_call(alloc: Global, core: &mut Core, call: Call) -> Result<Answer, Fail>
         Call::Op(caller, op) => operate(core, caller, op),
         Call::Back(caller, level) => Ok(back(core, caller, level)),
         Call::Abort(caller) => Ok(abort(core, caller)),
+        Call::Help(caller, key) => match help(core, caller, key) {
+            Ok(()) => Ok(Answer::Ready),
+            Err(refusal) => Ok(Answer::Refused(refusal)),
+        },
     }
 }
 
@@ -46,22 +52,21 @@ fn play_calls(
     Ok(())
 }
 
-/// Sees how many buckets there are, and that list, map and count have these pairs.
+/// Sees that there are two buckets, and that list, map and count have these pairs.
 fn has_pairs(
     rt: &impl Abort,
     alloc: Global,
     core: &Core,
-    size: u32,
     wanted: &[(u64, u64)],
 ) -> Result<(), Fail> {
-    assert_eq!(rt; sizes_of(core), (size, wanted.len() as u64));
+    assert_eq!(rt; sizes_of(core), (2, wanted.len() as u64));
     let pairs = pairs_of(alloc, core)?;
     assert_eq!(rt; pairs.as_slice(), wanted);
     has_map(rt, alloc, core, wanted)
 }
 
 /// Returns to savepoints, to one of them twice, and to the beginning.
-static SAVEPOINTS: [(Call, Answer); 14] = [
+const SAVEPOINTS: [(Call, Answer); 14] = [
     (Call::Run(Step::Begin(0)), Answer::Began(1)),
     (Call::Op(0, Op::Put(1, 10)), Answer::Done(None)),
     (Call::Run(Step::Save(0)), Answer::Saved(1)),
@@ -78,7 +83,7 @@ static SAVEPOINTS: [(Call, Answer); 14] = [
     (Call::Run(Step::Commit(0)), Answer::Committed(1)),
 ];
 
-static HISTORY_OF_SAVEPOINTS: [Entry; 25] = [
+const HISTORY_OF_SAVEPOINTS: [Entry; 25] = [
     Entry::Began(0, 1),
     Entry::Asked(0, Op::Put(1, 10)),
     Entry::Did(0, None),
@@ -106,18 +111,8 @@ static HISTORY_OF_SAVEPOINTS: [Entry; 25] = [
     Entry::Committed(0, 1),
 ];
 
-#[test]
-fn savepoints(rt: HostRuntime) -> Result<(), Fail> {
-    let alloc = rt.alloc();
-    let mut core = core_of(alloc, 2)?;
-    play_calls(&rt, alloc, &mut core, &SAVEPOINTS)?;
-    has_pairs(&rt, alloc, &core, 2, &[])?;
-    assert_eq!(rt; trace_of(&core), HISTORY_OF_SAVEPOINTS.as_slice());
-    Ok(())
-}
-
 /// Each kind of step, by `step`, with the bucket steps of one helper.
-static EACH_KIND: [(Call, Answer); 17] = [
+const EACH_KIND: [(Call, Answer); 17] = [
     (Call::Step(Step::Begin(0)), Answer::Began(1)),
     (Call::Step(Step::Ask(0, Op::Put(3, 30))), Answer::Asked),
     (Call::Step(Step::Seek(0)), Answer::Placed),
@@ -139,7 +134,7 @@ static EACH_KIND: [(Call, Answer); 17] = [
 
 /// An abort from each phase; one that has left to the end goes on, one that has left to a level is
 /// refused.
-static ABORTS: [(Call, Answer); 15] = [
+const ABORTS: [(Call, Answer); 15] = [
     (Call::Abort(0), Answer::Refused(Refusal::NotOpen)),
     (Call::Abort(3), Answer::Refused(Refusal::NoSuchCaller)),
     (Call::Run(Step::Begin(0)), Answer::Began(1)),
@@ -160,7 +155,7 @@ static ABORTS: [(Call, Answer); 15] = [
 /// Each marked node is swept by a sweep of its own. And an act is done at its cursor although the
 /// list has changed elsewhere since its seek, and although another caller has read; a helper's
 /// dummy is linked although the list has changed elsewhere.
-static SWEEPS_AND_CURSORS: [(Call, Answer); 20] = [
+const SWEEPS_AND_CURSORS: [(Call, Answer); 20] = [
     (Call::Run(Step::Begin(0)), Answer::Began(1)),
     (Call::Op(0, Op::Put(4, 40)), Answer::Done(None)),
     (Call::Op(0, Op::Put(2, 20)), Answer::Done(None)),
@@ -183,143 +178,225 @@ static SWEEPS_AND_CURSORS: [(Call, Answer); 20] = [
     (Call::Run(Step::InitLink(0)), Answer::Linked),
 ];
 
-/// Plays a run on a core of its own, and sees which pairs are left in two buckets.
-fn play_run(
-    rt: &impl Abort,
-    alloc: Global,
-    callers: u64,
-    lines: &[(Call, Answer)],
-    pairs: &[(u64, u64)],
-) -> Result<(), Fail> {
-    let mut core = core_of(alloc, callers)?;
-    play_calls(rt, alloc, &mut core, lines)?;
-    has_pairs(rt, alloc, &core, 2, pairs)
-}
-
-#[test]
-fn steps_and_calls(rt: HostRuntime) -> Result<(), Fail> {
-    let alloc = rt.alloc();
-    play_run(&rt, alloc, 2, &EACH_KIND, &[(3, 30)])?;
-    play_run(&rt, alloc, 3, &ABORTS, &[])?;
-    let pairs = [(8, 80), (4, 40), (12, 120), (2, 21)];
-    play_run(&rt, alloc, 2, &SWEEPS_AND_CURSORS, &pairs)
-}
-
-/// Puts of keys of 64 bits: a put that expects another value is none.
-static WIDE_PUTS: [(Op, Answer); 7] = [
-    (Op::Put(9_223_372_036_854_775_809, 11), Answer::Done(None)),
-    (Op::Put(1, 10), Answer::Done(None)),
-    (Op::PutIf(1, None, 12), Answer::Done(Some(10))),
-    (Op::PutIf(1, Some(10), 12), Answer::Done(Some(10))),
-    (Op::PutIf(2, None, 20), Answer::Done(None)),
-    (Op::PutIf(3, Some(5), 6), Answer::Done(None)),
-    (Op::Put(18_446_744_073_709_551_615, 7), Answer::Done(None)),
+/// Puts of keys of 64 bits, by calls, and committed: a put that expects another value is none.
+const WIDE_KEYS: [(Call, Answer); 9] = [
+    (Call::Step(Step::Begin(0)), Answer::Began(1)),
+    (
+        Call::Op(0, Op::Put(9_223_372_036_854_775_809, 11)),
+        Answer::Done(None),
+    ),
+    (Call::Op(0, Op::Put(1, 10)), Answer::Done(None)),
+    (Call::Op(0, Op::PutIf(1, None, 12)), Answer::Done(Some(10))),
+    (
+        Call::Op(0, Op::PutIf(1, Some(10), 12)),
+        Answer::Done(Some(10)),
+    ),
+    (Call::Op(0, Op::PutIf(2, None, 20)), Answer::Done(None)),
+    (Call::Op(0, Op::PutIf(3, Some(5), 6)), Answer::Done(None)),
+    (
+        Call::Op(0, Op::Put(18_446_744_073_709_551_615, 7)),
+        Answer::Done(None),
+    ),
+    (Call::Step(Step::Commit(0)), Answer::Committed(1)),
 ];
 
 /// What they leave: keys that share a split key stand by their numbers.
-static WIDE_PAIRS: [(u64, u64); 4] = [
+const WIDE_PAIRS: [(u64, u64); 4] = [
     (2, 20),
     (1, 12),
     (9_223_372_036_854_775_809, 11),
     (18_446_744_073_709_551_615, 7),
 ];
 
-/// Caller 0 takes a step, and is answered so.
-fn step_is(rt: &impl Abort, core: &mut Core, step: Step, wanted: Answer) -> Result<(), Fail> {
-    assert_eq!(rt; take_step(core, step)?, wanted, "at {step:?}");
-    Ok(())
-}
-
-/// Caller 0 takes so many changes back, and its transaction ends.
-fn abort_by_steps(rt: &impl Abort, core: &mut Core, changes: u64) -> Result<(), Fail> {
-    step_is(rt, core, Step::Abort(0), Answer::Leaving)?;
-    for _ in 0..changes {
-        step_is(rt, core, Step::Seek(0), Answer::Placed)?;
-        step_is(rt, core, Step::Act(0), Answer::Undone)?;
-    }
-    step_is(rt, core, Step::Act(0), Answer::Aborted)
-}
-
-/// Caller 0 does operations by calls.
-fn operations_are(rt: &impl Abort, core: &mut Core, rows: &[(Op, Answer)]) -> Result<(), Fail> {
-    for (op, wanted) in rows {
-        assert_eq!(rt; operate(core, 0, *op)?, *wanted, "at {op:?}");
-    }
-    Ok(())
-}
-
-/// Caller 0 does operations, each by three steps.
-fn operations_by_steps_are(
-    rt: &impl Abort,
-    core: &mut Core,
-    rows: &[(Op, Answer)],
-) -> Result<(), Fail> {
-    for (op, wanted) in rows {
-        step_is(rt, core, Step::Ask(0, *op), Answer::Asked)?;
-        step_is(rt, core, Step::Seek(0), Answer::Placed)?;
-        step_is(rt, core, Step::Act(0), *wanted)?;
-    }
-    Ok(())
-}
-
-/// A core whose caller 0 has begun a transaction.
-fn begun_core(rt: &impl Abort, alloc: Global, limits: Limits) -> Result<Core, Fail> {
-    let mut core = core_with(alloc, limits)?;
-    step_is(rt, &mut core, Step::Begin(0), Answer::Began(1))?;
-    Ok(core)
-}
-
-/// By calls, and committed.
-fn wide_keys_committed(rt: &impl Abort, alloc: Global) -> Result<(), Fail> {
-    let mut core = begun_core(rt, alloc, limits_of(1, 8, 8)?)?;
-    operations_are(rt, &mut core, &WIDE_PUTS)?;
-    step_is(rt, &mut core, Step::Commit(0), Answer::Committed(1))?;
-    has_pairs(rt, alloc, &core, 2, &WIDE_PAIRS)
-}
-
-/// By steps, and aborted by steps: five changes are taken back.
-fn wide_keys_aborted(rt: &impl Abort, alloc: Global) -> Result<(), Fail> {
-    let mut core = begun_core(rt, alloc, limits_of(1, 8, 8)?)?;
-    operations_by_steps_are(rt, &mut core, &WIDE_PUTS)?;
-    abort_by_steps(rt, &mut core, 5)?;
-    has_pairs(rt, alloc, &core, 2, &[])
-}
-
-/// With half keys alone the first key that is refused is 2^63, by every operation.
-static HALF_KEYS: [(Op, Answer); 6] = [
+/// The same by steps, and aborted by steps: five changes are taken back.
+const WIDE_KEYS_ABORTED: [(Call, Answer); 34] = [
+    (Call::Step(Step::Begin(0)), Answer::Began(1)),
     (
-        Op::Put(9_223_372_036_854_775_808, 1),
-        Answer::Refused(Refusal::BadKey),
+        Call::Step(Step::Ask(0, Op::Put(9_223_372_036_854_775_809, 11))),
+        Answer::Asked,
     ),
+    (Call::Step(Step::Seek(0)), Answer::Placed),
+    (Call::Step(Step::Act(0)), Answer::Done(None)),
+    (Call::Step(Step::Ask(0, Op::Put(1, 10))), Answer::Asked),
+    (Call::Step(Step::Seek(0)), Answer::Placed),
+    (Call::Step(Step::Act(0)), Answer::Done(None)),
     (
-        Op::PutIf(9_223_372_036_854_775_808, None, 1),
-        Answer::Refused(Refusal::BadKey),
+        Call::Step(Step::Ask(0, Op::PutIf(1, None, 12))),
+        Answer::Asked,
     ),
+    (Call::Step(Step::Seek(0)), Answer::Placed),
+    (Call::Step(Step::Act(0)), Answer::Done(Some(10))),
     (
-        Op::Take(9_223_372_036_854_775_808),
-        Answer::Refused(Refusal::BadKey),
+        Call::Step(Step::Ask(0, Op::PutIf(1, Some(10), 12))),
+        Answer::Asked,
     ),
+    (Call::Step(Step::Seek(0)), Answer::Placed),
+    (Call::Step(Step::Act(0)), Answer::Done(Some(10))),
     (
-        Op::Get(18_446_744_073_709_551_615),
-        Answer::Refused(Refusal::BadKey),
+        Call::Step(Step::Ask(0, Op::PutIf(2, None, 20))),
+        Answer::Asked,
     ),
-    (Op::Put(9_223_372_036_854_775_807, 2), Answer::Done(None)),
-    (Op::Get(9_223_372_036_854_775_807), Answer::Done(Some(2))),
+    (Call::Step(Step::Seek(0)), Answer::Placed),
+    (Call::Step(Step::Act(0)), Answer::Done(None)),
+    (
+        Call::Step(Step::Ask(0, Op::PutIf(3, Some(5), 6))),
+        Answer::Asked,
+    ),
+    (Call::Step(Step::Seek(0)), Answer::Placed),
+    (Call::Step(Step::Act(0)), Answer::Done(None)),
+    (
+        Call::Step(Step::Ask(0, Op::Put(18_446_744_073_709_551_615, 7))),
+        Answer::Asked,
+    ),
+    (Call::Step(Step::Seek(0)), Answer::Placed),
+    (Call::Step(Step::Act(0)), Answer::Done(None)),
+    (Call::Step(Step::Abort(0)), Answer::Leaving),
+    (Call::Step(Step::Seek(0)), Answer::Placed),
+    (Call::Step(Step::Act(0)), Answer::Undone),
+    (Call::Step(Step::Seek(0)), Answer::Placed),
+    (Call::Step(Step::Act(0)), Answer::Undone),
+    (Call::Step(Step::Seek(0)), Answer::Placed),
+    (Call::Step(Step::Act(0)), Answer::Undone),
+    (Call::Step(Step::Seek(0)), Answer::Placed),
+    (Call::Step(Step::Act(0)), Answer::Undone),
+    (Call::Step(Step::Seek(0)), Answer::Placed),
+    (Call::Step(Step::Act(0)), Answer::Undone),
+    (Call::Step(Step::Act(0)), Answer::Aborted),
 ];
 
-fn half_keys(rt: &impl Abort, alloc: Global) -> Result<(), Fail> {
-    let mut core = begun_core(rt, alloc, limits_of(1, 8, 8)?.half_keys())?;
-    operations_are(rt, &mut core, &HALF_KEYS)?;
-    let helped = help(&mut core, 0, 9_223_372_036_854_775_808);
-    assert_eq!(rt; helped, Err(Refusal::BadKey));
+/// With half keys alone the first key that is refused is 2^63, by every operation and by help.
+const HALF_KEYS: [(Call, Answer); 8] = [
+    (Call::Step(Step::Begin(0)), Answer::Began(1)),
+    (
+        Call::Op(0, Op::Put(9_223_372_036_854_775_808, 1)),
+        Answer::Refused(Refusal::BadKey),
+    ),
+    (
+        Call::Op(0, Op::PutIf(9_223_372_036_854_775_808, None, 1)),
+        Answer::Refused(Refusal::BadKey),
+    ),
+    (
+        Call::Op(0, Op::Take(9_223_372_036_854_775_808)),
+        Answer::Refused(Refusal::BadKey),
+    ),
+    (
+        Call::Op(0, Op::Get(18_446_744_073_709_551_615)),
+        Answer::Refused(Refusal::BadKey),
+    ),
+    (
+        Call::Op(0, Op::Put(9_223_372_036_854_775_807, 2)),
+        Answer::Done(None),
+    ),
+    (
+        Call::Op(0, Op::Get(9_223_372_036_854_775_807)),
+        Answer::Done(Some(2)),
+    ),
+    (
+        Call::Help(0, 9_223_372_036_854_775_808),
+        Answer::Refused(Refusal::BadKey),
+    ),
+];
+
+/// A run on a core of its own, of two buckets: how many callers there are, whether half keys alone
+/// are taken, the calls, the pairs that are left, and the history where that is compared.
+#[derive(Drop)]
+struct Run {
+    callers: u64,
+    takes_half_keys: bool,
+    lines: &'static [(Call, Answer)],
+    pairs: &'static [(u64, u64)],
+    history: Option<&'static [Entry]>,
+}
+
+static RUNS: [Run; 7] = [
+    Run {
+        callers: 2,
+        takes_half_keys: false,
+        lines: &SAVEPOINTS,
+        pairs: &[],
+        history: Some(&HISTORY_OF_SAVEPOINTS),
+    },
+    Run {
+        callers: 2,
+        takes_half_keys: false,
+        lines: &EACH_KIND,
+        pairs: &[(3, 30)],
+        history: None,
+    },
+    Run {
+        callers: 3,
+        takes_half_keys: false,
+        lines: &ABORTS,
+        pairs: &[],
+        history: None,
+    },
+    Run {
+        callers: 2,
+        takes_half_keys: false,
+        lines: &SWEEPS_AND_CURSORS,
+        pairs: &[(8, 80), (4, 40), (12, 120), (2, 21)],
+        history: None,
+    },
+    Run {
+        callers: 1,
+        takes_half_keys: false,
+        lines: &WIDE_KEYS,
+        pairs: &WIDE_PAIRS,
+        history: None,
+    },
+    Run {
+        callers: 1,
+        takes_half_keys: false,
+        lines: &WIDE_KEYS_ABORTED,
+        pairs: &[],
+        history: None,
+    },
+    Run {
+        callers: 1,
+        takes_half_keys: true,
+        lines: &HALF_KEYS,
+        pairs: &[(9_223_372_036_854_775_807, 2)],
+        history: None,
+    },
+];
+
+/// The core of a run.
+fn core_in(alloc: Global, run: &Run) -> Result<Core, Fail> {
+    let every = limits_of(run.callers, 8, 8)?;
+    let limits = if run.takes_half_keys {
+        every.half_keys()
+    } else {
+        every
+    };
+    core_with(alloc, limits)
+}
+
+fn play_run(rt: &impl Abort, alloc: Global, core: &mut Core, run: &Run) -> Result<(), Fail> {
+    play_calls(rt, alloc, core, run.lines)?;
+    has_pairs(rt, alloc, core, run.pairs)?;
+    if let Some(history) = run.history {
+        assert_eq!(rt; trace_of(core), history);
+    }
+    Ok(())
+}
+
+fn play_runs(rt: &impl Abort, alloc: Global, runs: &[Run]) -> Result<(), Fail> {
+    for run in runs {
+        play_run(rt, alloc, &mut core_in(alloc, run)?, run)?;
+    }
     Ok(())
 }
 
 #[test]
-fn keys_of_64_bits(rt: HostRuntime) -> Result<(), Fail> {
-    wide_keys_committed(&rt, rt.alloc())?;
-    wide_keys_aborted(&rt, rt.alloc())?;
-    half_keys(&rt, rt.alloc())
+fn worked_runs(rt: HostRuntime) -> Result<(), Fail> {
+    play_runs(&rt, rt.alloc(), &RUNS)
+}
+
+/// A core of one caller, which has begun a transaction.
+fn begun_core(rt: &impl Abort, alloc: Global, limits: Limits) -> Result<Core, Fail> {
+    let mut core = core_with(alloc, limits)?;
+    step_is(rt, &mut core, Step::Begin(0), Answer::Began(1))?;
+    Ok(core)
 }
 
 /// How many entries there are, how many buckets and keys, and how many entries are owed, for which
@@ -376,19 +453,43 @@ fn steps_of(caller: u64, op: Op, reply: Reply) -> [(Step, Answer); 3] {
     ]
 }
 
+/// A caller begins and puts; false where memory is refused.
+fn begin_and_put(
+    rt: &impl Abort,
+    alloc: Global,
+    core: &mut Core,
+    caller: u64,
+) -> Result<bool, Fail> {
+    let next = caller.wrapping_add(1);
+    let put = steps_of(caller, Op::Put(next, 10), None);
+    Ok(
+        try_step(rt, alloc, core, Step::Begin(caller), Answer::Began(next))?
+            && try_steps(rt, alloc, core, &put)?,
+    )
+}
+
+/// A caller puts once more and takes; false where memory is refused.
+fn put_and_take(
+    rt: &impl Abort,
+    alloc: Global,
+    core: &mut Core,
+    caller: u64,
+) -> Result<bool, Fail> {
+    let key = caller.wrapping_add(1);
+    let put = steps_of(caller, Op::Put(key, 20), Some(10));
+    let take = steps_of(caller, Op::Take(key), Some(20));
+    Ok(try_steps(rt, alloc, core, &put)? && try_steps(rt, alloc, core, &take)?)
+}
+
 /// Five callers begin and change a key each three times; false where memory is refused.
 fn change_five(rt: &impl Abort, alloc: Global, core: &mut Core) -> Result<bool, Fail> {
     for caller in 0..5 {
-        let begin = [(Step::Begin(caller), Answer::Began(caller + 1))];
-        let put = steps_of(caller, Op::Put(caller + 1, 10), None);
-        if !try_steps(rt, alloc, core, &begin)? || !try_steps(rt, alloc, core, &put)? {
+        if !begin_and_put(rt, alloc, core, caller)? {
             return Ok(false);
         }
     }
     for caller in 0..5 {
-        let put = steps_of(caller, Op::Put(caller + 1, 20), Some(10));
-        let take = steps_of(caller, Op::Take(caller + 1), Some(20));
-        if !try_steps(rt, alloc, core, &put)? || !try_steps(rt, alloc, core, &take)? {
+        if !put_and_take(rt, alloc, core, caller)? {
             return Ok(false);
         }
     }
@@ -416,24 +517,39 @@ fn undo_five(
     Ok(())
 }
 
-/// The callers below a number abort and take back their changes in turn, three each.
-fn undo_in_turn(rt: &impl Abort, alloc: Global, core: &mut Core) -> Result<(), Fail> {
+/// Five callers abort, and leave from there.
+fn leave_five(rt: &impl Abort, core: &mut Core) -> Result<(), Fail> {
     assert_eq!(rt; owed_by(core), 25);
     for caller in 0..5 {
         step_is(rt, core, Step::Abort(caller), Answer::Leaving)?;
     }
     assert_eq!(rt; owed_by(core), 20);
-    for left in [Some(20), Some(10), None] {
-        undo_five(rt, alloc, core, left)?;
-    }
+    Ok(())
+}
+
+/// Five callers have taken everything back and end.
+fn end_five(rt: &impl Abort, core: &mut Core) -> Result<(), Fail> {
     for caller in 0..5 {
         step_is(rt, core, Step::Act(caller), Answer::Aborted)?;
     }
     Ok(())
 }
 
+/// Five callers change a key each three times, if memory is not refused, and take their changes
+/// back in turn.
+fn change_and_undo_five(rt: &impl Abort, alloc: Global, core: &mut Core) -> Result<(), Fail> {
+    if !change_five(rt, alloc, core)? {
+        return Ok(());
+    }
+    leave_five(rt, core)?;
+    undo_five(rt, alloc, core, Some(20))?;
+    undo_five(rt, alloc, core, Some(10))?;
+    undo_five(rt, alloc, core, None)?;
+    end_five(rt, core)
+}
+
 /// Aborts the callers below a number, each of which may not have begun, and looks that nothing is
-/// left but so many buckets. No memory is wanted.
+/// left. No memory is wanted.
 fn abort_all(rt: &impl Abort, core: &mut Core, callers: u64) {
     for caller in 0..callers {
         let answer = abort(core, caller);
@@ -446,15 +562,13 @@ fn abort_all(rt: &impl Abort, core: &mut Core, callers: u64) {
 /// aborts, for which no memory is wanted. Without a core there is nothing to show.
 #[test]
 fn five_callers_undone(rt: HostRuntime) -> Result<(), Fail> {
-    let alloc = rt.alloc();
-    let Some(mut core) = core_if_made(alloc, limits_of(5, 8, 8)?) else {
+    let limits = limits_of(5, 8, 8)?;
+    let Some(mut core) = core_if_made(rt.alloc(), limits) else {
         return Ok(());
     };
-    if change_five(&rt, alloc, &mut core)? {
-        undo_in_turn(&rt, alloc, &mut core)?;
-    }
+    change_and_undo_five(&rt, rt.alloc(), &mut core)?;
     abort_all(&rt, &mut core, 5);
-    assert_eq!(rt; sizes_of(&core), (2, 0));
+    assert_eq!(rt; sizes_of(&core).0, 2);
     Ok(())
 }
 
@@ -508,24 +622,28 @@ static SECOND_SEGMENT: [(Step, Answer); 12] = [
     (Step::InitSeek(0, 64), Answer::Ready),
 ];
 
+/// Fills the table and stores the bucket; or the caller aborts where a step is refused memory twice.
+fn fill_segments(rt: &impl Abort, alloc: Global, core: &mut Core) -> Result<(), Fail> {
+    let is_done = put_many(rt, alloc, core)? && try_steps_twice(rt, alloc, core, &SECOND_SEGMENT)?;
+    if !is_done {
+        abort_all(rt, core, 1);
+        return Ok(());
+    }
+    step_is(rt, core, Step::Commit(0), Answer::Committed(1))?;
+    assert_eq!(rt; sizes_of(core), (128, 129));
+    Ok(())
+}
+
 /// Bucket 64 is the first of the second segment, so its store takes memory. Also run with each
 /// allocation refused in turn, and with all from one on: where a step is refused it may be taken
 /// again, and where it is refused again the caller aborts, for which no memory is wanted.
 #[test]
 fn segments(rt: HostRuntime) -> Result<(), Fail> {
-    let alloc = rt.alloc();
-    let Some(mut core) = core_if_made(alloc, limits_of(1, 8, 128)?) else {
+    let limits = limits_of(1, 8, 128)?;
+    let Some(mut core) = core_if_made(rt.alloc(), limits) else {
         return Ok(());
     };
-    let is_done = put_many(&rt, alloc, &mut core)?
-        && try_steps_twice(&rt, alloc, &mut core, &SECOND_SEGMENT)?;
-    if is_done {
-        step_is(&rt, &mut core, Step::Commit(0), Answer::Committed(1))?;
-        assert_eq!(rt; sizes_of(&core), (128, 129));
-    } else {
-        abort_all(&rt, &mut core, 1);
-    }
-    Ok(())
+    fill_segments(&rt, rt.alloc(), &mut core)
 }
 
 /// Caller 0 takes the newest of so many changes, each of a key of its number, back: those before it
@@ -543,31 +661,41 @@ fn undo_newest(rt: &impl Abort, alloc: Global, core: &mut Core, key: u64) -> Res
 
 /// Caller 0 takes nine changes back.
 fn undo_nine(rt: &impl Abort, alloc: Global, core: &mut Core) -> Result<(), Fail> {
-    for key in &[9, 8, 7, 6, 5, 4, 3, 2, 1] {
-        undo_newest(rt, alloc, core, *key)?;
+    for left in 0..9 {
+        undo_newest(rt, alloc, core, 9u64.wrapping_sub(left))?;
     }
+    Ok(())
+}
+
+/// Caller 0 puts a key that is not there.
+fn put(rt: &impl Abort, core: &mut Core, key: u64) -> Result<(), Fail> {
+    assert_eq!(rt; operate(core, 0, Op::Put(key, key))?, Answer::Done(None));
     Ok(())
 }
 
 /// Caller 0 puts the keys from 1 to 9.
 fn put_nine(rt: &impl Abort, core: &mut Core) -> Result<(), Fail> {
     for key in 1..10 {
-        assert_eq!(rt; operate(core, 0, Op::Put(key, 10))?, Answer::Done(None));
+        put(rt, core, key)?;
     }
     Ok(())
+}
+
+/// Caller 0 puts nine keys and aborts.
+fn put_and_undo_nine(rt: &impl Abort, alloc: Global, core: &mut Core) -> Result<(), Fail> {
+    put_nine(rt, core)?;
+    step_is(rt, core, Step::Abort(0), Answer::Leaving)?;
+    undo_nine(rt, alloc, core)?;
+    step_is(rt, core, Step::Act(0), Answer::Aborted)?;
+    has_pairs(rt, alloc, core, &[])
 }
 
 /// Nine changes of one transaction, of which eight jobs stand in the caller's log itself: each step
 /// back takes the newest key out, and leaves those before it.
 #[test]
 fn nine_undone_newest_first(rt: HostRuntime) -> Result<(), Fail> {
-    let alloc = rt.alloc();
-    let mut core = begun_core(&rt, alloc, limits_of(1, 8, 8)?)?;
-    put_nine(&rt, &mut core)?;
-    step_is(&rt, &mut core, Step::Abort(0), Answer::Leaving)?;
-    undo_nine(&rt, alloc, &mut core)?;
-    step_is(&rt, &mut core, Step::Act(0), Answer::Aborted)?;
-    has_pairs(&rt, alloc, &core, 2, &[])
+    let mut core = begun_core(&rt, rt.alloc(), limits_of(1, 8, 8)?)?;
+    put_and_undo_nine(&rt, rt.alloc(), &mut core)
 }
 
 /// Steps, each with how many entries are owed after it: two for an open transaction and one for
@@ -619,14 +747,15 @@ static HELPED: [(u64, u32, u64); 9] = [
     (8, 8, 0),
 ];
 
-/// Caller 0 puts keys by their numbers and helps after each.
+/// Caller 0 puts keys and helps after each; there is no helper 1.
 fn helped_are(rt: &impl Abort, core: &mut Core, rows: &[(u64, u32, u64)]) -> Result<(), Fail> {
     for (key, size, bucket) in rows {
-        assert_eq!(rt; operate(core, 0, Op::Put(*key, *key))?, Answer::Done(None));
+        put(rt, core, *key)?;
         assert_eq!(rt; help(core, 0, *key), Ok(()));
         assert_eq!(rt; sizes_of(core).0, *size, "at {key}");
         step_is(rt, core, Step::InitSeek(0, *bucket), Answer::Ready)?;
     }
+    assert_eq!(rt; help(core, 1, 0), Err(Refusal::NoSuchHelper));
     Ok(())
 }
 
@@ -634,18 +763,17 @@ fn helped_are(rt: &impl Abort, core: &mut Core, rows: &[(u64, u32, u64)]) -> Res
 fn put_helped(rt: &impl Abort, core: &mut Core, keys: u64) -> Result<(), Fail> {
     for key in 0..keys {
         assert_eq!(rt; help(core, 0, key), Ok(()));
-        assert_eq!(rt; operate(core, 0, Op::Put(key, key))?, Answer::Done(None));
+        put(rt, core, key)?;
     }
     Ok(())
 }
 
 /// 30,000 keys with help before each put, each from a bucket of its own: without help each seek
 /// would walk all keys.
-fn helped_table_stays_fast(rt: &impl Abort, alloc: Global) -> Result<(), Fail> {
-    let mut core = begun_core(rt, alloc, limits_of(1, 64, 65_536)?)?;
-    put_helped(rt, &mut core, 30_000)?;
-    step_is(rt, &mut core, Step::Commit(0), Answer::Committed(1))?;
-    assert_eq!(rt; sizes_of(&core), (16_384, 30_000));
+fn helped_table_stays_fast(rt: &impl Abort, core: &mut Core) -> Result<(), Fail> {
+    put_helped(rt, core, 30_000)?;
+    step_is(rt, core, Step::Commit(0), Answer::Committed(1))?;
+    assert_eq!(rt; sizes_of(core), (16_384, 30_000));
     Ok(())
 }
 
@@ -653,6 +781,6 @@ fn helped_table_stays_fast(rt: &impl Abort, alloc: Global) -> Result<(), Fail> {
 fn helps_to_grow(rt: HostRuntime) -> Result<(), Fail> {
     let mut core = begun_core(&rt, rt.alloc(), limits_of(1, 8, 8)?)?;
     helped_are(&rt, &mut core, &HELPED)?;
-    assert_eq!(rt; help(&mut core, 1, 0), Err(Refusal::NoSuchHelper));
-    helped_table_stays_fast(&rt, rt.alloc())
+    let mut large = begun_core(&rt, rt.alloc(), limits_of(1, 64, 65_536)?)?;
+    helped_table_stays_fast(&rt, &mut large)
 }

@@ -107,3 +107,14 @@ pub(crate) fn has_map(
     }
     Ok(())
 }
+
+/// Takes a step, which is answered so.
+pub(crate) fn step_is(
+    rt: &impl Abort,
+    core: &mut Core,
+    step: Step,
+    wanted: Answer,
+) -> Result<(), Fail> {
+    assert_eq!(rt; take_step(core, step)?, wanted, "at {step:?}");
+    Ok(())
+}

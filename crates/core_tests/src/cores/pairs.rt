@@ -1,7 +1,7 @@
 //! Pairs of keys that share a split key, a key below 2^63 and the same with 2^63 more: two callers'
 //! steps in every order, each compared with a plain map that has an undo of its own.
 use super::plain_map::{PlainMap, Stage};
-use crate::devices::{core_with, limits_of, pairs_of, sizes_of, take_step};
+use crate::devices::{core_with, limits_of, pairs_of, sizes_of, step_is, take_step};
 use boost_core::Core;
 use std::alloc::Global;
 use std::process::Abort;
@@ -52,98 +52,109 @@ impl Plan {
     }
 }
 
-/// A core and the plain map that it is compared with, and whose step was the last.
+/// The plain map that a core is compared with, and whose step was the last.
 #[derive(Drop)]
 struct Compared {
-    core: Core,
     plain: PlainMap,
     last: Option<u64>,
 }
 
-impl Compared {
-    fn new(alloc: Global, stripes: u64) -> Result<Compared, Fail> {
-        let core = core_with(alloc, limits_of(2, stripes, 32)?)?;
-        let plain = PlainMap::new(alloc, stripes);
-        let last = None;
-        Ok(Compared { core, plain, last })
+/// Takes a step of a caller. A place that no longer fits is sought anew at once: that may be wanted
+/// only where the other caller, whose step was the last, came between.
+fn take_anew(
+    rt: &impl Abort,
+    core: &mut Core,
+    last: Option<u64>,
+    caller: u64,
+    step: Step,
+) -> Result<Answer, Fail> {
+    let answer = take_step(core, step)?;
+    if answer != Answer::Again {
+        return Ok(answer);
     }
-
-    /// Takes a step of a caller. A place that no longer fits is sought anew at once: that may be
-    /// wanted only where the other caller came between.
-    fn take(&mut self, rt: &impl Abort, caller: u64, step: Step) -> Result<(), Fail> {
-        let wanted = self.plain.answer(step)?;
-        let mut answer = take_step(&mut self.core, step)?;
-        if answer == Answer::Again {
-            assert_ne!(rt; self.last, Some(caller), "at {step:?}");
-            assert_eq!(rt;
-                take_step(&mut self.core, Step::Seek(caller))?,
-                Answer::Placed
-            );
-            answer = take_step(&mut self.core, step)?;
-        }
-        assert_eq!(rt; answer, wanted, "at {step:?}");
-        assert_eq!(rt; sizes_of(&self.core).1, self.plain.count());
-        self.last = Some(caller);
-        Ok(())
-    }
-
-    /// Ends the transaction of a caller that still has one.
-    fn end(&mut self, rt: &impl Abort, caller: u64) -> Result<(), Fail> {
-        if self.plain.stage(caller) == Stage::Open {
-            return self.take(rt, caller, Step::Commit(caller));
-        }
-        for _ in 0..3 {
-            if self.plain.stage(caller) != Stage::Closed {
-                self.take(rt, caller, Step::Seek(caller))?;
-                self.take(rt, caller, Step::Act(caller))?;
-            }
-        }
-        Ok(())
-    }
-
-    /// Sees that the list has the pairs of the plain map, in split order and then by key.
-    fn compare(&self, rt: &impl Abort, alloc: Global) -> Result<(), Fail> {
-        let pairs = pairs_of(alloc, &self.core)?;
-        assert_eq!(rt;
-            pairs.as_slice(),
-            self.plain.in_split_order(alloc)?.as_slice()
-        );
-        Ok(())
-    }
+    assert_ne!(rt; last, Some(caller), "at {step:?}");
+    step_is(rt, core, Step::Seek(caller), Answer::Placed)?;
+    take_step(core, step)
 }
 
-/// Caller 0 puts both keys, or takes them out.
+/// Takes a step of a caller, and compares the answer and how many keys there are.
+fn take(
+    rt: &impl Abort,
+    core: &mut Core,
+    compared: &mut Compared,
+    caller: u64,
+    step: Step,
+) -> Result<(), Fail> {
+    let answer = take_anew(rt, core, compared.last, caller, step)?;
+    compared.last = Some(caller);
+    assert_eq!(rt; answer, compared.plain.answer(step)?, "at {step:?}");
+    assert_eq!(rt; sizes_of(core).1, compared.plain.count());
+    Ok(())
+}
+
+/// Ends the transaction of a caller that still has one.
+fn end(rt: &impl Abort, core: &mut Core, compared: &mut Compared, caller: u64) -> Result<(), Fail> {
+    if compared.plain.stage(caller) == Stage::Open {
+        return take(rt, core, compared, caller, Step::Commit(caller));
+    }
+    for _ in 0..3 {
+        if compared.plain.stage(caller) != Stage::Closed {
+            take(rt, core, compared, caller, Step::Seek(caller))?;
+            take(rt, core, compared, caller, Step::Act(caller))?;
+        }
+    }
+    Ok(())
+}
+
+/// Sees that the list has the pairs of the plain map, in split order and then by key.
+fn compare(rt: &impl Abort, alloc: Global, core: &Core, compared: &Compared) -> Result<(), Fail> {
+    let pairs = pairs_of(alloc, core)?;
+    let wanted = compared.plain.in_split_order(alloc)?;
+    assert_eq!(rt; pairs.as_slice(), wanted.as_slice());
+    Ok(())
+}
+
+/// Caller 0 puts a key, or takes it out.
+fn prepare_key(
+    rt: &impl Abort,
+    core: &mut Core,
+    compared: &mut Compared,
+    key: u64,
+    is_there: bool,
+) -> Result<(), Fail> {
+    let op = if is_there {
+        Op::Put(key, 1)
+    } else {
+        Op::Take(key)
+    };
+    take(rt, core, compared, 0, Step::Ask(0, op))?;
+    take(rt, core, compared, 0, Step::Seek(0))?;
+    take(rt, core, compared, 0, Step::Act(0))
+}
+
+/// Caller 0 puts both keys of a pair, or takes them out.
 fn prepare(
     rt: &impl Abort,
+    core: &mut Core,
     compared: &mut Compared,
-    keys: [u64; 2],
+    pair: u64,
     are_there: bool,
 ) -> Result<(), Fail> {
-    compared.take(rt, 0, Step::Begin(0))?;
-    for key in keys {
-        let op = if are_there {
-            Op::Put(key, 1)
-        } else {
-            Op::Take(key)
-        };
-        for step in [Step::Ask(0, op), Step::Seek(0), Step::Act(0)] {
-            compared.take(rt, 0, step)?;
-        }
-    }
-    compared.take(rt, 0, Step::Commit(0))
+    take(rt, core, compared, 0, Step::Begin(0))?;
+    prepare_key(rt, core, compared, lower_of(pair), are_there)?;
+    prepare_key(rt, core, compared, upper_of(pair), are_there)?;
+    take(rt, core, compared, 0, Step::Commit(0))
 }
 
-/// Two callers take their steps in one order.
-fn play(
+/// Two callers, who have begun, take their steps in one order.
+fn take_in_order(
     rt: &impl Abort,
+    core: &mut Core,
     compared: &mut Compared,
     order: u32,
-    first: &[Step],
-    second: &[Step],
+    steps: &[[Step; 7]; 2],
 ) -> Result<(), Fail> {
-    compared.take(rt, 0, Step::Begin(0))?;
-    compared.take(rt, 1, Step::Begin(1))?;
-    let mut lists = (first.iter(), second.iter());
+    let mut lists = (steps[0].iter(), steps[1].iter());
     let mut rest = order;
     for _ in 0..14 {
         let (caller, next) = if rest % 2 == 0 {
@@ -152,80 +163,135 @@ fn play(
             (1, lists.1.next())
         };
         if let Some(step) = next {
-            compared.take(rt, caller, *step)?;
+            take(rt, core, compared, caller, *step)?;
         }
         rest /= 2;
-    }
-    compared.end(rt, 0)?;
-    compared.end(rt, 1)
-}
-
-/// Doubles the table to 32 buckets and initialises them, so that no seek walks far.
-fn grow(rt: &impl Abort, core: &mut Core) -> Result<(), Fail> {
-    for (size, doubled) in [(2, 4), (4, 8), (8, 16), (16, 32)] {
-        assert_eq!(rt;
-            take_step(core, Step::Double(size))?,
-            Answer::Doubled(doubled)
-        );
-    }
-    for bucket in 1..32 {
-        assert_eq!(rt; take_step(core, Step::InitSeek(0, bucket))?, Answer::Placed);
-        assert_eq!(rt; take_step(core, Step::InitLink(0))?, Answer::Linked);
-        assert_eq!(rt; take_step(core, Step::InitStore(0))?, Answer::Stored);
     }
     Ok(())
 }
 
-/// The two keys of a pair.
-fn keys_of(pair: u64) -> [u64; 2] {
-    let lower = (pair % PAIRS).wrapping_mul(401);
-    [lower, lower | 1 << 63]
+/// Two callers begin, take their steps in one order, and end.
+fn play(
+    rt: &impl Abort,
+    core: &mut Core,
+    compared: &mut Compared,
+    order: u32,
+    steps: &[[Step; 7]; 2],
+) -> Result<(), Fail> {
+    take(rt, core, compared, 0, Step::Begin(0))?;
+    take(rt, core, compared, 1, Step::Begin(1))?;
+    take_in_order(rt, core, compared, order, steps)?;
+    end(rt, core, compared, 0)?;
+    end(rt, core, compared, 1)
+}
+
+/// Doubles the table to 32 buckets.
+fn double(rt: &impl Abort, core: &mut Core) -> Result<(), Fail> {
+    for (size, doubled) in &[(2, 4), (4, 8), (8, 16), (16, 32)] {
+        step_is(rt, core, Step::Double(*size), Answer::Doubled(*doubled))?;
+    }
+    Ok(())
+}
+
+/// Initialises the buckets, so that no seek walks far.
+fn initialise(rt: &impl Abort, core: &mut Core) -> Result<(), Fail> {
+    for bucket in 1..32 {
+        step_is(rt, core, Step::InitSeek(0, bucket), Answer::Placed)?;
+        step_is(rt, core, Step::InitLink(0), Answer::Linked)?;
+        step_is(rt, core, Step::InitStore(0), Answer::Stored)?;
+    }
+    Ok(())
+}
+
+/// The key of a pair that is below 2^63.
+fn lower_of(pair: u64) -> u64 {
+    (pair % PAIRS).wrapping_mul(401)
+}
+
+/// The key of a pair that is 2^63 more.
+fn upper_of(pair: u64) -> u64 {
+    lower_of(pair) | 1 << 63
+}
+
+/// All pairs are put, and the table grows.
+fn prepare_all(rt: &impl Abort, core: &mut Core, compared: &mut Compared) -> Result<(), Fail> {
+    for pair in 0..PAIRS {
+        prepare(rt, core, compared, pair, true)?;
+    }
+    double(rt, core)?;
+    initialise(rt, core)
+}
+
+/// Two plans on a pair: how many stripes there are, whether the keys of the pair are there before,
+/// and what the callers do.
+type Case = (u64, bool, Plan, Plan);
+
+/// One order of two plans, on a pair.
+fn in_order(
+    rt: &impl Abort,
+    core: &mut Core,
+    compared: &mut Compared,
+    case: &Case,
+    pair: u64,
+    order: u32,
+) -> Result<(), Fail> {
+    let (_, are_there, first, second) = *case;
+    prepare(rt, core, compared, pair, are_there)?;
+    let (lower, upper) = (lower_of(pair), upper_of(pair));
+    let steps = [first.steps(0, lower, upper), second.steps(1, upper, lower)];
+    play(rt, core, compared, order, &steps)
 }
 
 /// Every order of two plans, each on the next pair.
 fn in_every_order(
     rt: &impl Abort,
-    alloc: Global,
-    stripes: u64,
-    are_there: bool,
-    plans: (Plan, Plan),
+    core: &mut Core,
+    compared: &mut Compared,
+    case: &Case,
 ) -> Result<(), Fail> {
-    let mut compared = Compared::new(alloc, stripes)?;
-    for pair in 0..PAIRS {
-        prepare(rt, &mut compared, keys_of(pair), true)?;
-    }
-    grow(rt, &mut compared.core)?;
     let mut pair: u64 = 0;
     for order in 0..ORDERS {
-        if order.count_ones() != 7 {
-            continue;
+        if order.count_ones() == 7 {
+            pair = pair.wrapping_add(1);
+            in_order(rt, core, compared, case, pair, order)?;
         }
-        pair = pair.wrapping_add(1) % PAIRS;
-        let [lower, upper] = keys_of(pair);
-        prepare(rt, &mut compared, [lower, upper], are_there)?;
-        let first = plans.0.steps(0, lower, upper);
-        let second = plans.1.steps(1, upper, lower);
-        play(rt, &mut compared, order, &first, &second)?;
     }
-    compared.compare(rt, alloc)
+    Ok(())
+}
+
+/// Every order of two plans on a core of its own, and then the pairs that are left.
+fn try_case(rt: &impl Abort, alloc: Global, core: &mut Core, case: &Case) -> Result<(), Fail> {
+    let mut compared = Compared {
+        plain: PlainMap::new(alloc, case.0),
+        last: None,
+    };
+    prepare_all(rt, core, &mut compared)?;
+    in_every_order(rt, core, &mut compared, case)?;
+    compare(rt, alloc, core, &compared)
 }
 
 /// With 7 stripes the two keys of a pair have stripes of their own, so that both callers work; with
 /// 8 they share one, and whoever asks second is busy.
-#[test]
-fn pairs_of_one_split_key(rt: HostRuntime) -> Result<(), Fail> {
-    let cases = [
-        (7, false, Plan::PutAborted, Plan::PutAborted),
-        (7, false, Plan::PutAndTake, Plan::PutAborted),
-        (7, true, Plan::PutAborted, Plan::TakeAborted),
-        (7, true, Plan::TakeAborted, Plan::TakenBack),
-        (7, true, Plan::TakenBack, Plan::PutAndTake),
-        (7, false, Plan::PutBoth, Plan::PutAborted),
-        (8, false, Plan::PutAndTake, Plan::PutAborted),
-        (8, true, Plan::PutBoth, Plan::TakeAborted),
-    ];
-    for (stripes, are_there, first, second) in cases {
-        in_every_order(&rt, rt.alloc(), stripes, are_there, (first, second))?;
+static CASES: [Case; 8] = [
+    (7, false, Plan::PutAborted, Plan::PutAborted),
+    (7, false, Plan::PutAndTake, Plan::PutAborted),
+    (7, true, Plan::PutAborted, Plan::TakeAborted),
+    (7, true, Plan::TakeAborted, Plan::TakenBack),
+    (7, true, Plan::TakenBack, Plan::PutAndTake),
+    (7, false, Plan::PutBoth, Plan::PutAborted),
+    (8, false, Plan::PutAndTake, Plan::PutAborted),
+    (8, true, Plan::PutBoth, Plan::TakeAborted),
+];
+
+fn try_cases(rt: &impl Abort, alloc: Global, cases: &[Case]) -> Result<(), Fail> {
+    for case in cases {
+        let mut core = core_with(alloc, limits_of(2, case.0, 32)?)?;
+        try_case(rt, alloc, &mut core, case)?;
     }
     Ok(())
+}
+
+#[test]
+fn pairs_of_one_split_key(rt: HostRuntime) -> Result<(), Fail> {
+    try_cases(&rt, rt.alloc(), &CASES)
 }
