@@ -558,6 +558,14 @@ fn abort_all(rt: &impl Abort, core: &mut Core, callers: u64) {
     assert_eq!(rt; (sizes_of(core).1, owed_by(core)), (0, 0));
 }
 
+/// Five callers change keys and take the changes back, if memory is not refused, and abort.
+fn play_five(rt: &impl Abort, alloc: Global, core: &mut Core) -> Result<(), Fail> {
+    change_and_undo_five(rt, alloc, core)?;
+    abort_all(rt, core, 5);
+    assert_eq!(rt; sizes_of(core).0, 2);
+    Ok(())
+}
+
 /// Also run with each allocation refused in turn, and with all from one on: then every caller
 /// aborts, for which no memory is wanted. Without a core there is nothing to show.
 #[test]
@@ -566,10 +574,7 @@ fn five_callers_undone(rt: HostRuntime) -> Result<(), Fail> {
     let Some(mut core) = core_if_made(rt.alloc(), limits) else {
         return Ok(());
     };
-    change_and_undo_five(&rt, rt.alloc(), &mut core)?;
-    abort_all(&rt, &mut core, 5);
-    assert_eq!(rt; sizes_of(&core).0, 2);
-    Ok(())
+    play_five(&rt, rt.alloc(), &mut core)
 }
 
 /// Takes steps, and each once more where it is refused memory; false where one is refused again.
@@ -777,10 +782,15 @@ fn helped_table_stays_fast(rt: &impl Abort, core: &mut Core) -> Result<(), Fail>
     Ok(())
 }
 
+/// A core of few buckets that grows with help.
+fn grow_with_help(rt: &impl Abort, alloc: Global) -> Result<(), Fail> {
+    let mut core = begun_core(rt, alloc, limits_of(1, 8, 8)?)?;
+    helped_are(rt, &mut core, &HELPED)
+}
+
 #[test]
 fn helps_to_grow(rt: HostRuntime) -> Result<(), Fail> {
-    let mut core = begun_core(&rt, rt.alloc(), limits_of(1, 8, 8)?)?;
-    helped_are(&rt, &mut core, &HELPED)?;
-    let mut large = begun_core(&rt, rt.alloc(), limits_of(1, 64, 65_536)?)?;
-    helped_table_stays_fast(&rt, &mut large)
+    grow_with_help(&rt, rt.alloc())?;
+    let mut core = begun_core(&rt, rt.alloc(), limits_of(1, 64, 65_536)?)?;
+    helped_table_stays_fast(&rt, &mut core)
 }

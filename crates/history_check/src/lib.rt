@@ -27,8 +27,6 @@ mod caller;
 mod checker;
 mod history;
 mod state;
-#[cfg(test)]
-mod tests;
 mod values;
 mod verdict;
 
