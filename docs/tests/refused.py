@@ -32,15 +32,15 @@ map_ops tests::refused_memory_for_a_link
 """
 # Tests that pass whichever one allocation is refused, eight in a row, or all from one on.
 WHOLE = """
-boost_core tests::five_callers_undone
-boost_core tests::segments
+core_tests cores::five_callers_undone
+core_tests cores::segments
 bucket_table tests::bucket_initialisation
 undo_log tests::nine_undone_newest_first
 undo_log tests::a_savepoint_keeps_its_jobs
 undo_log tests::side_value_returns
 undo_log tests::a_settled_value_stays
-history_check tests::fed_entry_by_entry
-history_check tests::fed_with_savepoints
+core_tests histories::fed_entry_by_entry
+core_tests histories::fed_with_savepoints
 locked_map tests::refused::refused_memory_between_callers
 locked_map tests::refused::refused_memory_in_each_call
 locked_map tests::side_rows::side_value_returns

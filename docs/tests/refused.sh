@@ -7,7 +7,7 @@
 # they were not there, and a history that `mix` or `run` wrote must be legal. A test must pass; where
 # more than one allocation is refused, some may give up. None may crash, or take ten seconds.
 #
-# With words it tries the tests of those crates, as 'map_ops boost_core', or `commands`. `rt ci`
+# With words it tries the tests of those crates, as 'map_ops core_tests', or `commands`. `rt ci`
 # builds all that it wants, and `rt test` the tests of one crate. It needs a C compiler (CC) and
 # python3. A line tells of each command and test; the last is 'refused: N passed, M failed', and
 # the status is 1 where M is not 0.

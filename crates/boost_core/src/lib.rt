@@ -35,8 +35,6 @@ mod owner;
 mod plain;
 mod session;
 mod sessions;
-#[cfg(test)]
-mod tests;
 mod transactions;
 mod words;
 

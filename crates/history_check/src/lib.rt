@@ -28,8 +28,6 @@ mod caller;
 mod checker;
 mod history;
 mod state;
-#[cfg(test)]
-mod tests;
 mod values;
 mod verdict;
 

@@ -20,8 +20,6 @@ mod crew;
 mod drawing;
 mod mix;
 mod ordinary;
-#[cfg(test)]
-mod tests;
 mod turn;
 
 pub use drawing::draw;

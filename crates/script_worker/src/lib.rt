@@ -23,8 +23,6 @@
 mod attempt;
 mod standing;
 mod task;
-#[cfg(test)]
-mod tests;
 mod worker;
 
 pub use attempt::{Attempt, Outcome, Progress, Stage};

@@ -23,8 +23,6 @@ mod drive;
 mod end;
 pub mod laws;
 mod phase;
-#[cfg(test)]
-mod tests;
 mod turn;
 mod way;
 

@@ -30,8 +30,6 @@ mod refusal;
 mod script;
 mod seat;
 mod step;
-#[cfg(test)]
-mod tests;
 
 pub use action::Action;
 pub use answer::{Answer, answer_text};

@@ -1,7 +1,4 @@
 //! Histories drawn from a seed, and histories with one fault.
-
-ghost use Rattle.std.specs.Prelude.{◌<◌};
-
 use super::plain::{self, Place};
 use std::alloc::{AllocError, Global};
 use txn_trace::{Entry, Holder, Op};
@@ -14,22 +11,17 @@ const CALLERS: [u64; 4] = [0, 1, 7, 63];
 pub(super) struct Draws(pub(super) u64);
 
 impl Draws {
-    /// A number below the bound.
-    pub(super) fn below(&mut self, bound: u64) -> u64
-        requires { 0 < bound }
-        ensures { result < bound }
-    {
+    /// A number below the bound, where that is not 0.
+    pub(super) fn below(&mut self, bound: u64) -> u64 {
         self.0 = self
             .0
             .wrapping_mul(6_364_136_223_846_793_005)
             .wrapping_add(1_442_695_040_888_963_407);
-        (self.0 >> 33) % bound
+        (self.0 >> 33).checked_rem(bound).unwrap_or(0)
     }
 
     /// One of the first callers, of which there are so many.
-    fn caller(&mut self, callers: u64) -> u64
-        requires { 0 < callers }
-    {
+    fn caller(&mut self, callers: u64) -> u64 {
         let place = self.below(callers);
         CALLERS.get(place as usize).copied().unwrap_or(0)
     }
@@ -38,7 +30,7 @@ impl Draws {
     fn op(&mut self) -> Op {
         let key = match self.below(20) {
             0 => u64::MAX,
-            1 => (1 << 63) + self.below(6),
+            1 => (1 << 63) | self.below(6),
             _ => self.below(6),
         };
         match self.below(6) {
@@ -58,10 +50,8 @@ pub(super) fn legal_history(
     stripes: u64,
     length: u64,
     holder: Holder,
-) -> Result<Vec<Entry>, AllocError>
-    requires { 0 < stripes }
-{
-    let callers = draws.below(4) + 1;
+) -> Result<Vec<Entry>, AllocError> {
+    let callers = draws.below(4).wrapping_add(1);
     let mut history = Vec::new(alloc);
     for _ in 0..length {
         let caller = draws.caller(callers);
@@ -79,14 +69,15 @@ fn next_entry(
     caller: u64,
     stripes: u64,
     holder: Holder,
-) -> Result<Entry, AllocError>
-    requires { 0 < stripes }
-{
+) -> Result<Entry, AllocError> {
     let entries = plain::last_of(alloc, caller, history)?;
     let kept = plain::standing_at_levels(alloc, &entries)?;
     let standing = plain::count_standing(&entries);
     Ok(match plain::place_after(&entries) {
-        Place::Closed => Entry::Began(caller, plain::next_txn(history)),
+        Place::Closed => {
+            let began = plain::counts_of(history).began;
+            Entry::Began(caller, began.saturating_add(1))
+        }
         Place::Asked if draws.below(10) == 0 => Entry::Leave(caller, None),
         Place::Asked => Entry::Did(caller, plain::reply_alone(alloc, history, caller)?),
         Place::LeavingTo(level) => match kept.get(level as usize) {
@@ -95,25 +86,41 @@ fn next_entry(
         },
         Place::LeavingToEnd if standing == 0 => Entry::Aborted(caller),
         Place::LeavingToEnd => Entry::Undone(caller),
-        Place::Open => match draws.below(12) {
-            0 | 1 => Entry::Saved(caller),
-            2 => Entry::Leave(caller, None),
-            3 => Entry::Leave(caller, Some(draws.below((kept.len() as u64).max(1)))),
-            4 => Entry::Committed(caller, plain::count_committed(history).saturating_add(1)),
-            _ => {
-                let is_early = holder == Holder::Begun && draws.below(4) == 0;
-                next_operation(history, caller, draws.op(), stripes, is_early)
-            }
-        },
+        Place::Open => {
+            let levels = kept.len() as u64;
+            next_in_open(draws, history, caller, stripes, holder, levels)
+        }
     })
+}
+
+/// An entry that the caller may add in an open transaction with so many levels.
+fn next_in_open(
+    draws: &mut Draws,
+    history: &[Entry],
+    caller: u64,
+    stripes: u64,
+    holder: Holder,
+    levels: u64,
+) -> Entry {
+    match draws.below(12) {
+        0 | 1 => Entry::Saved(caller),
+        2 => Entry::Leave(caller, None),
+        3 => Entry::Leave(caller, Some(draws.below(levels))),
+        4 => {
+            let committed = plain::counts_of(history).committed;
+            Entry::Committed(caller, committed.saturating_add(1))
+        }
+        _ => {
+            let is_early = holder == Holder::Begun && draws.below(4) == 0;
+            next_operation(history, caller, draws.op(), stripes, is_early)
+        }
+    }
 }
 
 /// What comes of an operation in an open transaction: it is asked for, or a holder of its stripe is
 /// in the way. Where its stripe was looked at early, that is any other caller that has begun.
-fn next_operation(history: &[Entry], caller: u64, op: Op, stripes: u64, is_early: bool) -> Entry
-    requires { 0 < stripes }
-{
-    let stripe = op.key() % stripes;
+fn next_operation(history: &[Entry], caller: u64, op: Op, stripes: u64, is_early: bool) -> Entry {
+    let stripe = plain::stripe_of(op, stripes);
     for other in CALLERS {
         let was_held = is_early && plain::has_begun(history, other);
         if other != caller && (was_held || plain::holds(history, other, stripe, stripes)) {
@@ -129,6 +136,9 @@ pub(super) fn spoil(draws: &mut Draws, history: &mut Vec<Entry>) -> Result<(), A
         return Ok(());
     }
     let place = draws.below(history.len() as u64) as usize;
+    if history.len() <= place {
+        return Ok(());
+    }
     match draws.below(16) {
         0 => {
             history.remove(place);

@@ -5,9 +5,7 @@
 //! entries where the checker keeps numbers, and it runs each transaction again on copies of maps
 //! where the checker keeps one map.
 
-ghost use Rattle.std.specs.Prelude.{◌<◌};
-
-use crate::{Rule, Verdict};
+use history_check::{Rule, Verdict};
 use std::alloc::{AllocError, Global};
 use std::collections::BTreeMap;
 use txn_trace::{Entry, Holder, Op, Reply};
@@ -31,11 +29,13 @@ pub(super) fn last_of(
     history: &[Entry],
 ) -> Result<Vec<Entry>, AllocError> {
     let mut entries = Vec::new(alloc);
-    for entry in history.iter().filter(|entry| entry.caller() == caller) {
-        if is_began(entry) {
-            entries.clear();
+    for entry in history {
+        if entry.caller() == caller {
+            if let Entry::Began(..) = *entry {
+                entries.clear();
+            }
+            entries.push(*entry)?;
         }
-        entries.push(*entry)?;
     }
     Ok(entries)
 }
@@ -57,26 +57,29 @@ pub(super) fn place_after(entries: &[Entry]) -> Place {
     Place::Closed
 }
 
-/// How many changes stand after a transaction's entries.
+/// How many changes stand after a transaction's entries: those done, but for those taken back.
 pub(super) fn count_standing(entries: &[Entry]) -> usize {
-    let changes = entries
-        .windows(2)
-        .filter(|pair| is_change_done(pair))
-        .count();
-    let taken_back = entries.iter().filter(|entry| is_undone(entry)).count();
-    changes.saturating_sub(taken_back)
+    let mut asked = None;
+    let mut done: usize = 0;
+    let mut taken_back: usize = 0;
+    for entry in entries {
+        match *entry {
+            Entry::Asked(_, op) => asked = Some(op),
+            Entry::Did(_, reply) if is_change_done(asked, reply) => done = done.saturating_add(1),
+            Entry::Undone(_) => taken_back = taken_back.saturating_add(1),
+            _ => {}
+        }
+    }
+    done.saturating_sub(taken_back)
 }
 
-/// Whether two entries of a caller are a change and its reply.
-fn is_change_done(pair: &[Entry]) -> bool {
-    match pair {
-        [Entry::Asked(_, Op::Put(..)), Entry::Did(..)] => true,
-        [Entry::Asked(_, Op::Take(_)), Entry::Did(_, reply)] => reply.is_some(),
-        [
-            Entry::Asked(_, Op::PutIf(_, expected, _)),
-            Entry::Did(_, reply),
-        ] => reply == expected,
-        _ => false,
+/// Whether the operation that was asked for last was a change, if this is its reply.
+fn is_change_done(asked: Option<Op>, reply: Reply) -> bool {
+    match asked {
+        Some(Op::Put(..)) => true,
+        Some(Op::Take(_)) => reply.is_some(),
+        Some(Op::PutIf(_, expected, _)) => reply == expected,
+        Some(Op::Get(_)) | None => false,
     }
 }
 
@@ -97,40 +100,29 @@ pub(super) fn standing_at_levels(
     Ok(kept)
 }
 
-/// How many transactions began.
-fn count_begun(history: &[Entry]) -> u64 {
-    history.iter().filter(|entry| is_began(entry)).count() as u64
+/// How many transactions began, are committed and aborted.
+#[derive(Clone, Copy)]
+pub(super) struct Counts {
+    pub(super) began: u64,
+    pub(super) committed: u64,
+    pub(super) aborted: u64,
 }
 
-/// The number of the next transaction.
-pub(super) fn next_txn(history: &[Entry]) -> u64 {
-    count_begun(history).saturating_add(1)
-}
-
-/// How many transactions are committed.
-pub(super) fn count_committed(history: &[Entry]) -> u64 {
-    history.iter().filter(|entry| is_commit(entry)).count() as u64
-}
-
-/// How many transactions aborted.
-fn count_aborted(history: &[Entry]) -> u64 {
-    history.iter().filter(|entry| is_abort(entry)).count() as u64
-}
-
-fn is_began(entry: &Entry) -> bool {
-    matches!(entry, Entry::Began(..))
-}
-
-fn is_commit(entry: &Entry) -> bool {
-    matches!(entry, Entry::Committed(..))
-}
-
-fn is_abort(entry: &Entry) -> bool {
-    matches!(entry, Entry::Aborted(_))
-}
-
-fn is_undone(entry: &Entry) -> bool {
-    matches!(entry, Entry::Undone(_))
+pub(super) fn counts_of(history: &[Entry]) -> Counts {
+    let mut counts = Counts {
+        began: 0,
+        committed: 0,
+        aborted: 0,
+    };
+    for entry in history {
+        match *entry {
+            Entry::Began(..) => counts.began = counts.began.saturating_add(1),
+            Entry::Committed(..) => counts.committed = counts.committed.saturating_add(1),
+            Entry::Aborted(_) => counts.aborted = counts.aborted.saturating_add(1),
+            _ => {}
+        }
+    }
+    counts
 }
 
 /// Whether the state table has a row for one more entry, and its number is right.
@@ -138,34 +130,57 @@ fn has_shape(alloc: Global, history: &[Entry], entry: &Entry) -> Result<bool, Al
     let entries = last_of(alloc, entry.caller(), history)?;
     let kept = standing_at_levels(alloc, &entries)?;
     let standing = count_standing(&entries);
-    let at_level = |level: u64| kept.get(level as usize).copied();
-    Ok(match (place_after(&entries), *entry) {
-        (Place::Closed, Entry::Began(_, txn)) => txn == next_txn(history),
-        (Place::Open, Entry::Asked(..) | Entry::Busy(..) | Entry::Saved(_)) => true,
-        (Place::Open | Place::Asked, Entry::Leave(_, None)) => true,
-        (Place::Open, Entry::Leave(_, Some(level))) => at_level(level).is_some(),
-        (Place::Open, Entry::Committed(_, place)) => {
-            place.checked_sub(1) == Some(count_committed(history))
-        }
-        (Place::Asked, Entry::Did(..)) => true,
-        (Place::LeavingTo(level), Entry::Undone(_)) => at_level(level) < Some(standing),
-        (Place::LeavingTo(level), Entry::Returned(_, to)) => {
-            to == level && at_level(level) == Some(standing)
-        }
-        (Place::LeavingToEnd, Entry::Undone(_)) => 0 < standing,
-        (Place::LeavingToEnd, Entry::Aborted(_)) => standing == 0,
-        _ => false,
+    let counts = counts_of(history);
+    Ok(match place_after(&entries) {
+        Place::Closed => match *entry {
+            Entry::Began(_, txn) => txn.checked_sub(1) == Some(counts.began),
+            _ => false,
+        },
+        Place::Open => may_come_in_open(entry, &kept, counts.committed),
+        Place::Asked => matches!(*entry, Entry::Did(..) | Entry::Leave(_, None)),
+        Place::LeavingTo(level) => match kept.get(level as usize) {
+            Some(kept) => may_come_on_the_way(entry, level, *kept, standing),
+            None => false,
+        },
+        Place::LeavingToEnd => match *entry {
+            Entry::Undone(_) => 0 < standing,
+            Entry::Aborted(_) => standing == 0,
+            _ => false,
+        },
     })
 }
 
+/// Whether an entry may come in an open transaction with nothing unfinished.
+fn may_come_in_open(entry: &Entry, kept: &[usize], committed: u64) -> bool {
+    match *entry {
+        Entry::Asked(..) | Entry::Busy(..) | Entry::Saved(_) | Entry::Leave(_, None) => true,
+        Entry::Leave(_, Some(level)) => kept.get(level as usize).is_some(),
+        Entry::Committed(_, place) => place.checked_sub(1) == Some(committed),
+        _ => false,
+    }
+}
+
+/// Whether an entry may come on the way to a level, at which so many changes stood.
+fn may_come_on_the_way(entry: &Entry, level: u64, kept: usize, standing: usize) -> bool {
+    match *entry {
+        Entry::Undone(_) => kept < standing,
+        Entry::Returned(_, to) => to == level && kept == standing,
+        _ => false,
+    }
+}
+
+/// The stripe of an operation's key.
+pub(super) fn stripe_of(op: Op, stripes: u64) -> u64 {
+    op.key().checked_rem(stripes).unwrap_or(0)
+}
+
 /// Whether a caller has an open transaction that has asked for a key of the stripe.
-pub(super) fn holds(history: &[Entry], caller: u64, stripe: u64, stripes: u64) -> bool
-    requires { 0 < stripes }
-{
+pub(super) fn holds(history: &[Entry], caller: u64, stripe: u64, stripes: u64) -> bool {
     let mut holds = false;
-    for entry in history.iter().filter(|entry| entry.caller() == caller) {
+    for entry in history {
         match *entry {
-            Entry::Asked(_, op) => holds = holds || op.key() % stripes == stripe,
+            _ if entry.caller() != caller => {}
+            Entry::Asked(_, op) => holds = holds || stripe_of(op, stripes) == stripe,
             Entry::Committed(..) | Entry::Aborted(_) => holds = false,
             _ => {}
         }
@@ -175,47 +190,40 @@ pub(super) fn holds(history: &[Entry], caller: u64, stripe: u64, stripes: u64) -
 
 /// Whether a caller has begun a transaction.
 pub(super) fn has_begun(history: &[Entry], caller: u64) -> bool {
-    let mut own = history.iter().filter(|entry| entry.caller() == caller);
-    own.any(|entry| is_began(entry))
+    for entry in history {
+        if let Entry::Began(beginner, _) = *entry {
+            if beginner == caller {
+                return true;
+            }
+        }
+    }
+    false
+}
+
+/// Whether a caller other than this one holds the stripe.
+fn another_holds(history: &[Entry], caller: u64, stripe: u64, stripes: u64) -> bool {
+    for entry in history {
+        let other = entry.caller();
+        if other != caller && holds(history, other, stripe, stripes) {
+            return true;
+        }
+    }
+    false
 }
 
 /// Whether one more entry keeps the rule of locks.
-fn is_locked(history: &[Entry], entry: &Entry, stripes: u64, holder: Holder) -> bool
-    requires { 0 < stripes }
-{
+fn is_locked(history: &[Entry], entry: &Entry, stripes: u64, holder: Holder) -> bool {
     match *entry {
         Entry::Asked(caller, op) => {
-            let stripe = op.key() % stripes;
-            let mut others = history.iter().map(|entry| entry.caller());
-            !others.any(|other| other != caller && holds(history, other, stripe, stripes))
+            !another_holds(history, caller, stripe_of(op, stripes), stripes)
         }
         Entry::Busy(caller, _, other) if other == caller => false,
         Entry::Busy(_, op, other) => match holder {
-            Holder::Now => holds(history, other, op.key() % stripes, stripes),
+            Holder::Now => holds(history, other, stripe_of(op, stripes), stripes),
             Holder::Begun => has_begun(history, other),
         },
         _ => true,
     }
-}
-
-/// The entries of a caller's transaction: each belongs to the one that the caller began last.
-fn entries_of_txn(
-    alloc: Global,
-    caller: u64,
-    txn: u64,
-    history: &[Entry],
-) -> Result<Vec<Entry>, AllocError> {
-    let mut last = None;
-    let mut entries = Vec::new(alloc);
-    for entry in history.iter().filter(|entry| entry.caller() == caller) {
-        if let Entry::Began(_, number) = *entry {
-            last = Some(number);
-        }
-        if last == Some(txn) {
-            entries.push(*entry)?;
-        }
-    }
-    Ok(entries)
 }
 
 /// The map that an operation leaves.
@@ -352,25 +360,14 @@ fn serial_map(alloc: Global, history: &[Entry]) -> Result<Values, AllocError> {
     Ok(values)
 }
 
-/// The entries of each open transaction.
-fn open_txns(alloc: Global, history: &[Entry]) -> Result<Vec<Vec<Entry>>, AllocError> {
-    let mut open = Vec::new(alloc);
-    for entry in history {
-        if let Entry::Began(caller, txn) = *entry {
-            let entries = entries_of_txn(alloc, caller, txn, history)?;
-            if place_after(&entries) != Place::Closed {
-                open.push(entries)?;
-            }
-        }
-    }
-    Ok(open)
-}
-
-/// Whether each open transaction has the replies of running alone after the committed ones.
+/// Whether each open transaction has the replies of running alone after the committed ones. Where
+/// an entry is a caller's last Began, its transaction's entries are the caller's from there on.
 fn replies_hold(alloc: Global, history: &[Entry]) -> Result<bool, AllocError> {
     let settled = serial_map(alloc, history)?;
-    for entries in &open_txns(alloc, history)? {
-        if run_alone(&settled, entries, alloc)?.is_none() {
+    for entry in history {
+        let entries = last_of(alloc, entry.caller(), history)?;
+        let is_open = entries.first() == Some(entry) && place_after(&entries) != Place::Closed;
+        if is_open && run_alone(&settled, &entries, alloc)?.is_none() {
             return Ok(false);
         }
     }
@@ -383,9 +380,7 @@ fn broken_rule(
     beginning: &[Entry],
     stripes: u64,
     holder: Holder,
-) -> Result<Option<Rule>, AllocError>
-    requires { 0 < stripes }
-{
+) -> Result<Option<Rule>, AllocError> {
     let Some((entry, before)) = beginning.split_last() else {
         return Ok(None);
     };
@@ -404,9 +399,7 @@ pub(super) fn first_bad(
     history: &[Entry],
     stripes: u64,
     holder: Holder,
-) -> Result<Option<(usize, Rule)>, AllocError>
-    requires { 0 < stripes }
-{
+) -> Result<Option<(usize, Rule)>, AllocError> {
     for i in 0..history.len() {
         if let Some(rule) = broken_rule(alloc, &history[..i + 1], stripes, holder)? {
             return Ok(Some((i, rule)));
@@ -422,8 +415,11 @@ pub(super) fn verdict(history: &[Entry], bad: Option<(usize, Rule)>) -> Verdict 
         let entry = entry as u64;
         return Verdict::Illegal { entry, rule };
     }
-    let commits = count_committed(history);
-    let ended = commits.saturating_add(count_aborted(history));
-    let running = count_begun(history).saturating_sub(ended);
-    Verdict::Legal { commits, running }
+    let counts = counts_of(history);
+    let ended = counts.committed.saturating_add(counts.aborted);
+    let running = counts.began.saturating_sub(ended);
+    Verdict::Legal {
+        commits: counts.committed,
+        running,
+    }
 }

@@ -1,0 +1,796 @@
+//! Worked runs on the core, and what refused memory leaves.
+mod pairs;
+mod plain_map;
+mod words;
+
+use crate::devices::{
+    abort, back, core_if_made, core_of, core_with, has_map, help, limits_of, operate, owed_by,
+    pairs_of, run_step, sizes_of, step_is, take_step, trace_of,
+};
+use boost_core::Core;
+use std::alloc::Global;
+use std::process::Abort;
+use std::test::Fail;
+use txn_trace::{Answer, Entry, Limits, Op, Refusal, Reply, Step};
+
+/// A step, by `step` or by `run`, or a plain call. A call for help that is done is answered `Ready`
+/// here, as the step that finds the bucket initialised.
+#[derive(Clone, Copy, Debug)]
+enum Call {
+    Step(Step),
+    Run(Step),
+    Op(u64, Op),
+    Back(u64, u64),
+    Abort(u64),
+    Help(u64, u64),
+}
+
+fn make_call(alloc: Global, core: &mut Core, call: Call) -> Result<Answer, Fail> {
+    match call {
+        Call::Step(step) => take_step(core, step),
+        Call::Run(step) => run_step(alloc, core, step),
+        Call::Op(caller, op) => operate(core, caller, op),
+        Call::Back(caller, level) => Ok(back(core, caller, level)),
+        Call::Abort(caller) => Ok(abort(core, caller)),
+        Call::Help(caller, key) => match help(core, caller, key) {
+            Ok(()) => Ok(Answer::Ready),
+            Err(refusal) => Ok(Answer::Refused(refusal)),
+        },
+    }
+}
+
+fn play_calls(
+    rt: &impl Abort,
+    alloc: Global,
+    core: &mut Core,
+    lines: &[(Call, Answer)],
+) -> Result<(), Fail> {
+    for (call, wanted) in lines {
+        let answer = make_call(alloc, core, *call)?;
+        assert_eq!(rt; answer, *wanted, "at {call:?}");
+    }
+    Ok(())
+}
+
+/// Sees that there are two buckets, and that list, map and count have these pairs.
+fn has_pairs(
+    rt: &impl Abort,
+    alloc: Global,
+    core: &Core,
+    wanted: &[(u64, u64)],
+) -> Result<(), Fail> {
+    assert_eq!(rt; sizes_of(core), (2, wanted.len() as u64));
+    let pairs = pairs_of(alloc, core)?;
+    assert_eq!(rt; pairs.as_slice(), wanted);
+    has_map(rt, alloc, core, wanted)
+}
+
+/// Returns to savepoints, to one of them twice, and to the beginning.
+const SAVEPOINTS: [(Call, Answer); 14] = [
+    (Call::Run(Step::Begin(0)), Answer::Began(1)),
+    (Call::Op(0, Op::Put(1, 10)), Answer::Done(None)),
+    (Call::Run(Step::Save(0)), Answer::Saved(1)),
+    (Call::Op(0, Op::Put(1, 11)), Answer::Done(Some(10))),
+    (Call::Run(Step::Save(0)), Answer::Saved(2)),
+    (Call::Op(0, Op::Take(1)), Answer::Done(Some(11))),
+    (Call::Back(0, 1), Answer::Returned(1)),
+    (Call::Op(0, Op::Get(1)), Answer::Done(Some(10))),
+    (Call::Back(0, 1), Answer::Returned(1)),
+    (Call::Op(0, Op::Get(1)), Answer::Done(Some(10))),
+    (Call::Back(0, 2), Answer::Refused(Refusal::NoSuchLevel)),
+    (Call::Back(0, 0), Answer::Returned(0)),
+    (Call::Op(0, Op::Get(1)), Answer::Done(None)),
+    (Call::Run(Step::Commit(0)), Answer::Committed(1)),
+];
+
+const HISTORY_OF_SAVEPOINTS: [Entry; 25] = [
+    Entry::Began(0, 1),
+    Entry::Asked(0, Op::Put(1, 10)),
+    Entry::Did(0, None),
+    Entry::Saved(0),
+    Entry::Asked(0, Op::Put(1, 11)),
+    Entry::Did(0, Some(10)),
+    Entry::Saved(0),
+    Entry::Asked(0, Op::Take(1)),
+    Entry::Did(0, Some(11)),
+    Entry::Leave(0, Some(1)),
+    Entry::Undone(0),
+    Entry::Undone(0),
+    Entry::Returned(0, 1),
+    Entry::Asked(0, Op::Get(1)),
+    Entry::Did(0, Some(10)),
+    Entry::Leave(0, Some(1)),
+    Entry::Returned(0, 1),
+    Entry::Asked(0, Op::Get(1)),
+    Entry::Did(0, Some(10)),
+    Entry::Leave(0, Some(0)),
+    Entry::Undone(0),
+    Entry::Returned(0, 0),
+    Entry::Asked(0, Op::Get(1)),
+    Entry::Did(0, None),
+    Entry::Committed(0, 1),
+];
+
+/// Each kind of step, by `step`, with the bucket steps of one helper.
+const EACH_KIND: [(Call, Answer); 17] = [
+    (Call::Step(Step::Begin(0)), Answer::Began(1)),
+    (Call::Step(Step::Ask(0, Op::Put(3, 30))), Answer::Asked),
+    (Call::Step(Step::Seek(0)), Answer::Placed),
+    (Call::Step(Step::Act(0)), Answer::Done(None)),
+    (Call::Step(Step::Commit(0)), Answer::Committed(1)),
+    (Call::Step(Step::Begin(1)), Answer::Began(2)),
+    (Call::Step(Step::Save(1)), Answer::Saved(1)),
+    (Call::Step(Step::Back(1, 0)), Answer::Leaving),
+    (Call::Step(Step::Act(1)), Answer::Returned(0)),
+    (Call::Step(Step::Abort(1)), Answer::Leaving),
+    (Call::Step(Step::Act(1)), Answer::Aborted),
+    (Call::Step(Step::InitSeek(0, 1)), Answer::Placed),
+    (Call::Step(Step::InitLink(0)), Answer::Linked),
+    (Call::Step(Step::InitStore(0)), Answer::Stored),
+    (Call::Step(Step::InitSeek(0, 1)), Answer::Ready),
+    (Call::Step(Step::Double(2)), Answer::Light),
+    (Call::Step(Step::Sweep), Answer::Clean),
+];
+
+/// An abort from each phase; one that has left to the end goes on, one that has left to a level is
+/// refused.
+const ABORTS: [(Call, Answer); 15] = [
+    (Call::Abort(0), Answer::Refused(Refusal::NotOpen)),
+    (Call::Abort(3), Answer::Refused(Refusal::NoSuchCaller)),
+    (Call::Run(Step::Begin(0)), Answer::Began(1)),
+    (Call::Op(0, Op::Put(1, 10)), Answer::Done(None)),
+    (Call::Run(Step::Begin(1)), Answer::Began(2)),
+    (Call::Op(1, Op::Get(9)), Answer::Busy(0)),
+    (Call::Abort(1), Answer::Aborted),
+    (Call::Run(Step::Back(0, 0)), Answer::Leaving),
+    (Call::Abort(0), Answer::Refused(Refusal::Leaving)),
+    (Call::Run(Step::Seek(0)), Answer::Placed),
+    (Call::Run(Step::Act(0)), Answer::Undone),
+    (Call::Run(Step::Act(0)), Answer::Returned(0)),
+    (Call::Op(0, Op::Put(2, 20)), Answer::Done(None)),
+    (Call::Run(Step::Abort(0)), Answer::Leaving),
+    (Call::Abort(0), Answer::Aborted),
+];
+
+/// Each marked node is swept by a sweep of its own. And an act is done at its cursor although the
+/// list has changed elsewhere since its seek, and although another caller has read; a helper's
+/// dummy is linked although the list has changed elsewhere.
+const SWEEPS_AND_CURSORS: [(Call, Answer); 20] = [
+    (Call::Run(Step::Begin(0)), Answer::Began(1)),
+    (Call::Op(0, Op::Put(4, 40)), Answer::Done(None)),
+    (Call::Op(0, Op::Put(2, 20)), Answer::Done(None)),
+    (Call::Op(0, Op::Put(1, 10)), Answer::Done(None)),
+    (Call::Op(0, Op::Take(1)), Answer::Done(Some(10))),
+    (Call::Op(0, Op::Take(2)), Answer::Done(Some(20))),
+    (Call::Run(Step::Commit(0)), Answer::Committed(1)),
+    (Call::Run(Step::Sweep), Answer::Swept),
+    (Call::Run(Step::Sweep), Answer::Swept),
+    (Call::Run(Step::Sweep), Answer::Clean),
+    (Call::Run(Step::Begin(0)), Answer::Began(2)),
+    (Call::Run(Step::Ask(0, Op::Put(2, 21))), Answer::Asked),
+    (Call::Run(Step::Seek(0)), Answer::Placed),
+    (Call::Run(Step::Begin(1)), Answer::Began(3)),
+    (Call::Op(1, Op::Put(8, 80)), Answer::Done(None)),
+    (Call::Op(1, Op::Get(4)), Answer::Done(Some(40))),
+    (Call::Run(Step::Act(0)), Answer::Done(None)),
+    (Call::Run(Step::InitSeek(0, 1)), Answer::Placed),
+    (Call::Op(1, Op::Put(12, 120)), Answer::Done(None)),
+    (Call::Run(Step::InitLink(0)), Answer::Linked),
+];
+
+/// Puts of keys of 64 bits, by calls, and committed: a put that expects another value is none.
+const WIDE_KEYS: [(Call, Answer); 9] = [
+    (Call::Step(Step::Begin(0)), Answer::Began(1)),
+    (
+        Call::Op(0, Op::Put(9_223_372_036_854_775_809, 11)),
+        Answer::Done(None),
+    ),
+    (Call::Op(0, Op::Put(1, 10)), Answer::Done(None)),
+    (Call::Op(0, Op::PutIf(1, None, 12)), Answer::Done(Some(10))),
+    (
+        Call::Op(0, Op::PutIf(1, Some(10), 12)),
+        Answer::Done(Some(10)),
+    ),
+    (Call::Op(0, Op::PutIf(2, None, 20)), Answer::Done(None)),
+    (Call::Op(0, Op::PutIf(3, Some(5), 6)), Answer::Done(None)),
+    (
+        Call::Op(0, Op::Put(18_446_744_073_709_551_615, 7)),
+        Answer::Done(None),
+    ),
+    (Call::Step(Step::Commit(0)), Answer::Committed(1)),
+];
+
+/// What they leave: keys that share a split key stand by their numbers.
+const WIDE_PAIRS: [(u64, u64); 4] = [
+    (2, 20),
+    (1, 12),
+    (9_223_372_036_854_775_809, 11),
+    (18_446_744_073_709_551_615, 7),
+];
+
+/// The same by steps, and aborted by steps: five changes are taken back.
+const WIDE_KEYS_ABORTED: [(Call, Answer); 34] = [
+    (Call::Step(Step::Begin(0)), Answer::Began(1)),
+    (
+        Call::Step(Step::Ask(0, Op::Put(9_223_372_036_854_775_809, 11))),
+        Answer::Asked,
+    ),
+    (Call::Step(Step::Seek(0)), Answer::Placed),
+    (Call::Step(Step::Act(0)), Answer::Done(None)),
+    (Call::Step(Step::Ask(0, Op::Put(1, 10))), Answer::Asked),
+    (Call::Step(Step::Seek(0)), Answer::Placed),
+    (Call::Step(Step::Act(0)), Answer::Done(None)),
+    (
+        Call::Step(Step::Ask(0, Op::PutIf(1, None, 12))),
+        Answer::Asked,
+    ),
+    (Call::Step(Step::Seek(0)), Answer::Placed),
+    (Call::Step(Step::Act(0)), Answer::Done(Some(10))),
+    (
+        Call::Step(Step::Ask(0, Op::PutIf(1, Some(10), 12))),
+        Answer::Asked,
+    ),
+    (Call::Step(Step::Seek(0)), Answer::Placed),
+    (Call::Step(Step::Act(0)), Answer::Done(Some(10))),
+    (
+        Call::Step(Step::Ask(0, Op::PutIf(2, None, 20))),
+        Answer::Asked,
+    ),
+    (Call::Step(Step::Seek(0)), Answer::Placed),
+    (Call::Step(Step::Act(0)), Answer::Done(None)),
+    (
+        Call::Step(Step::Ask(0, Op::PutIf(3, Some(5), 6))),
+        Answer::Asked,
+    ),
+    (Call::Step(Step::Seek(0)), Answer::Placed),
+    (Call::Step(Step::Act(0)), Answer::Done(None)),
+    (
+        Call::Step(Step::Ask(0, Op::Put(18_446_744_073_709_551_615, 7))),
+        Answer::Asked,
+    ),
+    (Call::Step(Step::Seek(0)), Answer::Placed),
+    (Call::Step(Step::Act(0)), Answer::Done(None)),
+    (Call::Step(Step::Abort(0)), Answer::Leaving),
+    (Call::Step(Step::Seek(0)), Answer::Placed),
+    (Call::Step(Step::Act(0)), Answer::Undone),
+    (Call::Step(Step::Seek(0)), Answer::Placed),
+    (Call::Step(Step::Act(0)), Answer::Undone),
+    (Call::Step(Step::Seek(0)), Answer::Placed),
+    (Call::Step(Step::Act(0)), Answer::Undone),
+    (Call::Step(Step::Seek(0)), Answer::Placed),
+    (Call::Step(Step::Act(0)), Answer::Undone),
+    (Call::Step(Step::Seek(0)), Answer::Placed),
+    (Call::Step(Step::Act(0)), Answer::Undone),
+    (Call::Step(Step::Act(0)), Answer::Aborted),
+];
+
+/// With half keys alone the first key that is refused is 2^63, by every operation and by help.
+const HALF_KEYS: [(Call, Answer); 8] = [
+    (Call::Step(Step::Begin(0)), Answer::Began(1)),
+    (
+        Call::Op(0, Op::Put(9_223_372_036_854_775_808, 1)),
+        Answer::Refused(Refusal::BadKey),
+    ),
+    (
+        Call::Op(0, Op::PutIf(9_223_372_036_854_775_808, None, 1)),
+        Answer::Refused(Refusal::BadKey),
+    ),
+    (
+        Call::Op(0, Op::Take(9_223_372_036_854_775_808)),
+        Answer::Refused(Refusal::BadKey),
+    ),
+    (
+        Call::Op(0, Op::Get(18_446_744_073_709_551_615)),
+        Answer::Refused(Refusal::BadKey),
+    ),
+    (
+        Call::Op(0, Op::Put(9_223_372_036_854_775_807, 2)),
+        Answer::Done(None),
+    ),
+    (
+        Call::Op(0, Op::Get(9_223_372_036_854_775_807)),
+        Answer::Done(Some(2)),
+    ),
+    (
+        Call::Help(0, 9_223_372_036_854_775_808),
+        Answer::Refused(Refusal::BadKey),
+    ),
+];
+
+/// A run on a core of its own, of two buckets: how many callers there are, whether half keys alone
+/// are taken, the calls, the pairs that are left, and the history where that is compared.
+#[derive(Drop)]
+struct Run {
+    callers: u64,
+    takes_half_keys: bool,
+    lines: &'static [(Call, Answer)],
+    pairs: &'static [(u64, u64)],
+    history: Option<&'static [Entry]>,
+}
+
+static RUNS: [Run; 7] = [
+    Run {
+        callers: 2,
+        takes_half_keys: false,
+        lines: &SAVEPOINTS,
+        pairs: &[],
+        history: Some(&HISTORY_OF_SAVEPOINTS),
+    },
+    Run {
+        callers: 2,
+        takes_half_keys: false,
+        lines: &EACH_KIND,
+        pairs: &[(3, 30)],
+        history: None,
+    },
+    Run {
+        callers: 3,
+        takes_half_keys: false,
+        lines: &ABORTS,
+        pairs: &[],
+        history: None,
+    },
+    Run {
+        callers: 2,
+        takes_half_keys: false,
+        lines: &SWEEPS_AND_CURSORS,
+        pairs: &[(8, 80), (4, 40), (12, 120), (2, 21)],
+        history: None,
+    },
+    Run {
+        callers: 1,
+        takes_half_keys: false,
+        lines: &WIDE_KEYS,
+        pairs: &WIDE_PAIRS,
+        history: None,
+    },
+    Run {
+        callers: 1,
+        takes_half_keys: false,
+        lines: &WIDE_KEYS_ABORTED,
+        pairs: &[],
+        history: None,
+    },
+    Run {
+        callers: 1,
+        takes_half_keys: true,
+        lines: &HALF_KEYS,
+        pairs: &[(9_223_372_036_854_775_807, 2)],
+        history: None,
+    },
+];
+
+/// The core of a run.
+fn core_in(alloc: Global, run: &Run) -> Result<Core, Fail> {
+    let every = limits_of(run.callers, 8, 8)?;
+    let limits = if run.takes_half_keys {
+        every.half_keys()
+    } else {
+        every
+    };
+    core_with(alloc, limits)
+}
+
+fn play_run(rt: &impl Abort, alloc: Global, core: &mut Core, run: &Run) -> Result<(), Fail> {
+    play_calls(rt, alloc, core, run.lines)?;
+    has_pairs(rt, alloc, core, run.pairs)?;
+    if let Some(history) = run.history {
+        assert_eq!(rt; trace_of(core), history);
+    }
+    Ok(())
+}
+
+fn play_runs(rt: &impl Abort, alloc: Global, runs: &[Run]) -> Result<(), Fail> {
+    for run in runs {
+        play_run(rt, alloc, &mut core_in(alloc, run)?, run)?;
+    }
+    Ok(())
+}
+
+#[test]
+fn worked_runs(rt: HostRuntime) -> Result<(), Fail> {
+    play_runs(&rt, rt.alloc(), &RUNS)
+}
+
+/// A core of one caller, which has begun a transaction.
+fn begun_core(rt: &impl Abort, alloc: Global, limits: Limits) -> Result<Core, Fail> {
+    let mut core = core_with(alloc, limits)?;
+    step_is(rt, &mut core, Step::Begin(0), Answer::Began(1))?;
+    Ok(core)
+}
+
+/// How many entries there are, how many buckets and keys, and how many entries are owed, for which
+/// no memory is wanted.
+fn figures(core: &Core) -> (usize, (u32, u64), usize) {
+    (trace_of(core).len(), sizes_of(core), owed_by(core))
+}
+
+/// Takes a step. Where it is refused memory, all is as it was before, and the answer is false. The
+/// pairs are compared where there is memory for their lists.
+fn try_step(
+    rt: &impl Abort,
+    alloc: Global,
+    core: &mut Core,
+    step: Step,
+    wanted: Answer,
+) -> Result<bool, Fail> {
+    let pairs = pairs_of(alloc, core);
+    let before = figures(core);
+    let answer = take_step(core, step)?;
+    if answer != Answer::Refused(Refusal::NoMemory) {
+        assert_eq!(rt; answer, wanted, "at {step:?}");
+        return Ok(true);
+    }
+    assert_eq!(rt; figures(core), before);
+    let after = pairs_of(alloc, core);
+    if let (Ok(after), Ok(pairs)) = (&after, &pairs) {
+        assert_eq!(rt; after.as_slice(), pairs.as_slice());
+    }
+    Ok(false)
+}
+
+/// Takes steps up to one that is refused memory, where all stays: then the answer is false.
+fn try_steps(
+    rt: &impl Abort,
+    alloc: Global,
+    core: &mut Core,
+    lines: &[(Step, Answer)],
+) -> Result<bool, Fail> {
+    for (step, wanted) in lines {
+        if !try_step(rt, alloc, core, *step, *wanted)? {
+            return Ok(false);
+        }
+    }
+    Ok(true)
+}
+
+/// The steps by which a caller does an operation, with their answers.
+fn steps_of(caller: u64, op: Op, reply: Reply) -> [(Step, Answer); 3] {
+    [
+        (Step::Ask(caller, op), Answer::Asked),
+        (Step::Seek(caller), Answer::Placed),
+        (Step::Act(caller), Answer::Done(reply)),
+    ]
+}
+
+/// A caller begins and puts; false where memory is refused.
+fn begin_and_put(
+    rt: &impl Abort,
+    alloc: Global,
+    core: &mut Core,
+    caller: u64,
+) -> Result<bool, Fail> {
+    let next = caller.wrapping_add(1);
+    let put = steps_of(caller, Op::Put(next, 10), None);
+    Ok(
+        try_step(rt, alloc, core, Step::Begin(caller), Answer::Began(next))?
+            && try_steps(rt, alloc, core, &put)?,
+    )
+}
+
+/// A caller puts once more and takes; false where memory is refused.
+fn put_and_take(
+    rt: &impl Abort,
+    alloc: Global,
+    core: &mut Core,
+    caller: u64,
+) -> Result<bool, Fail> {
+    let key = caller.wrapping_add(1);
+    let put = steps_of(caller, Op::Put(key, 20), Some(10));
+    let take = steps_of(caller, Op::Take(key), Some(20));
+    Ok(try_steps(rt, alloc, core, &put)? && try_steps(rt, alloc, core, &take)?)
+}
+
+/// Five callers begin and change a key each three times; false where memory is refused.
+fn change_five(rt: &impl Abort, alloc: Global, core: &mut Core) -> Result<bool, Fail> {
+    for caller in 0..5 {
+        if !begin_and_put(rt, alloc, core, caller)? {
+            return Ok(false);
+        }
+    }
+    for caller in 0..5 {
+        if !put_and_take(rt, alloc, core, caller)? {
+            return Ok(false);
+        }
+    }
+    Ok(true)
+}
+
+/// Each caller takes its newest change back, after which each key has this value. The pairs are
+/// compared where there is memory for their list, and else counted.
+fn undo_five(
+    rt: &impl Abort,
+    alloc: Global,
+    core: &mut Core,
+    left: Option<u64>,
+) -> Result<(), Fail> {
+    for caller in 0..5 {
+        step_is(rt, core, Step::Seek(caller), Answer::Placed)?;
+        step_is(rt, core, Step::Act(caller), Answer::Undone)?;
+    }
+    let count = if left.is_some() { 5 } else { 0 };
+    assert_eq!(rt; sizes_of(core), (2, count));
+    if let (Ok(pairs), Some(value)) = (pairs_of(alloc, core), left) {
+        let wanted = [(4, value), (2, value), (1, value), (5, value), (3, value)];
+        assert_eq!(rt; pairs.as_slice(), wanted.as_slice());
+    }
+    Ok(())
+}
+
+/// Five callers abort, and leave from there.
+fn leave_five(rt: &impl Abort, core: &mut Core) -> Result<(), Fail> {
+    assert_eq!(rt; owed_by(core), 25);
+    for caller in 0..5 {
+        step_is(rt, core, Step::Abort(caller), Answer::Leaving)?;
+    }
+    assert_eq!(rt; owed_by(core), 20);
+    Ok(())
+}
+
+/// Five callers have taken everything back and end.
+fn end_five(rt: &impl Abort, core: &mut Core) -> Result<(), Fail> {
+    for caller in 0..5 {
+        step_is(rt, core, Step::Act(caller), Answer::Aborted)?;
+    }
+    Ok(())
+}
+
+/// Five callers change a key each three times, if memory is not refused, and take their changes
+/// back in turn.
+fn change_and_undo_five(rt: &impl Abort, alloc: Global, core: &mut Core) -> Result<(), Fail> {
+    if !change_five(rt, alloc, core)? {
+        return Ok(());
+    }
+    leave_five(rt, core)?;
+    undo_five(rt, alloc, core, Some(20))?;
+    undo_five(rt, alloc, core, Some(10))?;
+    undo_five(rt, alloc, core, None)?;
+    end_five(rt, core)
+}
+
+/// Aborts the callers below a number, each of which may not have begun, and looks that nothing is
+/// left. No memory is wanted.
+fn abort_all(rt: &impl Abort, core: &mut Core, callers: u64) {
+    for caller in 0..callers {
+        let answer = abort(core, caller);
+        assert!(rt; answer == Answer::Aborted || answer == Answer::Refused(Refusal::NotOpen));
+    }
+    assert_eq!(rt; (sizes_of(core).1, owed_by(core)), (0, 0));
+}
+
+/// Five callers change keys and take the changes back, if memory is not refused, and abort.
+fn play_five(rt: &impl Abort, alloc: Global, core: &mut Core) -> Result<(), Fail> {
+    change_and_undo_five(rt, alloc, core)?;
+    abort_all(rt, core, 5);
+    assert_eq!(rt; sizes_of(core).0, 2);
+    Ok(())
+}
+
+/// Also run with each allocation refused in turn, and with all from one on: then every caller
+/// aborts, for which no memory is wanted. Without a core there is nothing to show.
+#[test]
+fn five_callers_undone(rt: HostRuntime) -> Result<(), Fail> {
+    let limits = limits_of(5, 8, 8)?;
+    let Some(mut core) = core_if_made(rt.alloc(), limits) else {
+        return Ok(());
+    };
+    play_five(&rt, rt.alloc(), &mut core)
+}
+
+/// Takes steps, and each once more where it is refused memory; false where one is refused again.
+fn try_steps_twice(
+    rt: &impl Abort,
+    alloc: Global,
+    core: &mut Core,
+    lines: &[(Step, Answer)],
+) -> Result<bool, Fail> {
+    for (step, wanted) in lines {
+        let is_taken = try_step(rt, alloc, core, *step, *wanted)?
+            || try_step(rt, alloc, core, *step, *wanted)?;
+        if !is_taken {
+            return Ok(false);
+        }
+    }
+    Ok(true)
+}
+
+/// Caller 0 puts 129 keys; false where a step is refused memory twice.
+fn put_many(rt: &impl Abort, alloc: Global, core: &mut Core) -> Result<bool, Fail> {
+    if !try_steps_twice(rt, alloc, core, &[(Step::Begin(0), Answer::Began(1))])? {
+        return Ok(false);
+    }
+    for key in 0..129 {
+        let put = steps_of(0, Op::Put(key, key), None);
+        if !try_steps_twice(rt, alloc, core, &put)? {
+            return Ok(false);
+        }
+    }
+    Ok(true)
+}
+
+/// Bucket 64, the first of the second segment, is stored.
+static SECOND_SEGMENT: [(Step, Answer); 12] = [
+    (Step::Double(2), Answer::Doubled(4)),
+    (Step::Double(4), Answer::Doubled(8)),
+    (Step::Double(8), Answer::Doubled(16)),
+    (Step::Double(16), Answer::Doubled(32)),
+    (Step::Double(32), Answer::Doubled(64)),
+    (Step::Double(64), Answer::Doubled(128)),
+    (Step::Double(128), Answer::AtLimit),
+    (
+        Step::InitSeek(0, 96),
+        Answer::Refused(Refusal::ParentMissing),
+    ),
+    (Step::InitSeek(0, 64), Answer::Placed),
+    (Step::InitLink(0), Answer::Linked),
+    (Step::InitStore(0), Answer::Stored),
+    (Step::InitSeek(0, 64), Answer::Ready),
+];
+
+/// Fills the table and stores the bucket; or the caller aborts where a step is refused memory twice.
+fn fill_segments(rt: &impl Abort, alloc: Global, core: &mut Core) -> Result<(), Fail> {
+    let is_done = put_many(rt, alloc, core)? && try_steps_twice(rt, alloc, core, &SECOND_SEGMENT)?;
+    if !is_done {
+        abort_all(rt, core, 1);
+        return Ok(());
+    }
+    step_is(rt, core, Step::Commit(0), Answer::Committed(1))?;
+    assert_eq!(rt; sizes_of(core), (128, 129));
+    Ok(())
+}
+
+/// Bucket 64 is the first of the second segment, so its store takes memory. Also run with each
+/// allocation refused in turn, and with all from one on: where a step is refused it may be taken
+/// again, and where it is refused again the caller aborts, for which no memory is wanted.
+#[test]
+fn segments(rt: HostRuntime) -> Result<(), Fail> {
+    let limits = limits_of(1, 8, 128)?;
+    let Some(mut core) = core_if_made(rt.alloc(), limits) else {
+        return Ok(());
+    };
+    fill_segments(&rt, rt.alloc(), &mut core)
+}
+
+/// Caller 0 takes the newest of so many changes, each of a key of its number, back: those before it
+/// are left.
+fn undo_newest(rt: &impl Abort, alloc: Global, core: &mut Core, key: u64) -> Result<(), Fail> {
+    step_is(rt, core, Step::Seek(0), Answer::Placed)?;
+    step_is(rt, core, Step::Act(0), Answer::Undone)?;
+    let pairs = pairs_of(alloc, core)?;
+    assert_eq!(rt; (pairs.len() as u64).wrapping_add(1), key);
+    for pair in &pairs {
+        assert!(rt; pair.0 < key, "{pair:?} before {key}");
+    }
+    Ok(())
+}
+
+/// Caller 0 takes nine changes back.
+fn undo_nine(rt: &impl Abort, alloc: Global, core: &mut Core) -> Result<(), Fail> {
+    for left in 0..9 {
+        undo_newest(rt, alloc, core, 9u64.wrapping_sub(left))?;
+    }
+    Ok(())
+}
+
+/// Caller 0 puts a key that is not there.
+fn put(rt: &impl Abort, core: &mut Core, key: u64) -> Result<(), Fail> {
+    assert_eq!(rt; operate(core, 0, Op::Put(key, key))?, Answer::Done(None));
+    Ok(())
+}
+
+/// Caller 0 puts the keys from 1 to 9.
+fn put_nine(rt: &impl Abort, core: &mut Core) -> Result<(), Fail> {
+    for key in 1..10 {
+        put(rt, core, key)?;
+    }
+    Ok(())
+}
+
+/// Caller 0 puts nine keys and aborts.
+fn put_and_undo_nine(rt: &impl Abort, alloc: Global, core: &mut Core) -> Result<(), Fail> {
+    put_nine(rt, core)?;
+    step_is(rt, core, Step::Abort(0), Answer::Leaving)?;
+    undo_nine(rt, alloc, core)?;
+    step_is(rt, core, Step::Act(0), Answer::Aborted)?;
+    has_pairs(rt, alloc, core, &[])
+}
+
+/// Nine changes of one transaction, of which eight jobs stand in the caller's log itself: each step
+/// back takes the newest key out, and leaves those before it.
+#[test]
+fn nine_undone_newest_first(rt: HostRuntime) -> Result<(), Fail> {
+    let mut core = begun_core(&rt, rt.alloc(), limits_of(1, 8, 8)?)?;
+    put_and_undo_nine(&rt, rt.alloc(), &mut core)
+}
+
+/// Steps, each with how many entries are owed after it: two for an open transaction and one for
+/// each change that stands; two more for a put that waits and one for a get; one more on the way to
+/// a level.
+static OWED: [(Step, usize); 16] = [
+    (Step::Begin(0), 2),
+    (Step::Ask(0, Op::Put(1, 10)), 4),
+    (Step::Seek(0), 4),
+    (Step::Act(0), 3),
+    (Step::Ask(0, Op::Get(1)), 4),
+    (Step::Seek(0), 4),
+    (Step::Act(0), 3),
+    (Step::Begin(1), 5),
+    (Step::Save(0), 5),
+    (Step::Back(0, 0), 6),
+    (Step::Seek(0), 6),
+    (Step::Act(0), 5),
+    (Step::Act(0), 4),
+    (Step::Commit(0), 2),
+    (Step::Abort(1), 1),
+    (Step::Act(1), 0),
+];
+
+fn owed_are(rt: &impl Abort, core: &mut Core, rows: &[(Step, usize)]) -> Result<(), Fail> {
+    for (step, owed) in rows {
+        take_step(core, *step)?;
+        assert_eq!(rt; owed_by(core), *owed, "after {step:?}");
+    }
+    Ok(())
+}
+
+#[test]
+fn owed_entries(rt: HostRuntime) -> Result<(), Fail> {
+    owed_are(&rt, &mut core_of(rt.alloc(), 2)?, &OWED)
+}
+
+/// A call for help doubles a table with more than two keys a bucket, and initialises the bucket of
+/// its key: the key, the size after it, and the bucket.
+static HELPED: [(u64, u32, u64); 9] = [
+    (0, 2, 0),
+    (1, 2, 1),
+    (2, 2, 0),
+    (3, 2, 1),
+    (4, 4, 0),
+    (5, 4, 1),
+    (6, 4, 2),
+    (7, 4, 3),
+    (8, 8, 0),
+];
+
+/// Caller 0 puts keys and helps after each; there is no helper 1.
+fn helped_are(rt: &impl Abort, core: &mut Core, rows: &[(u64, u32, u64)]) -> Result<(), Fail> {
+    for (key, size, bucket) in rows {
+        put(rt, core, *key)?;
+        assert_eq!(rt; help(core, 0, *key), Ok(()));
+        assert_eq!(rt; sizes_of(core).0, *size, "at {key}");
+        step_is(rt, core, Step::InitSeek(0, *bucket), Answer::Ready)?;
+    }
+    assert_eq!(rt; help(core, 1, 0), Err(Refusal::NoSuchHelper));
+    Ok(())
+}
+
+/// Caller 0 puts so many keys and helps before each.
+fn put_helped(rt: &impl Abort, core: &mut Core, keys: u64) -> Result<(), Fail> {
+    for key in 0..keys {
+        assert_eq!(rt; help(core, 0, key), Ok(()));
+        put(rt, core, key)?;
+    }
+    Ok(())
+}
+
+/// 30,000 keys with help before each put, each from a bucket of its own: without help each seek
+/// would walk all keys.
+fn helped_table_stays_fast(rt: &impl Abort, core: &mut Core) -> Result<(), Fail> {
+    put_helped(rt, core, 30_000)?;
+    step_is(rt, core, Step::Commit(0), Answer::Committed(1))?;
+    assert_eq!(rt; sizes_of(core), (16_384, 30_000));
+    Ok(())
+}
+
+/// A core of few buckets that grows with help.
+fn grow_with_help(rt: &impl Abort, alloc: Global) -> Result<(), Fail> {
+    let mut core = begun_core(rt, alloc, limits_of(1, 8, 8)?)?;
+    helped_are(rt, &mut core, &HELPED)
+}
+
+#[test]
+fn helps_to_grow(rt: HostRuntime) -> Result<(), Fail> {
+    grow_with_help(&rt, rt.alloc())?;
+    let mut core = begun_core(&rt, rt.alloc(), limits_of(1, 64, 65_536)?)?;
+    helped_table_stays_fast(&rt, &mut core)
+}

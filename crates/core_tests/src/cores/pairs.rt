@@ -1,0 +1,297 @@
+//! Pairs of keys that share a split key, a key below 2^63 and the same with 2^63 more: two callers'
+//! steps in every order, each compared with a plain map that has an undo of its own.
+use super::plain_map::{PlainMap, Stage};
+use crate::devices::{core_with, limits_of, pairs_of, sizes_of, step_is, take_step};
+use boost_core::Core;
+use std::alloc::Global;
+use std::process::Abort;
+use std::test::Fail;
+use txn_trace::{Answer, Op, Step};
+
+/// On how many pairs the orders are tried, one after the other.
+const PAIRS: u64 = 24;
+
+/// The orders of two lists of seven steps: bit by bit, whose step comes next.
+const ORDERS: u32 = 1 << 14;
+
+/// What a caller does on its own key, or on both keys of the pair.
+#[derive(Clone, Copy, Debug)]
+enum Plan {
+    PutAborted,
+    TakeAborted,
+    PutAndTake,
+    TakenBack,
+    PutBoth,
+}
+
+impl Plan {
+    /// The plan as steps. Those of an abort or a return take one change back and then end.
+    fn steps(self, caller: u64, own: u64, other: u64) -> [Step; 7] {
+        let value = caller.wrapping_add(100);
+        let put = Op::Put(own, value);
+        let (first, then) = match self {
+            Plan::PutAborted => (put, Step::Abort(caller)),
+            Plan::TakeAborted => (Op::Take(own), Step::Abort(caller)),
+            Plan::PutAndTake => (put, Step::Ask(caller, Op::Take(own))),
+            Plan::TakenBack => (Op::Take(own), Step::Back(caller, 0)),
+            Plan::PutBoth => (put, Step::Ask(caller, Op::Put(other, value))),
+        };
+        let last = match self {
+            Plan::PutAndTake | Plan::PutBoth => Step::Commit(caller),
+            Plan::PutAborted | Plan::TakeAborted | Plan::TakenBack => Step::Act(caller),
+        };
+        [
+            Step::Ask(caller, first),
+            Step::Seek(caller),
+            Step::Act(caller),
+            then,
+            Step::Seek(caller),
+            Step::Act(caller),
+            last,
+        ]
+    }
+}
+
+/// The plain map that a core is compared with, and whose step was the last.
+#[derive(Drop)]
+struct Compared {
+    plain: PlainMap,
+    last: Option<u64>,
+}
+
+/// Takes a step of a caller. A place that no longer fits is sought anew at once: that may be wanted
+/// only where the other caller, whose step was the last, came between.
+fn take_anew(
+    rt: &impl Abort,
+    core: &mut Core,
+    last: Option<u64>,
+    caller: u64,
+    step: Step,
+) -> Result<Answer, Fail> {
+    let answer = take_step(core, step)?;
+    if answer != Answer::Again {
+        return Ok(answer);
+    }
+    assert_ne!(rt; last, Some(caller), "at {step:?}");
+    step_is(rt, core, Step::Seek(caller), Answer::Placed)?;
+    take_step(core, step)
+}
+
+/// Takes a step of a caller, and compares the answer and how many keys there are.
+fn take(
+    rt: &impl Abort,
+    core: &mut Core,
+    compared: &mut Compared,
+    caller: u64,
+    step: Step,
+) -> Result<(), Fail> {
+    let answer = take_anew(rt, core, compared.last, caller, step)?;
+    compared.last = Some(caller);
+    assert_eq!(rt; answer, compared.plain.answer(step)?, "at {step:?}");
+    assert_eq!(rt; sizes_of(core).1, compared.plain.count());
+    Ok(())
+}
+
+/// Ends the transaction of a caller that still has one.
+fn end(rt: &impl Abort, core: &mut Core, compared: &mut Compared, caller: u64) -> Result<(), Fail> {
+    if compared.plain.stage(caller) == Stage::Open {
+        return take(rt, core, compared, caller, Step::Commit(caller));
+    }
+    for _ in 0..3 {
+        if compared.plain.stage(caller) != Stage::Closed {
+            take(rt, core, compared, caller, Step::Seek(caller))?;
+            take(rt, core, compared, caller, Step::Act(caller))?;
+        }
+    }
+    Ok(())
+}
+
+/// Sees that the list has the pairs of the plain map, in split order and then by key.
+fn compare(rt: &impl Abort, alloc: Global, core: &Core, compared: &Compared) -> Result<(), Fail> {
+    let pairs = pairs_of(alloc, core)?;
+    let wanted = compared.plain.in_split_order(alloc)?;
+    assert_eq!(rt; pairs.as_slice(), wanted.as_slice());
+    Ok(())
+}
+
+/// Caller 0 puts a key, or takes it out.
+fn prepare_key(
+    rt: &impl Abort,
+    core: &mut Core,
+    compared: &mut Compared,
+    key: u64,
+    is_there: bool,
+) -> Result<(), Fail> {
+    let op = if is_there {
+        Op::Put(key, 1)
+    } else {
+        Op::Take(key)
+    };
+    take(rt, core, compared, 0, Step::Ask(0, op))?;
+    take(rt, core, compared, 0, Step::Seek(0))?;
+    take(rt, core, compared, 0, Step::Act(0))
+}
+
+/// Caller 0 puts both keys of a pair, or takes them out.
+fn prepare(
+    rt: &impl Abort,
+    core: &mut Core,
+    compared: &mut Compared,
+    pair: u64,
+    are_there: bool,
+) -> Result<(), Fail> {
+    take(rt, core, compared, 0, Step::Begin(0))?;
+    prepare_key(rt, core, compared, lower_of(pair), are_there)?;
+    prepare_key(rt, core, compared, upper_of(pair), are_there)?;
+    take(rt, core, compared, 0, Step::Commit(0))
+}
+
+/// Two callers, who have begun, take their steps in one order.
+fn take_in_order(
+    rt: &impl Abort,
+    core: &mut Core,
+    compared: &mut Compared,
+    order: u32,
+    steps: &[[Step; 7]; 2],
+) -> Result<(), Fail> {
+    let mut lists = (steps[0].iter(), steps[1].iter());
+    let mut rest = order;
+    for _ in 0..14 {
+        let (caller, next) = if rest % 2 == 0 {
+            (0, lists.0.next())
+        } else {
+            (1, lists.1.next())
+        };
+        if let Some(step) = next {
+            take(rt, core, compared, caller, *step)?;
+        }
+        rest /= 2;
+    }
+    Ok(())
+}
+
+/// Two callers begin, take their steps in one order, and end.
+fn play(
+    rt: &impl Abort,
+    core: &mut Core,
+    compared: &mut Compared,
+    order: u32,
+    steps: &[[Step; 7]; 2],
+) -> Result<(), Fail> {
+    take(rt, core, compared, 0, Step::Begin(0))?;
+    take(rt, core, compared, 1, Step::Begin(1))?;
+    take_in_order(rt, core, compared, order, steps)?;
+    end(rt, core, compared, 0)?;
+    end(rt, core, compared, 1)
+}
+
+/// Doubles the table to 32 buckets.
+fn double(rt: &impl Abort, core: &mut Core) -> Result<(), Fail> {
+    for (size, doubled) in &[(2, 4), (4, 8), (8, 16), (16, 32)] {
+        step_is(rt, core, Step::Double(*size), Answer::Doubled(*doubled))?;
+    }
+    Ok(())
+}
+
+/// Initialises the buckets, so that no seek walks far.
+fn initialise(rt: &impl Abort, core: &mut Core) -> Result<(), Fail> {
+    for bucket in 1..32 {
+        step_is(rt, core, Step::InitSeek(0, bucket), Answer::Placed)?;
+        step_is(rt, core, Step::InitLink(0), Answer::Linked)?;
+        step_is(rt, core, Step::InitStore(0), Answer::Stored)?;
+    }
+    Ok(())
+}
+
+/// The key of a pair that is below 2^63.
+fn lower_of(pair: u64) -> u64 {
+    (pair % PAIRS).wrapping_mul(401)
+}
+
+/// The key of a pair that is 2^63 more.
+fn upper_of(pair: u64) -> u64 {
+    lower_of(pair) | 1 << 63
+}
+
+/// All pairs are put, and the table grows.
+fn prepare_all(rt: &impl Abort, core: &mut Core, compared: &mut Compared) -> Result<(), Fail> {
+    for pair in 0..PAIRS {
+        prepare(rt, core, compared, pair, true)?;
+    }
+    double(rt, core)?;
+    initialise(rt, core)
+}
+
+/// Two plans on a pair: how many stripes there are, whether the keys of the pair are there before,
+/// and what the callers do.
+type Case = (u64, bool, Plan, Plan);
+
+/// One order of two plans, on a pair.
+fn in_order(
+    rt: &impl Abort,
+    core: &mut Core,
+    compared: &mut Compared,
+    case: &Case,
+    pair: u64,
+    order: u32,
+) -> Result<(), Fail> {
+    let (_, are_there, first, second) = *case;
+    prepare(rt, core, compared, pair, are_there)?;
+    let (lower, upper) = (lower_of(pair), upper_of(pair));
+    let steps = [first.steps(0, lower, upper), second.steps(1, upper, lower)];
+    play(rt, core, compared, order, &steps)
+}
+
+/// Every order of two plans, each on the next pair.
+fn in_every_order(
+    rt: &impl Abort,
+    core: &mut Core,
+    compared: &mut Compared,
+    case: &Case,
+) -> Result<(), Fail> {
+    let mut pair: u64 = 0;
+    for order in 0..ORDERS {
+        if order.count_ones() == 7 {
+            pair = pair.wrapping_add(1);
+            in_order(rt, core, compared, case, pair, order)?;
+        }
+    }
+    Ok(())
+}
+
+/// Every order of two plans on a core of its own, and then the pairs that are left.
+fn try_case(rt: &impl Abort, alloc: Global, core: &mut Core, case: &Case) -> Result<(), Fail> {
+    let mut compared = Compared {
+        plain: PlainMap::new(alloc, case.0),
+        last: None,
+    };
+    prepare_all(rt, core, &mut compared)?;
+    in_every_order(rt, core, &mut compared, case)?;
+    compare(rt, alloc, core, &compared)
+}
+
+/// With 7 stripes the two keys of a pair have stripes of their own, so that both callers work; with
+/// 8 they share one, and whoever asks second is busy.
+static CASES: [Case; 8] = [
+    (7, false, Plan::PutAborted, Plan::PutAborted),
+    (7, false, Plan::PutAndTake, Plan::PutAborted),
+    (7, true, Plan::PutAborted, Plan::TakeAborted),
+    (7, true, Plan::TakeAborted, Plan::TakenBack),
+    (7, true, Plan::TakenBack, Plan::PutAndTake),
+    (7, false, Plan::PutBoth, Plan::PutAborted),
+    (8, false, Plan::PutAndTake, Plan::PutAborted),
+    (8, true, Plan::PutBoth, Plan::TakeAborted),
+];
+
+fn try_cases(rt: &impl Abort, alloc: Global, cases: &[Case]) -> Result<(), Fail> {
+    for case in cases {
+        let mut core = core_with(alloc, limits_of(2, case.0, 32)?)?;
+        try_case(rt, alloc, &mut core, case)?;
+    }
+    Ok(())
+}
+
+#[test]
+fn pairs_of_one_split_key(rt: HostRuntime) -> Result<(), Fail> {
+    try_cases(&rt, rt.alloc(), &CASES)
+}

@@ -1,0 +1,116 @@
+//! Operations that are asked for where stripes are words.
+use crate::devices::{core_of, limits_of, take_step, trace_of};
+use boost_core::Core;
+use key_locks::StripeRight;
+use std::alloc::Global;
+use std::process::Abort;
+use std::test::Fail;
+use txn_trace::{Answer, Entry, Op, Refusal, Step};
+
+/// A core of 3 callers whose stripes, 8 of them, are words.
+fn core_with_words(alloc: Global) -> Result<Core, Fail> {
+    Ok(Core::with_words(alloc, limits_of(3, 8, 8)?)?)
+}
+
+/// Whether stripes are words.
+fn has_words(core: &Core) -> bool {
+    core.words()
+}
+
+/// Asks with the right to a stripe of eight.
+fn ask_by_right(core: &mut Core, right: &StripeRight, caller: u64, op: Op) -> Result<Answer, Fail> {
+    if !core.words() {
+        return Err("stripes are no words".into());
+    }
+    if core.limits().stripes() != 8 || right.stripe() as u64 != op.key() % 8 {
+        return Err("another stripe".into());
+    }
+    Ok(core.ask_with(caller, op, right))
+}
+
+/// Asks where a word stands.
+fn ask_by_word(core: &mut Core, caller: u64, op: Op, word: u64) -> Result<Answer, Fail> {
+    if !core.words() {
+        return Err("stripes are no words".into());
+    }
+    if word == 0 {
+        return Err("a free word".into());
+    }
+    Ok(core.ask_held(caller, op, word))
+}
+
+/// A step, or an operation that is asked for with the right or where a word stands.
+#[derive(Clone, Copy, Debug)]
+enum Ask {
+    Step(Step),
+    Right(u64, Op),
+    Word(u64, Op, u64),
+}
+
+fn answer(core: &mut Core, right: &StripeRight, ask: Ask) -> Result<Answer, Fail> {
+    match ask {
+        Ask::Step(step) => take_step(core, step),
+        Ask::Right(caller, op) => ask_by_right(core, right, caller, op),
+        Ask::Word(caller, op, word) => ask_by_word(core, caller, op, word),
+    }
+}
+
+/// Caller 0 puts with the right to stripe 1. Caller 1 finds its word there and is busy; a right to
+/// the same stripe, a word of a caller that has never begun and one of its own are stale.
+static ASKS: [(Ask, Answer); 11] = [
+    (Ask::Step(Step::Begin(0)), Answer::Began(1)),
+    (Ask::Right(0, Op::Put(1, 10)), Answer::Asked),
+    (Ask::Step(Step::Seek(0)), Answer::Placed),
+    (Ask::Step(Step::Act(0)), Answer::Done(None)),
+    (Ask::Step(Step::Begin(1)), Answer::Began(2)),
+    (
+        Ask::Right(1, Op::Put(9, 90)),
+        Answer::Refused(Refusal::StaleWord),
+    ),
+    (
+        Ask::Word(1, Op::Get(9), 3),
+        Answer::Refused(Refusal::StaleWord),
+    ),
+    (
+        Ask::Word(1, Op::Get(9), 2),
+        Answer::Refused(Refusal::StaleWord),
+    ),
+    (Ask::Word(1, Op::Get(9), 1), Answer::Busy(0)),
+    (Ask::Step(Step::Act(1)), Answer::Aborted),
+    (Ask::Step(Step::Commit(0)), Answer::Committed(1)),
+];
+
+static HISTORY_OF_ASKS: [Entry; 7] = [
+    Entry::Began(0, 1),
+    Entry::Asked(0, Op::Put(1, 10)),
+    Entry::Did(0, None),
+    Entry::Began(1, 2),
+    Entry::Busy(1, Op::Get(9), 0),
+    Entry::Aborted(1),
+    Entry::Committed(0, 1),
+];
+
+fn asks_are(
+    rt: &impl Abort,
+    core: &mut Core,
+    right: &StripeRight,
+    rows: &[(Ask, Answer)],
+) -> Result<(), Fail> {
+    for (ask, wanted) in rows {
+        assert_eq!(rt; answer(core, right, *ask)?, *wanted, "at {ask:?}");
+    }
+    Ok(())
+}
+
+/// And a core is ordinary unless it is made with words.
+#[test]
+fn rights_and_words(rt: HostRuntime) -> Result<(), Fail> {
+    let alloc = rt.alloc();
+    assert!(rt; !has_words(&core_of(alloc, 3)?));
+    let rights = StripeRight::all(alloc, 8)?;
+    let right = rights.get(1).ok_or("no right")?;
+    let mut core = core_with_words(alloc)?;
+    asks_are(&rt, &mut core, right, &ASKS)?;
+    assert_eq!(rt; trace_of(&core), HISTORY_OF_ASKS.as_slice());
+    Ok(())
+}

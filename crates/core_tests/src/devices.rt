@@ -1,0 +1,120 @@
+//! The calls of a core, each without a contract.
+use boost_core::Core;
+use std::alloc::{AllocError, Global};
+use std::process::Abort;
+use std::test::Fail;
+use txn_trace::{Answer, Entry, Limits, Op, Refusal, Step};
+
+/// Limits of these numbers that take every key.
+pub(crate) fn limits_of(callers: u64, stripes: u64, buckets: u64) -> Result<Limits, Fail> {
+    Ok(Limits::new(callers, stripes, buckets)?)
+}
+
+/// A core of so many callers, with 8 stripes and at most 8 buckets.
+pub(crate) fn core_of(alloc: Global, callers: u64) -> Result<Core, Fail> {
+    core_with(alloc, limits_of(callers, 8, 8)?)
+}
+
+/// A core of these limits.
+pub(crate) fn core_with(alloc: Global, limits: Limits) -> Result<Core, Fail> {
+    Ok(core_if_made(alloc, limits).ok_or("no core")?)
+}
+
+/// A core of these limits. Asks again where memory is refused once; none where it is refused again.
+pub(crate) fn core_if_made(alloc: Global, limits: Limits) -> Option<Core> {
+    match Core::new(alloc, limits) {
+        Ok(core) => Some(core),
+        Err(_) => Core::new(alloc, limits).ok(),
+    }
+}
+
+/// Takes a step; where stripes are words none by which an operation is asked for.
+pub(crate) fn take_step(core: &mut Core, step: Step) -> Result<Answer, Fail> {
+    if core.words() && matches!(step, Step::Ask(..)) {
+        return Err("stripes are words".into());
+    }
+    Ok(core.step(step))
+}
+
+/// Does an operation by a plain call, on a core whose stripes are no words.
+pub(crate) fn operate(core: &mut Core, caller: u64, op: Op) -> Result<Answer, Fail> {
+    if core.words() {
+        return Err("stripes are words".into());
+    }
+    match op {
+        Op::Put(key, value) => Ok(core.put(caller, key, value)),
+        Op::Take(key) => Ok(core.take(caller, key)),
+        Op::Get(key) => Ok(core.get(caller, key)),
+        Op::PutIf(key, expected, value) => Ok(core.put_if(caller, key, expected, value)),
+    }
+}
+
+/// Takes a step by `run`, on a core whose stripes are no words.
+pub(crate) fn run_step(alloc: Global, core: &mut Core, step: Step) -> Result<Answer, Fail> {
+    if core.words() {
+        return Err("stripes are words".into());
+    }
+    let answers = core.run(alloc, &[step])?;
+    Ok(answers.first().copied().ok_or("no answer")?)
+}
+
+/// Goes back to a level.
+pub(crate) fn back(core: &mut Core, caller: u64, level: u64) -> Answer {
+    core.back(caller, level)
+}
+
+/// Aborts. No memory is wanted.
+pub(crate) fn abort(core: &mut Core, caller: u64) -> Answer {
+    core.abort(caller)
+}
+
+/// Helps the table to grow for a key.
+pub(crate) fn help(core: &mut Core, caller: u64, key: u64) -> Result<(), Refusal> {
+    core.help(caller, key)
+}
+
+/// How many buckets and how many keys there are.
+pub(crate) fn sizes_of(core: &Core) -> (u32, u64) {
+    (core.size(), core.count())
+}
+
+/// How many entries are owed.
+pub(crate) fn owed_by(core: &Core) -> usize {
+    core.owed()
+}
+
+/// The history.
+pub(crate) fn trace_of(core: &Core) -> &[Entry] {
+    core.trace()
+}
+
+/// The pairs in the order of the list.
+pub(crate) fn pairs_of(alloc: Global, core: &Core) -> Result<Vec<(u64, u64)>, AllocError> {
+    core.regular_list(alloc)
+}
+
+/// Sees that the map, too, has so many pairs, and of these keys these values.
+pub(crate) fn has_map(
+    rt: &impl Abort,
+    alloc: Global,
+    core: &Core,
+    pairs: &[(u64, u64)],
+) -> Result<(), Fail> {
+    let map = core.map(alloc)?;
+    assert_eq!(rt; map.len(), pairs.len());
+    for (key, value) in pairs {
+        assert_eq!(rt; map.get(key).copied(), Some(*value), "at {key}");
+    }
+    Ok(())
+}
+
+/// Takes a step, which is answered so.
+pub(crate) fn step_is(
+    rt: &impl Abort,
+    core: &mut Core,
+    step: Step,
+    wanted: Answer,
+) -> Result<(), Fail> {
+    assert_eq!(rt; take_step(core, step)?, wanted, "at {step:?}");
+    Ok(())
+}

@@ -1,0 +1,416 @@
+//! Drives of calls, turn by turn.
+use std::process::Abort;
+use txn_drive::{Call, Drive, End, Turn};
+use txn_trace::{Answer, Limits, Op, Refusal, Step};
+
+/// The drive of a caller's call, on limits that take every key or half keys alone.
+fn drive_of(rt: &impl Abort, caller: u64, call: Call, takes_half_keys: bool) -> Drive {
+    let limits = Limits::new(64, 64, 64).expect(rt, "limits in range");
+    if takes_half_keys {
+        Drive::new(caller, call, limits.half_keys())
+    } else {
+        Drive::new(caller, call, limits)
+    }
+}
+
+/// The drive's next turn, at a size of the table.
+fn turn_at(drive: &mut Drive, size: u32) -> Turn {
+    drive.turn(size)
+}
+
+/// The drive is told an answer.
+fn tell(drive: &mut Drive, answer: Answer) {
+    drive.told(answer);
+}
+
+/// Turns of a drive, and what it is told.
+#[derive(Clone, Copy, Debug)]
+enum Turns {
+    /// A turn of this step, which is answered so.
+    One(Step, Answer),
+    /// The same at a size of the table that is not 4.
+    At(u32, Step, Answer),
+    /// So many times a turn of a seek that is placed, and one of a step that does not fit there.
+    Again(u32, Step, Step),
+    /// So many times, at this size of the table, a turn of two steps, of which the first is placed
+    /// and the second answered so.
+    Both(u32, u32, Step, Step, Answer),
+}
+
+/// The drive takes a turn of this one step and is told this answer.
+fn takes(rt: &impl Abort, drive: &mut Drive, size: u32, step: Step, answer: Answer) {
+    assert_eq!(rt; turn_at(drive, size), Turn::One(step));
+    tell(drive, answer);
+}
+
+/// The drive seeks so many times and finds each time that the place does not fit.
+fn takes_again(rt: &impl Abort, drive: &mut Drive, times: u32, seek: Step, act: Step) {
+    for _ in 0..times {
+        takes(rt, drive, 4, seek, Answer::Placed);
+        takes(rt, drive, 4, act, Answer::Again);
+    }
+}
+
+/// The drive takes so many turns of two steps.
+fn takes_both(rt: &impl Abort, drive: &mut Drive, turns: (u32, u32), both: Turn, answer: Answer) {
+    let (times, size) = turns;
+    for _ in 0..times {
+        assert_eq!(rt; turn_at(drive, size), both);
+        tell(drive, Answer::Placed);
+        tell(drive, answer);
+    }
+}
+
+fn take_turns(rt: &impl Abort, drive: &mut Drive, turns: Turns) {
+    match turns {
+        Turns::One(step, answer) => takes(rt, drive, 4, step, answer),
+        Turns::At(size, step, answer) => takes(rt, drive, size, step, answer),
+        Turns::Again(times, seek, act) => takes_again(rt, drive, times, seek, act),
+        Turns::Both(times, size, first, second, answer) => {
+            takes_both(rt, drive, (times, size), Turn::Two(first, second), answer);
+        }
+    }
+}
+
+/// A caller's call, whether the limits take half keys alone, the turns of its drive, and how it
+/// ends.
+type Row = (u64, Call, bool, &'static [Turns], End);
+
+/// The drives take their turns, and no step any more: they say so at each turn.
+fn drive_rows(rt: &impl Abort, rows: &[Row]) {
+    for (caller, call, takes_half_keys, turns, end) in rows {
+        let mut drive = drive_of(rt, *caller, *call, *takes_half_keys);
+        for turn in turns.iter() {
+            take_turns(rt, &mut drive, *turn);
+        }
+        for size in [4, 8] {
+            assert_eq!(rt; turn_at(&mut drive, size), Turn::Ended(*end), "of {call:?}");
+        }
+    }
+}
+
+/// Calls of one step, and of those that are refused.
+const ONE_STEP: [Row; 10] = [
+    (
+        0,
+        Call::Begin,
+        false,
+        &[Turns::One(Step::Begin(0), Answer::Began(4))],
+        End::Answered(Answer::Began(4)),
+    ),
+    (
+        0,
+        Call::Save,
+        false,
+        &[Turns::One(Step::Save(0), Answer::Saved(1))],
+        End::Answered(Answer::Saved(1)),
+    ),
+    (
+        0,
+        Call::Commit,
+        false,
+        &[Turns::One(Step::Commit(0), Answer::Committed(2))],
+        End::Answered(Answer::Committed(2)),
+    ),
+    (
+        7,
+        Call::Begin,
+        false,
+        &[Turns::One(Step::Begin(7), Answer::Refused(Refusal::AlreadyOpen))],
+        End::Refused(Refusal::AlreadyOpen),
+    ),
+    (
+        7,
+        Call::Op(Op::Get(1 << 63)),
+        false,
+        &[Turns::One(
+            Step::Ask(7, Op::Get(1 << 63)),
+            Answer::Refused(Refusal::BadKey),
+        )],
+        End::Refused(Refusal::BadKey),
+    ),
+    (
+        7,
+        Call::Save,
+        false,
+        &[Turns::One(Step::Save(7), Answer::Refused(Refusal::NoMemory))],
+        End::Refused(Refusal::NoMemory),
+    ),
+    (
+        7,
+        Call::Back(3),
+        false,
+        &[Turns::One(Step::Back(7, 3), Answer::Refused(Refusal::NoSuchLevel))],
+        End::Refused(Refusal::NoSuchLevel),
+    ),
+    (
+        7,
+        Call::Commit,
+        false,
+        &[Turns::One(
+            Step::Commit(7),
+            Answer::Refused(Refusal::OperationUnfinished),
+        )],
+        End::Refused(Refusal::OperationUnfinished),
+    ),
+    (
+        7,
+        Call::Abort,
+        false,
+        &[Turns::One(Step::Abort(7), Answer::Refused(Refusal::NotOpen))],
+        End::Refused(Refusal::NotOpen),
+    ),
+    (
+        0,
+        Call::Begin,
+        false,
+        &[Turns::One(Step::Begin(0), Answer::Asked)],
+        End::Refused(Refusal::OutOfStep),
+    ),
+];
+
+/// A put that takes its last two steps in one turn after 8 that did not fit.
+const PUT: &[Turns] = &[
+    Turns::One(Step::Ask(0, Op::Put(2, 20)), Answer::Asked),
+    Turns::Again(8, Step::Seek(0), Step::Act(0)),
+    Turns::Both(1, 4, Step::Seek(0), Step::Act(0), Answer::Done(None)),
+];
+
+/// A pair of steps that is told `again` stays a pair.
+const TAKE: &[Turns] = &[
+    Turns::One(Step::Ask(1, Op::Take(3)), Answer::Asked),
+    Turns::Again(8, Step::Seek(1), Step::Act(1)),
+    Turns::Both(300, 4, Step::Seek(1), Step::Act(1), Answer::Again),
+    Turns::Both(1, 4, Step::Seek(1), Step::Act(1), Answer::Done(Some(30))),
+];
+
+/// A busy put takes back two changes.
+const BUSY_PUT: &[Turns] = &[
+    Turns::One(Step::Ask(1, Op::Put(1, 11)), Answer::Busy(5)),
+    Turns::One(Step::Seek(1), Answer::Placed),
+    Turns::One(Step::Act(1), Answer::Undone),
+    Turns::One(Step::Seek(1), Answer::Placed),
+    Turns::One(Step::Act(1), Answer::Undone),
+    Turns::One(Step::Seek(1), Answer::Refused(Refusal::NothingToSeek)),
+    Turns::One(Step::Act(1), Answer::Aborted),
+];
+
+/// A return to a savepoint.
+const BACK: &[Turns] = &[
+    Turns::One(Step::Back(2, 1), Answer::Leaving),
+    Turns::One(Step::Seek(2), Answer::Placed),
+    Turns::One(Step::Act(2), Answer::Undone),
+    Turns::One(Step::Seek(2), Answer::Refused(Refusal::NothingToSeek)),
+    Turns::One(Step::Act(2), Answer::Returned(1)),
+];
+
+/// An abort counts `again` anew for each job.
+const ABORT: &[Turns] = &[
+    Turns::One(Step::Abort(3), Answer::Leaving),
+    Turns::Again(8, Step::Seek(3), Step::Act(3)),
+    Turns::Both(1, 4, Step::Seek(3), Step::Act(3), Answer::Undone),
+    Turns::Again(7, Step::Seek(3), Step::Act(3)),
+    Turns::One(Step::Seek(3), Answer::Placed),
+    Turns::One(Step::Act(3), Answer::Undone),
+    Turns::One(Step::Seek(3), Answer::Refused(Refusal::NothingToSeek)),
+    Turns::One(Step::Act(3), Answer::Aborted),
+];
+
+/// Nothing to seek is no answer to the seek of an operation.
+const LOST_GET: &[Turns] = &[
+    Turns::One(Step::Ask(0, Op::Get(9)), Answer::Asked),
+    Turns::One(Step::Seek(0), Answer::Refused(Refusal::NothingToSeek)),
+];
+
+/// A return that comes to another level.
+const LOST_BACK: &[Turns] = &[
+    Turns::One(Step::Back(0, 2), Answer::Leaving),
+    Turns::One(Step::Seek(0), Answer::Refused(Refusal::NothingToSeek)),
+    Turns::One(Step::Act(0), Answer::Returned(1)),
+];
+
+/// Calls of several steps.
+const SEVERAL_STEPS: [Row; 7] = [
+    (
+        0,
+        Call::Op(Op::Put(2, 20)),
+        false,
+        PUT,
+        End::Answered(Answer::Done(None)),
+    ),
+    (
+        1,
+        Call::Op(Op::Take(3)),
+        false,
+        TAKE,
+        End::Answered(Answer::Done(Some(30))),
+    ),
+    (1, Call::Op(Op::Put(1, 11)), false, BUSY_PUT, End::Busy(5)),
+    (
+        2,
+        Call::Back(1),
+        false,
+        BACK,
+        End::Answered(Answer::Returned(1)),
+    ),
+    (3, Call::Abort, false, ABORT, End::Answered(Answer::Aborted)),
+    (
+        0,
+        Call::Op(Op::Get(9)),
+        false,
+        LOST_GET,
+        End::Refused(Refusal::OutOfStep),
+    ),
+    (
+        0,
+        Call::Back(2),
+        false,
+        LOST_BACK,
+        End::Refused(Refusal::OutOfStep),
+    ),
+];
+
+#[test]
+fn drives_of_calls(rt: HostRuntime) {
+    drive_rows(&rt, &ONE_STEP);
+    drive_rows(&rt, &SEVERAL_STEPS);
+}
+
+/// A helper goes over the ancestors of its bucket.
+const OVER_ANCESTORS: &[Turns] = &[
+    Turns::At(2, Step::Double(2), Answer::Doubled(4)),
+    Turns::One(Step::InitSeek(5, 1), Answer::Placed),
+    Turns::One(Step::InitLink(5), Answer::Linked),
+    Turns::One(Step::InitStore(5), Answer::Stored),
+    Turns::One(Step::InitSeek(5, 3), Answer::Placed),
+    Turns::One(Step::InitLink(5), Answer::Present),
+    Turns::One(Step::InitStore(5), Answer::Stored),
+];
+
+/// A helper skips buckets that are ready.
+const PAST_READY: &[Turns] = &[
+    Turns::At(32, Step::Double(32), Answer::Light),
+    Turns::One(Step::InitSeek(0, 1), Answer::Ready),
+    Turns::One(Step::InitSeek(0, 3), Answer::Ready),
+    Turns::One(Step::InitSeek(0, 11), Answer::Ready),
+    Turns::One(Step::InitSeek(0, 27), Answer::Ready),
+];
+
+/// A helper goes by the size straight after its own doubling, although another caller doubles the
+/// table once more.
+const BY_ITS_SIZE: &[Turns] = &[
+    Turns::At(2, Step::Double(2), Answer::Doubled(4)),
+    Turns::At(8, Step::InitSeek(2, 1), Answer::Ready),
+    Turns::At(8, Step::InitSeek(2, 3), Answer::Ready),
+];
+
+/// A helper counts `again` anew for each bucket.
+const AGAIN_ANEW: &[Turns] = &[
+    Turns::One(Step::Double(4), Answer::Moved(8)),
+    Turns::Again(8, Step::InitSeek(1, 2), Step::InitLink(1)),
+    Turns::Both(
+        1,
+        8,
+        Step::InitSeek(1, 2),
+        Step::InitLink(1),
+        Answer::Linked,
+    ),
+    Turns::One(Step::InitStore(1), Answer::Stored),
+    Turns::One(Step::InitSeek(1, 6), Answer::Placed),
+    Turns::One(Step::InitLink(1), Answer::Refused(Refusal::StampsUsedUp)),
+];
+
+/// The buckets on the way to bucket 3 are ready.
+const TO_BUCKET_3: &[Turns] = &[
+    Turns::One(Step::Double(4), Answer::AtLimit),
+    Turns::One(Step::InitSeek(0, 1), Answer::Ready),
+    Turns::One(Step::InitSeek(0, 3), Answer::Ready),
+];
+
+/// No parent is missing on a helper's way.
+const LOST_HELP: &[Turns] = &[
+    Turns::One(Step::Double(4), Answer::Light),
+    Turns::One(
+        Step::InitSeek(0, 1),
+        Answer::Refused(Refusal::ParentMissing),
+    ),
+];
+
+/// Helpers; with half keys alone the first key that is refused is 2^63, before any step.
+const HELPERS: [Row; 10] = [
+    (5, Call::Help(3), false, OVER_ANCESTORS, End::Helped),
+    (0, Call::Help(0xb01b), false, PAST_READY, End::Helped),
+    (2, Call::Help(7), false, BY_ITS_SIZE, End::Helped),
+    (
+        1,
+        Call::Help(6),
+        false,
+        AGAIN_ANEW,
+        End::Refused(Refusal::StampsUsedUp),
+    ),
+    (
+        0,
+        Call::Help(12),
+        false,
+        &[Turns::One(Step::Double(4), Answer::AtLimit)],
+        End::Helped,
+    ),
+    (
+        0,
+        Call::Help(1 << 63),
+        true,
+        &[],
+        End::Refused(Refusal::BadKey),
+    ),
+    (
+        0,
+        Call::Help(u64::MAX),
+        true,
+        &[],
+        End::Refused(Refusal::BadKey),
+    ),
+    (0, Call::Help((1 << 63) - 1), true, TO_BUCKET_3, End::Helped),
+    (0, Call::Help(u64::MAX), false, TO_BUCKET_3, End::Helped),
+    (
+        0,
+        Call::Help(3),
+        false,
+        LOST_HELP,
+        End::Refused(Refusal::OutOfStep),
+    ),
+];
+
+#[test]
+fn drives_of_helpers(rt: HostRuntime) {
+    drive_rows(&rt, &HELPERS);
+}
+
+/// The first two steps that a turn takes, each answered so.
+fn taken_of(turn: Turn, answer: Answer) -> [Option<Step>; 2] {
+    let mut taken = [None, None];
+    let mut count = 0;
+    turn.take(&mut |step| {
+        if count < 2 {
+            taken[count] = Some(step);
+        }
+        count += 1;
+        answer
+    });
+    taken
+}
+
+/// Of two steps the second is taken only after `placed`.
+#[test]
+fn second_step_after_placed(rt: HostRuntime) {
+    let (seek, act) = (Step::Seek(3), Step::Act(3));
+    let both = Turn::Two(seek, act);
+    for (turn, answer, wanted) in [
+        (Turn::One(act), Answer::Placed, [Some(act), None]),
+        (both, Answer::Placed, [Some(seek), Some(act)]),
+        (both, Answer::Again, [Some(seek), None]),
+        (both, Answer::Refused(Refusal::NoMemory), [Some(seek), None]),
+        (Turn::Ended(End::Helped), Answer::Placed, [None, None]),
+    ] {
+        assert_eq!(rt; taken_of(turn, answer), wanted, "{turn:?} after {answer:?}");
+    }
+}

@@ -1,0 +1,740 @@
+//! Histories that are judged, whole and entry by entry.
+mod generated;
+mod plain;
+
+use generated::Draws;
+use history_check::{Checker, Rule, Verdict, check};
+use std::alloc::{AllocError, Global};
+use std::process::Abort;
+use std::test::Fail;
+use txn_trace::{Entry, Holder, Op};
+
+/// What `check` says.
+fn checked(
+    rt: &impl Abort,
+    alloc: Global,
+    entries: &[Entry],
+    stripes: u64,
+    holder: Holder,
+) -> Result<Verdict, AllocError> {
+    assert!(rt; 0 < stripes && entries.iter().all(|entry| entry.caller() < 64));
+    check(alloc, entries, stripes, holder)
+}
+
+/// A checker before the first entry.
+fn checker_of(
+    rt: &impl Abort,
+    alloc: Global,
+    stripes: u64,
+    holder: Holder,
+) -> Result<Checker, AllocError> {
+    assert!(rt; 0 < stripes);
+    Checker::new(alloc, stripes, holder)
+}
+
+/// Feeds a checker one entry more.
+fn feed(rt: &impl Abort, checker: &mut Checker, entry: &Entry) -> Result<(), AllocError> {
+    assert!(rt; entry.caller() < 64);
+    checker.feed(entry)
+}
+
+/// What a checker says so far.
+fn verdict_so_far(checker: &Checker) -> Verdict {
+    checker.verdict()
+}
+
+/// What the plain program says of the entries up to a place, by the first bad one of all.
+fn plain_at(entries: &[Entry], place: usize, bad: Option<(usize, Rule)>) -> Verdict {
+    match bad {
+        Some(bad) if bad.0 <= place => plain::verdict(entries, Some(bad)),
+        _ => plain::verdict(entries.get(..=place).unwrap_or(entries), None),
+    }
+}
+
+/// Sees that of so many entries this is said.
+fn says(rt: &impl Abort, said: Verdict, wanted: Verdict, entries: &[Entry], count: usize) {
+    assert_eq!(rt; said, wanted, "of the first {count} of {entries:?}");
+}
+
+/// Sees that a checker that is fed entry by entry says what the plain program says.
+fn feed_each(
+    rt: &impl Abort,
+    mut checker: Checker,
+    entries: &[Entry],
+    bad: Option<(usize, Rule)>,
+) -> Result<(), AllocError> {
+    for (i, entry) in entries.iter().enumerate() {
+        feed(rt, &mut checker, entry)?;
+        says(
+            rt,
+            verdict_so_far(&checker),
+            plain_at(entries, i, bad),
+            entries,
+            i + 1,
+        );
+    }
+    Ok(())
+}
+
+/// The verdict of the plain program, which `check` and a checker that is fed entry by entry must
+/// share.
+fn judge_once(
+    rt: &impl Abort,
+    alloc: Global,
+    entries: &[Entry],
+    stripes: u64,
+    holder: Holder,
+) -> Result<Verdict, AllocError> {
+    let bad = plain::first_bad(alloc, entries, stripes, holder)?;
+    let expected = plain::verdict(entries, bad);
+    let whole = checked(rt, alloc, entries, stripes, holder)?;
+    says(rt, whole, expected, entries, entries.len());
+    feed_each(rt, checker_of(rt, alloc, stripes, holder)?, entries, bad)?;
+    Ok(expected)
+}
+
+/// The verdict, asked for once more where memory is refused.
+fn judge(
+    rt: &impl Abort,
+    alloc: Global,
+    entries: &[Entry],
+    stripes: u64,
+    holder: Holder,
+) -> Result<Verdict, AllocError> {
+    match judge_once(rt, alloc, entries, stripes, holder) {
+        Ok(verdict) => Ok(verdict),
+        Err(_) => judge_once(rt, alloc, entries, stripes, holder),
+    }
+}
+
+/// A commit, a change that aborts, and a reader.
+const REPLIES: [Entry; 14] = [
+    Entry::Began(0, 1),
+    Entry::Asked(0, Op::Put(1, 10)),
+    Entry::Did(0, None),
+    Entry::Committed(0, 1),
+    Entry::Began(1, 2),
+    Entry::Asked(1, Op::Put(1, 99)),
+    Entry::Did(1, Some(10)),
+    Entry::Leave(1, None),
+    Entry::Undone(1),
+    Entry::Aborted(1),
+    Entry::Began(0, 3),
+    Entry::Asked(0, Op::Get(1)),
+    Entry::Did(0, Some(10)),
+    Entry::Committed(0, 2),
+];
+
+/// What the reader answers where the change was not taken back.
+const STALE_REPLY: Entry = Entry::Did(0, Some(99));
+
+/// An abort that leaves a change.
+const NOT_UNDONE: [Entry; 9] = [
+    Entry::Began(0, 1),
+    Entry::Asked(0, Op::Put(1, 10)),
+    Entry::Did(0, None),
+    Entry::Committed(0, 1),
+    Entry::Began(1, 2),
+    Entry::Asked(1, Op::Put(1, 99)),
+    Entry::Did(1, Some(10)),
+    Entry::Leave(1, None),
+    Entry::Aborted(1),
+];
+
+/// Keys 1 and 9, of which each has a stripe of its own where there are 16.
+const ONE_STRIPE: [Entry; 4] = [
+    Entry::Began(0, 1),
+    Entry::Asked(0, Op::Get(1)),
+    Entry::Began(1, 2),
+    Entry::Asked(1, Op::Get(9)),
+];
+
+/// An operation on the stripe of a standing change.
+const ON_A_CHANGE: [Entry; 5] = [
+    Entry::Began(0, 1),
+    Entry::Asked(0, Op::Put(1, 10)),
+    Entry::Did(0, None),
+    Entry::Began(1, 2),
+    Entry::Asked(1, Op::Get(9)),
+];
+
+/// A Busy that names a caller that has never begun.
+const BUSY_BY_NOBODY: [Entry; 2] = [Entry::Began(0, 1), Entry::Busy(0, Op::Get(9), 1)];
+
+/// A Busy that names a caller whose transaction is over.
+const HOLDER_HAS_BEGUN: [Entry; 6] = [
+    Entry::Began(0, 1),
+    Entry::Asked(0, Op::Put(1, 10)),
+    Entry::Did(0, None),
+    Entry::Committed(0, 1),
+    Entry::Began(1, 2),
+    Entry::Busy(1, Op::Get(9), 0),
+];
+
+/// A Busy that names a caller before all others.
+const BUSY_AT_FIRST: [Entry; 2] = [Entry::Began(1, 1), Entry::Busy(1, Op::Get(9), 0)];
+
+/// A reply that no map gives.
+const INVENTED: [Entry; 4] = [
+    Entry::Began(0, 1),
+    Entry::Asked(0, Op::Get(5)),
+    Entry::Did(0, Some(7)),
+    Entry::Leave(0, None),
+];
+
+/// A transaction in which the first of two `PutIf`s is a change, and the second is none.
+const PUT_IF: [Entry; 8] = [
+    Entry::Began(0, 1),
+    Entry::Asked(0, Op::PutIf(1, None, 5)),
+    Entry::Did(0, None),
+    Entry::Asked(0, Op::PutIf(1, Some(4), 6)),
+    Entry::Did(0, Some(5)),
+    Entry::Leave(0, None),
+    Entry::Undone(0),
+    Entry::Aborted(0),
+];
+
+/// The same with two changes taken back.
+const PUT_IF_UNDONE_TWICE: [Entry; 9] = [
+    Entry::Began(0, 1),
+    Entry::Asked(0, Op::PutIf(1, None, 5)),
+    Entry::Did(0, None),
+    Entry::Asked(0, Op::PutIf(1, Some(4), 6)),
+    Entry::Did(0, Some(5)),
+    Entry::Leave(0, None),
+    Entry::Undone(0),
+    Entry::Undone(0),
+    Entry::Aborted(0),
+];
+
+/// Keys 1 and 2^63 + 1, which agree but for their top bit.
+const ONE_SPLIT_KEY: [Entry; 10] = [
+    Entry::Began(0, 1),
+    Entry::Asked(0, Op::Put(0x8000_0000_0000_0001, 11)),
+    Entry::Did(0, None),
+    Entry::Asked(0, Op::Put(1, 10)),
+    Entry::Did(0, None),
+    Entry::Asked(0, Op::PutIf(1, Some(10), 12)),
+    Entry::Did(0, Some(10)),
+    Entry::Asked(0, Op::Get(0x8000_0000_0000_0001)),
+    Entry::Did(0, Some(11)),
+    Entry::Committed(0, 1),
+];
+
+/// A transaction that goes back to its first savepoint, and then would go back to the second, which
+/// is gone.
+const WITH_SAVEPOINTS: [Entry; 16] = [
+    Entry::Began(0, 1),
+    Entry::Asked(0, Op::Put(1, 10)),
+    Entry::Did(0, None),
+    Entry::Saved(0),
+    Entry::Asked(0, Op::Put(1, 11)),
+    Entry::Did(0, Some(10)),
+    Entry::Saved(0),
+    Entry::Asked(0, Op::Take(1)),
+    Entry::Did(0, Some(11)),
+    Entry::Leave(0, Some(1)),
+    Entry::Undone(0),
+    Entry::Undone(0),
+    Entry::Returned(0, 1),
+    Entry::Asked(0, Op::Get(1)),
+    Entry::Did(0, Some(10)),
+    Entry::Leave(0, Some(2)),
+];
+
+/// A history, an entry that stands in it in place of another one, the stripes that it is judged by,
+/// and the verdict.
+type Row = (&'static [Entry], Option<(usize, Entry)>, u64, Verdict);
+
+/// What is said where a Busy names a holder of now.
+static BY_HOLDERS_OF_NOW: [Row; 19] = [
+    (
+        &REPLIES,
+        None,
+        8,
+        Verdict::Legal {
+            commits: 2,
+            running: 0,
+        },
+    ),
+    (
+        &REPLIES,
+        Some((12, STALE_REPLY)),
+        8,
+        Verdict::Illegal {
+            entry: 12,
+            rule: Rule::Replies,
+        },
+    ),
+    (
+        &NOT_UNDONE,
+        None,
+        8,
+        Verdict::Illegal {
+            entry: 8,
+            rule: Rule::Shape,
+        },
+    ),
+    (
+        &ONE_STRIPE,
+        None,
+        8,
+        Verdict::Illegal {
+            entry: 3,
+            rule: Rule::Locks,
+        },
+    ),
+    (
+        &ONE_STRIPE,
+        None,
+        16,
+        Verdict::Legal {
+            commits: 0,
+            running: 2,
+        },
+    ),
+    (
+        &ON_A_CHANGE,
+        None,
+        8,
+        Verdict::Illegal {
+            entry: 4,
+            rule: Rule::Locks,
+        },
+    ),
+    (
+        &BUSY_BY_NOBODY,
+        None,
+        8,
+        Verdict::Illegal {
+            entry: 1,
+            rule: Rule::Locks,
+        },
+    ),
+    (
+        &HOLDER_HAS_BEGUN,
+        None,
+        8,
+        Verdict::Illegal {
+            entry: 5,
+            rule: Rule::Locks,
+        },
+    ),
+    (
+        &[],
+        None,
+        8,
+        Verdict::Legal {
+            commits: 0,
+            running: 0,
+        },
+    ),
+    (
+        &[Entry::Undone(0)],
+        None,
+        8,
+        Verdict::Illegal {
+            entry: 0,
+            rule: Rule::Shape,
+        },
+    ),
+    (
+        &[Entry::Began(0, 1), Entry::Committed(0, 2)],
+        None,
+        8,
+        Verdict::Illegal {
+            entry: 1,
+            rule: Rule::Shape,
+        },
+    ),
+    (
+        &[Entry::Began(0, 1), Entry::Leave(0, Some(1))],
+        None,
+        8,
+        Verdict::Illegal {
+            entry: 1,
+            rule: Rule::Shape,
+        },
+    ),
+    (
+        &INVENTED,
+        None,
+        8,
+        Verdict::Illegal {
+            entry: 2,
+            rule: Rule::Replies,
+        },
+    ),
+    (
+        &PUT_IF,
+        None,
+        8,
+        Verdict::Legal {
+            commits: 0,
+            running: 0,
+        },
+    ),
+    (
+        &PUT_IF,
+        Some((4, Entry::Did(0, None))),
+        8,
+        Verdict::Illegal {
+            entry: 4,
+            rule: Rule::Replies,
+        },
+    ),
+    (
+        &PUT_IF_UNDONE_TWICE,
+        None,
+        8,
+        Verdict::Illegal {
+            entry: 7,
+            rule: Rule::Shape,
+        },
+    ),
+    (
+        &ONE_SPLIT_KEY,
+        None,
+        8,
+        Verdict::Legal {
+            commits: 1,
+            running: 0,
+        },
+    ),
+    (
+        &ONE_SPLIT_KEY,
+        Some((4, Entry::Did(0, Some(11)))),
+        8,
+        Verdict::Illegal {
+            entry: 4,
+            rule: Rule::Replies,
+        },
+    ),
+    (
+        &WITH_SAVEPOINTS,
+        None,
+        8,
+        Verdict::Illegal {
+            entry: 15,
+            rule: Rule::Shape,
+        },
+    ),
+];
+
+/// What is said where a Busy names a caller that has begun.
+static BY_HOLDERS_THAT_HAVE_BEGUN: [Row; 5] = [
+    (
+        &HOLDER_HAS_BEGUN,
+        None,
+        8,
+        Verdict::Legal {
+            commits: 1,
+            running: 1,
+        },
+    ),
+    (
+        &BUSY_AT_FIRST,
+        None,
+        8,
+        Verdict::Illegal {
+            entry: 1,
+            rule: Rule::Locks,
+        },
+    ),
+    (
+        &BUSY_AT_FIRST,
+        Some((1, Entry::Busy(1, Op::Get(9), 1))),
+        8,
+        Verdict::Illegal {
+            entry: 1,
+            rule: Rule::Locks,
+        },
+    ),
+    (
+        &BUSY_AT_FIRST,
+        Some((1, Entry::Busy(1, Op::Get(9), 64))),
+        8,
+        Verdict::Illegal {
+            entry: 1,
+            rule: Rule::Locks,
+        },
+    ),
+    (
+        &BUSY_AT_FIRST,
+        Some((1, Entry::Busy(1, Op::Get(9), u64::MAX))),
+        8,
+        Verdict::Illegal {
+            entry: 1,
+            rule: Rule::Locks,
+        },
+    ),
+];
+
+fn judge_rows(
+    rt: &impl Abort,
+    alloc: Global,
+    holder: Holder,
+    rows: &[Row],
+) -> Result<(), AllocError> {
+    for (history, change, stripes, wanted) in rows {
+        let mut entries = history.to_vec(alloc)?;
+        if let Some((place, entry)) = *change {
+            if let Some(changed) = entries.get_mut(place) {
+                *changed = entry;
+            }
+        }
+        let verdict = judge(rt, alloc, &entries, *stripes, holder)?;
+        assert_eq!(rt; verdict, *wanted, "{entries:?} by {stripes} stripes");
+    }
+    Ok(())
+}
+
+/// The history with savepoints up to where the first is reached again.
+fn back_at_1() -> &'static [Entry] {
+    &WITH_SAVEPOINTS[..15]
+}
+
+/// Sees that the rules have their numbers.
+fn rules_have_numbers(rt: &impl Abort) {
+    for (rule, number) in &[(Rule::Replies, 1), (Rule::Locks, 2), (Rule::Shape, 3)] {
+        assert_eq!(rt; rule.number(), *number);
+    }
+}
+
+/// Sees what is said of all worked histories.
+fn judge_all(rt: &impl Abort, alloc: Global) -> Result<(), AllocError> {
+    judge_rows(rt, alloc, Holder::Now, &BY_HOLDERS_OF_NOW)?;
+    judge_rows(rt, alloc, Holder::Begun, &BY_HOLDERS_THAT_HAVE_BEGUN)?;
+    let back = judge(rt, alloc, back_at_1(), 8, Holder::Now)?;
+    let wanted = Verdict::Legal {
+        commits: 0,
+        running: 1,
+    };
+    says(rt, back, wanted, back_at_1(), 15);
+    Ok(())
+}
+
+#[test]
+fn worked_histories(rt: HostRuntime) -> Result<(), Fail> {
+    rules_have_numbers(&rt);
+    judge_all(&rt, rt.alloc())?;
+    Ok(())
+}
+
+/// Whether memory is refused now.
+fn is_refused(alloc: Global) -> bool {
+    Box::new(alloc, 0).is_err()
+}
+
+/// Begins to check, once more where that is refused; none where memory is refused still.
+fn start_checker(rt: &impl Abort, alloc: Global) -> Option<Checker> {
+    for _ in 0..2 {
+        if let Ok(checker) = checker_of(rt, alloc, 8, Holder::Now) {
+            return Some(checker);
+        }
+    }
+    assert!(rt; is_refused(alloc));
+    None
+}
+
+/// Whether it took an entry, which it is fed once more where that is refused. A refused entry
+/// changes nothing.
+fn is_fed(rt: &impl Abort, checker: &mut Checker, entry: &Entry) -> bool {
+    let before = verdict_so_far(checker);
+    for _ in 0..2 {
+        if feed(rt, checker, entry).is_ok() {
+            return true;
+        }
+        assert_eq!(rt;
+            verdict_so_far(checker),
+            before,
+            "a refused entry changes nothing"
+        );
+    }
+    false
+}
+
+/// Ends a checker that has taken so many entries and was refused memory for the next one: another
+/// in its place, which nobody may add and which wants no memory, is judged as the one after them.
+fn end_refused(rt: &impl Abort, alloc: Global, checker: &mut Checker, taken: usize) {
+    assert!(rt; is_refused(alloc));
+    assert!(rt; feed(rt, checker, &Entry::Undone(63)).is_ok());
+    let wanted = Verdict::Illegal {
+        entry: taken as u64,
+        rule: Rule::Shape,
+    };
+    assert_eq!(rt; verdict_so_far(checker), wanted);
+}
+
+/// What is said after an entry, by rows that say from which entry on it is said.
+fn verdict_at(rows: &[(usize, Verdict)], place: usize) -> Option<Verdict> {
+    let mut found = None;
+    for (first, verdict) in rows {
+        if *first <= place {
+            found = Some(*verdict);
+        }
+    }
+    found
+}
+
+/// Feeds a checker, once more where it is refused memory, and compares what it says after each
+/// entry.
+fn feed_all(rt: &impl Abort, alloc: Global, entries: &[Entry], rows: &[(usize, Verdict)]) {
+    let Some(mut checker) = start_checker(rt, alloc) else {
+        return;
+    };
+    for (i, entry) in entries.iter().enumerate() {
+        if !is_fed(rt, &mut checker, entry) {
+            return end_refused(rt, alloc, &mut checker, i);
+        }
+        let verdict = Some(verdict_so_far(&checker));
+        assert_eq!(rt; verdict, verdict_at(rows, i), "after entry {i}");
+    }
+}
+
+/// What is said of the replies of which the last is stale, from each of these entries on.
+const OF_STALE_REPLIES: [(usize, Verdict); 6] = [
+    (
+        0,
+        Verdict::Legal {
+            commits: 0,
+            running: 1,
+        },
+    ),
+    (
+        3,
+        Verdict::Legal {
+            commits: 1,
+            running: 0,
+        },
+    ),
+    (
+        4,
+        Verdict::Legal {
+            commits: 1,
+            running: 1,
+        },
+    ),
+    (
+        9,
+        Verdict::Legal {
+            commits: 1,
+            running: 0,
+        },
+    ),
+    (
+        10,
+        Verdict::Legal {
+            commits: 1,
+            running: 1,
+        },
+    ),
+    (
+        12,
+        Verdict::Illegal {
+            entry: 12,
+            rule: Rule::Replies,
+        },
+    ),
+];
+
+/// Is to be run with allocations refused: a refused entry changes nothing, and is fed once more.
+#[test]
+fn fed_entry_by_entry(rt: HostRuntime) {
+    let mut stale = REPLIES;
+    stale[12] = STALE_REPLY;
+    feed_all(&rt, rt.alloc(), &stale, &OF_STALE_REPLIES);
+}
+
+/// What is said of the history with savepoints, from each of these entries on.
+const OF_SAVEPOINTS: [(usize, Verdict); 2] = [
+    (
+        0,
+        Verdict::Legal {
+            commits: 0,
+            running: 1,
+        },
+    ),
+    (
+        15,
+        Verdict::Illegal {
+            entry: 15,
+            rule: Rule::Shape,
+        },
+    ),
+];
+
+/// Is to be run with allocations refused: a refused entry changes nothing, and is fed once more.
+#[test]
+fn fed_with_savepoints(rt: HostRuntime) {
+    feed_all(&rt, rt.alloc(), &WITH_SAVEPOINTS, &OF_SAVEPOINTS);
+}
+
+/// How many histories had each verdict.
+#[derive(Default, Drop)]
+struct Tally {
+    legal: u64,
+    replies: u64,
+    locks: u64,
+    shape: u64,
+}
+
+impl Tally {
+    fn count(&mut self, verdict: Verdict) {
+        let place = match verdict {
+            Verdict::Legal { .. } => &mut self.legal,
+            Verdict::Illegal { rule, .. } => match rule {
+                Rule::Replies => &mut self.replies,
+                Rule::Locks => &mut self.locks,
+                Rule::Shape => &mut self.shape,
+            },
+        };
+        *place = place.saturating_add(1);
+    }
+}
+
+/// Draws a legal history from the seed, which must be found so, and gives the verdict on it with
+/// one fault.
+fn judge_seed(
+    rt: &impl Abort,
+    alloc: Global,
+    seed: u64,
+    holder: Holder,
+) -> Result<Verdict, AllocError> {
+    let mut draws = Draws(seed);
+    let stripes = draws.below(4).wrapping_add(1);
+    let length = draws.below(31);
+    let mut history = generated::legal_history(alloc, &mut draws, stripes, length, holder)?;
+    let verdict = judge_once(rt, alloc, &history, stripes, holder)?;
+    assert!(rt; matches!(verdict, Verdict::Legal { .. }), "{history:?}");
+    generated::spoil(&mut draws, &mut history)?;
+    judge_once(rt, alloc, &history, stripes, holder)
+}
+
+/// The same, done once more where memory is refused.
+fn judge_drawn(
+    rt: &impl Abort,
+    alloc: Global,
+    seed: u64,
+    holder: Holder,
+) -> Result<Verdict, AllocError> {
+    match judge_seed(rt, alloc, seed, holder) {
+        Ok(verdict) => Ok(verdict),
+        Err(_) => judge_seed(rt, alloc, seed, holder),
+    }
+}
+
+#[test]
+fn agrees_with_the_plain_program(rt: HostRuntime) -> Result<(), Fail> {
+    let alloc = rt.alloc();
+    let mut tally = Tally::default();
+    for seed in 0..1000 {
+        tally.count(judge_drawn(&rt, alloc, seed, Holder::Now)?);
+        tally.count(judge_drawn(&rt, alloc, seed, Holder::Begun)?);
+    }
+    assert!(rt; 500 < tally.legal, "legal: {}", tally.legal);
+    assert!(rt; 100 < tally.replies, "rule 1: {}", tally.replies);
+    assert!(rt; 100 < tally.locks, "rule 2: {}", tally.locks);
+    assert!(rt; 300 < tally.shape, "rule 3: {}", tally.shape);
+    Ok(())
+}

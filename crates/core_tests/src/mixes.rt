@@ -1,0 +1,214 @@
+//! Workers that take turns as a seed says.
+use rand_core::SeedableRng;
+use rand_core::utils::NextWord;
+use rand_pcg::Pcg32;
+use script_mix::{draw, mix_scripts};
+use std::alloc::Global;
+use std::process::Abort;
+use std::test::Fail;
+use txn_files::read_scripts;
+use txn_trace::Entry;
+
+/// The generator of this seed.
+fn generator_of(seed: u64) -> Pcg32 {
+    Pcg32::seed_from_u64(seed)
+}
+
+/// The generator's next word modulo a number.
+fn next_word_below(words: &mut Pcg32, live: u64) -> u64 {
+    u64::from(words.next_word()).checked_rem(live).unwrap_or(0)
+}
+
+/// A place that is drawn.
+fn drawn(places: &mut Pcg32, live: u64) -> Result<u64, Fail> {
+    if live == 0 {
+        return Err("nobody is live".into());
+    }
+    Ok(draw(places, live))
+}
+
+#[test]
+fn draw_is_the_next_word(rt: HostRuntime) -> Result<(), Fail> {
+    for live in [1, 2, 3, 64] {
+        let mut words = generator_of(7);
+        let mut places = generator_of(7);
+        for _ in 0..100 {
+            let word = next_word_below(&mut words, live);
+            assert_eq!(rt; drawn(&mut places, live)?, word, "below {live}");
+        }
+    }
+    Ok(())
+}
+
+/// What a worker's turns add to the history, one after the other: an entry's name, or none.
+type Turns = &'static [Option<&'static str>];
+
+/// The turns of two empty scripts: begin, commit.
+const TWO_EMPTY: Turns = &[
+    Some("began"),
+    Some("committed"),
+    Some("began"),
+    Some("committed"),
+];
+
+/// The turns of one empty script.
+const ONE_EMPTY: Turns = &[Some("began"), Some("committed")];
+
+/// The turns of a script that aborts: begin, abort, seek, act.
+const ABORT: Turns = &[Some("began"), Some("leave"), None, Some("aborted")];
+
+/// The turns of two scripts that begin with a help with a bad key, which draws nothing: begin,
+/// abort, seek, act.
+const BAD_HELPS: Turns = &[
+    Some("began"),
+    Some("leave"),
+    None,
+    Some("aborted"),
+    Some("began"),
+    Some("leave"),
+    None,
+    Some("aborted"),
+];
+
+/// The turns of such a script, and of one that is a put: begin, ask, seek, act, commit.
+const BAD_HELP_AND_PUT: Turns = &[
+    Some("began"),
+    Some("leave"),
+    None,
+    Some("aborted"),
+    Some("began"),
+    Some("asked"),
+    None,
+    Some("did"),
+    Some("committed"),
+];
+
+/// An entry's caller and its name.
+fn caller_and_name(entry: &Entry) -> (u64, &'static str) {
+    match *entry {
+        Entry::Began(caller, _) => (caller, "began"),
+        Entry::Asked(caller, _) => (caller, "asked"),
+        Entry::Did(caller, _) => (caller, "did"),
+        Entry::Leave(caller, None) => (caller, "leave"),
+        Entry::Committed(caller, _) => (caller, "committed"),
+        Entry::Aborted(caller) => (caller, "aborted"),
+        _ => (64, "another entry"),
+    }
+}
+
+/// Takes the turn of a worker drawn from those that have turns left: its number, and what the turn
+/// adds to the history.
+fn take_turn(
+    words: &mut Pcg32,
+    live: &mut Vec<(u64, Turns)>,
+) -> Result<(u64, Option<&'static str>), Fail> {
+    let place = next_word_below(words, live.len() as u64) as usize;
+    if live.len() <= place {
+        return Err("no worker is left".into());
+    }
+    let (worker, turns) = live.remove(place);
+    let (name, later) = turns.split_first().ok_or("no turn is left")?;
+    if !later.is_empty() {
+        live.insert(place, (worker, later))?;
+    }
+    Ok((worker, *name))
+}
+
+/// The history of scripts, of a file of this text, that are mixed by a seed.
+fn mixed_history(alloc: Global, seed: u64, scripts: &str) -> Result<Vec<Entry>, Fail> {
+    let Ok(work) = read_scripts(alloc, scripts.as_bytes()) else {
+        return Err("no scripts".into());
+    };
+    Ok(mix_scripts(alloc, seed, &work)?.into_trace())
+}
+
+/// Mixes scripts by a seed, and sees that the workers drawn take their turns, by rising place of
+/// those that have one left, until none has.
+fn mixes_so(
+    rt: &impl Abort,
+    alloc: Global,
+    seed: u64,
+    scripts: &str,
+    workers: &[(u64, Turns)],
+) -> Result<(), Fail> {
+    let history = mixed_history(alloc, seed, scripts)?;
+    let mut entries = history.iter();
+    let mut words = generator_of(seed);
+    let mut live = workers.to_vec(alloc)?;
+    for _turn in 0..20 {
+        if live.is_empty() {
+            break;
+        }
+        let (worker, name) = take_turn(&mut words, &mut live)?;
+        if let Some(name) = name {
+            let entry = entries.next().ok_or("a short history")?;
+            assert_eq!(rt; caller_and_name(entry), (worker, name), "by seed {seed}");
+        }
+    }
+    assert!(rt;
+        live.is_empty() && entries.next().is_none(),
+        "by seed {seed}"
+    );
+    Ok(())
+}
+
+/// Scripts, how many seeds they are mixed by, and each worker with its turns.
+#[derive(Drop)]
+struct Mix {
+    scripts: &'static str,
+    seeds: u64,
+    workers: &'static [(u64, Turns)],
+}
+
+/// Two empty scripts beside one that aborts.
+const BESIDE_AN_ABORT: Mix = Mix {
+    scripts: "{\"version\":1,\"workers\":2,\"stripes\":1,\"buckets\":2,\"tries\":0,\
+        \"scripts\":[[],[[\"abort\"]],[]]}",
+    seeds: 20,
+    workers: &[(0, TWO_EMPTY), (1, ABORT)],
+};
+
+/// Of three workers the last has one script less, and ends before the others or after one of them.
+const THREE_WORKERS: Mix = Mix {
+    scripts: "{\"version\":1,\"workers\":3,\"stripes\":1,\"buckets\":2,\"tries\":0,\
+        \"scripts\":[[],[],[],[],[]]}",
+    seeds: 50,
+    workers: &[(0, TWO_EMPTY), (1, TWO_EMPTY), (2, ONE_EMPTY)],
+};
+
+/// Of four workers the last has nothing to do, and where the second ends first the first and the
+/// third are left.
+const FOUR_WORKERS: Mix = Mix {
+    scripts: "{\"version\":1,\"workers\":4,\"stripes\":8,\"buckets\":8,\"tries\":0,\
+        \"scripts\":[[],[],[]]}",
+    seeds: 50,
+    workers: &[(0, ONE_EMPTY), (1, ONE_EMPTY), (2, ONE_EMPTY)],
+};
+
+/// Helps with bad keys draw nothing: worker 0 has no other action and takes eight turns, and worker
+/// 1 also puts and takes nine.
+const BAD_HELPS_BESIDE_A_PUT: Mix = Mix {
+    scripts: "{\"version\":1,\"workers\":2,\"stripes\":1,\"buckets\":2,\"tries\":0,\
+        \"scripts\":[[[\"help\",9223372036854775808]],[[\"help\",9223372036854775808],\
+        [\"help\",9223372036854775808],[\"help\",9223372036854775808],[\"put\",1,10]],\
+        [[\"help\",9223372036854775808],[\"help\",18446744073709551615]],[[\"put\",1,10]]]}",
+    seeds: 20,
+    workers: &[(0, BAD_HELPS), (1, BAD_HELP_AND_PUT)],
+};
+
+/// Sees of each seed that the scripts are mixed so.
+fn mixes_by_each_seed(rt: &impl Abort, alloc: Global, mix: &Mix) -> Result<(), Fail> {
+    for seed in 0..mix.seeds {
+        mixes_so(rt, alloc, seed, mix.scripts, mix.workers)?;
+    }
+    Ok(())
+}
+
+#[test]
+fn the_worker_drawn_goes(rt: HostRuntime) -> Result<(), Fail> {
+    let alloc = rt.alloc();
+    mixes_by_each_seed(&rt, alloc, &BESIDE_AN_ABORT)?;
+    mixes_by_each_seed(&rt, alloc, &THREE_WORKERS)?;
+    mixes_by_each_seed(&rt, alloc, &FOUR_WORKERS)?;
+    mixes_by_each_seed(&rt, alloc, &BAD_HELPS_BESIDE_A_PUT)
+}

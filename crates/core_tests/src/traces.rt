@@ -1,0 +1,281 @@
+//! The words in which transactions are spoken of: numbers, texts, limits and seats.
+use std::alloc::{AllocError, Global};
+use std::process::Abort;
+use std::test::Fail;
+use txn_trace::{Answer, Entry, Limits, Op, Refusal, Reply, Seat, Step, answer_text};
+
+/// An answer and its text.
+const ANSWERS: [(Answer, &str); 26] = [
+    (Answer::Began(1), "began 1"),
+    (Answer::Asked, "asked"),
+    (Answer::Busy(0), "busy 0"),
+    (Answer::Placed, "placed"),
+    (Answer::Again, "again"),
+    (Answer::Done(None), "done none"),
+    (Answer::Done(Some(0)), "done 0"),
+    (
+        Answer::Done(Some(0xffff_ffff_ffff_ffff)),
+        "done 18446744073709551615",
+    ),
+    (Answer::Undone, "undone"),
+    (Answer::Returned(0), "returned 0"),
+    (Answer::Aborted, "aborted"),
+    (Answer::Saved(2), "saved 2"),
+    (Answer::Leaving, "leaving"),
+    (Answer::Committed(10), "committed 10"),
+    (Answer::Swept, "swept"),
+    (Answer::Clean, "clean"),
+    (Answer::Ready, "ready"),
+    (Answer::Present, "present"),
+    (Answer::Linked, "linked"),
+    (Answer::Stored, "stored"),
+    (Answer::Moved(2), "moved 2"),
+    (Answer::AtLimit, "at limit"),
+    (Answer::Light, "light"),
+    (Answer::Doubled(65536), "doubled 65536"),
+    (Answer::Refused(Refusal::BadKey), "refused 1"),
+    (Answer::Refused(Refusal::StampsUsedUp), "refused 16"),
+];
+
+/// The text of an answer.
+fn text_of(alloc: Global, answer: &Answer) -> Result<String, AllocError> {
+    answer_text(alloc, answer)
+}
+
+/// A refusal, its number and its text.
+const REFUSALS: [(Refusal, u64, &str); 22] = [
+    (Refusal::BadKey, 1, "1"),
+    (Refusal::NoSuchCaller, 2, "2"),
+    (Refusal::NotOpen, 3, "3"),
+    (Refusal::AlreadyOpen, 4, "4"),
+    (Refusal::OperationUnfinished, 5, "5"),
+    (Refusal::Leaving, 6, "6"),
+    (Refusal::Unplaced, 7, "7"),
+    (Refusal::NothingToSeek, 8, "8"),
+    (Refusal::NoSuchLevel, 9, "9"),
+    (Refusal::NoSuchBucket, 10, "10"),
+    (Refusal::ParentMissing, 11, "11"),
+    (Refusal::NoSuchHelper, 12, "12"),
+    (Refusal::HelperOutOfOrder, 13, "13"),
+    (Refusal::NoMemory, 14, "14"),
+    (Refusal::OutOfStep, 15, "15"),
+    (Refusal::StampsUsedUp, 16, "16"),
+    (Refusal::CallersMissing, 17, "17"),
+    (Refusal::NoThread, 18, "18"),
+    (Refusal::StaleWord, 19, "19"),
+    (Refusal::NotJson, 20, "20"),
+    (Refusal::WrongShape, 21, "21"),
+    (Refusal::Limit, 22, "22"),
+];
+
+/// A refusal's number and its text.
+fn number_and_text(alloc: Global, refusal: Refusal) -> Result<(u64, String), AllocError> {
+    Ok((refusal.number(), format!(in alloc; "{refusal}")?))
+}
+
+/// Sees that the answers have these texts.
+fn answers_have_texts(
+    rt: &impl Abort,
+    alloc: Global,
+    rows: &[(Answer, &str)],
+) -> Result<(), AllocError> {
+    for (answer, wanted) in rows {
+        let text = text_of(alloc, answer)?;
+        assert_eq!(rt; text.as_str(), *wanted);
+    }
+    Ok(())
+}
+
+/// Sees that the refusals have these numbers and texts.
+fn refusals_have_numbers(
+    rt: &impl Abort,
+    alloc: Global,
+    rows: &[(Refusal, u64, &str)],
+) -> Result<(), AllocError> {
+    for (refusal, wanted, words) in rows {
+        let (number, text) = number_and_text(alloc, *refusal)?;
+        assert_eq!(rt; number, *wanted, "of {text}");
+        assert_eq!(rt; text.as_str(), *words);
+    }
+    Ok(())
+}
+
+#[test]
+fn numbers_and_texts(rt: HostRuntime) -> Result<(), Fail> {
+    answers_have_texts(&rt, rt.alloc(), &ANSWERS)?;
+    refusals_have_numbers(&rt, rt.alloc(), &REFUSALS)?;
+    Ok(())
+}
+
+/// How many callers, stripes and buckets limits of these numbers have.
+fn numbers_of(callers: u64, stripes: u64, buckets: u64) -> Result<(u64, u64, u64), Refusal> {
+    let limits = Limits::new(callers, stripes, buckets)?;
+    Ok((
+        u64::from(limits.callers()),
+        u64::from(limits.stripes()),
+        u64::from(limits.buckets()),
+    ))
+}
+
+/// Callers, stripes and buckets that limits may have.
+const IN_RANGE: [(u64, u64, u64); 3] = [(2, 8, 8), (1, 1, 2), (64, 4096, 65536)];
+
+/// Those that they may not have.
+const OUT_OF_RANGE: [(u64, u64, u64); 10] = [
+    (0, 8, 8),
+    (65, 8, 8),
+    (1, 0, 8),
+    (1, 4097, 8),
+    (1, 8, 0),
+    (1, 8, 1),
+    (1, 8, 6),
+    (1, 8, 65535),
+    (1, 8, 131072),
+    (1, 0x1_0000_0001, 8),
+];
+
+/// A seat of an open transaction.
+fn open_seat(rt: &impl Abort, alloc: Global) -> Seat {
+    let mut seat = Seat::new(alloc);
+    assert!(rt; seat.standing() == 0);
+    assert!(rt; seat.enter(Entry::Began(0, 1)));
+    seat
+}
+
+/// What a seat of an open transaction refuses a look for a key with: by limits that take every key,
+/// and by the same that take half keys alone.
+fn refusals_of_key(seat: &Seat, key: u64) -> Result<(Option<Refusal>, Option<Refusal>), Refusal> {
+    let every = Limits::new(2, 8, 8)?;
+    let ask = Step::Ask(0, Op::Get(key));
+    Ok((
+        seat.refusal(every, ask),
+        seat.refusal(every.half_keys(), ask),
+    ))
+}
+
+/// Whether half keys alone make other limits.
+fn are_half_keys_others() -> Result<bool, Refusal> {
+    let every = Limits::new(2, 8, 8)?;
+    Ok(every.half_keys() != every)
+}
+
+/// Keys, each with what half keys alone refuse it with.
+const KEYS: [(u64, Option<Refusal>); 3] = [
+    (0x7fff_ffff_ffff_ffff, None),
+    (0x8000_0000_0000_0000, Some(Refusal::BadKey)),
+    (0xffff_ffff_ffff_ffff, Some(Refusal::BadKey)),
+];
+
+/// Sees that limits may have these numbers, or that they may not.
+fn limits_are(rt: &impl Abort, rows: &[(u64, u64, u64)], are_in_range: bool) {
+    for (callers, stripes, buckets) in rows {
+        let numbers = numbers_of(*callers, *stripes, *buckets);
+        let wanted = if are_in_range {
+            Ok((*callers, *stripes, *buckets))
+        } else {
+            Err(Refusal::Limit)
+        };
+        assert_eq!(rt; numbers, wanted, "{callers}, {stripes}, {buckets}");
+    }
+}
+
+/// Sees what an open transaction may not look up.
+fn keys_are(rt: &impl Abort, seat: &Seat, rows: &[(u64, Option<Refusal>)]) -> Result<(), Refusal> {
+    for (key, half) in rows {
+        assert_eq!(rt; refusals_of_key(seat, *key)?, (None, *half), "of key {key}");
+    }
+    Ok(())
+}
+
+#[test]
+fn limits_and_keys(rt: HostRuntime) -> Result<(), Fail> {
+    limits_are(&rt, &IN_RANGE, true);
+    limits_are(&rt, &OUT_OF_RANGE, false);
+    assert!(rt; are_half_keys_others()?);
+    let seat = open_seat(&rt, rt.alloc());
+    keys_are(&rt, &seat, &KEYS)?;
+    Ok(())
+}
+
+/// The key of an operation, and whether it is a change where this is its reply.
+fn key_and_change(op: Op, reply: Reply) -> (u64, bool) {
+    (op.key(), op.changes(reply))
+}
+
+/// Operations, each with a reply, its key, and whether it is a change then: a `PutIf` is one where
+/// the reply is what is expected.
+const OPERATIONS: [(Op, Reply, u64, bool); 10] = [
+    (Op::Put(1, 10), None, 1, true),
+    (Op::Take(2), None, 2, false),
+    (Op::Get(3), None, 3, false),
+    (Op::PutIf(4, Some(5), 6), None, 4, false),
+    (Op::PutIf(1, Some(4), 6), Some(4), 1, true),
+    (Op::PutIf(1, Some(4), 6), Some(6), 1, false),
+    (Op::PutIf(1, Some(4), 6), None, 1, false),
+    (Op::PutIf(1, None, 6), None, 1, true),
+    (Op::PutIf(1, None, 6), Some(6), 1, false),
+    (Op::PutIf(1, None, 6), Some(4), 1, false),
+];
+
+/// An entry of each kind, of caller 7.
+const ENTRIES: [Entry; 10] = [
+    Entry::Began(7, 1),
+    Entry::Asked(7, Op::Get(3)),
+    Entry::Did(7, None),
+    Entry::Saved(7),
+    Entry::Leave(7, Some(1)),
+    Entry::Undone(7),
+    Entry::Returned(7, 1),
+    Entry::Committed(7, 1),
+    Entry::Busy(7, Op::Get(3), 2),
+    Entry::Aborted(7),
+];
+
+/// The caller of an entry.
+fn caller_of(entry: &Entry) -> u64 {
+    entry.caller()
+}
+
+fn operations_are(rt: &impl Abort, rows: &[(Op, Reply, u64, bool)]) {
+    for (op, reply, key, is_change) in rows {
+        let found = key_and_change(*op, *reply);
+        assert_eq!(rt; found, (*key, *is_change), "{op:?} of {reply:?}");
+    }
+}
+
+#[test]
+fn operations_and_entries(rt: HostRuntime) {
+    operations_are(&rt, &OPERATIONS);
+    for entry in &ENTRIES {
+        assert_eq!(rt; caller_of(entry), 7, "{entry:?}");
+    }
+}
+
+/// How many savepoints there are.
+fn levels_of(seat: &Seat) -> u64 {
+    seat.levels()
+}
+
+/// Makes room for a savepoint and sets it.
+fn save(rt: &impl Abort, seat: &mut Seat) -> Result<(), AllocError> {
+    seat.reserve_level()?;
+    assert!(rt; seat.standing() == 0);
+    assert!(rt; seat.enter(Entry::Saved(0)));
+    Ok(())
+}
+
+/// Is to be run with each allocation refused in turn: the seat stays, and is given room when asked
+/// once more.
+#[test]
+fn savepoints_without_memory(rt: HostRuntime) -> Result<(), Fail> {
+    let mut seat = open_seat(&rt, rt.alloc());
+    for level in 0..9 {
+        assert_eq!(rt; levels_of(&seat), level);
+        if save(&rt, &mut seat).is_err() {
+            assert_eq!(rt; levels_of(&seat), level, "no memory, no savepoint");
+            save(&rt, &mut seat)?;
+        }
+    }
+    assert_eq!(rt; levels_of(&seat), 9);
+    Ok(())
+}

@@ -1,0 +1,374 @@
+//! Workers that run scripts, step by step.
+use script_worker::{Outcome, Stage, Worker};
+use std::alloc::{AllocError, Global};
+use std::process::Abort;
+use std::test::Fail;
+use txn_drive::Turn;
+use txn_trace::{Action, Answer, Limits, Op, Refusal, Script, Step};
+
+/// One script of these actions.
+fn script_of(alloc: Global, actions: &[Action]) -> Result<Script, AllocError> {
+    Ok(Script::new(actions.to_vec(alloc)?))
+}
+
+/// Scripts of these actions, one each.
+fn scripts_of(alloc: Global, scripts: &[&[Action]]) -> Result<Vec<Script>, AllocError> {
+    let mut all = Vec::new(alloc);
+    for script in scripts {
+        all.push(script_of(alloc, script)?)?;
+    }
+    Ok(all)
+}
+
+/// A worker of so many, with limits that take every key or half keys alone.
+fn worker_of(
+    number: usize,
+    workers: u64,
+    takes_half_keys: bool,
+    scripts: &[Script],
+) -> Result<Worker, Fail> {
+    let every = Limits::new(workers, 8, 8)?;
+    let limits = if takes_half_keys {
+        every.half_keys()
+    } else {
+        every
+    };
+    if limits.callers() as usize <= number {
+        return Err("no such worker".into());
+    }
+    Ok(Worker::new(number, limits, scripts))
+}
+
+/// The script that a live worker is at.
+fn script_at(worker: &Worker) -> Option<usize> {
+    if !worker.is_live() {
+        return None;
+    }
+    worker.standing().task.map(|task| task.script)
+}
+
+/// How far the worker's attempt at its script is.
+fn stage_of(worker: &Worker) -> Option<Stage> {
+    worker.standing().task.map(|task| task.attempt.stage)
+}
+
+/// Whether the worker has a turn, at size 2 of the table.
+fn has_turn(worker: &mut Worker) -> bool {
+    worker.turn(2).is_some()
+}
+
+/// The worker is told how the one step of its next turn is answered, with one further try allowed:
+/// the step, and how its script ended, where it did.
+fn tell(
+    worker: &mut Worker,
+    scripts: &[Script],
+    answer: Answer,
+) -> (Option<Step>, Option<Outcome>) {
+    let step = match worker.turn(2) {
+        Some(Turn::One(step)) => Some(step),
+        _ => None,
+    };
+    (step, worker.told(scripts, 1, answer))
+}
+
+/// The worker takes its next turn, in which each step is answered so: the last step that it takes,
+/// and how its script ended, where it did.
+fn take_turn(
+    worker: &mut Worker,
+    scripts: &[Script],
+    answer: Answer,
+) -> (Option<Step>, Option<Outcome>) {
+    let mut taken = None;
+    if !worker.is_live() {
+        return (taken, None);
+    }
+    let mut step = |next| {
+        taken = Some(next);
+        answer
+    };
+    let outcome = worker.take_turn(2, scripts, 1, &mut step);
+    (taken, outcome)
+}
+
+/// A step that the worker takes, how it is answered, how a script ends by it, and the script that
+/// the worker is at then.
+type Row = (Step, Answer, Option<Outcome>, Option<usize>);
+
+/// A worker of so many, whether the limits take half keys alone, the actions of the scripts, the
+/// script that it is at first, and its steps.
+#[derive(Drop)]
+struct Case {
+    number: usize,
+    workers: u64,
+    takes_half_keys: bool,
+    scripts: &'static [&'static [Action]],
+    first: Option<usize>,
+    rows: &'static [Row],
+}
+
+/// The worker of a case before its first step.
+fn worker_in(case: &Case, scripts: &[Script]) -> Result<Worker, Fail> {
+    worker_of(case.number, case.workers, case.takes_half_keys, scripts)
+}
+
+/// The worker takes a step, by `take_turn` or by `turn` and `told`.
+fn takes(rt: &impl Abort, worker: &mut Worker, scripts: &[Script], row: &Row, by_take_turn: bool) {
+    let (step, answer, ended, script) = *row;
+    let (taken, outcome) = if by_take_turn {
+        take_turn(worker, scripts, answer)
+    } else {
+        tell(worker, scripts, answer)
+    };
+    assert_eq!(rt; taken, Some(step));
+    assert_eq!(rt; outcome, ended, "at {step:?}");
+    assert_eq!(rt; script_at(worker), script, "after {step:?}");
+}
+
+/// The worker of a case takes its steps, and has a turn left where it is at a script then.
+fn play(rt: &impl Abort, alloc: Global, case: &Case, by_take_turn: bool) -> Result<(), Fail> {
+    let scripts = scripts_of(alloc, case.scripts)?;
+    let mut worker = worker_in(case, &scripts)?;
+    assert_eq!(rt; script_at(&worker), case.first);
+    for row in case.rows {
+        takes(rt, &mut worker, &scripts, row, by_take_turn);
+    }
+    assert_eq!(rt; has_turn(&mut worker), script_at(&worker).is_some());
+    Ok(())
+}
+
+const NOTHING: Answer = Answer::Refused(Refusal::NothingToSeek);
+
+const BAD_KEY: Option<Outcome> = Some(Outcome::Refused(Refusal::BadKey));
+
+const NO_MEMORY: Option<Outcome> = Some(Outcome::Refused(Refusal::NoMemory));
+
+/// Workers and their steps.
+static CASES: [Case; 9] = [
+    // The worker of number 1 of 2 runs scripts 1 and 3.
+    Case {
+        number: 1,
+        workers: 2,
+        takes_half_keys: true,
+        scripts: &[&[], &[], &[], &[Action::Save], &[]],
+        first: Some(1),
+        rows: &[
+            (Step::Begin(1), Answer::Began(1), None, Some(1)),
+            (
+                Step::Commit(1),
+                Answer::Committed(1),
+                Some(Outcome::Committed),
+                Some(3),
+            ),
+            (Step::Begin(1), Answer::Began(2), None, Some(3)),
+            (Step::Save(1), Answer::Saved(1), None, Some(3)),
+            (
+                Step::Commit(1),
+                Answer::Committed(2),
+                Some(Outcome::Committed),
+                None,
+            ),
+        ],
+    },
+    // The first of 2 workers has the only script.
+    Case {
+        number: 0,
+        workers: 2,
+        takes_half_keys: true,
+        scripts: &[&[]],
+        first: Some(0),
+        rows: &[],
+    },
+    // The second has none.
+    Case {
+        number: 1,
+        workers: 2,
+        takes_half_keys: true,
+        scripts: &[&[]],
+        first: None,
+        rows: &[],
+    },
+    // Scripts that are done, the second of which is refused its commit.
+    Case {
+        number: 0,
+        workers: 1,
+        takes_half_keys: true,
+        scripts: &[&[Action::Save], &[]],
+        first: Some(0),
+        rows: &[
+            (Step::Begin(0), Answer::Began(1), None, Some(0)),
+            (Step::Save(0), Answer::Saved(1), None, Some(0)),
+            (
+                Step::Commit(0),
+                Answer::Committed(1),
+                Some(Outcome::Committed),
+                Some(1),
+            ),
+            (Step::Begin(0), Answer::Began(2), None, Some(1)),
+            (
+                Step::Commit(0),
+                Answer::Refused(Refusal::NoMemory),
+                NO_MEMORY,
+                None,
+            ),
+        ],
+    },
+    // A stripe is held: the script is attempted once more, and then the next one begins.
+    Case {
+        number: 0,
+        workers: 1,
+        takes_half_keys: true,
+        scripts: &[&[Action::Op(Op::Get(1))], &[]],
+        first: Some(0),
+        rows: &[
+            (Step::Begin(0), Answer::Began(1), None, Some(0)),
+            (Step::Ask(0, Op::Get(1)), Answer::Busy(1), None, Some(0)),
+            (Step::Seek(0), NOTHING, None, Some(0)),
+            (Step::Act(0), Answer::Aborted, None, Some(0)),
+            (Step::Begin(0), Answer::Began(1), None, Some(0)),
+            (Step::Ask(0, Op::Get(1)), Answer::Busy(1), None, Some(0)),
+            (Step::Seek(0), NOTHING, None, Some(0)),
+            (Step::Act(0), Answer::Aborted, Some(Outcome::Busy), Some(1)),
+        ],
+    },
+    // Where every key is taken, help with a key of 2^63 takes steps; an action `put_if` is an
+    // operation.
+    Case {
+        number: 0,
+        workers: 1,
+        takes_half_keys: false,
+        scripts: &[&[
+            Action::Help(1 << 63),
+            Action::Op(Op::PutIf(1 << 63, None, 5)),
+        ]],
+        first: Some(0),
+        rows: &[
+            (Step::Begin(0), Answer::Began(1), None, Some(0)),
+            (Step::Double(2), Answer::AtLimit, None, Some(0)),
+            (
+                Step::Ask(0, Op::PutIf(1 << 63, None, 5)),
+                Answer::Asked,
+                None,
+                Some(0),
+            ),
+            (Step::Seek(0), Answer::Placed, None, Some(0)),
+            (Step::Act(0), Answer::Done(None), None, Some(0)),
+            (
+                Step::Commit(0),
+                Answer::Committed(1),
+                Some(Outcome::Committed),
+                None,
+            ),
+        ],
+    },
+    // An abort ends the script: later actions are not taken.
+    Case {
+        number: 0,
+        workers: 1,
+        takes_half_keys: true,
+        scripts: &[&[Action::Abort, Action::Save]],
+        first: Some(0),
+        rows: &[
+            (Step::Begin(0), Answer::Began(1), None, Some(0)),
+            (Step::Abort(0), Answer::Leaving, None, Some(0)),
+            (Step::Seek(0), NOTHING, None, Some(0)),
+            (Step::Act(0), Answer::Aborted, Some(Outcome::Aborted), None),
+        ],
+    },
+    // A refused call aborts the transaction, and a refused begin ends the script; help with a bad key
+    // takes no step.
+    Case {
+        number: 0,
+        workers: 1,
+        takes_half_keys: true,
+        scripts: &[
+            &[Action::Help(1 << 63), Action::Save],
+            &[Action::Back(1)],
+            &[],
+        ],
+        first: Some(0),
+        rows: &[
+            (Step::Begin(0), Answer::Began(1), None, Some(0)),
+            (Step::Abort(0), Answer::Leaving, None, Some(0)),
+            (Step::Seek(0), NOTHING, None, Some(0)),
+            (Step::Act(0), Answer::Aborted, BAD_KEY, Some(1)),
+            (Step::Begin(0), Answer::Began(2), None, Some(1)),
+            (
+                Step::Back(0, 1),
+                Answer::Refused(Refusal::NoSuchLevel),
+                None,
+                Some(1),
+            ),
+            (Step::Abort(0), Answer::Leaving, None, Some(1)),
+            (Step::Seek(0), NOTHING, None, Some(1)),
+            (
+                Step::Act(0),
+                Answer::Aborted,
+                Some(Outcome::Refused(Refusal::NoSuchLevel)),
+                Some(2),
+            ),
+            (
+                Step::Begin(0),
+                Answer::Refused(Refusal::NoMemory),
+                NO_MEMORY,
+                None,
+            ),
+        ],
+    },
+    // The first help with a bad key is refused without a step, and its transaction given up: neither
+    // further ones nor a put come after it.
+    Case {
+        number: 0,
+        workers: 1,
+        takes_half_keys: true,
+        scripts: &[
+            &[
+                Action::Help(1 << 63),
+                Action::Help(1 << 63),
+                Action::Help(u64::MAX),
+                Action::Op(Op::Put(1, 10)),
+            ],
+            &[Action::Save, Action::Help(u64::MAX), Action::Help(1 << 63)],
+            &[Action::Help(1 << 63)],
+        ],
+        first: Some(0),
+        rows: &[
+            (Step::Begin(0), Answer::Began(1), None, Some(0)),
+            (Step::Abort(0), Answer::Leaving, None, Some(0)),
+            (Step::Seek(0), NOTHING, None, Some(0)),
+            (Step::Act(0), Answer::Aborted, BAD_KEY, Some(1)),
+            (Step::Begin(0), Answer::Began(2), None, Some(1)),
+            (Step::Save(0), Answer::Saved(1), None, Some(1)),
+            (Step::Abort(0), Answer::Leaving, None, Some(1)),
+            (Step::Seek(0), NOTHING, None, Some(1)),
+            (Step::Act(0), Answer::Aborted, BAD_KEY, Some(2)),
+            (Step::Begin(0), Answer::Began(3), None, Some(2)),
+            (Step::Abort(0), Answer::Leaving, None, Some(2)),
+            (Step::Seek(0), NOTHING, None, Some(2)),
+            (Step::Act(0), Answer::Aborted, BAD_KEY, None),
+        ],
+    },
+];
+
+/// Sees that a help with a bad key has left at once, with its refusal.
+fn leaves_after_a_bad_help(rt: &impl Abort, alloc: Global) -> Result<(), Fail> {
+    let scripts = scripts_of(alloc, &[&[Action::Help(1 << 63), Action::Save]])?;
+    let mut worker = worker_of(0, 1, true, &scripts)?;
+    tell(&mut worker, &scripts, Answer::Began(1));
+    assert_eq!(rt; stage_of(&worker), Some(Stage::Leaving(Refusal::BadKey)));
+    Ok(())
+}
+
+/// The workers take their steps.
+fn play_all(rt: &impl Abort, alloc: Global, cases: &[Case]) -> Result<(), Fail> {
+    for case in cases {
+        play(rt, alloc, case, false)?;
+        play(rt, alloc, case, true)?;
+    }
+    Ok(())
+}
+
+#[test]
+fn scripts_to_their_ends(rt: HostRuntime) -> Result<(), Fail> {
+    play_all(&rt, rt.alloc(), &CASES)?;
+    leaves_after_a_bad_help(&rt, rt.alloc())
+}
