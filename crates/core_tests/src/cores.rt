@@ -39,6 +39,19 @@ fn make_call(alloc: Global, core: &mut Core, call: Call) -> Result<Answer, Fail>
     }
 }
 
+/// Makes a call, which is answered so.
+fn call_is(
+    rt: &impl Abort,
+    alloc: Global,
+    core: &mut Core,
+    call: Call,
+    wanted: Answer,
+) -> Result<(), Fail> {
+    let answer = make_call(alloc, core, call)?;
+    assert_eq!(rt; answer, wanted, "at {call:?}");
+    Ok(())
+}
+
 fn play_calls(
     rt: &impl Abort,
     alloc: Global,
@@ -46,8 +59,7 @@ fn play_calls(
     lines: &[(Call, Answer)],
 ) -> Result<(), Fail> {
     for (call, wanted) in lines {
-        let answer = make_call(alloc, core, *call)?;
-        assert_eq!(rt; answer, *wanted, "at {call:?}");
+        call_is(rt, alloc, core, *call, *wanted)?;
     }
     Ok(())
 }
@@ -371,18 +383,28 @@ fn core_in(alloc: Global, run: &Run) -> Result<Core, Fail> {
     core_with(alloc, limits)
 }
 
-fn play_run(rt: &impl Abort, alloc: Global, core: &mut Core, run: &Run) -> Result<(), Fail> {
-    play_calls(rt, alloc, core, run.lines)?;
-    has_pairs(rt, alloc, core, run.pairs)?;
-    if let Some(history) = run.history {
+/// Sees that the history is this one, where it is compared.
+fn has_history(rt: &impl Abort, core: &Core, wanted: Option<&'static [Entry]>) {
+    if let Some(history) = wanted {
         assert_eq!(rt; trace_of(core), history);
     }
-    Ok(())
+}
+
+fn play_run(rt: &impl Abort, alloc: Global, core: &mut Core, run: &Run) -> Result<(), Fail> {
+    play_calls(rt, alloc, core, run.lines)?;
+    has_history(rt, core, run.history);
+    has_pairs(rt, alloc, core, run.pairs)
+}
+
+/// Plays a run on a core of its own.
+fn play_alone(rt: &impl Abort, alloc: Global, run: &Run) -> Result<(), Fail> {
+    let mut core = core_in(alloc, run)?;
+    play_run(rt, alloc, &mut core, run)
 }
 
 fn play_runs(rt: &impl Abort, alloc: Global, runs: &[Run]) -> Result<(), Fail> {
     for run in runs {
-        play_run(rt, alloc, &mut core_in(alloc, run)?, run)?;
+        play_alone(rt, alloc, run)?;
     }
     Ok(())
 }
@@ -496,8 +518,17 @@ fn change_five(rt: &impl Abort, alloc: Global, core: &mut Core) -> Result<bool, 
     Ok(true)
 }
 
-/// Each caller takes its newest change back, after which each key has this value. The pairs are
-/// compared where there is memory for their list, and else counted.
+/// Sees that five keys have this value. The pairs are compared where there is memory for their
+/// list, and else counted.
+fn has_five(rt: &impl Abort, alloc: Global, core: &Core, value: u64) {
+    assert_eq!(rt; sizes_of(core), (2, 5));
+    let wanted = [(4, value), (2, value), (1, value), (5, value), (3, value)];
+    if let Ok(pairs) = pairs_of(alloc, core) {
+        assert_eq!(rt; pairs.as_slice(), wanted.as_slice());
+    }
+}
+
+/// Each caller takes its newest change back, after which each key has this value.
 fn undo_five(
     rt: &impl Abort,
     alloc: Global,
@@ -508,11 +539,9 @@ fn undo_five(
         step_is(rt, core, Step::Seek(caller), Answer::Placed)?;
         step_is(rt, core, Step::Act(caller), Answer::Undone)?;
     }
-    let count = if left.is_some() { 5 } else { 0 };
-    assert_eq!(rt; sizes_of(core), (2, count));
-    if let (Ok(pairs), Some(value)) = (pairs_of(alloc, core), left) {
-        let wanted = [(4, value), (2, value), (1, value), (5, value), (3, value)];
-        assert_eq!(rt; pairs.as_slice(), wanted.as_slice());
+    match left {
+        Some(value) => has_five(rt, alloc, core, value),
+        None => assert_eq!(rt; sizes_of(core), (2, 0)),
     }
     Ok(())
 }
@@ -752,22 +781,33 @@ static HELPED: [(u64, u32, u64); 9] = [
     (8, 8, 0),
 ];
 
+/// A caller helps for a key, and this comes of it.
+fn help_is(
+    rt: &impl Abort,
+    core: &mut Core,
+    caller_and_key: (u64, u64),
+    wanted: Result<(), Refusal>,
+) {
+    let helped = help(core, caller_and_key.0, caller_and_key.1);
+    assert_eq!(rt; helped, wanted, "for {caller_and_key:?}");
+}
+
 /// Caller 0 puts keys and helps after each; there is no helper 1.
 fn helped_are(rt: &impl Abort, core: &mut Core, rows: &[(u64, u32, u64)]) -> Result<(), Fail> {
     for (key, size, bucket) in rows {
         put(rt, core, *key)?;
-        assert_eq!(rt; help(core, 0, *key), Ok(()));
+        help_is(rt, core, (0, *key), Ok(()));
         assert_eq!(rt; sizes_of(core).0, *size, "at {key}");
         step_is(rt, core, Step::InitSeek(0, *bucket), Answer::Ready)?;
     }
-    assert_eq!(rt; help(core, 1, 0), Err(Refusal::NoSuchHelper));
+    help_is(rt, core, (1, 0), Err(Refusal::NoSuchHelper));
     Ok(())
 }
 
 /// Caller 0 puts so many keys and helps before each.
 fn put_helped(rt: &impl Abort, core: &mut Core, keys: u64) -> Result<(), Fail> {
     for key in 0..keys {
-        assert_eq!(rt; help(core, 0, key), Ok(()));
+        help_is(rt, core, (0, key), Ok(()));
         put(rt, core, key)?;
     }
     Ok(())

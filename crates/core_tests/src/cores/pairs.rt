@@ -69,12 +69,26 @@ fn take_anew(
     step: Step,
 ) -> Result<Answer, Fail> {
     let answer = take_step(core, step)?;
-    if answer != Answer::Again {
-        return Ok(answer);
+    if let Answer::Again = answer {
+        assert_ne!(rt; last, Some(caller), "at {step:?}");
+        step_is(rt, core, Step::Seek(caller), Answer::Placed)?;
+        return take_step(core, step);
     }
-    assert_ne!(rt; last, Some(caller), "at {step:?}");
-    step_is(rt, core, Step::Seek(caller), Answer::Placed)?;
-    take_step(core, step)
+    Ok(answer)
+}
+
+/// Sees that the plain map answers a step of a caller so.
+fn agrees(
+    rt: &impl Abort,
+    compared: &mut Compared,
+    caller: u64,
+    step: Step,
+    answer: Answer,
+) -> Result<(), Fail> {
+    let wanted = compared.plain.answer(step)?;
+    assert_eq!(rt; answer, wanted, "at {step:?}");
+    compared.last = Some(caller);
+    Ok(())
 }
 
 /// Takes a step of a caller, and compares the answer and how many keys there are.
@@ -86,8 +100,7 @@ fn take(
     step: Step,
 ) -> Result<(), Fail> {
     let answer = take_anew(rt, core, compared.last, caller, step)?;
-    compared.last = Some(caller);
-    assert_eq!(rt; answer, compared.plain.answer(step)?, "at {step:?}");
+    agrees(rt, compared, caller, step, answer)?;
     assert_eq!(rt; sizes_of(core).1, compared.plain.count());
     Ok(())
 }
@@ -259,15 +272,37 @@ fn in_every_order(
     Ok(())
 }
 
-/// Every order of two plans on a core of its own, and then the pairs that are left.
-fn try_case(rt: &impl Abort, alloc: Global, core: &mut Core, case: &Case) -> Result<(), Fail> {
-    let mut compared = Compared {
+/// The plain map of a case.
+fn plain_of(alloc: Global, case: &Case) -> Compared {
+    Compared {
         plain: PlainMap::new(alloc, case.0),
         last: None,
-    };
-    prepare_all(rt, core, &mut compared)?;
-    in_every_order(rt, core, &mut compared, case)?;
-    compare(rt, alloc, core, &compared)
+    }
+}
+
+/// All pairs are put, the plans are tried in every order, and then the pairs are compared.
+fn compare_case(
+    rt: &impl Abort,
+    alloc: Global,
+    core: &mut Core,
+    compared: &mut Compared,
+    case: &Case,
+) -> Result<(), Fail> {
+    prepare_all(rt, core, compared)?;
+    in_every_order(rt, core, compared, case)?;
+    compare(rt, alloc, core, compared)
+}
+
+/// The same beside a plain map.
+fn try_beside(rt: &impl Abort, alloc: Global, core: &mut Core, case: &Case) -> Result<(), Fail> {
+    let mut compared = plain_of(alloc, case);
+    compare_case(rt, alloc, core, &mut compared, case)
+}
+
+/// The same on a core of its own.
+fn try_case(rt: &impl Abort, alloc: Global, case: &Case) -> Result<(), Fail> {
+    let mut core = core_with(alloc, limits_of(2, case.0, 32)?)?;
+    try_beside(rt, alloc, &mut core, case)
 }
 
 /// With 7 stripes the two keys of a pair have stripes of their own, so that both callers work; with
@@ -285,8 +320,7 @@ static CASES: [Case; 8] = [
 
 fn try_cases(rt: &impl Abort, alloc: Global, cases: &[Case]) -> Result<(), Fail> {
     for case in cases {
-        let mut core = core_with(alloc, limits_of(2, case.0, 32)?)?;
-        try_case(rt, alloc, &mut core, case)?;
+        try_case(rt, alloc, case)?;
     }
     Ok(())
 }

@@ -2,7 +2,7 @@
 use crate::devices::{core_of, limits_of, take_step, trace_of};
 use boost_core::Core;
 use key_locks::StripeRight;
-use std::alloc::Global;
+use std::alloc::{AllocError, Global};
 use std::process::Abort;
 use std::test::Fail;
 use txn_trace::{Answer, Entry, Op, Refusal, Step};
@@ -97,20 +97,40 @@ fn asks_are(
     rows: &[(Ask, Answer)],
 ) -> Result<(), Fail> {
     for (ask, wanted) in rows {
-        assert_eq!(rt; answer(core, right, *ask)?, *wanted, "at {ask:?}");
+        let answer = answer(core, right, *ask)?;
+        assert_eq!(rt; answer, *wanted, "at {ask:?}");
     }
     Ok(())
 }
 
-/// And a core is ordinary unless it is made with words.
+/// One right for each of eight stripes.
+fn rights_of(alloc: Global) -> Result<Vec<StripeRight>, AllocError> {
+    StripeRight::all(alloc, 8)
+}
+
+/// Asks with the right to stripe 1.
+fn ask_all(rt: &impl Abort, alloc: Global, core: &mut Core) -> Result<(), Fail> {
+    let rights = rights_of(alloc)?;
+    let right = rights.get(1).ok_or("no right")?;
+    asks_are(rt, core, right, &ASKS)
+}
+
+fn play(rt: &impl Abort, alloc: Global, core: &mut Core) -> Result<(), Fail> {
+    ask_all(rt, alloc, core)?;
+    assert_eq!(rt; trace_of(core), HISTORY_OF_ASKS.as_slice());
+    Ok(())
+}
+
+/// A core is ordinary unless it is made with words.
+fn is_ordinary(rt: &impl Abort, alloc: Global) -> Result<(), Fail> {
+    let core = core_of(alloc, 3)?;
+    assert!(rt; !has_words(&core));
+    Ok(())
+}
+
 #[test]
 fn rights_and_words(rt: HostRuntime) -> Result<(), Fail> {
-    let alloc = rt.alloc();
-    assert!(rt; !has_words(&core_of(alloc, 3)?));
-    let rights = StripeRight::all(alloc, 8)?;
-    let right = rights.get(1).ok_or("no right")?;
-    let mut core = core_with_words(alloc)?;
-    asks_are(&rt, &mut core, right, &ASKS)?;
-    assert_eq!(rt; trace_of(&core), HISTORY_OF_ASKS.as_slice());
-    Ok(())
+    is_ordinary(&rt, rt.alloc())?;
+    let mut core = core_with_words(rt.alloc())?;
+    play(&rt, rt.alloc(), &mut core)
 }
