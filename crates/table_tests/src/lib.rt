@@ -8,4 +8,6 @@
 #![tactic(auto)]
 
 #[cfg(test)]
+mod map_ops_tests;
+#[cfg(test)]
 mod split_key_tests;
