@@ -8,6 +8,6 @@
 #![tactic(auto)]
 
 #[cfg(test)]
-mod map_ops_tests;
+mod node_list_tests;
 #[cfg(test)]
 mod split_key_tests;
