@@ -80,10 +80,47 @@ fn is_vacant(list: &NodeList, place: NodeRef) -> Result<(), Fail> {
     Ok(())
 }
 
-/// Key, value, stamp, kind and mark of the second node.
-fn entry(list: &NodeList) -> Option<(u64, u64, u64, Kind, bool)> {
+/// What is seen of a list of at most two nodes.
+#[derive(Clone, Copy, PartialEq, Eq)]
+struct Seen {
+    count: u64,
+    marked: u64,
+    changes: u64,
+    marks_begin: Option<u64>,
+    second: Option<Entry>,
+}
+
+/// What is seen of a node.
+#[derive(Clone, Copy, PartialEq, Eq)]
+struct Entry {
+    key: u64,
+    value: u64,
+    stamp: u64,
+    kind: Kind,
+    marked: bool,
+}
+
+/// What is seen of the second node.
+fn entry_of_second(list: &NodeList) -> Option<Entry> {
     let node = list.linked_node(second(list)?)?;
-    Some((node.at.key(), node.value, node.stamp, node.kind, node.marked))
+    Some(Entry {
+        key: node.at.key(),
+        value: node.value,
+        stamp: node.stamp,
+        kind: node.kind,
+        marked: node.marked,
+    })
+}
+
+/// What is seen of a list.
+fn look(list: &NodeList) -> Seen {
+    Seen {
+        count: list.count(),
+        marked: list.marked_count(),
+        changes: list.changes(),
+        marks_begin: list.marks_begin(),
+        second: entry_of_second(list),
+    }
 }
 
 /// Writes the value of a node.
@@ -138,48 +175,99 @@ fn make(list: &mut NodeList, call: Call) -> Result<(), Fail> {
     }
 }
 
-/// Calls with what is then seen: the figures, where the marked nodes begin, and the second node.
-const CALLS: [(Call, (u64, u64, u64), Option<u64>, Option<(u64, u64, u64, Kind, bool)>); 4] = [
-    (Call::Link(3, 30), (1, 0, 1), None, Some((3, 30, 7, Kind::Regular, false))),
-    (Call::Write(31), (1, 0, 2), None, Some((3, 31, 7, Kind::Regular, false))),
+/// The node of key 3, as it is linked.
+const LINKED: Entry = Entry {
+    key: 3,
+    value: 30,
+    stamp: 7,
+    kind: Kind::Regular,
+    marked: false,
+};
+
+/// The node of key 3, written.
+const WRITTEN: Entry = Entry {
+    key: 3,
+    value: 31,
+    stamp: 7,
+    kind: Kind::Regular,
+    marked: false,
+};
+
+/// The node of key 3, written and marked.
+const MARKED: Entry = Entry {
+    key: 3,
+    value: 31,
+    stamp: 7,
+    kind: Kind::Regular,
+    marked: true,
+};
+
+/// Calls with what is then seen.
+const CALLS: [(Call, Seen); 4] = [
+    (
+        Call::Link(3, 30),
+        Seen {
+            count: 1,
+            marked: 0,
+            changes: 1,
+            marks_begin: None,
+            second: Some(LINKED),
+        },
+    ),
+    (
+        Call::Write(31),
+        Seen {
+            count: 1,
+            marked: 0,
+            changes: 2,
+            marks_begin: None,
+            second: Some(WRITTEN),
+        },
+    ),
     (
         Call::Mark,
-        (0, 1, 3),
-        Some(0xc000_0000_0000_0000),
-        Some((3, 31, 7, Kind::Regular, true)),
+        Seen {
+            count: 0,
+            marked: 1,
+            changes: 3,
+            marks_begin: Some(0xc000_0000_0000_0000),
+            second: Some(MARKED),
+        },
     ),
-    (Call::Unlink, (0, 0, 4), None, None),
+    (
+        Call::Unlink,
+        Seen {
+            count: 0,
+            marked: 0,
+            changes: 4,
+            marks_begin: None,
+            second: None,
+        },
+    ),
 ];
-
-/// Where the marked nodes begin.
-fn marks_begin(list: &NodeList) -> Option<u64> {
-    list.marks_begin()
-}
 
 #[test]
 fn calls_in_turn(rt: HostRuntime) -> Result<(), Fail> {
     let mut list = list_again(rt.alloc(), 6)?;
-    for (call, wanted, begin, node) in CALLS.iter() {
+    for (call, wanted) in CALLS.iter() {
         make(&mut list, *call)?;
-        assert_eq!(rt; figures(&list), *wanted, "after {call:?}");
-        assert_eq!(rt; marks_begin(&list), *begin, "after {call:?}");
-        assert_eq!(rt; entry(&list), *node, "after {call:?}");
+        assert!(rt; look(&list) == *wanted, "after {call:?}");
     }
-    assert_eq!(rt; stamp_given_back(&mut list)?, 8);
-    assert_eq!(rt; stamp_of_spare(&mut list)?, 9);
+    assert!(rt; stamp_given_back(&mut list)? == 8);
+    assert!(rt; stamp_of_spare(&mut list)? == 9);
     Ok(())
 }
+
+/// The faults of a list in words.
+const FAULTS: &str = "the list has no stamp left for a spare; the list got no memory for a spare";
 
 #[test]
 fn stamps_used_up(rt: HostRuntime) -> Result<(), Fail> {
     let mut list = list_again(rt.alloc(), 18446744073709551613)?;
-    assert_eq!(rt; stamp_of_spare(&mut list), Ok(18446744073709551614));
-    assert_eq!(rt; stamp_of_spare(&mut list), Err(SpareFault::Worn));
+    assert!(rt; stamp_of_spare(&mut list) == Ok(18446744073709551614));
+    assert!(rt; stamp_of_spare(&mut list) == Err(SpareFault::Worn));
     let words = format!(in rt.alloc(); "{}; {}", SpareFault::Worn, SpareFault::NoMemory)?;
-    assert_eq!(rt;
-        words.as_str(),
-        "the list has no stamp left for a spare; the list got no memory for a spare"
-    );
+    assert!(rt; words.as_str() == FAULTS);
     Ok(())
 }
 
@@ -192,12 +280,12 @@ fn refused_allocations(rt: HostRuntime) -> Result<(), Fail> {
         let stamp = match stamp_of_spare(&mut list) {
             Ok(stamp) => stamp,
             Err(fault) => {
-                assert_eq!(rt; fault, SpareFault::NoMemory);
-                assert_eq!(rt; figures(&list), (0, 0, 0));
+                assert!(rt; fault == SpareFault::NoMemory);
+                assert!(rt; figures(&list) == (0, 0, 0));
                 stamp_of_spare(&mut list)?
             }
         };
-        assert_eq!(rt; stamp, wanted);
+        assert!(rt; stamp == wanted, "{stamp}");
     }
     Ok(())
 }
