@@ -8,6 +8,8 @@
 #![tactic(auto)]
 
 #[cfg(test)]
+mod list_steps_tests;
+#[cfg(test)]
 mod node_list_tests;
 #[cfg(test)]
 mod split_key_tests;

@@ -1,4 +1,4 @@
-use Rattle.list_steps.proofs.tests.link_here.Goals as goal
+use Rattle.table_tests.proofs.list_steps_tests.link_here.Goals as goal
 
 pub link_at-requires-clause-vacant : goal.link_at-requires-clause-vacant
 link_at-requires-clause-vacant c =

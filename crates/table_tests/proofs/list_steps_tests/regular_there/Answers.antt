@@ -1,5 +1,5 @@
 use Rattle.node_list.proofs.NodesLemmas.{found_linked}
-use Rattle.list_steps.proofs.tests.is_key_there.Goals as goal
+use Rattle.table_tests.proofs.list_steps_tests.regular_there.Goals as goal
 
 pub node-requires : goal.node-requires
 node-requires c =

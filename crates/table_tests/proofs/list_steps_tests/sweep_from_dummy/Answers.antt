@@ -2,7 +2,7 @@ use Rattle.std.proofs.Common.{refl, sym}
 use Rattle.split_key.specs.Sort.{IsNotBefore}
 use Rattle.split_key.proofs.AncestorLemmas.{IsAncestor-self}
 use Rattle.list_steps.proofs.SweepLemmas.{before_marks}
-use Rattle.list_steps.proofs.tests.sweep_from_dummy.Goals as goal
+use Rattle.table_tests.proofs.list_steps_tests.sweep_from_dummy.Goals as goal
 
 pub bucket_at-bucket-requires : goal.bucket_at-bucket-requires
 bucket_at-bucket-requires c = record { exponent = 3; is = refl }
