@@ -10,6 +10,8 @@
 #[cfg(test)]
 mod list_steps_tests;
 #[cfg(test)]
+mod map_ops_tests;
+#[cfg(test)]
 mod node_list_tests;
 #[cfg(test)]
 mod split_key_tests;
