@@ -364,32 +364,44 @@ fn shows(rt: &impl Abort, alloc: Global, table: &Table, wanted: &[(u64, u64)]) -
     Ok(())
 }
 
-/// Operations on a table with value 10 at key 1 alone, and their replies.
-const OPERATIONS: [(Op, Reply); 9] = [
-    (Op::Put(1, 11), Some(10)),
-    (Op::Put(3, 30), None),
-    (Op::Take(1), Some(10)),
-    (Op::Take(5), None),
-    (Op::Get(1), Some(10)),
-    (Op::PutIf(1, Some(10), 12), Some(10)),
-    (Op::PutIf(1, None, 12), Some(10)),
-    (Op::PutIf(3, None, 30), None),
-    (Op::PutIf(3, Some(5), 6), None),
-];
-
-#[test]
-fn each_operation_there_and_back(rt: HostRuntime) -> Result<(), Fail> {
-    let mut table = new_table(rt.alloc())?;
-    let _ = do_at_once(&mut table, Op::Put(1, 10))?;
-    for (op, reply) in OPERATIONS.iter() {
-        assert!(rt; there_and_back(&mut table, *op)? == *reply, "to {op:?}");
-        assert!(rt; has_pairs(rt.alloc(), &table, &[(1, 10)])?, "after {op:?}");
-    }
-    Ok(())
-}
-
 /// Runs of steps, with what each answers. Each run begins with a new table.
-const STEPS: [(Step, Answer); 110] = [
+const STEPS: [(Step, Answer); 139] = [
+    // Each operation there and back.
+    (Step::Begin, Answer::Done),
+    (Step::Do(Op::Put(1, 10)), Answer::Reply(None)),
+    (Step::Return(Op::Put(1, 11)), Answer::Reply(Some(10))),
+    (Step::Pair(0), Answer::Pair(1, 10)),
+    (Step::Pair(1), Answer::End),
+    (Step::Return(Op::Put(3, 30)), Answer::Reply(None)),
+    (Step::Pair(0), Answer::Pair(1, 10)),
+    (Step::Pair(1), Answer::End),
+    (Step::Return(Op::Take(1)), Answer::Reply(Some(10))),
+    (Step::Pair(0), Answer::Pair(1, 10)),
+    (Step::Pair(1), Answer::End),
+    (Step::Return(Op::Take(5)), Answer::Reply(None)),
+    (Step::Pair(0), Answer::Pair(1, 10)),
+    (Step::Pair(1), Answer::End),
+    (Step::Return(Op::Get(1)), Answer::Reply(Some(10))),
+    (Step::Pair(0), Answer::Pair(1, 10)),
+    (Step::Pair(1), Answer::End),
+    (
+        Step::Return(Op::PutIf(1, Some(10), 12)),
+        Answer::Reply(Some(10)),
+    ),
+    (Step::Pair(0), Answer::Pair(1, 10)),
+    (Step::Pair(1), Answer::End),
+    (
+        Step::Return(Op::PutIf(1, None, 12)),
+        Answer::Reply(Some(10)),
+    ),
+    (Step::Pair(0), Answer::Pair(1, 10)),
+    (Step::Pair(1), Answer::End),
+    (Step::Return(Op::PutIf(3, None, 30)), Answer::Reply(None)),
+    (Step::Pair(0), Answer::Pair(1, 10)),
+    (Step::Pair(1), Answer::End),
+    (Step::Return(Op::PutIf(3, Some(5), 6)), Answer::Reply(None)),
+    (Step::Pair(0), Answer::Pair(1, 10)),
+    (Step::Pair(1), Answer::End),
     // Keys stand by their split keys.
     (Step::Begin, Answer::Done),
     (Step::Do(Op::Put(1, 10)), Answer::Reply(None)),
@@ -536,41 +548,41 @@ fn worked_runs(rt: HostRuntime) -> Result<(), Fail> {
     Ok(())
 }
 
-/// Puts a key below 16, and the one that is higher by 2^63.
-fn put_two(table: &mut Table, key: u64) -> Result<[Reply; 2], Refusal> {
+const HALF: u64 = 1 << 63;
+
+/// Puts a key, and the one that is higher by 2^63. The answer is whether both were new.
+fn are_put(table: &mut Table, key: u64) -> Result<bool, Refusal> {
     let (high, value) = (key.wrapping_add(HALF), key.wrapping_add(100));
-    Ok([
-        do_at_once(table, Op::Put(high, value))?,
-        do_at_once(table, Op::Put(key, key))?,
-    ])
+    let higher = do_at_once(table, Op::Put(high, value))?;
+    Ok(higher.is_none() && do_at_once(table, Op::Put(key, key))?.is_none())
 }
 
-/// Takes a key below 16, and changes its place and that of the higher one there and back.
-fn take_of_two(table: &mut Table, key: u64) -> Result<[Reply; 6], Refusal> {
+/// Takes a key out, and changes it and the higher one there and back. The answer is whether each
+/// reply is that of the right key.
+fn is_one_taken(table: &mut Table, key: u64) -> Result<bool, Refusal> {
     let (high, value) = (key.wrapping_add(HALF), key.wrapping_add(100));
-    Ok([
+    let low_replies = [
         do_at_once(table, Op::Take(key))?,
         there_and_back(table, Op::Put(key, 7))?,
         do_at_once(table, Op::Get(key))?,
+    ];
+    let high_replies = [
         there_and_back(table, Op::Take(high))?,
         there_and_back(table, Op::PutIf(high, Some(value), 9))?,
         do_at_once(table, Op::Get(high))?,
-    ])
+    ];
+    Ok(low_replies == [Some(key), None, None] && high_replies == [Some(value); 3])
 }
-
-const HALF: u64 = 1 << 63;
 
 /// Two keys that differ by 2^63 have one split key and one bucket: neither is taken for the other.
 #[test]
 fn keys_that_share_a_split_key(rt: HostRuntime) -> Result<(), Fail> {
     let mut table = new_table(rt.alloc())?;
     for key in 0..16 {
-        assert!(rt; put_two(&mut table, key)? == [None, None], "{key}");
+        assert!(rt; are_put(&mut table, key)?, "{key}");
     }
     for key in 0..16 {
-        let high = Some(100 + key);
-        let wanted = [Some(key), None, None, high, high, high];
-        assert!(rt; take_of_two(&mut table, key)? == wanted, "{key}");
+        assert!(rt; is_one_taken(&mut table, key)?, "{key}");
     }
     assert!(rt; figures(&table).1 == 16);
     Ok(())
@@ -628,28 +640,43 @@ fn put_again(
     Ok(())
 }
 
+/// A table with these pairs, which were put in their order, each once more where memory was refused
+/// to it.
+fn table_of(rt: &impl Abort, alloc: Global, pairs: &[(u64, u64)]) -> Result<Table, Fail> {
+    let mut table = table_again(alloc)?;
+    for (done, pair) in pairs.iter().enumerate() {
+        let before = pairs.get(..done).ok_or("no such pairs")?;
+        put_again(rt, alloc, &mut table, *pair, before)?;
+    }
+    Ok(table)
+}
+
 /// This test and the next two are also run with each allocation refused in turn.
 #[test]
 fn refused_memory_for_puts(rt: HostRuntime) -> Result<(), Fail> {
-    let mut table = table_again(rt.alloc())?;
-    for (done, pair) in PAIRS.iter().enumerate() {
-        put_again(&rt, rt.alloc(), &mut table, *pair, first_pairs(done))?;
-    }
+    let table = table_of(&rt, rt.alloc(), &PAIRS)?;
     shows(&rt, rt.alloc(), &table, &PAIRS)
 }
 
 /// Prepares a put of key 6, and then a take of key 2, which is done. Where memory is refused to it,
-/// the table is as it was, and the put is done. The answer is whether it was refused, and the
-/// reply.
-fn do_second(rt: &impl Abort, alloc: Global, table: &mut Table) -> Result<(bool, Reply), Fail> {
+/// the table is as it was, and the put is done. The answer is the pairs of the table.
+fn do_second(
+    rt: &impl Abort,
+    alloc: Global,
+    table: &mut Table,
+) -> Result<&'static [(u64, u64)], Fail> {
     let kept = table.prepare(Op::Put(6, 60))?;
     let seen = figures(table);
     match table.prepare(Op::Take(2)) {
-        Ok(pending) => Ok((false, finish(table, pending).0)),
+        Ok(pending) => {
+            assert!(rt; finish(table, pending).0 == Some(20));
+            Ok(first_pairs(1))
+        }
         Err(refusal) => {
             assert!(rt; refusal == Refusal::NoMemory && figures(table) == seen);
             shows(rt, alloc, table, first_pairs(2))?;
-            Ok((true, finish(table, kept).0))
+            assert!(rt; finish(table, kept).0.is_none());
+            Ok(first_pairs(3))
         }
     }
 }
@@ -657,56 +684,46 @@ fn do_second(rt: &impl Abort, alloc: Global, table: &mut Table) -> Result<(bool,
 /// An operation that was prepared before keeps its spare.
 #[test]
 fn refused_memory_for_a_preparation(rt: HostRuntime) -> Result<(), Fail> {
-    let mut table = table_again(rt.alloc())?;
-    put_again(&rt, rt.alloc(), &mut table, (4, 40), &[])?;
-    put_again(&rt, rt.alloc(), &mut table, (2, 20), first_pairs(1))?;
-    let (is_refused, reply) = do_second(&rt, rt.alloc(), &mut table)?;
-    if is_refused {
-        assert!(rt; reply.is_none());
-        return shows(&rt, rt.alloc(), &table, first_pairs(3));
-    }
-    assert!(rt; reply == Some(20));
-    shows(&rt, rt.alloc(), &table, first_pairs(1))
+    let mut table = table_of(&rt, rt.alloc(), first_pairs(2))?;
+    let pairs = do_second(&rt, rt.alloc(), &mut table)?;
+    shows(&rt, rt.alloc(), &table, pairs)
 }
 
 /// Prepares a put of key 4, and links the dummy of bucket 1 as helper 0. Where memory is refused to
-/// that, the table is as it was, and the put is done, with the reply that is given.
+/// that, the table is as it was, the put is done, and the helper has its cursor still. The answer
+/// is the pairs of the table.
 fn link_beside_a_put(
     rt: &impl Abort,
     alloc: Global,
     table: &mut Table,
-) -> Result<Option<Reply>, Fail> {
+) -> Result<&'static [(u64, u64)], Fail> {
     let kept = table.prepare(Op::Put(4, 40))?;
     assert!(rt; table.init_seek(0, 1) == Ok(InitSeek::Placed));
     let seen = figures(table);
     match table.init_link(0) {
         Ok(answer) => {
             assert!(rt; answer == InitLink::Linked);
-            Ok(None)
+            Ok(second_and_third())
         }
         Err(refusal) => {
             assert!(rt; refusal == Refusal::NoMemory && figures(table) == seen);
             shows(rt, alloc, table, second_and_third())?;
-            Ok(Some(finish(table, kept).0))
+            assert!(rt; finish(table, kept).0.is_none());
+            assert!(rt; is_linked_and_stored(table));
+            Ok(first_pairs(3))
         }
     }
 }
 
-/// Links and stores as helper 0.
-fn link_and_store(table: &mut Table) -> bool {
+/// Whether helper 0 links its dummy and stores it.
+fn is_linked_and_stored(table: &mut Table) -> bool {
     table.init_link(0) == Ok(InitLink::Linked) && table.init_store(0) == Ok(())
 }
 
 /// An operation that was prepared before keeps its spare, and the helper its cursor.
 #[test]
 fn refused_memory_for_a_link(rt: HostRuntime) -> Result<(), Fail> {
-    let mut table = table_again(rt.alloc())?;
-    put_again(&rt, rt.alloc(), &mut table, (2, 20), &[])?;
-    put_again(&rt, rt.alloc(), &mut table, (6, 60), &[(2, 20)])?;
-    let Some(reply) = link_beside_a_put(&rt, rt.alloc(), &mut table)? else {
-        return shows(&rt, rt.alloc(), &table, second_and_third());
-    };
-    assert!(rt; reply.is_none());
-    assert!(rt; link_and_store(&mut table));
-    shows(&rt, rt.alloc(), &table, first_pairs(3))
+    let mut table = table_of(&rt, rt.alloc(), second_and_third())?;
+    let pairs = link_beside_a_put(&rt, rt.alloc(), &mut table)?;
+    shows(&rt, rt.alloc(), &table, pairs)
 }
