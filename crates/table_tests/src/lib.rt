@@ -8,6 +8,8 @@
 #![tactic(auto)]
 
 #[cfg(test)]
+mod bucket_table_tests;
+#[cfg(test)]
 mod list_steps_tests;
 #[cfg(test)]
 mod map_ops_tests;
@@ -15,3 +17,5 @@ mod map_ops_tests;
 mod node_list_tests;
 #[cfg(test)]
 mod split_key_tests;
+#[cfg(test)]
+mod undo_log_tests;
