@@ -37,8 +37,6 @@ mod cursor;
 mod search;
 mod steps;
 mod sweeps;
-#[cfg(test)]
-mod tests;
 
 pub use at_cursor::{link, mark, swap};
 pub use cursor::{Again, Cursor};

@@ -22,8 +22,6 @@ mod node;
 mod slots;
 mod spare;
 mod tally;
-#[cfg(test)]
-mod tests;
 
 pub use list::NodeList;
 pub use node::{Kind, Node, NodeRef};

@@ -48,8 +48,6 @@ mod key;
 mod reversal;
 mod sort;
 mod split;
-#[cfg(test)]
-mod tests;
 
 pub use bucket::{bucket_at, bucket_of, parent};
 pub use key::{BadKey, Key};

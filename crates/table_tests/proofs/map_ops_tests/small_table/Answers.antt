@@ -1,0 +1,5 @@
+use Rattle.std.proofs.Common.{refl}
+use Rattle.table_tests.proofs.map_ops_tests.small_table.Goals as goal
+
+pub new-requires-clause-power : goal.new-requires-clause-power
+new-requires-clause-power c = (1, refl)

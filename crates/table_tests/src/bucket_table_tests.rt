@@ -1,0 +1,287 @@
+//! Tests of `bucket_table`: worked runs, and refused allocations.
+mod home;
+
+use bucket_table::{Double, InitLink, InitRefusal, InitSeek};
+use home::{Answer, Call, Home};
+use node_list::Kind;
+use std::alloc::Global;
+use std::process::Abort;
+use std::test::Fail;
+
+/// Makes calls in turn, and compares their answers.
+fn make_all(rt: &impl Abort, home: &mut Home, calls: &[(Call, Answer)]) {
+    for (call, wanted) in calls {
+        assert!(rt; home.make(*call) == *wanted, "to {call:?}");
+    }
+}
+
+/// Whether memory is refused now.
+fn is_refused(alloc: Global) -> bool {
+    Box::new(alloc, 0).is_err()
+}
+
+/// A list and buckets on it, made once more where memory is refused; none where it is refused
+/// again.
+fn home_again(alloc: Global, max: u32, helpers: u32) -> Option<Home> {
+    match Home::new(alloc, 0, max, helpers) {
+        Some(home) => Some(home),
+        None => Home::new(alloc, 0, max, helpers),
+    }
+}
+
+/// Puts a key, once more where memory is refused, which leaves the list. The answer is whether the
+/// key is there now.
+fn has_put(rt: &impl Abort, home: &mut Home, number: u64) -> bool {
+    let before = home.figures();
+    for _ in 0..2 {
+        if home.put(rt, number).is_ok() {
+            return true;
+        }
+        assert!(rt; home.figures() == before);
+    }
+    false
+}
+
+/// Puts keys in turn, up to the first that is refused. The answer is whether all are there.
+fn has_put_all(rt: &impl Abort, home: &mut Home, numbers: &[u64]) -> bool {
+    for number in numbers {
+        if !has_put(rt, home, *number) {
+            return false;
+        }
+    }
+    true
+}
+
+/// What is done with fewer than five keys, up to the link.
+const FEW_KEYS: [(Call, Answer); 2] = [
+    (Call::Double(2), Answer::Double(Double::Light)),
+    (Call::Seek(0, 1), Answer::Seek(Ok(InitSeek::Placed))),
+];
+
+/// What is done after the link.
+const STORED: [(Call, Answer); 2] = [
+    (Call::Store(0), Answer::Store(Ok(()))),
+    (Call::Seek(0, 1), Answer::Seek(Ok(InitSeek::Ready))),
+];
+
+/// With fewer than five keys the table does not double, but helpers go on: one that is refused
+/// memory keeps its cursor.
+fn help_few_keys(rt: &impl Abort, home: &mut Home) {
+    make_all(rt, home, &FEW_KEYS);
+    let refused = Answer::Link(Err(InitRefusal::NoMemory));
+    if home.make(Call::Link(0)) == refused {
+        assert!(rt; home.nearest(1) == Some(0));
+        let answer = home.make(Call::Link(0));
+        assert!(rt; answer == Answer::Link(Ok(InitLink::Linked)) || answer == refused);
+    } else {
+        make_all(rt, home, &STORED);
+    }
+}
+
+/// The doublings with four keys, and with five.
+const DOUBLINGS: [(Call, Answer); 3] = [
+    (Call::Double(2), Answer::Double(Double::Doubled(4))),
+    (Call::Double(2), Answer::Double(Double::Moved(4))),
+    (Call::Double(4), Answer::Double(Double::Light)),
+];
+
+/// A table of largest size 8 for two helpers, with keys 1 to 5 at size 4; none where memory is
+/// refused still.
+fn five_keys(rt: &impl Abort, alloc: Global) -> Option<Home> {
+    let mut home = home_again(alloc, 8, 2)?;
+    if !has_put_all(rt, &mut home, &[1, 2, 3, 4]) {
+        help_few_keys(rt, &mut home);
+        return None;
+    }
+    assert!(rt; home.make(Call::Double(2)) == Answer::Double(Double::Light));
+    if !has_put(rt, &mut home, 5) {
+        help_few_keys(rt, &mut home);
+        return None;
+    }
+    make_all(rt, &mut home, &DOUBLINGS);
+    Some(home)
+}
+
+/// Buckets 1 and 3 are initialised by two helpers in turn.
+const INITIALISED: [(Call, Answer); 16] = [
+    (
+        Call::Seek(0, 3),
+        Answer::Seek(Err(InitRefusal::ParentMissing)),
+    ),
+    (
+        Call::Seek(0, 4),
+        Answer::Seek(Err(InitRefusal::NoSuchBucket)),
+    ),
+    (
+        Call::Seek(2, 3),
+        Answer::Seek(Err(InitRefusal::NoSuchHelper)),
+    ),
+    (
+        Call::Link(0),
+        Answer::Link(Err(InitRefusal::HelperOutOfOrder)),
+    ),
+    (Call::Seek(0, 1), Answer::Seek(Ok(InitSeek::Placed))),
+    (Call::Link(0), Answer::Link(Ok(InitLink::Linked))),
+    (Call::Store(0), Answer::Store(Ok(()))),
+    (Call::Seek(0, 3), Answer::Seek(Ok(InitSeek::Placed))),
+    (Call::Seek(1, 3), Answer::Seek(Ok(InitSeek::Placed))),
+    (Call::Link(0), Answer::Link(Ok(InitLink::Linked))),
+    (Call::Link(1), Answer::Link(Ok(InitLink::Again))),
+    (Call::Seek(1, 3), Answer::Seek(Ok(InitSeek::Placed))),
+    (Call::Link(1), Answer::Link(Ok(InitLink::Present))),
+    (Call::Store(0), Answer::Store(Ok(()))),
+    (Call::Store(1), Answer::Store(Ok(()))),
+    (Call::Seek(1, 3), Answer::Seek(Ok(InitSeek::Ready))),
+];
+
+/// The five keys, with buckets 1 and 3 initialised; none where memory is refused still.
+fn initialised(rt: &impl Abort, alloc: Global) -> Option<Home> {
+    let mut home = five_keys(rt, alloc)?;
+    make_all(rt, &mut home, &INITIALISED);
+    Some(home)
+}
+
+/// Is to be run with allocations refused: only where memory is refused still are there fewer keys,
+/// or no table.
+#[test]
+fn bucket_initialisation(rt: HostRuntime) {
+    match initialised(&rt, rt.alloc()) {
+        Some(home) => assert!(rt; home.figures().0 == 4),
+        None => assert!(rt; is_refused(rt.alloc())),
+    }
+}
+
+/// The nodes after the initialisation.
+const NODES: [Option<(u64, Kind, u64)>; 9] = [
+    Some((0x0000_0000_0000_0000, Kind::Dummy, 0)),
+    Some((0x2000_0000_0000_0001, Kind::Regular, 4)),
+    Some((0x4000_0000_0000_0001, Kind::Regular, 2)),
+    Some((0x8000_0000_0000_0000, Kind::Dummy, 0)),
+    Some((0x8000_0000_0000_0001, Kind::Regular, 1)),
+    Some((0xa000_0000_0000_0001, Kind::Regular, 5)),
+    Some((0xc000_0000_0000_0000, Kind::Dummy, 0)),
+    Some((0xc000_0000_0000_0001, Kind::Regular, 3)),
+    None,
+];
+
+#[test]
+fn nodes_after_initialisation(rt: HostRuntime) -> Result<(), Fail> {
+    let home = initialised(&rt, rt.alloc()).ok_or("no table")?;
+    for (rank, wanted) in NODES.iter().enumerate() {
+        assert!(rt; home.node(rank) == *wanted, "node {rank}");
+    }
+    assert!(rt; home.nearest(2) == Some(0));
+    assert!(rt; home.nearest(3) == Some(0xc000_0000_0000_0000));
+    Ok(())
+}
+
+/// A list whose last stamp but one is given.
+const STAMPS_USED_UP: [(Call, Answer); 5] = [
+    (Call::Seek(0, 1), Answer::Seek(Ok(InitSeek::Placed))),
+    (Call::Link(0), Answer::Link(Err(InitRefusal::StampsUsedUp))),
+    (
+        Call::Store(0),
+        Answer::Store(Err(InitRefusal::HelperOutOfOrder)),
+    ),
+    (Call::Link(0), Answer::Link(Err(InitRefusal::StampsUsedUp))),
+    (Call::Link(1), Answer::Link(Err(InitRefusal::NoSuchHelper))),
+];
+
+/// Two buckets are at the limit.
+const AT_LIMIT: [(Call, Answer); 2] = [
+    (Call::Double(4), Answer::Double(Double::Moved(2))),
+    (Call::Double(2), Answer::Double(Double::AtLimit)),
+];
+
+/// Each refusal in words.
+const WORDS: [(InitRefusal, &str); 6] = [
+    (
+        InitRefusal::NoSuchBucket,
+        "the bucket is not below the size",
+    ),
+    (
+        InitRefusal::ParentMissing,
+        "the bucket's parent is not stored",
+    ),
+    (
+        InitRefusal::NoSuchHelper,
+        "there is no helper of this number",
+    ),
+    (
+        InitRefusal::HelperOutOfOrder,
+        "the helper has no cursor to link at, or no dummy to store",
+    ),
+    (
+        InitRefusal::NoMemory,
+        "no memory for the dummy or for its bucket's segment",
+    ),
+    (
+        InitRefusal::StampsUsedUp,
+        "the list has no stamp left for the dummy",
+    ),
+];
+
+/// Uses the stamps up.
+fn use_stamps_up(rt: &impl Abort, alloc: Global) -> Result<(), Fail> {
+    let mut home = Home::new(alloc, 18446744073709551614, 2, 1).ok_or("no table")?;
+    make_all(rt, &mut home, &STAMPS_USED_UP);
+    assert!(rt; home.nearest(1) == Some(0));
+    Ok(())
+}
+
+/// Doubles up to the limit.
+fn double_to_the_limit(rt: &impl Abort, alloc: Global) -> Result<(), Fail> {
+    let mut home = Home::new(alloc, 0, 2, 2).ok_or("no table")?;
+    make_all(rt, &mut home, &AT_LIMIT);
+    assert!(rt; home.figures().0 == 2);
+    Ok(())
+}
+
+#[test]
+fn limits_and_refusals_in_words(rt: HostRuntime) -> Result<(), Fail> {
+    use_stamps_up(&rt, rt.alloc())?;
+    double_to_the_limit(&rt, rt.alloc())?;
+    for (refusal, wanted) in WORDS.iter() {
+        let words = format!(in rt.alloc(); "{refusal}")?;
+        assert!(rt; words.as_str() == *wanted, "{wanted}");
+    }
+    Ok(())
+}
+
+/// Two buckets on a list that keeps the places of so many spares.
+fn home_with_spares(alloc: Global, spares: u32) -> Result<Home, Fail> {
+    let mut home = home_again(alloc, 2, 1).ok_or("no table")?;
+    for _ in 0..spares {
+        if home.keep_spare().is_err() {
+            let _ = home.keep_spare()?;
+        }
+    }
+    Ok(home)
+}
+
+/// Initialises bucket 1. Where memory is refused to the link, buckets and list are as they were,
+/// and it is done again.
+fn initialise_1(rt: &impl Abort, home: &mut Home) {
+    let seen = home.figures();
+    assert!(rt; home.make(Call::Seek(0, 1)) == Answer::Seek(Ok(InitSeek::Placed)));
+    let mut answer = home.make(Call::Link(0));
+    if answer == Answer::Link(Err(InitRefusal::NoMemory)) {
+        assert!(rt; home.figures() == seen && home.nearest(1) == Some(0));
+        answer = home.make(Call::Link(0));
+    }
+    assert!(rt; answer == Answer::Link(Ok(InitLink::Linked)));
+    assert!(rt; home.make(Call::Store(0)) == Answer::Store(Ok(())));
+}
+
+/// Also run with each allocation refused in turn: buckets and list are then as they were, and the
+/// call succeeds when it is made again.
+#[test]
+fn refused_allocations(rt: HostRuntime) -> Result<(), Fail> {
+    for spares in 0..9 {
+        let mut home = home_with_spares(rt.alloc(), spares)?;
+        assert!(rt; home.figures() == (2, 0, 0));
+        initialise_1(&rt, &mut home);
+        assert!(rt; home.nearest(1) == Some(0x8000_0000_0000_0000));
+    }
+    Ok(())
+}

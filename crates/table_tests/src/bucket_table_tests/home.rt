@@ -1,0 +1,154 @@
+//! Buckets with their list, which owe one another what no test can look at.
+ghost use Rattle.std.specs.Prelude.{◌≡◌};
+ghost use Rattle.bucket_table.specs.Home.{IsHome};
+ghost use Rattle.bucket_table.specs.Dummies.{IsKeyed};
+
+use bucket_table::{Buckets, Double, InitLink, InitRefusal, InitSeek};
+use list_steps::{link_at, look, seek};
+use node_list::{Kind, NodeList, SpareFault};
+use split_key::{Key, SortKey, bucket_of};
+use std::alloc::Global;
+use std::marker::Model;
+use std::process::Abort;
+
+/// A list and its buckets. A contract sees nothing of them.
+#[derive(Drop)]
+pub struct Home {
+    list: NodeList,
+    buckets: Buckets,
+}
+
+impl Model for Home {
+    ghost use Rattle.std.specs.Prelude.{ℕ};
+    ghost use Rattle.bucket_table.specs.Home.{IsHome};
+    ghost use Rattle.bucket_table.specs.Dummies.{IsKeyed};
+
+    ghost Value = { ℕ };
+
+    ghost view = { λ _. 0 };
+
+    ghost invariant = { λ home. IsHome home.buckets home.list × IsKeyed home.list.nodes };
+}
+
+/// One call on the buckets.
+#[derive(Clone, Copy, Debug)]
+pub enum Call {
+    /// A seek by a helper for a bucket.
+    Seek(u64, u64),
+    /// A link by a helper.
+    Link(u64),
+    /// A store by a helper.
+    Store(u64),
+    /// A doubling of the size that was seen.
+    Double(u64),
+}
+
+/// What a call answered.
+#[derive(Clone, Copy, PartialEq, Eq)]
+pub enum Answer {
+    Seek(Result<InitSeek, InitRefusal>),
+    Link(Result<InitLink, InitRefusal>),
+    Store(Result<(), InitRefusal>),
+    Double(Double),
+}
+
+/// Makes one call.
+fn made(list: &mut NodeList, buckets: &mut Buckets, call: Call) -> Answer
+    requires home { IsHome buckets.old list.old }
+    requires keyed { IsKeyed list.old.nodes }
+    ensures home { IsHome buckets.new list.new }
+    ensures keyed { IsKeyed list.new.nodes }
+{
+    match call {
+        Call::Seek(helper, bucket) => Answer::Seek(buckets.init_seek(list, helper, bucket)),
+        Call::Link(helper) => Answer::Link(buckets.init_link(list, helper)),
+        Call::Store(helper) => Answer::Store(buckets.init_store(helper)),
+        Call::Double(seen) => Answer::Double(buckets.double(list, seen)),
+    }
+}
+
+/// Links the node of a key, sought from the nearest stored bucket.
+fn put(
+    rt: &impl Abort,
+    list: &mut NodeList,
+    buckets: &Buckets,
+    number: u64,
+) -> Result<(), SpareFault>
+    requires home { IsHome buckets.now list.old }
+    requires keyed { IsKeyed list.old.nodes }
+    ensures home { IsHome buckets.now list.new }
+    ensures keyed { IsKeyed list.new.nodes }
+{
+    let key = Key::new(number);
+    let from = buckets.nearest(bucket_of(key, buckets.size()));
+    let mut spare = list.spare()?;
+    spare.fill(SortKey::regular(key), Kind::Regular, 0);
+    let cursor = seek(list, from, SortKey::regular(key));
+    let Ok(None) = look(list, &cursor) else {
+        panic!(rt; "key {number} was there");
+    };
+    let _ = link_at(list, cursor.pred(), spare);
+    Ok(())
+}
+
+impl Home {
+    /// A list of the dummy of bucket 0, with this stamp, and two buckets on it, which can grow to
+    /// `max`, 2 or 8. None where memory is refused.
+    pub fn new(alloc: Global, first_stamp: u64, max: u32, helpers: u32) -> Option<Home> {
+        if first_stamp == u64::MAX {
+            return None;
+        }
+        let list = NodeList::new(alloc, first_stamp).ok()?;
+        match max {
+            2 => {
+                let buckets = Buckets::new(alloc, 2, helpers, &list).ok()?;
+                Some(Home { list, buckets })
+            }
+            8 => {
+                let buckets = Buckets::new(alloc, 8, helpers, &list).ok()?;
+                Some(Home { list, buckets })
+            }
+            _ => None,
+        }
+    }
+
+    /// Makes one call.
+    pub fn make(&mut self, call: Call) -> Answer {
+        made(&mut self.list, &mut self.buckets, call)
+    }
+
+    /// Puts a key that is not there.
+    pub fn put(&mut self, rt: &impl Abort, number: u64) -> Result<(), SpareFault> {
+        put(rt, &mut self.list, &self.buckets, number)
+    }
+
+    /// Takes the place of one spare for good.
+    pub fn keep_spare(&mut self) -> Result<u64, SpareFault> {
+        let spare = self.list.spare()?;
+        Ok(spare.stamp())
+    }
+
+    /// The size, the count of keys and the change number.
+    pub fn figures(&self) -> (u32, u64, u64) {
+        (self.buckets.size(), self.list.count(), self.list.changes())
+    }
+
+    /// The split key of the dummy of a bucket, or of that of its nearest stored ancestor.
+    pub fn nearest(&self, bucket: u32) -> Option<u64> {
+        let node = self.list.linked_node(self.buckets.nearest(bucket))?;
+        match node.kind {
+            Kind::Dummy => Some(node.at.split()),
+            Kind::Regular => None,
+        }
+    }
+
+    /// Split key, kind and key of the node of a rank.
+    pub fn node(&self, rank: usize) -> Option<(u64, Kind, u64)> {
+        let mut place = self.list.head();
+        for _ in 0..rank {
+            place = self.list.linked_node(place)?.next?;
+        }
+        let node = self.list.linked_node(place)?;
+        Some((node.at.split(), node.kind, node.at.key()))
+    }
+}

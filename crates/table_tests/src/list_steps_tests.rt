@@ -1,0 +1,599 @@
+//! Tests of `list_steps`: worked runs, and drawn ones beside a plain list.
+ghost use Rattle.std.specs.Prelude.{◌≡◌, ℕ, IfOk, IsTrue};
+ghost use Rattle.split_key.specs.Sort.{IsBefore, dummy_at, regular_at};
+ghost use Rattle.node_list.specs.Nodes.{IsOut, IsRegularAt, out_at};
+ghost use Rattle.node_list.specs.Follow.{Follows};
+ghost use Rattle.list_steps.specs.Found.{IsKeyThere, IsPlaced, at_of};
+
+use list_steps::{
+    Again, Cursor, SweepOutcome, link, link_at, look, mark, mark_at, seek, swap, swap_at, sweep,
+    sweep_from,
+};
+use node_list::{Kind, NodeList, NodeRef, Spare, SpareFault};
+use split_key::{Key, SortKey, bucket_at};
+use std::alloc::{AllocError, Global};
+use std::test::Fail;
+
+/// Where the node of a key stands.
+fn at(number: u64) -> SortKey
+    ensures { IsBefore (dummy_at 0) result }
+{
+    SortKey::regular(Key::new(number))
+}
+
+/// A spare that is filled as a regular node.
+fn regular_spare(list: &mut NodeList, at: SortKey, value: u64) -> Result<Spare, SpareFault>
+    ensures out { IfOk result (IsOut list.new) }
+    ensures at { IfOk result (λ spare. spare.at ≡ at) }
+    ensures follows { Follows list.old list.new }
+{
+    let mut spare = list.spare()?;
+    spare.fill(at, Kind::Regular, value);
+    Ok(spare)
+}
+
+/// Seeks from the dummy of bucket 0.
+fn seek_from_head(list: &mut NodeList, at: SortKey) -> Cursor
+    requires { IsBefore (dummy_at 0) at }
+    ensures placed { IsPlaced list.new result }
+    ensures at { at_of result ≡ at }
+    ensures out { (place : ℕ) → out_at list.new place ≡ out_at list.old place }
+    ensures follows { Follows list.old list.new }
+{
+    let head = list.head();
+    seek(list, head, at)
+}
+
+/// Whether a regular node of the sort key sought is there.
+fn is_key_there(list: &NodeList, cursor: &Cursor) -> bool
+    requires { IsPlaced list.now cursor.now }
+    ensures { IsTrue result → IsKeyThere list.now cursor.now }
+{
+    match look(list, cursor) {
+        Ok(Some(node)) => matches!(list.node(node).kind, Kind::Regular),
+        _ => false,
+    }
+}
+
+/// The regular node of the sort key sought, which has to be there.
+fn regular_there(list: &NodeList, cursor: &Cursor) -> Result<NodeRef, Fail>
+    requires { IsPlaced list.now cursor.now }
+    ensures { IfOk result (IsRegularAt list.now.nodes) }
+{
+    if let Ok(Some(node)) = look(list, cursor) {
+        if matches!(list.node(node).kind, Kind::Regular) {
+            return Ok(node);
+        }
+    }
+    Err("the key is not there".into())
+}
+
+/// Links a spare where its sort key was sought, which has to be vacant.
+fn link_here(list: &mut NodeList, cursor: &Cursor, spare: Spare) -> Result<NodeRef, Fail>
+    requires placed { IsPlaced list.old cursor.now }
+    requires out { IsOut list.old spare }
+    requires at { spare.at ≡ at_of cursor.now }
+    ensures follows { Follows list.old list.new }
+{
+    match look(list, cursor) {
+        Ok(None) => Ok(link_at(list, cursor.pred(), spare)),
+        _ => Err("the cursor does not fit, or the key is there".into()),
+    }
+}
+
+/// Links the node of a key that is not there.
+fn put(list: &mut NodeList, number: u64, value: u64) -> Result<(), Fail> {
+    let at = at(number);
+    let spare = regular_spare(list, at, value)?;
+    let cursor = seek_from_head(list, at);
+    let _ = link_here(list, &cursor, spare)?;
+    Ok(())
+}
+
+/// Marks the node of a key that is there, and answers its value.
+fn take(list: &mut NodeList, number: u64) -> Result<u64, Fail> {
+    let at = at(number);
+    let cursor = seek_from_head(list, at);
+    let node = regular_there(list, &cursor)?;
+    Ok(mark_at(list, node))
+}
+
+/// Writes the value of a key that is there, and answers the one that it had.
+fn write(list: &mut NodeList, number: u64, value: u64) -> Result<u64, Fail> {
+    let at = at(number);
+    let cursor = seek_from_head(list, at);
+    let node = regular_there(list, &cursor)?;
+    Ok(swap_at(list, node, value))
+}
+
+/// Whether a key is found to be absent, at a cursor that fits.
+fn is_absent(list: &mut NodeList, number: u64) -> bool {
+    let at = at(number);
+    let cursor = seek_from_head(list, at);
+    look(list, &cursor) == Ok(None)
+}
+
+/// Kind, key and mark of the first nodes of a list.
+fn nodes(alloc: Global, list: &NodeList) -> Result<Vec<(Kind, u64, bool)>, AllocError> {
+    let mut nodes = Vec::new(alloc);
+    let mut next = Some(list.head());
+    for _ in 0..12 {
+        let node = next.and_then(|place| list.linked_node(place));
+        if let Some(node) = node {
+            nodes.push((node.kind, node.at.key(), node.marked))?;
+        }
+        next = node.and_then(|node| node.next);
+    }
+    Ok(nodes)
+}
+
+/// Links a spare of a key at a cursor that fits.
+fn link_fitting(
+    list: &mut NodeList,
+    cursor: Cursor,
+    at: SortKey,
+    value: u64,
+) -> Result<NodeRef, Fail>
+    requires placed { IsPlaced list.old cursor }
+    requires at { at_of cursor ≡ at }
+    ensures follows { Follows list.old list.new }
+{
+    let spare = regular_spare(list, at, value)?;
+    if look(list, &cursor) != Ok(None) {
+        return Err("the cursor does not fit, or the key is there".into());
+    }
+    match link(list, cursor, spare) {
+        Ok(node) => Ok(node),
+        Err(_) => Err("the cursor does not fit".into()),
+    }
+}
+
+/// Links a spare of a key at a cursor that does not fit: it comes back, and is linked at a new
+/// cursor, which stands behind the last node.
+fn link_stale(
+    list: &mut NodeList,
+    cursor: Cursor,
+    at: SortKey,
+    value: u64,
+    last: NodeRef,
+) -> Result<(), Fail>
+    requires placed { IsPlaced list.old cursor }
+    requires at { at_of cursor ≡ at }
+    requires first { IsBefore (dummy_at 0) at }
+{
+    let spare = regular_spare(list, at, value)?;
+    let stamp = spare.stamp();
+    if look(list, &cursor) != Err(Again) {
+        return Err("the stale cursor fits".into());
+    }
+    let Err((Again, spare)) = link(list, cursor, spare) else {
+        return Err("linked at a stale cursor".into());
+    };
+    if spare.stamp() != stamp {
+        return Err("another spare came back".into());
+    }
+    let cursor = seek_from_head(list, at);
+    if cursor.pred() != last || is_followed(list, last) {
+        return Err("not behind the last node".into());
+    }
+    let _ = link_here(list, &cursor, spare)?;
+    Ok(())
+}
+
+/// Whether a node stands behind this one.
+fn is_followed(list: &NodeList, node: NodeRef) -> bool {
+    list.linked_node(node).and_then(|node| node.next).is_some()
+}
+
+/// Seeks keys 2 and 4 in a new list, and links key 4 first, so that the cursor of key 2 no longer
+/// fits.
+fn put_both(list: &mut NodeList) -> Result<(), Fail> {
+    let (at_two, at_four) = (at(2), at(4));
+    let early = seek_from_head(list, at_two);
+    let late = seek_from_head(list, at_four);
+    let four = link_fitting(list, late, at_four, 40)?;
+    link_stale(list, early, at_two, 20, four)
+}
+
+/// Marks the node of a key that is there, at a cursor, and answers its value.
+fn take_there(list: &mut NodeList, number: u64) -> Result<u64, Fail> {
+    let at = at(number);
+    let cursor = seek_from_head(list, at);
+    if !is_key_there(list, &cursor) {
+        return Err("the key is not there".into());
+    }
+    mark(list, cursor).map_err(|_| "the cursor does not fit".into())
+}
+
+/// Writes the value of a key that is there and marks its node, both at one cursor, which fits until
+/// then. The answer is the value before, in between, and the one of the mark.
+fn write_and_take(list: &mut NodeList, number: u64, value: u64) -> Result<[u64; 3], Fail> {
+    let at = at(number);
+    let cursor = seek_from_head(list, at);
+    if !is_key_there(list, &cursor) {
+        return Err("the key is not there".into());
+    }
+    let node = regular_there(list, &cursor)?;
+    let Ok(before) = swap(list, cursor, value) else {
+        return Err("the cursor does not fit".into());
+    };
+    let between = value_of(list, node)?;
+    if !is_key_there(list, &cursor) {
+        return Err("a written value leaves the cursor fitting".into());
+    }
+    let Ok(last) = mark(list, cursor) else {
+        return Err("the cursor does not fit".into());
+    };
+    if look(list, &cursor) != Err(Again) {
+        return Err("the cursor of a marked node fits".into());
+    }
+    Ok([before, between, last])
+}
+
+/// The value of a node.
+fn value_of(list: &NodeList, node: NodeRef) -> Result<u64, Fail> {
+    Ok(list.linked_node(node).ok_or("no node")?.value)
+}
+
+/// Whether a seek to the end of the list comes to its first node, with none behind that.
+fn ends_at_the_head(list: &mut NodeList) -> bool {
+    let at = at(u64::MAX);
+    let cursor = seek_from_head(list, at);
+    let head = list.head();
+    look(list, &cursor) == Ok(None) && cursor.pred() == head && !is_followed(list, head)
+}
+
+/// A call on a list, by the key that it is about.
+#[derive(Clone, Copy, Debug)]
+enum Call {
+    /// Makes a new list.
+    Begin,
+    /// Links the node of a key, with this value.
+    Put(u64, u64),
+    /// Links keys 2 and 4, of which the cursor of one is stale.
+    PutBoth,
+    /// Marks the node of a key.
+    Take(u64),
+    /// Marks the node of a key at its cursor.
+    TakeThere(u64),
+    /// Writes the value of a key.
+    Write(u64, u64),
+    /// Writes the value of a key at its cursor, and marks its node there.
+    WriteAndTake(u64, u64),
+    /// Looks whether a key is absent.
+    Look(u64),
+    /// Looks whether a seek to the end stays at the first node.
+    LookAtTheEnd,
+    Sweep,
+    /// Looks at the node of a rank.
+    Node(usize),
+    /// Reads the count of marked nodes and the change number.
+    Read,
+}
+
+/// What a call answers.
+#[derive(Clone, Copy, PartialEq, Eq)]
+enum Answer {
+    Done,
+    Value(u64),
+    Values(u64, u64, u64),
+    IsSo(bool),
+    Swept(SweepOutcome),
+    Dummy,
+    /// A regular node: its key, and whether it is marked.
+    Regular(u64, bool),
+    End,
+    Figures(u64, u64),
+}
+
+/// The node of a rank.
+fn node_of_rank(alloc: Global, list: &NodeList, rank: usize) -> Result<Answer, AllocError> {
+    Ok(match nodes(alloc, list)?.get(rank) {
+        Some((Kind::Dummy, _, _)) => Answer::Dummy,
+        Some((Kind::Regular, key, marked)) => Answer::Regular(*key, *marked),
+        None => Answer::End,
+    })
+}
+
+/// Makes a call.
+fn make(alloc: Global, list: &mut NodeList, call: Call) -> Result<Answer, Fail> {
+    Ok(match call {
+        Call::Begin => {
+            *list = NodeList::new(alloc, 0)?;
+            Answer::Done
+        }
+        Call::Put(number, value) => {
+            put(list, number, value)?;
+            Answer::Done
+        }
+        Call::PutBoth => {
+            put_both(list)?;
+            Answer::Done
+        }
+        Call::Take(number) => Answer::Value(take(list, number)?),
+        Call::TakeThere(number) => Answer::Value(take_there(list, number)?),
+        Call::Write(number, value) => Answer::Value(write(list, number, value)?),
+        Call::WriteAndTake(number, value) => {
+            let [before, between, last] = write_and_take(list, number, value)?;
+            Answer::Values(before, between, last)
+        }
+        Call::Look(number) => Answer::IsSo(is_absent(list, number)),
+        Call::LookAtTheEnd => Answer::IsSo(ends_at_the_head(list)),
+        Call::Sweep => Answer::Swept(sweep(list)),
+        Call::Node(rank) => node_of_rank(alloc, list, rank)?,
+        Call::Read => Answer::Figures(list.marked_count(), list.changes()),
+    })
+}
+
+const HALF: u64 = 1 << 63;
+
+/// Runs of calls, with what each answers, and where the marked nodes begin after it.
+///
+/// The split keys of 3, 2, 5 and 2^52 begin with 0xc, 0x4, 0xa and 0x0. Each key is sought from the
+/// head, so the node of key 2 is unlinked where key 5 is sought. Two keys that differ by 2^63 share
+/// their split key, and are found by their sort keys.
+const CALLS: [(Call, Answer, Option<u64>); 58] = [
+    (Call::PutBoth, Answer::Done, None),
+    (Call::Node(0), Answer::Dummy, None),
+    (Call::Node(1), Answer::Regular(4, false), None),
+    (Call::Node(2), Answer::Regular(2, false), None),
+    (Call::Node(3), Answer::End, None),
+    (
+        Call::TakeThere(4),
+        Answer::Value(40),
+        Some(0x2000_0000_0000_0000),
+    ),
+    (Call::Node(0), Answer::Dummy, Some(0x2000_0000_0000_0000)),
+    (
+        Call::Node(1),
+        Answer::Regular(4, true),
+        Some(0x2000_0000_0000_0000),
+    ),
+    (
+        Call::Node(2),
+        Answer::Regular(2, false),
+        Some(0x2000_0000_0000_0000),
+    ),
+    (Call::Node(3), Answer::End, Some(0x2000_0000_0000_0000)),
+    (Call::Sweep, Answer::Swept(SweepOutcome::Swept), None),
+    (Call::Sweep, Answer::Swept(SweepOutcome::Clean), None),
+    (Call::Node(0), Answer::Dummy, None),
+    (Call::Node(1), Answer::Regular(2, false), None),
+    (Call::Node(2), Answer::End, None),
+    (Call::Read, Answer::Figures(0, 4), None),
+    (Call::Begin, Answer::Done, None),
+    (Call::Put(2, 20), Answer::Done, None),
+    (
+        Call::WriteAndTake(2, 21),
+        Answer::Values(20, 21, 21),
+        Some(0x4000_0000_0000_0000),
+    ),
+    (Call::LookAtTheEnd, Answer::IsSo(true), None),
+    (Call::Node(0), Answer::Dummy, None),
+    (Call::Node(1), Answer::End, None),
+    (Call::Read, Answer::Figures(0, 4), None),
+    (Call::Begin, Answer::Done, None),
+    (Call::Put(2, 2), Answer::Done, None),
+    (Call::Put(4, 4), Answer::Done, None),
+    (Call::Take(2), Answer::Value(2), Some(0x4000_0000_0000_0000)),
+    (Call::Take(4), Answer::Value(4), Some(0x2000_0000_0000_0000)),
+    (
+        Call::Sweep,
+        Answer::Swept(SweepOutcome::Swept),
+        Some(0x4000_0000_0000_0000),
+    ),
+    (Call::Node(0), Answer::Dummy, Some(0x4000_0000_0000_0000)),
+    (
+        Call::Node(1),
+        Answer::Regular(2, true),
+        Some(0x4000_0000_0000_0000),
+    ),
+    (Call::Node(2), Answer::End, Some(0x4000_0000_0000_0000)),
+    (
+        Call::Read,
+        Answer::Figures(1, 5),
+        Some(0x4000_0000_0000_0000),
+    ),
+    (Call::Sweep, Answer::Swept(SweepOutcome::Swept), None),
+    (Call::Sweep, Answer::Swept(SweepOutcome::Clean), None),
+    (Call::Begin, Answer::Done, None),
+    (Call::Put(1 << 52, 1 << 52), Answer::Done, None),
+    (Call::Put(2, 2), Answer::Done, None),
+    (Call::Put(5, 5), Answer::Done, None),
+    (Call::Put(3, 3), Answer::Done, None),
+    (Call::Take(3), Answer::Value(3), Some(0xc000_0000_0000_0000)),
+    (Call::Take(2), Answer::Value(2), Some(0x4000_0000_0000_0000)),
+    (Call::Take(5), Answer::Value(5), Some(0xa000_0000_0000_0000)),
+    (Call::Take(1 << 52), Answer::Value(1 << 52), Some(0)),
+    (
+        Call::Sweep,
+        Answer::Swept(SweepOutcome::Swept),
+        Some(0xa000_0000_0000_0000),
+    ),
+    (Call::Begin, Answer::Done, None),
+    (Call::Put(HALF + 2, HALF + 2), Answer::Done, None),
+    (Call::Put(2, 2), Answer::Done, None),
+    (Call::Node(0), Answer::Dummy, None),
+    (Call::Node(1), Answer::Regular(2, false), None),
+    (Call::Node(2), Answer::Regular(HALF + 2, false), None),
+    (Call::Node(3), Answer::End, None),
+    (Call::Take(2), Answer::Value(2), Some(0x4000_0000_0000_0000)),
+    (Call::Put(2, 2), Answer::Done, None),
+    (Call::Write(2, 20), Answer::Value(2), None),
+    (
+        Call::Take(HALF + 2),
+        Answer::Value(HALF + 2),
+        Some(0x4000_0000_0000_0000),
+    ),
+    (Call::Look(HALF + 2), Answer::IsSo(true), None),
+    (
+        Call::Take(2),
+        Answer::Value(20),
+        Some(0x4000_0000_0000_0000),
+    ),
+];
+
+/// Where the marked nodes of a list begin.
+fn marks_begin(list: &NodeList) -> Option<u64> {
+    list.marks_begin()
+}
+
+#[test]
+fn list_steps_in_order(rt: HostRuntime) -> Result<(), Fail> {
+    let mut list = NodeList::new(rt.alloc(), 0)?;
+    for (row, (call, answer, begin)) in CALLS.iter().enumerate() {
+        assert!(rt;
+            make(rt.alloc(), &mut list, *call)? == *answer,
+            "row {row}: {call:?}"
+        );
+        assert!(rt; marks_begin(&list) == *begin, "row {row}: {call:?}");
+    }
+    let words = format!(in rt.alloc(); "{Again}")?;
+    assert!(rt; words.as_str() == "the list is not as the cursor noted it");
+    Ok(())
+}
+
+/// What a plain list has at a key.
+#[derive(Clone, Copy, PartialEq, Eq)]
+enum Plain {
+    Absent,
+    Live,
+    Marked,
+}
+
+/// The keys below 8 in the order of the list. The dummy of bucket 1 stands before the fifth.
+const ORDER: [u64; 8] = [0, 4, 2, 6, 1, 5, 3, 7];
+
+/// Unlinks what a seek of the key at a rank unlinks: the marked nodes up to the first unmarked one
+/// that is not below the key.
+fn seek_plainly(plain: &mut [Plain; 8], rank: usize) {
+    for (at, state) in plain.iter_mut().enumerate() {
+        if (at >= rank && *state == Plain::Live) || (at == 4 && rank < 4) {
+            return;
+        }
+        if *state == Plain::Marked {
+            *state = Plain::Absent;
+        }
+    }
+}
+
+/// Unlinks the first marked node.
+fn sweep_plainly(plain: &mut [Plain; 8]) -> SweepOutcome {
+    for state in plain.iter_mut() {
+        if *state == Plain::Marked {
+            *state = Plain::Absent;
+            return SweepOutcome::Swept;
+        }
+    }
+    SweepOutcome::Clean
+}
+
+/// The nodes of a plain list: of each the kind, the key and the mark.
+fn plain_nodes(alloc: Global, plain: &[Plain; 8]) -> Result<Vec<(Kind, u64, bool)>, AllocError> {
+    let mut nodes = Vec::new(alloc);
+    nodes.push((Kind::Dummy, 0, false))?;
+    for (rank, state) in plain.iter().enumerate() {
+        if rank == 4 {
+            nodes.push((Kind::Dummy, 0, false))?;
+        }
+        match (*state, ORDER.get(rank)) {
+            (Plain::Live, Some(key)) => nodes.push((Kind::Regular, *key, false))?,
+            (Plain::Marked, Some(key)) => nodes.push((Kind::Regular, *key, true))?,
+            _ => {}
+        }
+    }
+    Ok(nodes)
+}
+
+/// Where the marked nodes of a plain list begin. Keys below 8 are in regions of their own.
+fn plain_marks_begin(plain: &[Plain; 8]) -> Option<u64> {
+    for (rank, state) in plain.iter().enumerate() {
+        if *state == Plain::Marked {
+            return Some((rank as u64) << 61);
+        }
+    }
+    None
+}
+
+/// Links the dummy of bucket 1, which must not be there.
+fn dummy_of_1(list: &mut NodeList) -> Result<NodeRef, Fail> {
+    let at = SortKey::dummy(1);
+    let mut spare = list.spare()?;
+    spare.fill(at, Kind::Dummy, 0);
+    let cursor = seek_from_head(list, at);
+    link_here(list, &cursor, spare)
+}
+
+/// Sweeps from a dummy where no marked node may stand before it, and else from the head.
+fn sweep_from_dummy(list: &mut NodeList, dummy: NodeRef) -> SweepOutcome {
+    if let Some(split) = list.marks_begin() {
+        let bucket = bucket_at(split, 8);
+        if let Some(node) = list.linked_node(dummy) {
+            if let Kind::Dummy = node.kind {
+                if !SortKey::dummy(bucket).is_before(node.at) {
+                    return sweep_from(list, dummy);
+                }
+            }
+        }
+    }
+    sweep(list)
+}
+
+/// Takes a key that is live in the plain list, and puts one that is not.
+fn take_or_put(list: &mut NodeList, plain: &mut [Plain; 8], rank: usize) -> Result<(), Fail> {
+    seek_plainly(plain, rank);
+    let key = *ORDER.get(rank).ok_or("no such rank")?;
+    let state = plain.get_mut(rank).ok_or("no such rank")?;
+    if *state == Plain::Live {
+        *state = Plain::Marked;
+        take(list, key)?;
+    } else {
+        *state = Plain::Live;
+        put(list, key, key)?;
+    }
+    Ok(())
+}
+
+/// Takes the step that a number says, on a list and on a plain one.
+fn take_step(
+    list: &mut NodeList,
+    plain: &mut [Plain; 8],
+    dummy: NodeRef,
+    drawn: u64,
+) -> Result<(), Fail> {
+    let outcome = match drawn >> 56 & 7 {
+        0 => sweep(list),
+        1 => sweep_from_dummy(list, dummy),
+        _ => return take_or_put(list, plain, (drawn >> 61) as usize),
+    };
+    if outcome != sweep_plainly(plain) {
+        return Err("another outcome".into());
+    }
+    Ok(())
+}
+
+/// Whether a list is as a plain one.
+fn is_as_plain(alloc: Global, list: &NodeList, plain: &[Plain; 8]) -> Result<bool, AllocError> {
+    let found = nodes(alloc, list)?;
+    let wanted = plain_nodes(alloc, plain)?;
+    Ok(found.as_slice() == wanted.as_slice() && list.marks_begin() == plain_marks_begin(plain))
+}
+
+#[test]
+fn marks_and_sweeps_in_a_drawn_order(rt: HostRuntime) -> Result<(), Fail> {
+    let mut list = NodeList::new(rt.alloc(), 0)?;
+    let dummy = dummy_of_1(&mut list)?;
+    let mut plain = [Plain::Absent; 8];
+    let mut drawn: u64 = 1;
+    for step in 0..500 {
+        drawn = drawn
+            .wrapping_mul(6_364_136_223_846_793_005)
+            .wrapping_add(1_442_695_040_888_963_407);
+        take_step(&mut list, &mut plain, dummy, drawn)?;
+        assert!(rt;
+            is_as_plain(rt.alloc(), &list, &plain)?,
+            "after step {step}"
+        );
+    }
+    Ok(())
+}

@@ -1,0 +1,729 @@
+//! Tests of `map_ops`: worked runs, and refused allocations.
+ghost use Rattle.std.specs.Prelude.{◌≡◌, true, IfOk, IfSome};
+ghost use Rattle.txn_trace.specs.Map.{Map, get};
+ghost use Rattle.map_ops.specs.Jobs.{IsDue, key_of_job, spare_of_job};
+ghost use Rattle.map_ops.specs.Changes.{OwnsIf, ShowsAfter};
+ghost use Rattle.map_ops.specs.TableAt.{Follows, KeepsSpares};
+
+use map_ops::{Act, Double, InitLink, InitSeek, MapJob, Pending, SweepOutcome, Table, Undo};
+use std::alloc::{AllocError, Global};
+use std::collections::BTreeMap;
+use std::process::Abort;
+use std::test::Fail;
+use txn_trace::{Op, Refusal, Reply};
+
+/// A table of at most eight buckets and two helpers.
+fn new_table(alloc: Global) -> Result<Table, AllocError> {
+    Table::new(alloc, 8, 2)
+}
+
+/// A table of two buckets that cannot grow, and one helper.
+fn small_table(alloc: Global) -> Result<Table, AllocError> {
+    Table::new(alloc, 2, 1)
+}
+
+/// Makes a new table in place of one.
+fn begin(alloc: Global, table: &mut Table) -> Result<(), AllocError> {
+    *table = new_table(alloc)?;
+    Ok(())
+}
+
+/// Makes a new table of two buckets in place of one.
+fn begin_small(alloc: Global, table: &mut Table) -> Result<(), AllocError> {
+    *table = small_table(alloc)?;
+    Ok(())
+}
+
+/// A step of a run.
+#[derive(Clone, Copy, Debug)]
+enum Step {
+    /// Makes a new table.
+    Begin,
+    /// Makes a new table of two buckets.
+    BeginSmall,
+    /// Does an operation.
+    Do(Op),
+    /// Does an operation, and takes it back.
+    Return(Op),
+    /// Does an operation, and takes it back at a cursor.
+    ReturnAt(Op),
+    /// Does an operation, and discards its job.
+    Discard(Op),
+    /// Prepares an operation, and withdraws it.
+    Withdraw(Op),
+    Sweep,
+    Double(u64),
+    Seek(u64, u64),
+    Link(u64),
+    Store(u64),
+    /// Puts a value at a key, and keeps the job.
+    Put(u64, u64),
+    /// Takes the newest of the puts back whose jobs are kept.
+    TakeBack,
+    /// Takes the one key that is there, and takes that back.
+    TakeThereAndBack(u64),
+    /// Prepares and places a put, puts value 40 at key 4, reads the key, and then does the put;
+    /// keeps both jobs, that of key 4 as the newer one.
+    PutLate(u64, u64),
+    /// Looks at the pair of a rank.
+    Pair(usize),
+    /// Reads the size, the count and the change number.
+    Read,
+}
+
+/// What a step answers.
+#[derive(Clone, Copy, PartialEq, Eq)]
+enum Answer {
+    Done,
+    Reply(Reply),
+    Withdrawn(Op, u64),
+    /// Whether the cursor no longer fitted; the replies to the put of key 4, the read and the put.
+    Late(bool, Reply, Reply, Reply),
+    Swept(SweepOutcome),
+    Double(Double),
+    Seek(Result<InitSeek, Refusal>),
+    Link(Result<InitLink, Refusal>),
+    Store(Result<(), Refusal>),
+    Pair(u64, u64),
+    End,
+    Figures(u32, u64, u64),
+}
+
+/// What is seen of a table without memory.
+fn figures(table: &Table) -> (u32, u64, u64) {
+    (table.size(), table.count(), table.changes())
+}
+
+/// Does an operation.
+fn apply(table: &mut Table, op: Op) -> Result<(Reply, Option<MapJob>), Refusal>
+    ensures { IfOk result (λ done. IfSome done.1 (λ job. ShowsAfter job table.new)) }
+{
+    table.apply(op)
+}
+
+/// Does an operation, and lets its job go.
+fn do_at_once(table: &mut Table, op: Op) -> Result<Reply, Refusal> {
+    let (reply, _) = table.apply(op)?;
+    Ok(reply)
+}
+
+/// Does an operation and takes it back.
+fn there_and_back(table: &mut Table, op: Op) -> Result<Reply, Refusal> {
+    let (reply, job) = apply(table, op)?;
+    if let Some(job) = job {
+        table.take_back(job);
+    }
+    Ok(reply)
+}
+
+/// Does an operation, and takes it back at a cursor.
+fn back_at_a_cursor(table: &mut Table, op: Op) -> Result<Reply, Fail> {
+    let (reply, job) = apply(table, op)?;
+    let Some(job) = job else {
+        return Err("no job".into());
+    };
+    let cursor = table.place_job(&job);
+    match table.undo(job, cursor) {
+        Undo::Undone => Ok(reply),
+        Undo::Again(_) => Err("the cursor does not fit".into()),
+    }
+}
+
+/// Does an operation, and discards its job.
+fn discarded(table: &mut Table, op: Op) -> Result<Reply, Fail> {
+    let (reply, job) = apply(table, op)?;
+    let Some(job) = job else {
+        return Err("no job".into());
+    };
+    table.discard(job);
+    Ok(reply)
+}
+
+/// Prepares an operation and withdraws it. The answer is the operation that was prepared, and its
+/// key.
+fn withdrawn(table: &mut Table, op: Op) -> Result<(Op, u64), Refusal> {
+    let pending = table.prepare(op)?;
+    let seen = (pending.op(), pending.key().number());
+    table.withdraw(pending);
+    Ok(seen)
+}
+
+/// The pairs of a table, which are asked for once more where memory is refused.
+fn pairs_of(alloc: Global, table: &Table) -> Result<Vec<(u64, u64)>, AllocError> {
+    match table.regular_list(alloc) {
+        Ok(pairs) => Ok(pairs),
+        Err(AllocError) => table.regular_list(alloc),
+    }
+}
+
+/// The content of a table, which is asked for once more where memory is refused.
+fn content_of(alloc: Global, table: &Table) -> Result<BTreeMap<u64, u64>, AllocError> {
+    match table.content(alloc) {
+        Ok(content) => Ok(content),
+        Err(AllocError) => table.content(alloc),
+    }
+}
+
+/// Whether these are the pairs of a table, in their order, and its content, and their number its
+/// count.
+fn has_pairs(alloc: Global, table: &Table, wanted: &[(u64, u64)]) -> Result<bool, AllocError> {
+    let content = content_of(alloc, table)?;
+    for (key, value) in wanted {
+        if content.get(key).copied() != Some(*value) {
+            return Ok(false);
+        }
+    }
+    let is_whole = content.len() == wanted.len() && figures(table).1 == wanted.len() as u64;
+    Ok(is_whole && pairs_of(alloc, table)?.as_slice() == wanted)
+}
+
+/// The pair of a rank, where the content and the count say the same as the list of pairs.
+fn pair_of_rank(alloc: Global, table: &Table, rank: usize) -> Result<Answer, Fail> {
+    let pairs = pairs_of(alloc, table)?;
+    if !has_pairs(alloc, table, &pairs)? {
+        return Err("the content is not as the list".into());
+    }
+    Ok(match pairs.get(rank) {
+        Some((key, value)) => Answer::Pair(*key, *value),
+        None => Answer::End,
+    })
+}
+
+/// Puts a value at a key, and keeps the job.
+fn put_with_job(
+    table: &mut Table,
+    jobs: &mut Vec<MapJob>,
+    key: u64,
+    value: u64,
+) -> Result<Reply, Fail> {
+    let (reply, job) = table.apply(Op::Put(key, value))?;
+    jobs.push(job.ok_or("no job")?)?;
+    Ok(reply)
+}
+
+/// Whether a job is due where its key has this value.
+fn is_due(value: Reply, job: &MapJob) -> bool
+    ensures { (m : Map) → get m (key_of_job job.now) ≡ value → result ≡ true → IsDue m job.now }
+{
+    match job {
+        MapJob::Unput(_) => value.is_some(),
+        MapJob::Restore(_, _) => value.is_some(),
+        MapJob::Relink(_, _, _) => value.is_none(),
+    }
+}
+
+/// Takes a change back, where it is due.
+fn take_back(table: &mut Table, job: MapJob) -> Result<(), Fail>
+    requires { OwnsIf table.old (spare_of_job job) }
+{
+    let (value, _) = table.apply(Op::Get(job.key().number()))?;
+    if !is_due(value, &job) {
+        return Err("the job is not due".into());
+    }
+    table.take_back(job);
+    Ok(())
+}
+
+/// Takes the newest of these puts back.
+fn take_newest_back(table: &mut Table, jobs: &mut Vec<MapJob>) -> Result<(), Fail> {
+    match jobs.pop().ok_or("no job")? {
+        MapJob::Unput(key) => take_back(table, MapJob::Unput(key)),
+        MapJob::Restore(key, old) => take_back(table, MapJob::Restore(key, old)),
+        MapJob::Relink(_, _, _) => Err("a job of a take".into()),
+    }
+}
+
+/// Takes the one key that is there, and takes that back.
+fn take_there_and_back(alloc: Global, table: &mut Table, key: u64) -> Result<Reply, Fail> {
+    let (reply, job) = apply(table, Op::Take(key))?;
+    if !has_pairs(alloc, table, &[])? {
+        return Err("a key is left".into());
+    }
+    let Some(job) = job else {
+        return Err("no job".into());
+    };
+    if !matches!(job, MapJob::Relink(_, _, _)) {
+        return Err("another job".into());
+    }
+    table.take_back(job);
+    Ok(reply)
+}
+
+/// Puts a value at a key at once.
+fn put(table: &mut Table, key: u64, value: u64) -> Result<(Reply, Option<MapJob>), Refusal>
+    ensures spares { KeepsSpares table.old table.new }
+    ensures follows { Follows table.old table.new }
+{
+    table.apply(Op::Put(key, value))
+}
+
+/// Reads a key at once.
+fn read(table: &mut Table, key: u64) -> Result<(Reply, Option<MapJob>), Refusal>
+    ensures spares { KeepsSpares table.old table.new }
+    ensures follows { Follows table.old table.new }
+{
+    table.apply(Op::Get(key))
+}
+
+/// Does a prepared operation.
+fn finish(table: &mut Table, pending: Pending) -> (Reply, Option<MapJob>)
+    requires { OwnsIf table.old pending.spare }
+{
+    let cursor = table.place(&pending);
+    match table.act(pending, cursor) {
+        Act::Acted(reply, job) => (reply, job),
+        Act::Again(_) => unreachable!(),
+    }
+}
+
+/// Keeps the job of a put of a new key.
+fn keep_unput(jobs: &mut Vec<MapJob>, job: Option<MapJob>) -> Result<(), Fail> {
+    let job = job.ok_or("no job")?;
+    if !matches!(job, MapJob::Unput(_)) {
+        return Err("another job".into());
+    }
+    jobs.push(job)?;
+    Ok(())
+}
+
+/// Prepares and places a put, puts value 40 at key 4, reads the key, and then does the put.
+fn put_late(
+    table: &mut Table,
+    jobs: &mut Vec<MapJob>,
+    key: u64,
+    value: u64,
+) -> Result<Answer, Fail> {
+    let pending = table.prepare(Op::Put(key, value))?;
+    let cursor = table.place(&pending);
+    let (other, newer) = put(table, 4, 40)?;
+    let (there, _) = read(table, key)?;
+    let (is_again, (own, job)) = match table.act(pending, cursor) {
+        Act::Acted(reply, job) => (false, (reply, job)),
+        Act::Again(pending) => (true, finish(table, pending)),
+    };
+    keep_unput(jobs, job)?;
+    keep_unput(jobs, newer)?;
+    Ok(Answer::Late(is_again, other, there, own))
+}
+
+/// Takes a step for the buckets, or reads.
+fn take_bucket_step(table: &mut Table, step: Step) -> Result<Answer, Fail> {
+    Ok(match step {
+        Step::Double(seen) => Answer::Double(table.double(seen)),
+        Step::Seek(helper, bucket) => Answer::Seek(table.init_seek(helper, bucket)),
+        Step::Link(helper) => Answer::Link(table.init_link(helper)),
+        Step::Store(helper) => Answer::Store(table.init_store(helper)),
+        Step::Sweep => Answer::Swept(table.sweep()),
+        Step::Read => {
+            let (size, count, changes) = figures(table);
+            Answer::Figures(size, count, changes)
+        }
+        _ => return Err("another step".into()),
+    })
+}
+
+/// Takes a step.
+fn take_step(
+    alloc: Global,
+    table: &mut Table,
+    jobs: &mut Vec<MapJob>,
+    step: Step,
+) -> Result<Answer, Fail> {
+    Ok(match step {
+        Step::Begin => {
+            begin(alloc, table)?;
+            Answer::Done
+        }
+        Step::BeginSmall => {
+            begin_small(alloc, table)?;
+            Answer::Done
+        }
+        Step::Do(op) => Answer::Reply(do_at_once(table, op)?),
+        Step::Return(op) => Answer::Reply(there_and_back(table, op)?),
+        Step::ReturnAt(op) => Answer::Reply(back_at_a_cursor(table, op)?),
+        Step::Discard(op) => Answer::Reply(discarded(table, op)?),
+        Step::Withdraw(op) => {
+            let (op, key) = withdrawn(table, op)?;
+            Answer::Withdrawn(op, key)
+        }
+        Step::Put(key, value) => Answer::Reply(put_with_job(table, jobs, key, value)?),
+        Step::TakeBack => {
+            take_newest_back(table, jobs)?;
+            Answer::Done
+        }
+        Step::TakeThereAndBack(key) => Answer::Reply(take_there_and_back(alloc, table, key)?),
+        Step::PutLate(key, value) => put_late(table, jobs, key, value)?,
+        Step::Pair(rank) => pair_of_rank(alloc, table, rank)?,
+        other => take_bucket_step(table, other)?,
+    })
+}
+
+/// Compares the pairs of the table, its content and its count.
+fn shows(rt: &impl Abort, alloc: Global, table: &Table, wanted: &[(u64, u64)]) -> Result<(), Fail> {
+    assert!(rt; has_pairs(alloc, table, wanted)?, "not {wanted:?}");
+    Ok(())
+}
+
+/// Runs of steps, with what each answers. Each run begins with a new table.
+const STEPS: [(Step, Answer); 139] = [
+    // Each operation there and back.
+    (Step::Begin, Answer::Done),
+    (Step::Do(Op::Put(1, 10)), Answer::Reply(None)),
+    (Step::Return(Op::Put(1, 11)), Answer::Reply(Some(10))),
+    (Step::Pair(0), Answer::Pair(1, 10)),
+    (Step::Pair(1), Answer::End),
+    (Step::Return(Op::Put(3, 30)), Answer::Reply(None)),
+    (Step::Pair(0), Answer::Pair(1, 10)),
+    (Step::Pair(1), Answer::End),
+    (Step::Return(Op::Take(1)), Answer::Reply(Some(10))),
+    (Step::Pair(0), Answer::Pair(1, 10)),
+    (Step::Pair(1), Answer::End),
+    (Step::Return(Op::Take(5)), Answer::Reply(None)),
+    (Step::Pair(0), Answer::Pair(1, 10)),
+    (Step::Pair(1), Answer::End),
+    (Step::Return(Op::Get(1)), Answer::Reply(Some(10))),
+    (Step::Pair(0), Answer::Pair(1, 10)),
+    (Step::Pair(1), Answer::End),
+    (
+        Step::Return(Op::PutIf(1, Some(10), 12)),
+        Answer::Reply(Some(10)),
+    ),
+    (Step::Pair(0), Answer::Pair(1, 10)),
+    (Step::Pair(1), Answer::End),
+    (
+        Step::Return(Op::PutIf(1, None, 12)),
+        Answer::Reply(Some(10)),
+    ),
+    (Step::Pair(0), Answer::Pair(1, 10)),
+    (Step::Pair(1), Answer::End),
+    (Step::Return(Op::PutIf(3, None, 30)), Answer::Reply(None)),
+    (Step::Pair(0), Answer::Pair(1, 10)),
+    (Step::Pair(1), Answer::End),
+    (Step::Return(Op::PutIf(3, Some(5), 6)), Answer::Reply(None)),
+    (Step::Pair(0), Answer::Pair(1, 10)),
+    (Step::Pair(1), Answer::End),
+    // Keys stand by their split keys.
+    (Step::Begin, Answer::Done),
+    (Step::Do(Op::Put(1, 10)), Answer::Reply(None)),
+    (Step::Do(Op::Put(2, 20)), Answer::Reply(None)),
+    (Step::Do(Op::Put(3, 30)), Answer::Reply(None)),
+    (Step::Do(Op::Put(4, 40)), Answer::Reply(None)),
+    (Step::Double(2), Answer::Double(Double::Light)),
+    (Step::Do(Op::Put(5, 50)), Answer::Reply(None)),
+    (Step::Pair(0), Answer::Pair(4, 40)),
+    (Step::Pair(1), Answer::Pair(2, 20)),
+    (Step::Pair(2), Answer::Pair(1, 10)),
+    (Step::Pair(3), Answer::Pair(5, 50)),
+    (Step::Pair(4), Answer::Pair(3, 30)),
+    (Step::Pair(5), Answer::End),
+    // Buckets are initialised after their parents.
+    (Step::Double(2), Answer::Double(Double::Doubled(4))),
+    (Step::Double(2), Answer::Double(Double::Moved(4))),
+    (Step::Double(4), Answer::Double(Double::Light)),
+    (Step::Seek(0, 3), Answer::Seek(Err(Refusal::ParentMissing))),
+    (Step::Seek(0, 4), Answer::Seek(Err(Refusal::NoSuchBucket))),
+    (Step::Seek(2, 3), Answer::Seek(Err(Refusal::NoSuchHelper))),
+    (Step::Link(0), Answer::Link(Err(Refusal::HelperOutOfOrder))),
+    (Step::Seek(0, 1), Answer::Seek(Ok(InitSeek::Placed))),
+    (Step::Link(0), Answer::Link(Ok(InitLink::Linked))),
+    (Step::Store(0), Answer::Store(Ok(()))),
+    (Step::Seek(0, 3), Answer::Seek(Ok(InitSeek::Placed))),
+    (Step::Seek(1, 3), Answer::Seek(Ok(InitSeek::Placed))),
+    (Step::Link(0), Answer::Link(Ok(InitLink::Linked))),
+    (Step::Link(1), Answer::Link(Ok(InitLink::Again))),
+    (Step::Seek(1, 3), Answer::Seek(Ok(InitSeek::Placed))),
+    (Step::Link(1), Answer::Link(Ok(InitLink::Present))),
+    (Step::Store(0), Answer::Store(Ok(()))),
+    (Step::Store(1), Answer::Store(Ok(()))),
+    (Step::Seek(1, 3), Answer::Seek(Ok(InitSeek::Ready))),
+    (Step::Read, Answer::Figures(4, 5, 7)),
+    (Step::Pair(0), Answer::Pair(4, 40)),
+    (Step::Pair(1), Answer::Pair(2, 20)),
+    (Step::Pair(2), Answer::Pair(1, 10)),
+    (Step::Pair(3), Answer::Pair(5, 50)),
+    (Step::Pair(4), Answer::Pair(3, 30)),
+    (Step::Pair(5), Answer::End),
+    // Two buckets are at the limit.
+    (Step::BeginSmall, Answer::Done),
+    (Step::Double(4), Answer::Double(Double::Moved(2))),
+    (Step::Double(2), Answer::Double(Double::AtLimit)),
+    // Keys of 64 bits.
+    (Step::Begin, Answer::Done),
+    (
+        Step::Do(Op::Put(9223372036854775809, 11)),
+        Answer::Reply(None),
+    ),
+    (Step::Do(Op::Put(1, 10)), Answer::Reply(None)),
+    (Step::Do(Op::PutIf(1, None, 12)), Answer::Reply(Some(10))),
+    (
+        Step::Do(Op::PutIf(1, Some(10), 12)),
+        Answer::Reply(Some(10)),
+    ),
+    (Step::Do(Op::PutIf(2, None, 20)), Answer::Reply(None)),
+    (Step::Do(Op::PutIf(3, Some(5), 6)), Answer::Reply(None)),
+    (
+        Step::Do(Op::Put(18446744073709551615, 7)),
+        Answer::Reply(None),
+    ),
+    (Step::Read, Answer::Figures(2, 4, 5)),
+    (Step::Pair(0), Answer::Pair(2, 20)),
+    (Step::Pair(1), Answer::Pair(1, 12)),
+    (Step::Pair(2), Answer::Pair(9223372036854775809, 11)),
+    (Step::Pair(3), Answer::Pair(18446744073709551615, 7)),
+    (Step::Pair(4), Answer::End),
+    // A sweep unlinks what was taken.
+    (Step::Begin, Answer::Done),
+    (Step::Return(Op::Put(1, 10)), Answer::Reply(None)),
+    (Step::Read, Answer::Figures(2, 0, 2)),
+    (Step::Sweep, Answer::Swept(SweepOutcome::Swept)),
+    (Step::Sweep, Answer::Swept(SweepOutcome::Clean)),
+    (Step::Read, Answer::Figures(2, 0, 3)),
+    (Step::Pair(0), Answer::End),
+    // The nodes are in the order 2, 1, 3. No seek passes a marked one, since key 1 stands between.
+    (Step::Begin, Answer::Done),
+    (Step::Do(Op::Put(1, 10)), Answer::Reply(None)),
+    (Step::Return(Op::Put(3, 30)), Answer::Reply(None)),
+    (Step::Return(Op::Put(2, 20)), Answer::Reply(None)),
+    (Step::Read, Answer::Figures(2, 1, 5)),
+    (Step::Sweep, Answer::Swept(SweepOutcome::Swept)),
+    (Step::Read, Answer::Figures(2, 1, 6)),
+    (Step::Sweep, Answer::Swept(SweepOutcome::Swept)),
+    (Step::Read, Answer::Figures(2, 1, 7)),
+    (Step::Sweep, Answer::Swept(SweepOutcome::Clean)),
+    (Step::Read, Answer::Figures(2, 1, 7)),
+    // What is given up changes nothing, and what is discarded stays.
+    (
+        Step::Withdraw(Op::Put(2, 20)),
+        Answer::Withdrawn(Op::Put(2, 20), 2),
+    ),
+    (Step::Pair(0), Answer::Pair(1, 10)),
+    (Step::Pair(1), Answer::End),
+    (Step::Discard(Op::Take(1)), Answer::Reply(Some(10))),
+    (Step::Pair(0), Answer::End),
+    // A job is run at a cursor.
+    (Step::Begin, Answer::Done),
+    (Step::ReturnAt(Op::Put(2, 20)), Answer::Reply(None)),
+    (Step::Pair(0), Answer::End),
+    // Jobs are run after later operations.
+    (Step::Begin, Answer::Done),
+    (Step::Put(2, 20), Answer::Reply(None)),
+    (Step::Put(2, 21), Answer::Reply(Some(20))),
+    (Step::TakeThereAndBack(2), Answer::Reply(Some(21))),
+    (Step::Pair(0), Answer::Pair(2, 21)),
+    (Step::Pair(1), Answer::End),
+    (Step::TakeBack, Answer::Done),
+    (Step::Pair(0), Answer::Pair(2, 20)),
+    (Step::Pair(1), Answer::End),
+    (Step::TakeBack, Answer::Done),
+    (Step::Pair(0), Answer::End),
+    // The cursor of key 2 stands where key 4 is put.
+    (Step::Begin, Answer::Done),
+    (Step::PutLate(2, 20), Answer::Late(true, None, None, None)),
+    (Step::Pair(0), Answer::Pair(4, 40)),
+    (Step::Pair(1), Answer::Pair(2, 20)),
+    (Step::Pair(2), Answer::End),
+    (Step::TakeBack, Answer::Done),
+    (Step::Pair(0), Answer::Pair(2, 20)),
+    (Step::Pair(1), Answer::End),
+    (Step::TakeBack, Answer::Done),
+    (Step::Pair(0), Answer::End),
+    // The cursor of key 3 stands behind key 1, which stands behind key 4: it lasts.
+    (Step::Begin, Answer::Done),
+    (Step::Do(Op::Put(1, 10)), Answer::Reply(None)),
+    (Step::PutLate(3, 30), Answer::Late(false, None, None, None)),
+    (Step::Pair(0), Answer::Pair(4, 40)),
+    (Step::Pair(1), Answer::Pair(1, 10)),
+    (Step::Pair(2), Answer::Pair(3, 30)),
+    (Step::Pair(3), Answer::End),
+];
+
+#[test]
+fn worked_runs(rt: HostRuntime) -> Result<(), Fail> {
+    let mut table = new_table(rt.alloc())?;
+    let mut jobs = Vec::new(rt.alloc());
+    for (row, (step, answer)) in STEPS.iter().enumerate() {
+        let found = take_step(rt.alloc(), &mut table, &mut jobs, *step)?;
+        assert!(rt; found == *answer, "row {row}: {step:?}");
+    }
+    Ok(())
+}
+
+const HALF: u64 = 1 << 63;
+
+/// Puts a key, and the one that is higher by 2^63. The answer is whether both were new.
+fn are_put(table: &mut Table, key: u64) -> Result<bool, Refusal> {
+    let (high, value) = (key.wrapping_add(HALF), key.wrapping_add(100));
+    let higher = do_at_once(table, Op::Put(high, value))?;
+    Ok(higher.is_none() && do_at_once(table, Op::Put(key, key))?.is_none())
+}
+
+/// Takes a key out, and changes it and the higher one there and back. The answer is whether each
+/// reply is that of the right key.
+fn is_one_taken(table: &mut Table, key: u64) -> Result<bool, Refusal> {
+    let (high, value) = (key.wrapping_add(HALF), key.wrapping_add(100));
+    let low_replies = [
+        do_at_once(table, Op::Take(key))?,
+        there_and_back(table, Op::Put(key, 7))?,
+        do_at_once(table, Op::Get(key))?,
+    ];
+    let high_replies = [
+        there_and_back(table, Op::Take(high))?,
+        there_and_back(table, Op::PutIf(high, Some(value), 9))?,
+        do_at_once(table, Op::Get(high))?,
+    ];
+    Ok(low_replies == [Some(key), None, None] && high_replies == [Some(value); 3])
+}
+
+/// Two keys that differ by 2^63 have one split key and one bucket: neither is taken for the other.
+#[test]
+fn keys_that_share_a_split_key(rt: HostRuntime) -> Result<(), Fail> {
+    let mut table = new_table(rt.alloc())?;
+    for key in 0..16 {
+        assert!(rt; are_put(&mut table, key)?, "{key}");
+    }
+    for key in 0..16 {
+        assert!(rt; is_one_taken(&mut table, key)?, "{key}");
+    }
+    assert!(rt; figures(&table).1 == 16);
+    Ok(())
+}
+
+/// Keys with their values, in the order of the list.
+const PAIRS: [(u64, u64); 8] = [
+    (4, 40),
+    (2, 20),
+    (6, 60),
+    (1, 10),
+    (5, 50),
+    (3, 30),
+    (7, 70),
+    (15, 150),
+];
+
+/// The first of these pairs.
+fn first_pairs(count: usize) -> &'static [(u64, u64)] {
+    PAIRS.get(..count).unwrap_or(&PAIRS)
+}
+
+/// The pairs of the keys 2 and 6.
+fn second_and_third() -> &'static [(u64, u64)] {
+    PAIRS.get(1..3).unwrap_or(&PAIRS)
+}
+
+/// A table of two buckets that cannot grow, asked for once more where memory is refused.
+fn table_again(alloc: Global) -> Result<Table, AllocError> {
+    match small_table(alloc) {
+        Ok(table) => Ok(table),
+        Err(AllocError) => small_table(alloc),
+    }
+}
+
+/// Puts a new key. Where memory is refused, the table is as it was, with these pairs, and the put
+/// is done when it is asked again.
+fn put_again(
+    rt: &impl Abort,
+    alloc: Global,
+    table: &mut Table,
+    pair: (u64, u64),
+    before: &[(u64, u64)],
+) -> Result<(), Fail> {
+    let seen = figures(table);
+    let reply = match do_at_once(table, Op::Put(pair.0, pair.1)) {
+        Ok(reply) => reply,
+        Err(refusal) => {
+            assert!(rt; refusal == Refusal::NoMemory && figures(table) == seen);
+            shows(rt, alloc, table, before)?;
+            do_at_once(table, Op::Put(pair.0, pair.1))?
+        }
+    };
+    assert!(rt; reply.is_none());
+    Ok(())
+}
+
+/// A table with these pairs, which were put in their order, each once more where memory was refused
+/// to it.
+fn table_of(rt: &impl Abort, alloc: Global, pairs: &[(u64, u64)]) -> Result<Table, Fail> {
+    let mut table = table_again(alloc)?;
+    for (done, pair) in pairs.iter().enumerate() {
+        let before = pairs.get(..done).ok_or("no such pairs")?;
+        put_again(rt, alloc, &mut table, *pair, before)?;
+    }
+    Ok(table)
+}
+
+/// This test and the next two are also run with each allocation refused in turn.
+#[test]
+fn refused_memory_for_puts(rt: HostRuntime) -> Result<(), Fail> {
+    let table = table_of(&rt, rt.alloc(), &PAIRS)?;
+    shows(&rt, rt.alloc(), &table, &PAIRS)
+}
+
+/// Prepares a put of key 6, and then a take of key 2, which is done. Where memory is refused to it,
+/// the table is as it was, and the put is done. The answer is the pairs of the table.
+fn do_second(
+    rt: &impl Abort,
+    alloc: Global,
+    table: &mut Table,
+) -> Result<&'static [(u64, u64)], Fail> {
+    let kept = table.prepare(Op::Put(6, 60))?;
+    let seen = figures(table);
+    match table.prepare(Op::Take(2)) {
+        Ok(pending) => {
+            assert!(rt; finish(table, pending).0 == Some(20));
+            Ok(first_pairs(1))
+        }
+        Err(refusal) => {
+            assert!(rt; refusal == Refusal::NoMemory && figures(table) == seen);
+            shows(rt, alloc, table, first_pairs(2))?;
+            assert!(rt; finish(table, kept).0.is_none());
+            Ok(first_pairs(3))
+        }
+    }
+}
+
+/// An operation that was prepared before keeps its spare.
+#[test]
+fn refused_memory_for_a_preparation(rt: HostRuntime) -> Result<(), Fail> {
+    let mut table = table_of(&rt, rt.alloc(), first_pairs(2))?;
+    let pairs = do_second(&rt, rt.alloc(), &mut table)?;
+    shows(&rt, rt.alloc(), &table, pairs)
+}
+
+/// Prepares a put of key 4, and links the dummy of bucket 1 as helper 0. Where memory is refused to
+/// that, the table is as it was, the put is done, and the helper has its cursor still. The answer
+/// is the pairs of the table.
+fn link_beside_a_put(
+    rt: &impl Abort,
+    alloc: Global,
+    table: &mut Table,
+) -> Result<&'static [(u64, u64)], Fail> {
+    let kept = table.prepare(Op::Put(4, 40))?;
+    assert!(rt; table.init_seek(0, 1) == Ok(InitSeek::Placed));
+    let seen = figures(table);
+    match table.init_link(0) {
+        Ok(answer) => {
+            assert!(rt; answer == InitLink::Linked);
+            Ok(second_and_third())
+        }
+        Err(refusal) => {
+            assert!(rt; refusal == Refusal::NoMemory && figures(table) == seen);
+            shows(rt, alloc, table, second_and_third())?;
+            assert!(rt; finish(table, kept).0.is_none());
+            assert!(rt; is_linked_and_stored(table));
+            Ok(first_pairs(3))
+        }
+    }
+}
+
+/// Whether helper 0 links its dummy and stores it.
+fn is_linked_and_stored(table: &mut Table) -> bool {
+    table.init_link(0) == Ok(InitLink::Linked) && table.init_store(0) == Ok(())
+}
+
+/// An operation that was prepared before keeps its spare, and the helper its cursor.
+#[test]
+fn refused_memory_for_a_link(rt: HostRuntime) -> Result<(), Fail> {
+    let mut table = table_of(&rt, rt.alloc(), second_and_third())?;
+    let pairs = link_beside_a_put(&rt, rt.alloc(), &mut table)?;
+    shows(&rt, rt.alloc(), &table, pairs)
+}

@@ -1,0 +1,291 @@
+//! Tests of `node_list`: that each call succeeds, and what a refused allocation leaves.
+use node_list::{Kind, NodeList, NodeRef, SpareFault};
+use split_key::{Key, SortKey};
+use std::alloc::{AllocError, Global};
+use std::test::Fail;
+
+/// A list whose first node has this stamp, asked for once more where memory is refused.
+fn list_again(alloc: Global, first_stamp: u64) -> Result<NodeList, Fail> {
+    if first_stamp == u64::MAX {
+        return Err("no stamp".into());
+    }
+    match NodeList::new(alloc, first_stamp) {
+        Ok(list) => Ok(list),
+        Err(AllocError) => Ok(NodeList::new(alloc, first_stamp)?),
+    }
+}
+
+/// The stamp of a spare, whose place is kept from then on.
+fn stamp_of_spare(list: &mut NodeList) -> Result<u64, SpareFault> {
+    Ok(list.spare()?.stamp())
+}
+
+/// The stamp of a spare that is given back.
+fn stamp_given_back(list: &mut NodeList) -> Result<u64, SpareFault> {
+    let spare = list.spare()?;
+    let stamp = spare.stamp();
+    list.give_back(spare);
+    Ok(stamp)
+}
+
+/// The counts of unmarked and of marked nodes, and the change number.
+fn figures(list: &NodeList) -> (u64, u64, u64) {
+    (list.count(), list.marked_count(), list.changes())
+}
+
+/// A call on a list.
+#[derive(Clone, Copy, Debug)]
+enum Call {
+    /// Links the node of a key, with this value, behind the first.
+    Link(u64, u64),
+    /// Writes the value of the second node.
+    Write(u64),
+    /// Marks the second node.
+    Mark,
+    /// Unlinks the second node.
+    Unlink,
+}
+
+/// Links the node of a key behind the first, which has to be the last.
+fn link(list: &mut NodeList, number: u64, value: u64) -> Result<(), Fail> {
+    let head = list.head();
+    let mut spare = list.spare()?;
+    if list.node(head).next.is_some() {
+        return Err("a node behind the first".into());
+    }
+    spare.fill(SortKey::regular(Key::new(number)), Kind::Regular, value);
+    let place = spare.node();
+    list.link_after(head, spare);
+    is_second(list, place)
+}
+
+/// The place of the second node.
+fn second(list: &NodeList) -> Option<NodeRef> {
+    list.linked_node(list.head())?.next
+}
+
+/// Whether the second node is at this place.
+fn is_second(list: &NodeList, place: NodeRef) -> Result<(), Fail> {
+    if second(list) != Some(place) {
+        return Err("another second node".into());
+    }
+    Ok(())
+}
+
+/// Whether no node is linked at a place.
+fn is_vacant(list: &NodeList, place: NodeRef) -> Result<(), Fail> {
+    if list.linked_node(place).is_some() {
+        return Err("still linked".into());
+    }
+    Ok(())
+}
+
+/// What is seen of a list of at most two nodes.
+#[derive(Clone, Copy, PartialEq, Eq)]
+struct Seen {
+    count: u64,
+    marked: u64,
+    changes: u64,
+    marks_begin: Option<u64>,
+    second: Option<Entry>,
+}
+
+/// What is seen of a node.
+#[derive(Clone, Copy, PartialEq, Eq)]
+struct Entry {
+    key: u64,
+    value: u64,
+    stamp: u64,
+    kind: Kind,
+    marked: bool,
+}
+
+/// What is seen of the second node.
+fn entry_of_second(list: &NodeList) -> Option<Entry> {
+    let node = list.linked_node(second(list)?)?;
+    Some(Entry {
+        key: node.at.key(),
+        value: node.value,
+        stamp: node.stamp,
+        kind: node.kind,
+        marked: node.marked,
+    })
+}
+
+/// What is seen of a list.
+fn look(list: &NodeList) -> Seen {
+    Seen {
+        count: list.count(),
+        marked: list.marked_count(),
+        changes: list.changes(),
+        marks_begin: list.marks_begin(),
+        second: entry_of_second(list),
+    }
+}
+
+/// Writes the value of a node.
+fn write(list: &mut NodeList, place: NodeRef, value: u64) -> Result<(), Fail> {
+    let Some(_) = list.linked_node(place) else {
+        return Err("no node".into());
+    };
+    list.write(place, value);
+    Ok(())
+}
+
+/// Marks a regular node.
+fn mark(list: &mut NodeList, place: NodeRef) -> Result<(), Fail> {
+    match list.linked_node(place) {
+        Some(node) => {
+            if node.marked || !matches!(node.kind, Kind::Regular) {
+                return Err("not to be marked".into());
+            }
+        }
+        None => return Err("no node".into()),
+    }
+    list.set_mark(place);
+    Ok(())
+}
+
+/// Unlinks the second node, which has to be marked, and looks that it is gone.
+fn unlink_second(list: &mut NodeList) -> Result<(), Fail> {
+    let head = list.head();
+    let Some(next) = list.node(head).next else {
+        return Err("no second node".into());
+    };
+    if !list.node(next).marked {
+        return Err("not marked".into());
+    }
+    list.unlink_after(head);
+    is_vacant(list, next)
+}
+
+/// Makes a call.
+fn make(list: &mut NodeList, call: Call) -> Result<(), Fail> {
+    match call {
+        Call::Link(number, value) => link(list, number, value),
+        Call::Write(value) => {
+            let place = second(list).ok_or("no second node")?;
+            write(list, place, value)
+        }
+        Call::Mark => {
+            let place = second(list).ok_or("no second node")?;
+            mark(list, place)
+        }
+        Call::Unlink => unlink_second(list),
+    }
+}
+
+/// The node of key 3, as it is linked.
+const LINKED: Entry = Entry {
+    key: 3,
+    value: 30,
+    stamp: 7,
+    kind: Kind::Regular,
+    marked: false,
+};
+
+/// The node of key 3, written.
+const WRITTEN: Entry = Entry {
+    key: 3,
+    value: 31,
+    stamp: 7,
+    kind: Kind::Regular,
+    marked: false,
+};
+
+/// The node of key 3, written and marked.
+const MARKED: Entry = Entry {
+    key: 3,
+    value: 31,
+    stamp: 7,
+    kind: Kind::Regular,
+    marked: true,
+};
+
+/// Calls with what is then seen.
+const CALLS: [(Call, Seen); 4] = [
+    (
+        Call::Link(3, 30),
+        Seen {
+            count: 1,
+            marked: 0,
+            changes: 1,
+            marks_begin: None,
+            second: Some(LINKED),
+        },
+    ),
+    (
+        Call::Write(31),
+        Seen {
+            count: 1,
+            marked: 0,
+            changes: 2,
+            marks_begin: None,
+            second: Some(WRITTEN),
+        },
+    ),
+    (
+        Call::Mark,
+        Seen {
+            count: 0,
+            marked: 1,
+            changes: 3,
+            marks_begin: Some(0xc000_0000_0000_0000),
+            second: Some(MARKED),
+        },
+    ),
+    (
+        Call::Unlink,
+        Seen {
+            count: 0,
+            marked: 0,
+            changes: 4,
+            marks_begin: None,
+            second: None,
+        },
+    ),
+];
+
+#[test]
+fn calls_in_turn(rt: HostRuntime) -> Result<(), Fail> {
+    let mut list = list_again(rt.alloc(), 6)?;
+    for (call, wanted) in CALLS.iter() {
+        make(&mut list, *call)?;
+        assert!(rt; look(&list) == *wanted, "after {call:?}");
+    }
+    assert!(rt; stamp_given_back(&mut list)? == 8);
+    assert!(rt; stamp_of_spare(&mut list)? == 9);
+    Ok(())
+}
+
+/// The faults of a list in words.
+const FAULTS: &str = "the list has no stamp left for a spare; the list got no memory for a spare";
+
+#[test]
+fn stamps_used_up(rt: HostRuntime) -> Result<(), Fail> {
+    let mut list = list_again(rt.alloc(), 18446744073709551613)?;
+    assert!(rt; stamp_of_spare(&mut list) == Ok(18446744073709551614));
+    assert!(rt; stamp_of_spare(&mut list) == Err(SpareFault::Worn));
+    let words = format!(in rt.alloc(); "{}; {}", SpareFault::Worn, SpareFault::NoMemory)?;
+    assert!(rt; words.as_str() == FAULTS);
+    Ok(())
+}
+
+/// Also run with each allocation refused in turn: the list is then as it was, and gives the spare
+/// at the next call.
+#[test]
+fn refused_allocations(rt: HostRuntime) -> Result<(), Fail> {
+    let mut list = list_again(rt.alloc(), 0)?;
+    for wanted in 1..=9 {
+        let stamp = match stamp_of_spare(&mut list) {
+            Ok(stamp) => stamp,
+            Err(fault) => {
+                assert!(rt; fault == SpareFault::NoMemory);
+                assert!(rt; figures(&list) == (0, 0, 0));
+                stamp_of_spare(&mut list)?
+            }
+        };
+        assert!(rt; stamp == wanted, "{stamp}");
+    }
+    Ok(())
+}

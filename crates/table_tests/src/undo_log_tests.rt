@@ -1,0 +1,371 @@
+//! Tests of `undo_log`: jobs of a count, a side value of four words, and refused allocations.
+ghost use Rattle.std.specs.Prelude.{◌≡◌, length};
+
+use std::alloc::{AllocError, Global};
+use std::process::Abort;
+use std::test::Fail;
+use undo_log::{Side, SideJob, SideValue, UndoJob, UndoLog};
+
+/// The job of the change that raised a count to this number.
+#[derive(Drop)]
+struct Raised(u64);
+
+impl UndoJob for Raised {
+    type World = u64;
+
+    ghost use Rattle.std.specs.Prelude.{◌≡◌, ◌+◌, ◌<◌};
+
+    ghost shows_after = { λ job count. (count ≡ job.0) × (0 < job.0) };
+
+    ghost shows_before = { λ job count. count + 1 ≡ job.0 };
+
+    ghost takes_back = { λ job old new. new + 1 ≡ old };
+
+    fn run(self, count: u64) -> u64 {
+        count - 1
+    }
+}
+
+/// Whether memory is refused now.
+fn is_refused(alloc: Global) -> bool {
+    Box::new(alloc, 0).is_err()
+}
+
+/// Whether it pushed the job, having asked twice for room where memory is refused once.
+fn is_pushed(rt: &impl Abort, log: &mut UndoLog<Raised>, number: u64) -> bool {
+    let jobs = log.len();
+    if log.reserve_one().is_err() {
+        assert!(rt; log.len() == jobs);
+        if log.reserve_one().is_err() {
+            assert!(rt; log.len() == jobs);
+            return false;
+        }
+    }
+    log.push_reserved(Raised(number));
+    true
+}
+
+/// Makes a savepoint, and asks twice where memory is refused once.
+fn save(rt: &impl Abort, log: &mut UndoLog<Raised>) -> Option<usize> {
+    let level = log.level();
+    if let Ok(saved) = log.save() {
+        return Some(saved);
+    }
+    assert!(rt; log.level() == level);
+    log.save_room().ok()?;
+    log.save().ok()
+}
+
+/// Takes out the newest job above a level and runs it on its count, which it takes back by one.
+/// None where there is no such job, or one of another count.
+fn run_newest(log: &mut UndoLog<Raised>, level: usize, count: u64) -> Option<u64> {
+    if level > log.level() {
+        return None;
+    }
+    let job = log.pop_above(level)?;
+    if job.0 != count || count == 0 {
+        return None;
+    }
+    Some(job.run(count))
+}
+
+/// The number of the newest job above a level.
+fn newest_above(log: &UndoLog<Raised>, level: usize) -> Option<u64> {
+    if level > log.level() {
+        return None;
+    }
+    match log.newest_above(level) {
+        Some(Raised(number)) => Some(*number),
+        None => None,
+    }
+}
+
+/// Drops the savepoints above a level, above which no job may be left.
+fn cut(log: &mut UndoLog<Raised>, level: usize) -> Result<(), Fail> {
+    if level > log.level() || log.len() > log.kept(level) {
+        return Err("jobs are left".into());
+    }
+    log.cut(level);
+    Ok(())
+}
+
+/// How many jobs a level keeps.
+fn kept(log: &UndoLog<Raised>, level: usize) -> Option<usize> {
+    if level > log.level() {
+        return None;
+    }
+    Some(log.kept(level))
+}
+
+/// Level, number of jobs and whether there is none.
+fn figures(log: &UndoLog<Raised>) -> (usize, usize, bool) {
+    (log.level(), log.len(), log.is_empty())
+}
+
+/// Takes back so many jobs, newest first, which are all that there are. No memory is wanted.
+fn take_back(rt: &impl Abort, log: &mut UndoLog<Raised>, jobs: u64) -> Result<(), Fail> {
+    assert!(rt; log.len() as u64 == jobs);
+    let mut count = jobs;
+    for expected in [9, 8, 7, 6, 5, 4, 3, 2, 1] {
+        if expected <= jobs {
+            assert!(rt; count == expected, "{count}");
+            count = run_newest(log, 0, count).ok_or("another job")?;
+        }
+    }
+    assert!(rt; count == 0);
+    assert!(rt; run_newest(log, 0, 0).is_none());
+    cut(log, 0)?;
+    assert!(rt; figures(log) == (0, 0, true));
+    Ok(())
+}
+
+/// A log of eight jobs, for which no memory is wanted: that none of them is refused is proved, and
+/// that the next one needs memory.
+fn eight_jobs(alloc: Global) -> UndoLog<Raised>
+    ensures jobs { length result.jobs ≡ 8 }
+    ensures room { result.room ≡ 0 }
+{
+    let mut log = UndoLog::new(alloc);
+    for number in 1..9 {
+        let Ok(()) = log.reserve_one() else {
+            unreachable!();
+        };
+        log.push_reserved(Raised(number));
+    }
+    log
+}
+
+/// Eight jobs, without what is proved of them.
+fn log_of_eight(alloc: Global) -> UndoLog<Raised> {
+    eight_jobs(alloc)
+}
+
+/// Also run with allocations refused, the first of which is that of the ninth job.
+#[test]
+fn nine_undone_newest_first(rt: HostRuntime) -> Result<(), Fail> {
+    let mut log = log_of_eight(rt.alloc());
+    if !is_pushed(&rt, &mut log, 9) {
+        assert!(rt; is_refused(rt.alloc()));
+        return take_back(&rt, &mut log, 8);
+    }
+    take_back(&rt, &mut log, 9)
+}
+
+/// An empty log.
+fn empty_log(alloc: Global) -> UndoLog<Raised> {
+    UndoLog::new(alloc)
+}
+
+/// How many of two savepoints are made, with the numbers 1 and 2. The level is one more with each.
+fn savepoints(rt: &impl Abort, alloc: Global, log: &mut UndoLog<Raised>) -> usize {
+    for (before, number) in [(0, 1), (1, 2)] {
+        match save(rt, log) {
+            Some(saved) => assert!(rt; saved == number),
+            None => {
+                assert!(rt; log.level() == before);
+                assert!(rt; is_refused(alloc));
+                return before;
+            }
+        }
+    }
+    2
+}
+
+/// Returns from level 2, with a job below the savepoints and one above them, to level 1.
+fn return_to_1(rt: &impl Abort, log: &mut UndoLog<Raised>) -> Result<(), Fail> {
+    assert!(rt; figures(log) == (2, 2, false));
+    assert!(rt; [kept(log, 0), kept(log, 1), kept(log, 2)] == [Some(0), Some(1), Some(1)]);
+    assert!(rt; newest_above(log, 1) == Some(2));
+    assert!(rt; run_newest(log, 1, 2) == Some(1));
+    assert!(rt; newest_above(log, 1).is_none() && run_newest(log, 1, 1).is_none());
+    cut(log, 1)?;
+    assert!(rt; figures(log) == (1, 1, false));
+    Ok(())
+}
+
+/// Also run with allocations refused, which are those of the savepoints.
+#[test]
+fn a_savepoint_keeps_its_jobs(rt: HostRuntime) -> Result<(), Fail> {
+    let mut log = empty_log(rt.alloc());
+    assert!(rt; is_pushed(&rt, &mut log, 1));
+    if savepoints(&rt, rt.alloc(), &mut log) < 2 {
+        return take_back(&rt, &mut log, 1);
+    }
+    assert!(rt; is_pushed(&rt, &mut log, 2));
+    return_to_1(&rt, &mut log)
+}
+
+/// The number of a savepoint that is made in room of its own, in a log with no job.
+fn first_savepoint(alloc: Global) -> Result<usize, AllocError> {
+    let mut log = UndoLog::<Raised>::new(alloc);
+    if log.save_room().is_err() {
+        log.save_room()?;
+    }
+    log.save()
+}
+
+/// The same of a side value with no change.
+fn first_savepoint_of_side(alloc: Global) -> Result<usize, AllocError> {
+    let mut side = SideValue::new(alloc, a_register([0, 0, 0, 0]));
+    if side.save_room().is_err() {
+        side.save_room()?;
+    }
+    side.save()
+}
+
+/// How many jobs three logs have, of which the second is pushed one.
+fn jobs_of_three(rt: &impl Abort, alloc: Global) -> [usize; 3] {
+    let first = empty_log(alloc);
+    let mut second = empty_log(alloc);
+    let third = empty_log(alloc);
+    assert!(rt; is_pushed(rt, &mut second, 1));
+    [first.len(), second.len(), third.len()]
+}
+
+#[test]
+fn room_and_logs_of_their_own(rt: HostRuntime) -> Result<(), Fail> {
+    assert!(rt; first_savepoint(rt.alloc())? == 1);
+    assert!(rt; first_savepoint_of_side(rt.alloc())? == 1);
+    assert!(rt; jobs_of_three(&rt, rt.alloc()) == [0, 1, 0]);
+    Ok(())
+}
+
+/// The tests' side value: four words.
+#[derive(Drop)]
+struct Register {
+    words: [u64; 4],
+}
+
+/// The job of a change of the words.
+#[derive(Drop)]
+struct WordsJob {
+    before: [u64; 4],
+    after: [u64; 4],
+}
+
+impl Side for Register {
+    type Job = WordsJob;
+
+    ghost words_of = { λ register. register.words };
+
+    ghost before = { λ job. job.before };
+
+    ghost after = { λ job. job.after };
+
+    fn words(&self) -> [u64; 4]
+        ensures { result ≡ self.now.words }
+    {
+        self.words
+    }
+
+    fn undo(self, job: WordsJob) -> Register {
+        let words = job.before;
+        Register { words }
+    }
+}
+
+/// A register with these words.
+fn a_register(words: [u64; 4]) -> Register
+    ensures { result.words ≡ words }
+{
+    Register { words }
+}
+
+/// Sets the words, and asks twice where memory is refused once. None where it is refused still.
+fn set(rt: &impl Abort, side: &mut SideValue<Register>, words: [u64; 4]) -> Option<()> {
+    let before = side.words();
+    let job = WordsJob {
+        before,
+        after: words,
+    };
+    let Err(refused) = side.change(|_| a_register(words), SideJob { job }) else {
+        return Some(());
+    };
+    assert!(rt; side.words() == before);
+    let (change, job) = refused.value;
+    side.change(change, job).ok()
+}
+
+/// Makes a savepoint, and asks twice where memory is refused once.
+fn save_side(rt: &impl Abort, side: &mut SideValue<Register>) -> Option<usize> {
+    let level = side.level();
+    if let Ok(saved) = side.save() {
+        return Some(saved);
+    }
+    assert!(rt; side.level() == level);
+    side.save_room().ok()?;
+    side.save().ok()
+}
+
+/// Goes back to a level, and answers the words there.
+fn words_back(rt: &impl Abort, side: &mut SideValue<Register>, level: usize) -> [u64; 4] {
+    assert!(rt; level <= side.level());
+    side.back(level);
+    assert!(rt; side.level() == level);
+    side.words()
+}
+
+/// The words after a change, a savepoint and two more changes, and back at the savepoint; none
+/// where one of them is refused memory twice.
+fn words_there(rt: &impl Abort, side: &mut SideValue<Register>) -> Option<[[u64; 4]; 2]> {
+    set(rt, side, [1, 0, 0, 0])?;
+    assert!(rt; save_side(rt, side)? == 1);
+    set(rt, side, [2, 0, 0, 0])?;
+    set(rt, side, [3, 0, 0, 0])?;
+    let there = side.words();
+    assert!(rt; side.level() == 1);
+    Some([there, words_back(rt, side, 1)])
+}
+
+/// A side value of zeros.
+fn zeros(alloc: Global) -> SideValue<Register> {
+    SideValue::new(alloc, a_register([0, 0, 0, 0]))
+}
+
+/// Also run with allocations refused. However many of the changes are made, they are all taken
+/// back.
+#[test]
+fn side_value_returns(rt: HostRuntime) {
+    let mut side = zeros(rt.alloc());
+    match words_there(&rt, &mut side) {
+        Some(words) => assert!(rt; words == [[3, 0, 0, 0], [1, 0, 0, 0]]),
+        None => assert!(rt; is_refused(rt.alloc())),
+    }
+    assert!(rt; side.level() <= 1);
+    assert!(rt; words_back(&rt, &mut side, 0) == [0, 0, 0, 0]);
+}
+
+/// Whether a change to 1 in the first word is made, and a savepoint after it.
+fn is_saved_at_1(rt: &impl Abort, side: &mut SideValue<Register>) -> bool {
+    set(rt, side, [1, 0, 0, 0]).is_some() && save_side(rt, side).is_some()
+}
+
+/// The words after a change, a savepoint and a return to level 0, with or without a settling before
+/// it. Where the change or the savepoint is refused memory, they are as at the beginning, and not
+/// given.
+fn words_after_return(rt: &impl Abort, alloc: Global, settles: bool) -> Option<[u64; 4]> {
+    let mut side = zeros(alloc);
+    let is_done = is_saved_at_1(rt, &mut side);
+    if is_done && settles {
+        side.settle();
+        assert!(rt; side.level() == 0);
+    }
+    assert!(rt; side.level() <= 1);
+    let words = words_back(rt, &mut side, 0);
+    if is_done {
+        return Some(words);
+    }
+    assert!(rt; is_refused(alloc));
+    assert!(rt; words == [0, 0, 0, 0]);
+    None
+}
+
+/// Also run with allocations refused.
+#[test]
+fn a_settled_value_stays(rt: HostRuntime) {
+    for (settles, words) in [(false, [0, 0, 0, 0]), (true, [1, 0, 0, 0])] {
+        if let Some(found) = words_after_return(&rt, rt.alloc(), settles) {
+            assert!(rt; found == words, "{settles}");
+        }
+    }
+}
