@@ -10,3 +10,5 @@
 mod devices;
 #[cfg(test)]
 mod files;
+#[cfg(test)]
+mod pieces;
