@@ -9,6 +9,8 @@
 #[cfg(test)]
 mod devices;
 #[cfg(test)]
+mod engines;
+#[cfg(test)]
 mod files;
 #[cfg(test)]
 mod pieces;
