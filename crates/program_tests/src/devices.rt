@@ -133,6 +133,18 @@ pub struct Desk<'a> {
     pub open_fails: Option<ErrorKind>,
 }
 
+impl<'a> Desk<'a> {
+    /// A system of these words and files, where nothing fails.
+    pub fn new(words: &'a str, files: &'a [(&'a str, &'a str)]) -> Desk<'a> {
+        Desk {
+            words,
+            files,
+            words_fail: None,
+            open_fails: None,
+        }
+    }
+}
+
 impl<'a> System for Desk<'a> {
     type Input = &'a [u8];
 
