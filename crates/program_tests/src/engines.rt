@@ -3,6 +3,7 @@
 mod checks;
 mod failing;
 mod mixes;
+mod refused;
 mod replays;
 mod runs;
 
