@@ -26,14 +26,14 @@ enum Command {
     Run,
 }
 
-/// Files of one command that are alike: each piece stands in the gap `#` of the frame, and each
-/// filling in the gap `@` of that.
+/// Files of one command that are alike: each piece, one a line, stands in the gap `#` of the frame,
+/// and each filling, with blanks between them, in the gap `@` of that.
 #[derive(Clone, Copy)]
 struct Files {
     command: Command,
     frame: &'static str,
-    pieces: &'static [&'static str],
-    fillings: &'static [&'static str],
+    pieces: &'static str,
+    fillings: &'static str,
     /// What is printed, or the line of the fault.
     printed: &'static str,
     status: u8,
@@ -100,8 +100,8 @@ fn compare_files<T: Abort + Threads + Wait + Sync>(
     alloc: Global,
     files: Files,
 ) -> Result<(), Fail> {
-    for piece in files.pieces {
-        for filling in files.fillings {
+    for piece in files.pieces.split('\n') {
+        for filling in files.fillings.split(' ') {
             let text = filled(alloc, files.frame, piece, filling)?;
             compare_file(rt, alloc, files.command, &text, files.printed, files.status)?;
         }

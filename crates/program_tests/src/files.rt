@@ -21,14 +21,14 @@ enum Kind {
     History,
 }
 
-/// Files that are alike: each piece stands in the gap `#` of the frame, and each filling in the gap
-/// `@` of that.
+/// Files that are alike: each piece, one a line, stands in the gap `#` of the frame, and each
+/// filling, with blanks between them, in the gap `@` of that.
 #[derive(Clone, Copy)]
 struct Files {
     kind: Kind,
     frame: &'static str,
-    pieces: &'static [&'static str],
-    fillings: &'static [&'static str],
+    pieces: &'static str,
+    fillings: &'static str,
     /// What they are refused with; none where they are not.
     fault: Option<FileFault>,
 }
@@ -49,8 +49,8 @@ fn same_fault(rt: &impl Abort, found: Option<FileFault>, wanted: Option<FileFaul
 
 /// Compares the faults of files that are alike.
 fn compare_files(rt: &impl Abort, alloc: Global, files: Files) -> Result<(), Fail> {
-    for piece in files.pieces {
-        for filling in files.fillings {
+    for piece in files.pieces.split('\n') {
+        for filling in files.fillings.split(' ') {
             let text = filled(alloc, files.frame, piece, filling)?;
             let found = fault_of(alloc, files.kind, text.as_bytes());
             same_fault(rt, found, files.fault, &text);
@@ -87,7 +87,7 @@ const WRONG_STEP: Option<FileFault> = Some(FileFault::Piece(Part::Step, 0));
 /// Values of more than 127 levels, of which the object of the file is one, and the array of its
 /// steps another; and scripts or actions that are more than 10,000, which is found only after the
 /// wrong script behind them.
-const GROWN: [Grown; 19] = [
+const GROWN: &[Grown] = &[
     (Kind::Steps, "#", 200, ["[", "", "]"], NOT_JSON),
     (Kind::Steps, BEYOND_STEPS, 125, ["[", "0", "]"], None),
     (Kind::Steps, BEYOND_STEPS, 126, ["[", "0", "]"], None),
@@ -147,16 +147,20 @@ const GROWN: [Grown; 19] = [
 
 /// So many times the first text, then the second, and then as many times the third.
 fn grown(alloc: Global, count: usize, texts: [&str; 3]) -> Result<String, Fail> {
-    let [open, middle, close] = texts;
-    let mut text = open.repeat(alloc, count)?;
-    text.push_str(middle)?;
-    text.push_str(&close.repeat(alloc, count)?)?;
+    let mut text = String::new(alloc);
+    for _ in 0..count {
+        text.push_str(texts[0])?;
+    }
+    text.push_str(texts[1])?;
+    for _ in 0..count {
+        text.push_str(texts[2])?;
+    }
     Ok(text)
 }
 
 #[test]
 fn large_files(rt: HostRuntime) -> Result<(), Fail> {
-    for (kind, frame, count, texts, wanted) in GROWN {
+    for &(kind, frame, count, texts, wanted) in GROWN {
         let piece = grown(rt.alloc(), count, texts)?;
         let text = frame.replace(rt.alloc(), "#", &piece)?;
         same_fault(

@@ -287,18 +287,8 @@ fn contents_of_drawings(rt: HostRuntime) -> Result<(), Fail> {
     Ok(())
 }
 
-/// The elements of the next array, where they are plain and no more than four.
-fn next_elements<'a>(reader: &mut Reader<'a>) -> Result<ArrayVec<Plain<'a>, 4>, Fail> {
-    let mut elements = ArrayVec::new();
-    if !matches!(reader.next(), Some(Token::BeginArray)) {
-        return Err("no array")?;
-    }
-    match plain_elements(reader, 1, &mut elements) {
-        Ok(true) => Ok(elements),
-        Ok(false) => Err("not plain")?,
-        Err(_) => Err("no JSON")?,
-    }
-}
+/// The text and the number that elements begin with, and how many are behind them.
+type Leading = Option<(&'static str, u64, usize)>;
 
 /// What elements are: one number, two, one that may be null, or none.
 type Shapes = (
@@ -307,6 +297,22 @@ type Shapes = (
     Option<Option<u64>>,
     Option<()>,
 );
+
+/// What the elements are behind those that `Leading` names.
+const ELEMENTS: &[(Leading, Shapes)] = &[
+    (Some(("put", 1, 2)), (None, None, None, None)),
+    (None, (None, Some((8, 9)), None, None)),
+    (None, (Some(9), None, Some(Some(9)), None)),
+    (None, (None, None, Some(None), None)),
+    (None, (None, None, None, Some(()))),
+];
+
+/// The text and the number that elements begin with, and the elements behind them.
+fn leading_in<'v, 'a>(values: &'v [Plain<'a>]) -> Option<(&'a str, u64, &'v [Plain<'a>])> {
+    let (name, rest) = word_in(values)?;
+    let (number, rest) = number_in(rest)?;
+    Some((name, number, rest))
+}
 
 /// What these elements are.
 fn shapes_of(values: &[Plain<'_>]) -> Shapes {
@@ -318,16 +324,26 @@ fn shapes_of(values: &[Plain<'_>]) -> Shapes {
     )
 }
 
-/// The text and the number that elements begin with, and the elements behind them.
-fn leading_in<'v, 'a>(values: &'v [Plain<'a>]) -> Option<(&'a str, u64, &'v [Plain<'a>])> {
-    let (name, rest) = word_in(values)?;
-    let (number, rest) = number_in(rest)?;
-    Some((name, number, rest))
-}
-
 /// Takes the bracket that opens an array.
 fn begin(reader: &mut Reader<'_>) -> bool {
     matches!(reader.next(), Some(Token::BeginArray))
+}
+
+/// Compares the elements of the next array, where they are plain and no more than four.
+fn compare_next(rt: &impl Abort, reader: &mut Reader<'_>, leading: Leading, shapes: Shapes) {
+    let mut elements = ArrayVec::<Plain<'_>, 4>::new();
+    assert!(rt; begin(reader));
+    assert!(rt; matches!(plain_elements(reader, 1, &mut elements), Ok(true)));
+    match leading_in(&elements) {
+        Some((name, number, rest)) => {
+            assert!(rt; leading == Some((name, number, rest.len())));
+            assert!(rt; shapes_of(rest) == shapes, "{shapes:?}");
+        }
+        None => assert!(rt;
+            leading.is_none() && shapes_of(&elements) == shapes,
+            "{shapes:?}"
+        ),
+    }
 }
 
 #[test]
@@ -336,18 +352,8 @@ fn elements(rt: HostRuntime) -> Result<(), Fail> {
     let mut scratch = Scratch::new(rt.alloc());
     let mut reader = Reader::new(text, &mut scratch)?;
     assert!(rt; begin(&mut reader));
-    let values = next_elements(&mut reader)?;
-    let (name, number, rest) = leading_in(&values).ok_or("no text and number")?;
-    assert!(rt; name == "put" && number == 1 && rest.len() == 2);
-    assert!(rt; shapes_of(rest) == (None, None, None, None));
-    for wanted in [
-        (None, Some((8, 9)), None, None),
-        (Some(9), None, Some(Some(9)), None),
-        (None, None, Some(None), None),
-        (None, None, None, Some(())),
-    ] {
-        let values = next_elements(&mut reader)?;
-        assert!(rt; shapes_of(&values) == wanted, "{wanted:?}");
+    for (leading, shapes) in ELEMENTS {
+        compare_next(&rt, &mut reader, *leading, *shapes);
     }
     Ok(())
 }
@@ -389,19 +395,21 @@ fn words_of(alloc: Global, fault: FileFault) -> Result<String, Fail> {
     Ok(fault.to_string(alloc)?)
 }
 
+const WORDS: &[(FileFault, &str)] = &[
+    (FileFault::NotJson, "20"),
+    (FileFault::Member, "21"),
+    (FileFault::Piece(Part::Step, 4), "21 step 4"),
+    (FileFault::Piece(Part::Script, 0), "21 script 0"),
+    (FileFault::Piece(Part::Entry, 10), "21 entry 10"),
+    (FileFault::Limit, "22"),
+    (FileFault::NoMemory, "14"),
+];
+
 #[test]
 fn words_of_faults(rt: HostRuntime) -> Result<(), Fail> {
-    for (fault, wanted) in [
-        (FileFault::NotJson, "20"),
-        (FileFault::Member, "21"),
-        (FileFault::Piece(Part::Step, 4), "21 step 4"),
-        (FileFault::Piece(Part::Script, 0), "21 script 0"),
-        (FileFault::Piece(Part::Entry, 10), "21 entry 10"),
-        (FileFault::Limit, "22"),
-        (FileFault::NoMemory, "14"),
-    ] {
-        let words = words_of(rt.alloc(), fault)?;
-        assert!(rt; words.as_str() == wanted, "{words} for {wanted}");
+    for (fault, wanted) in WORDS {
+        let words = words_of(rt.alloc(), *fault)?;
+        assert!(rt; words.as_str() == *wanted, "{words} for {wanted}");
     }
     Ok(())
 }

@@ -42,12 +42,8 @@ pub const FILES: &[Files] = &[
     Files {
         command: Command::Mix(7),
         frame: "#",
-        pieces: &[
-            "{\"version\":2,\"workers\":1,\"stripes\":8,\"buckets\":8,\"tries\":0,\
-                \"scripts\":[[[\"put_if\",9223372036854775808,null,5],[\"help\",\
-                9223372036854775808]]]}",
-        ],
-        fillings: &[""],
+        pieces: r#"{"version":2,"workers":1,"stripes":8,"buckets":8,"tries":0,"scripts":[[["put_if",9223372036854775808,null,5],["help",9223372036854775808]]]}"#,
+        fillings: "",
         printed: HISTORY_OF_VERSION_2,
         status: 0,
     },
@@ -55,12 +51,10 @@ pub const FILES: &[Files] = &[
     Files {
         command: Command::Mix(3),
         frame: BAD_KEY,
-        pieces: &[
-            r#"["help",9223372036854775808]"#,
-            r#"["get",9223372036854775808]"#,
-            r#"["back",1]"#,
-        ],
-        fillings: &[""],
+        pieces: r#"["help",9223372036854775808]
+["get",9223372036854775808]
+["back",1]"#,
+        fillings: "",
         printed: "{\"entries\":[[\"began\",0,1],[\"leave\",0,null],[\"aborted\",0]],\"stripes\":8,\
             \"version\":1}\n",
         status: 0,
@@ -69,35 +63,32 @@ pub const FILES: &[Files] = &[
     Files {
         command: Command::Mix(0),
         frame: "#",
-        pieces: &[r#"{"version":1,"workers":1,"stripes":8,"buckets":8,"tries":0,""#],
-        fillings: &[""],
+        pieces: r#"{"version":1,"workers":1,"stripes":8,"buckets":8,"tries":0,""#,
+        fillings: "",
         printed: "refused 20",
         status: 3,
     },
     Files {
         command: Command::Mix(0),
         frame: "#",
-        pieces: &["[]"],
-        fillings: &[""],
+        pieces: "[]",
+        fillings: "",
         printed: "refused 21",
         status: 3,
     },
     Files {
         command: Command::Mix(0),
         frame: "#",
-        pieces: &[
-            "{\"version\":1,\"workers\":1,\"stripes\":8,\"buckets\":8,\"tries\":0,\
-                \"scripts\":[[],[[\"put\",1]]]}",
-        ],
-        fillings: &[""],
+        pieces: r#"{"version":1,"workers":1,"stripes":8,"buckets":8,"tries":0,"scripts":[[],[["put",1]]]}"#,
+        fillings: "",
         printed: "refused 21 script 1",
         status: 3,
     },
     Files {
         command: Command::Mix(0),
         frame: "#",
-        pieces: &[r#"{"version":1,"workers":65,"stripes":8,"buckets":8,"tries":0,"scripts":[]}"#],
-        fillings: &[""],
+        pieces: r#"{"version":1,"workers":65,"stripes":8,"buckets":8,"tries":0,"scripts":[]}"#,
+        fillings: "",
         printed: "refused 22",
         status: 3,
     },

@@ -21,8 +21,8 @@ pub const FILES: &[Files] = &[
     Files {
         command: Command::Run,
         frame: "#",
-        pieces: &[ONE_WORKER],
-        fillings: &[""],
+        pieces: ONE_WORKER,
+        fillings: "",
         printed: "{\"entries\":[[\"began\",0,1],[\"asked\",0,\"put\",1,10],[\"did\",0,null],[\"saved\",0],\
             [\"asked\",0,\"take\",1],[\"did\",0,10],[\"leave\",0,1],[\"undone\",0],[\"returned\",\
             0,1],[\"committed\",0,1],[\"began\",0,2],[\"asked\",0,\"get\",1],[\"did\",0,10],\
@@ -33,12 +33,8 @@ pub const FILES: &[Files] = &[
     Files {
         command: Command::Run,
         frame: "#",
-        pieces: &[
-            "{\"version\":2,\"workers\":1,\"stripes\":8,\"buckets\":8,\"tries\":0,\
-                \"scripts\":[[[\"put_if\",9223372036854775808,null,5],[\"help\",\
-                9223372036854775808]]]}",
-        ],
-        fillings: &[""],
+        pieces: r#"{"version":2,"workers":1,"stripes":8,"buckets":8,"tries":0,"scripts":[[["put_if",9223372036854775808,null,5],["help",9223372036854775808]]]}"#,
+        fillings: "",
         printed: "{\"entries\":[[\"began\",0,1],[\"asked\",0,\"put_if\",9223372036854775808,null,5],\
             [\"did\",0,null],[\"committed\",0,1]],\"stripes\":8,\"version\":3}\n",
         status: 0,
@@ -47,8 +43,8 @@ pub const FILES: &[Files] = &[
     Files {
         command: Command::Run,
         frame: BAD_KEY,
-        pieces: &[r#"["help",9223372036854775808]"#],
-        fillings: &[""],
+        pieces: r#"["help",9223372036854775808]"#,
+        fillings: "",
         printed: "{\"entries\":[[\"began\",0,1],[\"leave\",0,null],[\"aborted\",0]],\"stripes\":8,\
             \"version\":3}\n",
         status: 0,
@@ -57,35 +53,32 @@ pub const FILES: &[Files] = &[
     Files {
         command: Command::Run,
         frame: "#",
-        pieces: &[r#"{"version":1,"workers":1,"stripes":8,"buckets":8,"tries":0,""#],
-        fillings: &[""],
+        pieces: r#"{"version":1,"workers":1,"stripes":8,"buckets":8,"tries":0,""#,
+        fillings: "",
         printed: "refused 20",
         status: 3,
     },
     Files {
         command: Command::Run,
         frame: "#",
-        pieces: &["[]"],
-        fillings: &[""],
+        pieces: "[]",
+        fillings: "",
         printed: "refused 21",
         status: 3,
     },
     Files {
         command: Command::Run,
         frame: "#",
-        pieces: &[
-            "{\"version\":1,\"workers\":1,\"stripes\":8,\"buckets\":8,\"tries\":0,\
-                \"scripts\":[[],[[\"put\",1]]]}",
-        ],
-        fillings: &[""],
+        pieces: r#"{"version":1,"workers":1,"stripes":8,"buckets":8,"tries":0,"scripts":[[],[["put",1]]]}"#,
+        fillings: "",
         printed: "refused 21 script 1",
         status: 3,
     },
     Files {
         command: Command::Run,
         frame: "#",
-        pieces: &[r#"{"version":1,"workers":65,"stripes":8,"buckets":8,"tries":0,"scripts":[]}"#],
-        fillings: &[""],
+        pieces: r#"{"version":1,"workers":65,"stripes":8,"buckets":8,"tries":0,"scripts":[]}"#,
+        fillings: "",
         printed: "refused 22",
         status: 3,
     },

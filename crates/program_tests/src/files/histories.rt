@@ -132,24 +132,30 @@ const READ: &[Read] = &[
     },
 ];
 
-/// Whether what a history file holds is this.
-fn is_read(alloc: Global, read: Read) -> Result<bool, Fail> {
-    let (stripes, entries, version) = read_history(alloc, read.text.as_bytes())?;
-    Ok(stripes == read.stripes && version == read.version && entries.as_slice() == read.entries)
+/// The text that is written of a history.
+fn written(alloc: Global, read: Read) -> Result<String, Fail> {
+    Ok(history_text(alloc, read.version, read.stripes, read.entries)?)
 }
 
-/// Whether what is written of a history is this.
-fn is_written(alloc: Global, read: Read) -> Result<bool, Fail> {
-    let text = history_text(alloc, read.version, read.stripes, read.entries)?;
-    Ok(text.as_str() == read.text)
+/// Compares what a history file holds.
+fn compare(rt: &impl Abort, alloc: Global, read: Read) -> Result<(), Fail> {
+    let (stripes, entries, version) = read_history(alloc, read.text.as_bytes())?;
+    assert!(rt;
+        stripes == read.stripes && version == read.version,
+        "{}",
+        read.text
+    );
+    assert!(rt; entries.as_slice() == read.entries, "{}", read.text);
+    Ok(())
 }
 
 #[test]
 fn contents_of_histories(rt: HostRuntime) -> Result<(), Fail> {
     for read in READ {
-        assert!(rt; is_read(rt.alloc(), *read)?, "{}", read.text);
+        compare(&rt, rt.alloc(), *read)?;
         if read.is_written {
-            assert!(rt; is_written(rt.alloc(), *read)?, "{}", read.text);
+            let text = written(rt.alloc(), *read)?;
+            assert!(rt; text.as_str() == read.text, "{text}");
         }
     }
     Ok(())
@@ -160,175 +166,160 @@ pub const FILES: &[Files] = &[
     Files {
         kind: Kind::History,
         frame: "#",
-        pieces: &["", r#"{"version":1,"stripes":8,"entries":[]"#],
-        fillings: &[""],
+        pieces: r#"
+{"version":1,"stripes":8,"entries":[]"#,
+        fillings: "",
         fault: Some(FileFault::NotJson),
     },
     Files {
         kind: Kind::History,
         frame: "#",
-        pieces: &[
-            "[]",
-            "{}",
-            r#"{"stripes":8,"entries":[]}"#,
-            r#"{"version":1,"entries":[]}"#,
-            r#"{"version":1,"stripes":8}"#,
-            r#"{"version":1,"stripes":8,"steps":[]}"#,
-            r#"{"version":null,"stripes":8,"entries":[]}"#,
-            r#"{"version":1,"stripes":8.0,"entries":[]}"#,
-            r#"{"version":1,"stripes":"8","entries":[]}"#,
-            r#"{"version":1,"stripes":8,"entries":{}}"#,
-            r#"{"version":7,"stripes":0,"entries":null}"#,
-            r#"{"version":1,"stripes":-8,"entries":[0]}"#,
-        ],
-        fillings: &[""],
+        pieces: r#"[]
+{}
+{"stripes":8,"entries":[]}
+{"version":1,"entries":[]}
+{"version":1,"stripes":8}
+{"version":1,"stripes":8,"steps":[]}
+{"version":null,"stripes":8,"entries":[]}
+{"version":1,"stripes":8.0,"entries":[]}
+{"version":1,"stripes":"8","entries":[]}
+{"version":1,"stripes":8,"entries":{}}
+{"version":7,"stripes":0,"entries":null}
+{"version":1,"stripes":-8,"entries":[0]}"#,
+        fillings: "",
         fault: Some(FileFault::Member),
     },
     Files {
         kind: Kind::History,
         frame: "#",
-        pieces: &[
-            r#"{"version":0,"stripes":8,"entries":[]}"#,
-            r#"{"version":4,"stripes":8,"entries":[]}"#,
-            r#"{"version":1,"stripes":0,"entries":[]}"#,
-            r#"{"version":1,"stripes":4097,"entries":[]}"#,
-            r#"{"version":1,"stripes":4294967297,"entries":[]}"#,
-        ],
-        fillings: &[""],
+        pieces: r#"{"version":0,"stripes":8,"entries":[]}
+{"version":4,"stripes":8,"entries":[]}
+{"version":1,"stripes":0,"entries":[]}
+{"version":1,"stripes":4097,"entries":[]}
+{"version":1,"stripes":4294967297,"entries":[]}"#,
+        fillings: "",
         fault: Some(FileFault::Limit),
     },
     // The caller and the stripes are out of range, which is found only after the entries.
     Files {
         kind: Kind::History,
         frame: BETWEEN_ENTRIES,
-        pieces: &[
-            "0",
-            "null",
-            r#""saved""#,
-            r#"{"saved":0}"#,
-            "[]",
-            "[0]",
-            r#"["saved"]"#,
-            r#"[0,"saved"]"#,
-            r#"["saved",null]"#,
-            r#"["saved",-1]"#,
-            r#"["saved",0.0]"#,
-            r#"["saved",18446744073709551616]"#,
-            r#"["saved",0,0]"#,
-            r#"["Saved",0]"#,
-            r#"["begin",0]"#,
-            r#"["began",0]"#,
-            r#"["began",0,null]"#,
-            r#"["began",0,1,1]"#,
-            r#"["asked",0]"#,
-            r#"["asked",0,"put",1]"#,
-            r#"["asked",0,"put",1,null]"#,
-            r#"["asked",0,"put",1,10,0]"#,
-            r#"["asked",0,"take"]"#,
-            r#"["asked",0,"take",1,1]"#,
-            r#"["asked",0,"get",null]"#,
-            r#"["asked",0,"save",1]"#,
-            r#"["asked",0,["get",1]]"#,
-            r#"["did",0]"#,
-            r#"["did",0,false]"#,
-            r#"["did",0,-1]"#,
-            r#"["did",0,null,null]"#,
-            r#"["did",null,0]"#,
-            r#"["leave",0]"#,
-            r#"["leave",0,"1"]"#,
-            r#"["leave",0,1,1]"#,
-            r#"["undone",0,1]"#,
-            r#"["returned",0]"#,
-            r#"["returned",0,null]"#,
-            r#"["returned",0,1,1]"#,
-            r#"["committed",0]"#,
-            r#"["committed",0,null]"#,
-            r#"["committed",0,1,1]"#,
-            r#"["busy",0,1]"#,
-            r#"["busy",0,"put",1,10]"#,
-            r#"["busy",0,"put",1,10,null]"#,
-            r#"["busy",0,"put",1,10,1,1]"#,
-            r#"["busy",0,"take",1]"#,
-            r#"["busy",0,"take",1,1,1]"#,
-            r#"["busy",0,"get",1,null]"#,
-            r#"["busy",0,"abort",1,1]"#,
-            r#"["aborted"]"#,
-            r#"["aborted",0,null]"#,
-        ],
-        fillings: &["8", "0"],
+        pieces: r#"0
+null
+"saved"
+{"saved":0}
+[]
+[0]
+["saved"]
+[0,"saved"]
+["saved",null]
+["saved",-1]
+["saved",0.0]
+["saved",18446744073709551616]
+["saved",0,0]
+["Saved",0]
+["begin",0]
+["began",0]
+["began",0,null]
+["began",0,1,1]
+["asked",0]
+["asked",0,"put",1]
+["asked",0,"put",1,null]
+["asked",0,"put",1,10,0]
+["asked",0,"take"]
+["asked",0,"take",1,1]
+["asked",0,"get",null]
+["asked",0,"save",1]
+["asked",0,["get",1]]
+["did",0]
+["did",0,false]
+["did",0,-1]
+["did",0,null,null]
+["did",null,0]
+["leave",0]
+["leave",0,"1"]
+["leave",0,1,1]
+["undone",0,1]
+["returned",0]
+["returned",0,null]
+["returned",0,1,1]
+["committed",0]
+["committed",0,null]
+["committed",0,1,1]
+["busy",0,1]
+["busy",0,"put",1,10]
+["busy",0,"put",1,10,null]
+["busy",0,"put",1,10,1,1]
+["busy",0,"take",1]
+["busy",0,"take",1,1,1]
+["busy",0,"get",1,null]
+["busy",0,"abort",1,1]
+["aborted"]
+["aborted",0,null]"#,
+        fillings: "8 0",
         fault: Some(FileFault::Piece(Part::Entry, 1)),
     },
     // Callers and holders are below 64.
     Files {
         kind: Kind::History,
         frame: BEHIND_A_BEGIN,
-        pieces: &[
-            r#"["began",@,1]"#,
-            r#"["asked",@,"get",1]"#,
-            r#"["did",@,null]"#,
-            r#"["saved",@]"#,
-            r#"["leave",@,null]"#,
-            r#"["undone",@]"#,
-            r#"["returned",@,0]"#,
-            r#"["committed",@,1]"#,
-            r#"["busy",@,"get",1,0]"#,
-            r#"["busy",0,"get",1,@]"#,
-            r#"["aborted",@]"#,
-        ],
-        fillings: &["63"],
+        pieces: r#"["began",@,1]
+["asked",@,"get",1]
+["did",@,null]
+["saved",@]
+["leave",@,null]
+["undone",@]
+["returned",@,0]
+["committed",@,1]
+["busy",@,"get",1,0]
+["busy",0,"get",1,@]
+["aborted",@]"#,
+        fillings: "63",
         fault: None,
     },
     Files {
         kind: Kind::History,
         frame: BEHIND_A_BEGIN,
-        pieces: &[
-            r#"["began",@,1]"#,
-            r#"["asked",@,"get",1]"#,
-            r#"["did",@,null]"#,
-            r#"["saved",@]"#,
-            r#"["leave",@,null]"#,
-            r#"["undone",@]"#,
-            r#"["returned",@,0]"#,
-            r#"["committed",@,1]"#,
-            r#"["busy",@,"get",1,0]"#,
-            r#"["busy",0,"get",1,@]"#,
-            r#"["aborted",@]"#,
-        ],
-        fillings: &["64", "18446744073709551615"],
+        pieces: r#"["began",@,1]
+["asked",@,"get",1]
+["did",@,null]
+["saved",@]
+["leave",@,null]
+["undone",@]
+["returned",@,0]
+["committed",@,1]
+["busy",@,"get",1,0]
+["busy",0,"get",1,@]
+["aborted",@]"#,
+        fillings: "64 18446744073709551615",
         fault: Some(FileFault::Limit),
     },
     // A number too large for a float makes the file no JSON, wherever it stands.
     Files {
         kind: Kind::History,
         frame: "#",
-        pieces: &[
-            r#"{"version":1e999,"stripes":8,"entries":[]}"#,
-            r#"{"version":1,"stripes":1e999,"entries":[]}"#,
-            r#"{"version":1,"stripes":8,"entries":1e999}"#,
-            r#"{"version":1,"stripes":8,"entries":[1e999]}"#,
-            r#"{"version":1,"stripes":8,"entries":[["began",0,1e999]]}"#,
-            r#"{"version":1,"stripes":8,"entries":[["began",0,1]],"x":[-1e999]}"#,
-        ],
-        fillings: &[""],
+        pieces: r#"{"version":1e999,"stripes":8,"entries":[]}
+{"version":1,"stripes":1e999,"entries":[]}
+{"version":1,"stripes":8,"entries":1e999}
+{"version":1,"stripes":8,"entries":[1e999]}
+{"version":1,"stripes":8,"entries":[["began",0,1e999]]}
+{"version":1,"stripes":8,"entries":[["began",0,1]],"x":[-1e999]}"#,
+        fillings: "",
         fault: Some(FileFault::NotJson),
     },
     // Version 1 has no `put_if`.
     Files {
         kind: Kind::History,
         frame: "#",
-        pieces: &[
-            "{\"entries\":[[\"asked\",0,\"put_if\",1,null,5],[\"asked\",0,\"put_if\",\
-            18446744073709551615,4,6],[\"busy\",1,\"put_if\",1,0,7,0],[\"busy\",1,\"put_if\",2,\
-            null,8,63]],\"stripes\":8,\"version\":1}",
-        ],
-        fillings: &[""],
+        pieces: r#"{"entries":[["asked",0,"put_if",1,null,5],["asked",0,"put_if",18446744073709551615,4,6],["busy",1,"put_if",1,0,7,0],["busy",1,"put_if",2,null,8,63]],"stripes":8,"version":1}"#,
+        fillings: "",
         fault: Some(FileFault::Piece(Part::Entry, 0)),
     },
     Files {
         kind: Kind::History,
         frame: BEHIND_A_BEGIN,
-        pieces: &[r#"["busy",1,"put_if",2,null,8,63]"#],
-        fillings: &[""],
+        pieces: r#"["busy",1,"put_if",2,null,8,63]"#,
+        fillings: "",
         fault: Some(FileFault::Piece(Part::Entry, 1)),
     },
 ];

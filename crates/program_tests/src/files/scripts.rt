@@ -139,136 +139,125 @@ pub const FILES: &[Files] = &[
     Files {
         kind: Kind::Scripts,
         frame: "#",
-        pieces: &["", r#"{@,"tries":0,"scripts":[]"#],
-        fillings: &[SIZES],
+        pieces: r#"
+{@,"tries":0,"scripts":[]"#,
+        fillings: SIZES,
         fault: Some(FileFault::NotJson),
     },
     Files {
         kind: Kind::Scripts,
         frame: "#",
-        pieces: &[
-            "[]",
-            "{}",
-            r#"{@,"tries":0}"#,
-            r#"{@,"scripts":[]}"#,
-            r#"{@,"tries":null,"scripts":[]}"#,
-            r#"{@,"tries":-1,"scripts":[]}"#,
-            r#"{@,"tries":0.5,"scripts":[]}"#,
-            r#"{@,"tries":0,"scripts":{}}"#,
-            r#"{@,"tries":0,"steps":[]}"#,
-            r#"{@,"tries":0,"scripts":[],"workers":"1"}"#,
-            r#"{@,"tries":0,"scripts":[],"stripes":[8]}"#,
-            r#"{@,"tries":0,"scripts":[],"buckets":8.0}"#,
-            r#"{@,"tries":0,"scripts":[],"version":true}"#,
-            r#"{@,"tries":1001,"scripts":null}"#,
-        ],
-        fillings: &[SIZES],
+        pieces: r#"[]
+{}
+{@,"tries":0}
+{@,"scripts":[]}
+{@,"tries":null,"scripts":[]}
+{@,"tries":-1,"scripts":[]}
+{@,"tries":0.5,"scripts":[]}
+{@,"tries":0,"scripts":{}}
+{@,"tries":0,"steps":[]}
+{@,"tries":0,"scripts":[],"workers":"1"}
+{@,"tries":0,"scripts":[],"stripes":[8]}
+{@,"tries":0,"scripts":[],"buckets":8.0}
+{@,"tries":0,"scripts":[],"version":true}
+{@,"tries":1001,"scripts":null}"#,
+        fillings: SIZES,
         fault: Some(FileFault::Member),
     },
     Files {
         kind: Kind::Scripts,
         frame: "#",
-        pieces: &[
-            r#"{@,"tries":1001,"scripts":[]}"#,
-            r#"{@,"tries":0,"scripts":[],"version":0}"#,
-            r#"{@,"tries":0,"scripts":[],"version":3}"#,
-            r#"{@,"tries":0,"scripts":[],"workers":0}"#,
-            r#"{@,"tries":0,"scripts":[],"workers":65}"#,
-            r#"{@,"tries":0,"scripts":[],"stripes":0}"#,
-            r#"{@,"tries":0,"scripts":[],"stripes":4097}"#,
-            r#"{@,"tries":0,"scripts":[],"buckets":1}"#,
-            r#"{@,"tries":0,"scripts":[],"buckets":12}"#,
-        ],
-        fillings: &[SIZES],
+        pieces: r#"{@,"tries":1001,"scripts":[]}
+{@,"tries":0,"scripts":[],"version":0}
+{@,"tries":0,"scripts":[],"version":3}
+{@,"tries":0,"scripts":[],"workers":0}
+{@,"tries":0,"scripts":[],"workers":65}
+{@,"tries":0,"scripts":[],"stripes":0}
+{@,"tries":0,"scripts":[],"stripes":4097}
+{@,"tries":0,"scripts":[],"buckets":1}
+{@,"tries":0,"scripts":[],"buckets":12}"#,
+        fillings: SIZES,
         fault: Some(FileFault::Limit),
     },
     Files {
         kind: Kind::Scripts,
         frame: "#",
-        pieces: &[
-            r#"{@,"note":null,"tries":0,"scripts":[]}"#,
-            r#"{@,"note":null,"tries":1000,"scripts":[]}"#,
-        ],
-        fillings: &[SIZES],
+        pieces: r#"{@,"note":null,"tries":0,"scripts":[]}
+{@,"note":null,"tries":1000,"scripts":[]}"#,
+        fillings: SIZES,
         fault: None,
     },
     // A version that is out of range is found only after the scripts.
     Files {
         kind: Kind::Scripts,
         frame: BETWEEN_SCRIPTS,
-        pieces: &[
-            "0",
-            "null",
-            r#""save""#,
-            "{}",
-            r#"["save"]"#,
-            "[0]",
-            "[null]",
-            "[[]]",
-            "[[0]]",
-            r#"[["Save"]]"#,
-            r#"[["save",0]]"#,
-            r#"[["save",null]]"#,
-            r#"[["back"]]"#,
-            r#"[["back",null]]"#,
-            r#"[["back",-1]]"#,
-            r#"[["back",1,1]]"#,
-            r#"[["help"]]"#,
-            r#"[["help","1"]]"#,
-            r#"[["help",1,1]]"#,
-            r#"[["abort",0]]"#,
-            r#"[["begin"]]"#,
-            r#"[["commit"]]"#,
-            r#"[["put",1]]"#,
-            r#"[["put",1,null]]"#,
-            r#"[["put",1,10,1]]"#,
-            r#"[["put",0,"put",1,10]]"#,
-            r#"[["take"]]"#,
-            r#"[["take",1,1]]"#,
-            r#"[["get",1.0]]"#,
-            r#"[["get",18446744073709551616]]"#,
-            r#"[["save"],["get",1],["get"]]"#,
-            r#"[["save"],["abort"],0]"#,
-        ],
-        fillings: &["1", "7"],
+        pieces: r#"0
+null
+"save"
+{}
+["save"]
+[0]
+[null]
+[[]]
+[[0]]
+[["Save"]]
+[["save",0]]
+[["save",null]]
+[["back"]]
+[["back",null]]
+[["back",-1]]
+[["back",1,1]]
+[["help"]]
+[["help","1"]]
+[["help",1,1]]
+[["abort",0]]
+[["begin"]]
+[["commit"]]
+[["put",1]]
+[["put",1,null]]
+[["put",1,10,1]]
+[["put",0,"put",1,10]]
+[["take"]]
+[["take",1,1]]
+[["get",1.0]]
+[["get",18446744073709551616]]
+[["save"],["get",1],["get"]]
+[["save"],["abort"],0]"#,
+        fillings: "1 7",
         fault: Some(FileFault::Piece(Part::Script, 2)),
     },
     // Version 1 has no `put_if`.
     Files {
         kind: Kind::Scripts,
         frame: SCRIPTS_IN_VERSION,
-        pieces: &[r#"[[["save"]],[["put_if",1,null,10],["put_if",18446744073709551615,10,12]]]"#],
-        fillings: &["0", "3"],
+        pieces: r#"[[["save"]],[["put_if",1,null,10],["put_if",18446744073709551615,10,12]]]"#,
+        fillings: "0 3",
         fault: Some(FileFault::Limit),
     },
     Files {
         kind: Kind::Scripts,
         frame: SCRIPTS_IN_VERSION,
-        pieces: &[r#"[[["save"]],[["put_if",1,null,10],["put_if",18446744073709551615,10,12]]]"#],
-        fillings: &["1"],
+        pieces: r#"[[["save"]],[["put_if",1,null,10],["put_if",18446744073709551615,10,12]]]"#,
+        fillings: "1",
         fault: Some(FileFault::Piece(Part::Script, 1)),
     },
     Files {
         kind: Kind::Scripts,
         frame: SCRIPTS_IN_VERSION,
-        pieces: &[r#"[[["save"]],[["put_if",1,null,10],["put_if",18446744073709551615,10,12]]]"#],
-        fillings: &["2"],
+        pieces: r#"[[["save"]],[["put_if",1,null,10],["put_if",18446744073709551615,10,12]]]"#,
+        fillings: "2",
         fault: None,
     },
     // A number too large for a float makes the file no JSON, wherever it stands.
     Files {
         kind: Kind::Scripts,
         frame: "#",
-        pieces: &[
-            r#"{"version":1,"workers":1e999,"stripes":8,"buckets":8,"tries":0,"scripts":[]}"#,
-            r#"{"version":1,"workers":1,"stripes":8,"buckets":8,"tries":0,"scripts":1e999}"#,
-            r#"{"version":1,"workers":1,"stripes":8,"buckets":8,"tries":0,"scripts":[[1e999]]}"#,
-            "{\"version\":1,\"workers\":1,\"stripes\":8,\"buckets\":8,\"tries\":0,\
-                \"scripts\":[[[\"put\",1e999,1]]]}",
-            "{\"version\":1,\"workers\":1,\"stripes\":8,\"buckets\":8,\"tries\":0,\
-                \"scripts\":[[[\"save\"]]],\"x\":{\"y\":1e999}}",
-        ],
-        fillings: &[""],
+        pieces: r#"{"version":1,"workers":1e999,"stripes":8,"buckets":8,"tries":0,"scripts":[]}
+{"version":1,"workers":1,"stripes":8,"buckets":8,"tries":0,"scripts":1e999}
+{"version":1,"workers":1,"stripes":8,"buckets":8,"tries":0,"scripts":[[1e999]]}
+{"version":1,"workers":1,"stripes":8,"buckets":8,"tries":0,"scripts":[[["put",1e999,1]]]}
+{"version":1,"workers":1,"stripes":8,"buckets":8,"tries":0,"scripts":[[["save"]]],"x":{"y":1e999}}"#,
+        fillings: "",
         fault: Some(FileFault::NotJson),
     },
 ];

@@ -180,287 +180,263 @@ pub const FILES: &[Files] = &[
     Files {
         kind: Kind::Steps,
         frame: "#",
-        pieces: &["{{}}", r#"{"version":1e999}"#],
-        fillings: &[r#""stripes":8,"buckets":8,"steps":[]"#],
+        pieces: r#"{{}}
+{"version":1e999}"#,
+        fillings: r#""stripes":8,"buckets":8,"steps":[]"#,
         fault: Some(FileFault::NotJson),
     },
     Files {
         kind: Kind::Steps,
         frame: "#",
-        pieces: &[
-            "[]",
-            "null",
-            "7",
-            r#""steps""#,
-            "{}",
-            r#"{"callers":1,@}"#,
-            r#"{"version":1,@}"#,
-            r#"{"version":null,"callers":1,@}"#,
-            r#"{"version":1.0,"callers":1,@}"#,
-            r#"{"version":-1,"callers":1,@}"#,
-            r#"{"version":1e0,"callers":1,@}"#,
-            r#"{"version":-0,"callers":1,@}"#,
-            r#"{"version":18446744073709551616,"callers":1,@}"#,
-            r#"{"version":1,"callers":"1",@}"#,
-            r#"{"version":1,"callers":-1,@}"#,
-            r#"{"version":1,"callers":2.0,@}"#,
-            r#"{"version":1,"callers":[1],@}"#,
-            r#"{"version":1,"callers":1,@,"stripes":true}"#,
-            r#"{"version":1,"callers":1,@,"buckets":{}}"#,
-            r#"{"version":1,"callers":1,@,"steps":{}}"#,
-            r#"{"version":1,"callers":1,@,"steps":0}"#,
-            r#"{"version":7,"callers":1,@,"steps":null}"#,
-        ],
-        fillings: &[r#""stripes":8,"buckets":8,"steps":[]"#],
+        pieces: r#"[]
+null
+7
+"steps"
+{}
+{"callers":1,@}
+{"version":1,@}
+{"version":null,"callers":1,@}
+{"version":1.0,"callers":1,@}
+{"version":-1,"callers":1,@}
+{"version":1e0,"callers":1,@}
+{"version":-0,"callers":1,@}
+{"version":18446744073709551616,"callers":1,@}
+{"version":1,"callers":"1",@}
+{"version":1,"callers":-1,@}
+{"version":1,"callers":2.0,@}
+{"version":1,"callers":[1],@}
+{"version":1,"callers":1,@,"stripes":true}
+{"version":1,"callers":1,@,"buckets":{}}
+{"version":1,"callers":1,@,"steps":{}}
+{"version":1,"callers":1,@,"steps":0}
+{"version":7,"callers":1,@,"steps":null}"#,
+        fillings: r#""stripes":8,"buckets":8,"steps":[]"#,
         fault: Some(FileFault::Member),
     },
     Files {
         kind: Kind::Steps,
         frame: "#",
-        pieces: &[
-            r#"{"version":7,"callers":1,@}"#,
-            r#"{"version":0,"callers":1,@}"#,
-            r#"{"version":1,"callers":0,@}"#,
-            r#"{"version":1,"callers":65,@}"#,
-            r#"{"version":1,"callers":1,@,"stripes":0}"#,
-            r#"{"version":1,"callers":1,@,"stripes":4097}"#,
-            r#"{"version":1,"callers":1,@,"buckets":1}"#,
-            r#"{"version":1,"callers":1,@,"buckets":12}"#,
-            r#"{"version":1,"callers":1,@,"buckets":131072}"#,
-        ],
-        fillings: &[r#""stripes":8,"buckets":8,"steps":[]"#],
+        pieces: r#"{"version":7,"callers":1,@}
+{"version":0,"callers":1,@}
+{"version":1,"callers":0,@}
+{"version":1,"callers":65,@}
+{"version":1,"callers":1,@,"stripes":0}
+{"version":1,"callers":1,@,"stripes":4097}
+{"version":1,"callers":1,@,"buckets":1}
+{"version":1,"callers":1,@,"buckets":12}
+{"version":1,"callers":1,@,"buckets":131072}"#,
+        fillings: r#""stripes":8,"buckets":8,"steps":[]"#,
         fault: Some(FileFault::Limit),
     },
     // The empty file, and others that are no JSON or lack a member.
     Files {
         kind: Kind::Steps,
         frame: "#",
-        pieces: &[""],
-        fillings: &[""],
+        pieces: "",
+        fillings: "",
         fault: Some(FileFault::NotJson),
     },
     Files {
         kind: Kind::Steps,
         frame: "#",
-        pieces: &[
-            r#"{"version":1,"callers":2,"buckets":8,"steps":[]}"#,
-            r#"{"version":1,"callers":2,"stripes":8,"buckets":8,"steps":{}}"#,
-        ],
-        fillings: &[""],
+        pieces: r#"{"version":1,"callers":2,"buckets":8,"steps":[]}
+{"version":1,"callers":2,"stripes":8,"buckets":8,"steps":{}}"#,
+        fillings: "",
         fault: Some(FileFault::Member),
     },
     // A number too large for a float makes the file no JSON, wherever it stands.
     Files {
         kind: Kind::Steps,
         frame: "#",
-        pieces: &[
-            r#"{"version":1,"callers":1,"stripes":8,"buckets":-1e999,"steps":[]}"#,
-            r#"{"version":1,"callers":1,"stripes":8,"buckets":8,"steps":1e999}"#,
-            r#"{"version":1,"callers":1,"stripes":8,"buckets":8,"steps":[1e999]}"#,
-            "{\"version\":1,\"callers\":1,\"stripes\":8,\"buckets\":8,\"steps\":[[\"begin\",0],\
-                [\"begin\",1e999]]}",
-        ],
-        fillings: &[""],
+        pieces: r#"{"version":1,"callers":1,"stripes":8,"buckets":-1e999,"steps":[]}
+{"version":1,"callers":1,"stripes":8,"buckets":8,"steps":1e999}
+{"version":1,"callers":1,"stripes":8,"buckets":8,"steps":[1e999]}
+{"version":1,"callers":1,"stripes":8,"buckets":8,"steps":[["begin",0],["begin",1e999]]}"#,
+        fillings: "",
         fault: Some(FileFault::NotJson),
     },
     // Steps that are none.
     Files {
         kind: Kind::Steps,
         frame: STEPS_OF_TWO,
-        pieces: &[
-            r#"[["begin",-1]]"#,
-            r#"[["begin",0.5]]"#,
-            r#"[["begin",1e1]]"#,
-            r#"[["begin",18446744073709551616]]"#,
-            r#"[["begin","0"]]"#,
-            r#"[["begin",0,0]]"#,
-            r#"[["start",0]]"#,
-        ],
-        fillings: &[""],
+        pieces: r#"[["begin",-1]]
+[["begin",0.5]]
+[["begin",1e1]]
+[["begin",18446744073709551616]]
+[["begin","0"]]
+[["begin",0,0]]
+[["start",0]]"#,
+        fillings: "",
         fault: Some(FileFault::Piece(Part::Step, 0)),
     },
     // Too many callers are found only after the steps.
     Files {
         kind: Kind::Steps,
         frame: BETWEEN_STEPS,
-        pieces: &[
-            "0",
-            "null",
-            r#""begin""#,
-            r#"{"begin":0}"#,
-            "[]",
-            "[0]",
-            r#"["begin"]"#,
-            r#"[0,"begin"]"#,
-            r#"["begin",-1]"#,
-            r#"["begin",0.0]"#,
-            r#"["begin",1e2]"#,
-            r#"["begin",-0]"#,
-            r#"["begin",18446744073709551616]"#,
-            r#"["begin","0"]"#,
-            r#"["begin",null]"#,
-            r#"["begin",0,0]"#,
-            r#"["Begin",0]"#,
-            r#"["sweep",0]"#,
-            r#"["sweep",[]]"#,
-            r#"["save"]"#,
-            r#"["back",0]"#,
-            r#"["back",0,1,2]"#,
-            r#"["back",0,null]"#,
-            r#"["init_seek",0]"#,
-            r#"["init_link",0,3]"#,
-            r#"["init_store"]"#,
-            r#"["double",2,4]"#,
-            r#"["double","2"]"#,
-            r#"["ask",0]"#,
-            r#"["ask",0,"put",1]"#,
-            r#"["ask",0,"put","1",10]"#,
-            r#"["ask",0,"put",1,10,1]"#,
-            r#"["ask",0,"take",1,10]"#,
-            r#"["ask",0,"take"]"#,
-            r#"["ask",0,"get",[1]]"#,
-            r#"["ask",0,"update",1]"#,
-            r#"["ask",0,["get",1]]"#,
-            r#"["ask","get",1]"#,
-            r#"["seek",0,0]"#,
-            r#"["act"]"#,
-            r#"["commit",true]"#,
-            r#"["abort",0,null]"#,
-        ],
-        fillings: &["1", "65"],
+        pieces: r#"0
+null
+"begin"
+{"begin":0}
+[]
+[0]
+["begin"]
+[0,"begin"]
+["begin",-1]
+["begin",0.0]
+["begin",1e2]
+["begin",-0]
+["begin",18446744073709551616]
+["begin","0"]
+["begin",null]
+["begin",0,0]
+["Begin",0]
+["sweep",0]
+["sweep",[]]
+["save"]
+["back",0]
+["back",0,1,2]
+["back",0,null]
+["init_seek",0]
+["init_link",0,3]
+["init_store"]
+["double",2,4]
+["double","2"]
+["ask",0]
+["ask",0,"put",1]
+["ask",0,"put","1",10]
+["ask",0,"put",1,10,1]
+["ask",0,"take",1,10]
+["ask",0,"take"]
+["ask",0,"get",[1]]
+["ask",0,"update",1]
+["ask",0,["get",1]]
+["ask","get",1]
+["seek",0,0]
+["act"]
+["commit",true]
+["abort",0,null]"#,
+        fillings: "1 65",
         fault: Some(FileFault::Piece(Part::Step, 1)),
     },
     // More elements than any step has, and elements that no step has.
     Files {
         kind: Kind::Steps,
         frame: BEHIND_A_SWEEP,
-        pieces: &[
-            r#"["ask",0,"put",1,10,1,1,1,1]"#,
-            r#"["ask",0,"put",1,[10]]"#,
-            r#"["ask",0,"put",1,{"":10}]"#,
-            r#"["ask",true,"put",1,10]"#,
-            r#"[["sweep"]]"#,
-        ],
-        fillings: &[""],
+        pieces: r#"["ask",0,"put",1,10,1,1,1,1]
+["ask",0,"put",1,[10]]
+["ask",0,"put",1,{"":10}]
+["ask",true,"put",1,10]
+[["sweep"]]"#,
+        fillings: "",
         fault: Some(FileFault::Piece(Part::Step, 1)),
     },
     // What is no JSON comes before a wrong step, also behind it.
     Files {
         kind: Kind::Steps,
         frame: STEPS_OF_ONE,
-        pieces: &[r#"[[0],["act",1e999]]"#],
-        fillings: &[""],
+        pieces: r#"[[0],["act",1e999]]"#,
+        fillings: "",
         fault: Some(FileFault::NotJson),
     },
     // A `put_if` that is none in any version; and one that version 1 has not.
     Files {
         kind: Kind::Steps,
         frame: STEPS_IN_VERSION,
-        pieces: &[
-            r#"[["ask",0,"put_if",1]]"#,
-            r#"[["ask",0,"put_if",1,12]]"#,
-            r#"[["ask",0,"put_if",1,10,null]]"#,
-            r#"[["ask",0,"put_if",null,10,12]]"#,
-            r#"[["ask",0,"put_if",1,"none",12]]"#,
-            r#"[["ask",0,"put_if",1,true,12]]"#,
-            r#"[["ask",0,"put_if",1,-1,12]]"#,
-            r#"[["ask",0,"put_if",1,10,12,13]]"#,
-            r#"[["put_if",1,10,12]]"#,
-        ],
-        fillings: &["1", "2", "3"],
+        pieces: r#"[["ask",0,"put_if",1]]
+[["ask",0,"put_if",1,12]]
+[["ask",0,"put_if",1,10,null]]
+[["ask",0,"put_if",null,10,12]]
+[["ask",0,"put_if",1,"none",12]]
+[["ask",0,"put_if",1,true,12]]
+[["ask",0,"put_if",1,-1,12]]
+[["ask",0,"put_if",1,10,12,13]]
+[["put_if",1,10,12]]"#,
+        fillings: "1 2 3",
         fault: Some(FileFault::Piece(Part::Step, 0)),
     },
     Files {
         kind: Kind::Steps,
         frame: STEPS_IN_VERSION,
-        pieces: &[r#"[["begin",0],["ask",0,"put_if",1,null,12],["commit",0]]"#],
-        fillings: &["0", "3", "9"],
+        pieces: r#"[["begin",0],["ask",0,"put_if",1,null,12],["commit",0]]"#,
+        fillings: "0 3 9",
         fault: Some(FileFault::Limit),
     },
     Files {
         kind: Kind::Steps,
         frame: STEPS_IN_VERSION,
-        pieces: &[r#"[["begin",0],["ask",0,"put_if",1,null,12],["commit",0]]"#],
-        fillings: &["1"],
+        pieces: r#"[["begin",0],["ask",0,"put_if",1,null,12],["commit",0]]"#,
+        fillings: "1",
         fault: Some(FileFault::Piece(Part::Step, 1)),
     },
     Files {
         kind: Kind::Steps,
         frame: STEPS_IN_VERSION,
-        pieces: &[r#"[["begin",0],["ask",0,"put_if",1,null,12],["commit",0]]"#],
-        fillings: &["2"],
+        pieces: r#"[["begin",0],["ask",0,"put_if",1,null,12],["commit",0]]"#,
+        fillings: "2",
         fault: None,
     },
     Files {
         kind: Kind::Steps,
         frame: STEPS_IN_VERSION,
-        pieces: &[
-            r#"[["begin",0],["ask",0,"put_if",1,null,12],["start",0]]"#,
-            r#"[["begin",0],["start",0],["ask",0,"put_if",1,null,12]]"#,
-        ],
-        fillings: &["1"],
+        pieces: r#"[["begin",0],["ask",0,"put_if",1,null,12],["start",0]]
+[["begin",0],["start",0],["ask",0,"put_if",1,null,12]]"#,
+        fillings: "1",
         fault: Some(FileFault::Piece(Part::Step, 1)),
     },
     Files {
         kind: Kind::Steps,
         frame: STEPS_IN_VERSION,
-        pieces: &[r#"[["begin",0],["ask",0,"put_if",1,null,12],["start",0]]"#],
-        fillings: &["3"],
+        pieces: r#"[["begin",0],["ask",0,"put_if",1,null,12],["start",0]]"#,
+        fillings: "3",
         fault: Some(FileFault::Piece(Part::Step, 2)),
     },
     // Of two members with one name the last counts.
     Files {
         kind: Kind::Steps,
         frame: BEFORE_MEMBERS,
-        pieces: &[
-            r#""steps":0,"#,
-            r#""steps":[["begin"]],"#,
-            r#""version":7,"callers":null,"stripes":{},"buckets":1.5,"#,
-        ],
-        fillings: &[""],
+        pieces: r#""steps":0,
+"steps":[["begin"]],
+"version":7,"callers":null,"stripes":{},"buckets":1.5,"#,
+        fillings: "",
         fault: None,
     },
     Files {
         kind: Kind::Steps,
         frame: BEYOND_MEMBERS,
-        pieces: &[
-            r#","steps":0"#,
-            r#","version":null"#,
-            r#","callers":null"#,
-            r#","stripes":"8""#,
-            r#","buckets":[8]"#,
-            r#","\u0073teps":0"#,
-        ],
-        fillings: &[""],
+        pieces: r#","steps":0
+,"version":null
+,"callers":null
+,"stripes":"8"
+,"buckets":[8]
+,"\u0073teps":0"#,
+        fillings: "",
         fault: Some(FileFault::Member),
     },
     Files {
         kind: Kind::Steps,
         frame: BEYOND_MEMBERS,
-        pieces: &[r#","steps":[["sweep"],["begin"]]"#],
-        fillings: &[""],
+        pieces: r#","steps":[["sweep"],["begin"]]"#,
+        fillings: "",
         fault: Some(FileFault::Piece(Part::Step, 1)),
     },
     Files {
         kind: Kind::Steps,
         frame: BEYOND_MEMBERS,
-        pieces: &[r#","version":7"#],
-        fillings: &[""],
+        pieces: r#","version":7"#,
+        fillings: "",
         fault: Some(FileFault::Limit),
     },
     // What is passed over is JSON too.
     Files {
         kind: Kind::Steps,
         frame: BEYOND_STEPS,
-        pieces: &[
-            "1e999",
-            "[1,-1e999]",
-            r#"{"y":[1e999]}"#,
-            "01",
-            "[1,]",
-            r#""\ud800""#,
-        ],
-        fillings: &[""],
+        pieces: r#"1e999
+[1,-1e999]
+{"y":[1e999]}
+01
+[1,]
+"\ud800""#,
+        fillings: "",
         fault: Some(FileFault::NotJson),
     },
 ];
