@@ -24,36 +24,35 @@ const BAD_STEPS: &str =
 
 /// One transaction that commits, as a history.
 const LEGAL: &str =
-    "{\"version\":1,\"stripes\":8,\"entries\":[[\"began\",0,1],[\"asked\",0,\"put\",1,10],[\"did\",0,\
-    null],[\"committed\",0,1]]}";
+    "{\"version\":1,\"stripes\":8,\"entries\":[[\"began\",0,1],[\"asked\",0,\"put\",1,10],\
+    [\"did\",0,null],[\"committed\",0,1]]}";
 
 const LEGAL_LINE: &str = "legal 1 commits 0 open\n";
 
 /// The same with a reply that nobody put.
 const ILLEGAL: &str =
-    "{\"version\":1,\"stripes\":8,\"entries\":[[\"began\",0,1],[\"asked\",0,\"put\",1,10],[\"did\",0,\
-    7],[\"committed\",0,1]]}";
+    "{\"version\":1,\"stripes\":8,\"entries\":[[\"began\",0,1],[\"asked\",0,\"put\",1,10],\
+    [\"did\",0,7],[\"committed\",0,1]]}";
 
 /// One worker with one script.
 const SCRIPT: &str =
     r#"{"version":1,"workers":1,"stripes":8,"buckets":8,"tries":0,"scripts":[[["put",1,10]]]}"#;
 
-const HISTORY: &str =
-    "{\"entries\":[[\"began\",0,1],[\"asked\",0,\"put\",1,10],[\"did\",0,null],[\"committed\",0,1]],\
-    \"stripes\":8,\"version\":1}\n";
+const HISTORY: &str = "{\"entries\":[[\"began\",0,1],[\"asked\",0,\"put\",1,10],[\"did\",0,null],\
+    [\"committed\",0,1]],\"stripes\":8,\"version\":1}\n";
 
 const RUN_HISTORY: &str =
-    "{\"entries\":[[\"began\",0,1],[\"asked\",0,\"put\",1,10],[\"did\",0,null],[\"committed\",0,1]],\
-    \"stripes\":8,\"version\":3}\n";
+    "{\"entries\":[[\"began\",0,1],[\"asked\",0,\"put\",1,10],[\"did\",0,null],\
+    [\"committed\",0,1]],\"stripes\":8,\"version\":3}\n";
 
 /// Two workers with a script each, of twelve gets: the order of the workers' turns shows in the
 /// history.
 const TWO_WORKERS: &str =
-    "{\"version\":1,\"workers\":2,\"stripes\":8,\"buckets\":8,\"tries\":0,\"scripts\":[[[\"get\",1],\
-    [\"get\",1],[\"get\",1],[\"get\",1],[\"get\",1],[\"get\",1],[\"get\",1],[\"get\",1],[\"get\",\
-    1],[\"get\",1],[\"get\",1],[\"get\",1]],[[\"get\",2],[\"get\",2],[\"get\",2],[\"get\",2],\
-    [\"get\",2],[\"get\",2],[\"get\",2],[\"get\",2],[\"get\",2],[\"get\",2],[\"get\",2],[\"get\",\
-    2]]]}";
+    "{\"version\":1,\"workers\":2,\"stripes\":8,\"buckets\":8,\"tries\":0,\"scripts\":[[[\"get\",\
+    1],[\"get\",1],[\"get\",1],[\"get\",1],[\"get\",1],[\"get\",1],[\"get\",1],[\"get\",1],\
+    [\"get\",1],[\"get\",1],[\"get\",1],[\"get\",1]],[[\"get\",2],[\"get\",2],[\"get\",2],\
+    [\"get\",2],[\"get\",2],[\"get\",2],[\"get\",2],[\"get\",2],[\"get\",2],[\"get\",2],\
+    [\"get\",2],[\"get\",2]]]}";
 
 const FILES: &[(&str, &str)] = &[
     ("steps.json", STEPS),
@@ -109,8 +108,8 @@ fn compare<T: Abort + Threads + Wait + Sync>(
     let mut told = Narrow::new(usize::MAX, None);
     let (ended, is_told) = run_at(rt, alloc, desk, &mut printed, &mut told);
     assert!(rt; is_told && ended == status, "{}", desk.words);
-    assert!(rt; printed.written() == output.as_bytes(), "{}", desk.words);
-    assert!(rt; told.written() == errors.as_bytes(), "{}", desk.words);
+    assert!(rt; printed.bytes() == output.as_bytes(), "{}", desk.words);
+    assert!(rt; told.bytes() == errors.as_bytes(), "{}", desk.words);
 }
 
 /// Words of a call, what standard output and standard error get, and the status.
@@ -218,7 +217,7 @@ fn seeds_of_mix(rt: HostRuntime) -> Result<(), Fail> {
         ("boostmap mix --seed 4294967296 two.json", 4_294_967_296),
     ] {
         let history = mix_two(rt.alloc(), seed)?;
-        let text = std::str::from_utf8(history.written())?;
+        let text = std::str::from_utf8(history.bytes())?;
         compare(&rt, rt.alloc(), &Desk::new(words, FILES), [text, ""], 0);
     }
     Ok(())
@@ -232,7 +231,7 @@ fn seeds_that_differ_in_one_half(rt: HostRuntime) -> Result<(), Fail> {
         for second in seeds {
             let one = mix_two(rt.alloc(), first)?;
             let other = mix_two(rt.alloc(), second)?;
-            let are_same = one.written() == other.written();
+            let are_same = one.bytes() == other.bytes();
             assert!(rt; are_same == (first == second), "{first} and {second}");
         }
     }
@@ -269,7 +268,7 @@ fn writers_that_fail(rt: HostRuntime) {
             ("", 0)
         };
         assert!(rt; ended == (status, true), "{left}");
-        assert!(rt; errors.written() == line.as_bytes(), "{left}");
+        assert!(rt; errors.bytes() == line.as_bytes(), "{left}");
     }
     let desk = Desk::new("boostmap replay missing.json", FILES);
     let line = "read failed\n".len();
@@ -296,5 +295,5 @@ fn refused_allocations(rt: HostRuntime) {
         (4, "".as_bytes(), "no memory\n".as_bytes())
     };
     assert!(rt; is_told);
-    assert!(rt; (status, output.written(), errors.written()) == wanted);
+    assert!(rt; (status, output.bytes(), errors.bytes()) == wanted);
 }

@@ -95,7 +95,7 @@ impl Narrow {
     }
 
     /// What it has taken.
-    pub fn written(&self) -> &[u8] {
+    pub fn bytes(&self) -> &[u8] {
         &self.page[..self.len.min(PAGE)]
     }
 }

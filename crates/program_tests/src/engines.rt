@@ -69,8 +69,8 @@ fn same_text(rt: &impl Abort, found: &[u8], wanted: &[u8], row: &str) {
     assert_eq!(rt; found, wanted, "{row}");
 }
 
-/// Compares what a command prints of a file, or the line of the fault, where nothing is written; and
-/// the status.
+/// Compares what a command prints of a file, or the line of the fault, where nothing is written;
+/// and the status.
 fn compare_file<T: Abort + Threads + Wait + Sync>(
     rt: &T,
     alloc: Global,
@@ -82,7 +82,7 @@ fn compare_file<T: Abort + Threads + Wait + Sync>(
     let mut output = Narrow::new(usize::MAX, None);
     match run_engine(rt, alloc, command, &mut text.as_bytes(), &mut output) {
         Ok(is_well) => {
-            same_text(rt, output.written(), printed.as_bytes(), text);
+            same_text(rt, output.bytes(), printed.as_bytes(), text);
             assert!(rt; status == u8::from(!is_well), "{text}");
         }
         Err(fault) => {

@@ -107,8 +107,8 @@ const DRAWINGS: &[Drawings] = &[
         content: Ok(&[(1, 2), (3, 4)]),
     },
     Drawings {
-        frame: "{\"points\":0,\"width\":8,\"version\":2,\"width\":7,\"version\":1,\"points\":[[1,2],[3,\
-            4]]}",
+        frame: "{\"points\":0,\"width\":8,\"version\":2,\"width\":7,\"version\":1,\
+            \"points\":[[1,2],[3,4]]}",
         points: "",
         versions: &[""],
         content: Ok(&[(1, 2), (3, 4)]),

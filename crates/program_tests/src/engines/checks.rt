@@ -5,22 +5,22 @@ use super::{Command, Files};
 
 /// One transaction that commits, one that aborts, and one that reads `10`: a legal history.
 pub const CHECKED: &str =
-    "{\"version\":1,\"stripes\":8,\"entries\":[[\"began\",0,1],[\"asked\",0,\"put\",1,10],[\"did\",0,\
-    null],[\"committed\",0,1],[\"began\",1,2],[\"asked\",1,\"put\",1,99],[\"did\",1,10],\
+    "{\"version\":1,\"stripes\":8,\"entries\":[[\"began\",0,1],[\"asked\",0,\"put\",1,10],\
+    [\"did\",0,null],[\"committed\",0,1],[\"began\",1,2],[\"asked\",1,\"put\",1,99],[\"did\",1,10],\
     [\"leave\",1,null],[\"undone\",1],[\"aborted\",1],[\"began\",0,3],[\"asked\",0,\"get\",1],\
     [\"did\",0,10],[\"committed\",0,2]]}";
 
 /// The same with gaps for the last reply and for the step that takes back.
 const CHECKED_OF: &str =
-    "{\"version\":1,\"stripes\":8,\"entries\":[[\"began\",0,1],[\"asked\",0,\"put\",1,10],[\"did\",0,\
-    null],[\"committed\",0,1],[\"began\",1,2],[\"asked\",1,\"put\",1,99],[\"did\",1,10],\
-    [\"leave\",1,null],@[\"aborted\",1],[\"began\",0,3],[\"asked\",0,\"get\",1],#,[\"committed\",\
-    0,2]]}";
+    "{\"version\":1,\"stripes\":8,\"entries\":[[\"began\",0,1],[\"asked\",0,\"put\",1,10],\
+    [\"did\",0,null],[\"committed\",0,1],[\"began\",1,2],[\"asked\",1,\"put\",1,99],[\"did\",1,10],\
+    [\"leave\",1,null],@[\"aborted\",1],[\"began\",0,3],[\"asked\",0,\"get\",1],\
+    #,[\"committed\",0,2]]}";
 
 /// The same with a gap for the number of stripes.
 const STRIPES_OF: &str =
-    "{\"version\":1,\"stripes\":@,\"entries\":[[\"began\",0,1],[\"asked\",0,\"put\",1,10],[\"did\",0,\
-    null],[\"committed\",0,1],[\"began\",1,2],[\"asked\",1,\"put\",1,99],[\"did\",1,10],\
+    "{\"version\":1,\"stripes\":@,\"entries\":[[\"began\",0,1],[\"asked\",0,\"put\",1,10],\
+    [\"did\",0,null],[\"committed\",0,1],[\"began\",1,2],[\"asked\",1,\"put\",1,99],[\"did\",1,10],\
     [\"leave\",1,null],[\"undone\",1],[\"aborted\",1],[\"began\",0,3],[\"asked\",0,\"get\",1],\
     [\"did\",0,10],[\"committed\",0,2]]}";
 
@@ -98,7 +98,8 @@ pub const FILES: &[Files] = &[
     Files {
         command: Command::Check,
         frame: OF_EIGHT,
-        pieces: r#"["began",0,1],["asked",0,"put",1,10],["did",0,null],["began",1,2],["asked",1,"get",9]"#,
+        pieces: "[\"began\",0,1],[\"asked\",0,\"put\",1,10],[\"did\",0,null],[\"began\",1,2],\
+            [\"asked\",1,\"get\",9]",
         fillings: "",
         printed: "illegal entry 4 rule 2\n",
         status: 1,
@@ -180,7 +181,9 @@ pub const FILES: &[Files] = &[
     Files {
         command: Command::Check,
         frame: OF_VERSION_2,
-        pieces: r#"["began",0,1],["asked",0,"put_if",1,null,5],["did",0,null],["asked",0,"put_if",1,4,6],["did",0,5],["leave",0,null],["undone",0],["aborted",0]"#,
+        pieces: "[\"began\",0,1],[\"asked\",0,\"put_if\",1,null,5],[\"did\",0,null],\
+            [\"asked\",0,\"put_if\",1,4,6],[\"did\",0,5],[\"leave\",0,null],[\"undone\",0],\
+            [\"aborted\",0]",
         fillings: "",
         printed: "legal 0 commits 0 open\n",
         status: 0,
@@ -188,7 +191,9 @@ pub const FILES: &[Files] = &[
     Files {
         command: Command::Check,
         frame: OF_VERSION_2,
-        pieces: r#"["began",0,1],["asked",0,"put_if",1,null,5],["did",0,null],["asked",0,"put_if",1,4,6],["did",0,5],["leave",0,null],["undone",0],["undone",0],["aborted",0]"#,
+        pieces: "[\"began\",0,1],[\"asked\",0,\"put_if\",1,null,5],[\"did\",0,null],\
+            [\"asked\",0,\"put_if\",1,4,6],[\"did\",0,5],[\"leave\",0,null],[\"undone\",0],\
+            [\"undone\",0],[\"aborted\",0]",
         fillings: "",
         printed: "illegal entry 7 rule 3\n",
         status: 1,
@@ -222,7 +227,8 @@ pub const FILES: &[Files] = &[
     Files {
         command: Command::Check,
         frame: IN_VERSION,
-        pieces: r#"["began",0,1],["asked",0,"put",1,10],["did",0,null],["committed",0,1],["began",1,2],["busy",1,"get",9,0]"#,
+        pieces: "[\"began\",0,1],[\"asked\",0,\"put\",1,10],[\"did\",0,null],[\"committed\",0,1],\
+            [\"began\",1,2],[\"busy\",1,\"get\",9,0]",
         fillings: "3",
         printed: "legal 1 commits 1 open\n",
         status: 0,
@@ -230,7 +236,8 @@ pub const FILES: &[Files] = &[
     Files {
         command: Command::Check,
         frame: IN_VERSION,
-        pieces: r#"["began",0,1],["asked",0,"put",1,10],["did",0,null],["committed",0,1],["began",1,2],["busy",1,"get",9,0]"#,
+        pieces: "[\"began\",0,1],[\"asked\",0,\"put\",1,10],[\"did\",0,null],[\"committed\",0,1],\
+            [\"began\",1,2],[\"busy\",1,\"get\",9,0]",
         fillings: "1 2",
         printed: "illegal entry 5 rule 2\n",
         status: 1,
@@ -246,8 +253,16 @@ pub const FILES: &[Files] = &[
     // Histories that are mixed.
     Files {
         command: Command::Check,
-        frame: "#",
-        pieces: ONE_HISTORY,
+        frame: ONE_HISTORY,
+        pieces: "",
+        fillings: "",
+        printed: "legal 1 commits 0 open\n",
+        status: 0,
+    },
+    Files {
+        command: Command::Check,
+        frame: HISTORY_OF_VERSION_2,
+        pieces: "",
         fillings: "",
         printed: "legal 1 commits 0 open\n",
         status: 0,

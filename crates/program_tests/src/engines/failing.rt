@@ -33,7 +33,7 @@ fn one_byte_at_a_time(rt: HostRuntime) {
         let mut output = Narrow::new(usize::MAX, None);
         let result = run_engine(&rt, rt.alloc(), command, &mut input, &mut output);
         assert!(rt; matches!(result, Ok(true)), "{printed}");
-        assert!(rt; output.written() == printed.as_bytes(), "{printed}");
+        assert!(rt; output.bytes() == printed.as_bytes(), "{printed}");
         assert!(rt; input.calls.checked_sub(1) == Some(text.len()), "{printed}");
         assert!(rt; output.calls == printed.len(), "{printed}");
     }
@@ -77,7 +77,7 @@ fn fail_writes<T: Abort + Threads + Wait + Sync>(
         assert!(rt; matches!(result, Err(Fault::Write)), "{fails_at}");
         assert!(rt; output.calls.checked_sub(1) == Some(fails_at), "{fails_at}");
         let wanted = line.as_bytes().get(..fails_at);
-        assert!(rt; wanted == Some(output.written()), "{fails_at}");
+        assert!(rt; wanted == Some(output.bytes()), "{fails_at}");
     }
 }
 
@@ -109,7 +109,7 @@ fn refuse_memory<T: Abort + Threads + Wait + Sync>(
     let mut output = Narrow::new(usize::MAX, None);
     match run_engine(rt, alloc, command, &mut text.as_bytes(), &mut output) {
         Ok(is_well) => {
-            let is_known = known.iter().any(|text| text.as_bytes() == output.written());
+            let is_known = known.iter().any(|text| text.as_bytes() == output.bytes());
             assert!(rt; is_well && is_known);
         }
         Err(fault) => {

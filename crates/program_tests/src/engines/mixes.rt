@@ -36,13 +36,19 @@ pub const HISTORY_OF_VERSION_2: &str =
 pub const BAD_KEY: &str =
     r#"{"version":1,"workers":1,"stripes":8,"buckets":8,"tries":0,"scripts":[[#,["put",1,1]]]}"#;
 
+/// A file with gaps for its workers and its scripts.
+pub const WORKERS_OF: &str =
+    r#"{"version":1,"workers":@,"stripes":8,"buckets":8,"tries":0,"scripts":#}"#;
+
 /// Script files, and what is printed of them.
 pub const FILES: &[Files] = &[
     // Version 2 has a key of 2^63 and an action `put_if`: its history is of version 2.
     Files {
         command: Command::Mix(7),
         frame: "#",
-        pieces: r#"{"version":2,"workers":1,"stripes":8,"buckets":8,"tries":0,"scripts":[[["put_if",9223372036854775808,null,5],["help",9223372036854775808]]]}"#,
+        pieces: "{\"version\":2,\"workers\":1,\"stripes\":8,\"buckets\":8,\"tries\":0,\
+            \"scripts\":[[[\"put_if\",9223372036854775808,null,5],\
+            [\"help\",9223372036854775808]]]}",
         fillings: "",
         printed: HISTORY_OF_VERSION_2,
         status: 0,
@@ -78,17 +84,17 @@ pub const FILES: &[Files] = &[
     },
     Files {
         command: Command::Mix(0),
-        frame: "#",
-        pieces: r#"{"version":1,"workers":1,"stripes":8,"buckets":8,"tries":0,"scripts":[[],[["put",1]]]}"#,
-        fillings: "",
+        frame: WORKERS_OF,
+        pieces: r#"[[],[["put",1]]]"#,
+        fillings: "1",
         printed: "refused 21 script 1",
         status: 3,
     },
     Files {
         command: Command::Mix(0),
-        frame: "#",
-        pieces: r#"{"version":1,"workers":65,"stripes":8,"buckets":8,"tries":0,"scripts":[]}"#,
-        fillings: "",
+        frame: WORKERS_OF,
+        pieces: "[]",
+        fillings: "65",
         printed: "refused 22",
         status: 3,
     },
@@ -120,7 +126,7 @@ pub fn judge<T: Abort + Threads + Wait + Sync>(
 ) -> Result<(), Fail> {
     let mut line = Narrow::new(usize::MAX, None);
     let is_legal = run_engine(rt, alloc, Command::Check, &mut &*history, &mut line)?;
-    let printed = line.written();
+    let printed = line.bytes();
     assert!(rt; is_legal && printed.starts_with(b"legal "), "{row}");
     assert!(rt; printed.ends_with(b" commits 0 open\n"), "{row}");
     Ok(())
@@ -151,10 +157,10 @@ fn any_seed(rt: HostRuntime) -> Result<(), Fail> {
     for seed in 0..200 {
         let history = mix_three(&rt, rt.alloc(), seed)?;
         let again = mix_three(&rt, rt.alloc(), seed)?;
-        assert!(rt; history.written() == again.written(), "{seed}");
-        assert!(rt; history.written() != NOTHING.as_bytes(), "{seed}");
-        judge(&rt, rt.alloc(), history.written(), "any seed")?;
-        differs = differs || history.written() != first.written();
+        assert!(rt; history.bytes() == again.bytes(), "{seed}");
+        assert!(rt; history.bytes() != NOTHING.as_bytes(), "{seed}");
+        judge(&rt, rt.alloc(), history.bytes(), "any seed")?;
+        differs = differs || history.bytes() != first.bytes();
     }
     assert!(rt; differs);
     Ok(())

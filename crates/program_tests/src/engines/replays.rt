@@ -459,7 +459,7 @@ fn play<T: Abort + Threads + Wait + Sync>(rt: &T, alloc: Global, run: Run) -> Re
     writeln!(report, "{}", run.rest)?;
     let mut output = Narrow::new(usize::MAX, None);
     replay_steps(rt, alloc, run, &steps, &mut output)?;
-    same_text(rt, output.written(), report.as_bytes(), run.rest);
+    same_text(rt, output.bytes(), report.as_bytes(), run.rest);
     Ok(())
 }
 
@@ -513,6 +513,6 @@ fn segments(rt: HostRuntime) -> Result<(), Fail> {
     report.push_str(OF_SEGMENTS.rest)?;
     let mut output = Narrow::new(usize::MAX, None);
     replay_steps(&rt, rt.alloc(), OF_SEGMENTS, &steps, &mut output)?;
-    assert!(rt; output.written().starts_with(report.as_bytes()));
+    assert!(rt; output.bytes().starts_with(report.as_bytes()));
     Ok(())
 }

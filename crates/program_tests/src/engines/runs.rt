@@ -1,6 +1,6 @@
 //! What `run` prints of script files.
 
-use super::mixes::{BAD_KEY, ONE_WORKER, judge};
+use super::mixes::{BAD_KEY, ONE_WORKER, WORKERS_OF, judge};
 use super::{Command, Files, run_engine};
 use crate::devices::Narrow;
 use std::alloc::Global;
@@ -20,23 +20,26 @@ pub const FILES: &[Files] = &[
     // One worker does what it does where turns are mixed; the history is of version 3.
     Files {
         command: Command::Run,
-        frame: "#",
-        pieces: ONE_WORKER,
+        frame: ONE_WORKER,
+        pieces: "",
         fillings: "",
-        printed: "{\"entries\":[[\"began\",0,1],[\"asked\",0,\"put\",1,10],[\"did\",0,null],[\"saved\",0],\
-            [\"asked\",0,\"take\",1],[\"did\",0,10],[\"leave\",0,1],[\"undone\",0],[\"returned\",\
-            0,1],[\"committed\",0,1],[\"began\",0,2],[\"asked\",0,\"get\",1],[\"did\",0,10],\
-            [\"leave\",0,null],[\"aborted\",0]],\"stripes\":8,\"version\":3}\n",
+        printed: "{\"entries\":[[\"began\",0,1],[\"asked\",0,\"put\",1,10],[\"did\",0,null],\
+            [\"saved\",0],[\"asked\",0,\"take\",1],[\"did\",0,10],[\"leave\",0,1],[\"undone\",0],\
+            [\"returned\",0,1],[\"committed\",0,1],[\"began\",0,2],[\"asked\",0,\"get\",1],\
+            [\"did\",0,10],[\"leave\",0,null],[\"aborted\",0]],\"stripes\":8,\"version\":3}\n",
         status: 0,
     },
     // Keys of a script file of version 2 are every number; its history is of version 3 too.
     Files {
         command: Command::Run,
         frame: "#",
-        pieces: r#"{"version":2,"workers":1,"stripes":8,"buckets":8,"tries":0,"scripts":[[["put_if",9223372036854775808,null,5],["help",9223372036854775808]]]}"#,
+        pieces: "{\"version\":2,\"workers\":1,\"stripes\":8,\"buckets\":8,\"tries\":0,\
+            \"scripts\":[[[\"put_if\",9223372036854775808,null,5],\
+            [\"help\",9223372036854775808]]]}",
         fillings: "",
-        printed: "{\"entries\":[[\"began\",0,1],[\"asked\",0,\"put_if\",9223372036854775808,null,5],\
-            [\"did\",0,null],[\"committed\",0,1]],\"stripes\":8,\"version\":3}\n",
+        printed: "{\"entries\":[[\"began\",0,1],\
+            [\"asked\",0,\"put_if\",9223372036854775808,null,5],[\"did\",0,null],\
+            [\"committed\",0,1]],\"stripes\":8,\"version\":3}\n",
         status: 0,
     },
     // A key of 2^63 is refused before any step of help: the transaction aborts.
@@ -68,17 +71,17 @@ pub const FILES: &[Files] = &[
     },
     Files {
         command: Command::Run,
-        frame: "#",
-        pieces: r#"{"version":1,"workers":1,"stripes":8,"buckets":8,"tries":0,"scripts":[[],[["put",1]]]}"#,
-        fillings: "",
+        frame: WORKERS_OF,
+        pieces: r#"[[],[["put",1]]]"#,
+        fillings: "1",
         printed: "refused 21 script 1",
         status: 3,
     },
     Files {
         command: Command::Run,
-        frame: "#",
-        pieces: r#"{"version":1,"workers":65,"stripes":8,"buckets":8,"tries":0,"scripts":[]}"#,
-        fillings: "",
+        frame: WORKERS_OF,
+        pieces: "[]",
+        fillings: "65",
         printed: "refused 22",
         status: 3,
     },
@@ -107,8 +110,8 @@ fn run_workers<T: Threads + Wait + Sync>(
 fn any_workers(rt: HostRuntime) -> Result<(), Fail> {
     for workers in ["1", "2", "3", "4", "5", "6"] {
         let history = run_workers(&rt, rt.alloc(), workers)?;
-        judge(&rt, rt.alloc(), history.written(), workers)?;
-        let begins = history.written().starts_with(b"{\"entries\":[[\"began\",");
+        judge(&rt, rt.alloc(), history.bytes(), workers)?;
+        let begins = history.bytes().starts_with(b"{\"entries\":[[\"began\",");
         assert!(rt; begins, "{workers}");
     }
     Ok(())

@@ -44,21 +44,21 @@ const EVERY_KIND: &str =
 
 /// The same with its members in another order.
 const EVERY_KIND_READ: &str =
-    "{\"version\":1,\"stripes\":4096,\"entries\":[[\"began\",0,1],[\"saved\",0],[\"asked\",0,\"put\",\
-    1,10],[\"did\",0,null],[\"asked\",0,\"take\",2],[\"did\",0,18446744073709551615],[\"asked\",\
-    0,\"get\",9223372036854775808],[\"did\",0,0],[\"leave\",0,1],[\"undone\",0],[\"returned\",0,\
-    1],[\"committed\",0,1],[\"busy\",63,\"put\",1,20,0],[\"busy\",1,\"take\",7,63],[\"busy\",1,\
-    \"get\",0,2],[\"leave\",5,null],[\"aborted\",5]]}";
+    "{\"version\":1,\"stripes\":4096,\"entries\":[[\"began\",0,1],[\"saved\",0],\
+    [\"asked\",0,\"put\",1,10],[\"did\",0,null],[\"asked\",0,\"take\",2],\
+    [\"did\",0,18446744073709551615],[\"asked\",0,\"get\",9223372036854775808],[\"did\",0,0],\
+    [\"leave\",0,1],[\"undone\",0],[\"returned\",0,1],[\"committed\",0,1],\
+    [\"busy\",63,\"put\",1,20,0],[\"busy\",1,\"take\",7,63],[\"busy\",1,\"get\",0,2],\
+    [\"leave\",5,null],[\"aborted\",5]]}";
 
 /// White space, members in another order, others beside them, and one given twice.
 const ANY_ORDER: &str =
     " { \"entries\" : [ [ \"undone\" , 3 ] ],\n\"note\":null,\"stripes\":0,\"stripes\":1,\
     \"version\":1}\n";
 
-const VERSION_2: &str =
-    "{\"entries\":[[\"asked\",0,\"put_if\",1,null,5],[\"asked\",0,\"put_if\",18446744073709551615,4,\
-    6],[\"busy\",1,\"put_if\",1,0,7,0],[\"busy\",1,\"put_if\",2,null,8,63]],\"stripes\":8,\
-    \"version\":2}";
+const VERSION_2: &str = "{\"entries\":[[\"asked\",0,\"put_if\",1,null,5],\
+    [\"asked\",0,\"put_if\",18446744073709551615,4,6],[\"busy\",1,\"put_if\",1,0,7,0],\
+    [\"busy\",1,\"put_if\",2,null,8,63]],\"stripes\":8,\"version\":2}";
 
 /// Version 3, of history files alone, has the shapes of version 2.
 const VERSION_3: &str =
@@ -133,7 +133,7 @@ const READ: &[Read] = &[
 ];
 
 /// The text that is written of a history.
-fn written(alloc: Global, read: Read) -> Result<String, Fail> {
+fn text_of(alloc: Global, read: Read) -> Result<String, Fail> {
     Ok(history_text(alloc, read.version, read.stripes, read.entries)?)
 }
 
@@ -154,7 +154,7 @@ fn contents_of_histories(rt: HostRuntime) -> Result<(), Fail> {
     for read in READ {
         compare(&rt, rt.alloc(), *read)?;
         if read.is_written {
-            let text = written(rt.alloc(), *read)?;
+            let text = text_of(rt.alloc(), *read)?;
             assert!(rt; text.as_str() == read.text, "{text}");
         }
     }
@@ -311,7 +311,9 @@ null
     Files {
         kind: Kind::History,
         frame: "#",
-        pieces: r#"{"entries":[["asked",0,"put_if",1,null,5],["asked",0,"put_if",18446744073709551615,4,6],["busy",1,"put_if",1,0,7,0],["busy",1,"put_if",2,null,8,63]],"stripes":8,"version":1}"#,
+        pieces: "{\"entries\":[[\"asked\",0,\"put_if\",1,null,5],\
+            [\"asked\",0,\"put_if\",18446744073709551615,4,6],[\"busy\",1,\"put_if\",1,0,7,0],\
+            [\"busy\",1,\"put_if\",2,null,8,63]],\"stripes\":8,\"version\":1}",
         fillings: "",
         fault: Some(FileFault::Piece(Part::Entry, 0)),
     },

@@ -16,7 +16,8 @@ const SCRIPTS_IN_VERSION: &str =
 
 /// The same with a gap for one script.
 const BETWEEN_SCRIPTS: &str =
-    r#"{"version":@,"workers":1,"stripes":2,"buckets":8,"tries":3,"scripts":[[],[["get",1]],#,[0]]}"#;
+    "{\"version\":@,\"workers\":1,\"stripes\":2,\"buckets\":8,\"tries\":3,\"scripts\":[[],\
+    [[\"get\",1]],#,[0]]}";
 
 /// Files with a gap for scripts, or for the actions of a script; and those with a wrong one behind.
 pub const SCRIPTS: &str =
@@ -37,9 +38,8 @@ const EVERY_ACTION: &str =
     10],[\"take\",18446744073709551615],[\"get\",0]],[],[[\"save\"],[\"back\",1],[\"help\",\
     9223372036854775808],[\"abort\"],[\"save\"]]]}";
 
-const VERSION_2: &str =
-    "{\"version\":2,\"workers\":1,\"stripes\":2,\"buckets\":8,\"tries\":3,\"scripts\":[[[\"save\"]],\
-    [[\"put_if\",1,null,10],[\"put_if\",18446744073709551615,10,12]]]}";
+const VERSION_2: &str = "{\"version\":2,\"workers\":1,\"stripes\":2,\"buckets\":8,\"tries\":3,\
+    \"scripts\":[[[\"save\"]],[[\"put_if\",1,null,10],[\"put_if\",18446744073709551615,10,12]]]}";
 
 /// A script file, and what it holds.
 #[derive(Clone, Copy)]
@@ -252,12 +252,18 @@ null
     Files {
         kind: Kind::Scripts,
         frame: "#",
-        pieces: r#"{"version":1,"workers":1e999,"stripes":8,"buckets":8,"tries":0,"scripts":[]}
-{"version":1,"workers":1,"stripes":8,"buckets":8,"tries":0,"scripts":1e999}
-{"version":1,"workers":1,"stripes":8,"buckets":8,"tries":0,"scripts":[[1e999]]}
-{"version":1,"workers":1,"stripes":8,"buckets":8,"tries":0,"scripts":[[["put",1e999,1]]]}
-{"version":1,"workers":1,"stripes":8,"buckets":8,"tries":0,"scripts":[[["save"]]],"x":{"y":1e999}}"#,
+        pieces: r#"{"version":1,"workers":1e999,"stripes":8,"buckets":8,"tries":0,"scripts":[]}"#,
         fillings: "",
+        fault: Some(FileFault::NotJson),
+    },
+    Files {
+        kind: Kind::Scripts,
+        frame: r#"{@,"tries":0,"scripts":#}"#,
+        pieces: r#"1e999
+[[1e999]]
+[[["put",1e999,1]]]
+[[["save"]]],"x":{"y":1e999}"#,
+        fillings: SIZES,
         fault: Some(FileFault::NotJson),
     },
 ];
