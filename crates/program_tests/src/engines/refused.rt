@@ -183,7 +183,7 @@ const ENTRIES: [Entry; 60] = [
 const CHANGED: usize = 35;
 
 /// The callers and their keys, in the order of the list, which is that of reversed bits.
-const KEYS: [(u64, u64); 5] = [(3, 4), (1, 2), (0, 1), (4, 5), (2, 3)];
+const KEYS: &[(u64, u64)] = &[(3, 4), (1, 2), (0, 1), (4, 5), (2, 3)];
 
 /// Whether memory is refused now.
 fn is_refused(alloc: Global) -> bool {
@@ -326,14 +326,12 @@ fn compare_map(rt: &impl Abort, alloc: Global, core: &Core, entries: &[Entry]) {
     let mut count: u64 = 0;
     let mut owed: usize = 0;
     for (caller, key) in KEYS {
-        let state = state_of(caller, entries);
+        let state = state_of(*caller, entries);
         owed = owed.saturating_add(state.owed);
         if let Some(value) = value_with(state.changes) {
             count = count.saturating_add(1);
-            assert!(rt;
-                pairs.is_none() || found.next() == Some(&(key, value)),
-                "{key}"
-            );
+            let is_same = pairs.is_none() || found.next() == Some(&(*key, value));
+            assert!(rt; is_same, "{key}");
         }
     }
     assert!(rt; found.next().is_none());
@@ -353,12 +351,12 @@ fn seen_of(rt: &impl Abort, core: &mut Core, key: u64) -> Option<Answer> {
 /// Compares who holds the stripe of each key.
 fn compare_stripes(rt: &impl Abort, alloc: Global, core: &mut Core, entries: &[Entry]) {
     for (caller, key) in KEYS {
-        let wanted = if state_of(caller, entries).holds {
-            Answer::Busy(caller)
+        let wanted = if state_of(*caller, entries).holds {
+            Answer::Busy(*caller)
         } else {
             Answer::Asked
         };
-        let seen = seen_of(rt, core, key);
+        let seen = seen_of(rt, core, *key);
         assert!(rt;
             seen == Some(wanted) || seen.is_none() && is_refused(alloc),
             "of {key}"
@@ -414,12 +412,12 @@ fn abort_all(rt: &impl Abort, core: &mut Core, entries: &[Entry]) {
     let (trace, owed) = history_of(core);
     let wanted_length = trace.len().saturating_add(owed);
     for (caller, _) in KEYS {
-        let wanted = if state_of(caller, entries).is_open {
+        let wanted = if state_of(*caller, entries).is_open {
             Answer::Aborted
         } else {
             Answer::Refused(Refusal::NotOpen)
         };
-        assert!(rt; abort(core, caller) == wanted, "{caller}");
+        assert!(rt; abort(core, *caller) == wanted, "{caller}");
     }
     assert!(rt; history_of(core).0.len() == wanted_length);
 }
@@ -441,28 +439,18 @@ fn judge(rt: &impl Abort, alloc: Global, core: &Core) {
     assert!(rt; is_refused(alloc));
 }
 
-/// Is to be run with allocations refused: one, eight in a row, or all from one on. Where a change
-/// is refused memory, all is as it was before, and every caller aborts. What wants memory to be
-/// seen is compared where there is memory.
-#[test]
-fn five_callers_undone_is_legal(rt: HostRuntime) -> Result<(), Fail> {
-    let alloc = rt.alloc();
-    let Some(mut core) = core_if_made(alloc, Limits::new(6, 8, 8)?) else {
-        assert!(rt; is_refused(alloc));
-        return Ok(());
-    };
-    let count = play(&rt, alloc, &mut core, &CHANGES, 0);
-    let entries = first_entries(count);
-    compare(&rt, alloc, &mut core, entries, true);
+/// Plays the changes, and takes all back that were not refused memory.
+fn play_all(rt: &impl Abort, alloc: Global, core: &mut Core) {
+    let count = play(rt, alloc, core, &CHANGES, 0);
+    compare(rt, alloc, core, first_entries(count), true);
     if count == CHANGED {
-        play(&rt, alloc, &mut core, &ABORTS, CHANGED);
+        play(rt, alloc, core, &ABORTS, CHANGED);
     } else {
-        abort_all(&rt, &mut core, entries);
+        abort_all(rt, core, first_entries(count));
     }
-    compare_map(&rt, alloc, &core, &ENTRIES);
-    compare_stripes(&rt, alloc, &mut core, &ENTRIES);
-    judge(&rt, alloc, &core);
-    Ok(())
+    compare_map(rt, alloc, core, &ENTRIES);
+    compare_stripes(rt, alloc, core, &ENTRIES);
+    judge(rt, alloc, core);
 }
 
 /// Has a caller begin, ask for an operation and seek; none where memory is refused.
@@ -474,29 +462,59 @@ fn placed_if_given(rt: &impl Abort, core: &mut Core, caller: u64, op: Op) -> Opt
     Some(take(rt, core, Step::Seek(caller)))
 }
 
+/// The steps of the other caller.
+const BESIDE: &[Step] = &[Step::Begin(1), Step::Ask(1, Op::Put(2, 20))];
+
+/// Has caller 0 seek the place of its put, the other caller take a step, and caller 0 act.
+fn act_beside(rt: &impl Abort, alloc: Global, core: &mut Core, step: Step) {
+    let placed = placed_if_given(rt, core, 0, Op::Put(1, 10));
+    if placed.is_none() {
+        assert!(rt; is_refused(alloc));
+        assert!(rt; matches!(abort(core, 0), Answer::Aborted | Answer::Refused(_)));
+        return;
+    }
+    assert!(rt; placed == Some(Answer::Placed));
+    let length = history_of(core).0.len();
+    if take(rt, core, step) == NO_MEMORY {
+        assert!(rt; history_of(core).0.len() == length);
+    }
+    assert!(rt; take(rt, core, Step::Act(0)) == Answer::Done(None));
+    assert!(rt; abort(core, 0) == Answer::Aborted);
+}
+
+/// Plays both steps of the other caller.
+fn play_beside(rt: &impl Abort, alloc: Global, core: &mut Core) {
+    for step in BESIDE {
+        act_beside(rt, alloc, core, *step);
+    }
+}
+
+/// Plays all or the steps beside on a core of so many callers, where memory for that is given.
+fn play_on_core(rt: &impl Abort, alloc: Global, callers: u64, is_all: bool) -> Result<(), Fail> {
+    let core = core_if_made(alloc, Limits::new(callers, 8, 8)?);
+    assert!(rt; core.is_some() || is_refused(alloc));
+    if let Some(mut core) = core {
+        if is_all {
+            play_all(rt, alloc, &mut core);
+        } else {
+            play_beside(rt, alloc, &mut core);
+        }
+    }
+    Ok(())
+}
+
+/// Is to be run with allocations refused: one, eight in a row, or all from one on. Where a change
+/// is refused memory, all is as it was before, and every caller aborts. What wants memory to be
+/// seen is compared where there is memory.
+#[test]
+fn five_callers_undone_is_legal(rt: HostRuntime) -> Result<(), Fail> {
+    play_on_core(&rt, rt.alloc(), 6, true)
+}
+
 /// Is to be run with allocations refused, as the test above. A caller has sought the place of its
 /// put when another caller's step is refused memory: its cursor stands, since it acts by it and
 /// need not seek again.
 #[test]
 fn a_cursor_stands_beside_a_refusal(rt: HostRuntime) -> Result<(), Fail> {
-    let alloc = rt.alloc();
-    let Some(mut core) = core_if_made(alloc, Limits::new(2, 8, 8)?) else {
-        assert!(rt; is_refused(alloc));
-        return Ok(());
-    };
-    for step in [Step::Begin(1), Step::Ask(1, Op::Put(2, 20))] {
-        let Some(placed) = placed_if_given(&rt, &mut core, 0, Op::Put(1, 10)) else {
-            assert!(rt; is_refused(alloc));
-            assert!(rt; matches!(abort(&mut core, 0), Answer::Aborted | Answer::Refused(_)));
-            continue;
-        };
-        assert!(rt; placed == Answer::Placed);
-        let length = history_of(&core).0.len();
-        if take(&rt, &mut core, step) == NO_MEMORY {
-            assert!(rt; history_of(&core).0.len() == length);
-        }
-        assert!(rt; take(&rt, &mut core, Step::Act(0)) == Answer::Done(None));
-        assert!(rt; abort(&mut core, 0) == Answer::Aborted);
-    }
-    Ok(())
+    play_on_core(&rt, rt.alloc(), 2, false)
 }
