@@ -1,6 +1,6 @@
 //! The command line: which engine runs on which file, what each output gets, and the status.
 
-use crate::devices::{Desk, Narrow};
+use crate::devices::{Desk, Ended, Narrow, compare_ended};
 use boostmap_engine::mix;
 use command_line::{Ending, run};
 use std::alloc::Global;
@@ -37,6 +37,9 @@ const ILLEGAL: &str =
 /// One worker with one script.
 const SCRIPT: &str =
     r#"{"version":1,"workers":1,"stripes":8,"buckets":8,"tries":0,"scripts":[[["put",1,10]]]}"#;
+
+/// The line of a file that cannot be opened.
+const READ_FAILED: &str = "read failed\n";
 
 const HISTORY: &str = "{\"entries\":[[\"began\",0,1],[\"asked\",0,\"put\",1,10],[\"did\",0,null],\
     [\"committed\",0,1]],\"stripes\":8,\"version\":1}\n";
@@ -83,16 +86,21 @@ From 3 on one line on standard error says which.
 Example: boostmap check examples/checked.json
 ";
 
-/// Runs the program at a desk.
+/// Runs the program at a desk with these two writers.
 fn run_at<T: Threads + Wait + Sync>(
     rt: &T,
     alloc: Global,
     desk: &Desk<'_>,
-    output: &mut Narrow,
-    errors: &mut Narrow,
-) -> (u8, bool) {
-    let Ending { status, is_told } = run(rt, alloc, desk, output, errors);
-    (status, is_told)
+    writers: [Narrow; 2],
+) -> Ended {
+    let [mut output, mut errors] = writers;
+    let Ending { status, is_told } = run(rt, alloc, desk, &mut output, &mut errors);
+    Ended {
+        output,
+        errors,
+        status,
+        is_told,
+    }
 }
 
 /// Compares what the program writes to standard output and to standard error, and its status.
@@ -100,22 +108,17 @@ fn compare<T: Abort + Threads + Wait + Sync>(
     rt: &T,
     alloc: Global,
     desk: &Desk<'_>,
-    texts: [&str; 2],
-    status: u8,
+    wanted: (&str, &str, u8),
 ) {
-    let [output, errors] = texts;
-    let mut printed = Narrow::new(usize::MAX, None);
-    let mut told = Narrow::new(usize::MAX, None);
-    let (ended, is_told) = run_at(rt, alloc, desk, &mut printed, &mut told);
-    assert!(rt; is_told && ended == status, "{}", desk.words);
-    assert!(rt; printed.bytes() == output.as_bytes(), "{}", desk.words);
-    assert!(rt; told.bytes() == errors.as_bytes(), "{}", desk.words);
+    let ended = run_at(rt, alloc, desk, [Narrow::whole(), Narrow::whole()]);
+    compare_ended(rt, &ended, wanted, desk.words);
 }
 
 /// Words of a call, what standard output and standard error get, and the status.
-type Ended = (&'static str, &'static str, &'static str, u8);
+type Called = (&'static str, &'static str, &'static str, u8);
 
-const CALLS: &[Ended] = &[
+const CALLS: &[Called] = &[
+    ("boostmap ", "", USAGE, 2),
     ("boostmap replay steps.json", REPORT, "", 0),
     ("boostmap mix --seed 7 script.json", HISTORY, "", 0),
     ("boostmap check legal.json", LEGAL_LINE, "", 0),
@@ -144,140 +147,141 @@ const CALLS: &[Ended] = &[
 ];
 
 /// Words that are no call.
-const NO_CALLS: &[&str] = &[
-    "boostmap",
-    "boostmap ",
-    "boostmap steps.json",
-    "boostmap replay",
-    "boostmap replay steps.json two.json",
-    "boostmap replay --seed 7 steps.json",
-    "boostmap replay -x",
-    "boostmap Replay steps.json",
-    "boostmap repla steps.json",
-    "boostmap run",
-    "boostmap run steps.json two.json",
-    "boostmap run --seed 7 steps.json",
-    "boostmap Run steps.json",
-    "boostmap mix steps.json",
-    "boostmap mix --seed 7",
-    "boostmap mix --seed steps.json",
-    "boostmap mix --seed 7 steps.json two.json",
-    "boostmap mix --seed +7 steps.json",
-    "boostmap mix --seed -7 steps.json",
-    "boostmap mix --seed 7x steps.json",
-    "boostmap mix --seed 0x7 steps.json",
-    "boostmap mix --seed= steps.json",
-    "boostmap mix --seed 18446744073709551616 steps.json",
-    "boostmap mix --seed 7 --seed 7 steps.json",
-    "boostmap check",
-    "boostmap check steps.json two.json",
-    "boostmap check --seed 7 steps.json",
-    "boostmap Check steps.json",
-    "boostmap help",
-    "boostmap help replay",
-    "boostmap -h",
-    "boostmap --help",
-    "boostmap replay -h",
-    "boostmap replay --help",
-    "boostmap --version",
-    "boostmap -V",
-];
+const NO_CALLS: &str = "boostmap
+boostmap steps.json
+boostmap replay
+boostmap replay steps.json two.json
+boostmap replay --seed 7 steps.json
+boostmap replay -x
+boostmap Replay steps.json
+boostmap repla steps.json
+boostmap run
+boostmap run steps.json two.json
+boostmap run --seed 7 steps.json
+boostmap Run steps.json
+boostmap mix steps.json
+boostmap mix --seed 7
+boostmap mix --seed steps.json
+boostmap mix --seed 7 steps.json two.json
+boostmap mix --seed +7 steps.json
+boostmap mix --seed -7 steps.json
+boostmap mix --seed 7x steps.json
+boostmap mix --seed 0x7 steps.json
+boostmap mix --seed= steps.json
+boostmap mix --seed 18446744073709551616 steps.json
+boostmap mix --seed 7 --seed 7 steps.json
+boostmap check
+boostmap check steps.json two.json
+boostmap check --seed 7 steps.json
+boostmap Check steps.json
+boostmap help
+boostmap help replay
+boostmap -h
+boostmap --help
+boostmap replay -h
+boostmap replay --help
+boostmap --version
+boostmap -V";
 
 #[test]
 fn each_command_and_each_status(rt: HostRuntime) {
     for (words, output, errors, status) in CALLS {
-        let desk = Desk::new(words, FILES);
-        compare(&rt, rt.alloc(), &desk, [output, errors], *status);
+        let wanted = (*output, *errors, *status);
+        compare(&rt, rt.alloc(), &Desk::new(words, FILES), wanted);
     }
-    for words in NO_CALLS {
-        compare(&rt, rt.alloc(), &Desk::new(words, FILES), ["", USAGE], 2);
+    for words in NO_CALLS.lines() {
+        compare(&rt, rt.alloc(), &Desk::new(words, FILES), ("", USAGE, 2));
     }
 }
 
-/// The history of two workers that the engine mixes with this seed.
+/// What the engine prints of two workers with this seed.
 fn mix_two(alloc: Global, seed: u64) -> Result<Narrow, Fail> {
-    let mut output = Narrow::new(usize::MAX, None);
+    let mut output = Narrow::whole();
     mix(alloc, seed, &mut TWO_WORKERS.as_bytes(), &mut output)?;
     Ok(output)
 }
 
 /// Calls of `mix`, and the seed that the engine gets: its history shows it. The whole seed counts,
 /// its high half and its low half.
+const SEEDS: &[(&str, u64)] = &[
+    ("boostmap mix --seed 7 two.json", 7),
+    ("boostmap mix two.json --seed 7", 7),
+    ("boostmap mix --seed=7 two.json", 7),
+    ("boostmap mix --seed 007 two.json", 7),
+    ("boostmap mix --seed 0 -- two.json", 0),
+    ("bin/x mix --seed 18446744073709551615 two.json", u64::MAX),
+    ("boostmap mix --seed 1 two.json", 1),
+    ("boostmap mix --seed 4294967297 two.json", 4_294_967_297),
+    ("boostmap mix --seed 4294967296 two.json", 4_294_967_296),
+];
+
 #[test]
 fn seeds_of_mix(rt: HostRuntime) -> Result<(), Fail> {
-    for (words, seed) in [
-        ("boostmap mix --seed 7 two.json", 7),
-        ("boostmap mix two.json --seed 7", 7),
-        ("boostmap mix --seed=7 two.json", 7),
-        ("boostmap mix --seed 007 two.json", 7),
-        ("boostmap mix --seed 0 -- two.json", 0),
-        ("bin/x mix --seed 18446744073709551615 two.json", u64::MAX),
-        ("boostmap mix --seed 1 two.json", 1),
-        ("boostmap mix --seed 4294967297 two.json", 4_294_967_297),
-        ("boostmap mix --seed 4294967296 two.json", 4_294_967_296),
-    ] {
-        let history = mix_two(rt.alloc(), seed)?;
-        let text = std::str::from_utf8(history.bytes())?;
-        compare(&rt, rt.alloc(), &Desk::new(words, FILES), [text, ""], 0);
+    for (words, seed) in SEEDS {
+        let history = mix_two(rt.alloc(), *seed)?;
+        let wanted = (history.text(), "", 0);
+        compare(&rt, rt.alloc(), &Desk::new(words, FILES), wanted);
     }
     Ok(())
 }
 
-/// Two workers' histories differ where their seeds do, in either half.
+/// The histories of two workers differ where the seeds do, also in one half alone.
 #[test]
 fn seeds_that_differ_in_one_half(rt: HostRuntime) -> Result<(), Fail> {
-    let seeds = [0, 1, 7, 4_294_967_296, 4_294_967_297, u64::MAX];
-    for first in seeds {
-        for second in seeds {
-            let one = mix_two(rt.alloc(), first)?;
-            let other = mix_two(rt.alloc(), second)?;
-            let are_same = one.bytes() == other.bytes();
+    for (_, first) in SEEDS {
+        let one = mix_two(rt.alloc(), *first)?;
+        for (_, second) in SEEDS {
+            let other = mix_two(rt.alloc(), *second)?;
+            let are_same = one.text() == other.text();
             assert!(rt; are_same == (first == second), "{first} and {second}");
         }
     }
     Ok(())
 }
 
+/// What asking for the words or opening the file fails with, and what comes of either.
+const REFUSED: &[(ErrorKind, (&str, u8), &str)] = &[
+    (ErrorKind::OutOfMemory, ("no memory\n", 4), "no memory\n"),
+    (ErrorKind::InvalidData, (USAGE, 2), "read failed\n"),
+];
+
 #[test]
 fn what_the_system_refuses(rt: HostRuntime) {
-    for (kind, of_words, status, of_open) in [
-        (ErrorKind::OutOfMemory, "no memory\n", 4, "no memory\n"),
-        (ErrorKind::InvalidData, USAGE, 2, "read failed\n"),
-    ] {
+    for (kind, (of_words, status), of_open) in REFUSED {
         let mut desk = Desk::new("boostmap replay steps.json", FILES);
-        desk.words_fail = Some(kind);
-        compare(&rt, rt.alloc(), &desk, ["", of_words], status);
+        desk.words_fail = Some(*kind);
+        compare(&rt, rt.alloc(), &desk, ("", of_words, *status));
         desk.words_fail = None;
-        desk.open_fails = Some(kind);
-        compare(&rt, rt.alloc(), &desk, ["", of_open], 4);
+        desk.open_fails = Some(*kind);
+        compare(&rt, rt.alloc(), &desk, ("", of_open, 4));
     }
+}
+
+/// A writer that takes so many bytes, and then fails.
+fn short(left: usize) -> Narrow {
+    Narrow::new(left, Some(ErrorKind::StorageFull))
 }
 
 /// Standard output that fails is a fault, and standard error that fails changes no status.
 #[test]
 fn writers_that_fail(rt: HostRuntime) {
-    let full = Some(ErrorKind::StorageFull);
     let desk = Desk::new("boostmap replay steps.json", FILES);
     for left in 0..=REPORT.len() {
-        let mut output = Narrow::new(left, full);
-        let mut errors = Narrow::new(usize::MAX, None);
-        let ended = run_at(&rt, rt.alloc(), &desk, &mut output, &mut errors);
-        let (line, status) = if left < REPORT.len() {
-            ("write failed\n", 4)
-        } else {
+        let ended = run_at(&rt, rt.alloc(), &desk, [short(left), Narrow::whole()]);
+        let printed = REPORT.get(..left).unwrap_or("no text");
+        let is_whole = left == REPORT.len();
+        let (line, status) = if is_whole {
             ("", 0)
+        } else {
+            ("write failed\n", 4)
         };
-        assert!(rt; ended == (status, true), "{left}");
-        assert!(rt; errors.bytes() == line.as_bytes(), "{left}");
+        compare_ended(&rt, &ended, (printed, line, status), REPORT);
     }
     let desk = Desk::new("boostmap replay missing.json", FILES);
-    let line = "read failed\n".len();
-    for left in 0..=line {
-        let mut output = Narrow::new(usize::MAX, None);
-        let mut errors = Narrow::new(left, full);
-        let (status, is_told) = run_at(&rt, rt.alloc(), &desk, &mut output, &mut errors);
-        assert!(rt; output.calls == 0 && status == 4, "{left}");
-        assert!(rt; is_told == (left == line), "{left}");
+    for left in 0..=READ_FAILED.len() {
+        let ended = run_at(&rt, rt.alloc(), &desk, [Narrow::whole(), short(left)]);
+        assert!(rt; ended.output.calls == 0 && ended.status == 4, "{left}");
+        assert!(rt; ended.is_told == (left == READ_FAILED.len()), "{left}");
     }
 }
 
@@ -286,14 +290,11 @@ fn writers_that_fail(rt: HostRuntime) {
 #[test]
 fn refused_allocations(rt: HostRuntime) {
     let desk = Desk::new("boostmap check legal.json", FILES);
-    let mut output = Narrow::new(usize::MAX, None);
-    let mut errors = Narrow::new(usize::MAX, None);
-    let (status, is_told) = run_at(&rt, rt.alloc(), &desk, &mut output, &mut errors);
-    let wanted = if status == 0 {
-        (0, LEGAL_LINE.as_bytes(), "".as_bytes())
+    let ended = run_at(&rt, rt.alloc(), &desk, [Narrow::whole(), Narrow::whole()]);
+    let wanted = if ended.status == 0 {
+        (LEGAL_LINE, "", 0)
     } else {
-        (4, "".as_bytes(), "no memory\n".as_bytes())
+        ("", "no memory\n", 4)
     };
-    assert!(rt; is_told);
-    assert!(rt; (status, output.bytes(), errors.bytes()) == wanted);
+    compare_ended(&rt, &ended, wanted, "check");
 }

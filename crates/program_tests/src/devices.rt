@@ -5,6 +5,7 @@ use command_line::System;
 use std::alloc::Global;
 use std::io;
 use std::io::{ErrorKind, Read, Write};
+use std::process::Abort;
 use std::test::Fail;
 
 /// The frame with a piece in each gap `#`, and then a filling in each gap `@`.
@@ -14,7 +15,7 @@ pub fn filled(alloc: Global, frame: &str, piece: &str, filling: &str) -> Result<
 }
 
 /// Gives one byte a call, and fails at the call `fails_at`, counted from 0.
-#[derive(Drop)]
+#[derive(Clone, Copy)]
 pub struct Trickle<'a> {
     rest: &'a [u8],
     /// How often it was called.
@@ -53,7 +54,7 @@ impl Read for Trickle<'_> {
 }
 
 /// Gives as many bytes as there is room for, and never ends.
-#[derive(Drop)]
+#[derive(Clone, Copy)]
 pub struct Endless {
     /// How many bytes it gave.
     pub given: usize,
@@ -71,7 +72,7 @@ const PAGE: usize = 8192;
 
 /// Takes one byte a call, and fails or takes nothing at the call `fails_at`, counted from 0. It
 /// needs no memory.
-#[derive(Drop)]
+#[derive(Clone, Copy)]
 pub struct Narrow {
     page: [u8; PAGE],
     len: usize,
@@ -94,9 +95,15 @@ impl Narrow {
         }
     }
 
+    /// A writer that has taken nothing, and does not fail before its page is full.
+    pub fn whole() -> Narrow {
+        Narrow::new(usize::MAX, None)
+    }
+
     /// What it has taken.
-    pub fn bytes(&self) -> &[u8] {
-        &self.page[..self.len.min(PAGE)]
+    pub fn text(&self) -> &str {
+        let taken = &self.page[..self.len.min(PAGE)];
+        std::str::from_utf8(taken).unwrap_or("no text")
     }
 }
 
@@ -118,6 +125,26 @@ impl Write for Narrow {
     fn flush(&mut self) -> io::Result<()> {
         Ok(())
     }
+}
+
+/// How a command ended.
+#[derive(Clone, Copy)]
+pub struct Ended {
+    /// What standard output got.
+    pub output: Narrow,
+    /// What standard error got.
+    pub errors: Narrow,
+    pub status: u8,
+    /// Whether standard error took all.
+    pub is_told: bool,
+}
+
+/// Compares what standard output and standard error got, which took all, and the status.
+pub fn compare_ended(rt: &impl Abort, ended: &Ended, wanted: (&str, &str, u8), row: &str) {
+    let (output, errors, status) = wanted;
+    assert_eq!(rt; ended.output.text(), output, "{row}");
+    assert!(rt; ended.errors.text() == errors, "{row}");
+    assert!(rt; ended.status == status && ended.is_told, "{row}");
 }
 
 /// A system of these words, with files in memory. A file that it has not is missing.

@@ -7,10 +7,10 @@ mod refused;
 mod replays;
 mod runs;
 
-use crate::devices::{Narrow, filled};
+use crate::devices::{Ended, Narrow, compare_ended, filled};
 use boostmap_engine::{Fault, check, mix, replay, run};
 use std::alloc::Global;
-use std::io::Read;
+use std::io::{Read, Write};
 use std::process::Abort;
 use std::sync::Wait;
 use std::test::Fail;
@@ -34,7 +34,7 @@ struct Files {
     frame: &'static str,
     pieces: &'static str,
     fillings: &'static str,
-    /// What is printed, or the line of the fault.
+    /// What is printed, or where the status is that of a fault its line.
     printed: &'static str,
     status: u8,
 }
@@ -57,41 +57,46 @@ fn run_engine<T: Threads + Wait + Sync, R: Read>(
     Ok(true)
 }
 
-/// The line of a fault, and its status.
-fn line_of(alloc: Global, fault: &Fault) -> Result<(String, u8), Fail> {
-    Ok((fault.to_string(alloc)?, fault.status()))
+/// Runs a command on an input and an output, as the program does.
+fn run_on<T: Threads + Wait + Sync, R: Read>(
+    rt: &T,
+    alloc: Global,
+    command: Command,
+    input: &mut R,
+    writer: Narrow,
+) -> Ended {
+    let mut output = writer;
+    let mut errors = Narrow::whole();
+    let result = run_engine(rt, alloc, command, input, &mut output);
+    let (status, is_told) = match &result {
+        Ok(is_well) => (u8::from(!*is_well), true),
+        Err(fault) => (fault.status(), errors.writeln(fault.message()).is_ok()),
+    };
+    Ended {
+        output,
+        errors,
+        status,
+        is_told,
+    }
 }
 
-/// Compares two texts.
-fn same_text(rt: &impl Abort, found: &[u8], wanted: &[u8], row: &str) {
-    let found = std::str::from_utf8(found).unwrap_or("no text");
-    let wanted = std::str::from_utf8(wanted).unwrap_or("");
-    assert_eq!(rt; found, wanted, "{row}");
-}
-
-/// Compares what a command prints of a file, or the line of the fault, where nothing is written;
-/// and the status.
+/// Compares what a command prints of a file, and the status. Of a fault there is the line, and
+/// nothing is printed.
 fn compare_file<T: Abort + Threads + Wait + Sync>(
     rt: &T,
     alloc: Global,
     command: Command,
     text: &str,
-    printed: &str,
-    status: u8,
-) -> Result<(), Fail> {
-    let mut output = Narrow::new(usize::MAX, None);
-    match run_engine(rt, alloc, command, &mut text.as_bytes(), &mut output) {
-        Ok(is_well) => {
-            same_text(rt, output.bytes(), printed.as_bytes(), text);
-            assert!(rt; status == u8::from(!is_well), "{text}");
-        }
-        Err(fault) => {
-            let (line, ended) = line_of(alloc, &fault)?;
-            same_text(rt, line.as_bytes(), printed.as_bytes(), text);
-            assert!(rt; status == ended && output.calls == 0, "{text}");
-        }
+    wanted: (&str, u8),
+) {
+    let (printed, status) = wanted;
+    let ended = run_on(rt, alloc, command, &mut text.as_bytes(), Narrow::whole());
+    if status < 2 {
+        compare_ended(rt, &ended, (printed, "", status), text);
+    } else {
+        compare_ended(rt, &ended, ("", printed, status), text);
+        assert!(rt; ended.output.calls == 0, "{text}");
     }
-    Ok(())
 }
 
 /// Compares what a command prints of files that are alike.
@@ -103,7 +108,13 @@ fn compare_files<T: Abort + Threads + Wait + Sync>(
     for piece in files.pieces.split('\n') {
         for filling in files.fillings.split(' ') {
             let text = filled(alloc, files.frame, piece, filling)?;
-            compare_file(rt, alloc, files.command, &text, files.printed, files.status)?;
+            compare_file(
+                rt,
+                alloc,
+                files.command,
+                &text,
+                (files.printed, files.status),
+            );
         }
     }
     Ok(())

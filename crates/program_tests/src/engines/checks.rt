@@ -66,7 +66,7 @@ pub const FILES: &[Files] = &[
         frame: CHECKED_OF,
         pieces: r#"["did",0,10]"#,
         fillings: r#"["undone"],"#,
-        printed: "refused 21 entry 8",
+        printed: "refused 21 entry 8\n",
         status: 3,
     },
     // A file that ends too early.
@@ -75,7 +75,7 @@ pub const FILES: &[Files] = &[
         frame: "#",
         pieces: r#"{"version":1,"stripes":8,"entries":[["began",0,1],["asked",0,"put",1,1"#,
         fillings: "",
-        printed: "refused 20",
+        printed: "refused 20\n",
         status: 3,
     },
     Files {
@@ -83,7 +83,7 @@ pub const FILES: &[Files] = &[
         frame: STRIPES_OF,
         pieces: "",
         fillings: r#""8""#,
-        printed: "refused 21",
+        printed: "refused 21\n",
         status: 3,
     },
     Files {
@@ -91,7 +91,7 @@ pub const FILES: &[Files] = &[
         frame: STRIPES_OF,
         pieces: "",
         fillings: "0",
-        printed: "refused 22",
+        printed: "refused 22\n",
         status: 3,
     },
     // Locks.
@@ -174,7 +174,7 @@ pub const FILES: &[Files] = &[
         frame: OF_EIGHT,
         pieces: r#"["began",64,1]"#,
         fillings: "",
-        printed: "refused 22",
+        printed: "refused 22\n",
         status: 3,
     },
     // A change of `put_if` is taken back once, and one that changed nothing never.
@@ -204,7 +204,7 @@ pub const FILES: &[Files] = &[
         frame: IN_VERSION,
         pieces: r#"["began",0,1],["asked",0,"put_if",1,null,5]"#,
         fillings: "1",
-        printed: "refused 21 entry 1",
+        printed: "refused 21 entry 1\n",
         status: 3,
     },
     Files {
@@ -220,7 +220,7 @@ pub const FILES: &[Files] = &[
         frame: IN_VERSION,
         pieces: r#"["began",0,1],["asked",0,"put_if",1,null,5]"#,
         fillings: "4 9",
-        printed: "refused 22",
+        printed: "refused 22\n",
         status: 3,
     },
     // A Busy that names a caller which holds nothing now: the version says whether it may.

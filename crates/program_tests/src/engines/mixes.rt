@@ -1,11 +1,10 @@
 //! What `mix` prints of script files.
 
-use super::{Command, Files, compare_file, run_engine};
+use super::{Command, Files, compare_file, run_on};
 use crate::devices::Narrow;
 use std::alloc::Global;
 use std::process::Abort;
 use std::sync::Wait;
-use std::test::Fail;
 use std::thread::Threads;
 
 /// One worker with two scripts, of which the second aborts.
@@ -71,7 +70,7 @@ pub const FILES: &[Files] = &[
         frame: "#",
         pieces: r#"{"version":1,"workers":1,"stripes":8,"buckets":8,"tries":0,""#,
         fillings: "",
-        printed: "refused 20",
+        printed: "refused 20\n",
         status: 3,
     },
     Files {
@@ -79,7 +78,7 @@ pub const FILES: &[Files] = &[
         frame: "#",
         pieces: "[]",
         fillings: "",
-        printed: "refused 21",
+        printed: "refused 21\n",
         status: 3,
     },
     Files {
@@ -87,7 +86,7 @@ pub const FILES: &[Files] = &[
         frame: WORKERS_OF,
         pieces: r#"[[],[["put",1]]]"#,
         fillings: "1",
-        printed: "refused 21 script 1",
+        printed: "refused 21 script 1\n",
         status: 3,
     },
     Files {
@@ -95,7 +94,7 @@ pub const FILES: &[Files] = &[
         frame: WORKERS_OF,
         pieces: "[]",
         fillings: "65",
-        printed: "refused 22",
+        printed: "refused 22\n",
         status: 3,
     },
 ];
@@ -109,59 +108,53 @@ const THREE_WORKERS: &str =
 /// The empty history is legal and plays scripts as they are asked for, but is not what is printed.
 const NOTHING: &str = "{\"entries\":[],\"stripes\":2,\"version\":1}\n";
 
-/// The history that `mix` prints of three workers.
-fn mix_three<T: Threads + Wait + Sync>(rt: &T, alloc: Global, seed: u64) -> Result<Narrow, Fail> {
-    let mut output = Narrow::new(usize::MAX, None);
-    let mut input = THREE_WORKERS.as_bytes();
-    run_engine(rt, alloc, Command::Mix(seed), &mut input, &mut output)?;
-    Ok(output)
+/// What `mix` prints of three workers.
+fn mix_three<T: Threads + Wait + Sync>(rt: &T, alloc: Global, seed: u64) -> Narrow {
+    let input = &mut THREE_WORKERS.as_bytes();
+    run_on(rt, alloc, Command::Mix(seed), input, Narrow::whole()).output
 }
 
 /// Checks that a history is legal, with nothing open.
-pub fn judge<T: Abort + Threads + Wait + Sync>(
-    rt: &T,
-    alloc: Global,
-    history: &[u8],
-    row: &str,
-) -> Result<(), Fail> {
-    let mut line = Narrow::new(usize::MAX, None);
-    let is_legal = run_engine(rt, alloc, Command::Check, &mut &*history, &mut line)?;
-    let printed = line.bytes();
-    assert!(rt; is_legal && printed.starts_with(b"legal "), "{row}");
-    assert!(rt; printed.ends_with(b" commits 0 open\n"), "{row}");
-    Ok(())
+pub fn judge<T: Abort + Threads + Wait + Sync>(rt: &T, alloc: Global, history: &str) {
+    let ended = run_on(
+        rt,
+        alloc,
+        Command::Check,
+        &mut history.as_bytes(),
+        Narrow::whole(),
+    );
+    let line = ended.output.text();
+    assert!(rt; ended.status == 0 && line.starts_with("legal "), "{line}");
+    assert!(rt; line.ends_with(" commits 0 open\n"), "{line}");
 }
 
 /// One worker does the same whatever the seed.
 #[test]
-fn one_worker(rt: HostRuntime) -> Result<(), Fail> {
+fn one_worker(rt: HostRuntime) {
     for seed in [0, 1, 7, 199, u64::MAX] {
         compare_file(
             &rt,
             rt.alloc(),
             Command::Mix(seed),
             ONE_WORKER,
-            ONE_HISTORY,
-            0,
-        )?;
+            (ONE_HISTORY, 0),
+        );
     }
-    Ok(())
 }
 
 /// The history of any seed is legal with nothing open, and the same when it is made again. Not all
 /// seeds give the same history, and none an empty one.
 #[test]
-fn any_seed(rt: HostRuntime) -> Result<(), Fail> {
-    let first = mix_three(&rt, rt.alloc(), 0)?;
+fn any_seed(rt: HostRuntime) {
+    let first = mix_three(&rt, rt.alloc(), 0);
     let mut differs = false;
     for seed in 0..200 {
-        let history = mix_three(&rt, rt.alloc(), seed)?;
-        let again = mix_three(&rt, rt.alloc(), seed)?;
-        assert!(rt; history.bytes() == again.bytes(), "{seed}");
-        assert!(rt; history.bytes() != NOTHING.as_bytes(), "{seed}");
-        judge(&rt, rt.alloc(), history.bytes(), "any seed")?;
-        differs = differs || history.bytes() != first.bytes();
+        let history = mix_three(&rt, rt.alloc(), seed);
+        let again = mix_three(&rt, rt.alloc(), seed);
+        assert!(rt; history.text() == again.text(), "{seed}");
+        assert!(rt; history.text() != NOTHING, "{seed}");
+        judge(&rt, rt.alloc(), history.text());
+        differs = differs || history.text() != first.text();
     }
     assert!(rt; differs);
-    Ok(())
 }

@@ -1,12 +1,9 @@
 //! What `replay` prints of step files.
 
-use super::{Command, Files, run_engine, same_text};
+use super::{Command, Files, compare_file, run_on};
 use crate::devices::Narrow;
 use std::alloc::Global;
-use std::process::Abort;
-use std::sync::Wait;
 use std::test::Fail;
-use std::thread::Threads;
 
 /// A file of some callers and no steps.
 const EMPTY: &str = r#"{"version":1,"callers":@,"stripes":8,"buckets":8,"steps":[]}"#;
@@ -44,7 +41,7 @@ pub const FILES: &[Files] = &[
         frame: EMPTY,
         pieces: "",
         fillings: "65",
-        printed: "refused 22",
+        printed: "refused 22\n",
         status: 3,
     },
     Files {
@@ -60,7 +57,7 @@ pub const FILES: &[Files] = &[
         frame: FIRST_COMMIT_OF,
         pieces: r#"["ask",0,"put","1",10],"#,
         fillings: "1 2",
-        printed: "refused 21 step 4",
+        printed: "refused 21 step 4\n",
         status: 3,
     },
     Files {
@@ -68,7 +65,7 @@ pub const FILES: &[Files] = &[
         frame: FIRST_COMMIT_OF,
         pieces: "",
         fillings: "65 0",
-        printed: "refused 22",
+        printed: "refused 22\n",
         status: 3,
     },
     Files {
@@ -76,7 +73,7 @@ pub const FILES: &[Files] = &[
         frame: FIRST_COMMIT_OF,
         pieces: "",
         fillings: r#""1""#,
-        printed: "refused 21",
+        printed: "refused 21\n",
         status: 3,
     },
     // A file that ends too early.
@@ -86,7 +83,7 @@ pub const FILES: &[Files] = &[
         pieces: r#"{"version":1,"callers":1,"stripes":8,"buckets":8,"steps":[["begin",0],
 {"version":1,"callers":2,"stripes":8,"buckets":8,"steps":[["begin",0],"#,
         fillings: "",
-        printed: "refused 20",
+        printed: "refused 20\n",
         status: 3,
     },
     // A step that only version 2 has; and a bad step before it, which is the first fault.
@@ -95,7 +92,7 @@ pub const FILES: &[Files] = &[
         frame: PUT_IF,
         pieces: "",
         fillings: "1",
-        printed: "refused 21 step 1",
+        printed: "refused 21 step 1\n",
         status: 3,
     },
     Files {
@@ -103,7 +100,7 @@ pub const FILES: &[Files] = &[
         frame: PUT_IF,
         pieces: r#"["begin"],"#,
         fillings: "1 2 3",
-        printed: "refused 21 step 0",
+        printed: "refused 21 step 0\n",
         status: 3,
     },
     Files {
@@ -119,7 +116,7 @@ pub const FILES: &[Files] = &[
         frame: PUT_IF,
         pieces: "",
         fillings: "3 9",
-        printed: "refused 22",
+        printed: "refused 22\n",
         status: 3,
     },
 ];
@@ -310,7 +307,7 @@ const FIVE_CALLERS_UNDONE: &str = r#"["begin",0] = began 1
 /// A commit of the first transaction.
 const COMMIT: &str = r#"["commit",0] = committed 1"#;
 
-const FIVE_KEYS_REPORT: &str = "size 4 count 5\n4 40\n2 20\n1 10\n5 50\n3 30";
+const FIVE_KEYS_REPORT: &str = "size 4 count 5\n4 40\n2 20\n1 10\n5 50\n3 30\n";
 
 /// A step file, and its report. In each line of its parts stand steps, and behind ` = ` the answers
 /// to them.
@@ -330,14 +327,14 @@ const RUNS: &[Run] = &[
         callers: 1,
         buckets: 8,
         parts: &[KEYS_OF_64_BITS, COMMIT],
-        rest: "size 2 count 4\n2 20\n1 12\n9223372036854775809 11\n18446744073709551615 7",
+        rest: "size 2 count 4\n2 20\n1 12\n9223372036854775809 11\n18446744073709551615 7\n",
     },
     Run {
         version: 2,
         callers: 1,
         buckets: 8,
         parts: &[KEYS_OF_64_BITS, FIVE_TAKEN_BACK],
-        rest: "size 2 count 0",
+        rest: "size 2 count 0\n",
     },
     Run {
         version: 1,
@@ -351,56 +348,56 @@ const RUNS: &[Run] = &[
         callers: 2,
         buckets: 8,
         parts: &[ABORT_TAKES_BACK],
-        rest: "size 2 count 0",
+        rest: "size 2 count 0\n",
     },
     Run {
         version: 1,
         callers: 2,
         buckets: 8,
         parts: &[BUSY_ABORTS],
-        rest: "size 2 count 1\n1 10",
+        rest: "size 2 count 1\n1 10\n",
     },
     Run {
         version: 1,
         callers: 2,
         buckets: 8,
         parts: &[STALE_CURSOR],
-        rest: "size 2 count 2\n4 40\n2 20",
+        rest: "size 2 count 2\n4 40\n2 20\n",
     },
     Run {
         version: 1,
         callers: 2,
         buckets: 8,
         parts: &[SAVEPOINTS],
-        rest: "size 2 count 0",
+        rest: "size 2 count 0\n",
     },
     Run {
         version: 1,
         callers: 2,
         buckets: 8,
         parts: &[ABORTED_TAKE_RESTORES],
-        rest: "size 2 count 1\n3 30",
+        rest: "size 2 count 1\n3 30\n",
     },
     Run {
         version: 1,
         callers: 2,
         buckets: 8,
         parts: &[HALF_KEYS],
-        rest: "size 2 count 2\n3 30\n9223372036854775807 7",
+        rest: "size 2 count 2\n3 30\n9223372036854775807 7\n",
     },
     Run {
         version: 1,
         callers: 2,
         buckets: 2,
         parts: &[MAXIMUM_SIZE],
-        rest: "size 2 count 0",
+        rest: "size 2 count 0\n",
     },
     Run {
         version: 1,
         callers: 2,
         buckets: 8,
         parts: &[REFUSALS_IN_ORDER],
-        rest: "size 2 count 0",
+        rest: "size 2 count 0\n",
     },
     Run {
         version: 1,
@@ -414,11 +411,11 @@ const RUNS: &[Run] = &[
         callers: 5,
         buckets: 8,
         parts: &[FIVE_CALLERS_UNDONE],
-        rest: "size 2 count 0",
+        rest: "size 2 count 0\n",
     },
 ];
 
-/// Adds the steps and the answers of a part.
+/// Adds the steps of a part, with a comma behind each, and the answers to them.
 fn add(steps: &mut String, report: &mut String, part: &str) -> Result<(), Fail> {
     for line in part.lines() {
         let (asked, answers) = line.split_once(" = ").ok_or("no answer")?;
@@ -430,45 +427,49 @@ fn add(steps: &mut String, report: &mut String, part: &str) -> Result<(), Fail> 
     Ok(())
 }
 
-/// Replays a file with these steps, each of which has a comma behind it.
-fn replay_steps<T: Abort + Threads + Wait + Sync>(
-    rt: &T,
-    alloc: Global,
-    run: Run,
-    steps: &str,
-    output: &mut Narrow,
-) -> Result<(), Fail> {
-    let text = format!(in alloc;
+/// The text of a file with these steps.
+fn file_with(alloc: Global, run: Run, steps: &str) -> Result<String, Fail> {
+    Ok(format!(in alloc;
         "{{\"version\":{},\"callers\":{},\"stripes\":8,\"buckets\":{},\"steps\":[{}]}}",
         run.version,
         run.callers,
         run.buckets,
         steps.trim_end_matches(',')
-    )?;
-    run_engine(rt, alloc, Command::Replay, &mut text.as_bytes(), output)?;
-    Ok(())
+    )?)
 }
 
-/// Compares the report of a file.
-fn play<T: Abort + Threads + Wait + Sync>(rt: &T, alloc: Global, run: Run) -> Result<(), Fail> {
+/// The file of a run with these parts, and its report.
+fn texts_of(alloc: Global, run: Run, parts: &[&str]) -> Result<(String, String), Fail> {
     let mut steps = String::new(alloc);
     let mut report = String::new(alloc);
-    for part in run.parts {
+    for part in parts {
         add(&mut steps, &mut report, part)?;
     }
-    writeln!(report, "{}", run.rest)?;
-    let mut output = Narrow::new(usize::MAX, None);
-    replay_steps(rt, alloc, run, &steps, &mut output)?;
-    same_text(rt, output.bytes(), report.as_bytes(), run.rest);
-    Ok(())
+    report.push_str(run.rest)?;
+    Ok((file_with(alloc, run, &steps)?, report))
 }
 
 #[test]
 fn reports(rt: HostRuntime) -> Result<(), Fail> {
     for run in RUNS {
-        play(&rt, rt.alloc(), *run)?;
+        let (text, report) = texts_of(rt.alloc(), *run, run.parts)?;
+        compare_file(&rt, rt.alloc(), Command::Replay, &text, (&report, 0));
     }
     Ok(())
+}
+
+/// A caller begins, and puts so many keys.
+fn puts_of(alloc: Global, count: u64) -> Result<String, Fail> {
+    let mut part = String::new(alloc);
+    part.push_str("[\"begin\",0] = began 1\n")?;
+    for key in 0..count {
+        write!(
+            part,
+            "[\"ask\",0,\"put\",{key},{key}],[\"seek\",0],[\"act\",0]"
+        )?;
+        part.push_str(" = asked, placed, done none\n")?;
+    }
+    Ok(part)
 }
 
 /// The steps that double a table with 129 keys up to 128 buckets, and then initialise bucket 64,
@@ -488,7 +489,7 @@ const SEGMENTS: &str = r#"["double",2] = doubled 4
 ["commit",0] = committed 1
 ["sweep"] = clean"#;
 
-/// A file of one caller and at most 128 buckets.
+/// A file of one caller and at most 128 buckets, and what its report ends with up to the third pair.
 const OF_SEGMENTS: Run = Run {
     version: 1,
     callers: 1,
@@ -499,20 +500,10 @@ const OF_SEGMENTS: Run = Run {
 
 #[test]
 fn segments(rt: HostRuntime) -> Result<(), Fail> {
-    let mut steps = String::new(rt.alloc());
-    let mut report = String::new(rt.alloc());
-    add(&mut steps, &mut report, r#"["begin",0] = began 1"#)?;
-    for key in 0..129_u64 {
-        write!(
-            steps,
-            "[\"ask\",0,\"put\",{key},{key}],[\"seek\",0],[\"act\",0],"
-        )?;
-        report.push_str("asked\nplaced\ndone none\n")?;
-    }
-    add(&mut steps, &mut report, SEGMENTS)?;
-    report.push_str(OF_SEGMENTS.rest)?;
-    let mut output = Narrow::new(usize::MAX, None);
-    replay_steps(&rt, rt.alloc(), OF_SEGMENTS, &steps, &mut output)?;
-    assert!(rt; output.bytes().starts_with(report.as_bytes()));
+    let puts = puts_of(rt.alloc(), 129)?;
+    let (text, report) = texts_of(rt.alloc(), OF_SEGMENTS, &[&puts, SEGMENTS])?;
+    let input = &mut text.as_bytes();
+    let ended = run_on(&rt, rt.alloc(), Command::Replay, input, Narrow::whole());
+    assert!(rt; ended.output.text().starts_with(report.as_str()));
     Ok(())
 }

@@ -1,7 +1,7 @@
 //! What `run` prints of script files.
 
 use super::mixes::{BAD_KEY, ONE_WORKER, WORKERS_OF, judge};
-use super::{Command, Files, run_engine};
+use super::{Command, Files, run_on};
 use crate::devices::Narrow;
 use std::alloc::Global;
 use std::sync::Wait;
@@ -58,7 +58,7 @@ pub const FILES: &[Files] = &[
         frame: "#",
         pieces: r#"{"version":1,"workers":1,"stripes":8,"buckets":8,"tries":0,""#,
         fillings: "",
-        printed: "refused 20",
+        printed: "refused 20\n",
         status: 3,
     },
     Files {
@@ -66,7 +66,7 @@ pub const FILES: &[Files] = &[
         frame: "#",
         pieces: "[]",
         fillings: "",
-        printed: "refused 21",
+        printed: "refused 21\n",
         status: 3,
     },
     Files {
@@ -74,7 +74,7 @@ pub const FILES: &[Files] = &[
         frame: WORKERS_OF,
         pieces: r#"[[],[["put",1]]]"#,
         fillings: "1",
-        printed: "refused 21 script 1",
+        printed: "refused 21 script 1\n",
         status: 3,
     },
     Files {
@@ -82,7 +82,7 @@ pub const FILES: &[Files] = &[
         frame: WORKERS_OF,
         pieces: "[]",
         fillings: "65",
-        printed: "refused 22",
+        printed: "refused 22\n",
         status: 3,
     },
 ];
@@ -93,26 +93,35 @@ const ANY_WORKERS: &str =
     10],[\"put\",2,20]],[[\"put\",2,21],[\"take\",1]],[[\"get\",1],[\"save\"],[\"put\",3,30],\
     [\"back\",1]],[[\"take\",2],[\"help\",5]],[[\"put\",4,40],[\"abort\"]],[[\"get\",2]]]}";
 
-/// The history that `run` prints of so many workers.
+/// What `run` prints of so many workers.
 fn run_workers<T: Threads + Wait + Sync>(
     rt: &T,
     alloc: Global,
     workers: &str,
 ) -> Result<Narrow, Fail> {
-    let mut output = Narrow::new(usize::MAX, None);
     let text = ANY_WORKERS.replace(alloc, "@", workers)?;
-    run_engine(rt, alloc, Command::Run, &mut text.as_bytes(), &mut output)?;
-    Ok(output)
+    Ok(
+        run_on(
+            rt,
+            alloc,
+            Command::Run,
+            &mut text.as_bytes(),
+            Narrow::whole(),
+        )
+        .output,
+    )
 }
 
 /// The same scripts by one worker to six: the history is legal with nothing open, and not empty.
 #[test]
 fn any_workers(rt: HostRuntime) -> Result<(), Fail> {
-    for workers in ["1", "2", "3", "4", "5", "6"] {
+    for workers in "1 2 3 4 5 6".split(' ') {
         let history = run_workers(&rt, rt.alloc(), workers)?;
-        judge(&rt, rt.alloc(), history.bytes(), workers)?;
-        let begins = history.bytes().starts_with(b"{\"entries\":[[\"began\",");
-        assert!(rt; begins, "{workers}");
+        judge(&rt, rt.alloc(), history.text());
+        assert!(rt;
+            history.text().starts_with("{\"entries\":[[\"began\","),
+            "{workers}"
+        );
     }
     Ok(())
 }
