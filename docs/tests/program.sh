@@ -16,7 +16,7 @@ passed=0 failed=0
 
 # The usage, as the tests of the command line have it, without its last line feed.
 usage=$(sed -n '/^const USAGE: &str = "/,/^";$/{s/^const USAGE: &str = "//;/^";$/d;p;}' \
-  crates/command_line/src/tests.rt)
+  crates/program_tests/src/commands.rt)
 
 # What an example prints: the lines of crates/examples/stdout below those words. Of one worker `run`
 # prints what `mix` prints, but that its history is of version 3.

@@ -45,17 +45,17 @@ locked_map tests::refused::refused_memory_between_callers
 locked_map tests::refused::refused_memory_in_each_call
 locked_map tests::side_rows::side_value_returns
 thread_runs tests::refused::refused_memory_for_crossing_scripts
-boostmap_engine refused_tests::five_callers_undone_is_legal
-boostmap_engine refused_tests::a_cursor_stands_beside_a_refusal
+program_tests engines::refused::five_callers_undone_is_legal
+program_tests engines::refused::a_cursor_stands_beside_a_refusal
 """
 # Tests that pass whichever one allocation is refused, and that are refused no more.
 ALONE = """
-txn_files tests::memory_refused
-boostmap_engine tests::refused_allocations
-boostmap_engine check_tests::history_without_memory
-boostmap_engine mix_tests::mix_without_memory
-boostmap_engine run_tests::run_without_memory
-command_line tests::refused_allocations
+program_tests files::memory_refused
+program_tests engines::failing::refused_allocations
+program_tests engines::failing::history_without_memory
+program_tests engines::failing::mix_without_memory
+program_tests engines::failing::run_without_memory
+program_tests commands::refused_allocations
 """
 # What an assertion says of a call that was refused memory.
 OF_MEMORY = re.compile("AllocError|AllocFailed|NoMemory")

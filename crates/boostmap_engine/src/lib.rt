@@ -30,20 +30,3 @@ mod threaded;
 pub use engine::{check, mix, replay, run};
 pub use fault::{Fault, Message};
 pub use script_mix::draw;
-
-#[cfg(test)]
-mod check_tests;
-#[cfg(test)]
-mod mix_tests;
-#[cfg(test)]
-mod refused_tests;
-#[cfg(test)]
-mod rows;
-#[cfg(test)]
-mod run_tests;
-#[cfg(test)]
-mod samples;
-#[cfg(test)]
-mod streams;
-#[cfg(test)]
-mod tests;

@@ -20,10 +20,3 @@ mod words;
 pub use program::{Ending, run};
 pub use system::{Host, System};
 pub use words::Call;
-
-#[cfg(test)]
-mod desk;
-#[cfg(test)]
-mod tests;
-#[cfg(test)]
-mod words_tests;

@@ -26,8 +26,6 @@ mod passing;
 mod piece;
 mod plain;
 mod stop;
-#[cfg(test)]
-mod tests;
 
 pub use elements::{end_in, leading_optional_in, number_in, one_in, optional_in, two_in, word_in};
 pub use file::read_file;

@@ -30,10 +30,3 @@ pub use script_file::read_scripts;
 pub use step_file::read_steps;
 pub use text::history_text;
 pub use txn_trace::{Script, Scripts};
-
-#[cfg(test)]
-mod history_tests;
-#[cfg(test)]
-mod script_tests;
-#[cfg(test)]
-mod tests;

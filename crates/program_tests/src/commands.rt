@@ -1,0 +1,300 @@
+//! The command line: which engine runs on which file, what each output gets, and the status.
+
+use crate::devices::{Desk, Ended, Narrow, compare_ended};
+use boostmap_engine::mix;
+use command_line::{Ending, run};
+use std::alloc::Global;
+use std::io::ErrorKind;
+use std::process::Abort;
+use std::sync::Wait;
+use std::test::Fail;
+use std::thread::Threads;
+
+/// One transaction that commits.
+const STEPS: &str =
+    "{\"version\":1,\"callers\":2,\"stripes\":8,\"buckets\":8,\"steps\":[[\"begin\",0],[\"ask\",0,\
+    \"put\",1,10],[\"seek\",0],[\"act\",0],[\"commit\",0]]}";
+
+const REPORT: &str = "began 1\nasked\nplaced\ndone none\ncommitted 1\nsize 2 count 1\n1 10\n";
+
+/// The same, with a step in place 4 that has a text where a number belongs.
+const BAD_STEPS: &str =
+    "{\"version\":1,\"callers\":2,\"stripes\":8,\"buckets\":8,\"steps\":[[\"begin\",0],[\"ask\",0,\
+    \"put\",1,10],[\"seek\",0],[\"act\",0],[\"ask\",0,\"put\",\"1\",10],[\"commit\",0]]}";
+
+/// One transaction that commits, as a history.
+const LEGAL: &str =
+    "{\"version\":1,\"stripes\":8,\"entries\":[[\"began\",0,1],[\"asked\",0,\"put\",1,10],\
+    [\"did\",0,null],[\"committed\",0,1]]}";
+
+const LEGAL_LINE: &str = "legal 1 commits 0 open\n";
+
+/// The same with a reply that nobody put.
+const ILLEGAL: &str =
+    "{\"version\":1,\"stripes\":8,\"entries\":[[\"began\",0,1],[\"asked\",0,\"put\",1,10],\
+    [\"did\",0,7],[\"committed\",0,1]]}";
+
+/// One worker with one script.
+const SCRIPT: &str =
+    r#"{"version":1,"workers":1,"stripes":8,"buckets":8,"tries":0,"scripts":[[["put",1,10]]]}"#;
+
+/// The line of a file that cannot be opened.
+const READ_FAILED: &str = "read failed\n";
+
+const HISTORY: &str = "{\"entries\":[[\"began\",0,1],[\"asked\",0,\"put\",1,10],[\"did\",0,null],\
+    [\"committed\",0,1]],\"stripes\":8,\"version\":1}\n";
+
+const RUN_HISTORY: &str =
+    "{\"entries\":[[\"began\",0,1],[\"asked\",0,\"put\",1,10],[\"did\",0,null],\
+    [\"committed\",0,1]],\"stripes\":8,\"version\":3}\n";
+
+/// Two workers with a script each, of twelve gets: the order of the workers' turns shows in the
+/// history.
+const TWO_WORKERS: &str =
+    "{\"version\":1,\"workers\":2,\"stripes\":8,\"buckets\":8,\"tries\":0,\"scripts\":[[[\"get\",\
+    1],[\"get\",1],[\"get\",1],[\"get\",1],[\"get\",1],[\"get\",1],[\"get\",1],[\"get\",1],\
+    [\"get\",1],[\"get\",1],[\"get\",1],[\"get\",1]],[[\"get\",2],[\"get\",2],[\"get\",2],\
+    [\"get\",2],[\"get\",2],[\"get\",2],[\"get\",2],[\"get\",2],[\"get\",2],[\"get\",2],\
+    [\"get\",2],[\"get\",2]]]}";
+
+const FILES: &[(&str, &str)] = &[
+    ("steps.json", STEPS),
+    ("bad.json", BAD_STEPS),
+    ("legal.json", LEGAL),
+    ("illegal.json", ILLEGAL),
+    ("script.json", SCRIPT),
+    ("two.json", TWO_WORKERS),
+    ("empty.json", ""),
+];
+
+/// The whole usage, word for word.
+const USAGE: &str = "usage: boostmap replay FILE | boostmap run FILE
+       boostmap mix --seed N FILE | boostmap check FILE
+
+  replay FILE        runs the steps of a file, and prints answers, size, count and pairs
+  run FILE           runs the scripts of a file, a thread a worker, and prints the history
+  mix --seed N FILE  runs the scripts of a file, mixed as N says, and prints the history
+  check FILE         says whether a recorded history is legal, or which entry breaks which rule
+
+FILE is the path of a file, and may be /dev/stdin.
+N is a whole number from 0 to 18446744073709551615, in decimal digits.
+
+Exit status: 0 all is well, 1 the history is illegal, 2 a usage error, 3 the file is refused,
+4 no memory, no thread, a failed read or write, or out of step.
+From 3 on one line on standard error says which.
+
+Example: boostmap check examples/checked.json
+";
+
+/// Runs the program at a desk with these two writers.
+fn run_at<T: Threads + Wait + Sync>(
+    rt: &T,
+    alloc: Global,
+    desk: &Desk<'_>,
+    writers: [Narrow; 2],
+) -> Ended {
+    let [mut output, mut errors] = writers;
+    let Ending { status, is_told } = run(rt, alloc, desk, &mut output, &mut errors);
+    Ended {
+        output,
+        errors,
+        status,
+        is_told,
+    }
+}
+
+/// Compares what the program writes to standard output and to standard error, and its status.
+fn compare<T: Abort + Threads + Wait + Sync>(
+    rt: &T,
+    alloc: Global,
+    desk: &Desk<'_>,
+    wanted: (&str, &str, u8),
+) {
+    let ended = run_at(rt, alloc, desk, [Narrow::whole(), Narrow::whole()]);
+    compare_ended(rt, &ended, wanted, desk.words);
+}
+
+/// Words of a call, what standard output and standard error get, and the status.
+type Called = (&'static str, &'static str, &'static str, u8);
+
+const CALLS: &[Called] = &[
+    ("boostmap ", "", USAGE, 2),
+    ("boostmap replay steps.json", REPORT, "", 0),
+    ("boostmap mix --seed 7 script.json", HISTORY, "", 0),
+    ("boostmap check legal.json", LEGAL_LINE, "", 0),
+    (
+        "boostmap check illegal.json",
+        "illegal entry 2 rule 1\n",
+        "",
+        1,
+    ),
+    ("boostmap run script.json", RUN_HISTORY, "", 0),
+    ("boostmap run steps.json", "", "refused 21\n", 3),
+    ("boostmap run missing.json", "", "read failed\n", 4),
+    ("boostmap walk steps.json", "", USAGE, 2),
+    ("boostmap mix --seed x script.json", "", USAGE, 2),
+    ("boostmap replay bad.json", "", "refused 21 step 4\n", 3),
+    ("boostmap check empty.json", "", "refused 20\n", 3),
+    ("boostmap mix --seed 7 steps.json", "", "refused 21\n", 3),
+    ("boostmap replay missing.json", "", "read failed\n", 4),
+    ("boostmap check missing.json", "", "read failed\n", 4),
+    ("boostmap replay -- steps.json", REPORT, "", 0),
+    ("bin/x replay steps.json", REPORT, "", 0),
+    ("boostmap run -- script.json", RUN_HISTORY, "", 0),
+    ("bin/x run script.json", RUN_HISTORY, "", 0),
+    ("boostmap check -- legal.json", LEGAL_LINE, "", 0),
+    ("bin/x check legal.json", LEGAL_LINE, "", 0),
+];
+
+/// Words that are no call.
+const NO_CALLS: &str = "boostmap
+boostmap steps.json
+boostmap replay
+boostmap replay steps.json two.json
+boostmap replay --seed 7 steps.json
+boostmap replay -x
+boostmap Replay steps.json
+boostmap repla steps.json
+boostmap run
+boostmap run steps.json two.json
+boostmap run --seed 7 steps.json
+boostmap Run steps.json
+boostmap mix steps.json
+boostmap mix --seed 7
+boostmap mix --seed steps.json
+boostmap mix --seed 7 steps.json two.json
+boostmap mix --seed +7 steps.json
+boostmap mix --seed -7 steps.json
+boostmap mix --seed 7x steps.json
+boostmap mix --seed 0x7 steps.json
+boostmap mix --seed= steps.json
+boostmap mix --seed 18446744073709551616 steps.json
+boostmap mix --seed 7 --seed 7 steps.json
+boostmap check
+boostmap check steps.json two.json
+boostmap check --seed 7 steps.json
+boostmap Check steps.json
+boostmap help
+boostmap help replay
+boostmap -h
+boostmap --help
+boostmap replay -h
+boostmap replay --help
+boostmap --version
+boostmap -V";
+
+#[test]
+fn each_command_and_each_status(rt: HostRuntime) {
+    for (words, output, errors, status) in CALLS {
+        let wanted = (*output, *errors, *status);
+        compare(&rt, rt.alloc(), &Desk::new(words, FILES), wanted);
+    }
+    for words in NO_CALLS.lines() {
+        compare(&rt, rt.alloc(), &Desk::new(words, FILES), ("", USAGE, 2));
+    }
+}
+
+/// What the engine prints of two workers with this seed.
+fn mix_two(alloc: Global, seed: u64) -> Result<Narrow, Fail> {
+    let mut output = Narrow::whole();
+    mix(alloc, seed, &mut TWO_WORKERS.as_bytes(), &mut output)?;
+    Ok(output)
+}
+
+/// Calls of `mix`, and the seed that the engine gets: its history shows it. The whole seed counts,
+/// its high half and its low half.
+const SEEDS: &[(&str, u64)] = &[
+    ("boostmap mix --seed 7 two.json", 7),
+    ("boostmap mix two.json --seed 7", 7),
+    ("boostmap mix --seed=7 two.json", 7),
+    ("boostmap mix --seed 007 two.json", 7),
+    ("boostmap mix --seed 0 -- two.json", 0),
+    ("bin/x mix --seed 18446744073709551615 two.json", u64::MAX),
+    ("boostmap mix --seed 1 two.json", 1),
+    ("boostmap mix --seed 4294967297 two.json", 4_294_967_297),
+    ("boostmap mix --seed 4294967296 two.json", 4_294_967_296),
+];
+
+#[test]
+fn seeds_of_mix(rt: HostRuntime) -> Result<(), Fail> {
+    for (words, seed) in SEEDS {
+        let history = mix_two(rt.alloc(), *seed)?;
+        let wanted = (history.text(), "", 0);
+        compare(&rt, rt.alloc(), &Desk::new(words, FILES), wanted);
+    }
+    Ok(())
+}
+
+/// The histories of two workers differ where the seeds do, also in one half alone.
+#[test]
+fn seeds_that_differ_in_one_half(rt: HostRuntime) -> Result<(), Fail> {
+    for (_, first) in SEEDS {
+        let one = mix_two(rt.alloc(), *first)?;
+        for (_, second) in SEEDS {
+            let other = mix_two(rt.alloc(), *second)?;
+            let are_same = one.text() == other.text();
+            assert!(rt; are_same == (first == second), "{first} and {second}");
+        }
+    }
+    Ok(())
+}
+
+/// What asking for the words or opening the file fails with, and what comes of either.
+const REFUSED: &[(ErrorKind, (&str, u8), &str)] = &[
+    (ErrorKind::OutOfMemory, ("no memory\n", 4), "no memory\n"),
+    (ErrorKind::InvalidData, (USAGE, 2), "read failed\n"),
+];
+
+#[test]
+fn what_the_system_refuses(rt: HostRuntime) {
+    for (kind, (of_words, status), of_open) in REFUSED {
+        let mut desk = Desk::new("boostmap replay steps.json", FILES);
+        desk.words_fail = Some(*kind);
+        compare(&rt, rt.alloc(), &desk, ("", of_words, *status));
+        desk.words_fail = None;
+        desk.open_fails = Some(*kind);
+        compare(&rt, rt.alloc(), &desk, ("", of_open, 4));
+    }
+}
+
+/// A writer that takes so many bytes, and then fails.
+fn short(left: usize) -> Narrow {
+    Narrow::new(left, Some(ErrorKind::StorageFull))
+}
+
+/// Standard output that fails is a fault, and standard error that fails changes no status.
+#[test]
+fn writers_that_fail(rt: HostRuntime) {
+    let desk = Desk::new("boostmap replay steps.json", FILES);
+    for left in 0..=REPORT.len() {
+        let ended = run_at(&rt, rt.alloc(), &desk, [short(left), Narrow::whole()]);
+        let printed = REPORT.get(..left).unwrap_or("no text");
+        let is_whole = left == REPORT.len();
+        let (line, status) = if is_whole {
+            ("", 0)
+        } else {
+            ("write failed\n", 4)
+        };
+        compare_ended(&rt, &ended, (printed, line, status), REPORT);
+    }
+    let desk = Desk::new("boostmap replay missing.json", FILES);
+    for left in 0..=READ_FAILED.len() {
+        let ended = run_at(&rt, rt.alloc(), &desk, [Narrow::whole(), short(left)]);
+        assert!(rt; ended.output.calls == 0 && ended.status == 4, "{left}");
+        assert!(rt; ended.is_told == (left == READ_FAILED.len()), "{left}");
+    }
+}
+
+/// Is to be run with each allocation refused in turn: all is well, or nothing but the line of the
+/// fault is written.
+#[test]
+fn refused_allocations(rt: HostRuntime) {
+    let desk = Desk::new("boostmap check legal.json", FILES);
+    let ended = run_at(&rt, rt.alloc(), &desk, [Narrow::whole(), Narrow::whole()]);
+    let wanted = if ended.status == 0 {
+        (LEGAL_LINE, "", 0)
+    } else {
+        ("", "no memory\n", 4)
+    };
+    compare_ended(&rt, &ended, wanted, "check");
+}

@@ -1,0 +1,200 @@
+//! What the tests share: texts with gaps, readers and writers that fail at a given call, and a
+//! system in memory.
+
+use command_line::System;
+use std::alloc::Global;
+use std::io;
+use std::io::{ErrorKind, Read, Write};
+use std::process::Abort;
+use std::test::Fail;
+
+/// The frame with a piece in each gap `#`, and then a filling in each gap `@`.
+pub fn filled(alloc: Global, frame: &str, piece: &str, filling: &str) -> Result<String, Fail> {
+    let text = frame.replace(alloc, "#", piece)?;
+    Ok(text.replace(alloc, "@", filling)?)
+}
+
+/// Gives one byte a call, and fails at the call `fails_at`, counted from 0.
+#[derive(Clone, Copy)]
+pub struct Trickle<'a> {
+    rest: &'a [u8],
+    /// How often it was called.
+    pub calls: usize,
+    fails_at: usize,
+}
+
+impl<'a> Trickle<'a> {
+    /// A reader of these bytes.
+    pub fn new(rest: &'a [u8], fails_at: usize) -> Trickle<'a> {
+        Trickle {
+            rest,
+            calls: 0,
+            fails_at,
+        }
+    }
+}
+
+impl Read for Trickle<'_> {
+    fn read(&mut self, buf: &mut [u8]) -> io::Result<usize> {
+        let call = self.calls;
+        self.calls = call.saturating_add(1);
+        if call == self.fails_at {
+            return Err(ErrorKind::Interrupted.into());
+        }
+        let Some((first, rest)) = self.rest.split_first() else {
+            return Ok(0);
+        };
+        if buf.is_empty() {
+            return Ok(0);
+        }
+        buf[0] = *first;
+        self.rest = rest;
+        Ok(1)
+    }
+}
+
+/// Gives as many bytes as there is room for, and never ends.
+#[derive(Clone, Copy)]
+pub struct Endless {
+    /// How many bytes it gave.
+    pub given: usize,
+}
+
+impl Read for Endless {
+    fn read(&mut self, buf: &mut [u8]) -> io::Result<usize> {
+        self.given = self.given.saturating_add(buf.len());
+        Ok(buf.len())
+    }
+}
+
+/// How many bytes a writer keeps.
+const PAGE: usize = 8192;
+
+/// Takes one byte a call, and fails or takes nothing at the call `fails_at`, counted from 0. It
+/// needs no memory.
+#[derive(Clone, Copy)]
+pub struct Narrow {
+    page: [u8; PAGE],
+    len: usize,
+    /// How often it was called.
+    pub calls: usize,
+    fails_at: usize,
+    /// What it fails with; none where it takes nothing.
+    failure: Option<ErrorKind>,
+}
+
+impl Narrow {
+    /// A writer that has taken nothing.
+    pub fn new(fails_at: usize, failure: Option<ErrorKind>) -> Narrow {
+        Narrow {
+            page: [0; PAGE],
+            len: 0,
+            calls: 0,
+            fails_at,
+            failure,
+        }
+    }
+
+    /// A writer that has taken nothing, and does not fail before its page is full.
+    pub fn whole() -> Narrow {
+        Narrow::new(usize::MAX, None)
+    }
+
+    /// What it has taken.
+    pub fn text(&self) -> &str {
+        let taken = &self.page[..self.len.min(PAGE)];
+        std::str::from_utf8(taken).unwrap_or("no text")
+    }
+}
+
+impl Write for Narrow {
+    fn write(&mut self, buf: &[u8]) -> io::Result<usize> {
+        let call = self.calls;
+        self.calls = call.saturating_add(1);
+        if call == self.fails_at {
+            return self.failure.map_or(Ok(0), |kind| Err(kind.into()));
+        }
+        let (Some(first), Some(place)) = (buf.first(), self.page.get_mut(self.len)) else {
+            return Ok(0);
+        };
+        *place = *first;
+        self.len += 1;
+        Ok(1)
+    }
+
+    fn flush(&mut self) -> io::Result<()> {
+        Ok(())
+    }
+}
+
+/// How a command ended.
+#[derive(Clone, Copy)]
+pub struct Ended {
+    /// What standard output got.
+    pub output: Narrow,
+    /// What standard error got.
+    pub errors: Narrow,
+    pub status: u8,
+    /// Whether standard error took all.
+    pub is_told: bool,
+}
+
+/// Compares what standard output and standard error got, which took all, and the status.
+pub fn compare_ended(rt: &impl Abort, ended: &Ended, wanted: (&str, &str, u8), row: &str) {
+    let (output, errors, status) = wanted;
+    assert_eq!(rt; ended.output.text(), output, "{row}");
+    assert!(rt; ended.errors.text() == errors, "{row}");
+    assert!(rt; ended.status == status && ended.is_told, "{row}");
+}
+
+/// A system of these words, with files in memory. A file that it has not is missing.
+#[derive(Clone, Copy)]
+pub struct Desk<'a> {
+    /// The words of the call, with blanks between them.
+    pub words: &'a str,
+    /// The files: names and bytes.
+    pub files: &'a [(&'a str, &'a str)],
+    /// What asking for the words fails with, where it does.
+    pub words_fail: Option<ErrorKind>,
+    /// What opening a file fails with, where it does.
+    pub open_fails: Option<ErrorKind>,
+}
+
+impl<'a> Desk<'a> {
+    /// A system of these words and files, where nothing fails.
+    pub fn new(words: &'a str, files: &'a [(&'a str, &'a str)]) -> Desk<'a> {
+        Desk {
+            words,
+            files,
+            words_fail: None,
+            open_fails: None,
+        }
+    }
+}
+
+impl<'a> System for Desk<'a> {
+    type Input = &'a [u8];
+
+    fn words(&self, alloc: Global) -> io::Result<Vec<String>> {
+        if let Some(kind) = self.words_fail {
+            return Err(kind.into());
+        }
+        let mut words = Vec::new(alloc);
+        for word in self.words.split(' ') {
+            words.push(word.to_string(alloc)?)?;
+        }
+        Ok(words)
+    }
+
+    fn open(&self, name: &str) -> io::Result<&'a [u8]> {
+        if let Some(kind) = self.open_fails {
+            return Err(kind.into());
+        }
+        for (known, text) in self.files {
+            if *known == name {
+                return Ok(text.as_bytes());
+            }
+        }
+        Err(ErrorKind::NotFound.into())
+    }
+}

@@ -1,0 +1,131 @@
+//! The engines: what they print of whole files.
+
+mod checks;
+mod failing;
+mod mixes;
+mod refused;
+mod replays;
+mod runs;
+
+use crate::devices::{Ended, Narrow, compare_ended, filled};
+use boostmap_engine::{Fault, check, mix, replay, run};
+use std::alloc::Global;
+use std::io::{Read, Write};
+use std::process::Abort;
+use std::sync::Wait;
+use std::test::Fail;
+use std::thread::Threads;
+
+/// A command of the program.
+#[derive(Clone, Copy)]
+enum Command {
+    Replay,
+    Check,
+    /// With this seed.
+    Mix(u64),
+    Run,
+}
+
+/// Files of one command that are alike: each piece, one a line, stands in the gap `#` of the frame,
+/// and each filling, with blanks between them, in the gap `@` of that.
+#[derive(Clone, Copy)]
+struct Files {
+    command: Command,
+    frame: &'static str,
+    pieces: &'static str,
+    fillings: &'static str,
+    /// What is printed, or where the status is that of a fault its line.
+    printed: &'static str,
+    status: u8,
+}
+
+/// Runs the engine of a command. The answer is whether all is well: only of an illegal history it
+/// is not.
+fn run_engine<T: Threads + Wait + Sync, R: Read>(
+    rt: &T,
+    alloc: Global,
+    command: Command,
+    input: &mut R,
+    output: &mut Narrow,
+) -> Result<bool, Fault> {
+    match command {
+        Command::Replay => replay(alloc, input, output)?,
+        Command::Check => return check(alloc, input, output),
+        Command::Mix(seed) => mix(alloc, seed, input, output)?,
+        Command::Run => run(rt, alloc, input, output)?,
+    }
+    Ok(true)
+}
+
+/// Runs a command on an input and an output, as the program does.
+fn run_on<T: Threads + Wait + Sync, R: Read>(
+    rt: &T,
+    alloc: Global,
+    command: Command,
+    input: &mut R,
+    writer: Narrow,
+) -> Ended {
+    let mut output = writer;
+    let mut errors = Narrow::whole();
+    let result = run_engine(rt, alloc, command, input, &mut output);
+    let (status, is_told) = match &result {
+        Ok(is_well) => (u8::from(!*is_well), true),
+        Err(fault) => (fault.status(), errors.writeln(fault.message()).is_ok()),
+    };
+    Ended {
+        output,
+        errors,
+        status,
+        is_told,
+    }
+}
+
+/// Compares what a command prints of a file, and the status. Of a fault there is the line, and
+/// nothing is printed.
+fn compare_file<T: Abort + Threads + Wait + Sync>(
+    rt: &T,
+    alloc: Global,
+    command: Command,
+    text: &str,
+    wanted: (&str, u8),
+) {
+    let (printed, status) = wanted;
+    let ended = run_on(rt, alloc, command, &mut text.as_bytes(), Narrow::whole());
+    if status < 2 {
+        compare_ended(rt, &ended, (printed, "", status), text);
+    } else {
+        compare_ended(rt, &ended, ("", printed, status), text);
+        assert!(rt; ended.output.calls == 0, "{text}");
+    }
+}
+
+/// Compares what a command prints of files that are alike.
+fn compare_files<T: Abort + Threads + Wait + Sync>(
+    rt: &T,
+    alloc: Global,
+    files: Files,
+) -> Result<(), Fail> {
+    for piece in files.pieces.split('\n') {
+        for filling in files.fillings.split(' ') {
+            let text = filled(alloc, files.frame, piece, filling)?;
+            compare_file(
+                rt,
+                alloc,
+                files.command,
+                &text,
+                (files.printed, files.status),
+            );
+        }
+    }
+    Ok(())
+}
+
+#[test]
+fn prints_of_files(rt: HostRuntime) -> Result<(), Fail> {
+    for table in [replays::FILES, checks::FILES, mixes::FILES, runs::FILES] {
+        for files in table {
+            compare_files(&rt, rt.alloc(), *files)?;
+        }
+    }
+    Ok(())
+}

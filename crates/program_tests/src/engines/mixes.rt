@@ -1,0 +1,160 @@
+//! What `mix` prints of script files.
+
+use super::{Command, Files, compare_file, run_on};
+use crate::devices::Narrow;
+use std::alloc::Global;
+use std::process::Abort;
+use std::sync::Wait;
+use std::thread::Threads;
+
+/// One worker with two scripts, of which the second aborts.
+pub const ONE_WORKER: &str =
+    "{\"version\":1,\"workers\":1,\"stripes\":8,\"buckets\":8,\"tries\":0,\"scripts\":[[[\"put\",1,\
+    10],[\"save\"],[\"take\",1],[\"back\",1]],[[\"get\",1],[\"abort\"]]]}";
+
+/// Its history.
+pub const ONE_HISTORY: &str =
+    "{\"entries\":[[\"began\",0,1],[\"asked\",0,\"put\",1,10],[\"did\",0,null],[\"saved\",0],\
+    [\"asked\",0,\"take\",1],[\"did\",0,10],[\"leave\",0,1],[\"undone\",0],[\"returned\",0,1],\
+    [\"committed\",0,1],[\"began\",0,2],[\"asked\",0,\"get\",1],[\"did\",0,10],[\"leave\",0,\
+    null],[\"aborted\",0]],\"stripes\":8,\"version\":1}\n";
+
+/// One worker with an empty script, whose history is short.
+pub const EMPTY_SCRIPT: &str =
+    r#"{"version":1,"workers":1,"stripes":8,"buckets":8,"tries":0,"scripts":[[]]}"#;
+
+/// Its history.
+pub const SHORT_HISTORY: &str =
+    "{\"entries\":[[\"began\",0,1],[\"committed\",0,1]],\"stripes\":8,\"version\":1}\n";
+
+pub const HISTORY_OF_VERSION_2: &str =
+    "{\"entries\":[[\"began\",0,1],[\"asked\",0,\"put_if\",9223372036854775808,null,5],[\"did\",0,\
+    null],[\"committed\",0,1]],\"stripes\":8,\"version\":2}\n";
+
+/// One worker with one script, with a gap for its first action.
+pub const BAD_KEY: &str =
+    r#"{"version":1,"workers":1,"stripes":8,"buckets":8,"tries":0,"scripts":[[#,["put",1,1]]]}"#;
+
+/// A file with gaps for its workers and its scripts.
+pub const WORKERS_OF: &str =
+    r#"{"version":1,"workers":@,"stripes":8,"buckets":8,"tries":0,"scripts":#}"#;
+
+/// Script files, and what is printed of them.
+pub const FILES: &[Files] = &[
+    // Version 2 has a key of 2^63 and an action `put_if`: its history is of version 2.
+    Files {
+        command: Command::Mix(7),
+        frame: "#",
+        pieces: "{\"version\":2,\"workers\":1,\"stripes\":8,\"buckets\":8,\"tries\":0,\
+            \"scripts\":[[[\"put_if\",9223372036854775808,null,5],\
+            [\"help\",9223372036854775808]]]}",
+        fillings: "",
+        printed: HISTORY_OF_VERSION_2,
+        status: 0,
+    },
+    // A key of 2^63 is refused before any step of help: the transaction aborts.
+    Files {
+        command: Command::Mix(3),
+        frame: BAD_KEY,
+        pieces: r#"["help",9223372036854775808]
+["get",9223372036854775808]
+["back",1]"#,
+        fillings: "",
+        printed: "{\"entries\":[[\"began\",0,1],[\"leave\",0,null],[\"aborted\",0]],\"stripes\":8,\
+            \"version\":1}\n",
+        status: 0,
+    },
+    // Bad input.
+    Files {
+        command: Command::Mix(0),
+        frame: "#",
+        pieces: r#"{"version":1,"workers":1,"stripes":8,"buckets":8,"tries":0,""#,
+        fillings: "",
+        printed: "refused 20\n",
+        status: 3,
+    },
+    Files {
+        command: Command::Mix(0),
+        frame: "#",
+        pieces: "[]",
+        fillings: "",
+        printed: "refused 21\n",
+        status: 3,
+    },
+    Files {
+        command: Command::Mix(0),
+        frame: WORKERS_OF,
+        pieces: r#"[[],[["put",1]]]"#,
+        fillings: "1",
+        printed: "refused 21 script 1\n",
+        status: 3,
+    },
+    Files {
+        command: Command::Mix(0),
+        frame: WORKERS_OF,
+        pieces: "[]",
+        fillings: "65",
+        printed: "refused 22\n",
+        status: 3,
+    },
+];
+
+/// Three workers, whose scripts meet on two stripes.
+const THREE_WORKERS: &str =
+    "{\"version\":1,\"workers\":3,\"stripes\":2,\"buckets\":8,\"tries\":3,\"scripts\":[[[\"put\",1,\
+    10],[\"put\",2,20]],[[\"put\",2,21],[\"take\",1]],[[\"get\",1],[\"save\"],[\"put\",3,30],\
+    [\"back\",1]],[[\"take\",2],[\"help\",5]],[[\"put\",4,40],[\"abort\"]],[[\"get\",2]]]}";
+
+/// The empty history is legal and plays scripts as they are asked for, but is not what is printed.
+const NOTHING: &str = "{\"entries\":[],\"stripes\":2,\"version\":1}\n";
+
+/// What `mix` prints of three workers.
+fn mix_three<T: Threads + Wait + Sync>(rt: &T, alloc: Global, seed: u64) -> Narrow {
+    let input = &mut THREE_WORKERS.as_bytes();
+    run_on(rt, alloc, Command::Mix(seed), input, Narrow::whole()).output
+}
+
+/// Checks that a history is legal, with nothing open.
+pub fn judge<T: Abort + Threads + Wait + Sync>(rt: &T, alloc: Global, history: &str) {
+    let ended = run_on(
+        rt,
+        alloc,
+        Command::Check,
+        &mut history.as_bytes(),
+        Narrow::whole(),
+    );
+    let line = ended.output.text();
+    assert!(rt; ended.status == 0 && line.starts_with("legal "), "{line}");
+    assert!(rt; line.ends_with(" commits 0 open\n"), "{line}");
+}
+
+/// One worker does the same whatever the seed.
+#[test]
+fn one_worker(rt: HostRuntime) {
+    for seed in [0, 1, 7, 199, u64::MAX] {
+        compare_file(
+            &rt,
+            rt.alloc(),
+            Command::Mix(seed),
+            ONE_WORKER,
+            (ONE_HISTORY, 0),
+        );
+    }
+}
+
+/// The history of any seed is legal with nothing open, and the same when it is made again. Not all
+/// seeds give the same history, and none an empty one.
+#[test]
+fn any_seed(rt: HostRuntime) {
+    let first = mix_three(&rt, rt.alloc(), 0);
+    let mut differs = false;
+    for seed in 0..200 {
+        let history = mix_three(&rt, rt.alloc(), seed);
+        let again = mix_three(&rt, rt.alloc(), seed);
+        assert!(rt; history.text() == again.text(), "{seed}");
+        assert!(rt; history.text() != NOTHING, "{seed}");
+        judge(&rt, rt.alloc(), history.text());
+        differs = differs || history.text() != first.text();
+    }
+    assert!(rt; differs);
+}

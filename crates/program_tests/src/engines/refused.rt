@@ -1,0 +1,520 @@
+//! Callers whose changes are taken back in turn, where memory is refused: what the core leaves, and
+//! what the checker says of its history.
+
+use boost_core::Core;
+use history_check::{Verdict, check};
+use std::alloc::Global;
+use std::process::Abort;
+use std::test::Fail;
+use txn_trace::{Answer, Entry, Holder, Limits, Op, Refusal, Step};
+
+/// How often a call is tried before memory is taken to be refused for good: once more than
+/// `docs/tests/refused.py` refuses in a row, unless it refuses all from one on.
+const TRIES: usize = 9;
+
+/// The caller that looks on. Each caller below it changes the key one above its number.
+const ONLOOKER: u64 = 5;
+
+const NO_MEMORY: Answer = Answer::Refused(Refusal::NoMemory);
+
+/// Each caller begins, puts 10 and then 20 at its key, and takes the key out: steps and answers.
+const CHANGES: [(Step, Answer); 50] = [
+    (Step::Begin(0), Answer::Began(1)),
+    (Step::Ask(0, Op::Put(1, 10)), Answer::Asked),
+    (Step::Seek(0), Answer::Placed),
+    (Step::Act(0), Answer::Done(None)),
+    (Step::Begin(1), Answer::Began(2)),
+    (Step::Ask(1, Op::Put(2, 10)), Answer::Asked),
+    (Step::Seek(1), Answer::Placed),
+    (Step::Act(1), Answer::Done(None)),
+    (Step::Begin(2), Answer::Began(3)),
+    (Step::Ask(2, Op::Put(3, 10)), Answer::Asked),
+    (Step::Seek(2), Answer::Placed),
+    (Step::Act(2), Answer::Done(None)),
+    (Step::Begin(3), Answer::Began(4)),
+    (Step::Ask(3, Op::Put(4, 10)), Answer::Asked),
+    (Step::Seek(3), Answer::Placed),
+    (Step::Act(3), Answer::Done(None)),
+    (Step::Begin(4), Answer::Began(5)),
+    (Step::Ask(4, Op::Put(5, 10)), Answer::Asked),
+    (Step::Seek(4), Answer::Placed),
+    (Step::Act(4), Answer::Done(None)),
+    (Step::Ask(0, Op::Put(1, 20)), Answer::Asked),
+    (Step::Seek(0), Answer::Placed),
+    (Step::Act(0), Answer::Done(Some(10))),
+    (Step::Ask(0, Op::Take(1)), Answer::Asked),
+    (Step::Seek(0), Answer::Placed),
+    (Step::Act(0), Answer::Done(Some(20))),
+    (Step::Ask(1, Op::Put(2, 20)), Answer::Asked),
+    (Step::Seek(1), Answer::Placed),
+    (Step::Act(1), Answer::Done(Some(10))),
+    (Step::Ask(1, Op::Take(2)), Answer::Asked),
+    (Step::Seek(1), Answer::Placed),
+    (Step::Act(1), Answer::Done(Some(20))),
+    (Step::Ask(2, Op::Put(3, 20)), Answer::Asked),
+    (Step::Seek(2), Answer::Placed),
+    (Step::Act(2), Answer::Done(Some(10))),
+    (Step::Ask(2, Op::Take(3)), Answer::Asked),
+    (Step::Seek(2), Answer::Placed),
+    (Step::Act(2), Answer::Done(Some(20))),
+    (Step::Ask(3, Op::Put(4, 20)), Answer::Asked),
+    (Step::Seek(3), Answer::Placed),
+    (Step::Act(3), Answer::Done(Some(10))),
+    (Step::Ask(3, Op::Take(4)), Answer::Asked),
+    (Step::Seek(3), Answer::Placed),
+    (Step::Act(3), Answer::Done(Some(20))),
+    (Step::Ask(4, Op::Put(5, 20)), Answer::Asked),
+    (Step::Seek(4), Answer::Placed),
+    (Step::Act(4), Answer::Done(Some(10))),
+    (Step::Ask(4, Op::Take(5)), Answer::Asked),
+    (Step::Seek(4), Answer::Placed),
+    (Step::Act(4), Answer::Done(Some(20))),
+];
+
+/// They leave, take a change each back in three rounds, and end.
+const ABORTS: [(Step, Answer); 40] = [
+    (Step::Abort(0), Answer::Leaving),
+    (Step::Abort(1), Answer::Leaving),
+    (Step::Abort(2), Answer::Leaving),
+    (Step::Abort(3), Answer::Leaving),
+    (Step::Abort(4), Answer::Leaving),
+    (Step::Seek(0), Answer::Placed),
+    (Step::Act(0), Answer::Undone),
+    (Step::Seek(1), Answer::Placed),
+    (Step::Act(1), Answer::Undone),
+    (Step::Seek(2), Answer::Placed),
+    (Step::Act(2), Answer::Undone),
+    (Step::Seek(3), Answer::Placed),
+    (Step::Act(3), Answer::Undone),
+    (Step::Seek(4), Answer::Placed),
+    (Step::Act(4), Answer::Undone),
+    (Step::Seek(0), Answer::Placed),
+    (Step::Act(0), Answer::Undone),
+    (Step::Seek(1), Answer::Placed),
+    (Step::Act(1), Answer::Undone),
+    (Step::Seek(2), Answer::Placed),
+    (Step::Act(2), Answer::Undone),
+    (Step::Seek(3), Answer::Placed),
+    (Step::Act(3), Answer::Undone),
+    (Step::Seek(4), Answer::Placed),
+    (Step::Act(4), Answer::Undone),
+    (Step::Seek(0), Answer::Placed),
+    (Step::Act(0), Answer::Undone),
+    (Step::Seek(1), Answer::Placed),
+    (Step::Act(1), Answer::Undone),
+    (Step::Seek(2), Answer::Placed),
+    (Step::Act(2), Answer::Undone),
+    (Step::Seek(3), Answer::Placed),
+    (Step::Act(3), Answer::Undone),
+    (Step::Seek(4), Answer::Placed),
+    (Step::Act(4), Answer::Undone),
+    (Step::Act(0), Answer::Aborted),
+    (Step::Act(1), Answer::Aborted),
+    (Step::Act(2), Answer::Aborted),
+    (Step::Act(3), Answer::Aborted),
+    (Step::Act(4), Answer::Aborted),
+];
+
+/// What all these steps add to the history.
+const ENTRIES: [Entry; 60] = [
+    Entry::Began(0, 1),
+    Entry::Asked(0, Op::Put(1, 10)),
+    Entry::Did(0, None),
+    Entry::Began(1, 2),
+    Entry::Asked(1, Op::Put(2, 10)),
+    Entry::Did(1, None),
+    Entry::Began(2, 3),
+    Entry::Asked(2, Op::Put(3, 10)),
+    Entry::Did(2, None),
+    Entry::Began(3, 4),
+    Entry::Asked(3, Op::Put(4, 10)),
+    Entry::Did(3, None),
+    Entry::Began(4, 5),
+    Entry::Asked(4, Op::Put(5, 10)),
+    Entry::Did(4, None),
+    Entry::Asked(0, Op::Put(1, 20)),
+    Entry::Did(0, Some(10)),
+    Entry::Asked(0, Op::Take(1)),
+    Entry::Did(0, Some(20)),
+    Entry::Asked(1, Op::Put(2, 20)),
+    Entry::Did(1, Some(10)),
+    Entry::Asked(1, Op::Take(2)),
+    Entry::Did(1, Some(20)),
+    Entry::Asked(2, Op::Put(3, 20)),
+    Entry::Did(2, Some(10)),
+    Entry::Asked(2, Op::Take(3)),
+    Entry::Did(2, Some(20)),
+    Entry::Asked(3, Op::Put(4, 20)),
+    Entry::Did(3, Some(10)),
+    Entry::Asked(3, Op::Take(4)),
+    Entry::Did(3, Some(20)),
+    Entry::Asked(4, Op::Put(5, 20)),
+    Entry::Did(4, Some(10)),
+    Entry::Asked(4, Op::Take(5)),
+    Entry::Did(4, Some(20)),
+    Entry::Leave(0, None),
+    Entry::Leave(1, None),
+    Entry::Leave(2, None),
+    Entry::Leave(3, None),
+    Entry::Leave(4, None),
+    Entry::Undone(0),
+    Entry::Undone(1),
+    Entry::Undone(2),
+    Entry::Undone(3),
+    Entry::Undone(4),
+    Entry::Undone(0),
+    Entry::Undone(1),
+    Entry::Undone(2),
+    Entry::Undone(3),
+    Entry::Undone(4),
+    Entry::Undone(0),
+    Entry::Undone(1),
+    Entry::Undone(2),
+    Entry::Undone(3),
+    Entry::Undone(4),
+    Entry::Aborted(0),
+    Entry::Aborted(1),
+    Entry::Aborted(2),
+    Entry::Aborted(3),
+    Entry::Aborted(4),
+];
+
+/// How many of them the changes add.
+const CHANGED: usize = 35;
+
+/// The callers and their keys, in the order of the list, which is that of reversed bits.
+const KEYS: &[(u64, u64)] = &[(3, 4), (1, 2), (0, 1), (4, 5), (2, 3)];
+
+/// Whether memory is refused now.
+fn is_refused(alloc: Global) -> bool {
+    Box::new(alloc, 0).is_err()
+}
+
+/// A core of these limits; none where memory is refused.
+fn core_if_made(alloc: Global, limits: Limits) -> Option<Core> {
+    for _ in 0..TRIES {
+        if let Ok(core) = Core::new(alloc, limits) {
+            return Some(core);
+        }
+    }
+    None
+}
+
+/// Takes a step, whose stripes are no words.
+fn take(rt: &impl Abort, core: &mut Core, step: Step) -> Answer {
+    assert!(rt; !core.words());
+    core.step(step)
+}
+
+/// Aborts.
+fn abort(core: &mut Core, caller: u64) -> Answer {
+    core.abort(caller)
+}
+
+/// The history, and how many entries are owed beyond it.
+fn history_of(core: &Core) -> (&[Entry], usize) {
+    (core.trace(), core.owed())
+}
+
+/// How many buckets and keys there are.
+fn sizes_of(core: &Core) -> (u32, u64) {
+    (core.size(), core.count())
+}
+
+/// The pairs in the order of the list; none where memory is refused.
+fn pairs_of(alloc: Global, core: &Core) -> Option<Vec<(u64, u64)>> {
+    for _ in 0..TRIES {
+        if let Ok(pairs) = core.regular_list(alloc) {
+            return Some(pairs);
+        }
+    }
+    None
+}
+
+/// Takes a step; none where memory is refused.
+fn answer_if_given(rt: &impl Abort, core: &mut Core, step: Step) -> Option<Answer> {
+    for _ in 0..TRIES {
+        let answer = take(rt, core, step);
+        if answer != NO_MEMORY {
+            return Some(answer);
+        }
+    }
+    None
+}
+
+/// What a caller has after some entries.
+#[derive(Clone, Copy)]
+struct CallerState {
+    /// Whether it is in a transaction.
+    is_open: bool,
+    /// Whether the stripe of its key is its own.
+    holds: bool,
+    /// How many of its changes stand.
+    changes: u64,
+    /// How many entries it may still add without memory.
+    owed: usize,
+}
+
+/// What a caller has in no transaction.
+const IDLE: CallerState = CallerState {
+    is_open: false,
+    holds: false,
+    changes: 0,
+    owed: 0,
+};
+
+/// What a caller has after one entry more.
+fn state_after(had: CallerState, entry: Entry) -> CallerState {
+    let mut state = had;
+    match entry {
+        Entry::Began(..) => {
+            state.is_open = true;
+            state.owed = 2;
+        }
+        Entry::Asked(..) => state.holds = true,
+        Entry::Did(..) => {
+            state.changes = had.changes.saturating_add(1);
+            state.owed = had.owed.saturating_add(1);
+        }
+        Entry::Leave(..) => state.owed = had.owed.saturating_sub(1),
+        Entry::Undone(_) => {
+            state.changes = had.changes.saturating_sub(1);
+            state.owed = had.owed.saturating_sub(1);
+        }
+        _ => state = IDLE,
+    }
+    state
+}
+
+/// What a caller has after these entries.
+fn state_of(caller: u64, entries: &[Entry]) -> CallerState {
+    let mut state = IDLE;
+    for entry in entries {
+        if entry.caller() == caller {
+            state = state_after(state, *entry);
+        }
+    }
+    state
+}
+
+/// The value that the key of a caller has, with so many of its changes.
+fn value_with(changes: u64) -> Option<u64> {
+    match changes {
+        1 => Some(10),
+        2 => Some(20),
+        _ => None,
+    }
+}
+
+/// Compares the entries of all but the onlooker.
+fn compare_entries(rt: &impl Abort, core: &Core, entries: &[Entry]) {
+    let mut wanted = entries.iter();
+    for entry in history_of(core).0 {
+        if entry.caller() != ONLOOKER {
+            assert!(rt; wanted.next() == Some(entry));
+        }
+    }
+    assert!(rt; wanted.next().is_none());
+}
+
+/// Compares how many buckets and keys there are, how many entries are owed, and where there is
+/// memory the pairs.
+fn compare_map(rt: &impl Abort, alloc: Global, core: &Core, entries: &[Entry]) {
+    let pairs = pairs_of(alloc, core);
+    assert!(rt; pairs.is_some() || is_refused(alloc));
+    let mut found = pairs.iter().flatten();
+    let mut count: u64 = 0;
+    let mut owed: usize = 0;
+    for (caller, key) in KEYS {
+        let state = state_of(*caller, entries);
+        owed = owed.saturating_add(state.owed);
+        if let Some(value) = value_with(state.changes) {
+            count = count.saturating_add(1);
+            let is_same = pairs.is_none() || found.next() == Some(&(*key, value));
+            assert!(rt; is_same, "{key}");
+        }
+    }
+    assert!(rt; found.next().is_none());
+    assert!(rt; sizes_of(core) == (2, count) && history_of(core).1 == owed);
+}
+
+/// What the onlooker is answered where it asks for a key, after which it aborts; none where memory
+/// is refused.
+fn seen_of(rt: &impl Abort, core: &mut Core, key: u64) -> Option<Answer> {
+    let began = answer_if_given(rt, core, Step::Begin(ONLOOKER))?;
+    assert!(rt; matches!(began, Answer::Began(_)));
+    let answer = answer_if_given(rt, core, Step::Ask(ONLOOKER, Op::Get(key)));
+    assert!(rt; abort(core, ONLOOKER) == Answer::Aborted);
+    answer
+}
+
+/// Compares who holds the stripe of each key.
+fn compare_stripes(rt: &impl Abort, alloc: Global, core: &mut Core, entries: &[Entry]) {
+    for (caller, key) in KEYS {
+        let wanted = if state_of(*caller, entries).holds {
+            Answer::Busy(*caller)
+        } else {
+            Answer::Asked
+        };
+        let seen = seen_of(rt, core, *key);
+        assert!(rt;
+            seen == Some(wanted) || seen.is_none() && is_refused(alloc),
+            "of {key}"
+        );
+    }
+}
+
+/// The first so many entries.
+fn first_entries(count: usize) -> &'static [Entry] {
+    ENTRIES.get(..count).unwrap_or(&ENTRIES)
+}
+
+/// Compares all that there is after these entries, the stripes only where the onlooker may look on.
+fn compare(rt: &impl Abort, alloc: Global, core: &mut Core, entries: &[Entry], looks_on: bool) {
+    compare_entries(rt, core, entries);
+    compare_map(rt, alloc, core, entries);
+    if looks_on {
+        compare_stripes(rt, alloc, core, entries);
+    }
+}
+
+/// Takes steps up to the first that is refused memory, which only a begin and an ask may be, and
+/// compares what there is behind each that adds an entry. So many entries there are before; the
+/// answer is how many there are then.
+fn play(
+    rt: &impl Abort,
+    alloc: Global,
+    core: &mut Core,
+    steps: &[(Step, Answer)],
+    before: usize,
+) -> usize {
+    let mut count = before;
+    for (step, wanted) in steps {
+        let answer = take(rt, core, *step);
+        if answer == NO_MEMORY && matches!(step, Step::Begin(_) | Step::Ask(..)) {
+            break;
+        }
+        assert!(rt; answer == *wanted, "to {step:?}");
+        if matches!(step, Step::Seek(_)) {
+            continue;
+        }
+        count = count.saturating_add(1);
+        if !matches!(step, Step::Ask(..)) {
+            compare(rt, alloc, core, first_entries(count), before == CHANGED);
+        }
+    }
+    count
+}
+
+/// Aborts each caller that is in a transaction after these entries, for which no memory is wanted.
+/// They add just the entries that were owed.
+fn abort_all(rt: &impl Abort, core: &mut Core, entries: &[Entry]) {
+    let (trace, owed) = history_of(core);
+    let wanted_length = trace.len().saturating_add(owed);
+    for (caller, _) in KEYS {
+        let wanted = if state_of(*caller, entries).is_open {
+            Answer::Aborted
+        } else {
+            Answer::Refused(Refusal::NotOpen)
+        };
+        assert!(rt; abort(core, *caller) == wanted, "{caller}");
+    }
+    assert!(rt; history_of(core).0.len() == wanted_length);
+}
+
+/// Has the checker judge the history, which is legal and leaves nobody in a transaction.
+fn judge(rt: &impl Abort, alloc: Global, core: &Core) {
+    let (trace, _) = history_of(core);
+    assert!(rt; trace.iter().all(|entry| entry.caller() < 64));
+    for _ in 0..TRIES {
+        if let Ok(verdict) = check(alloc, trace, 8, Holder::Now) {
+            let legal = Verdict::Legal {
+                commits: 0,
+                running: 0,
+            };
+            assert!(rt; verdict == legal);
+            return;
+        }
+    }
+    assert!(rt; is_refused(alloc));
+}
+
+/// Plays the changes, and takes all back that were not refused memory.
+fn play_all(rt: &impl Abort, alloc: Global, core: &mut Core) {
+    let count = play(rt, alloc, core, &CHANGES, 0);
+    compare(rt, alloc, core, first_entries(count), true);
+    if count == CHANGED {
+        play(rt, alloc, core, &ABORTS, CHANGED);
+    } else {
+        abort_all(rt, core, first_entries(count));
+    }
+    compare_map(rt, alloc, core, &ENTRIES);
+    compare_stripes(rt, alloc, core, &ENTRIES);
+    judge(rt, alloc, core);
+}
+
+/// Has a caller begin, ask for an operation and seek; none where memory is refused.
+fn placed_if_given(rt: &impl Abort, core: &mut Core, caller: u64, op: Op) -> Option<Answer> {
+    let began = answer_if_given(rt, core, Step::Begin(caller))?;
+    assert!(rt; matches!(began, Answer::Began(_)));
+    let asked = answer_if_given(rt, core, Step::Ask(caller, op))?;
+    assert!(rt; asked == Answer::Asked);
+    Some(take(rt, core, Step::Seek(caller)))
+}
+
+/// The steps of the other caller.
+const BESIDE: &[Step] = &[Step::Begin(1), Step::Ask(1, Op::Put(2, 20))];
+
+/// Has caller 0 seek the place of its put, the other caller take a step, and caller 0 act.
+fn act_beside(rt: &impl Abort, alloc: Global, core: &mut Core, step: Step) {
+    let placed = placed_if_given(rt, core, 0, Op::Put(1, 10));
+    if placed.is_none() {
+        assert!(rt; is_refused(alloc));
+        assert!(rt; matches!(abort(core, 0), Answer::Aborted | Answer::Refused(_)));
+        return;
+    }
+    assert!(rt; placed == Some(Answer::Placed));
+    let length = history_of(core).0.len();
+    if take(rt, core, step) == NO_MEMORY {
+        assert!(rt; history_of(core).0.len() == length);
+    }
+    assert!(rt; take(rt, core, Step::Act(0)) == Answer::Done(None));
+    assert!(rt; abort(core, 0) == Answer::Aborted);
+}
+
+/// Plays both steps of the other caller.
+fn play_beside(rt: &impl Abort, alloc: Global, core: &mut Core) {
+    for step in BESIDE {
+        act_beside(rt, alloc, core, *step);
+    }
+}
+
+/// Plays all or the steps beside on a core of so many callers, where memory for that is given.
+fn play_on_core(rt: &impl Abort, alloc: Global, callers: u64, is_all: bool) -> Result<(), Fail> {
+    let core = core_if_made(alloc, Limits::new(callers, 8, 8)?);
+    assert!(rt; core.is_some() || is_refused(alloc));
+    if let Some(mut core) = core {
+        if is_all {
+            play_all(rt, alloc, &mut core);
+        } else {
+            play_beside(rt, alloc, &mut core);
+        }
+    }
+    Ok(())
+}
+
+/// Is to be run with allocations refused: one, eight in a row, or all from one on. Where a change
+/// is refused memory, all is as it was before, and every caller aborts. What wants memory to be
+/// seen is compared where there is memory.
+#[test]
+fn five_callers_undone_is_legal(rt: HostRuntime) -> Result<(), Fail> {
+    play_on_core(&rt, rt.alloc(), 6, true)
+}
+
+/// Is to be run with allocations refused, as the test above. A caller has sought the place of its
+/// put when another caller's step is refused memory: its cursor stands, since it acts by it and
+/// need not seek again.
+#[test]
+fn a_cursor_stands_beside_a_refusal(rt: HostRuntime) -> Result<(), Fail> {
+    play_on_core(&rt, rt.alloc(), 2, false)
+}

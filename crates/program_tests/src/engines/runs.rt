@@ -1,0 +1,127 @@
+//! What `run` prints of script files.
+
+use super::mixes::{BAD_KEY, ONE_WORKER, WORKERS_OF, judge};
+use super::{Command, Files, run_on};
+use crate::devices::Narrow;
+use std::alloc::Global;
+use std::sync::Wait;
+use std::test::Fail;
+use std::thread::Threads;
+
+/// The history of an empty script as a run.
+pub const SHORT_RUN: &str =
+    "{\"entries\":[[\"began\",0,1],[\"committed\",0,1]],\"stripes\":8,\"version\":3}\n";
+
+/// The same where memory was refused to the script.
+pub const NO_ENTRIES: &str = "{\"entries\":[],\"stripes\":8,\"version\":3}\n";
+
+/// Script files, and what is printed of them.
+pub const FILES: &[Files] = &[
+    // One worker does what it does where turns are mixed; the history is of version 3.
+    Files {
+        command: Command::Run,
+        frame: ONE_WORKER,
+        pieces: "",
+        fillings: "",
+        printed: "{\"entries\":[[\"began\",0,1],[\"asked\",0,\"put\",1,10],[\"did\",0,null],\
+            [\"saved\",0],[\"asked\",0,\"take\",1],[\"did\",0,10],[\"leave\",0,1],[\"undone\",0],\
+            [\"returned\",0,1],[\"committed\",0,1],[\"began\",0,2],[\"asked\",0,\"get\",1],\
+            [\"did\",0,10],[\"leave\",0,null],[\"aborted\",0]],\"stripes\":8,\"version\":3}\n",
+        status: 0,
+    },
+    // Keys of a script file of version 2 are every number; its history is of version 3 too.
+    Files {
+        command: Command::Run,
+        frame: "#",
+        pieces: "{\"version\":2,\"workers\":1,\"stripes\":8,\"buckets\":8,\"tries\":0,\
+            \"scripts\":[[[\"put_if\",9223372036854775808,null,5],\
+            [\"help\",9223372036854775808]]]}",
+        fillings: "",
+        printed: "{\"entries\":[[\"began\",0,1],\
+            [\"asked\",0,\"put_if\",9223372036854775808,null,5],[\"did\",0,null],\
+            [\"committed\",0,1]],\"stripes\":8,\"version\":3}\n",
+        status: 0,
+    },
+    // A key of 2^63 is refused before any step of help: the transaction aborts.
+    Files {
+        command: Command::Run,
+        frame: BAD_KEY,
+        pieces: r#"["help",9223372036854775808]"#,
+        fillings: "",
+        printed: "{\"entries\":[[\"began\",0,1],[\"leave\",0,null],[\"aborted\",0]],\"stripes\":8,\
+            \"version\":3}\n",
+        status: 0,
+    },
+    // Bad input.
+    Files {
+        command: Command::Run,
+        frame: "#",
+        pieces: r#"{"version":1,"workers":1,"stripes":8,"buckets":8,"tries":0,""#,
+        fillings: "",
+        printed: "refused 20\n",
+        status: 3,
+    },
+    Files {
+        command: Command::Run,
+        frame: "#",
+        pieces: "[]",
+        fillings: "",
+        printed: "refused 21\n",
+        status: 3,
+    },
+    Files {
+        command: Command::Run,
+        frame: WORKERS_OF,
+        pieces: r#"[[],[["put",1]]]"#,
+        fillings: "1",
+        printed: "refused 21 script 1\n",
+        status: 3,
+    },
+    Files {
+        command: Command::Run,
+        frame: WORKERS_OF,
+        pieces: "[]",
+        fillings: "65",
+        printed: "refused 22\n",
+        status: 3,
+    },
+];
+
+/// Scripts that meet on two stripes, with a gap for the number of workers.
+const ANY_WORKERS: &str =
+    "{\"version\":1,\"workers\":@,\"stripes\":2,\"buckets\":8,\"tries\":3,\"scripts\":[[[\"put\",1,\
+    10],[\"put\",2,20]],[[\"put\",2,21],[\"take\",1]],[[\"get\",1],[\"save\"],[\"put\",3,30],\
+    [\"back\",1]],[[\"take\",2],[\"help\",5]],[[\"put\",4,40],[\"abort\"]],[[\"get\",2]]]}";
+
+/// What `run` prints of so many workers.
+fn run_workers<T: Threads + Wait + Sync>(
+    rt: &T,
+    alloc: Global,
+    workers: &str,
+) -> Result<Narrow, Fail> {
+    let text = ANY_WORKERS.replace(alloc, "@", workers)?;
+    Ok(
+        run_on(
+            rt,
+            alloc,
+            Command::Run,
+            &mut text.as_bytes(),
+            Narrow::whole(),
+        )
+        .output,
+    )
+}
+
+/// The same scripts by one worker to six: the history is legal with nothing open, and not empty.
+#[test]
+fn any_workers(rt: HostRuntime) -> Result<(), Fail> {
+    for workers in "1 2 3 4 5 6".split(' ') {
+        let history = run_workers(&rt, rt.alloc(), workers)?;
+        judge(&rt, rt.alloc(), history.text());
+        assert!(rt;
+            history.text().starts_with("{\"entries\":[[\"began\","),
+            "{workers}"
+        );
+    }
+    Ok(())
+}

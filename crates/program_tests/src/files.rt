@@ -1,0 +1,251 @@
+//! Files of steps, of scripts and of histories: what they hold, and the first fault of each that is
+//! refused.
+
+mod histories;
+mod scripts;
+mod steps;
+
+use crate::devices::filled;
+use crate::files::scripts::{ACTIONS_BEHIND, LONG_SCRIPT, SCRIPTS, SCRIPTS_BEHIND};
+use crate::files::steps::{BEYOND_STEPS, FIRST_COMMIT, ONE_STEP};
+use std::alloc::Global;
+use std::process::Abort;
+use std::test::Fail;
+use txn_files::{FileFault, Part, read_history, read_scripts, read_steps};
+
+/// A kind of file.
+#[derive(Clone, Copy)]
+enum Kind {
+    Steps,
+    Scripts,
+    History,
+}
+
+/// Files that are alike: each piece, one a line, stands in the gap `#` of the frame, and each
+/// filling, with blanks between them, in the gap `@` of that.
+#[derive(Clone, Copy)]
+struct Files {
+    kind: Kind,
+    frame: &'static str,
+    pieces: &'static str,
+    fillings: &'static str,
+    /// What they are refused with; none where they are not.
+    fault: Option<FileFault>,
+}
+
+/// What a file is refused with; none where it is not.
+fn fault_of(alloc: Global, kind: Kind, bytes: &[u8]) -> Option<FileFault> {
+    match kind {
+        Kind::Steps => read_steps(alloc, bytes).err(),
+        Kind::Scripts => read_scripts(alloc, bytes).err(),
+        Kind::History => read_history(alloc, bytes).err(),
+    }
+}
+
+/// Compares two faults.
+fn same_fault(rt: &impl Abort, found: Option<FileFault>, wanted: Option<FileFault>, row: &str) {
+    assert_eq!(rt; found, wanted, "{row}");
+}
+
+/// Compares the faults of files that are alike.
+fn compare_files(rt: &impl Abort, alloc: Global, files: Files) -> Result<(), Fail> {
+    for piece in files.pieces.split('\n') {
+        for filling in files.fillings.split(' ') {
+            let text = filled(alloc, files.frame, piece, filling)?;
+            let found = fault_of(alloc, files.kind, text.as_bytes());
+            same_fault(rt, found, files.fault, &text);
+        }
+    }
+    Ok(())
+}
+
+/// The first fault of each kind of file: length, JSON, members, pieces, and then limits.
+#[test]
+fn faults_of_files(rt: HostRuntime) -> Result<(), Fail> {
+    for table in [steps::FILES, scripts::FILES, histories::FILES] {
+        for files in table {
+            compare_files(&rt, rt.alloc(), *files)?;
+        }
+    }
+    Ok(())
+}
+
+/// A file that grows: its kind and its frame, and what stands in the gap `#` of that: so many times
+/// the first text, then the second, and then as many times the third. And its fault.
+type Grown = (
+    Kind,
+    &'static str,
+    usize,
+    [&'static str; 3],
+    Option<FileFault>,
+);
+
+const NOT_JSON: Option<FileFault> = Some(FileFault::NotJson);
+
+const WRONG_STEP: Option<FileFault> = Some(FileFault::Piece(Part::Step, 0));
+
+/// Values of more than 127 levels, of which the object of the file is one, and the array of its
+/// steps another; and scripts or actions that are more than 10,000, which is found only after the
+/// wrong script behind them.
+const GROWN: &[Grown] = &[
+    (Kind::Steps, "#", 200, ["[", "", "]"], NOT_JSON),
+    (Kind::Steps, BEYOND_STEPS, 125, ["[", "0", "]"], None),
+    (Kind::Steps, BEYOND_STEPS, 126, ["[", "0", "]"], None),
+    (Kind::Steps, BEYOND_STEPS, 127, ["[", "0", "]"], NOT_JSON),
+    (Kind::Steps, ONE_STEP, 125, ["[", "0", "]"], WRONG_STEP),
+    (Kind::Steps, ONE_STEP, 126, ["[", "0", "]"], NOT_JSON),
+    (Kind::Steps, ONE_STEP, 127, ["[", "0", "]"], NOT_JSON),
+    (Kind::Steps, BEYOND_STEPS, 125, ["{\"\":", "0", "}"], None),
+    (Kind::Steps, BEYOND_STEPS, 126, ["{\"\":", "0", "}"], None),
+    (
+        Kind::Steps,
+        BEYOND_STEPS,
+        127,
+        ["{\"\":", "0", "}"],
+        NOT_JSON,
+    ),
+    (Kind::Steps, ONE_STEP, 125, ["{\"\":", "0", "}"], WRONG_STEP),
+    (Kind::Steps, ONE_STEP, 126, ["{\"\":", "0", "}"], NOT_JSON),
+    (Kind::Steps, ONE_STEP, 127, ["{\"\":", "0", "}"], NOT_JSON),
+    (Kind::Scripts, SCRIPTS, 9_999, ["[],", "[]", ""], None),
+    (
+        Kind::Scripts,
+        SCRIPTS,
+        10_000,
+        ["[],", "[]", ""],
+        Some(FileFault::Limit),
+    ),
+    (
+        Kind::Scripts,
+        LONG_SCRIPT,
+        9_999,
+        ["[\"save\"],", "[\"save\"]", ""],
+        None,
+    ),
+    (
+        Kind::Scripts,
+        LONG_SCRIPT,
+        10_000,
+        ["[\"save\"],", "[\"save\"]", ""],
+        Some(FileFault::Limit),
+    ),
+    (
+        Kind::Scripts,
+        SCRIPTS_BEHIND,
+        10_000,
+        ["[],", "[]", ""],
+        Some(FileFault::Piece(Part::Script, 10_001)),
+    ),
+    (
+        Kind::Scripts,
+        ACTIONS_BEHIND,
+        10_000,
+        ["[\"save\"],", "[\"save\"]", ""],
+        Some(FileFault::Piece(Part::Script, 1)),
+    ),
+];
+
+/// So many times the first text, then the second, and then as many times the third.
+fn grown(alloc: Global, count: usize, texts: [&str; 3]) -> Result<String, Fail> {
+    let mut text = String::new(alloc);
+    for _ in 0..count {
+        text.push_str(texts[0])?;
+    }
+    text.push_str(texts[1])?;
+    for _ in 0..count {
+        text.push_str(texts[2])?;
+    }
+    Ok(text)
+}
+
+#[test]
+fn large_files(rt: HostRuntime) -> Result<(), Fail> {
+    for &(kind, frame, count, texts, wanted) in GROWN {
+        let piece = grown(rt.alloc(), count, texts)?;
+        let text = frame.replace(rt.alloc(), "#", &piece)?;
+        same_fault(
+            &rt,
+            fault_of(rt.alloc(), kind, text.as_bytes()),
+            wanted,
+            &text,
+        );
+    }
+    let spaces = vec![in rt.alloc(); b' '; 16_777_217]?;
+    let (_, fewer) = spaces.split_at_checked(1).ok_or("short")?;
+    let too_long = Some(FileFault::Limit);
+    same_fault(
+        &rt,
+        fault_of(rt.alloc(), Kind::Steps, &spaces),
+        too_long,
+        "too long",
+    );
+    same_fault(
+        &rt,
+        fault_of(rt.alloc(), Kind::Steps, fewer),
+        NOT_JSON,
+        "spaces",
+    );
+    Ok(())
+}
+
+/// The bytes with 255, which is no text, in one place.
+fn spoilt(alloc: Global, bytes: &[u8], place: usize) -> Result<Vec<u8>, Fail> {
+    let mut spoilt = bytes.to_vec(alloc)?;
+    *spoilt.get_mut(place).ok_or("short")? = 255;
+    Ok(spoilt)
+}
+
+/// A file that ends too early, or has a byte that is no text.
+#[test]
+fn cut_files(rt: HostRuntime) -> Result<(), Fail> {
+    let bytes = FIRST_COMMIT.as_bytes();
+    for length in 0..bytes.len() {
+        let cut = bytes.get(..length).ok_or("short")?;
+        same_fault(&rt, fault_of(rt.alloc(), Kind::Steps, cut), NOT_JSON, "cut");
+    }
+    for place in [0, 3, 60] {
+        let spoilt = spoilt(rt.alloc(), bytes, place)?;
+        same_fault(
+            &rt,
+            fault_of(rt.alloc(), Kind::Steps, &spoilt),
+            NOT_JSON,
+            "spoilt",
+        );
+    }
+    same_fault(
+        &rt,
+        fault_of(rt.alloc(), Kind::Steps, &[34, 255, 34]),
+        NOT_JSON,
+        "no text",
+    );
+    Ok(())
+}
+
+/// A file of each kind, with texts that are written with escapes.
+const OF_EACH_KIND: [(Kind, &str); 3] = [
+    (
+        Kind::Steps,
+        "{\"x\":[{\"\\n\":[1,\"\\t\"]},\"\\n\"],\"version\":1,\"callers\":1,\"stripes\":8,\
+        \"buckets\":8,\"steps\":[[\"begin\",0],[\"\\u0061sk\",0,\"put\",1,10],[\"seek\",0],\
+        [\"act\",0],[\"sweep\"],[\"commit\",0]]}",
+    ),
+    (
+        Kind::Scripts,
+        "{\"version\":1,\"workers\":1,\"stripes\":8,\"buckets\":8,\"tries\":1,\"scripts\":\
+        [[[\"save\"],[\"put\",1,10],[\"back\",0],[\"abort\"],[\"get\",1]],[],[],[],[[\"get\",1]]]}",
+    ),
+    (
+        Kind::History,
+        "{\"version\":1,\"stripes\":8,\"entries\":[[\"began\",0,1],[\"saved\",0],[\"undone\",0],\
+        [\"aborted\",0],[\"began\",0,2]]}",
+    ),
+];
+
+/// Memory may be refused anywhere in it: then that is the answer, and no other fault.
+#[test]
+fn memory_refused(rt: HostRuntime) {
+    for (kind, text) in OF_EACH_KIND {
+        let fault = fault_of(rt.alloc(), kind, text.as_bytes());
+        assert!(rt; fault.is_none() || fault == Some(FileFault::NoMemory));
+    }
+}

@@ -1,0 +1,327 @@
+//! History files, read and written.
+
+use super::{Files, Kind};
+use std::alloc::Global;
+use std::process::Abort;
+use std::test::Fail;
+use txn_files::{FileFault, Part, history_text, read_history};
+use txn_trace::{Entry, Op};
+
+/// A file with gaps for its stripes and one entry.
+const BETWEEN_ENTRIES: &str = r#"{"version":1,"stripes":@,"entries":[["began",64,1],#,["began"]]}"#;
+
+/// A file with a gap for an entry.
+const BEHIND_A_BEGIN: &str = r#"{"version":1,"stripes":8,"entries":[["began",0,1],#]}"#;
+
+/// Each kind of entry.
+const EVERY_ENTRY: &[Entry] = &[
+    Entry::Began(0, 1),
+    Entry::Saved(0),
+    Entry::Asked(0, Op::Put(1, 10)),
+    Entry::Did(0, None),
+    Entry::Asked(0, Op::Take(2)),
+    Entry::Did(0, Some(0xffff_ffff_ffff_ffff)),
+    Entry::Asked(0, Op::Get(0x8000_0000_0000_0000)),
+    Entry::Did(0, Some(0)),
+    Entry::Leave(0, Some(1)),
+    Entry::Undone(0),
+    Entry::Returned(0, 1),
+    Entry::Committed(0, 1),
+    Entry::Busy(63, Op::Put(1, 20), 0),
+    Entry::Busy(1, Op::Take(7), 63),
+    Entry::Busy(1, Op::Get(0), 2),
+    Entry::Leave(5, None),
+    Entry::Aborted(5),
+];
+
+/// The same as a history that is written.
+const EVERY_KIND: &str =
+    "{\"entries\":[[\"began\",0,1],[\"saved\",0],[\"asked\",0,\"put\",1,10],[\"did\",0,null],\
+    [\"asked\",0,\"take\",2],[\"did\",0,18446744073709551615],[\"asked\",0,\"get\",\
+    9223372036854775808],[\"did\",0,0],[\"leave\",0,1],[\"undone\",0],[\"returned\",0,1],\
+    [\"committed\",0,1],[\"busy\",63,\"put\",1,20,0],[\"busy\",1,\"take\",7,63],[\"busy\",1,\
+    \"get\",0,2],[\"leave\",5,null],[\"aborted\",5]],\"stripes\":4096,\"version\":1}";
+
+/// The same with its members in another order.
+const EVERY_KIND_READ: &str =
+    "{\"version\":1,\"stripes\":4096,\"entries\":[[\"began\",0,1],[\"saved\",0],\
+    [\"asked\",0,\"put\",1,10],[\"did\",0,null],[\"asked\",0,\"take\",2],\
+    [\"did\",0,18446744073709551615],[\"asked\",0,\"get\",9223372036854775808],[\"did\",0,0],\
+    [\"leave\",0,1],[\"undone\",0],[\"returned\",0,1],[\"committed\",0,1],\
+    [\"busy\",63,\"put\",1,20,0],[\"busy\",1,\"take\",7,63],[\"busy\",1,\"get\",0,2],\
+    [\"leave\",5,null],[\"aborted\",5]]}";
+
+/// White space, members in another order, others beside them, and one given twice.
+const ANY_ORDER: &str =
+    " { \"entries\" : [ [ \"undone\" , 3 ] ],\n\"note\":null,\"stripes\":0,\"stripes\":1,\
+    \"version\":1}\n";
+
+const VERSION_2: &str = "{\"entries\":[[\"asked\",0,\"put_if\",1,null,5],\
+    [\"asked\",0,\"put_if\",18446744073709551615,4,6],[\"busy\",1,\"put_if\",1,0,7,0],\
+    [\"busy\",1,\"put_if\",2,null,8,63]],\"stripes\":8,\"version\":2}";
+
+/// Version 3, of history files alone, has the shapes of version 2.
+const VERSION_3: &str =
+    r#"{"entries":[["began",1,1],["busy",1,"put_if",2,null,8,0]],"stripes":8,"version":3}"#;
+
+/// A history file, and what it holds.
+#[derive(Clone, Copy)]
+struct Read {
+    text: &'static str,
+    /// Whether the text is what is written of the history.
+    is_written: bool,
+    version: u64,
+    stripes: u32,
+    entries: &'static [Entry],
+}
+
+const READ: &[Read] = &[
+    Read {
+        text: EVERY_KIND,
+        is_written: true,
+        version: 1,
+        stripes: 4096,
+        entries: EVERY_ENTRY,
+    },
+    Read {
+        text: EVERY_KIND_READ,
+        is_written: false,
+        version: 1,
+        stripes: 4096,
+        entries: EVERY_ENTRY,
+    },
+    Read {
+        text: ANY_ORDER,
+        is_written: false,
+        version: 1,
+        stripes: 1,
+        entries: &[Entry::Undone(3)],
+    },
+    Read {
+        text: r#"{"entries":[["began",0,1]],"stripes":8,"version":1}"#,
+        is_written: true,
+        version: 1,
+        stripes: 8,
+        entries: &[Entry::Began(0, 1)],
+    },
+    Read {
+        text: r#"{"entries":[],"stripes":1,"version":1}"#,
+        is_written: true,
+        version: 1,
+        stripes: 1,
+        entries: &[],
+    },
+    Read {
+        text: VERSION_2,
+        is_written: true,
+        version: 2,
+        stripes: 8,
+        entries: &[
+            Entry::Asked(0, Op::PutIf(1, None, 5)),
+            Entry::Asked(0, Op::PutIf(u64::MAX, Some(4), 6)),
+            Entry::Busy(1, Op::PutIf(1, Some(0), 7), 0),
+            Entry::Busy(1, Op::PutIf(2, None, 8), 63),
+        ],
+    },
+    Read {
+        text: VERSION_3,
+        is_written: true,
+        version: 3,
+        stripes: 8,
+        entries: &[Entry::Began(1, 1), Entry::Busy(1, Op::PutIf(2, None, 8), 0)],
+    },
+];
+
+/// The text that is written of a history.
+fn text_of(alloc: Global, read: Read) -> Result<String, Fail> {
+    Ok(history_text(alloc, read.version, read.stripes, read.entries)?)
+}
+
+/// Compares what a history file holds.
+fn compare(rt: &impl Abort, alloc: Global, read: Read) -> Result<(), Fail> {
+    let (stripes, entries, version) = read_history(alloc, read.text.as_bytes())?;
+    assert!(rt;
+        stripes == read.stripes && version == read.version,
+        "{}",
+        read.text
+    );
+    assert!(rt; entries.as_slice() == read.entries, "{}", read.text);
+    Ok(())
+}
+
+#[test]
+fn contents_of_histories(rt: HostRuntime) -> Result<(), Fail> {
+    for read in READ {
+        compare(&rt, rt.alloc(), *read)?;
+        if read.is_written {
+            let text = text_of(rt.alloc(), *read)?;
+            assert!(rt; text.as_str() == read.text, "{text}");
+        }
+    }
+    Ok(())
+}
+
+/// Histories that are alike in their fault.
+pub const FILES: &[Files] = &[
+    Files {
+        kind: Kind::History,
+        frame: "#",
+        pieces: r#"
+{"version":1,"stripes":8,"entries":[]"#,
+        fillings: "",
+        fault: Some(FileFault::NotJson),
+    },
+    Files {
+        kind: Kind::History,
+        frame: "#",
+        pieces: r#"[]
+{}
+{"stripes":8,"entries":[]}
+{"version":1,"entries":[]}
+{"version":1,"stripes":8}
+{"version":1,"stripes":8,"steps":[]}
+{"version":null,"stripes":8,"entries":[]}
+{"version":1,"stripes":8.0,"entries":[]}
+{"version":1,"stripes":"8","entries":[]}
+{"version":1,"stripes":8,"entries":{}}
+{"version":7,"stripes":0,"entries":null}
+{"version":1,"stripes":-8,"entries":[0]}"#,
+        fillings: "",
+        fault: Some(FileFault::Member),
+    },
+    Files {
+        kind: Kind::History,
+        frame: "#",
+        pieces: r#"{"version":0,"stripes":8,"entries":[]}
+{"version":4,"stripes":8,"entries":[]}
+{"version":1,"stripes":0,"entries":[]}
+{"version":1,"stripes":4097,"entries":[]}
+{"version":1,"stripes":4294967297,"entries":[]}"#,
+        fillings: "",
+        fault: Some(FileFault::Limit),
+    },
+    // The caller and the stripes are out of range, which is found only after the entries.
+    Files {
+        kind: Kind::History,
+        frame: BETWEEN_ENTRIES,
+        pieces: r#"0
+null
+"saved"
+{"saved":0}
+[]
+[0]
+["saved"]
+[0,"saved"]
+["saved",null]
+["saved",-1]
+["saved",0.0]
+["saved",18446744073709551616]
+["saved",0,0]
+["Saved",0]
+["begin",0]
+["began",0]
+["began",0,null]
+["began",0,1,1]
+["asked",0]
+["asked",0,"put",1]
+["asked",0,"put",1,null]
+["asked",0,"put",1,10,0]
+["asked",0,"take"]
+["asked",0,"take",1,1]
+["asked",0,"get",null]
+["asked",0,"save",1]
+["asked",0,["get",1]]
+["did",0]
+["did",0,false]
+["did",0,-1]
+["did",0,null,null]
+["did",null,0]
+["leave",0]
+["leave",0,"1"]
+["leave",0,1,1]
+["undone",0,1]
+["returned",0]
+["returned",0,null]
+["returned",0,1,1]
+["committed",0]
+["committed",0,null]
+["committed",0,1,1]
+["busy",0,1]
+["busy",0,"put",1,10]
+["busy",0,"put",1,10,null]
+["busy",0,"put",1,10,1,1]
+["busy",0,"take",1]
+["busy",0,"take",1,1,1]
+["busy",0,"get",1,null]
+["busy",0,"abort",1,1]
+["aborted"]
+["aborted",0,null]"#,
+        fillings: "8 0",
+        fault: Some(FileFault::Piece(Part::Entry, 1)),
+    },
+    // Callers and holders are below 64.
+    Files {
+        kind: Kind::History,
+        frame: BEHIND_A_BEGIN,
+        pieces: r#"["began",@,1]
+["asked",@,"get",1]
+["did",@,null]
+["saved",@]
+["leave",@,null]
+["undone",@]
+["returned",@,0]
+["committed",@,1]
+["busy",@,"get",1,0]
+["busy",0,"get",1,@]
+["aborted",@]"#,
+        fillings: "63",
+        fault: None,
+    },
+    Files {
+        kind: Kind::History,
+        frame: BEHIND_A_BEGIN,
+        pieces: r#"["began",@,1]
+["asked",@,"get",1]
+["did",@,null]
+["saved",@]
+["leave",@,null]
+["undone",@]
+["returned",@,0]
+["committed",@,1]
+["busy",@,"get",1,0]
+["busy",0,"get",1,@]
+["aborted",@]"#,
+        fillings: "64 18446744073709551615",
+        fault: Some(FileFault::Limit),
+    },
+    // A number too large for a float makes the file no JSON, wherever it stands.
+    Files {
+        kind: Kind::History,
+        frame: "#",
+        pieces: r#"{"version":1e999,"stripes":8,"entries":[]}
+{"version":1,"stripes":1e999,"entries":[]}
+{"version":1,"stripes":8,"entries":1e999}
+{"version":1,"stripes":8,"entries":[1e999]}
+{"version":1,"stripes":8,"entries":[["began",0,1e999]]}
+{"version":1,"stripes":8,"entries":[["began",0,1]],"x":[-1e999]}"#,
+        fillings: "",
+        fault: Some(FileFault::NotJson),
+    },
+    // Version 1 has no `put_if`.
+    Files {
+        kind: Kind::History,
+        frame: "#",
+        pieces: "{\"entries\":[[\"asked\",0,\"put_if\",1,null,5],\
+            [\"asked\",0,\"put_if\",18446744073709551615,4,6],[\"busy\",1,\"put_if\",1,0,7,0],\
+            [\"busy\",1,\"put_if\",2,null,8,63]],\"stripes\":8,\"version\":1}",
+        fillings: "",
+        fault: Some(FileFault::Piece(Part::Entry, 0)),
+    },
+    Files {
+        kind: Kind::History,
+        frame: BEHIND_A_BEGIN,
+        pieces: r#"["busy",1,"put_if",2,null,8,63]"#,
+        fillings: "",
+        fault: Some(FileFault::Piece(Part::Entry, 1)),
+    },
+];

@@ -1,0 +1,269 @@
+//! Script files.
+
+use super::{Files, Kind};
+use std::alloc::Global;
+use std::process::Abort;
+use std::test::Fail;
+use txn_files::{FileFault, Part, Script, Scripts, read_scripts};
+use txn_trace::{Action, Op};
+
+/// Four members of a script file.
+const SIZES: &str = r#""version":1,"workers":1,"stripes":8,"buckets":8"#;
+
+/// A file with gaps for its version and its scripts.
+const SCRIPTS_IN_VERSION: &str =
+    r#"{"version":@,"workers":1,"stripes":2,"buckets":8,"tries":3,"scripts":#}"#;
+
+/// The same with a gap for one script.
+const BETWEEN_SCRIPTS: &str =
+    "{\"version\":@,\"workers\":1,\"stripes\":2,\"buckets\":8,\"tries\":3,\"scripts\":[[],\
+    [[\"get\",1]],#,[0]]}";
+
+/// Files with a gap for scripts, or for the actions of a script; and those with a wrong one behind.
+pub const SCRIPTS: &str =
+    r#"{"version":1,"workers":1,"stripes":2,"buckets":8,"tries":3,"scripts":[#]}"#;
+
+pub const LONG_SCRIPT: &str =
+    r#"{"version":1,"workers":1,"stripes":2,"buckets":8,"tries":3,"scripts":[[],[#]]}"#;
+
+pub const SCRIPTS_BEHIND: &str =
+    r#"{"version":7,"workers":1,"stripes":2,"buckets":8,"tries":3,"scripts":[#,[0],[]]}"#;
+
+pub const ACTIONS_BEHIND: &str =
+    r#"{"version":7,"workers":1,"stripes":2,"buckets":8,"tries":3,"scripts":[[],[#,["back"]],[]]}"#;
+
+/// Every action.
+const EVERY_ACTION: &str =
+    "{\"version\":1,\"workers\":1,\"stripes\":2,\"buckets\":8,\"tries\":3,\"scripts\":[[[\"put\",1,\
+    10],[\"take\",18446744073709551615],[\"get\",0]],[],[[\"save\"],[\"back\",1],[\"help\",\
+    9223372036854775808],[\"abort\"],[\"save\"]]]}";
+
+const VERSION_2: &str = "{\"version\":2,\"workers\":1,\"stripes\":2,\"buckets\":8,\"tries\":3,\
+    \"scripts\":[[[\"save\"]],[[\"put_if\",1,null,10],[\"put_if\",18446744073709551615,10,12]]]}";
+
+/// A script file, and what it holds.
+#[derive(Clone, Copy)]
+struct Read {
+    text: &'static str,
+    /// The numbers of callers, of stripes, of buckets and of tries.
+    sizes: (u32, u32, u32, u64),
+    version: u64,
+    half_keys: bool,
+    scripts: &'static [&'static [Action]],
+}
+
+const READ: &[Read] = &[
+    Read {
+        text: EVERY_ACTION,
+        sizes: (1, 2, 8, 3),
+        version: 1,
+        half_keys: true,
+        scripts: &[
+            &[
+                Action::Op(Op::Put(1, 10)),
+                Action::Op(Op::Take(0xffff_ffff_ffff_ffff)),
+                Action::Op(Op::Get(0)),
+            ],
+            &[],
+            &[
+                Action::Save,
+                Action::Back(1),
+                Action::Help(0x8000_0000_0000_0000),
+                Action::Abort,
+                Action::Save,
+            ],
+        ],
+    },
+    Read {
+        text: VERSION_2,
+        sizes: (1, 2, 8, 3),
+        version: 2,
+        half_keys: false,
+        scripts: &[
+            &[Action::Save],
+            &[
+                Action::Op(Op::PutIf(1, None, 10)),
+                Action::Op(Op::PutIf(u64::MAX, Some(10), 12)),
+            ],
+        ],
+    },
+];
+
+/// The numbers of a script file, as `Read` has them.
+fn numbers_of(work: &Scripts) -> ((u32, u32, u32, u64), u64, bool) {
+    let limits = work.limits();
+    let sizes = (
+        limits.callers(),
+        limits.stripes(),
+        limits.buckets(),
+        work.tries(),
+    );
+    (sizes, work.version(), limits.has_half_keys())
+}
+
+/// Whether the scripts are those of these actions.
+fn are_scripts(scripts: &[Script], wanted: &[&[Action]]) -> bool {
+    scripts.len() == wanted.len()
+        && scripts
+            .iter()
+            .zip(wanted)
+            .all(|(script, actions)| script.actions() == *actions)
+}
+
+/// The actions of a script, which it gives back, and how many it says there are.
+fn given_back(alloc: Global, actions: &[Action]) -> Result<(usize, Vec<Action>), Fail> {
+    let script = Script::new(actions.to_vec(alloc)?);
+    Ok((script.actions().len(), script.into_actions()))
+}
+
+#[test]
+fn contents_of_script_files(rt: HostRuntime) -> Result<(), Fail> {
+    for read in READ {
+        let work = read_scripts(rt.alloc(), read.text.as_bytes())?;
+        let wanted = (read.sizes, read.version, read.half_keys);
+        assert!(rt; numbers_of(&work) == wanted, "version {}", read.version);
+        assert!(rt;
+            are_scripts(work.scripts(), read.scripts),
+            "version {}",
+            read.version
+        );
+    }
+    let wanted = [Action::Save, Action::Back(0)];
+    let (count, actions) = given_back(rt.alloc(), &wanted)?;
+    assert!(rt; count == 2 && actions.as_slice() == wanted.as_slice());
+    Ok(())
+}
+
+/// Script files that are alike in their fault.
+pub const FILES: &[Files] = &[
+    Files {
+        kind: Kind::Scripts,
+        frame: "#",
+        pieces: r#"
+{@,"tries":0,"scripts":[]"#,
+        fillings: SIZES,
+        fault: Some(FileFault::NotJson),
+    },
+    Files {
+        kind: Kind::Scripts,
+        frame: "#",
+        pieces: r#"[]
+{}
+{@,"tries":0}
+{@,"scripts":[]}
+{@,"tries":null,"scripts":[]}
+{@,"tries":-1,"scripts":[]}
+{@,"tries":0.5,"scripts":[]}
+{@,"tries":0,"scripts":{}}
+{@,"tries":0,"steps":[]}
+{@,"tries":0,"scripts":[],"workers":"1"}
+{@,"tries":0,"scripts":[],"stripes":[8]}
+{@,"tries":0,"scripts":[],"buckets":8.0}
+{@,"tries":0,"scripts":[],"version":true}
+{@,"tries":1001,"scripts":null}"#,
+        fillings: SIZES,
+        fault: Some(FileFault::Member),
+    },
+    Files {
+        kind: Kind::Scripts,
+        frame: "#",
+        pieces: r#"{@,"tries":1001,"scripts":[]}
+{@,"tries":0,"scripts":[],"version":0}
+{@,"tries":0,"scripts":[],"version":3}
+{@,"tries":0,"scripts":[],"workers":0}
+{@,"tries":0,"scripts":[],"workers":65}
+{@,"tries":0,"scripts":[],"stripes":0}
+{@,"tries":0,"scripts":[],"stripes":4097}
+{@,"tries":0,"scripts":[],"buckets":1}
+{@,"tries":0,"scripts":[],"buckets":12}"#,
+        fillings: SIZES,
+        fault: Some(FileFault::Limit),
+    },
+    Files {
+        kind: Kind::Scripts,
+        frame: "#",
+        pieces: r#"{@,"note":null,"tries":0,"scripts":[]}
+{@,"note":null,"tries":1000,"scripts":[]}"#,
+        fillings: SIZES,
+        fault: None,
+    },
+    // A version that is out of range is found only after the scripts.
+    Files {
+        kind: Kind::Scripts,
+        frame: BETWEEN_SCRIPTS,
+        pieces: r#"0
+null
+"save"
+{}
+["save"]
+[0]
+[null]
+[[]]
+[[0]]
+[["Save"]]
+[["save",0]]
+[["save",null]]
+[["back"]]
+[["back",null]]
+[["back",-1]]
+[["back",1,1]]
+[["help"]]
+[["help","1"]]
+[["help",1,1]]
+[["abort",0]]
+[["begin"]]
+[["commit"]]
+[["put",1]]
+[["put",1,null]]
+[["put",1,10,1]]
+[["put",0,"put",1,10]]
+[["take"]]
+[["take",1,1]]
+[["get",1.0]]
+[["get",18446744073709551616]]
+[["save"],["get",1],["get"]]
+[["save"],["abort"],0]"#,
+        fillings: "1 7",
+        fault: Some(FileFault::Piece(Part::Script, 2)),
+    },
+    // Version 1 has no `put_if`.
+    Files {
+        kind: Kind::Scripts,
+        frame: SCRIPTS_IN_VERSION,
+        pieces: r#"[[["save"]],[["put_if",1,null,10],["put_if",18446744073709551615,10,12]]]"#,
+        fillings: "0 3",
+        fault: Some(FileFault::Limit),
+    },
+    Files {
+        kind: Kind::Scripts,
+        frame: SCRIPTS_IN_VERSION,
+        pieces: r#"[[["save"]],[["put_if",1,null,10],["put_if",18446744073709551615,10,12]]]"#,
+        fillings: "1",
+        fault: Some(FileFault::Piece(Part::Script, 1)),
+    },
+    Files {
+        kind: Kind::Scripts,
+        frame: SCRIPTS_IN_VERSION,
+        pieces: r#"[[["save"]],[["put_if",1,null,10],["put_if",18446744073709551615,10,12]]]"#,
+        fillings: "2",
+        fault: None,
+    },
+    // A number too large for a float makes the file no JSON, wherever it stands.
+    Files {
+        kind: Kind::Scripts,
+        frame: "#",
+        pieces: r#"{"version":1,"workers":1e999,"stripes":8,"buckets":8,"tries":0,"scripts":[]}"#,
+        fillings: "",
+        fault: Some(FileFault::NotJson),
+    },
+    Files {
+        kind: Kind::Scripts,
+        frame: r#"{@,"tries":0,"scripts":#}"#,
+        pieces: r#"1e999
+[[1e999]]
+[[["put",1e999,1]]]
+[[["save"]]],"x":{"y":1e999}"#,
+        fillings: SIZES,
+        fault: Some(FileFault::NotJson),
+    },
+];

@@ -1,0 +1,442 @@
+//! Step files.
+
+use super::{Files, Kind};
+use std::alloc::Global;
+use std::process::Abort;
+use std::test::Fail;
+use txn_files::{FileFault, Part, read_steps};
+use txn_trace::{Op, Step};
+
+/// One transaction that puts one key.
+pub const FIRST_COMMIT: &str =
+    "{\"version\":1,\"callers\":1,\"stripes\":8,\"buckets\":8,\"steps\":[[\"begin\",0],[\"ask\",0,\
+    \"put\",1,10],[\"seek\",0],[\"act\",0],[\"commit\",0]]}";
+
+/// Every step, with white space, numbers at both ends, members in another order, others beside
+/// them, and one given twice.
+const EVERY_STEP: &str =
+    " { \"steps\" : [[\"abort\",18446744073709551615], [\"ask\",7,\"take\",0],\n[\"ask\",0,\"get\",\
+    9223372036854775808],[\"ask\",1,\"put\",18446744073709551615,0],\n[\"save\",3],[\"back\",4,\
+    2],[\"sweep\"],[\"init_seek\",5,6],[\"init_link\",7],[\"init_store\",8],[\"double\",9]],\
+     \"note\" : null,\n\"buckets\":65536,\"stripes\":4096,\"callers\":64,\"version\":7,\
+    \"version\":1,\"\":[{\"steps\":-1.5e3}]}\n";
+
+const VERSION_2: &str =
+    "{\"version\":2,\"callers\":1,\"stripes\":8,\"buckets\":8,\"steps\":[[\"ask\",0,\"put_if\",\
+    9223372036854775809,null,11],[\"ask\",0,\"put_if\",1,10,12]]}";
+
+/// Files whose steps stand in a gap.
+const STEPS_OF_ONE: &str = r#"{"version":1,"callers":1,"stripes":8,"buckets":8,"steps":#}"#;
+
+const STEPS_OF_TWO: &str = r#"{"version":1,"callers":2,"stripes":8,"buckets":8,"steps":#}"#;
+
+const STEPS_IN_VERSION: &str = r#"{"callers":1,"stripes":8,"buckets":8,"steps":#,"version":@}"#;
+
+/// Files with a gap for one step.
+const BETWEEN_STEPS: &str =
+    r#"{"version":1,"callers":@,"stripes":8,"buckets":8,"steps":[["begin",0],#,["begin"]]}"#;
+
+const BEHIND_A_SWEEP: &str =
+    r#"{"version":1,"callers":1,"stripes":8,"buckets":8,"steps":[["sweep"],#,[0]]}"#;
+
+pub const ONE_STEP: &str = r#"{"version":1,"callers":1,"stripes":8,"buckets":8,"steps":[#]}"#;
+
+/// Files of one step with a gap for members.
+const BEFORE_MEMBERS: &str =
+    r#"{#"version":1,"callers":1,"stripes":8,"buckets":8,"steps":[["sweep"]]}"#;
+
+const BEYOND_MEMBERS: &str =
+    r#"{"version":1,"callers":1,"stripes":8,"buckets":8,"steps":[["sweep"]]#}"#;
+
+/// The same with a gap for the value of a member that no step file has.
+const BEFORE_STEPS: &str =
+    r#"{"x":#,"version":1,"callers":1,"stripes":8,"buckets":8,"steps":[["sweep"]]}"#;
+
+pub const BEYOND_STEPS: &str =
+    r#"{"version":1,"callers":1,"stripes":8,"buckets":8,"steps":[["sweep"]],"x":#}"#;
+
+/// Values of members that are passed over.
+const VALUES: &[&str] = &[
+    "null",
+    "true",
+    "-0.0",
+    "1e308",
+    "18446744073709551616",
+    r#""\u00e9\n""#,
+    r#"{"version":2,"steps":null}"#,
+    r#"[["begin",0]]"#,
+];
+
+/// Step files of the same content, each with a piece in the gap `#` of the frame.
+#[derive(Clone, Copy)]
+struct Read {
+    frame: &'static str,
+    pieces: &'static [&'static str],
+    /// The numbers of callers, of stripes and of buckets, and whether keys are half keys alone.
+    sizes: (u32, u32, u32, bool),
+    steps: &'static [Step],
+}
+
+const READ: &[Read] = &[
+    Read {
+        frame: FIRST_COMMIT,
+        pieces: &[""],
+        sizes: (1, 8, 8, true),
+        steps: &[
+            Step::Begin(0),
+            Step::Ask(0, Op::Put(1, 10)),
+            Step::Seek(0),
+            Step::Act(0),
+            Step::Commit(0),
+        ],
+    },
+    Read {
+        frame: EVERY_STEP,
+        pieces: &[""],
+        sizes: (64, 4096, 65536, true),
+        steps: &[
+            Step::Abort(u64::MAX),
+            Step::Ask(7, Op::Take(0)),
+            Step::Ask(0, Op::Get(9_223_372_036_854_775_808)),
+            Step::Ask(1, Op::Put(u64::MAX, 0)),
+            Step::Save(3),
+            Step::Back(4, 2),
+            Step::Sweep,
+            Step::InitSeek(5, 6),
+            Step::InitLink(7),
+            Step::InitStore(8),
+            Step::Double(9),
+        ],
+    },
+    Read {
+        frame: VERSION_2,
+        pieces: &[""],
+        sizes: (1, 8, 8, false),
+        steps: &[
+            Step::Ask(0, Op::PutIf(9_223_372_036_854_775_809, None, 11)),
+            Step::Ask(0, Op::PutIf(1, Some(10), 12)),
+        ],
+    },
+    PASSED_BEFORE,
+    PASSED_BEYOND,
+];
+
+/// A member that is passed over before the others, or behind them.
+const PASSED_BEFORE: Read = Read {
+    frame: BEFORE_STEPS,
+    pieces: VALUES,
+    sizes: (1, 8, 8, true),
+    steps: &[Step::Sweep],
+};
+
+const PASSED_BEYOND: Read = Read {
+    frame: BEYOND_STEPS,
+    pieces: VALUES,
+    sizes: (1, 8, 8, true),
+    steps: &[Step::Sweep],
+};
+
+/// What a step file holds, as `Read` has it.
+fn content_of(alloc: Global, bytes: &[u8]) -> Result<((u32, u32, u32, bool), Vec<Step>), Fail> {
+    let (limits, steps) = read_steps(alloc, bytes)?;
+    let half_keys = limits.has_half_keys();
+    let sizes = (
+        limits.callers(),
+        limits.stripes(),
+        limits.buckets(),
+        half_keys,
+    );
+    Ok((sizes, steps))
+}
+
+/// Compares what the file with this piece holds.
+fn compare(rt: &impl Abort, alloc: Global, read: Read, piece: &str) -> Result<(), Fail> {
+    let text = read.frame.replace(alloc, "#", piece)?;
+    let (sizes, steps) = content_of(alloc, text.as_bytes())?;
+    assert!(rt;
+        sizes == read.sizes && steps.as_slice() == read.steps,
+        "{text}"
+    );
+    Ok(())
+}
+
+#[test]
+fn contents_of_step_files(rt: HostRuntime) -> Result<(), Fail> {
+    for read in READ {
+        for piece in read.pieces {
+            compare(&rt, rt.alloc(), *read, piece)?;
+        }
+    }
+    let mut objects = "{\"\":{\"steps\":[[0,{}]]}},".repeat(rt.alloc(), 500)?;
+    objects.insert(0, '[')?;
+    objects.push_str("[]]")?;
+    compare(&rt, rt.alloc(), PASSED_BEFORE, &objects)?;
+    compare(&rt, rt.alloc(), PASSED_BEYOND, &objects)
+}
+
+/// Step files that are alike in their fault.
+pub const FILES: &[Files] = &[
+    // Members.
+    Files {
+        kind: Kind::Steps,
+        frame: "#",
+        pieces: r#"{{}}
+{"version":1e999}"#,
+        fillings: r#""stripes":8,"buckets":8,"steps":[]"#,
+        fault: Some(FileFault::NotJson),
+    },
+    Files {
+        kind: Kind::Steps,
+        frame: "#",
+        pieces: r#"[]
+null
+7
+"steps"
+{}
+{"callers":1,@}
+{"version":1,@}
+{"version":null,"callers":1,@}
+{"version":1.0,"callers":1,@}
+{"version":-1,"callers":1,@}
+{"version":1e0,"callers":1,@}
+{"version":-0,"callers":1,@}
+{"version":18446744073709551616,"callers":1,@}
+{"version":1,"callers":"1",@}
+{"version":1,"callers":-1,@}
+{"version":1,"callers":2.0,@}
+{"version":1,"callers":[1],@}
+{"version":1,"callers":1,@,"stripes":true}
+{"version":1,"callers":1,@,"buckets":{}}
+{"version":1,"callers":1,@,"steps":{}}
+{"version":1,"callers":1,@,"steps":0}
+{"version":7,"callers":1,@,"steps":null}"#,
+        fillings: r#""stripes":8,"buckets":8,"steps":[]"#,
+        fault: Some(FileFault::Member),
+    },
+    Files {
+        kind: Kind::Steps,
+        frame: "#",
+        pieces: r#"{"version":7,"callers":1,@}
+{"version":0,"callers":1,@}
+{"version":1,"callers":0,@}
+{"version":1,"callers":65,@}
+{"version":1,"callers":1,@,"stripes":0}
+{"version":1,"callers":1,@,"stripes":4097}
+{"version":1,"callers":1,@,"buckets":1}
+{"version":1,"callers":1,@,"buckets":12}
+{"version":1,"callers":1,@,"buckets":131072}"#,
+        fillings: r#""stripes":8,"buckets":8,"steps":[]"#,
+        fault: Some(FileFault::Limit),
+    },
+    // The empty file, and others that are no JSON or lack a member.
+    Files {
+        kind: Kind::Steps,
+        frame: "#",
+        pieces: "",
+        fillings: "",
+        fault: Some(FileFault::NotJson),
+    },
+    Files {
+        kind: Kind::Steps,
+        frame: "#",
+        pieces: r#"{"version":1,"callers":2,"buckets":8,"steps":[]}
+{"version":1,"callers":2,"stripes":8,"buckets":8,"steps":{}}"#,
+        fillings: "",
+        fault: Some(FileFault::Member),
+    },
+    // A number too large for a float makes the file no JSON, wherever it stands.
+    Files {
+        kind: Kind::Steps,
+        frame: "#",
+        pieces: r#"{"version":1,"callers":1,"stripes":8,"buckets":-1e999,"steps":[]}
+{"version":1,"callers":1,"stripes":8,"buckets":8,"steps":1e999}
+{"version":1,"callers":1,"stripes":8,"buckets":8,"steps":[1e999]}
+{"version":1,"callers":1,"stripes":8,"buckets":8,"steps":[["begin",0],["begin",1e999]]}"#,
+        fillings: "",
+        fault: Some(FileFault::NotJson),
+    },
+    // Steps that are none.
+    Files {
+        kind: Kind::Steps,
+        frame: STEPS_OF_TWO,
+        pieces: r#"[["begin",-1]]
+[["begin",0.5]]
+[["begin",1e1]]
+[["begin",18446744073709551616]]
+[["begin","0"]]
+[["begin",0,0]]
+[["start",0]]"#,
+        fillings: "",
+        fault: Some(FileFault::Piece(Part::Step, 0)),
+    },
+    // Too many callers are found only after the steps.
+    Files {
+        kind: Kind::Steps,
+        frame: BETWEEN_STEPS,
+        pieces: r#"0
+null
+"begin"
+{"begin":0}
+[]
+[0]
+["begin"]
+[0,"begin"]
+["begin",-1]
+["begin",0.0]
+["begin",1e2]
+["begin",-0]
+["begin",18446744073709551616]
+["begin","0"]
+["begin",null]
+["begin",0,0]
+["Begin",0]
+["sweep",0]
+["sweep",[]]
+["save"]
+["back",0]
+["back",0,1,2]
+["back",0,null]
+["init_seek",0]
+["init_link",0,3]
+["init_store"]
+["double",2,4]
+["double","2"]
+["ask",0]
+["ask",0,"put",1]
+["ask",0,"put","1",10]
+["ask",0,"put",1,10,1]
+["ask",0,"take",1,10]
+["ask",0,"take"]
+["ask",0,"get",[1]]
+["ask",0,"update",1]
+["ask",0,["get",1]]
+["ask","get",1]
+["seek",0,0]
+["act"]
+["commit",true]
+["abort",0,null]"#,
+        fillings: "1 65",
+        fault: Some(FileFault::Piece(Part::Step, 1)),
+    },
+    // More elements than any step has, and elements that no step has.
+    Files {
+        kind: Kind::Steps,
+        frame: BEHIND_A_SWEEP,
+        pieces: r#"["ask",0,"put",1,10,1,1,1,1]
+["ask",0,"put",1,[10]]
+["ask",0,"put",1,{"":10}]
+["ask",true,"put",1,10]
+[["sweep"]]"#,
+        fillings: "",
+        fault: Some(FileFault::Piece(Part::Step, 1)),
+    },
+    // What is no JSON comes before a wrong step, also behind it.
+    Files {
+        kind: Kind::Steps,
+        frame: STEPS_OF_ONE,
+        pieces: r#"[[0],["act",1e999]]"#,
+        fillings: "",
+        fault: Some(FileFault::NotJson),
+    },
+    // A `put_if` that is none in any version; and one that version 1 has not.
+    Files {
+        kind: Kind::Steps,
+        frame: STEPS_IN_VERSION,
+        pieces: r#"[["ask",0,"put_if",1]]
+[["ask",0,"put_if",1,12]]
+[["ask",0,"put_if",1,10,null]]
+[["ask",0,"put_if",null,10,12]]
+[["ask",0,"put_if",1,"none",12]]
+[["ask",0,"put_if",1,true,12]]
+[["ask",0,"put_if",1,-1,12]]
+[["ask",0,"put_if",1,10,12,13]]
+[["put_if",1,10,12]]"#,
+        fillings: "1 2 3",
+        fault: Some(FileFault::Piece(Part::Step, 0)),
+    },
+    Files {
+        kind: Kind::Steps,
+        frame: STEPS_IN_VERSION,
+        pieces: r#"[["begin",0],["ask",0,"put_if",1,null,12],["commit",0]]"#,
+        fillings: "0 3 9",
+        fault: Some(FileFault::Limit),
+    },
+    Files {
+        kind: Kind::Steps,
+        frame: STEPS_IN_VERSION,
+        pieces: r#"[["begin",0],["ask",0,"put_if",1,null,12],["commit",0]]"#,
+        fillings: "1",
+        fault: Some(FileFault::Piece(Part::Step, 1)),
+    },
+    Files {
+        kind: Kind::Steps,
+        frame: STEPS_IN_VERSION,
+        pieces: r#"[["begin",0],["ask",0,"put_if",1,null,12],["commit",0]]"#,
+        fillings: "2",
+        fault: None,
+    },
+    Files {
+        kind: Kind::Steps,
+        frame: STEPS_IN_VERSION,
+        pieces: r#"[["begin",0],["ask",0,"put_if",1,null,12],["start",0]]
+[["begin",0],["start",0],["ask",0,"put_if",1,null,12]]"#,
+        fillings: "1",
+        fault: Some(FileFault::Piece(Part::Step, 1)),
+    },
+    Files {
+        kind: Kind::Steps,
+        frame: STEPS_IN_VERSION,
+        pieces: r#"[["begin",0],["ask",0,"put_if",1,null,12],["start",0]]"#,
+        fillings: "3",
+        fault: Some(FileFault::Piece(Part::Step, 2)),
+    },
+    // Of two members with one name the last counts.
+    Files {
+        kind: Kind::Steps,
+        frame: BEFORE_MEMBERS,
+        pieces: r#""steps":0,
+"steps":[["begin"]],
+"version":7,"callers":null,"stripes":{},"buckets":1.5,"#,
+        fillings: "",
+        fault: None,
+    },
+    Files {
+        kind: Kind::Steps,
+        frame: BEYOND_MEMBERS,
+        pieces: r#","steps":0
+,"version":null
+,"callers":null
+,"stripes":"8"
+,"buckets":[8]
+,"\u0073teps":0"#,
+        fillings: "",
+        fault: Some(FileFault::Member),
+    },
+    Files {
+        kind: Kind::Steps,
+        frame: BEYOND_MEMBERS,
+        pieces: r#","steps":[["sweep"],["begin"]]"#,
+        fillings: "",
+        fault: Some(FileFault::Piece(Part::Step, 1)),
+    },
+    Files {
+        kind: Kind::Steps,
+        frame: BEYOND_MEMBERS,
+        pieces: r#","version":7"#,
+        fillings: "",
+        fault: Some(FileFault::Limit),
+    },
+    // What is passed over is JSON too.
+    Files {
+        kind: Kind::Steps,
+        frame: BEYOND_STEPS,
+        pieces: r#"1e999
+[1,-1e999]
+{"y":[1e999]}
+01
+[1,]
+"\ud800""#,
+        fillings: "",
+        fault: Some(FileFault::NotJson),
+    },
+];

@@ -1,0 +1,415 @@
+//! Files of a kind of their own, as a reader of pieces reads them: drawings.
+
+ghost use Rattle.std.specs.Prelude.{◌==◌, false, not};
+ghost use Rattle.piece_files.specs.Elements.{two_of};
+
+use crate::devices::filled;
+use arrayvec::ArrayVec;
+use json::{Reader, Scratch, Token};
+use piece_files::{
+    FileFault, Part, PieceKind, Plain, Stop, end_in, number_in, one_in, optional_in, pass_value,
+    pieces_in, plain_elements, read_file, two_in, word_in,
+};
+use std::alloc::Global;
+use std::process::Abort;
+use std::test::Fail;
+
+/// Points, each two numbers, of which a file may have three. Version 1 has none whose second number
+/// is 0.
+struct PointKind;
+
+impl PieceKind for PointKind {
+    ghost use Rattle.piece_files.specs.declared.part.Part.TheVariants as parts;
+
+    type Piece = (u64, u64);
+
+    ghost of = { two_of };
+
+    ghost is_old = { λ point. not (point.1 == 0) };
+
+    ghost part = { parts.Entry };
+
+    ghost most = { 3 };
+
+    ghost takes_memory = { false };
+
+    fn part() -> Part {
+        Part::Entry
+    }
+
+    fn is_old(piece: &(u64, u64)) -> bool {
+        piece.1 != 0
+    }
+
+    fn most() -> usize {
+        3
+    }
+
+    #[tactic(auto, using(piece_files::proofs::PlainElements::no_two))]
+    fn read(
+        _alloc: Global,
+        reader: &mut Reader<'_>,
+        depth: usize,
+    ) -> Result<Option<(u64, u64)>, Stop> {
+        let mut elements = ArrayVec::<Plain<'_>, 2>::new();
+        if plain_elements(reader, depth, &mut elements)? {
+            Ok(two_in(&elements))
+        } else {
+            Ok(None)
+        }
+    }
+}
+
+/// Drawings of width 7 that are alike: some points stand in the gap `#` of the frame, and each
+/// version in the gap `@`.
+#[derive(Clone, Copy)]
+struct Drawings {
+    frame: &'static str,
+    points: &'static str,
+    versions: &'static [&'static str],
+    /// The points, or the fault.
+    content: Result<&'static [(u64, u64)], FileFault>,
+}
+
+/// The width and the points of a drawing.
+fn drawing_in(alloc: Global, text: &str) -> Result<(u64, Vec<(u64, u64)>), FileFault> {
+    let (_version, [width], points) = read_file::<PointKind, 1>(
+        alloc,
+        text.as_bytes(),
+        &["width"],
+        "points",
+    )?;
+    Ok((width, points))
+}
+
+/// A drawing with gaps for its points and its version.
+const IN_VERSION: &str = r#"{"points":#,"version":@,"width":7}"#;
+
+/// A piece that only version 2 has is wrong in version 1, also behind as many as are kept; in any
+/// other version it is right.
+const DRAWINGS: &[Drawings] = &[
+    Drawings {
+        frame: r#"{"version":1,"width":7,"points":[]}"#,
+        points: "",
+        versions: &[""],
+        content: Ok(&[]),
+    },
+    Drawings {
+        frame: " {\"points\":[[1,2],[3,4]],\n\"width\":7,\"version\":1} ",
+        points: "",
+        versions: &[""],
+        content: Ok(&[(1, 2), (3, 4)]),
+    },
+    Drawings {
+        frame: r#"{"x":[[1e5],{"width":8}],"width":7,"version":1,"points":[[1,2],[3,4]],"":null}"#,
+        points: "",
+        versions: &[""],
+        content: Ok(&[(1, 2), (3, 4)]),
+    },
+    Drawings {
+        frame: "{\"points\":0,\"width\":8,\"version\":2,\"width\":7,\"version\":1,\
+            \"points\":[[1,2],[3,4]]}",
+        points: "",
+        versions: &[""],
+        content: Ok(&[(1, 2), (3, 4)]),
+    },
+    Drawings {
+        frame: r#"{"version":1,"width":7,"points":[[1,2],[3,4],[5,6]]}"#,
+        points: "",
+        versions: &[""],
+        content: Ok(&[(1, 2), (3, 4), (5, 6)]),
+    },
+    Drawings {
+        frame: "",
+        points: "",
+        versions: &[""],
+        content: Err(FileFault::NotJson),
+    },
+    Drawings {
+        frame: r#"{"version":1,"width":7,"points":[[1,2]}"#,
+        points: "",
+        versions: &[""],
+        content: Err(FileFault::NotJson),
+    },
+    Drawings {
+        frame: r#"{"version":1,"width":7,"points":[]} 7"#,
+        points: "",
+        versions: &[""],
+        content: Err(FileFault::NotJson),
+    },
+    Drawings {
+        frame: r#"{"version":1,"width":7,"points":[],"x":1e999}"#,
+        points: "",
+        versions: &[""],
+        content: Err(FileFault::NotJson),
+    },
+    Drawings {
+        frame: "7",
+        points: "",
+        versions: &[""],
+        content: Err(FileFault::Member),
+    },
+    Drawings {
+        frame: "[]",
+        points: "",
+        versions: &[""],
+        content: Err(FileFault::Member),
+    },
+    Drawings {
+        frame: r#"{"width":7,"points":[]}"#,
+        points: "",
+        versions: &[""],
+        content: Err(FileFault::Member),
+    },
+    Drawings {
+        frame: r#"{"version":1,"points":[]}"#,
+        points: "",
+        versions: &[""],
+        content: Err(FileFault::Member),
+    },
+    Drawings {
+        frame: r#"{"version":1,"width":-7,"points":[]}"#,
+        points: "",
+        versions: &[""],
+        content: Err(FileFault::Member),
+    },
+    Drawings {
+        frame: r#"{"version":1,"width":7}"#,
+        points: "",
+        versions: &[""],
+        content: Err(FileFault::Member),
+    },
+    Drawings {
+        frame: r#"{"version":1,"width":7,"points":[],"points":{}}"#,
+        points: "",
+        versions: &[""],
+        content: Err(FileFault::Member),
+    },
+    Drawings {
+        frame: r#"{"version":2,"width":7,"points":[0,[1,2]]}"#,
+        points: "",
+        versions: &[""],
+        content: Err(FileFault::Piece(Part::Entry, 0)),
+    },
+    Drawings {
+        frame: r#"{"version":1,"width":7,"points":[[1,2],[1,2],[1,2],[1,2],[1,2,3],[]]}"#,
+        points: "",
+        versions: &[""],
+        content: Err(FileFault::Piece(Part::Entry, 4)),
+    },
+    Drawings {
+        frame: r#"{"version":1,"width":7,"points":[[1,2],[3,4],[5,6],[7,8]]}"#,
+        points: "",
+        versions: &[""],
+        content: Err(FileFault::Limit),
+    },
+    Drawings {
+        frame: r#"{"version":4,"width":7,"points":[]}"#,
+        points: "",
+        versions: &[""],
+        content: Err(FileFault::Limit),
+    },
+    Drawings {
+        frame: r#"{"version":0,"width":7,"points":[]}"#,
+        points: "",
+        versions: &[""],
+        content: Err(FileFault::Limit),
+    },
+    Drawings {
+        frame: IN_VERSION,
+        points: "[[1,2],[3,0]]",
+        versions: &["1"],
+        content: Err(FileFault::Piece(Part::Entry, 1)),
+    },
+    Drawings {
+        frame: IN_VERSION,
+        points: "[[1,2],[3,0]]",
+        versions: &["2"],
+        content: Ok(&[(1, 2), (3, 0)]),
+    },
+    Drawings {
+        frame: IN_VERSION,
+        points: "[[1,2],[3,0]]",
+        versions: &["4"],
+        content: Err(FileFault::Limit),
+    },
+    Drawings {
+        frame: IN_VERSION,
+        points: "[[1,2],[3,0],[4],[5,0]]",
+        versions: &["1"],
+        content: Err(FileFault::Piece(Part::Entry, 1)),
+    },
+    Drawings {
+        frame: IN_VERSION,
+        points: "[[1,2],[3,0],[4],[5,0]]",
+        versions: &["2", "4"],
+        content: Err(FileFault::Piece(Part::Entry, 2)),
+    },
+    Drawings {
+        frame: IN_VERSION,
+        points: "[[1,2],[4],[3,0]]",
+        versions: &["1", "2", "4"],
+        content: Err(FileFault::Piece(Part::Entry, 1)),
+    },
+    Drawings {
+        frame: IN_VERSION,
+        points: "[[1,2],[1,2],[1,2],[1,2],[3,0]]",
+        versions: &["1"],
+        content: Err(FileFault::Piece(Part::Entry, 4)),
+    },
+    Drawings {
+        frame: IN_VERSION,
+        points: "[[1,2],[1,2],[1,2],[1,2],[3,0]]",
+        versions: &["2", "4"],
+        content: Err(FileFault::Limit),
+    },
+];
+
+/// Compares the contents of drawings that are alike.
+fn compare(rt: &impl Abort, alloc: Global, drawings: Drawings) -> Result<(), Fail> {
+    for version in drawings.versions {
+        let text = filled(alloc, drawings.frame, drawings.points, version)?;
+        let is_same = match (drawing_in(alloc, &text), drawings.content) {
+            (Ok((width, points)), Ok(wanted)) => width == 7 && points.as_slice() == wanted,
+            (Err(fault), Err(wanted)) => fault == wanted,
+            _ => false,
+        };
+        assert!(rt; is_same, "{text}");
+    }
+    Ok(())
+}
+
+#[test]
+fn contents_of_drawings(rt: HostRuntime) -> Result<(), Fail> {
+    for drawings in DRAWINGS {
+        compare(&rt, rt.alloc(), *drawings)?;
+    }
+    Ok(())
+}
+
+/// The text and the number that elements begin with, and how many are behind them.
+type Leading = Option<(&'static str, u64, usize)>;
+
+/// What elements are: one number, two, one that may be null, or none.
+type Shapes = (
+    Option<u64>,
+    Option<(u64, u64)>,
+    Option<Option<u64>>,
+    Option<()>,
+);
+
+/// What the elements are behind those that `Leading` names.
+const ELEMENTS: &[(Leading, Shapes)] = &[
+    (Some(("put", 1, 2)), (None, None, None, None)),
+    (None, (None, Some((8, 9)), None, None)),
+    (None, (Some(9), None, Some(Some(9)), None)),
+    (None, (None, None, Some(None), None)),
+    (None, (None, None, None, Some(()))),
+];
+
+/// The text and the number that elements begin with, and the elements behind them.
+fn leading_in<'v, 'a>(values: &'v [Plain<'a>]) -> Option<(&'a str, u64, &'v [Plain<'a>])> {
+    let (name, rest) = word_in(values)?;
+    let (number, rest) = number_in(rest)?;
+    Some((name, number, rest))
+}
+
+/// What these elements are.
+fn shapes_of(values: &[Plain<'_>]) -> Shapes {
+    (
+        one_in(values),
+        two_in(values),
+        optional_in(values),
+        end_in(values),
+    )
+}
+
+/// Takes the bracket that opens an array.
+fn begin(reader: &mut Reader<'_>) -> bool {
+    matches!(reader.next(), Some(Token::BeginArray))
+}
+
+/// Compares the elements of the next array, where they are plain and no more than four.
+fn compare_next(rt: &impl Abort, reader: &mut Reader<'_>, leading: Leading, shapes: Shapes) {
+    let mut elements = ArrayVec::<Plain<'_>, 4>::new();
+    assert!(rt; begin(reader));
+    assert!(rt; matches!(plain_elements(reader, 1, &mut elements), Ok(true)));
+    match leading_in(&elements) {
+        Some((name, number, rest)) => {
+            assert!(rt; leading == Some((name, number, rest.len())));
+            assert!(rt; shapes_of(rest) == shapes, "{shapes:?}");
+        }
+        None => assert!(rt;
+            leading.is_none() && shapes_of(&elements) == shapes,
+            "{shapes:?}"
+        ),
+    }
+}
+
+#[test]
+fn elements(rt: HostRuntime) -> Result<(), Fail> {
+    let text = r#"[["put",1,18446744073709551615,null],[8,9],[9],[null],[]]"#;
+    let mut scratch = Scratch::new(rt.alloc());
+    let mut reader = Reader::new(text, &mut scratch)?;
+    assert!(rt; begin(&mut reader));
+    for (leading, shapes) in ELEMENTS {
+        compare_next(&rt, &mut reader, *leading, *shapes);
+    }
+    Ok(())
+}
+
+/// Passes over the next value.
+fn pass(reader: &mut Reader<'_>) -> Result<(), Fail> {
+    let token = reader.next().ok_or("no value")?;
+    pass_value(token, reader, 2).map_err(|_| "no JSON")?;
+    Ok(())
+}
+
+/// The points of the next array, how many there are, and whether all its elements are points.
+fn next_points(
+    alloc: Global,
+    reader: &mut Reader<'_>,
+) -> Result<(Vec<(u64, u64)>, usize, bool), Fail> {
+    if !begin(reader) {
+        return Err("no array")?;
+    }
+    let found = pieces_in::<PointKind>(alloc, reader, 1)?;
+    Ok((found.pieces, found.count, found.are_all))
+}
+
+/// A value that is passed over, and the pieces of the array behind it.
+#[test]
+fn values_in_a_row(rt: HostRuntime) -> Result<(), Fail> {
+    let mut scratch = Scratch::new(rt.alloc());
+    let mut reader = Reader::new(r#"[{"x":[1,-2.5]},[[1,2],[3,4],0]]"#, &mut scratch)?;
+    assert!(rt; begin(&mut reader));
+    pass(&mut reader)?;
+    let (points, count, are_all) = next_points(rt.alloc(), &mut reader)?;
+    assert!(rt; points.as_slice() == [(1, 2), (3, 4)].as_slice());
+    assert!(rt; count == 2 && !are_all);
+    Ok(())
+}
+
+/// The words of a fault.
+fn words_of(alloc: Global, fault: FileFault) -> Result<String, Fail> {
+    Ok(fault.to_string(alloc)?)
+}
+
+const WORDS: &[(FileFault, &str)] = &[
+    (FileFault::NotJson, "20"),
+    (FileFault::Member, "21"),
+    (FileFault::Piece(Part::Step, 4), "21 step 4"),
+    (FileFault::Piece(Part::Script, 0), "21 script 0"),
+    (FileFault::Piece(Part::Entry, 10), "21 entry 10"),
+    (FileFault::Limit, "22"),
+    (FileFault::NoMemory, "14"),
+];
+
+#[test]
+fn words_of_faults(rt: HostRuntime) -> Result<(), Fail> {
+    for (fault, wanted) in WORDS {
+        let words = words_of(rt.alloc(), *fault)?;
+        assert!(rt; words.as_str() == *wanted, "{words} for {wanted}");
+    }
+    Ok(())
+}
