@@ -38,8 +38,8 @@
 //! ```
 //!
 //! Where a call answers `Busy`, another caller held the key's stripe when its word was tried; the
-//! transaction is aborted, and may be begun anew. A whole program, with threads, is the crate
-//! `transfers`.
+//! transaction is aborted, and may be begun anew. An example with threads is the module
+//! `transfers` of the crate `examples`.
 #![tactic(auto)]
 
 mod booked;
