@@ -1,8 +1,7 @@
 //! What calls leave that are refused memory. `docs/tests/refused.sh` refuses it to them.
-use super::setting::{Play, callers_of, close, has_left, is_refused, play_where_made};
-use crate::shared_map::Unheard;
-use crate::{Caller, Closed, NoSide, Pass, SharedMap};
+use crate::devices::{Play, Shared, callers_of, close, has_left, is_refused, play_where_made, run};
 use boost_core::{Call, End};
+use locked_map::{Caller, Closed, NoSide, Pass};
 use std::alloc::Global;
 use std::process::Abort;
 use std::sync::Wait;
@@ -13,22 +12,17 @@ use txn_trace::{Answer, Op, Refusal};
 /// A call of the caller at a place, and how it ends where memory is there.
 type Wanted = (usize, Call, End);
 
-/// The end of an operation.
-const fn done(reply: Option<u64>) -> End {
-    End::Answered(Answer::Done(reply))
-}
-
 /// Makes a call, once more where it is refused memory, and answers how it ends. Where it is refused
 /// memory, `seen` is as it was.
 fn end_of<L: Ledger, R: Wait + Abort>(
     rt: &R,
-    map: &SharedMap<L>,
+    shared: &Shared<L>,
     me: &mut Caller<L, NoSide>,
     call: Call,
 ) -> End {
     let before = me.seen().len();
     for _ in 0..2 {
-        let end = map.run(rt, me, call, &Unheard);
+        let end = run(rt, shared, me, call);
         if end != End::Refused(Refusal::NoMemory) {
             return end;
         }
@@ -41,18 +35,18 @@ fn end_of<L: Ledger, R: Wait + Abort>(
 fn is_whole<L: Ledger, R: Wait + Abort>(
     rt: &R,
     alloc: Global,
-    map: &SharedMap<L>,
+    shared: &Shared<L>,
     callers: &mut [Caller<L, NoSide>],
     calls: &[Wanted],
 ) -> bool {
     for &(place, call, wanted) in calls {
         assert!(rt; place < callers.len());
-        let end = end_of(rt, map, &mut callers[place], call);
+        let end = end_of(rt, shared, &mut callers[place], call);
         if end == End::Refused(Refusal::NoMemory) {
             assert!(rt; is_refused(alloc));
             return false;
         }
-        assert_eq!(rt; end, wanted);
+        assert_eq!(rt; end, wanted, "caller {place}: {call:?}");
     }
     true
 }
@@ -60,11 +54,11 @@ fn is_whole<L: Ledger, R: Wait + Abort>(
 /// Gives up each caller's transaction, if it has one, for which no memory is wanted.
 fn give_up<L: Ledger, R: Wait + Abort>(
     rt: &R,
-    map: &SharedMap<L>,
+    shared: &Shared<L>,
     callers: &mut [Caller<L, NoSide>],
 ) {
     for me in callers {
-        let end = map.run(rt, me, Call::Abort, &Unheard);
+        let end = run(rt, shared, me, Call::Abort);
         assert!(rt;
             matches!(
                 end,
@@ -88,16 +82,16 @@ impl Play for Refused<'_> {
         &self,
         rt: &R,
         alloc: Global,
-        map: SharedMap<L>,
+        shared: Shared<L>,
         passes: Vec<Pass<L>>,
     ) -> Result<(), Fail> {
         let Ok(mut callers) = callers_of(alloc, passes) else {
             assert!(rt; is_refused(alloc));
             return Ok(());
         };
-        let whole = is_whole(rt, alloc, &map, callers.as_mut_slice(), self.calls);
-        give_up(rt, &map, callers.as_mut_slice());
-        let Closed { core, callers: _ } = close(map, callers)?;
+        let whole = is_whole(rt, alloc, &shared, callers.as_mut_slice(), self.calls);
+        give_up(rt, &shared, callers.as_mut_slice());
+        let Closed { core, callers: _ } = close(shared, callers)?;
         assert!(rt; has_left(rt, alloc, &core, u64::from(whole)));
         assert!(rt; !whole || core.trace().len() == self.entries);
         Ok(())
@@ -109,7 +103,7 @@ impl Play for Refused<'_> {
 fn refused_memory_between_callers(rt: HostRuntime) -> Result<(), Fail> {
     let calls = [
         (0, Call::Begin, End::Answered(Answer::Began(1))),
-        (0, Call::Op(Op::Put(1, 10)), done(None)),
+        (0, Call::Op(Op::Put(1, 10)), End::Answered(Answer::Done(None))),
         (1, Call::Begin, End::Answered(Answer::Began(2))),
         (1, Call::Op(Op::Get(9)), End::Busy(0)),
         (1, Call::Begin, End::Answered(Answer::Began(3))),
@@ -126,18 +120,20 @@ fn refused_memory_between_callers(rt: HostRuntime) -> Result<(), Fail> {
 /// Each kind of call, among them a help that doubles and makes buckets.
 #[test]
 fn refused_memory_in_each_call(rt: HostRuntime) -> Result<(), Fail> {
+    let done = End::Answered(Answer::Done(None));
+    let had = End::Answered(Answer::Done(Some(10)));
     let calls = [
         (0, Call::Begin, End::Answered(Answer::Began(1))),
-        (0, Call::Op(Op::PutIf(1, None, 10)), done(None)),
+        (0, Call::Op(Op::PutIf(1, None, 10)), done),
         (0, Call::Save, End::Answered(Answer::Saved(1))),
-        (0, Call::Op(Op::Put(2, 20)), done(None)),
-        (0, Call::Op(Op::Put(3, 30)), done(None)),
-        (0, Call::Op(Op::Put(4, 40)), done(None)),
-        (0, Call::Op(Op::Put(5, 50)), done(None)),
+        (0, Call::Op(Op::Put(2, 20)), done),
+        (0, Call::Op(Op::Put(3, 30)), done),
+        (0, Call::Op(Op::Put(4, 40)), done),
+        (0, Call::Op(Op::Put(5, 50)), done),
         (1, Call::Help(3), End::Helped),
-        (0, Call::Op(Op::Take(1)), done(Some(10))),
+        (0, Call::Op(Op::Take(1)), had),
         (0, Call::Back(1), End::Answered(Answer::Returned(1))),
-        (0, Call::Op(Op::Get(1)), done(Some(10))),
+        (0, Call::Op(Op::Get(1)), had),
         (0, Call::Commit, End::Answered(Answer::Committed(1))),
     ];
     let what = Refused {

@@ -1,10 +1,9 @@
 ghost use Rattle.std.specs.Prelude.{◌≡◌};
-ghost use Rattle.locked_map.specs.declared.tests.register.Register.{Register as Value};
+ghost use Rattle.thread_tests.specs.declared.map_tests.register.Register.{Register as Value};
 
 use undo_log::Side;
 
-/// The tests' side value: four words. That of `undo_log`'s tests is alike, but no other crate can
-/// name what a crate's tests declare.
+/// The tests' side value: four words.
 #[derive(Drop)]
 pub(super) struct Register {
     pub(super) words: [u64; 4],
