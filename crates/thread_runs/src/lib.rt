@@ -12,8 +12,6 @@ mod ran;
 mod run_script;
 mod runs;
 mod task;
-#[cfg(test)]
-mod tests;
 mod threads;
 mod worker;
 

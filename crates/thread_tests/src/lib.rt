@@ -10,3 +10,5 @@
 mod devices;
 #[cfg(test)]
 mod map_tests;
+#[cfg(test)]
+mod run_tests;
