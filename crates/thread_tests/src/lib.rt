@@ -9,6 +9,10 @@
 #[cfg(test)]
 mod devices;
 #[cfg(test)]
+mod lock_tests;
+#[cfg(test)]
 mod map_tests;
 #[cfg(test)]
 mod run_tests;
+#[cfg(test)]
+mod word_tests;

@@ -252,10 +252,7 @@ fn script(alloc: Global, number: u64) -> Result<Script, AllocError> {
 fn own_place(number: u64, outcome: &Outcome) -> u64 {
     match outcome {
         Outcome::Committed { place, replies, .. }
-            if replies.as_slice() == [None, Some(number), None].as_slice() =>
-        {
-            *place
-        }
+            if replies.as_slice() == [None, Some(number), None].as_slice() => { *place }
         _ => 0,
     }
 }

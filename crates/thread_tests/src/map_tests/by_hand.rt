@@ -52,13 +52,21 @@ impl Play for ByTurns {
         let mut booked = shared.map.into_booked();
         for (place, call, wanted) in [
             (0, Call::Begin, End::Answered(Answer::Began(1))),
-            (0, Call::Op(Op::Put(1, 10)), End::Answered(Answer::Done(None))),
+            (
+                0,
+                Call::Op(Op::Put(1, 10)),
+                End::Answered(Answer::Done(None)),
+            ),
             (1, Call::Begin, End::Answered(Answer::Began(2))),
             (1, Call::Op(Op::Get(9)), End::Busy(0)),
             (0, Call::Commit, End::Answered(Answer::Committed(1))),
         ] {
             let me = callers.get_mut(place).ok_or("a caller")?;
-            assert_eq!(rt; end_of(&mut booked, me, call)?, Some(wanted), "caller {place}: {call:?}");
+            assert_eq!(rt;
+                end_of(&mut booked, me, call)?,
+                Some(wanted),
+                "caller {place}: {call:?}"
+            );
         }
         have_seen(rt, callers.as_slice());
         Ok(())
@@ -78,7 +86,12 @@ fn have_seen<L: Ledger, R: Abort>(rt: &R, callers: &[Caller<L, NoSide>]) {
         Entry::Busy(1, Op::Get(9), 0),
         Entry::Aborted(1),
     ];
-    assert!(rt; callers.iter().map(|me| me.seen()).eq([first.as_slice(), second.as_slice()]));
+    assert!(rt;
+        callers
+            .iter()
+            .map(|me| me.seen())
+            .eq([first.as_slice(), second.as_slice()])
+    );
 }
 
 #[test]

@@ -103,7 +103,11 @@ impl Play for Refused<'_> {
 fn refused_memory_between_callers(rt: HostRuntime) -> Result<(), Fail> {
     let calls = [
         (0, Call::Begin, End::Answered(Answer::Began(1))),
-        (0, Call::Op(Op::Put(1, 10)), End::Answered(Answer::Done(None))),
+        (
+            0,
+            Call::Op(Op::Put(1, 10)),
+            End::Answered(Answer::Done(None)),
+        ),
         (1, Call::Begin, End::Answered(Answer::Began(2))),
         (1, Call::Op(Op::Get(9)), End::Busy(0)),
         (1, Call::Begin, End::Answered(Answer::Began(3))),

@@ -1,6 +1,7 @@
 //! Calls by their names, in the order of a table.
-use crate::devices::{Play, Shared, Told, callers_of, close, close_or_miss, is_settled, make};
-use crate::devices::{play_with};
+use crate::devices::{
+    Play, Shared, Told, callers_of, close, close_or_miss, is_settled, make, play_with,
+};
 use boost_core::{Call, Core};
 use locked_map::{Caller, Closed, NoSide, Pass, Stop};
 use std::alloc::Global;
@@ -115,7 +116,10 @@ fn are_busy_entries<L: Ledger, R: Abort>(rt: &R, closed: &Closed<L, NoSide>) {
     assert_eq!(rt; closed.callers.len(), 2);
     for (place, count) in [(0, 4), (1, 5)] {
         let seen = seen_of(closed.callers.as_slice(), place);
-        assert_eq!(rt; seen.map(|(number, seen)| (number as usize, seen.len())), Some((place, count)));
+        assert_eq!(rt;
+            seen.map(|(number, seen)| (number as usize, seen.len())),
+            Some((place, count))
+        );
     }
 }
 
@@ -198,10 +202,22 @@ fn keys_of_64_bits(rt: HostRuntime) -> Result<(), Fail> {
         (0, Call::Begin, Ok(Told::Number(1))),
         (0, Call::Op(Op::Put(wide, 11)), Ok(Told::Replied(None))),
         (0, Call::Op(Op::Put(1, 10)), Ok(Told::Replied(None))),
-        (0, Call::Op(Op::PutIf(1, None, 12)), Ok(Told::Replied(Some(10)))),
-        (0, Call::Op(Op::PutIf(1, Some(10), 12)), Ok(Told::Replied(Some(10)))),
+        (
+            0,
+            Call::Op(Op::PutIf(1, None, 12)),
+            Ok(Told::Replied(Some(10))),
+        ),
+        (
+            0,
+            Call::Op(Op::PutIf(1, Some(10), 12)),
+            Ok(Told::Replied(Some(10))),
+        ),
         (0, Call::Op(Op::PutIf(2, None, 20)), Ok(Told::Replied(None))),
-        (0, Call::Op(Op::PutIf(3, Some(5), 6)), Ok(Told::Replied(None))),
+        (
+            0,
+            Call::Op(Op::PutIf(3, Some(5), 6)),
+            Ok(Told::Replied(None)),
+        ),
         (0, Call::Op(Op::Put(u64::MAX, 7)), Ok(Told::Replied(None))),
         (0, Call::Commit, Ok(Told::Committed(1, 1))),
     ];

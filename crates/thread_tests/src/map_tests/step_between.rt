@@ -29,11 +29,7 @@ impl<L: Ledger, R: Wait + Abort> OnRelease for Between<'_, '_, L, R> {
 }
 
 /// Caller 1 puts 40 at key 4.
-fn put_four<L: Ledger, R: Wait + Abort>(
-    rt: &R,
-    shared: &Shared<L>,
-    me: &mut Caller<L, NoSide>,
-) {
+fn put_four<L: Ledger, R: Wait + Abort>(rt: &R, shared: &Shared<L>, me: &mut Caller<L, NoSide>) {
     for (call, wanted) in [
         (Call::Begin, Told::Number(2)),
         (Call::Op(Op::Put(4, 40)), Told::Replied(None)),
