@@ -22,7 +22,7 @@ fn marks_of<L: Ledger>(me: &Caller<L, Register>) -> Marks {
 
 /// Makes a call, once more where it is refused memory; none where it is refused still. A refused
 /// one leaves its caller's marks.
-fn done<L: Ledger, R: Wait + Abort>(
+fn try_call<L: Ledger, R: Wait + Abort>(
     rt: &R,
     shared: &Shared<L>,
     me: &mut Caller<L, Register>,
@@ -72,7 +72,7 @@ fn change<L: Ledger, R: Abort>(
 }
 
 /// Boxes a value, once more where memory is refused; none where it is refused still.
-fn boxed<T: Drop>(alloc: Global, value: T) -> Option<Box<T>>
+fn make_box<T: Drop>(alloc: Global, value: T) -> Option<Box<T>>
     ensures { IfSome result (λ block. block.value ≡ value) }
 {
     match Box::new(alloc, value) {
@@ -83,9 +83,9 @@ fn boxed<T: Drop>(alloc: Global, value: T) -> Option<Box<T>>
 
 /// The jobs of the changes from 0 to 1, to 2 and to 3; none where they are refused memory.
 fn jobs(alloc: Global) -> Option<[RegisterJob; 3]> {
-    let to_zero = boxed(alloc, |_| register([0, 0, 0, 0]))?;
-    let to_one = boxed(alloc, |_| register([1, 0, 0, 0]))?;
-    let to_two = boxed(alloc, |_| register([2, 0, 0, 0]))?;
+    let to_zero = make_box(alloc, |_| register([0, 0, 0, 0]))?;
+    let to_one = make_box(alloc, |_| register([1, 0, 0, 0]))?;
+    let to_two = make_box(alloc, |_| register([2, 0, 0, 0]))?;
     Some([
         RegisterJob {
             before: [0, 0, 0, 0],
@@ -114,15 +114,15 @@ fn words_there<L: Ledger, R: Wait + Abort>(
     jobs: [RegisterJob; 3],
 ) -> Option<[[u64; 4]; 2]> {
     let [first, second, third] = jobs;
-    done(rt, shared, me, Call::Begin)?;
+    try_call(rt, shared, me, Call::Begin)?;
     assert_eq!(rt; me.words(), [0, 0, 0, 0]);
     change(rt, shared, me, first)?;
-    done(rt, shared, me, Call::Save)?;
+    try_call(rt, shared, me, Call::Save)?;
     assert_eq!(rt; me.words(), [1, 0, 0, 0]);
     change(rt, shared, me, second)?;
     change(rt, shared, me, third)?;
     let there = me.words();
-    done(rt, shared, me, Call::Back(1))?;
+    try_call(rt, shared, me, Call::Back(1))?;
     assert_eq!(rt; me.seen().len(), 4);
     Some([there, me.words()])
 }
