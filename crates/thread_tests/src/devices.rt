@@ -19,7 +19,7 @@ use undo_log::Side;
 #[derive(Drop)]
 pub(crate) struct Shared<L: Ledger> {
     pub(crate) map: SharedMap<L>,
-    ghost parts: { map.limits.callers ≡ L.parts },
+    ghost one_each: { map.limits.callers ≡ L.parts },
 }
 
 /// A new map, and the passes of its callers; none where memory is refused.
@@ -128,6 +128,18 @@ pub(crate) fn callers_of<L: Ledger>(
         callers.push(pass.caller(alloc, NoSide))?;
     }
     Ok(callers)
+}
+
+/// Whether the caller at a place has its number, and has seen these entries.
+pub(crate) fn has_seen<L: Ledger>(
+    callers: &[Caller<L, NoSide>],
+    place: usize,
+    wanted: &[Entry],
+) -> bool {
+    let Some(me) = callers.get(place) else {
+        return false;
+    };
+    me.number() == place as u64 && me.seen() == wanted
 }
 
 /// Hears nothing of a release.

@@ -2,7 +2,7 @@
 ghost use Rattle.std.specs.Prelude.{◌≡◌};
 ghost use Rattle.locked_map.specs.Tokens.{HasTried};
 
-use crate::devices::{Play, Shared, callers_of, play_with};
+use crate::devices::{Play, Shared, callers_of, has_seen, play_with};
 use boost_core::{Call, Core, Drive, End};
 use locked_map::{Booked, Caller, NoSide, Pass};
 use std::alloc::Global;
@@ -86,12 +86,8 @@ fn have_seen<L: Ledger, R: Abort>(rt: &R, callers: &[Caller<L, NoSide>]) {
         Entry::Busy(1, Op::Get(9), 0),
         Entry::Aborted(1),
     ];
-    assert!(rt;
-        callers
-            .iter()
-            .map(|me| me.seen())
-            .eq([first.as_slice(), second.as_slice()])
-    );
+    assert!(rt; has_seen(callers, 0, first.as_slice()));
+    assert!(rt; has_seen(callers, 1, second.as_slice()));
 }
 
 #[test]

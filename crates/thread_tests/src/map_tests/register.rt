@@ -44,3 +44,28 @@ impl Side for Register {
         run(self)
     }
 }
+
+/// A side value that can be made of any words.
+pub(super) trait OfWords: Side {
+    ghost use Rattle.std.specs.Prelude.{◌≡◌};
+
+    /// The value with these words.
+    fn of_words(words: [u64; 4]) -> Self
+        ensures { words_of result ≡ words };
+}
+
+impl OfWords for Register {
+    fn of_words(words: [u64; 4]) -> Register {
+        Register { words }
+    }
+}
+
+/// A change of a side value, and the job that takes it back.
+#[derive(Drop)]
+pub(super) struct Change<S: Side> {
+    pub(super) before: [u64; 4],
+    pub(super) after: [u64; 4],
+    pub(super) job: S::Job,
+    pub(super) ghost is_before: { S.before job ≡ before },
+    pub(super) ghost is_after: { S.after job ≡ after },
+}

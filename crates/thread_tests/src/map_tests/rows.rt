@@ -1,6 +1,6 @@
 //! Calls by their names, in the order of a table.
 use crate::devices::{
-    Play, Shared, Told, callers_of, close, close_or_miss, is_settled, make, play_with,
+    Play, Shared, Told, callers_of, close, close_or_miss, has_seen, is_settled, make, play_with,
 };
 use boost_core::{Call, Core};
 use locked_map::{Caller, Closed, NoSide, Pass, Stop};
@@ -37,12 +37,6 @@ pub(super) fn play_row<L: Ledger, R: Wait + Abort>(
 ) {
     let told = make(rt, shared, me, call);
     assert_eq!(rt; told, wanted, "caller {}: {call:?}", me.number());
-}
-
-/// The entries that the caller at a place has seen, and its number.
-fn seen_of<L: Ledger>(callers: &[Caller<L, NoSide>], place: usize) -> Option<(u64, &[Entry])> {
-    let me = callers.get(place)?;
-    Some((me.number(), me.seen()))
 }
 
 /// Closes a map without caller 0, which is missing, and then with both.
@@ -86,7 +80,7 @@ impl Play for BusyBetween {
             Entry::Busy(1, Op::Get(9), 0),
             Entry::Aborted(1),
         ];
-        assert!(rt; seen_of(callers.as_slice(), 1) == Some((1, seen.as_slice())));
+        assert!(rt; has_seen(callers.as_slice(), 1, seen.as_slice()));
         let rest = [
             (1, Call::Begin, Ok(Told::Number(3))),
             (1, Call::Commit, Ok(Told::Committed(3, 1))),
@@ -115,12 +109,15 @@ fn are_busy_entries<L: Ledger, R: Abort>(rt: &R, closed: &Closed<L, NoSide>) {
     assert!(rt; closed.core.trace() == wanted.as_slice());
     assert_eq!(rt; closed.callers.len(), 2);
     for (place, count) in [(0, 4), (1, 5)] {
-        let seen = seen_of(closed.callers.as_slice(), place);
-        assert_eq!(rt;
-            seen.map(|(number, seen)| (number as usize, seen.len())),
-            Some((place, count))
-        );
+        let me = figures_of(closed.callers.as_slice(), place);
+        assert_eq!(rt; me, Some((place as u64, count)));
     }
+}
+
+/// The number of the caller at a place, and how many entries it has seen.
+fn figures_of<L: Ledger>(callers: &[Caller<L, NoSide>], place: usize) -> Option<(u64, usize)> {
+    let me = callers.get(place)?;
+    Some((me.number(), me.seen().len()))
 }
 
 /// Caller 1 finds caller 0's stripe held, begins anew and commits first. The map is then closed

@@ -1,7 +1,7 @@
 //! A side value that returns with its caller's transaction.
 ghost use Rattle.std.specs.Prelude.{◌≡◌, IfSome};
 
-use super::register::{Register, RegisterJob};
+use super::register::{Change, OfWords, Register, RegisterJob};
 use crate::devices::{Play, Shared, close, has_left, is_refused, play_where_made, run};
 use boost_core::{Call, End};
 use locked_map::{Caller, Closed, Pass, Stop};
@@ -11,21 +11,21 @@ use std::sync::Wait;
 use std::sync::ledger::Ledger;
 use std::test::Fail;
 use txn_trace::Refusal;
-use undo_log::SideJob;
+use undo_log::{Side, SideJob};
 
-/// How much a caller has seen, and the words of its register.
+/// How much a caller has seen, and the words of its side value.
 type Marks = (usize, [u64; 4]);
 
-fn marks_of<L: Ledger>(me: &Caller<L, Register>) -> Marks {
+fn marks_of<L: Ledger, S: Side>(me: &Caller<L, S>) -> Marks {
     (me.seen().len(), me.words())
 }
 
 /// Makes a call, once more where it is refused memory; none where it is refused still. A refused
 /// one leaves its caller's marks.
-fn try_call<L: Ledger, R: Wait + Abort>(
+fn try_call<L: Ledger, S: Side, R: Wait + Abort>(
     rt: &R,
     shared: &Shared<L>,
-    me: &mut Caller<L, Register>,
+    me: &mut Caller<L, S>,
     call: Call,
 ) -> Option<()> {
     let before = marks_of(me);
@@ -40,80 +40,40 @@ fn try_call<L: Ledger, R: Wait + Abort>(
     None
 }
 
-/// A register with these words.
-fn register(words: [u64; 4]) -> Register
-    ensures { result.words ≡ words }
-{
-    Register { words }
-}
-
-/// Changes the register, as the job says. Where that is refused memory, nothing has changed, and
-/// what is handed back is tried once more; none where it is refused still.
-fn change<L: Ledger, R: Abort>(
+/// Changes the side value. Where that is refused memory, nothing has changed, and what is handed
+/// back is tried once more; none where it is refused still.
+fn change<L: Ledger, S: OfWords, R: Abort>(
     rt: &R,
     shared: &Shared<L>,
-    me: &mut Caller<L, Register>,
-    job: RegisterJob,
+    me: &mut Caller<L, S>,
+    change: Change<S>,
 ) -> Option<()> {
-    let before = marks_of(me);
-    let words = job.after;
-    assert!(rt; me.words() == job.before);
-    let to_words = move |_| register(words);
-    let Err((refusal, to_words, job)) = shared.map.side(me, to_words, SideJob { job }) else {
+    let marks = marks_of(me);
+    let Change { before, after, job } = change;
+    assert!(rt; me.words() == before);
+    let to_after = move |_| S::of_words(after);
+    let Err((refusal, to_after, job)) = shared.map.side(me, to_after, SideJob { job }) else {
         return Some(());
     };
     assert_eq!(rt; refusal, Refusal::NoMemory);
-    assert_eq!(rt; marks_of(me), before);
-    if shared.map.side(me, to_words, job).is_ok() {
+    assert_eq!(rt; marks_of(me), marks);
+    if shared.map.side(me, to_after, job).is_ok() {
         return Some(());
     }
-    assert_eq!(rt; marks_of(me), before);
+    assert_eq!(rt; marks_of(me), marks);
     None
-}
-
-/// Boxes a value, once more where memory is refused; none where it is refused still.
-fn make_box<T: Drop>(alloc: Global, value: T) -> Option<Box<T>>
-    ensures { IfSome result (λ block. block.value ≡ value) }
-{
-    match Box::new(alloc, value) {
-        Ok(block) => Some(block),
-        Err(refused) => Box::new(alloc, refused.value).ok(),
-    }
-}
-
-/// The jobs of the changes from 0 to 1, to 2 and to 3; none where they are refused memory.
-fn jobs(alloc: Global) -> Option<[RegisterJob; 3]> {
-    let to_zero = make_box(alloc, |_| register([0, 0, 0, 0]))?;
-    let to_one = make_box(alloc, |_| register([1, 0, 0, 0]))?;
-    let to_two = make_box(alloc, |_| register([2, 0, 0, 0]))?;
-    Some([
-        RegisterJob {
-            before: [0, 0, 0, 0],
-            after: [1, 0, 0, 0],
-            run: to_zero,
-        },
-        RegisterJob {
-            before: [1, 0, 0, 0],
-            after: [2, 0, 0, 0],
-            run: to_one,
-        },
-        RegisterJob {
-            before: [2, 0, 0, 0],
-            after: [3, 0, 0, 0],
-            run: to_two,
-        },
-    ])
 }
 
 /// The words after a change, a savepoint and two more changes, and back at the savepoint; none
 /// where a call is refused memory twice.
-fn words_there<L: Ledger, R: Wait + Abort>(
+fn words_there<L: Ledger, S: OfWords, R: Wait + Abort>(
     rt: &R,
     shared: &Shared<L>,
-    me: &mut Caller<L, Register>,
-    jobs: [RegisterJob; 3],
+    me: &mut Caller<L, S>,
+    first: Change<S>,
+    second: Change<S>,
+    third: Change<S>,
 ) -> Option<[[u64; 4]; 2]> {
-    let [first, second, third] = jobs;
     try_call(rt, shared, me, Call::Begin)?;
     assert_eq!(rt; me.words(), [0, 0, 0, 0]);
     change(rt, shared, me, first)?;
@@ -129,10 +89,10 @@ fn words_there<L: Ledger, R: Wait + Abort>(
 
 /// Aborts, for which no memory is wanted; an open transaction is never refused it. The words are
 /// then as at the beginning.
-fn give_up<L: Ledger, R: Wait + Abort>(
+fn give_up<L: Ledger, S: Side, R: Wait + Abort>(
     rt: &R,
     shared: &Shared<L>,
-    me: &mut Caller<L, Register>,
+    me: &mut Caller<L, S>,
     is_open: bool,
 ) {
     let aborted = shared.map.abort(rt, me);
@@ -145,11 +105,11 @@ fn give_up<L: Ledger, R: Wait + Abort>(
 }
 
 /// Closes the map of a caller that has put nothing, where memory for a list of callers is there.
-fn close_alone<L: Ledger, R: Abort>(
+fn close_alone<L: Ledger, S: Side, R: Abort>(
     rt: &R,
     alloc: Global,
     shared: Shared<L>,
-    me: Caller<L, Register>,
+    me: Caller<L, S>,
 ) -> Result<(), Fail> {
     let mut callers = Vec::new(alloc);
     if callers.reserve(1).is_err() && callers.reserve(1).is_err() {
@@ -160,6 +120,73 @@ fn close_alone<L: Ledger, R: Abort>(
     let Closed { core, callers: _ } = close(shared, callers)?;
     assert!(rt; has_left(rt, alloc, &core, 0));
     Ok(())
+}
+
+/// Makes the changes of a new caller, which then aborts in any case, and has left nothing.
+fn there_and_back<L: Ledger, S: OfWords, R: Wait + Abort>(
+    rt: &R,
+    alloc: Global,
+    shared: Shared<L>,
+    pass: Pass<L>,
+    first: Change<S>,
+    second: Change<S>,
+    third: Change<S>,
+) -> Result<(), Fail> {
+    let mut me = pass.caller(alloc, S::of_words([0, 0, 0, 0]));
+    let words = words_there(rt, &shared, &mut me, first, second, third);
+    match words {
+        Some(words) => assert_eq!(rt; words, [[3, 0, 0, 0], [1, 0, 0, 0]]),
+        None => assert!(rt; is_refused(alloc)),
+    }
+    give_up(rt, &shared, &mut me, words.is_some());
+    close_alone(rt, alloc, shared, me)
+}
+
+/// Boxes a value, once more where memory is refused; none where it is refused still.
+fn make_box<T: Drop>(alloc: Global, value: T) -> Option<Box<T>>
+    ensures { IfSome result (λ block. block.value ≡ value) }
+{
+    match Box::new(alloc, value) {
+        Ok(block) => Some(block),
+        Err(refused) => Box::new(alloc, refused.value).ok(),
+    }
+}
+
+/// A register with these words.
+fn register(words: [u64; 4]) -> Register
+    ensures { result.words ≡ words }
+{
+    Register { words }
+}
+
+/// The change from these words to those, and its job.
+fn change_by(job: RegisterJob) -> Change<Register> {
+    let before = job.before;
+    let after = job.after;
+    Change { before, after, job }
+}
+
+/// The changes from 0 to 1, to 2 and to 3; none where a job is refused memory.
+fn changes(alloc: Global) -> Option<(Change<Register>, Change<Register>, Change<Register>)> {
+    let to_zero = make_box(alloc, |_| register([0, 0, 0, 0]))?;
+    let to_one = make_box(alloc, |_| register([1, 0, 0, 0]))?;
+    let to_two = make_box(alloc, |_| register([2, 0, 0, 0]))?;
+    let first = RegisterJob {
+        before: [0, 0, 0, 0],
+        after: [1, 0, 0, 0],
+        run: to_zero,
+    };
+    let second = RegisterJob {
+        before: [1, 0, 0, 0],
+        after: [2, 0, 0, 0],
+        run: to_one,
+    };
+    let third = RegisterJob {
+        before: [2, 0, 0, 0],
+        after: [3, 0, 0, 0],
+        run: to_two,
+    };
+    Some((change_by(first), change_by(second), change_by(third)))
 }
 
 struct SideReturns;
@@ -173,18 +200,11 @@ impl Play for SideReturns {
         passes: Vec<Pass<L>>,
     ) -> Result<(), Fail> {
         let pass = passes.into_iter().next().ok_or("a pass")?;
-        let Some(jobs) = jobs(alloc) else {
+        let Some((first, second, third)) = changes(alloc) else {
             assert!(rt; is_refused(alloc));
             return Ok(());
         };
-        let mut me = pass.caller(alloc, register([0, 0, 0, 0]));
-        let words = words_there(rt, &shared, &mut me, jobs);
-        match words {
-            Some(words) => assert_eq!(rt; words, [[3, 0, 0, 0], [1, 0, 0, 0]]),
-            None => assert!(rt; is_refused(alloc)),
-        }
-        give_up(rt, &shared, &mut me, words.is_some());
-        close_alone(rt, alloc, shared, me)
+        there_and_back(rt, alloc, shared, pass, first, second, third)
     }
 }
 

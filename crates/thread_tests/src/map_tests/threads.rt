@@ -2,7 +2,7 @@
 ghost use Rattle.std.specs.Prelude.{◌≡◌};
 
 use super::rows::{Row, play_row};
-use crate::devices::{Shared, Told, callers_of, close, is_settled, make, open};
+use crate::devices::{Shared, Told, callers_of, close, has_seen, is_settled, make, open};
 use boost_core::Call;
 use locked_map::{Caller, Closed, NoSide, Stop};
 use std::alloc::Global;
@@ -188,9 +188,10 @@ fn in_turn<L: Ledger, R: Abort>(rt: &R, closed: &Closed<L, NoSide>) {
         Entry::Did(1, Some(60)),
         Entry::Committed(1, 2),
     ];
+    let callers = closed.callers.as_slice();
     assert!(rt; closed.core.trace() == wanted.as_slice());
-    let seen = closed.callers.iter().map(|me| me.seen());
-    assert!(rt; seen.eq([&wanted[..4], &wanted[4..]]));
+    assert!(rt; has_seen(callers, 0, &wanted[..4]));
+    assert!(rt; has_seen(callers, 1, &wanted[4..]));
 }
 
 /// Caller 0 puts 60 at key 6, and caller 1 gets it.
