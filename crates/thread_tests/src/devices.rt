@@ -7,7 +7,7 @@ use boost_core::{Call, Core, End};
 use history_check::{Verdict, check};
 use locked_map::{Caller, Closed, NoSide, OnRelease, Pass, Receipt, SharedMap, Stop, Unclosed};
 use std::alloc::{AllocError, Global};
-use std::marker::Brand;
+use std::marker::{Brand, PhantomData};
 use std::process::Abort;
 use std::sync::Wait;
 use std::sync::ledger::{Blank, Ledger};
@@ -15,11 +15,19 @@ use std::test::Fail;
 use txn_trace::{Entry, Holder, Limits, Op, Reply};
 use undo_log::Side;
 
-/// A map that can be closed: its ledger has one part for each caller.
+/// How many parts a ledger has.
+#[derive(Drop)]
+struct Parts<L: Ledger> {
+    count: u64,
+    of: PhantomData<L>,
+    ghost counted: { count ≡ L.parts },
+}
+
+/// A map, and what it needs to close: how many parts its ledger has.
 #[derive(Drop)]
 pub(crate) struct Shared<L: Ledger> {
     pub(crate) map: SharedMap<L>,
-    ghost one_each: { map.limits.callers ≡ L.parts },
+    parts: Parts<L>,
 }
 
 /// A new map, and the passes of its callers; none where memory is refused.
@@ -32,8 +40,12 @@ pub(crate) fn open<L: Ledger>(
     requires parts { blank.parts ≡ L.parts }
     requires one_each { blank.parts ≡ limits.callers }
 {
+    let parts = Parts {
+        count: u64::from(limits.callers()),
+        of: PhantomData,
+    };
     match SharedMap::<L>::new(alloc, blank, limits) {
-        Ok((map, passes)) => Some((Shared { map }, passes)),
+        Ok((map, passes)) => Some((Shared { map, parts }, passes)),
         Err(_) => None,
     }
 }
@@ -236,10 +248,13 @@ pub(crate) fn close_or_miss<L: Ledger, S: Side>(
     shared: Shared<L>,
     callers: Vec<Caller<L, S>>,
 ) -> Result<Closed<L, S>, Missing<L, S>> {
-    let Shared { map } = shared;
+    let Shared { map, parts } = shared;
+    if u64::from(map.limits().callers()) != parts.count {
+        return Err(None);
+    }
     match map.close(callers) {
         Ok(closed) => Ok(closed),
-        Err(Unclosed::Missing(map, callers)) => Err(Some((Shared { map }, callers))),
+        Err(Unclosed::Missing(map, callers)) => Err(Some((Shared { map, parts }, callers))),
         Err(Unclosed::Differs(..)) => Err(None),
     }
 }

@@ -55,17 +55,9 @@ pub(super) trait OfWords: Side {
 }
 
 impl OfWords for Register {
-    fn of_words(words: [u64; 4]) -> Register {
+    fn of_words(words: [u64; 4]) -> Register
+        ensures { result.words ≡ words }
+    {
         Register { words }
     }
-}
-
-/// A change of a side value, and the job that takes it back.
-#[derive(Drop)]
-pub(super) struct Change<S: Side> {
-    pub(super) before: [u64; 4],
-    pub(super) after: [u64; 4],
-    pub(super) job: S::Job,
-    pub(super) ghost is_before: { S.before job ≡ before },
-    pub(super) ghost is_after: { S.after job ≡ after },
 }

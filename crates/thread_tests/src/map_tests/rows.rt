@@ -128,13 +128,14 @@ fn busy_between_callers(rt: HostRuntime) -> Result<(), Fail> {
 }
 
 /// Calls, and what the core is to be when they are made and the map is closed: its size, its keys
-/// with their values in the order of the list, and what steps it answers how.
+/// with their values in the order of the list, and what it answers a helper that seeks the place of
+/// the dummy node of which bucket.
 #[derive(Clone, Copy)]
 struct Worked<'a> {
     rows: &'a [Row],
     size: u32,
     list: &'a [(u64, u64)],
-    steps: &'a [(Step, Answer)],
+    seeks: &'a [(u64, Answer)],
 }
 
 impl Play for Worked<'_> {
@@ -154,15 +155,16 @@ impl Play for Worked<'_> {
         assert!(rt; is_settled(alloc, core.trace(), 8)?);
         assert!(rt; core.regular_list(alloc)?.as_slice() == self.list);
         assert_eq!(rt; core.size(), self.size);
-        for &(step, wanted) in self.steps {
-            assert_eq!(rt; answer_of(&mut core, step), wanted, "{step:?}");
+        for &(bucket, wanted) in self.seeks {
+            assert_eq!(rt; init_seek(&mut core, bucket), wanted, "bucket {bucket}");
         }
         Ok(())
     }
 }
 
-fn answer_of(core: &mut Core, step: Step) -> Answer {
-    core.step(step)
+/// What the core answers helper 0 that seeks the place of a bucket's dummy node.
+fn init_seek(core: &mut Core, bucket: u64) -> Answer {
+    core.step(Step::InitSeek(0, bucket))
 }
 
 /// A help that does nothing would meet its contract, and fails here.
@@ -182,11 +184,7 @@ fn help_grows(rt: HostRuntime) -> Result<(), Fail> {
         rows: rows.as_slice(),
         size: 4,
         list: [(4, 4), (2, 2), (1, 1), (5, 5), (3, 3)].as_slice(),
-        steps: [
-            (Step::InitSeek(0, 3), Answer::Ready),
-            (Step::InitSeek(0, 2), Answer::Placed),
-        ]
-        .as_slice(),
+        seeks: [(3, Answer::Ready), (2, Answer::Placed)].as_slice(),
     };
     play_with(&rt, rt.alloc(), 2, &what)
 }
@@ -228,7 +226,7 @@ fn keys_of_64_bits(rt: HostRuntime) -> Result<(), Fail> {
         rows: rows.as_slice(),
         size: 2,
         list: list.as_slice(),
-        steps: [].as_slice(),
+        seeks: [].as_slice(),
     };
     play_with(&rt, rt.alloc(), 2, &what)
 }
@@ -262,7 +260,7 @@ fn rights_come_back(rt: HostRuntime) -> Result<(), Fail> {
         rows: rows.as_slice(),
         size: 2,
         list: [(9, 91)].as_slice(),
-        steps: [].as_slice(),
+        seeks: [].as_slice(),
     };
     play_with(&rt, rt.alloc(), 2, &what)
 }

@@ -1,7 +1,7 @@
 //! A side value that returns with its caller's transaction.
-ghost use Rattle.std.specs.Prelude.{◌≡◌, IfSome};
+ghost use Rattle.std.specs.Prelude.{◌≡◌, [], ◌∷◌, IfSome};
 
-use super::register::{Change, OfWords, Register, RegisterJob};
+use super::register::{OfWords, Register, RegisterJob};
 use crate::devices::{Play, Shared, close, has_left, is_refused, play_where_made, run};
 use boost_core::{Call, End};
 use locked_map::{Caller, Closed, Pass, Stop};
@@ -40,18 +40,22 @@ fn try_call<L: Ledger, S: Side, R: Wait + Abort>(
     None
 }
 
-/// Changes the side value. Where that is refused memory, nothing has changed, and what is handed
-/// back is tried once more; none where it is refused still.
+/// Changes the first word of the side value, whose others are 0. Where that is refused memory,
+/// nothing has changed, and what is handed back is tried once more; none where it is refused still.
 fn change<L: Ledger, S: OfWords, R: Abort>(
     rt: &R,
     shared: &Shared<L>,
     me: &mut Caller<L, S>,
-    change: Change<S>,
-) -> Option<()> {
+    before: u64,
+    after: u64,
+    job: S::Job,
+) -> Option<()>
+    requires before { S.before job ≡ before ∷ 0 ∷ 0 ∷ 0 ∷ [] }
+    requires after { S.after job ≡ after ∷ 0 ∷ 0 ∷ 0 ∷ [] }
+{
     let marks = marks_of(me);
-    let Change { before, after, job } = change;
-    assert!(rt; me.words() == before);
-    let to_after = move |_| S::of_words(after);
+    assert!(rt; me.words() == [before, 0, 0, 0]);
+    let to_after = move |_| S::of_words([after, 0, 0, 0]);
     let Err((refusal, to_after, job)) = shared.map.side(me, to_after, SideJob { job }) else {
         return Some(());
     };
@@ -64,23 +68,26 @@ fn change<L: Ledger, S: OfWords, R: Abort>(
     None
 }
 
-/// The words after a change, a savepoint and two more changes, and back at the savepoint; none
-/// where a call is refused memory twice.
+/// The words after a change from 0 to 1, a savepoint and two more changes, and back at the
+/// savepoint; none where a call is refused memory twice.
 fn words_there<L: Ledger, S: OfWords, R: Wait + Abort>(
     rt: &R,
     shared: &Shared<L>,
     me: &mut Caller<L, S>,
-    first: Change<S>,
-    second: Change<S>,
-    third: Change<S>,
-) -> Option<[[u64; 4]; 2]> {
+    first: S::Job,
+    second: S::Job,
+    third: S::Job,
+) -> Option<[[u64; 4]; 2]>
+    requires first { (S.before first ≡ 0 ∷ 0 ∷ 0 ∷ 0 ∷ []) × (S.after first ≡ 1 ∷ 0 ∷ 0 ∷ 0 ∷ []) }
+    requires second { (S.before second ≡ 1 ∷ 0 ∷ 0 ∷ 0 ∷ [])
+        × (S.after second ≡ 2 ∷ 0 ∷ 0 ∷ 0 ∷ []) }
+    requires third { (S.before third ≡ 2 ∷ 0 ∷ 0 ∷ 0 ∷ []) × (S.after third ≡ 3 ∷ 0 ∷ 0 ∷ 0 ∷ []) }
+{
     try_call(rt, shared, me, Call::Begin)?;
-    assert_eq!(rt; me.words(), [0, 0, 0, 0]);
-    change(rt, shared, me, first)?;
+    change(rt, shared, me, 0, 1, first)?;
     try_call(rt, shared, me, Call::Save)?;
-    assert_eq!(rt; me.words(), [1, 0, 0, 0]);
-    change(rt, shared, me, second)?;
-    change(rt, shared, me, third)?;
+    change(rt, shared, me, 1, 2, second)?;
+    change(rt, shared, me, 2, 3, third)?;
     let there = me.words();
     try_call(rt, shared, me, Call::Back(1))?;
     assert_eq!(rt; me.seen().len(), 4);
@@ -122,16 +129,21 @@ fn close_alone<L: Ledger, S: Side, R: Abort>(
     Ok(())
 }
 
-/// Makes the changes of a new caller, which then aborts in any case, and has left nothing.
+/// The same of a new caller, which then aborts in any case, and has left nothing.
 fn there_and_back<L: Ledger, S: OfWords, R: Wait + Abort>(
     rt: &R,
     alloc: Global,
     shared: Shared<L>,
     pass: Pass<L>,
-    first: Change<S>,
-    second: Change<S>,
-    third: Change<S>,
-) -> Result<(), Fail> {
+    first: S::Job,
+    second: S::Job,
+    third: S::Job,
+) -> Result<(), Fail>
+    requires first { (S.before first ≡ 0 ∷ 0 ∷ 0 ∷ 0 ∷ []) × (S.after first ≡ 1 ∷ 0 ∷ 0 ∷ 0 ∷ []) }
+    requires second { (S.before second ≡ 1 ∷ 0 ∷ 0 ∷ 0 ∷ [])
+        × (S.after second ≡ 2 ∷ 0 ∷ 0 ∷ 0 ∷ []) }
+    requires third { (S.before third ≡ 2 ∷ 0 ∷ 0 ∷ 0 ∷ []) × (S.after third ≡ 3 ∷ 0 ∷ 0 ∷ 0 ∷ []) }
+{
     let mut me = pass.caller(alloc, S::of_words([0, 0, 0, 0]));
     let words = words_there(rt, &shared, &mut me, first, second, third);
     match words {
@@ -159,15 +171,13 @@ fn register(words: [u64; 4]) -> Register
     Register { words }
 }
 
-/// The change from these words to those, and its job.
-fn change_by(job: RegisterJob) -> Change<Register> {
-    let before = job.before;
-    let after = job.after;
-    Change { before, after, job }
-}
-
-/// The changes from 0 to 1, to 2 and to 3; none where a job is refused memory.
-fn changes(alloc: Global) -> Option<(Change<Register>, Change<Register>, Change<Register>)> {
+/// The same of a register, whose jobs are boxed; nothing was done where they are refused memory.
+fn register_returns<L: Ledger, R: Wait + Abort>(
+    rt: &R,
+    alloc: Global,
+    shared: Shared<L>,
+    pass: Pass<L>,
+) -> Option<Result<(), Fail>> {
     let to_zero = make_box(alloc, |_| register([0, 0, 0, 0]))?;
     let to_one = make_box(alloc, |_| register([1, 0, 0, 0]))?;
     let to_two = make_box(alloc, |_| register([2, 0, 0, 0]))?;
@@ -186,7 +196,8 @@ fn changes(alloc: Global) -> Option<(Change<Register>, Change<Register>, Change<
         after: [3, 0, 0, 0],
         run: to_two,
     };
-    Some((change_by(first), change_by(second), change_by(third)))
+    let ended = there_and_back::<L, Register, R>(rt, alloc, shared, pass, first, second, third);
+    Some(ended)
 }
 
 struct SideReturns;
@@ -200,11 +211,11 @@ impl Play for SideReturns {
         passes: Vec<Pass<L>>,
     ) -> Result<(), Fail> {
         let pass = passes.into_iter().next().ok_or("a pass")?;
-        let Some((first, second, third)) = changes(alloc) else {
+        let Some(ended) = register_returns(rt, alloc, shared, pass) else {
             assert!(rt; is_refused(alloc));
             return Ok(());
         };
-        there_and_back(rt, alloc, shared, pass, first, second, third)
+        ended
     }
 }
 
