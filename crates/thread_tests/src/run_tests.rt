@@ -81,21 +81,18 @@ struct Meeting<'a, R: Abort + Clock + Sync> {
     is_done: AtomicBool,
 }
 
-impl<R: Abort + Clock + Sync> Meeting<'_, R> {
-    /// Worker 0 comes to a place.
-    fn come(&self, place: Place) {
-        if place == self.place {
-            self.is_there.store(true, Ordering::SeqCst);
-            await_flag(self.rt, &self.is_done);
-        }
-    }
+/// Worker 0 is at its place, and waits there.
+fn wait_there<R: Abort + Clock>(rt: &R, is_there: &AtomicBool, is_done: &AtomicBool) {
+    is_there.store(true, Ordering::SeqCst);
+    await_flag(rt, is_done);
 }
 
 impl<R: Abort + Clock + Sync> Gate for Meeting<'_, R> {
     fn before(&self, worker: usize, _script: usize, action: usize) {
-        if worker == 0 {
-            self.come(Place::Action(action));
-        } else if action == self.action {
+        if worker == 0 && self.place == Place::Action(action) {
+            wait_there(self.rt, &self.is_there, &self.is_done);
+        }
+        if worker == 1 && action == self.action {
             await_flag(self.rt, &self.is_there);
         }
     }
@@ -108,7 +105,10 @@ impl<R: Abort + Clock + Sync> Gate for Meeting<'_, R> {
 
     fn freed(&self, worker: usize) {
         if worker == 0 {
-            self.come(Place::Release(self.releases.fetch_add(1, Ordering::SeqCst)));
+            let release = self.releases.fetch_add(1, Ordering::SeqCst);
+            if self.place == Place::Release(release) {
+                wait_there(self.rt, &self.is_there, &self.is_done);
+            }
         }
     }
 }
@@ -333,12 +333,12 @@ fn is_refused_memory(outcome: &Outcome) -> bool {
 /// Whether both scripts are committed; else they are refused memory, and nobody is left in a
 /// transaction.
 fn is_whole<R: Abort>(rt: &R, alloc: Global, ran: &Ran) -> bool {
-    let mut done = 0;
-    assert_eq!(rt; ran.outcomes.len(), 2);
-    for outcome in &ran.outcomes {
+    let outcomes = ran.outcomes.as_slice();
+    assert_eq!(rt; outcomes.len(), 2);
+    for outcome in outcomes {
         assert!(rt; is_done(outcome) || is_refused_memory(outcome));
-        done += usize::from(is_done(outcome));
     }
+    let done = outcomes.iter().filter(|outcome| is_done(outcome)).count();
     let trace = ran.trace.as_slice();
     let (began, committed, aborted) = counts(trace);
     assert_eq!(rt; committed, done);

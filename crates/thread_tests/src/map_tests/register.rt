@@ -51,7 +51,7 @@ pub(super) trait OfWords: Side {
 
     /// The value with these words.
     fn of_words(words: [u64; 4]) -> Self
-        ensures { words_of result ≡ words };
+        ensures { Self.words_of result ≡ words };
 }
 
 impl OfWords for Register {
