@@ -23,12 +23,12 @@ LENGTHS = [1, 8, 2**62]
 # Tests that pass whichever one allocation is refused: crate and name. Where more are, they may also
 # give up by an error, or stop at an assertion that says so.
 PASSING = """
-key_locks tests::a_stripe_is_held_until_its_holder_releases
 node_list tests::refused_allocations
 bucket_table tests::refused_allocations
 map_ops tests::refused_memory_for_puts
 map_ops tests::refused_memory_for_a_preparation
 map_ops tests::refused_memory_for_a_link
+thread_tests lock_tests::a_stripe_is_held_until_its_holder_releases
 """
 # Tests that pass whichever one allocation is refused, eight in a row, or all from one on.
 WHOLE = """
@@ -41,10 +41,10 @@ undo_log tests::side_value_returns
 undo_log tests::a_settled_value_stays
 core_tests histories::fed_entry_by_entry
 core_tests histories::fed_with_savepoints
-locked_map tests::refused::refused_memory_between_callers
-locked_map tests::refused::refused_memory_in_each_call
-locked_map tests::side_rows::side_value_returns
-thread_runs tests::refused::refused_memory_for_crossing_scripts
+thread_tests map_tests::refused::refused_memory_between_callers
+thread_tests map_tests::refused::refused_memory_in_each_call
+thread_tests map_tests::side::side_value_returns
+thread_tests run_tests::refused_memory_for_crossing_scripts
 program_tests engines::refused::five_callers_undone_is_legal
 program_tests engines::refused::a_cursor_stands_beside_a_refusal
 """

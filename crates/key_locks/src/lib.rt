@@ -32,8 +32,6 @@
 mod key_locks;
 mod lock_answer;
 mod stripe_right;
-#[cfg(test)]
-mod tests;
 
 pub use key_locks::{CALLERS, KeyLocks};
 pub use lock_answer::LockAnswer;

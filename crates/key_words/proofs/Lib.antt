@@ -1,4 +1,3 @@
 pub mod Keeps
 pub mod Moves
 pub mod RightLemmas
-pub mod SeatLemmas

@@ -30,6 +30,3 @@ pub use seat::KeySeat;
 pub use taken::{Taken, Tried};
 pub use view::View;
 pub use words::KeyWords;
-
-#[cfg(test)]
-mod tests;

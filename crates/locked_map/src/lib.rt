@@ -55,8 +55,6 @@ mod receipt;
 mod seen;
 mod shared_map;
 mod stop;
-#[cfg(test)]
-mod tests;
 mod turns;
 mod unclosed;
 

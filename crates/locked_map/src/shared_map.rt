@@ -91,7 +91,7 @@ impl<L: Ledger> SharedMap<L> {
     }
 
     /// What lies under the lock.
-    pub(crate) fn into_booked(self) -> Booked<L> {
+    pub fn into_booked(self) -> Booked<L> {
         let SharedMap { booked, limits: _ } = self;
         booked.into_inner()
     }

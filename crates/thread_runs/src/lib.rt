@@ -18,8 +18,6 @@ mod ran;
 mod run_script;
 mod runs;
 mod terms;
-#[cfg(test)]
-mod tests;
 mod threads;
 mod worker;
 

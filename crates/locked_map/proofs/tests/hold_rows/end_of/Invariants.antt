@@ -1,5 +1,0 @@
-use Rattle.std.specs.Prelude.{◌≡◌}
-use Rattle.locked_map.proofs.tests.hold_rows.end_of.Given as goal
-
-abbrev pub invariant-loop : goal.invariant-loop
-invariant-loop g l = (l.me.number ≡ l.fn.me.number) × (l.me.limits ≡ l.fn.me.limits) × (l.me.tried ≡ l.fn.me.tried) × (l.drive.caller ≡ l.fn.me.number) × (l.drive.call ≡ l.fn.call)

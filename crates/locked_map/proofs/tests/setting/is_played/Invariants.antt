@@ -1,4 +1,0 @@
-use Rattle.locked_map.proofs.tests.setting.is_played.Given as goal
-
-abbrev pub ghosts-play_under : goal.ghosts-play_under
-ghosts-play_under g a = record { name = a.blank.name; parts = a.blank.parts }

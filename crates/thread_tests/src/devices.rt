@@ -1,0 +1,317 @@
+//! What the tests share: a map under a ledger of its own, its calls and its end, each of which
+//! stands here once.
+ghost use Rattle.std.specs.Prelude.{◌≡◌, ◌<◌, true, All};
+ghost use Rattle.txn_trace.specs.History.{caller_of};
+
+use boost_core::{Call, Core, End};
+use history_check::{Verdict, check};
+use locked_map::{Caller, Closed, NoSide, OnRelease, Pass, Receipt, SharedMap, Stop, Unclosed};
+use std::alloc::{AllocError, Global};
+use std::marker::{Brand, PhantomData};
+use std::process::Abort;
+use std::sync::Wait;
+use std::sync::ledger::{Blank, Ledger};
+use std::test::Fail;
+use txn_trace::{Entry, Holder, Limits, Op, Reply};
+use undo_log::Side;
+
+/// How many parts a ledger has.
+#[derive(Drop)]
+struct Parts<L: Ledger> {
+    count: u64,
+    of: PhantomData<L>,
+    ghost counted: { count ≡ L.parts },
+}
+
+/// A map, and what it needs to close: how many parts its ledger has.
+#[derive(Drop)]
+pub(crate) struct Shared<L: Ledger> {
+    pub(crate) map: SharedMap<L>,
+    parts: Parts<L>,
+}
+
+/// A new map, and the passes of its callers; none where memory is refused.
+pub(crate) fn open<L: Ledger>(
+    alloc: Global,
+    blank: Blank,
+    limits: Limits,
+) -> Option<(Shared<L>, Vec<Pass<L>>)>
+    requires name { blank.name ≡ L.name }
+    requires parts { blank.parts ≡ L.parts }
+    requires one_each { blank.parts ≡ limits.callers }
+{
+    let parts = Parts {
+        count: u64::from(limits.callers()),
+        of: PhantomData,
+    };
+    match SharedMap::<L>::new(alloc, blank, limits) {
+        Ok((map, passes)) => Some((Shared { map, parts }, passes)),
+        Err(_) => None,
+    }
+}
+
+/// What a test does with a new map.
+pub(crate) trait Play {
+    /// Plays it.
+    fn play<L: Ledger, R: Wait + Abort>(
+        &self,
+        rt: &R,
+        alloc: Global,
+        shared: Shared<L>,
+        passes: Vec<Pass<L>>,
+    ) -> Result<(), Fail>;
+}
+
+/// Plays it on a new map with 8 stripes and at most 8 buckets.
+pub(crate) fn play_with<P: Play, R: Wait + Abort>(
+    rt: &R,
+    alloc: Global,
+    callers: u64,
+    what: &P,
+) -> Result<(), Fail> {
+    if is_played(rt, alloc, callers, what)? {
+        return Ok(());
+    }
+    Err("no memory for a map".into())
+}
+
+/// Plays it on such a map, for which it asks once more where memory is refused. Where it is refused
+/// still, there is nothing to play with.
+pub(crate) fn play_where_made<P: Play, R: Wait + Abort>(
+    rt: &R,
+    alloc: Global,
+    callers: u64,
+    what: &P,
+) -> Result<(), Fail> {
+    for _ in 0..2 {
+        if is_played(rt, alloc, callers, what)? {
+            return Ok(());
+        }
+    }
+    assert!(rt; is_refused(alloc));
+    Ok(())
+}
+
+/// Plays it on a new map, unless memory is refused for that. Whether it was played.
+fn is_played<P: Play, R: Wait + Abort>(
+    rt: &R,
+    alloc: Global,
+    callers: u64,
+    what: &P,
+) -> Result<bool, Fail> {
+    let limits = Limits::new(callers, 8, 8)?;
+    let blank = Blank::new(u64::from(limits.callers()));
+    play_under::<Brand, P, R>(rt, alloc, blank, limits, what)
+}
+
+fn play_under<L: Ledger, P: Play, R: Wait + Abort>(
+    rt: &R,
+    alloc: Global,
+    blank: Blank,
+    limits: Limits,
+    what: &P,
+) -> Result<bool, Fail>
+    requires name { blank.name ≡ L.name }
+    requires parts { blank.parts ≡ L.parts }
+    requires one_each { blank.parts ≡ limits.callers }
+{
+    let Some((shared, passes)) = open::<L>(alloc, blank, limits) else {
+        return Ok(false);
+    };
+    what.play(rt, alloc, shared, passes)?;
+    Ok(true)
+}
+
+/// Whether memory is refused now.
+pub(crate) fn is_refused(alloc: Global) -> bool {
+    Box::new(alloc, 0).is_err()
+}
+
+/// The callers of the passes, without side values. Asks once more where memory is refused.
+pub(crate) fn callers_of<L: Ledger>(
+    alloc: Global,
+    passes: Vec<Pass<L>>,
+) -> Result<Vec<Caller<L, NoSide>>, AllocError> {
+    let mut callers = Vec::new(alloc);
+    if callers.reserve(passes.len()).is_err() {
+        callers.reserve(passes.len())?;
+    }
+    for pass in passes {
+        callers.push(pass.caller(alloc, NoSide))?;
+    }
+    Ok(callers)
+}
+
+/// Whether the caller at a place has its number, and has seen these entries.
+pub(crate) fn has_seen<L: Ledger>(
+    callers: &[Caller<L, NoSide>],
+    place: usize,
+    wanted: &[Entry],
+) -> bool {
+    let Some(me) = callers.get(place) else {
+        return false;
+    };
+    me.number() == place as u64 && me.seen() == wanted
+}
+
+/// Hears nothing of a release.
+struct Unheard;
+
+impl OnRelease for Unheard {
+    fn on_release(&self) {}
+}
+
+/// Makes a call by its value.
+pub(crate) fn run<L: Ledger, S: Side, R: Wait>(
+    rt: &R,
+    shared: &Shared<L>,
+    me: &mut Caller<L, S>,
+    call: Call,
+) -> End {
+    run_heard(rt, shared, me, call, &Unheard)
+}
+
+/// Makes a call by its value, whose releases of the lock are heard.
+pub(crate) fn run_heard<L: Ledger, S: Side, H: OnRelease, R: Wait>(
+    rt: &R,
+    shared: &Shared<L>,
+    me: &mut Caller<L, S>,
+    call: Call,
+    hears: &H,
+) -> End {
+    shared.map.run(rt, me, call, hears)
+}
+
+/// What a call by its name answers that did what it was asked.
+#[derive(Clone, Copy, Debug, PartialEq, Eq)]
+pub(crate) enum Told {
+    /// The number of a transaction or of a savepoint.
+    Number(u64),
+    /// The reply of an operation.
+    Replied(Reply),
+    /// The receipt of a commit: the transaction, and its number in the commit order.
+    Committed(u64, u64),
+    /// Nothing beside.
+    Done,
+}
+
+/// Makes a call by its name.
+pub(crate) fn make<L: Ledger, R: Wait>(
+    rt: &R,
+    shared: &Shared<L>,
+    me: &mut Caller<L, NoSide>,
+    call: Call,
+) -> Result<Told, Stop> {
+    let map = &shared.map;
+    match call {
+        Call::Begin => Ok(Told::Number(map.begin(rt, me)?)),
+        Call::Op(op) => Ok(Told::Replied(operate(rt, map, me, op)?)),
+        Call::Save => Ok(Told::Number(map.save(rt, me)?)),
+        Call::Back(level) => {
+            map.back(rt, me, level)?;
+            Ok(Told::Done)
+        }
+        Call::Commit => {
+            let Receipt { txn, place } = map.commit(rt, me)?;
+            Ok(Told::Committed(txn, place))
+        }
+        Call::Abort => {
+            map.abort(rt, me)?;
+            Ok(Told::Done)
+        }
+        Call::Help(key) => {
+            map.help(rt, me, key)?;
+            Ok(Told::Done)
+        }
+    }
+}
+
+fn operate<L: Ledger, R: Wait>(
+    rt: &R,
+    map: &SharedMap<L>,
+    me: &mut Caller<L, NoSide>,
+    op: Op,
+) -> Result<Reply, Stop> {
+    match op {
+        Op::Put(key, value) => map.put(rt, me, key, value),
+        Op::Take(key) => map.take(rt, me, key),
+        Op::Get(key) => map.get(rt, me, key),
+        Op::PutIf(key, expected, value) => map.put_if(rt, me, key, expected, value),
+    }
+}
+
+/// Where a map does not close: it and its callers, where one of these is missing.
+pub(crate) type Missing<L, S> = Option<(Shared<L>, Vec<Caller<L, S>>)>;
+
+/// Closes a map.
+pub(crate) fn close_or_miss<L: Ledger, S: Side>(
+    shared: Shared<L>,
+    callers: Vec<Caller<L, S>>,
+) -> Result<Closed<L, S>, Missing<L, S>> {
+    let Shared { map, parts } = shared;
+    if u64::from(map.limits().callers()) != parts.count {
+        return Err(None);
+    }
+    match map.close(callers) {
+        Ok(closed) => Ok(closed),
+        Err(Unclosed::Missing(map, callers)) => Err(Some((Shared { map, parts }, callers))),
+        Err(Unclosed::Differs(..)) => Err(None),
+    }
+}
+
+/// What is left of a map that closes.
+pub(crate) fn close<L: Ledger, S: Side>(
+    shared: Shared<L>,
+    callers: Vec<Caller<L, S>>,
+) -> Result<Closed<L, S>, Fail> {
+    match close_or_miss(shared, callers) {
+        Ok(closed) => Ok(closed),
+        Err(_) => Err("closes".into()),
+    }
+}
+
+/// What the checker says of a history of so many stripes; none where that has an entry of a caller
+/// that the checker does not take.
+pub(crate) fn judge(
+    alloc: Global,
+    trace: &[Entry],
+    stripes: u64,
+) -> Result<Option<Verdict>, AllocError> {
+    if stripes == 0 || !has_callers(trace) {
+        return Ok(None);
+    }
+    Ok(Some(check(alloc, trace, stripes, Holder::Begun)?))
+}
+
+/// Whether each caller's number is one that the checker takes.
+fn has_callers(trace: &[Entry]) -> bool
+    ensures { result ≡ true → All (λ entry. caller_of entry < 64) trace.now }
+{
+    trace.iter().all(|entry| entry.caller() < 64)
+}
+
+/// Whether a history of so many stripes is legal by the checker, with no transaction open.
+pub(crate) fn is_settled(alloc: Global, trace: &[Entry], stripes: u64) -> Result<bool, AllocError> {
+    let verdict = judge(alloc, trace, stripes)?;
+    Ok(matches!(verdict, Some(Verdict::Legal { running: 0, .. })))
+}
+
+/// Whether a closed core has so many keys, each of them 1 with the value 10, and a history that is
+/// legal with no transaction open. Of list and history, what is refused memory twice is not looked
+/// at.
+pub(crate) fn has_left<R: Abort>(rt: &R, alloc: Global, core: &Core, keys: u64) -> bool {
+    let trace = core.trace();
+    let Ok(settled) = is_settled(alloc, trace, 8).or_else(|_| is_settled(alloc, trace, 8)) else {
+        assert!(rt; is_refused(alloc));
+        return core.count() == keys;
+    };
+    let Ok(list) = core
+        .regular_list(alloc)
+        .or_else(|_| core.regular_list(alloc))
+    else {
+        assert!(rt; is_refused(alloc));
+        return core.count() == keys && settled;
+    };
+    let is_right = list.len() as u64 == keys && list.iter().all(|pair| *pair == (1, 10));
+    core.count() == keys && settled && is_right
+}

@@ -1,0 +1,110 @@
+//! Holders of stripes, and the rights to them.
+ghost use Rattle.std.specs.Prelude.{◌≡◌, length};
+
+use key_locks::{CALLERS, KeyLocks, LockAnswer, StripeRight};
+use std::alloc::{AllocError, Global};
+use std::process::Abort;
+use std::test::Fail;
+
+/// A caller's turn.
+#[derive(Clone, Copy, Debug)]
+enum Turn {
+    /// It locks a stripe, and is to be answered this.
+    Lock(usize, LockAnswer),
+    /// It releases all its stripes.
+    Release,
+}
+
+/// Stripes, and how many there are.
+#[derive(Drop)]
+struct Stripes {
+    locks: KeyLocks,
+    count: usize,
+    ghost sized: { length locks ≡ count },
+}
+
+/// So many free stripes; asks twice where memory is refused once.
+fn free_stripes(alloc: Global, count: usize) -> Result<Stripes, AllocError> {
+    if let Ok(locks) = KeyLocks::new(alloc, count) {
+        return Ok(Stripes { locks, count });
+    }
+    let locks = KeyLocks::new(alloc, count)?;
+    Ok(Stripes { locks, count })
+}
+
+/// Takes a turn. The answer is whether a lock answered what it is to.
+fn is_answered(stripes: &mut Stripes, caller: usize, turn: Turn) -> bool {
+    if caller >= CALLERS {
+        return false;
+    }
+    match turn {
+        Turn::Lock(stripe, wanted) => {
+            stripe < stripes.count && stripes.locks.lock(caller, stripe) == wanted
+        }
+        Turn::Release => {
+            stripes.locks.release_all(caller);
+            true
+        }
+    }
+}
+
+/// Takes turns, each of the caller of this number, on so many free stripes.
+fn take_turns<R: Abort>(
+    rt: &R,
+    alloc: Global,
+    count: usize,
+    turns: &[(usize, Turn)],
+) -> Result<(), AllocError> {
+    let mut stripes = free_stripes(alloc, count)?;
+    for &(caller, turn) in turns {
+        assert!(rt;
+            is_answered(&mut stripes, caller, turn),
+            "caller {caller}: {turn:?}"
+        );
+    }
+    Ok(())
+}
+
+/// A stripe that its holder locks once more is granted again. A caller that holds none releases
+/// none.
+#[test]
+fn a_stripe_is_held_until_its_holder_releases(rt: HostRuntime) -> Result<(), Fail> {
+    let turns = [
+        (0, Turn::Lock(1, LockAnswer::Granted)),
+        (1, Turn::Lock(2, LockAnswer::Granted)),
+        (0, Turn::Lock(4, LockAnswer::Granted)),
+        (0, Turn::Lock(1, LockAnswer::Granted)),
+        (0, Turn::Lock(6, LockAnswer::Granted)),
+        (1, Turn::Lock(4, LockAnswer::Busy(0))),
+        (63, Turn::Lock(2, LockAnswer::Busy(1))),
+        (0, Turn::Release),
+        (63, Turn::Lock(6, LockAnswer::Granted)),
+        (1, Turn::Lock(4, LockAnswer::Granted)),
+        (0, Turn::Lock(2, LockAnswer::Busy(1))),
+        (0, Turn::Lock(1, LockAnswer::Granted)),
+        (1, Turn::Release),
+        (0, Turn::Lock(2, LockAnswer::Granted)),
+        (0, Turn::Lock(4, LockAnswer::Granted)),
+        (0, Turn::Lock(6, LockAnswer::Busy(63))),
+    ];
+    take_turns(&rt, rt.alloc(), 8, turns.as_slice())?;
+    let turns = [
+        (5, Turn::Lock(0, LockAnswer::Granted)),
+        (6, Turn::Release),
+        (6, Turn::Lock(0, LockAnswer::Busy(5))),
+    ];
+    take_turns(&rt, rt.alloc(), 1, turns.as_slice())?;
+    Ok(())
+}
+
+/// More stripes than memory are refused.
+#[test]
+fn each_stripe_has_a_right(rt: HostRuntime) -> Result<(), Fail> {
+    let rights = match StripeRight::all(rt.alloc(), 3) {
+        Ok(rights) => rights,
+        Err(_) => StripeRight::all(rt.alloc(), 3)?,
+    };
+    assert!(rt; rights.iter().map(|right| right.stripe()).eq([0, 1, 2]));
+    assert!(rt; free_stripes(rt.alloc(), usize::MAX).is_err());
+    Ok(())
+}

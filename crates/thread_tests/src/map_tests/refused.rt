@@ -1,0 +1,148 @@
+//! What calls leave that are refused memory. `docs/tests/refused.sh` refuses it to them.
+use crate::devices::{Play, Shared, callers_of, close, has_left, is_refused, play_where_made, run};
+use boost_core::{Call, End};
+use locked_map::{Caller, Closed, NoSide, Pass};
+use std::alloc::Global;
+use std::process::Abort;
+use std::sync::Wait;
+use std::sync::ledger::Ledger;
+use std::test::Fail;
+use txn_trace::{Answer, Op, Refusal};
+
+/// A call of the caller at a place, and how it ends where memory is there.
+type Wanted = (usize, Call, End);
+
+/// Makes a call, once more where it is refused memory, and answers how it ends. Where it is refused
+/// memory, `seen` is as it was.
+fn end_of<L: Ledger, R: Wait + Abort>(
+    rt: &R,
+    shared: &Shared<L>,
+    me: &mut Caller<L, NoSide>,
+    call: Call,
+) -> End {
+    let before = me.seen().len();
+    for _ in 0..2 {
+        let end = run(rt, shared, me, call);
+        if end != End::Refused(Refusal::NoMemory) {
+            return end;
+        }
+        assert_eq!(rt; me.seen().len(), before);
+    }
+    End::Refused(Refusal::NoMemory)
+}
+
+/// Makes the calls up to the first that is refused memory twice. The answer is whether none was.
+fn is_whole<L: Ledger, R: Wait + Abort>(
+    rt: &R,
+    alloc: Global,
+    shared: &Shared<L>,
+    callers: &mut [Caller<L, NoSide>],
+    calls: &[Wanted],
+) -> bool {
+    for &(place, call, wanted) in calls {
+        assert!(rt; place < callers.len());
+        let end = end_of(rt, shared, &mut callers[place], call);
+        if end == End::Refused(Refusal::NoMemory) {
+            assert!(rt; is_refused(alloc));
+            return false;
+        }
+        assert_eq!(rt; end, wanted, "caller {place}: {call:?}");
+    }
+    true
+}
+
+/// Gives up each caller's transaction, if it has one, for which no memory is wanted.
+fn give_up<L: Ledger, R: Wait + Abort>(
+    rt: &R,
+    shared: &Shared<L>,
+    callers: &mut [Caller<L, NoSide>],
+) {
+    for me in callers {
+        let end = run(rt, shared, me, Call::Abort);
+        assert!(rt;
+            matches!(
+                end,
+                End::Answered(Answer::Aborted) | End::Refused(Refusal::NotOpen)
+            ),
+            "{end:?}"
+        );
+    }
+}
+
+/// Calls that are made up to the first that is refused memory twice; then all callers give up.
+/// Where a call was so refused, no key is left, and else one key, with this many entries.
+#[derive(Clone, Copy)]
+struct Refused<'a> {
+    calls: &'a [Wanted],
+    entries: usize,
+}
+
+impl Play for Refused<'_> {
+    fn play<L: Ledger, R: Wait + Abort>(
+        &self,
+        rt: &R,
+        alloc: Global,
+        shared: Shared<L>,
+        passes: Vec<Pass<L>>,
+    ) -> Result<(), Fail> {
+        let Ok(mut callers) = callers_of(alloc, passes) else {
+            assert!(rt; is_refused(alloc));
+            return Ok(());
+        };
+        let whole = is_whole(rt, alloc, &shared, callers.as_mut_slice(), self.calls);
+        give_up(rt, &shared, callers.as_mut_slice());
+        let Closed { core, callers: _ } = close(shared, callers)?;
+        assert!(rt; has_left(rt, alloc, &core, u64::from(whole)));
+        assert!(rt; !whole || core.trace().len() == self.entries);
+        Ok(())
+    }
+}
+
+/// The calls of `busy_between_callers`.
+#[test]
+fn refused_memory_between_callers(rt: HostRuntime) -> Result<(), Fail> {
+    let calls = [
+        (0, Call::Begin, End::Answered(Answer::Began(1))),
+        (
+            0,
+            Call::Op(Op::Put(1, 10)),
+            End::Answered(Answer::Done(None)),
+        ),
+        (1, Call::Begin, End::Answered(Answer::Began(2))),
+        (1, Call::Op(Op::Get(9)), End::Busy(0)),
+        (1, Call::Begin, End::Answered(Answer::Began(3))),
+        (1, Call::Commit, End::Answered(Answer::Committed(1))),
+        (0, Call::Commit, End::Answered(Answer::Committed(2))),
+    ];
+    let what = Refused {
+        calls: calls.as_slice(),
+        entries: 9,
+    };
+    play_where_made(&rt, rt.alloc(), 2, &what)
+}
+
+/// Each kind of call, among them a help that doubles and makes buckets.
+#[test]
+fn refused_memory_in_each_call(rt: HostRuntime) -> Result<(), Fail> {
+    let done = End::Answered(Answer::Done(None));
+    let had = End::Answered(Answer::Done(Some(10)));
+    let calls = [
+        (0, Call::Begin, End::Answered(Answer::Began(1))),
+        (0, Call::Op(Op::PutIf(1, None, 10)), done),
+        (0, Call::Save, End::Answered(Answer::Saved(1))),
+        (0, Call::Op(Op::Put(2, 20)), done),
+        (0, Call::Op(Op::Put(3, 30)), done),
+        (0, Call::Op(Op::Put(4, 40)), done),
+        (0, Call::Op(Op::Put(5, 50)), done),
+        (1, Call::Help(3), End::Helped),
+        (0, Call::Op(Op::Take(1)), had),
+        (0, Call::Back(1), End::Answered(Answer::Returned(1))),
+        (0, Call::Op(Op::Get(1)), had),
+        (0, Call::Commit, End::Answered(Answer::Committed(1))),
+    ];
+    let what = Refused {
+        calls: calls.as_slice(),
+        entries: 24,
+    };
+    play_where_made(&rt, rt.alloc(), 2, &what)
+}

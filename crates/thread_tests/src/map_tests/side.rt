@@ -1,0 +1,226 @@
+//! A side value that returns with its caller's transaction.
+ghost use Rattle.std.specs.Prelude.{◌≡◌, [], ◌∷◌, IfSome};
+
+use super::register::{OfWords, Register, RegisterJob};
+use crate::devices::{Play, Shared, close, has_left, is_refused, play_where_made, run};
+use boost_core::{Call, End};
+use locked_map::{Caller, Closed, Pass, Stop};
+use std::alloc::Global;
+use std::process::Abort;
+use std::sync::Wait;
+use std::sync::ledger::Ledger;
+use std::test::Fail;
+use txn_trace::Refusal;
+use undo_log::{Side, SideJob};
+
+/// How much a caller has seen, and the words of its side value.
+type Marks = (usize, [u64; 4]);
+
+fn marks_of<L: Ledger, S: Side>(me: &Caller<L, S>) -> Marks {
+    (me.seen().len(), me.words())
+}
+
+/// Makes a call, once more where it is refused memory; none where it is refused still. A refused
+/// one leaves its caller's marks.
+fn try_call<L: Ledger, S: Side, R: Wait + Abort>(
+    rt: &R,
+    shared: &Shared<L>,
+    me: &mut Caller<L, S>,
+    call: Call,
+) -> Option<()> {
+    let before = marks_of(me);
+    for _ in 0..2 {
+        let end = run(rt, shared, me, call);
+        if let End::Answered(_) = end {
+            return Some(());
+        }
+        assert_eq!(rt; end, End::Refused(Refusal::NoMemory));
+        assert_eq!(rt; marks_of(me), before);
+    }
+    None
+}
+
+/// Changes the first word of the side value, whose others are 0. Where that is refused memory,
+/// nothing has changed, and what is handed back is tried once more; none where it is refused still.
+fn change<L: Ledger, S: OfWords, R: Abort>(
+    rt: &R,
+    shared: &Shared<L>,
+    me: &mut Caller<L, S>,
+    before: u64,
+    after: u64,
+    job: S::Job,
+) -> Option<()>
+    requires before { S.before job ≡ before ∷ 0 ∷ 0 ∷ 0 ∷ [] }
+    requires after { S.after job ≡ after ∷ 0 ∷ 0 ∷ 0 ∷ [] }
+{
+    let marks = marks_of(me);
+    assert!(rt; me.words() == [before, 0, 0, 0]);
+    let to_after = move |_| S::of_words([after, 0, 0, 0]);
+    let Err((refusal, to_after, job)) = shared.map.side(me, to_after, SideJob { job }) else {
+        return Some(());
+    };
+    assert_eq!(rt; refusal, Refusal::NoMemory);
+    assert_eq!(rt; marks_of(me), marks);
+    if shared.map.side(me, to_after, job).is_ok() {
+        return Some(());
+    }
+    assert_eq!(rt; marks_of(me), marks);
+    None
+}
+
+/// The words after a change from 0 to 1, a savepoint and two more changes, and back at the
+/// savepoint; none where a call is refused memory twice.
+fn words_there<L: Ledger, S: OfWords, R: Wait + Abort>(
+    rt: &R,
+    shared: &Shared<L>,
+    me: &mut Caller<L, S>,
+    first: S::Job,
+    second: S::Job,
+    third: S::Job,
+) -> Option<[[u64; 4]; 2]>
+    requires first { (S.before first ≡ 0 ∷ 0 ∷ 0 ∷ 0 ∷ []) × (S.after first ≡ 1 ∷ 0 ∷ 0 ∷ 0 ∷ []) }
+    requires second { (S.before second ≡ 1 ∷ 0 ∷ 0 ∷ 0 ∷ [])
+        × (S.after second ≡ 2 ∷ 0 ∷ 0 ∷ 0 ∷ []) }
+    requires third { (S.before third ≡ 2 ∷ 0 ∷ 0 ∷ 0 ∷ []) × (S.after third ≡ 3 ∷ 0 ∷ 0 ∷ 0 ∷ []) }
+{
+    try_call(rt, shared, me, Call::Begin)?;
+    change(rt, shared, me, 0, 1, first)?;
+    try_call(rt, shared, me, Call::Save)?;
+    change(rt, shared, me, 1, 2, second)?;
+    change(rt, shared, me, 2, 3, third)?;
+    let there = me.words();
+    try_call(rt, shared, me, Call::Back(1))?;
+    assert_eq!(rt; me.seen().len(), 4);
+    Some([there, me.words()])
+}
+
+/// Aborts, for which no memory is wanted; an open transaction is never refused it. The words are
+/// then as at the beginning.
+fn give_up<L: Ledger, S: Side, R: Wait + Abort>(
+    rt: &R,
+    shared: &Shared<L>,
+    me: &mut Caller<L, S>,
+    is_open: bool,
+) {
+    let aborted = shared.map.abort(rt, me);
+    let is_not_open = aborted == Err(Stop::Refused(Refusal::NotOpen));
+    assert!(rt;
+        aborted == Ok(()) || (!is_open && is_not_open),
+        "{aborted:?}"
+    );
+    assert_eq!(rt; me.words(), [0, 0, 0, 0]);
+}
+
+/// Closes the map of a caller that has put nothing, where memory for a list of callers is there.
+fn close_alone<L: Ledger, S: Side, R: Abort>(
+    rt: &R,
+    alloc: Global,
+    shared: Shared<L>,
+    me: Caller<L, S>,
+) -> Result<(), Fail> {
+    let mut callers = Vec::new(alloc);
+    if callers.reserve(1).is_err() && callers.reserve(1).is_err() {
+        assert!(rt; is_refused(alloc));
+        return Ok(());
+    }
+    callers.push(me)?;
+    let Closed { core, callers: _ } = close(shared, callers)?;
+    assert!(rt; has_left(rt, alloc, &core, 0));
+    Ok(())
+}
+
+/// The same of a new caller, which then aborts in any case, and has left nothing.
+fn there_and_back<L: Ledger, S: OfWords, R: Wait + Abort>(
+    rt: &R,
+    alloc: Global,
+    shared: Shared<L>,
+    pass: Pass<L>,
+    first: S::Job,
+    second: S::Job,
+    third: S::Job,
+) -> Result<(), Fail>
+    requires first { (S.before first ≡ 0 ∷ 0 ∷ 0 ∷ 0 ∷ []) × (S.after first ≡ 1 ∷ 0 ∷ 0 ∷ 0 ∷ []) }
+    requires second { (S.before second ≡ 1 ∷ 0 ∷ 0 ∷ 0 ∷ [])
+        × (S.after second ≡ 2 ∷ 0 ∷ 0 ∷ 0 ∷ []) }
+    requires third { (S.before third ≡ 2 ∷ 0 ∷ 0 ∷ 0 ∷ []) × (S.after third ≡ 3 ∷ 0 ∷ 0 ∷ 0 ∷ []) }
+{
+    let mut me = pass.caller(alloc, S::of_words([0, 0, 0, 0]));
+    let words = words_there(rt, &shared, &mut me, first, second, third);
+    match words {
+        Some(words) => assert_eq!(rt; words, [[3, 0, 0, 0], [1, 0, 0, 0]]),
+        None => assert!(rt; is_refused(alloc)),
+    }
+    give_up(rt, &shared, &mut me, words.is_some());
+    close_alone(rt, alloc, shared, me)
+}
+
+/// Boxes a value, once more where memory is refused; none where it is refused still.
+fn make_box<T: Drop>(alloc: Global, value: T) -> Option<Box<T>>
+    ensures { IfSome result (λ block. block.value ≡ value) }
+{
+    match Box::new(alloc, value) {
+        Ok(block) => Some(block),
+        Err(refused) => Box::new(alloc, refused.value).ok(),
+    }
+}
+
+/// A register with these words.
+fn register(words: [u64; 4]) -> Register
+    ensures { result.words ≡ words }
+{
+    Register { words }
+}
+
+/// The same of a register, whose jobs are boxed; nothing was done where they are refused memory.
+fn register_returns<L: Ledger, R: Wait + Abort>(
+    rt: &R,
+    alloc: Global,
+    shared: Shared<L>,
+    pass: Pass<L>,
+) -> Option<Result<(), Fail>> {
+    let to_zero = make_box(alloc, |_| register([0, 0, 0, 0]))?;
+    let to_one = make_box(alloc, |_| register([1, 0, 0, 0]))?;
+    let to_two = make_box(alloc, |_| register([2, 0, 0, 0]))?;
+    let first = RegisterJob {
+        before: [0, 0, 0, 0],
+        after: [1, 0, 0, 0],
+        run: to_zero,
+    };
+    let second = RegisterJob {
+        before: [1, 0, 0, 0],
+        after: [2, 0, 0, 0],
+        run: to_one,
+    };
+    let third = RegisterJob {
+        before: [2, 0, 0, 0],
+        after: [3, 0, 0, 0],
+        run: to_two,
+    };
+    let ended = there_and_back::<L, Register, R>(rt, alloc, shared, pass, first, second, third);
+    Some(ended)
+}
+
+struct SideReturns;
+
+impl Play for SideReturns {
+    fn play<L: Ledger, R: Wait + Abort>(
+        &self,
+        rt: &R,
+        alloc: Global,
+        shared: Shared<L>,
+        passes: Vec<Pass<L>>,
+    ) -> Result<(), Fail> {
+        let pass = passes.into_iter().next().ok_or("a pass")?;
+        let Some(ended) = register_returns(rt, alloc, shared, pass) else {
+            assert!(rt; is_refused(alloc));
+            return Ok(());
+        };
+        ended
+    }
+}
+
+/// Where a call is refused memory twice, as `docs/tests/refused.sh` does it, the caller gives up.
+#[test]
+fn side_value_returns(rt: HostRuntime) -> Result<(), Fail> {
+    play_where_made(&rt, rt.alloc(), 1, &SideReturns)
+}

@@ -1,0 +1,94 @@
+//! Another caller's calls between two turns of one call: no lock is held over a whole call.
+use super::rows::play_row;
+use crate::devices::{Play, Shared, Told, callers_of, close, make, play_with, run_heard};
+use boost_core::{Call, End};
+use locked_map::{Caller, NoSide, OnRelease, Pass};
+use std::alloc::Global;
+use std::process::Abort;
+use std::sync::atomic::{AtomicU64, Ordering};
+use std::sync::ledger::Ledger;
+use std::sync::{Mutex, Wait};
+use std::test::Fail;
+use txn_trace::{Answer, Entry, Op};
+
+/// After the second release of the lock the other caller runs a whole transaction.
+#[derive(Drop)]
+struct Between<'r, 'm, L: Ledger, R: Wait + Abort> {
+    rt: &'r R,
+    shared: &'m Shared<L>,
+    other: Mutex<Caller<L, NoSide>>,
+    releases: AtomicU64,
+}
+
+impl<L: Ledger, R: Wait + Abort> OnRelease for Between<'_, '_, L, R> {
+    fn on_release(&self) {
+        if self.releases.fetch_add(1, Ordering::SeqCst) == 1 {
+            put_four(self.rt, self.shared, &mut *self.other.lock(self.rt));
+        }
+    }
+}
+
+/// Caller 1 puts 40 at key 4.
+fn put_four<L: Ledger, R: Wait + Abort>(rt: &R, shared: &Shared<L>, me: &mut Caller<L, NoSide>) {
+    for (call, wanted) in [
+        (Call::Begin, Told::Number(2)),
+        (Call::Op(Op::Put(4, 40)), Told::Replied(None)),
+        (Call::Commit, Told::Committed(2, 1)),
+    ] {
+        play_row(rt, shared, me, call, Ok(wanted));
+    }
+}
+
+/// Caller 0 begins and puts 20 at key 2, and the other caller comes between. It is handed back.
+fn put_two<L: Ledger, R: Wait + Abort>(
+    rt: &R,
+    shared: &Shared<L>,
+    me: &mut Caller<L, NoSide>,
+    other: Caller<L, NoSide>,
+) -> Caller<L, NoSide> {
+    assert_eq!(rt; make(rt, shared, me, Call::Begin), Ok(Told::Number(1)));
+    let between = Between {
+        rt,
+        shared,
+        other: Mutex::new(other),
+        releases: AtomicU64::new(0),
+    };
+    let end = run_heard(rt, shared, me, Call::Op(Op::Put(2, 20)), &between);
+    assert_eq!(rt; end, End::Answered(Answer::Done(None)));
+    between.other.into_inner()
+}
+
+struct StepBetween;
+
+impl Play for StepBetween {
+    fn play<L: Ledger, R: Wait + Abort>(
+        &self,
+        rt: &R,
+        alloc: Global,
+        shared: Shared<L>,
+        passes: Vec<Pass<L>>,
+    ) -> Result<(), Fail> {
+        let mut callers = callers_of(alloc, passes)?;
+        let other = callers.pop().ok_or("caller 1")?;
+        let me = callers.first_mut().ok_or("caller 0")?;
+        let other = put_two(rt, &shared, me, other);
+        callers.push(other)?;
+        let closed = close(shared, callers)?;
+        let wanted = [
+            Entry::Began(0, 1),
+            Entry::Asked(0, Op::Put(2, 20)),
+            Entry::Began(1, 2),
+            Entry::Asked(1, Op::Put(4, 40)),
+            Entry::Did(1, None),
+            Entry::Committed(1, 1),
+            Entry::Did(0, None),
+        ];
+        assert!(rt; closed.core.trace() == wanted.as_slice());
+        Ok(())
+    }
+}
+
+#[test]
+fn step_between(rt: HostRuntime) -> Result<(), Fail> {
+    play_with(&rt, rt.alloc(), 2, &StepBetween)
+}

@@ -1,0 +1,218 @@
+//! Callers in threads of their own.
+ghost use Rattle.std.specs.Prelude.{◌≡◌};
+
+use super::rows::{Row, play_row};
+use crate::devices::{Shared, Told, callers_of, close, has_seen, is_settled, make, open};
+use boost_core::Call;
+use locked_map::{Caller, Closed, NoSide, Stop};
+use std::alloc::Global;
+use std::marker::Brand;
+use std::process::Abort;
+use std::sync::Wait;
+use std::sync::ledger::{Blank, Ledger};
+use std::test::Fail;
+use std::thread;
+use std::thread::Threads;
+use txn_trace::{Entry, Limits, Op};
+
+/// What the callers of a map do in their threads.
+#[derive(Clone, Copy)]
+enum Plan<'a> {
+    /// Each makes its own calls of these, and its thread begins when that of the caller before has
+    /// ended.
+    InTurn(&'a [Row]),
+    /// All make calls at once that look random, by a seed.
+    AtOnce(u64),
+}
+
+/// Makes the calls of the caller alone.
+fn play_own<L: Ledger, R: Wait + Abort>(
+    rt: &R,
+    shared: &Shared<L>,
+    me: &mut Caller<L, NoSide>,
+    rows: &[Row],
+) {
+    for &(place, call, wanted) in rows {
+        if place as u64 == me.number() {
+            play_row(rt, shared, me, call, wanted);
+        }
+    }
+}
+
+/// One caller's thread after the other's.
+fn work_in_turn<L: Ledger + Send + Sync, R: Threads + Wait + Abort + Sync>(
+    rt: &R,
+    shared: &Shared<L>,
+    callers: &mut [Caller<L, NoSide>],
+    rows: &[Row],
+) {
+    for me in callers {
+        thread::scope(thread::scope_env(), rt, |scope| {
+            let started = scope.spawn(move || play_own(rt, shared, me, rows));
+            assert!(rt; started.is_ok(), "a thread");
+        });
+    }
+}
+
+/// Numbers that look random.
+#[derive(Drop)]
+struct Dice {
+    state: u64,
+}
+
+impl Dice {
+    /// A number below `sides`, by a linear congruence.
+    fn roll(&mut self, sides: u64) -> u64 {
+        self.state = self
+            .state
+            .wrapping_mul(6_364_136_223_846_793_005)
+            .wrapping_add(1_442_695_040_888_963_407);
+        (self.state >> 33).checked_rem(sides).unwrap_or(0)
+    }
+
+    /// A call of an open transaction.
+    fn call(&mut self) -> Call {
+        let key = self.roll(6);
+        match self.roll(8) {
+            0 | 1 | 2 => Call::Op(Op::Put(key, self.roll(100))),
+            3 => Call::Op(Op::Take(key)),
+            4 | 5 => Call::Op(Op::Get(key)),
+            6 => Call::Save,
+            _ => Call::Help(key),
+        }
+    }
+}
+
+/// One transaction, whose calls are never refused: it ends, or it finds a stripe held.
+fn transact<L: Ledger, R: Wait>(
+    rt: &R,
+    shared: &Shared<L>,
+    me: &mut Caller<L, NoSide>,
+    dice: &mut Dice,
+) -> Result<Told, Stop> {
+    make(rt, shared, me, Call::Begin)?;
+    for _ in 0..dice.roll(6) {
+        make(rt, shared, me, dice.call())?;
+    }
+    match dice.roll(6) {
+        0 => return make(rt, shared, me, Call::Abort),
+        1 => {
+            make(rt, shared, me, Call::Back(0))?;
+        }
+        _ => {}
+    }
+    make(rt, shared, me, Call::Commit)
+}
+
+/// What one thread does.
+fn work<L: Ledger, R: Wait + Abort>(
+    rt: &R,
+    shared: &Shared<L>,
+    me: &mut Caller<L, NoSide>,
+    seed: u64,
+) {
+    let mut dice = Dice { state: seed };
+    for _ in 0..4 {
+        let stopped = transact(rt, shared, me, &mut dice);
+        assert!(rt;
+            matches!(stopped, Ok(_) | Err(Stop::Busy { .. })),
+            "{stopped:?}"
+        );
+    }
+}
+
+/// Each caller works in a thread of its own, all at once.
+fn work_at_once<L: Ledger + Send + Sync, R: Threads + Wait + Abort + Sync>(
+    rt: &R,
+    shared: &Shared<L>,
+    callers: &mut [Caller<L, NoSide>],
+    seed: u64,
+) {
+    thread::scope(thread::scope_env(), rt, |scope| {
+        for me in callers {
+            let dice = seed.wrapping_add(me.number() << 32);
+            let started = scope.spawn(move || work(rt, shared, me, dice));
+            assert!(rt; started.is_ok(), "a thread");
+        }
+    });
+}
+
+/// A new map, on which its callers work. It closes, and its history is legal.
+fn play_under<L: Ledger + Send + Sync, R: Threads + Wait + Abort + Sync>(
+    rt: &R,
+    alloc: Global,
+    blank: Blank,
+    limits: Limits,
+    what: Plan,
+) -> Result<(), Fail>
+    requires name { blank.name ≡ L.name }
+    requires parts { blank.parts ≡ L.parts }
+    requires one_each { blank.parts ≡ limits.callers }
+{
+    let (shared, passes) = open::<L>(alloc, blank, limits).ok_or("no memory for a map")?;
+    let mut callers = callers_of(alloc, passes)?;
+    match what {
+        Plan::InTurn(rows) => work_in_turn(rt, &shared, callers.as_mut_slice(), rows),
+        Plan::AtOnce(seed) => work_at_once(rt, &shared, callers.as_mut_slice(), seed),
+    }
+    let closed = close(shared, callers)?;
+    assert!(rt; is_settled(alloc, closed.core.trace(), 8)?);
+    match what {
+        Plan::InTurn(_) => in_turn(rt, &closed),
+        Plan::AtOnce(_) => {}
+    }
+    Ok(())
+}
+
+/// The same under a ledger of its own.
+fn play<R: Threads + Wait + Abort + Sync>(
+    rt: &R,
+    alloc: Global,
+    callers: u64,
+    what: Plan,
+) -> Result<(), Fail> {
+    let limits = Limits::new(callers, 8, 8)?;
+    let blank = Blank::new(u64::from(limits.callers()));
+    play_under::<Brand, R>(rt, alloc, blank, limits, what)
+}
+
+/// Each caller of `two_threads_in_turn` has seen its half of the history.
+fn in_turn<L: Ledger, R: Abort>(rt: &R, closed: &Closed<L, NoSide>) {
+    let wanted = [
+        Entry::Began(0, 1),
+        Entry::Asked(0, Op::Put(6, 60)),
+        Entry::Did(0, None),
+        Entry::Committed(0, 1),
+        Entry::Began(1, 2),
+        Entry::Asked(1, Op::Get(6)),
+        Entry::Did(1, Some(60)),
+        Entry::Committed(1, 2),
+    ];
+    let callers = closed.callers.as_slice();
+    assert!(rt; closed.core.trace() == wanted.as_slice());
+    assert!(rt; has_seen(callers, 0, &wanted[..4]));
+    assert!(rt; has_seen(callers, 1, &wanted[4..]));
+}
+
+/// Caller 0 puts 60 at key 6, and caller 1 gets it.
+#[test]
+fn two_threads_in_turn(rt: HostRuntime) -> Result<(), Fail> {
+    let rows = [
+        (0, Call::Begin, Ok(Told::Number(1))),
+        (0, Call::Op(Op::Put(6, 60)), Ok(Told::Replied(None))),
+        (0, Call::Commit, Ok(Told::Committed(1, 1))),
+        (1, Call::Begin, Ok(Told::Number(2))),
+        (1, Call::Op(Op::Get(6)), Ok(Told::Replied(Some(60)))),
+        (1, Call::Commit, Ok(Told::Committed(2, 2))),
+    ];
+    play(&rt, rt.alloc(), 2, Plan::InTurn(rows.as_slice()))
+}
+
+/// 2 to 8 callers, by the seed.
+#[test]
+fn a_thousand_runs(rt: HostRuntime) -> Result<(), Fail> {
+    for seed in 0..1000 {
+        play(&rt, rt.alloc(), 2 + seed % 7, Plan::AtOnce(seed))?;
+    }
+    Ok(())
+}

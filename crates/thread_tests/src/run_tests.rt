@@ -1,0 +1,364 @@
+//! Runs of scripts on threads.
+use crate::devices::{is_refused, is_settled, judge};
+use history_check::Verdict;
+use std::alloc::{AllocError, Global};
+use std::process::Abort;
+use std::sync::Wait;
+use std::sync::atomic::{AtomicBool, AtomicU64, Ordering};
+use std::test::Fail;
+use std::thread;
+use std::thread::Threads;
+use std::time::{Clock, Duration};
+use thread_runs::{Gate, Open, Outcome, Ran, run_scripts};
+use txn_trace::{Action, Entry, Limits, Op, Refusal, Script};
+
+/// Runs scripts on so many workers, on a map of so many stripes. A script that finds a stripe held
+/// is tried again so often.
+fn run<G: Gate, R: Threads + Wait + Sync>(
+    rt: &R,
+    alloc: Global,
+    scripts: &[Script],
+    workers: u64,
+    stripes: u64,
+    tries: u64,
+    gate: &G,
+) -> Result<Ran, Refusal> {
+    if tries > 1000 {
+        return Err(Refusal::Limit);
+    }
+    let limits = Limits::new(workers, stripes, 8)?;
+    let count = limits.callers() as usize;
+    run_scripts(rt, alloc, limits, scripts, count, tries, gate)
+}
+
+/// Scripts of these actions, a list for each.
+fn scripts_of(alloc: Global, lists: &[&[Action]]) -> Result<Vec<Script>, AllocError> {
+    let mut scripts = Vec::new(alloc);
+    for list in lists {
+        let mut actions = Vec::new(alloc);
+        actions.extend_from_slice(list)?;
+        scripts.push(Script::new(actions))?;
+    }
+    Ok(scripts)
+}
+
+const fn put(key: u64, value: u64) -> Action {
+    Action::Op(Op::Put(key, value))
+}
+
+/// How often a flag is read, a millisecond apart.
+const TURNS: u64 = 20_000;
+
+/// Waits until a flag is set. The test fails where that takes too long.
+fn await_flag<R: Abort + Clock>(rt: &R, flag: &AtomicBool) {
+    for _ in 0..TURNS {
+        if flag.load(Ordering::SeqCst) {
+            return;
+        }
+        thread::sleep(rt, Duration::from_millis(1));
+    }
+    assert!(rt; false, "a flag is set in time");
+}
+
+/// Where a worker may be.
+#[derive(Clone, Copy, PartialEq, Eq)]
+enum Place {
+    /// Before this action of a script.
+    Action(usize),
+    /// At this release of the lock, from 0.
+    Release(u64),
+}
+
+/// Worker 0 comes to a place, and does not go on before script 1 is done. Until it is there, worker
+/// 1 waits before an action.
+#[derive(Drop)]
+struct Meeting<'a, R: Abort + Clock + Sync> {
+    rt: &'a R,
+    place: Place,
+    action: usize,
+    releases: AtomicU64,
+    is_there: AtomicBool,
+    is_done: AtomicBool,
+}
+
+/// Worker 0 is at its place, and waits there.
+fn wait_there<R: Abort + Clock>(rt: &R, is_there: &AtomicBool, is_done: &AtomicBool) {
+    is_there.store(true, Ordering::SeqCst);
+    await_flag(rt, is_done);
+}
+
+impl<R: Abort + Clock + Sync> Gate for Meeting<'_, R> {
+    fn before(&self, worker: usize, _script: usize, action: usize) {
+        if worker == 0 && self.place == Place::Action(action) {
+            wait_there(self.rt, &self.is_there, &self.is_done);
+        }
+        if worker == 1 && action == self.action {
+            await_flag(self.rt, &self.is_there);
+        }
+    }
+
+    fn done(&self, script: usize) {
+        if script == 1 {
+            self.is_done.store(true, Ordering::SeqCst);
+        }
+    }
+
+    fn freed(&self, worker: usize) {
+        if worker == 0 {
+            let release = self.releases.fetch_add(1, Ordering::SeqCst);
+            if self.place == Place::Release(release) {
+                wait_there(self.rt, &self.is_there, &self.is_done);
+            }
+        }
+    }
+}
+
+/// The place of a script that is committed with no reply to any operation, else 0.
+fn place_of(outcome: &Outcome) -> u64 {
+    match outcome {
+        Outcome::Committed { place, replies, .. } if replies.iter().all(|r| r.is_none()) => *place,
+        _ => 0,
+    }
+}
+
+/// Two workers with a script each, of which worker 1 commits first, though worker 0 began.
+fn meet<R: Threads + Wait + Abort + Clock + Sync>(
+    rt: &R,
+    alloc: Global,
+    scripts: &[Script],
+    place: Place,
+    action: usize,
+) -> Result<Ran, Refusal> {
+    let gate = Meeting {
+        rt,
+        place,
+        action,
+        releases: AtomicU64::new(0),
+        is_there: AtomicBool::new(false),
+        is_done: AtomicBool::new(false),
+    };
+    let ran = run(rt, alloc, scripts, 2, 8, 0, &gate)?;
+    assert!(rt; ran.outcomes.iter().map(place_of).eq([2, 1]));
+    Ok(ran)
+}
+
+/// Two scripts, each with two keys of its own.
+fn crossing_scripts(alloc: Global) -> Result<Vec<Script>, AllocError> {
+    let first = [put(1, 10), put(2, 20)];
+    let second = [put(3, 30), put(4, 40)];
+    scripts_of(alloc, [first.as_slice(), second.as_slice()].as_slice())
+}
+
+/// Worker 1's second action waits for worker 0's second action to begin, and that for worker 1's
+/// script to be done.
+#[test]
+fn crossing_gate(rt: HostRuntime) -> Result<(), Fail> {
+    let scripts = crossing_scripts(rt.alloc())?;
+    meet(&rt, rt.alloc(), scripts.as_slice(), Place::Action(1), 1)?;
+    Ok(())
+}
+
+fn is_began(entry: &Entry) -> bool {
+    matches!(entry, Entry::Began(..))
+}
+
+fn is_committed(entry: &Entry) -> bool {
+    matches!(entry, Entry::Committed(..))
+}
+
+fn is_aborted(entry: &Entry) -> bool {
+    matches!(entry, Entry::Aborted(_))
+}
+
+/// Worker 1's action waits for worker 0's third release of the lock, when worker 0 has begun, asked
+/// and sought. So what stands between worker 0's question and its reply is worker 1's put and
+/// commit.
+#[test]
+fn step_between(rt: HostRuntime) -> Result<(), Fail> {
+    let first = [put(2, 20)];
+    let second = [put(4, 40)];
+    let lists = [first.as_slice(), second.as_slice()];
+    let scripts = scripts_of(rt.alloc(), lists.as_slice())?;
+    let ran = meet(&rt, rt.alloc(), scripts.as_slice(), Place::Release(2), 0)?;
+    let wanted = [
+        Entry::Asked(0, Op::Put(2, 20)),
+        Entry::Asked(1, Op::Put(4, 40)),
+        Entry::Did(1, None),
+        Entry::Committed(1, 1),
+        Entry::Did(0, None),
+        Entry::Committed(0, 2),
+    ];
+    let later = ran.trace.iter().filter(|entry| !is_began(entry));
+    assert!(rt; later.eq(wanted.iter()));
+    Ok(())
+}
+
+/// Six scripts on two stripes.
+fn six_scripts(alloc: Global) -> Result<Vec<Script>, AllocError> {
+    let puts = [put(1, 10), put(2, 20)];
+    let changes = [put(2, 21), Action::Op(Op::Take(1))];
+    let returns = [
+        Action::Op(Op::Get(1)),
+        Action::Save,
+        put(3, 30),
+        Action::Back(1),
+    ];
+    let helps = [Action::Op(Op::Take(2)), Action::Help(5)];
+    let aborts = [put(4, 40), Action::Abort];
+    let gets = [Action::Op(Op::Get(2))];
+    let lists = [
+        puts.as_slice(),
+        changes.as_slice(),
+        returns.as_slice(),
+        helps.as_slice(),
+        aborts.as_slice(),
+        gets.as_slice(),
+    ];
+    scripts_of(alloc, lists.as_slice())
+}
+
+/// One run, whose history is legal and has no open transaction.
+fn run_once<R: Threads + Wait + Abort + Sync>(
+    rt: &R,
+    alloc: Global,
+    workers: u64,
+) -> Result<(), Fail> {
+    let scripts = six_scripts(alloc)?;
+    let ran = run(rt, alloc, scripts.as_slice(), workers, 2, 3, &Open)?;
+    assert_eq!(rt; ran.outcomes.len(), 6);
+    assert!(rt; is_settled(alloc, ran.trace.as_slice(), 2)?, "{workers}");
+    Ok(())
+}
+
+/// The same scripts by each of 1 to 6 workers, 300 runs in all.
+#[test]
+fn run_any_workers(rt: HostRuntime) -> Result<(), Fail> {
+    for round in 0..300 {
+        run_once(&rt, rt.alloc(), 1 + round % 6)?;
+    }
+    Ok(())
+}
+
+/// Script `number` of the four hundred: put, take and put its own key.
+fn script(alloc: Global, number: u64) -> Result<Script, AllocError> {
+    let mut actions = Vec::new(alloc);
+    actions.push(put(number, number))?;
+    actions.push(Action::Op(Op::Take(number)))?;
+    actions.push(put(number, number.wrapping_add(1)))?;
+    Ok(Script::new(actions))
+}
+
+/// The place of script `number`, committed with its replies; else 0.
+fn own_place(number: u64, outcome: &Outcome) -> u64 {
+    match outcome {
+        Outcome::Committed { place, replies, .. }
+            if replies.as_slice() == [None, Some(number), None].as_slice() => { *place }
+        _ => 0,
+    }
+}
+
+/// The places of all scripts, by rising place.
+fn places(alloc: Global, ran: &Ran) -> Result<Vec<u64>, AllocError> {
+    let mut places = Vec::new(alloc);
+    for (number, outcome) in ran.outcomes.iter().enumerate() {
+        places.push(own_place(number as u64, outcome))?;
+    }
+    places.sort()?;
+    Ok(places)
+}
+
+/// Four workers. Each script is committed with its replies, at a place of its own.
+#[test]
+fn four_hundred_scripts(rt: HostRuntime) -> Result<(), Fail> {
+    let alloc = rt.alloc();
+    let mut scripts = Vec::new(alloc);
+    for number in 0..400 {
+        scripts.push(script(alloc, number)?)?;
+    }
+    let ran = run(&rt, alloc, scripts.as_slice(), 4, 4096, 0, &Open)?;
+    assert_eq!(rt; ran.outcomes.len(), 400);
+    assert!(rt; places(alloc, &ran)?.iter().copied().eq(1..401));
+    let wanted = Verdict::Legal {
+        commits: 400,
+        running: 0,
+    };
+    assert_eq!(rt; judge(alloc, ran.trace.as_slice(), 4096)?, Some(wanted));
+    Ok(())
+}
+
+/// What the scripts of `crossing_gate` come to on one worker; none where memory for that or a
+/// thread is refused.
+fn ran_alone<R: Threads + Wait + Abort + Sync>(rt: &R, alloc: Global) -> Option<Ran> {
+    let Ok(scripts) = crossing_scripts(alloc) else {
+        return None;
+    };
+    match run(rt, alloc, scripts.as_slice(), 1, 8, 0, &Open) {
+        Ok(ran) => Some(ran),
+        Err(refusal) => {
+            assert!(rt; matches!(refusal, Refusal::NoMemory | Refusal::NoThread));
+            None
+        }
+    }
+}
+
+/// How many transactions a history begins, commits and aborts.
+fn counts(trace: &[Entry]) -> (usize, usize, usize) {
+    let began = trace.iter().filter(|entry| is_began(entry)).count();
+    let committed = trace.iter().filter(|entry| is_committed(entry)).count();
+    let aborted = trace.iter().filter(|entry| is_aborted(entry)).count();
+    (began, committed, aborted)
+}
+
+/// Whether a history is legal, with nobody in a transaction. Where the checker is refused memory
+/// twice, it is not asked.
+fn is_legal<R: Abort>(rt: &R, alloc: Global, trace: &[Entry]) -> bool {
+    assert!(rt; trace.iter().all(|entry| entry.caller() < 64));
+    for _ in 0..2 {
+        if let Ok(settled) = is_settled(alloc, trace, 8) {
+            return settled;
+        }
+    }
+    assert!(rt; is_refused(alloc));
+    true
+}
+
+fn is_done(outcome: &Outcome) -> bool {
+    matches!(outcome, Outcome::Committed { .. })
+}
+
+fn is_refused_memory(outcome: &Outcome) -> bool {
+    matches!(outcome, Outcome::Refused(Refusal::NoMemory))
+}
+
+/// Whether both scripts are committed; else they are refused memory, and nobody is left in a
+/// transaction.
+fn is_whole<R: Abort>(rt: &R, alloc: Global, ran: &Ran) -> bool {
+    let outcomes = ran.outcomes.as_slice();
+    assert_eq!(rt; outcomes.len(), 2);
+    for outcome in outcomes {
+        assert!(rt; is_done(outcome) || is_refused_memory(outcome));
+    }
+    let done = outcomes.iter().filter(|outcome| is_done(outcome)).count();
+    let trace = ran.trace.as_slice();
+    let (began, committed, aborted) = counts(trace);
+    assert_eq!(rt; committed, done);
+    assert_eq!(rt; began.checked_sub(committed), Some(aborted));
+    assert!(rt; is_legal(rt, alloc, trace));
+    assert!(rt; done < 2 || trace.len() == 12);
+    done == 2
+}
+
+/// What a run leaves that is refused memory. `docs/tests/refused.sh` refuses it. One worker plays
+/// the scripts, until both are committed. Eight refusals in a row end eight runs at most; where the
+/// ninth is not whole either, memory is refused for good.
+#[test]
+fn refused_memory_for_crossing_scripts(rt: HostRuntime) {
+    for _ in 0..9 {
+        if let Some(ran) = ran_alone(&rt, rt.alloc()) {
+            if is_whole(&rt, rt.alloc(), &ran) {
+                return;
+            }
+        }
+    }
+    assert!(rt; is_refused(rt.alloc()));
+}

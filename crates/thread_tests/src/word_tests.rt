@@ -1,0 +1,268 @@
+//! Atomic words of stripes, with the rights that lie behind them.
+ghost use Rattle.std.specs.Prelude.{◌≡◌, [], length};
+ghost use Rattle.key_words.specs.Seats.{AreSeats, IsOf, known, stripes_of};
+
+use key_words::{KeySeat, KeyWords, Rights, StripeRight, Taken, Tried};
+use std::alloc::{AllocError, Global};
+use std::process::Abort;
+use std::sync::{Arc, Wait};
+use std::test::Fail;
+use std::thread;
+use std::thread::Threads;
+
+/// A seat that has done nothing, at its words, of which there are so many.
+#[derive(Drop)]
+struct Fresh {
+    words: Arc<KeyWords, Global>,
+    stripes: usize,
+    number: u64,
+    seat: KeySeat,
+    ghost of: { IsOf seat words.value },
+    ghost sized: { stripes_of words.value ≡ stripes },
+    ghost numbered: { (known seat).number ≡ number },
+    ghost empty: { (known seat).held ≡ [] },
+}
+
+/// A seat at its words, and the right that it was granted last, if it has not given that back.
+#[derive(Drop)]
+struct Seated {
+    words: Arc<KeyWords, Global>,
+    stripes: usize,
+    number: u64,
+    seat: KeySeat,
+    right: Option<StripeRight>,
+    ghost of: { IsOf seat words.value },
+    ghost sized: { stripes_of words.value ≡ stripes },
+    ghost numbered: { (known seat).number ≡ number },
+}
+
+/// A caller's rights, at its words.
+#[derive(Drop)]
+struct Keeping {
+    words: Arc<KeyWords, Global>,
+    stripes: usize,
+    rights: Rights,
+    ghost of: { IsOf rights.seat words.value },
+    ghost sized: { stripes_of words.value ≡ stripes },
+}
+
+/// The seats of so many stripes, the last first.
+fn fresh_seats(alloc: Global, stripes: usize, count: usize) -> Result<Vec<Fresh>, Fail> {
+    if stripes == 0 || count == 0 || count > 64 {
+        return Err("no seats".into());
+    }
+    let rights = StripeRight::all(alloc, stripes)?;
+    let Ok((words, seats)) = KeyWords::new(alloc, rights, count) else {
+        return Err("memory".into());
+    };
+    Ok(at_words(alloc, Arc::new(alloc, words)?, stripes, seats)?)
+}
+
+/// The same of the seats of these words. They are taken out of their list.
+fn at_words(
+    alloc: Global,
+    words: Arc<KeyWords, Global>,
+    stripes: usize,
+    mut seats: Vec<KeySeat>,
+) -> Result<Vec<Fresh>, AllocError>
+    requires sized { stripes_of words.value ≡ stripes }
+    requires seats { AreSeats words.value (length seats.items) seats.items }
+{
+    let mut all = Vec::new(alloc);
+    while let Some(seat) = seats.pop() {
+        all.push(Fresh {
+            words: Arc::try_clone(&words)?,
+            stripes,
+            number: seats.len() as u64,
+            seat,
+        })?;
+    }
+    Ok(all)
+}
+
+/// The seats by rising number.
+fn seats_of(alloc: Global, stripes: usize, count: usize) -> Result<Vec<Seated>, Fail> {
+    let mut all = Vec::new(alloc);
+    for fresh in fresh_seats(alloc, stripes, count)? {
+        let Fresh {
+            words,
+            stripes,
+            number,
+            seat,
+        } = fresh;
+        all.push(Seated {
+            words,
+            stripes,
+            number,
+            seat,
+            right: None,
+        })?;
+    }
+    all.reverse();
+    Ok(all)
+}
+
+/// The callers by rising number.
+fn callers_of(alloc: Global, stripes: usize, count: usize) -> Result<Vec<Keeping>, Fail> {
+    let mut all = Vec::new(alloc);
+    for fresh in fresh_seats(alloc, stripes, count)? {
+        let Fresh {
+            words,
+            stripes,
+            number: _,
+            seat,
+        } = fresh;
+        all.push(Keeping {
+            words,
+            stripes,
+            rights: Rights::new(alloc, seat),
+        })?;
+    }
+    all.reverse();
+    Ok(all)
+}
+
+/// Takes a stripe, and answers the word that it found: 0 where the stripe is granted, by its own
+/// right. None where there is no such stripe, or the right is another's.
+fn take(seated: &mut Seated, stripe: usize) -> Option<u64> {
+    if stripe >= seated.stripes {
+        return None;
+    }
+    match seated.words.take(&mut seated.seat, stripe) {
+        Taken::Granted(right) => {
+            let is_own = right.stripe() == stripe;
+            seated.right = Some(right);
+            is_own.then_some(0)
+        }
+        Taken::Held(word) => Some(word),
+    }
+}
+
+/// Gives the right back that was granted last. Whether there is one: the stripe's word is the
+/// seat's own.
+fn give(seated: &mut Seated) -> bool {
+    let Some(right) = seated.right.take() else {
+        return false;
+    };
+    let stripe = right.stripe();
+    if stripe >= seated.stripes {
+        return false;
+    }
+    match seated.words.take(&mut seated.seat, stripe) {
+        Taken::Held(word) if word == seated.number + 1 => {
+            seated.words.give(&mut seated.seat, right);
+            true
+        }
+        _ => false,
+    }
+}
+
+/// A seat takes stripe 1 and finds its own word there, as the other one does until the stripe is
+/// given back.
+#[test]
+fn words_of_stripes(rt: HostRuntime) -> Result<(), Fail> {
+    let mut seats = seats_of(rt.alloc(), 8, 2)?;
+    for (number, stripe, found) in [
+        (0, 1, Some(0)),
+        (0, 1, Some(1)),
+        (1, 1, Some(1)),
+        (1, 2, Some(0)),
+        (0, 1, None),
+        (1, 1, Some(0)),
+        (0, 1, Some(2)),
+    ] {
+        let seated = seats.get_mut(number).ok_or("a seat")?;
+        match found {
+            Some(word) => assert_eq!(rt; take(seated, stripe), Some(word)),
+            None => assert!(rt; give(seated)),
+        }
+    }
+    Ok(())
+}
+
+/// What a caller does in its turn.
+#[derive(Clone, Copy, Debug)]
+enum Turn {
+    /// It takes a stripe, and is to be answered this.
+    Take(usize, Tried),
+    /// It gives all its rights back.
+    GiveBack,
+}
+
+/// Plays a turn. The answer is whether a take answered what it is to, and the right at its place is
+/// the stripe's.
+fn is_answered(caller: &mut Keeping, turn: Turn) -> Result<bool, AllocError> {
+    let Turn::Take(stripe, wanted) = turn else {
+        caller.rights.give_back(&*caller.words);
+        return Ok(true);
+    };
+    if stripe >= caller.stripes {
+        return Ok(false);
+    }
+    let tried = caller.rights.take(&*caller.words, stripe)?;
+    Ok(match tried {
+        Tried::Mine(place) => tried == wanted && caller.rights.right(place).stripe() == stripe,
+        Tried::Another(_) => tried == wanted,
+    })
+}
+
+/// A take answers the place of the right where the caller has the stripe, the next place where the
+/// stripe is free, and one more than the other caller's number where that one has it.
+#[test]
+fn rights_of_two_callers(rt: HostRuntime) -> Result<(), Fail> {
+    let mut callers = callers_of(rt.alloc(), 8, 2)?;
+    for (number, turn) in [
+        (0, Turn::Take(3, Tried::Mine(0))),
+        (0, Turn::Take(5, Tried::Mine(1))),
+        (0, Turn::Take(3, Tried::Mine(0))),
+        (0, Turn::Take(6, Tried::Mine(2))),
+        (1, Turn::Take(3, Tried::Another(1))),
+        (1, Turn::Take(4, Tried::Mine(0))),
+        (0, Turn::Take(4, Tried::Another(2))),
+        (0, Turn::GiveBack),
+        (1, Turn::Take(3, Tried::Mine(1))),
+        (1, Turn::Take(5, Tried::Mine(2))),
+        (0, Turn::Take(5, Tried::Another(2))),
+        (1, Turn::GiveBack),
+        (0, Turn::Take(5, Tried::Mine(0))),
+    ] {
+        let caller = callers.get_mut(number).ok_or("a caller")?;
+        assert!(rt; is_answered(caller, turn)?, "caller {number}: {turn:?}");
+    }
+    Ok(())
+}
+
+/// How often each thread takes a stripe.
+const TRIES: usize = 100_000;
+
+/// Takes the 64 stripes in turn, and gives back each that is granted.
+fn take_and_give_back<R: Abort>(rt: &R, seated: &mut Seated) {
+    for tried in 0..TRIES {
+        if take(seated, tried % 64) == Some(0) {
+            assert!(rt; give(seated));
+        }
+    }
+}
+
+/// The same in a thread for each seat, all of which begin at the same stripe.
+fn take_and_give_back_by_all<R: Threads + Wait + Abort + Sync>(rt: &R, seats: &mut [Seated]) {
+    thread::scope(thread::scope_env(), rt, |scope| {
+        for seated in seats {
+            let started = scope.spawn(move || take_and_give_back(rt, seated));
+            assert!(rt; started.is_ok(), "a thread");
+        }
+    });
+}
+
+/// The first seat is then granted each stripe.
+#[test]
+fn eight_threads_leave_all_words_free(rt: HostRuntime) -> Result<(), Fail> {
+    let mut seats = seats_of(rt.alloc(), 64, 8)?;
+    assert_eq!(rt; seats.len(), 8);
+    take_and_give_back_by_all(&rt, seats.as_mut_slice());
+    let seated = seats.first_mut().ok_or("seat 0")?;
+    for stripe in 0..64 {
+        assert_eq!(rt; take(seated, stripe), Some(0), "stripe {stripe}");
+    }
+    Ok(())
+}
