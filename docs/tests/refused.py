@@ -23,22 +23,22 @@ LENGTHS = [1, 8, 2**62]
 # Tests that pass whichever one allocation is refused: crate and name. Where more are, they may also
 # give up by an error, or stop at an assertion that says so.
 PASSING = """
-node_list tests::refused_allocations
-bucket_table tests::refused_allocations
-map_ops tests::refused_memory_for_puts
-map_ops tests::refused_memory_for_a_preparation
-map_ops tests::refused_memory_for_a_link
+table_tests node_list_tests::refused_allocations
+table_tests bucket_table_tests::refused_allocations
+table_tests map_ops_tests::refused_memory_for_puts
+table_tests map_ops_tests::refused_memory_for_a_preparation
+table_tests map_ops_tests::refused_memory_for_a_link
 thread_tests lock_tests::a_stripe_is_held_until_its_holder_releases
 """
 # Tests that pass whichever one allocation is refused, eight in a row, or all from one on.
 WHOLE = """
+table_tests bucket_table_tests::bucket_initialisation
+table_tests undo_log_tests::nine_undone_newest_first
+table_tests undo_log_tests::a_savepoint_keeps_its_jobs
+table_tests undo_log_tests::side_value_returns
+table_tests undo_log_tests::a_settled_value_stays
 core_tests cores::five_callers_undone
 core_tests cores::segments
-bucket_table tests::bucket_initialisation
-undo_log tests::nine_undone_newest_first
-undo_log tests::a_savepoint_keeps_its_jobs
-undo_log tests::side_value_returns
-undo_log tests::a_settled_value_stays
 core_tests histories::fed_entry_by_entry
 core_tests histories::fed_with_savepoints
 thread_tests map_tests::refused::refused_memory_between_callers

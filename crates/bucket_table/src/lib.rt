@@ -51,8 +51,6 @@ mod buckets;
 mod fill;
 mod helper;
 mod segments;
-#[cfg(test)]
-mod tests;
 
 pub use answer::{Double, InitLink, InitRefusal, InitSeek};
 pub use buckets::Buckets;

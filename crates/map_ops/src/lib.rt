@@ -38,8 +38,6 @@ mod listing;
 mod pending;
 mod refusals;
 mod table;
-#[cfg(test)]
-mod tests;
 mod undo_job;
 
 pub use act::{Act, Undo};

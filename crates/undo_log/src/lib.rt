@@ -32,6 +32,3 @@ pub use job::UndoJob;
 pub use log::UndoLog;
 pub use side::{Side, SideJob};
 pub use side_value::SideValue;
-
-#[cfg(test)]
-mod tests;

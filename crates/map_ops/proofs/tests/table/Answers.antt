@@ -1,5 +1,0 @@
-use Rattle.std.proofs.Common.{refl}
-use Rattle.map_ops.proofs.tests.table.Goals as goal
-
-pub new-requires-clause-power : goal.new-requires-clause-power
-new-requires-clause-power c = (3, refl)
