@@ -201,9 +201,9 @@ just_placed state c placed = at (owner_changes state (Helper c))
     at (Some noted) = ap (λ (o : Option Owner). not (is_just_placed (Helper c) o) && not (noted == state.changes && nat_lt noted (2 ^ 64 - 1))) placed ∙ ap (λ b. not b && not (noted == state.changes && nat_lt noted (2 ^ 64 - 1))) (eq-eqb c c refl)
 
 -- After the dummy was to be linked.
-linked_goes : (state new : State) (c key again turn : ℕ) (way : Way) (answer : Answer) → nat_le state.limits.callers c ≡ false → c < length state.helpers → OnWay state key way → help_in state.helpers c ≡ Sought way.bucket noted → state.placed ≡ Some (Helper c)
+linked_goes : (state new : State) (c key again noted : ℕ) (way : Way) (answer : Answer) → nat_le state.limits.callers c ≡ false → c < length state.helpers → OnWay state key way → help_in state.helpers c ≡ Sought way.bucket noted → state.placed ≡ Some (Helper c)
     → Move state (steps.InitLink c) answer new → Goes new c key (3 * (way.target - way.bucket) + 2) (told_link way again answer)
-linked_goes state new c key again turn way answer within there on has placed move = at answer move
+linked_goes state new c key again noted way answer within there on has placed move = at answer move
   where
     none : refusal_of state (steps.InitLink c) ≡ None
     none = λ i. first_of ((within i, refusals.NoSuchHelper) ∷ (not (has_cursor (has i)), refusals.HelperOutOfOrder) ∷ [])
