@@ -183,7 +183,8 @@ impl Core {
         ensures lists { ListsBy claim self.old step result self.new }
         ensures cursors { Cursors self.old step result self.new }
         ensures words { self.new.words ≡ self.old.words }
-        ensures cursor { result ≡ Answer.Placed → is_some (caller_changes self.new.cursors caller) ≡ true }
+        ensures cursor { result ≡ Answer.Placed
+            → is_some (caller_changes self.new.cursors caller) ≡ true }
     {
         if let Some(refusal) = self.refusal(caller, step) {
             return Answer::Refused(refusal);

@@ -69,10 +69,10 @@ impl<L: Ledger> SharedMap<L> {
     ///   - `OutOfStep` of a token that is broken.
     ///   - `NotOpen`, `Leaving`, `OperationUnfinished` and `BadKey` (a key of 2^63 or more, where
     ///     the limits have half keys), the first that holds.
-    ///   - Then `NoMemory` where memory is refused: for one right more, before any word is tried, or
-    ///     for the operation; `StampsUsedUp` where no stamp is left; `StaleWord` where by the core's
-    ///     record the word of the key's stripe does not say who holds it; and `OutOfStep`, which
-    ///     breaks the token.
+    ///   - Then `NoMemory` where memory is refused: for one right more, before any word is tried,
+    ///     or for the operation; `StampsUsedUp` where no stamp is left; `StaleWord` where by the
+    ///     core's record the word of the key's stripe does not say who holds it; and `OutOfStep`,
+    ///     which breaks the token.
     /// - `Busy` where the word of the key's stripe names another caller: the transaction is
     ///   aborted, with all its changes taken back and all its rights given back, and the side value
     ///   has the words that it had when the transaction began.
@@ -108,10 +108,10 @@ impl<L: Ledger> SharedMap<L> {
     ///   - `OutOfStep` of a token that is broken.
     ///   - `NotOpen`, `Leaving`, `OperationUnfinished` and `BadKey` (a key of 2^63 or more, where
     ///     the limits have half keys), the first that holds.
-    ///   - Then `NoMemory` where memory is refused: for one right more, before any word is tried, or
-    ///     for the operation; `StampsUsedUp` where no stamp is left; `StaleWord` where by the core's
-    ///     record the word of the key's stripe does not say who holds it; and `OutOfStep`, which
-    ///     breaks the token.
+    ///   - Then `NoMemory` where memory is refused: for one right more, before any word is tried,
+    ///     or for the operation; `StampsUsedUp` where no stamp is left; `StaleWord` where by the
+    ///     core's record the word of the key's stripe does not say who holds it; and `OutOfStep`,
+    ///     which breaks the token.
     /// - `Busy` where the word of the key's stripe names another caller: the transaction is
     ///   aborted, with all its changes taken back and all its rights given back, and the side value
     ///   has the words that it had when the transaction began.
@@ -146,10 +146,10 @@ impl<L: Ledger> SharedMap<L> {
     ///   - `OutOfStep` of a token that is broken.
     ///   - `NotOpen`, `Leaving`, `OperationUnfinished` and `BadKey` (a key of 2^63 or more, where
     ///     the limits have half keys), the first that holds.
-    ///   - Then `NoMemory` where memory is refused: for one right more, before any word is tried, or
-    ///     for the operation; `StampsUsedUp` where no stamp is left; `StaleWord` where by the core's
-    ///     record the word of the key's stripe does not say who holds it; and `OutOfStep`, which
-    ///     breaks the token.
+    ///   - Then `NoMemory` where memory is refused: for one right more, before any word is tried,
+    ///     or for the operation; `StampsUsedUp` where no stamp is left; `StaleWord` where by the
+    ///     core's record the word of the key's stripe does not say who holds it; and `OutOfStep`,
+    ///     which breaks the token.
     /// - `Busy` where the word of the key's stripe names another caller: the transaction is
     ///   aborted, with all its changes taken back and all its rights given back, and the side value
     ///   has the words that it had when the transaction began.
@@ -188,10 +188,10 @@ impl<L: Ledger> SharedMap<L> {
     ///   - `OutOfStep` of a token that is broken.
     ///   - `NotOpen`, `Leaving`, `OperationUnfinished` and `BadKey` (a key of 2^63 or more, where
     ///     the limits have half keys), the first that holds.
-    ///   - Then `NoMemory` where memory is refused: for one right more, before any word is tried, or
-    ///     for the operation; `StampsUsedUp` where no stamp is left; `StaleWord` where by the core's
-    ///     record the word of the key's stripe does not say who holds it; and `OutOfStep`, which
-    ///     breaks the token.
+    ///   - Then `NoMemory` where memory is refused: for one right more, before any word is tried,
+    ///     or for the operation; `StampsUsedUp` where no stamp is left; `StaleWord` where by the
+    ///     core's record the word of the key's stripe does not say who holds it; and `OutOfStep`,
+    ///     which breaks the token.
     /// - `Busy` where the word of the key's stripe names another caller: the transaction is
     ///   aborted, with all its changes taken back and all its rights given back, and the side value
     ///   has the words that it had when the transaction began.
