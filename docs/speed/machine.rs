@@ -32,7 +32,7 @@ enum Helper {
     Holding(u32, usize),
 }
 
-struct Table {
+pub struct Table {
     list: NodeList,
     size: u32,
     dummies: Vec<Option<usize>>,
@@ -62,7 +62,7 @@ impl Job {
 }
 
 impl Table {
-    fn new(max: u32, helpers: u32) -> Table {
+    pub fn new(max: u32, helpers: u32) -> Table {
         let list = NodeList::new(0);
         let mut dummies = vec![None; max as usize];
         dummies[0] = Some(list.head);
@@ -72,6 +72,19 @@ impl Table {
             dummies,
             helpers: vec![Helper::Idle; helpers as usize],
         }
+    }
+
+    /// Does an operation with no other step between, and gives back what its undoing would take.
+    pub fn apply(&mut self, op: Op) -> Result<Reply, Refusal> {
+        let plan = self.prepare(op)?;
+        let cursor = self.place(plan.key());
+        let Ok((reply, job)) = self.act(plan, cursor) else {
+            unreachable!()
+        };
+        if let Some(job) = job {
+            self.discard(job);
+        }
+        Ok(reply)
     }
 
     fn prepare(&mut self, op: Op) -> Result<Plan, Refusal> {
@@ -193,7 +206,7 @@ impl Table {
             .ok_or(Refusal::NoSuchHelper)
     }
 
-    fn init_seek(&mut self, helper: u64, bucket: u64) -> Result<Answer, Refusal> {
+    pub fn init_seek(&mut self, helper: u64, bucket: u64) -> Result<Answer, Refusal> {
         self.helper(helper)?;
         if bucket >= u64::from(self.size) {
             return Err(Refusal::NoSuchBucket);
@@ -209,7 +222,7 @@ impl Table {
         Ok(Answer::Placed)
     }
 
-    fn init_link(&mut self, helper: u64) -> Result<Answer, Refusal> {
+    pub fn init_link(&mut self, helper: u64) -> Result<Answer, Refusal> {
         let Helper::Seeking(bucket, cursor) = *self.helper(helper)? else {
             return Err(Refusal::HelperOutOfOrder);
         };
@@ -227,7 +240,7 @@ impl Table {
         Ok(answer)
     }
 
-    fn init_store(&mut self, helper: u64) -> Result<Answer, Refusal> {
+    pub fn init_store(&mut self, helper: u64) -> Result<Answer, Refusal> {
         let Helper::Holding(bucket, place) = *self.helper(helper)? else {
             return Err(Refusal::HelperOutOfOrder);
         };
@@ -236,7 +249,11 @@ impl Table {
         Ok(Answer::Stored)
     }
 
-    fn double(&mut self, seen: u64) -> Answer {
+    pub fn size(&self) -> u32 {
+        self.size
+    }
+
+    pub fn double(&mut self, seen: u64) -> Answer {
         if u64::from(self.size) != seen {
             Answer::Moved(u64::from(self.size))
         } else if self.size as usize == self.dummies.len() {

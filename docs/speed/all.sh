@@ -1,0 +1,34 @@
+#!/usr/bin/env bash
+# Makes each figure of ../SPEED.md anew: runs the other scripts of this folder one after the other, each with the rounds that the
+# page names, and prints what they print, with a line before each. That takes some two hours once all is proved; nothing else
+# should run meanwhile. With words, it runs the scripts that they name: docs/speed/all.sh whole run
+# Usage: docs/speed/all.sh [SCRIPT..]
+set -euo pipefail
+cd "$(dirname "${BASH_SOURCE[0]}")/../.."
+
+while read -r script words; do
+  if [ $# -gt 0 ] && [[ " $* " != *" $script "* ]]; then
+    continue
+  fi
+  echo "== $script $words"
+  # The words are several.
+  # shellcheck disable=SC2086
+  "docs/speed/$script.sh" $words </dev/null
+done <<'END'
+compare 10000 31
+compare 100000 15
+compare 1000000 5
+growth 3
+core 15
+instructions
+transactions 9
+same
+whole 5
+counts
+run 9
+words 3000000 9
+replay 15
+mix 7
+check 5
+hostile
+END
