@@ -54,9 +54,10 @@ impl AnyMap for Table {
 impl AnyMap for BTreeMap<u64, u64> {
     fn run(&mut self, op: Op) -> Result<Reply, Refusal> {
         Ok(match op {
-            Op::Put(key, value) | Op::PutIf(key, _, value) => self.insert(key, value),
+            Op::Put(key, value) => self.insert(key, value),
             Op::Take(key) => self.remove(&key),
             Op::Get(key) => self.get(&key).copied(),
+            Op::PutIf(..) => unreachable!("no operation here is one"),
         })
     }
 }
@@ -64,9 +65,10 @@ impl AnyMap for BTreeMap<u64, u64> {
 impl AnyMap for HashMap<u64, u64> {
     fn run(&mut self, op: Op) -> Result<Reply, Refusal> {
         Ok(match op {
-            Op::Put(key, value) | Op::PutIf(key, _, value) => self.insert(key, value),
+            Op::Put(key, value) => self.insert(key, value),
             Op::Take(key) => self.remove(&key),
             Op::Get(key) => self.get(&key).copied(),
+            Op::PutIf(..) => unreachable!("no operation here is one"),
         })
     }
 }
