@@ -2,10 +2,13 @@
 # Runs the core of the benchmark and its twin in plain Rust in turn, on the same step files, and prints the median time of
 # the steps in milliseconds, the proved program's in nanoseconds a step, and its ratio to the twin, and to the twin with
 # entries that lie in memory as the proved program's do: of the first run of the steps, for which memory has to be taken from
-# the system, and then of a second one. ../SPEED.md says what the files of core_files.txt are.
+# the system, and then of a second one, for which the C library has kept it. ../SPEED.md says what the files of core_files.txt
+# are.
 # Usage: docs/speed/core.sh [ROUNDS]
 source "$(dirname "${BASH_SOURCE[0]}")/common.sh"
 rounds=${1:-9}
+# The C library gives no memory back to the system, and takes none apart for what is large.
+export MALLOC_MMAP_MAX_=0 MALLOC_TRIM_THRESHOLD_=4294967296
 build_proved bench core 1000
 build_twin core_twin
 

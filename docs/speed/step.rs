@@ -14,6 +14,7 @@ pub struct Limits {
     pub half_keys: bool,
 }
 
+#[cfg_attr(alike, repr(C))]
 #[derive(Clone, Copy)]
 pub enum Op {
     Put(u64, u64),
@@ -25,9 +26,11 @@ pub enum Op {
 
 pub type Reply = Option<u64>;
 
-// As rustc lays them out.
-const _: () = assert!(size_of::<Op>() == 32 && size_of::<Step>() == 40);
+// As rustc lays them out, and as the proved program has them.
+const _: () = assert!(size_of::<Op>() == if cfg!(alike) { 40 } else { 32 });
+const _: () = assert!(size_of::<Step>() == if cfg!(alike) { 56 } else { 40 });
 
+#[cfg_attr(alike, repr(C))]
 #[derive(Clone, Copy)]
 pub enum Step {
     Begin(u64),
