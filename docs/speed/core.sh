@@ -7,12 +7,12 @@
 # Usage: docs/speed/core.sh [ROUNDS]
 source "$(dirname "${BASH_SOURCE[0]}")/common.sh"
 rounds=${1:-9}
-# The C library gives no memory back to the system, and takes none apart for what is large.
-export MALLOC_MMAP_MAX_=0 MALLOC_TRIM_THRESHOLD_=4294967296
 build_proved bench core 1000
 build_twin core_twin
 
 write_step_files <docs/speed/core_files.txt
+# The C library gives no memory back to the system, and takes none apart for what is large.
+export MALLOC_MMAP_MAX_=0 MALLOC_TRIM_THRESHOLD_=4294967296
 
 run_core() {
   if [ "$1" = proved ]; then

@@ -7,8 +7,6 @@
 # Usage: docs/speed/transactions.sh [ROUNDS]
 source "$(dirname "${BASH_SOURCE[0]}")/common.sh"
 rounds=${1:-9}
-# As in core.sh the C library keeps the memory of the first run.
-export MALLOC_MMAP_MAX_=0 MALLOC_TRIM_THRESHOLD_=4294967296
 build_proved bench core 1000
 build_twin core_twin
 programs=(proved plain)
@@ -16,6 +14,8 @@ if [ -n "${BEFORE:-}" ]; then
   cp "$BEFORE" "$work/before"
   programs+=(before)
 fi
+# As in core.sh the C library keeps the memory of the first run.
+export MALLOC_MMAP_MAX_=0 MALLOC_TRIM_THRESHOLD_=4294967296
 
 # Writes a step file of transactions of so many puts each.
 write_transactions() {
