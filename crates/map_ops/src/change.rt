@@ -74,6 +74,7 @@ pub(crate) fn plan(list: &mut NodeList, op: Op) -> Result<Plan, Refusal>
 }
 
 /// Seeks a key.
+#[inline(always)]
 pub(crate) fn seek_key(list: &mut NodeList, buckets: &Buckets, key: Key) -> Cursor
     requires home { IsHome buckets.now list.old }
     requires sound { IsSound list.old }
@@ -203,6 +204,7 @@ fn is_expected(was: Reply, expected: Reply) -> bool
 }
 
 /// Puts a value, and answers what the key had with what takes the change back.
+#[inline(always)]
 fn put_key(
     list: &mut NodeList,
     pred: NodeRef,

@@ -104,6 +104,7 @@ impl Table {
     ///
     /// Time in proportion to the nodes from that dummy to the key's place, and to the ancestors up
     /// to there; takes no memory.
+    #[inline(always)]
     pub fn place(&mut self, pending: &Pending) -> Cursor
         ensures places { Places self.old self.new (key_of pending.now.op) result }
         ensures near { SeeksNear self.old self.new (key_of pending.now.op) }

@@ -95,6 +95,7 @@ impl NodeList {
     /// # Cost
     ///
     /// Amortized constant time; takes memory only where the slab has to grow.
+    #[inline(always)]
     pub fn spare(&mut self) -> Result<Spare, SpareFault>
         ensures worn { (result ≡ Err SpareFault.Worn) ↔ (self.old.last ≡ 2 ^ 64 - 2) }
         ensures stamp { IfOk result (λ spare. spare.stamp ≡ self.old.last + 1) }
