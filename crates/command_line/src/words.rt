@@ -55,22 +55,24 @@ fn command_on_file<'a>(alloc: Global, name: &'a str) -> Result<Command<'a>, Allo
     Command::new(alloc, name).arg(file)
 }
 
-/// The command line of the program.
-fn command<'a>(alloc: Global) -> Result<Command<'a>, AllocError> {
-    let replay = command_on_file(alloc, "replay")?;
-    let run = command_on_file(alloc, "run")?;
+/// The command `mix`, which has a seed as well.
+fn mix_command<'a>(alloc: Global) -> Result<Command<'a>, AllocError> {
     let seed = Arg::new(alloc, "seed")
         .long("seed")
         .required(true)
         .action(ArgAction::Set);
-    let mix = command_on_file(alloc, "mix")?.arg(seed)?;
-    let check = command_on_file(alloc, "check")?;
+    command_on_file(alloc, "mix")?.arg(seed)
+}
+
+/// The command line of the program. Each command is added as soon as it is made, so that little has
+/// to be given back where memory is refused.
+fn command<'a>(alloc: Global) -> Result<Command<'a>, AllocError> {
     Command::new(alloc, "boostmap")
         .subcommand_required(true)
-        .subcommand(replay)?
-        .subcommand(run)?
-        .subcommand(mix)?
-        .subcommand(check)
+        .subcommand(command_on_file(alloc, "replay")?)?
+        .subcommand(command_on_file(alloc, "run")?)?
+        .subcommand(mix_command(alloc)?)?
+        .subcommand(command_on_file(alloc, "check")?)
 }
 
 /// The seed that a word spells: one or more decimal digits, of a number below 2^64.
