@@ -190,7 +190,7 @@ const SWEEPS_AND_CURSORS: [(Call, Answer); 20] = [
     (Call::Run(Step::InitLink(0)), Answer::Linked),
 ];
 
-/// Puts of keys of 64 bits, by calls, and committed: a put that expects another value is none.
+/// `keys_of_64_bits`, by calls, and committed: a put that expects another value is none.
 const WIDE_KEYS: [(Call, Answer); 9] = [
     (Call::Step(Step::Begin(0)), Answer::Began(1)),
     (
@@ -656,7 +656,8 @@ static SECOND_SEGMENT: [(Step, Answer); 12] = [
     (Step::InitSeek(0, 64), Answer::Ready),
 ];
 
-/// Fills the table and stores the bucket; or the caller aborts where a step is refused memory twice.
+/// Fills the table and stores the bucket; or the caller aborts where a step is refused memory
+/// twice.
 fn fill_segments(rt: &impl Abort, alloc: Global, core: &mut Core) -> Result<(), Fail> {
     let is_done = put_many(rt, alloc, core)? && try_steps_twice(rt, alloc, core, &SECOND_SEGMENT)?;
     if !is_done {

@@ -169,8 +169,8 @@ const ONE_STEP: [Row; 10] = [
     ),
 ];
 
-/// A put that takes its last two steps in one turn after 8 that did not fit.
-const PUT: &[Turns] = &[
+/// `drive_of_a_put`: a put that takes its last two steps in one turn after 8 that did not fit.
+const DRIVE_OF_A_PUT: &[Turns] = &[
     Turns::One(Step::Ask(0, Op::Put(2, 20)), Answer::Asked),
     Turns::Again(8, Step::Seek(0), Step::Act(0)),
     Turns::Both(1, 4, Step::Seek(0), Step::Act(0), Answer::Done(None)),
@@ -235,7 +235,7 @@ const SEVERAL_STEPS: [Row; 7] = [
         0,
         Call::Op(Op::Put(2, 20)),
         false,
-        PUT,
+        DRIVE_OF_A_PUT,
         End::Answered(Answer::Done(None)),
     ),
     (

@@ -248,6 +248,7 @@ type Row = (&'static [Entry], Option<(usize, Entry)>, u64, Verdict);
 
 /// What is said where a Busy names a holder of now.
 static BY_HOLDERS_OF_NOW: [Row; 19] = [
+    // `checker_replies`.
     (
         &REPLIES,
         None,
@@ -275,24 +276,7 @@ static BY_HOLDERS_OF_NOW: [Row; 19] = [
             rule: Rule::Shape,
         },
     ),
-    (
-        &ONE_STRIPE,
-        None,
-        8,
-        Verdict::Illegal {
-            entry: 3,
-            rule: Rule::Locks,
-        },
-    ),
-    (
-        &ONE_STRIPE,
-        None,
-        16,
-        Verdict::Legal {
-            commits: 0,
-            running: 2,
-        },
-    ),
+    // `checker_locks`.
     (
         &ON_A_CHANGE,
         None,
@@ -311,6 +295,7 @@ static BY_HOLDERS_OF_NOW: [Row; 19] = [
             rule: Rule::Locks,
         },
     ),
+    // `holder_has_begun`, where the holder is to be one of now.
     (
         &HOLDER_HAS_BEGUN,
         None,
@@ -320,6 +305,7 @@ static BY_HOLDERS_OF_NOW: [Row; 19] = [
             rule: Rule::Locks,
         },
     ),
+    // `forged_histories`.
     (
         &[],
         None,
@@ -366,6 +352,25 @@ static BY_HOLDERS_OF_NOW: [Row; 19] = [
         },
     ),
     (
+        &ONE_STRIPE,
+        None,
+        8,
+        Verdict::Illegal {
+            entry: 3,
+            rule: Rule::Locks,
+        },
+    ),
+    (
+        &ONE_STRIPE,
+        None,
+        16,
+        Verdict::Legal {
+            commits: 0,
+            running: 2,
+        },
+    ),
+    // `put_if_history`; and one with a reply that the map does not give.
+    (
         &PUT_IF,
         None,
         8,
@@ -392,6 +397,7 @@ static BY_HOLDERS_OF_NOW: [Row; 19] = [
             rule: Rule::Shape,
         },
     ),
+    // Others: of keys that share a split key, and of savepoints.
     (
         &ONE_SPLIT_KEY,
         None,
@@ -423,6 +429,7 @@ static BY_HOLDERS_OF_NOW: [Row; 19] = [
 
 /// What is said where a Busy names a caller that has begun.
 static BY_HOLDERS_THAT_HAVE_BEGUN: [Row; 5] = [
+    // `holder_has_begun`; and holders that are the caller itself, or no caller.
     (
         &HOLDER_HAS_BEGUN,
         None,

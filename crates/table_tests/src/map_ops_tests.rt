@@ -65,10 +65,20 @@ enum Step {
     /// Prepares and places a put, puts value 40 at key 4, reads the key, and then does the put;
     /// keeps both jobs, that of key 4 as the newer one.
     PutLate(u64, u64),
+    /// Looks at the newest of the jobs that are kept.
+    Newest,
     /// Looks at the pair of a rank.
     Pair(usize),
     /// Reads the size, the count and the change number.
     Read,
+}
+
+/// What a job does: the key that it is of, and the value that the key gets back.
+#[derive(Clone, Copy, PartialEq, Eq)]
+enum Inverse {
+    Unput(u64),
+    Restore(u64, u64),
+    Relink(u64, u64),
 }
 
 /// What a step answers.
@@ -79,6 +89,9 @@ enum Answer {
     Withdrawn(Op, u64),
     /// Whether the cursor no longer fitted; the replies to the put of key 4, the read and the put.
     Late(bool, Reply, Reply, Reply),
+    /// The reply to a take, and what its job does.
+    Taken(Reply, Inverse),
+    Job(Inverse),
     Swept(SweepOutcome),
     Double(Double),
     Seek(Result<InitSeek, Refusal>),
@@ -233,8 +246,24 @@ fn take_newest_back(table: &mut Table, jobs: &mut Vec<MapJob>) -> Result<(), Fai
     }
 }
 
+/// What a job does.
+fn inverse_of(job: &MapJob) -> Inverse {
+    let key = job.key().number();
+    match job {
+        MapJob::Unput(_) => Inverse::Unput(key),
+        MapJob::Restore(_, old) => Inverse::Restore(key, *old),
+        MapJob::Relink(_, old, _) => Inverse::Relink(key, *old),
+    }
+}
+
+/// What the newest of these jobs does.
+fn newest_of(jobs: &[MapJob]) -> Result<Answer, Fail> {
+    let job = jobs.last().ok_or("no job")?;
+    Ok(Answer::Job(inverse_of(job)))
+}
+
 /// Takes the one key that is there, and takes that back.
-fn take_there_and_back(alloc: Global, table: &mut Table, key: u64) -> Result<Reply, Fail> {
+fn take_there_and_back(alloc: Global, table: &mut Table, key: u64) -> Result<Answer, Fail> {
     let (reply, job) = apply(table, Op::Take(key))?;
     if !has_pairs(alloc, table, &[])? {
         return Err("a key is left".into());
@@ -242,11 +271,9 @@ fn take_there_and_back(alloc: Global, table: &mut Table, key: u64) -> Result<Rep
     let Some(job) = job else {
         return Err("no job".into());
     };
-    if !matches!(job, MapJob::Relink(_, _, _)) {
-        return Err("another job".into());
-    }
+    let inverse = inverse_of(&job);
     table.take_back(job);
-    Ok(reply)
+    Ok(Answer::Taken(reply, inverse))
 }
 
 /// Puts a value at a key at once.
@@ -351,8 +378,9 @@ fn take_step(
             take_newest_back(table, jobs)?;
             Answer::Done
         }
-        Step::TakeThereAndBack(key) => Answer::Reply(take_there_and_back(alloc, table, key)?),
+        Step::TakeThereAndBack(key) => take_there_and_back(alloc, table, key)?,
         Step::PutLate(key, value) => put_late(table, jobs, key, value)?,
+        Step::Newest => newest_of(jobs)?,
         Step::Pair(rank) => pair_of_rank(alloc, table, rank)?,
         other => take_bucket_step(table, other)?,
     })
@@ -365,7 +393,7 @@ fn shows(rt: &impl Abort, alloc: Global, table: &Table, wanted: &[(u64, u64)]) -
 }
 
 /// Runs of steps, with what each answers. Each run begins with a new table.
-const STEPS: [(Step, Answer); 139] = [
+const STEPS: [(Step, Answer); 118] = [
     // Each operation there and back.
     (Step::Begin, Answer::Done),
     (Step::Do(Op::Put(1, 10)), Answer::Reply(None)),
@@ -504,29 +532,6 @@ const STEPS: [(Step, Answer); 139] = [
     (Step::Begin, Answer::Done),
     (Step::ReturnAt(Op::Put(2, 20)), Answer::Reply(None)),
     (Step::Pair(0), Answer::End),
-    // Jobs are run after later operations.
-    (Step::Begin, Answer::Done),
-    (Step::Put(2, 20), Answer::Reply(None)),
-    (Step::Put(2, 21), Answer::Reply(Some(20))),
-    (Step::TakeThereAndBack(2), Answer::Reply(Some(21))),
-    (Step::Pair(0), Answer::Pair(2, 21)),
-    (Step::Pair(1), Answer::End),
-    (Step::TakeBack, Answer::Done),
-    (Step::Pair(0), Answer::Pair(2, 20)),
-    (Step::Pair(1), Answer::End),
-    (Step::TakeBack, Answer::Done),
-    (Step::Pair(0), Answer::End),
-    // The cursor of key 2 stands where key 4 is put.
-    (Step::Begin, Answer::Done),
-    (Step::PutLate(2, 20), Answer::Late(true, None, None, None)),
-    (Step::Pair(0), Answer::Pair(4, 40)),
-    (Step::Pair(1), Answer::Pair(2, 20)),
-    (Step::Pair(2), Answer::End),
-    (Step::TakeBack, Answer::Done),
-    (Step::Pair(0), Answer::Pair(2, 20)),
-    (Step::Pair(1), Answer::End),
-    (Step::TakeBack, Answer::Done),
-    (Step::Pair(0), Answer::End),
     // The cursor of key 3 stands behind key 1, which stands behind key 4: it lasts.
     (Step::Begin, Answer::Done),
     (Step::Do(Op::Put(1, 10)), Answer::Reply(None)),
@@ -537,15 +542,64 @@ const STEPS: [(Step, Answer); 139] = [
     (Step::Pair(3), Answer::End),
 ];
 
-#[test]
-fn worked_runs(rt: HostRuntime) -> Result<(), Fail> {
-    let mut table = new_table(rt.alloc())?;
-    let mut jobs = Vec::new(rt.alloc());
-    for (row, (step, answer)) in STEPS.iter().enumerate() {
-        let found = take_step(rt.alloc(), &mut table, &mut jobs, *step)?;
+/// Three changes of one key. Their jobs are run after later operations, the newest first.
+const APPLY_THEN_TAKE_BACK: [(Step, Answer); 12] = [
+    (Step::Put(2, 20), Answer::Reply(None)),
+    (Step::Newest, Answer::Job(Inverse::Unput(2))),
+    (Step::Put(2, 21), Answer::Reply(Some(20))),
+    (Step::Newest, Answer::Job(Inverse::Restore(2, 20))),
+    (
+        Step::TakeThereAndBack(2),
+        Answer::Taken(Some(21), Inverse::Relink(2, 21)),
+    ),
+    (Step::Pair(0), Answer::Pair(2, 21)),
+    (Step::Pair(1), Answer::End),
+    (Step::TakeBack, Answer::Done),
+    (Step::Pair(0), Answer::Pair(2, 20)),
+    (Step::Pair(1), Answer::End),
+    (Step::TakeBack, Answer::Done),
+    (Step::Pair(0), Answer::End),
+];
+
+/// The cursor of key 2 stands where key 4 is put.
+const STALE_PENDING: [(Step, Answer); 11] = [
+    (Step::PutLate(2, 20), Answer::Late(true, None, None, None)),
+    (Step::Pair(0), Answer::Pair(4, 40)),
+    (Step::Pair(1), Answer::Pair(2, 20)),
+    (Step::Pair(2), Answer::End),
+    (Step::Newest, Answer::Job(Inverse::Unput(4))),
+    (Step::TakeBack, Answer::Done),
+    (Step::Pair(0), Answer::Pair(2, 20)),
+    (Step::Pair(1), Answer::End),
+    (Step::Newest, Answer::Job(Inverse::Unput(2))),
+    (Step::TakeBack, Answer::Done),
+    (Step::Pair(0), Answer::End),
+];
+
+/// Takes steps on a new table, and compares what each answers.
+fn take_steps(rt: &impl Abort, alloc: Global, steps: &[(Step, Answer)]) -> Result<(), Fail> {
+    let mut table = new_table(alloc)?;
+    let mut jobs = Vec::new(alloc);
+    for (row, (step, answer)) in steps.iter().enumerate() {
+        let found = take_step(alloc, &mut table, &mut jobs, *step)?;
         assert!(rt; found == *answer, "row {row}: {step:?}");
     }
     Ok(())
+}
+
+#[test]
+fn worked_runs(rt: HostRuntime) -> Result<(), Fail> {
+    take_steps(&rt, rt.alloc(), &STEPS)
+}
+
+#[test]
+fn apply_then_take_back(rt: HostRuntime) -> Result<(), Fail> {
+    take_steps(&rt, rt.alloc(), &APPLY_THEN_TAKE_BACK)
+}
+
+#[test]
+fn stale_pending(rt: HostRuntime) -> Result<(), Fail> {
+    take_steps(&rt, rt.alloc(), &STALE_PENDING)
 }
 
 const HALF: u64 = 1 << 63;

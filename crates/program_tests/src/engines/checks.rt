@@ -37,6 +37,7 @@ const IN_VERSION: &str = r#"{"version":@,"stripes":8,"entries":[#]}"#;
 
 /// History files, and what is printed of them.
 pub const FILES: &[Files] = &[
+    // `checker_replies`; and a wrong shape behind it.
     Files {
         command: Command::Check,
         frame: CHECKED_OF,
@@ -94,7 +95,7 @@ pub const FILES: &[Files] = &[
         printed: "refused 22\n",
         status: 3,
     },
-    // Locks.
+    // `checker_locks`.
     Files {
         command: Command::Check,
         frame: OF_EIGHT,
@@ -112,7 +113,7 @@ pub const FILES: &[Files] = &[
         printed: "illegal entry 1 rule 2\n",
         status: 1,
     },
-    // Forged histories.
+    // `forged_histories`.
     Files {
         command: Command::Check,
         frame: OF_EIGHT,
@@ -177,7 +178,7 @@ pub const FILES: &[Files] = &[
         printed: "refused 22\n",
         status: 3,
     },
-    // A change of `put_if` is taken back once, and one that changed nothing never.
+    // `put_if_history`: a change of `put_if` is taken back once, what changed nothing never.
     Files {
         command: Command::Check,
         frame: OF_VERSION_2,
@@ -223,7 +224,8 @@ pub const FILES: &[Files] = &[
         printed: "refused 22\n",
         status: 3,
     },
-    // A Busy that names a caller which holds nothing now: the version says whether it may.
+    // `holder_has_begun`: a Busy that names a caller which holds nothing now. The version says
+    // whether it may.
     Files {
         command: Command::Check,
         frame: IN_VERSION,
@@ -250,7 +252,7 @@ pub const FILES: &[Files] = &[
         printed: "illegal entry 1 rule 2\n",
         status: 1,
     },
-    // Histories that are mixed.
+    // The history of `mix_one_worker`, and another that is mixed.
     Files {
         command: Command::Check,
         frame: ONE_HISTORY,

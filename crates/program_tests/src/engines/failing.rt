@@ -25,7 +25,8 @@ const OF_EACH_COMMAND: &[Printed] = &[
     (Command::Run, EMPTY_SCRIPT, SHORT_RUN),
 ];
 
-/// Each byte is read and written once, and the end is read once.
+/// This test and the next two are `failing_devices`. Each byte is read and written once, and the
+/// end is read once.
 #[test]
 fn one_byte_at_a_time(rt: HostRuntime) {
     for (command, text, printed) in OF_EACH_COMMAND {

@@ -128,9 +128,9 @@ pub fn judge<T: Abort + Threads + Wait + Sync>(rt: &T, alloc: Global, history: &
     assert!(rt; line.ends_with(" commits 0 open\n"), "{line}");
 }
 
-/// One worker does the same whatever the seed.
+/// One worker does the same whatever the seed. The checker's files have its history.
 #[test]
-fn one_worker(rt: HostRuntime) {
+fn mix_one_worker(rt: HostRuntime) {
     for seed in [0, 1, 7, 199, u64::MAX] {
         compare_file(
             &rt,
@@ -145,7 +145,7 @@ fn one_worker(rt: HostRuntime) {
 /// The history of any seed is legal with nothing open, and the same when it is made again. Not all
 /// seeds give the same history, and none an empty one.
 #[test]
-fn any_seed(rt: HostRuntime) {
+fn mix_any_seed(rt: HostRuntime) {
     let first = mix_three(&rt, rt.alloc(), 0);
     let mut differs = false;
     for seed in 0..200 {

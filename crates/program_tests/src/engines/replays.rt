@@ -1,22 +1,27 @@
 //! What `replay` prints of step files.
 
-use super::{Command, Files, compare_file, run_on};
-use crate::devices::Narrow;
+use super::{Command, Files, run_on};
+use crate::devices::{Narrow, compare_ended};
 use std::alloc::Global;
 use std::test::Fail;
 
 /// A file of some callers and no steps.
-const EMPTY: &str = r#"{"version":1,"callers":@,"stripes":8,"buckets":8,"steps":[]}"#;
+const EMPTY_FILE: &str = r#"{"version":1,"callers":@,"stripes":8,"buckets":8,"steps":[]}"#;
 
 /// One transaction that commits.
 pub const FIRST_COMMIT: &str =
-    "{\"version\":1,\"callers\":1,\"stripes\":8,\"buckets\":8,\"steps\":[[\"begin\",0],[\"ask\",0,\
+    "{\"version\":1,\"callers\":2,\"stripes\":8,\"buckets\":8,\"steps\":[[\"begin\",0],[\"ask\",0,\
     \"put\",1,10],[\"seek\",0],[\"act\",0],[\"commit\",0]]}";
 
 /// The same in a file of some callers, with a gap for a step before the last.
 const FIRST_COMMIT_OF: &str =
     "{\"version\":1,\"callers\":@,\"stripes\":8,\"buckets\":8,\"steps\":[[\"begin\",0],[\"ask\",0,\
     \"put\",1,10],[\"seek\",0],[\"act\",0],#[\"commit\",0]]}";
+
+/// The same with gaps for the members before the others, and for a step behind the first.
+const MEMBERS_OF: &str =
+    "{#,\"stripes\":8,\"buckets\":8,\"steps\":[[\"begin\",0],@[\"ask\",0,\"put\",1,10],\
+    [\"seek\",0],[\"act\",0],[\"commit\",0]]}";
 
 pub const FIRST_REPORT: &str =
     "began 1\nasked\nplaced\ndone none\ncommitted 1\nsize 2 count 1\n1 10\n";
@@ -28,9 +33,10 @@ const PUT_IF: &str =
 
 /// Step files, and what is printed of them.
 pub const FILES: &[Files] = &[
+    // `empty_file`; and too many callers.
     Files {
         command: Command::Replay,
-        frame: EMPTY,
+        frame: EMPTY_FILE,
         pieces: "",
         fillings: "1 2",
         printed: "size 2 count 0\n",
@@ -38,12 +44,13 @@ pub const FILES: &[Files] = &[
     },
     Files {
         command: Command::Replay,
-        frame: EMPTY,
+        frame: EMPTY_FILE,
         pieces: "",
         fillings: "65",
         printed: "refused 22\n",
         status: 3,
     },
+    // `first_commit`.
     Files {
         command: Command::Replay,
         frame: FIRST_COMMIT_OF,
@@ -51,6 +58,17 @@ pub const FILES: &[Files] = &[
         fillings: "1 2",
         printed: FIRST_REPORT,
         status: 0,
+    },
+    // `bad_input`: a file that ends too early, a step whose number is a text, and too many callers;
+    // and others like these.
+    Files {
+        command: Command::Replay,
+        frame: "#",
+        pieces: r#"{"version":1,"callers":1,"stripes":8,"buckets":8,"steps":[["begin",0],
+{"version":1,"callers":2,"stripes":8,"buckets":8,"steps":[["begin",0],"#,
+        fillings: "",
+        printed: "refused 20\n",
+        status: 3,
     },
     Files {
         command: Command::Replay,
@@ -76,15 +94,41 @@ pub const FILES: &[Files] = &[
         printed: "refused 21\n",
         status: 3,
     },
-    // A file that ends too early.
+    // `wrong_shapes`: numbers that are none, a missing member, another version, a wrong step before
+    // too many callers, and a member that no step file has.
     Files {
         command: Command::Replay,
-        frame: "#",
-        pieces: r#"{"version":1,"callers":1,"stripes":8,"buckets":8,"steps":[["begin",0],
-{"version":1,"callers":2,"stripes":8,"buckets":8,"steps":[["begin",0],"#,
+        frame: MEMBERS_OF,
+        pieces: r#""version":1,"callers":-1
+"version":1,"callers":2.0
+"callers":2"#,
         fillings: "",
-        printed: "refused 20\n",
+        printed: "refused 21\n",
         status: 3,
+    },
+    Files {
+        command: Command::Replay,
+        frame: MEMBERS_OF,
+        pieces: r#""version":7,"callers":2"#,
+        fillings: "",
+        printed: "refused 22\n",
+        status: 3,
+    },
+    Files {
+        command: Command::Replay,
+        frame: MEMBERS_OF,
+        pieces: r#""version":1,"callers":65"#,
+        fillings: r#"["sweep",0],"#,
+        printed: "refused 21 step 1\n",
+        status: 3,
+    },
+    Files {
+        command: Command::Replay,
+        frame: MEMBERS_OF,
+        pieces: r#""version":1,"callers":2,"note":null"#,
+        fillings: "",
+        printed: FIRST_REPORT,
+        status: 0,
     },
     // A step that only version 2 has; and a bad step before it, which is the first fault.
     Files {
@@ -309,10 +353,11 @@ const COMMIT: &str = r#"["commit",0] = committed 1"#;
 
 const FIVE_KEYS_REPORT: &str = "size 4 count 5\n4 40\n2 20\n1 10\n5 50\n3 30\n";
 
-/// A step file, and its report. In each line of its parts stand steps, and behind ` = ` the answers
-/// to them.
+/// A step file by a name, and its report. In each line of its parts stand steps, and behind ` = `
+/// the answers to them.
 #[derive(Clone, Copy)]
 struct Run {
+    name: &'static str,
     version: u64,
     callers: u64,
     buckets: u64,
@@ -323,6 +368,7 @@ struct Run {
 
 const RUNS: &[Run] = &[
     Run {
+        name: "keys_of_64_bits",
         version: 2,
         callers: 1,
         buckets: 8,
@@ -330,6 +376,7 @@ const RUNS: &[Run] = &[
         rest: "size 2 count 4\n2 20\n1 12\n9223372036854775809 11\n18446744073709551615 7\n",
     },
     Run {
+        name: "keys_of_64_bits",
         version: 2,
         callers: 1,
         buckets: 8,
@@ -337,6 +384,7 @@ const RUNS: &[Run] = &[
         rest: "size 2 count 0\n",
     },
     Run {
+        name: "doubling_after_five",
         version: 1,
         callers: 2,
         buckets: 8,
@@ -344,6 +392,7 @@ const RUNS: &[Run] = &[
         rest: FIVE_KEYS_REPORT,
     },
     Run {
+        name: "abort_takes_back",
         version: 1,
         callers: 2,
         buckets: 8,
@@ -351,6 +400,7 @@ const RUNS: &[Run] = &[
         rest: "size 2 count 0\n",
     },
     Run {
+        name: "busy_aborts",
         version: 1,
         callers: 2,
         buckets: 8,
@@ -358,6 +408,7 @@ const RUNS: &[Run] = &[
         rest: "size 2 count 1\n1 10\n",
     },
     Run {
+        name: "stale_cursor",
         version: 1,
         callers: 2,
         buckets: 8,
@@ -365,6 +416,7 @@ const RUNS: &[Run] = &[
         rest: "size 2 count 2\n4 40\n2 20\n",
     },
     Run {
+        name: "savepoints",
         version: 1,
         callers: 2,
         buckets: 8,
@@ -372,6 +424,7 @@ const RUNS: &[Run] = &[
         rest: "size 2 count 0\n",
     },
     Run {
+        name: "aborted_take_restores",
         version: 1,
         callers: 2,
         buckets: 8,
@@ -379,6 +432,7 @@ const RUNS: &[Run] = &[
         rest: "size 2 count 1\n3 30\n",
     },
     Run {
+        name: "half_keys",
         version: 1,
         callers: 2,
         buckets: 8,
@@ -386,6 +440,7 @@ const RUNS: &[Run] = &[
         rest: "size 2 count 2\n3 30\n9223372036854775807 7\n",
     },
     Run {
+        name: "maximum_size",
         version: 1,
         callers: 2,
         buckets: 2,
@@ -393,6 +448,7 @@ const RUNS: &[Run] = &[
         rest: "size 2 count 0\n",
     },
     Run {
+        name: "refusals_in_order",
         version: 1,
         callers: 2,
         buckets: 8,
@@ -400,6 +456,7 @@ const RUNS: &[Run] = &[
         rest: "size 2 count 0\n",
     },
     Run {
+        name: "bucket_initialisation",
         version: 1,
         callers: 2,
         buckets: 8,
@@ -407,6 +464,7 @@ const RUNS: &[Run] = &[
         rest: FIVE_KEYS_REPORT,
     },
     Run {
+        name: "five_callers_undone",
         version: 1,
         callers: 5,
         buckets: 8,
@@ -453,7 +511,9 @@ fn texts_of(alloc: Global, run: Run, parts: &[&str]) -> Result<(String, String),
 fn reports(rt: HostRuntime) -> Result<(), Fail> {
     for run in RUNS {
         let (text, report) = texts_of(rt.alloc(), *run, run.parts)?;
-        compare_file(&rt, rt.alloc(), Command::Replay, &text, (&report, 0));
+        let input = &mut text.as_bytes();
+        let ended = run_on(&rt, rt.alloc(), Command::Replay, input, Narrow::whole());
+        compare_ended(&rt, &ended, (&report, "", 0), run.name);
     }
     Ok(())
 }
@@ -489,8 +549,10 @@ const SEGMENTS: &str = r#"["double",2] = doubled 4
 ["commit",0] = committed 1
 ["sweep"] = clean"#;
 
-/// A file of one caller and at most 128 buckets, and what its report ends with up to the third pair.
+/// A file of one caller and at most 128 buckets, and what its report ends with up to the third
+/// pair.
 const OF_SEGMENTS: Run = Run {
+    name: "segments",
     version: 1,
     callers: 1,
     buckets: 128,

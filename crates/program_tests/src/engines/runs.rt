@@ -114,7 +114,7 @@ fn run_workers<T: Threads + Wait + Sync>(
 
 /// The same scripts by one worker to six: the history is legal with nothing open, and not empty.
 #[test]
-fn any_workers(rt: HostRuntime) -> Result<(), Fail> {
+fn run_any_workers(rt: HostRuntime) -> Result<(), Fail> {
     for workers in "1 2 3 4 5 6".split(' ') {
         let history = run_workers(&rt, rt.alloc(), workers)?;
         judge(&rt, rt.alloc(), history.text());

@@ -9,7 +9,7 @@ use txn_trace::{Op, Step};
 
 /// One transaction that puts one key.
 pub const FIRST_COMMIT: &str =
-    "{\"version\":1,\"callers\":1,\"stripes\":8,\"buckets\":8,\"steps\":[[\"begin\",0],[\"ask\",0,\
+    "{\"version\":1,\"callers\":2,\"stripes\":8,\"buckets\":8,\"steps\":[[\"begin\",0],[\"ask\",0,\
     \"put\",1,10],[\"seek\",0],[\"act\",0],[\"commit\",0]]}";
 
 /// Every step, with white space, numbers at both ends, members in another order, others beside
@@ -81,7 +81,7 @@ const READ: &[Read] = &[
     Read {
         frame: FIRST_COMMIT,
         pieces: &[""],
-        sizes: (1, 8, 8, true),
+        sizes: (2, 8, 8, true),
         steps: &[
             Step::Begin(0),
             Step::Ask(0, Op::Put(1, 10)),

@@ -39,8 +39,9 @@ pub(super) fn play_row<L: Ledger, R: Wait + Abort>(
     assert_eq!(rt; told, wanted, "caller {}: {call:?}", me.number());
 }
 
-/// Closes a map without caller 0, which is missing, and then with both.
-fn close_late<L: Ledger, R: Abort>(
+/// Closes a map without caller 0, which is missing: map and caller 1 come back. Then closes it with
+/// both.
+fn close_missing_caller<L: Ledger, R: Abort>(
     rt: &R,
     alloc: Global,
     shared: Shared<L>,
@@ -51,6 +52,7 @@ fn close_late<L: Ledger, R: Abort>(
     let Err(Some((shared, mut alone))) = close_or_miss(shared, alone) else {
         return Err("caller 0 is missing".into());
     };
+    assert_eq!(rt; alone.len(), 1);
     let second = alone.pop().ok_or("caller 1 comes back")?;
     assert_eq!(rt; second.number(), 1);
     callers.push(second)?;
@@ -87,14 +89,14 @@ impl Play for BusyBetween {
             (0, Call::Commit, Ok(Told::Committed(1, 2))),
         ];
         play_rows(rt, &shared, callers.as_mut_slice(), rest.as_slice());
-        let closed = close_late(rt, alloc, shared, callers)?;
-        are_busy_entries(rt, &closed);
+        let closed = close_missing_caller(rt, alloc, shared, callers)?;
+        counted_entries(rt, &closed);
         Ok(())
     }
 }
 
 /// The history has nine entries, of which caller 0 saw four and caller 1 five.
-fn are_busy_entries<L: Ledger, R: Abort>(rt: &R, closed: &Closed<L, NoSide>) {
+fn counted_entries<L: Ledger, R: Abort>(rt: &R, closed: &Closed<L, NoSide>) {
     let wanted = [
         Entry::Began(0, 1),
         Entry::Asked(0, Op::Put(1, 10)),
@@ -121,7 +123,8 @@ fn figures_of<L: Ledger>(callers: &[Caller<L, NoSide>], place: usize) -> Option<
 }
 
 /// Caller 1 finds caller 0's stripe held, begins anew and commits first. The map is then closed
-/// without caller 0, which is missing, and with both.
+/// without caller 0, which is missing, and with both: see `close_missing_caller` and
+/// `counted_entries`.
 #[test]
 fn busy_between_callers(rt: HostRuntime) -> Result<(), Fail> {
     play_with(&rt, rt.alloc(), 2, &BusyBetween)
