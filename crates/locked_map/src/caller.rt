@@ -1,7 +1,7 @@
-ghost use Rattle.std.specs.Prelude.{◌≡◌, ◌≢◌, ◌<◌, true, false, is_some, [], ◌∷◌, List, ◌+◌, IfSome, IfNone, IfErr, OnOk, OnErr};
+ghost use Rattle.std.specs.Prelude.{◌≡◌, ◌≢◌, ◌<◌, true, false, is_some, length, Some, [], ◌∷◌, List, ◌+◌, IfSome, IfNone, IfErr, OnOk, OnErr};
 ghost use Rattle.txn_trace.specs.declared.entry.Entry.{Entry};
 ghost use Rattle.txn_trace.specs.declared.refusal.Refusal.{Refusal};
-ghost use Rattle.txn_trace.specs.Shape.{seat_after};
+ghost use Rattle.txn_trace.specs.Shape.{Seat, seat_after};
 ghost use Rattle.txn_drive.specs.declared.«end».End.{End};
 ghost use Rattle.txn_drive.specs.Drives.{first_step};
 ghost use Rattle.locked_map.specs.Calls.{Failed, refused_by, refused_help, refused_side};
@@ -205,6 +205,13 @@ impl<L: Ledger, S: Side> Caller<L, S> {
         ensures { result ≡ last_txn self.now.seen }
     {
         self.seen.txn()
+    }
+
+    /// How many savepoints its transaction has.
+    pub(crate) fn levels(&self) -> u64
+        ensures { (s : Seat) → seat_after self.now.seen ≡ Some s → length s.kept ≡ result + 1 }
+    {
+        self.seen.levels()
     }
 
     /// Tries the word of the stripe of an operation's key, outside the lock, unless the token has

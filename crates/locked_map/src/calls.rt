@@ -6,15 +6,16 @@
 //! A call that the token refuses leaves the token as it was. Where the core answers what the token
 //! excludes, the call ends with `OutOfStep`: the token is broken, `seen` keeps what it had added,
 //! and `close` compares. Each call has the clauses
-//! - `ok`: what it has added, where it did what it was asked;
+//! - `ok`: what it has added, where it did what it was asked (`level` of `save`: its answer);
 //! - `side`: what it has then made of the side value;
 //! - `rights`: which rights to stripes it has then: an operation may take the right to the stripe
 //!   of its key, and the end of the transaction gives all back;
 //! - `leaves`: that the token let it pass, or why it was not done and what is left then; and that
 //!   after `OutOfStep` every call answers that and nothing changes any more (`Leaves` in
 //!   `specs/Calls.antt`).
-ghost use Rattle.std.specs.Prelude.{◌≡◌, ◌↔◌, ℕ, ◌+◌, [], ◌∷◌, ◌++◌, None, Some, true, false, Err, IfOk, IfErr, OnOk};
+ghost use Rattle.std.specs.Prelude.{◌≡◌, ◌↔◌, ℕ, ◌+◌, [], ◌∷◌, ◌++◌, length, None, Some, true, false, Err, IfOk, IfErr, OnOk};
 ghost use Rattle.txn_trace.specs.declared.entry.Entry.TheVariants as entries;
+ghost use Rattle.txn_trace.specs.Shape.{Seat, seat_after};
 ghost use Rattle.txn_trace.specs.Sizes.{is_bad_key};
 ghost use Rattle.txn_drive.specs.Made.{undone_by};
 ghost use Rattle.locked_map.specs.Calls.{Leaves, refused_side};
@@ -217,7 +218,8 @@ impl<L: Ledger> SharedMap<L> {
         self.operate(rt, me, Op::Get(key))
     }
 
-    /// Sets a savepoint, and answers its number. The side value as it is then is one level more.
+    /// Sets a savepoint, and answers its number, which is how many savepoints the transaction has
+    /// now. The side value as it is then is one level more.
     ///
     /// # Errors
     ///
@@ -231,12 +233,14 @@ impl<L: Ledger> SharedMap<L> {
     /// One hold of the lock, of amortized constant time; may take memory.
     pub fn save<S: Side, R: Wait>(&self, rt: &R, me: &mut Caller<L, S>) -> Result<u64, Stop>
         ensures ok { OnOk result (me.new.seen ≡ me.old.seen ++ entries.Saved me.old.number ∷ []) }
+        ensures level { IfOk result (λ level. (s : Seat) → seat_after me.new.seen ≡ Some s
+            → length s.kept ≡ level + 1) }
         ensures side { OnOk result (HasLevel S.words_of me.old.side me.new.side) }
         ensures rights { OnOk result (KeepsRights me.old.held me.new.held) }
         ensures leaves { Leaves S.words_of me.old Call.Save result me.new }
     {
         match self.call(rt, me, Call::Save)? {
-            End::Answered(Answer::Saved(level)) => Ok(level),
+            End::Answered(Answer::Saved(_)) => Ok(me.levels()),
             _ => Err(Stop::Refused(Refusal::OutOfStep)),
         }
     }

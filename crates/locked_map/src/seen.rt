@@ -79,6 +79,14 @@ impl<L: Ledger> Seen<L> {
         self.txn
     }
 
+    /// How many savepoints its transaction has.
+    pub(crate) fn levels(&self) -> u64
+        ensures { (s : Standing) → seat_after self.now.entries ≡ Some s
+            → length s.kept ≡ result + 1 }
+    {
+        self.seat.levels()
+    }
+
     /// The refusal of a step by the caller's seat alone, under these limits.
     pub(crate) fn refusal(&self, limits: Limits, step: Step) -> Option<Refusal>
         ensures { (s : Standing) → seat_after self.now.entries ≡ Some s
