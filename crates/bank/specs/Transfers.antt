@@ -6,7 +6,7 @@ use Rattle.txn_trace.specs.declared.entry.Entry.{Entry}
 use Rattle.txn_trace.specs.declared.seat.Phase.{Phase}
 use Rattle.txn_trace.specs.declared.seat.Phase.TheVariants.{Opened, LeavingToEnd}
 use Rattle.txn_trace.specs.Sizes.{Sizes}
-use Rattle.txn_trace.specs.Map.{Map, get}
+use Rattle.txn_trace.specs.Map.{Map, get, insert}
 use Rattle.txn_trace.specs.Now.{now, set_at}
 use Rattle.txn_trace.specs.Log.{log_of}
 use Rattle.txn_trace.specs.Shape.{Seat, seat_after, own}
@@ -51,3 +51,14 @@ IsOpen c base state = IsAt c base Opened state
 -- A caller has a transaction that can be aborted, or one that is being aborted.
 abbrev pub CanAbort : ℕ → Map → State → Type 0
 CanAbort c base state = IsAt c base Opened state ⊎ IsAt c base LeavingToEnd state
+
+-- A caller's transaction goes on: it has read what an account has.
+pub record HasRead (c : ℕ) (base : Map) (account has : ℕ) (old new : State) : Type 0 where
+  pub stands : IsOpen c base new
+  pub same : now new.history ≡ now old.history
+  pub right : has ≡ balance (now old.history) account
+
+-- A caller's transaction goes on: it has put a value at an account.
+pub record HasWritten (c : ℕ) (base : Map) (account value : ℕ) (old new : State) : Type 0 where
+  pub stands : IsOpen c base new
+  pub changed : now new.history ≡ insert (now old.history) account value

@@ -1,87 +1,44 @@
-use Rattle.std.proofs.Common.{◌≡◌, ap, ◌∙◌, arith}
-use Rattle.std.proofs.lemmas.Bool.{false≢true}
-use Rattle.std.specs.Prelude.{unwrap_or}
-use mathlib.Core.Logic.{inl}
-use Rattle.txn_trace.specs.declared.op.Op.TheVariants.{Put, Get}
-use Rattle.txn_trace.specs.Map.{get, insert}
+use Rattle.std.proofs.Common.{refl, ap, ◌∙◌, arith}
+use Rattle.txn_trace.specs.Map.{insert}
 use Rattle.txn_trace.specs.Now.{now}
 use Rattle.bank.specs.Transfers.{balance}
-use Rattle.bank.proofs.Steps.{gets, puts, stops, commits, not_committed}
 use Rattle.bank.proofs.Sums.{transferred}
 use Rattle.bank.proofs.move_sum.Goals as goal
 
-pub returns-in_default : goal.returns-in_default
-returns-in_default c = record {
-  ordinary = c.get.ensures.words;
-  moved = λ base begun is. absurd (false≢true is);
-  back = λ base begun is.
-      stops c.args.core.now c.get.new.self c.args.caller base (Get c.args.from) c.get.result begun c.in_default.not-Done c.get.ensures.operates;
-}
+pub returns-in_err-has-clause-back : goal.returns-in_err-has-clause-back
+returns-in_err-has-clause-back c = λ base begun is.
+    let first = c.in_ok-had.ensures.has base begun c.in_ok-had.had refl in
+    c.in_err-has.ensures.back base first.stands refl
 
-pub returns-in_default-get : goal.returns-in_default-get
-returns-in_default-get c = record {
-  ordinary = c.get-2.ensures.words;
-  moved = λ base begun is. absurd (false≢true is);
-  back = λ base begun is.
-      let first = gets c.args.core.now c.get.new.self c.args.caller base c.args.from c.in-Done.had begun c.in-Done.ensures.operates in
-      stops c.get.new.self c.get-2.new.self c.args.caller base (Get c.args.to) c.get-2.result first.0 c.in_default-get.not-Done c.get-2.ensures.operates;
-}
+pub returns-in_err-write-clause-back : goal.returns-in_err-write-clause-back
+returns-in_err-write-clause-back c = λ base begun is.
+    let first = c.in_ok-had.ensures.has base begun c.in_ok-had.had refl in
+    let second = c.in_ok-has.ensures.has base first.stands c.in_ok-has.has refl in
+    c.in_err-write.ensures.back base second.stands refl
 
-pub returns-in_default-checked_sub-clause-back : goal.returns-in_default-checked_sub-clause-back
-returns-in_default-checked_sub-clause-back c = λ base begun is.
-    let first = gets c.args.core.now c.get.new.self c.args.caller base c.args.from c.in-Done.had begun c.in-Done.ensures.operates in
-    let second = gets c.get.new.self c.get-2.new.self c.args.caller base c.args.to c.in-Done-get.has first.0 c.in-Done-get.ensures.operates in
-    inl second.0
-
-pub returns-in_default-checked_add-clause-back : goal.returns-in_default-checked_add-clause-back
-returns-in_default-checked_add-clause-back c = λ base begun is.
-    let first = gets c.args.core.now c.get.new.self c.args.caller base c.args.from c.in-Done.had begun c.in-Done.ensures.operates in
-    let second = gets c.get.new.self c.get-2.new.self c.args.caller base c.args.to c.in-Done-get.has first.0 c.in-Done-get.ensures.operates in
-    inl second.0
-
-pub returns-in_default-put : goal.returns-in_default-put
-returns-in_default-put c = record {
-  ordinary = c.put.ensures.words;
-  moved = λ base begun is. absurd (false≢true is);
-  back = λ base begun is.
-      let first = gets c.args.core.now c.get.new.self c.args.caller base c.args.from c.in-Done.had begun c.in-Done.ensures.operates in
-      let second = gets c.get.new.self c.get-2.new.self c.args.caller base c.args.to c.in-Done-get.has first.0 c.in-Done-get.ensures.operates in
-      stops c.get-2.new.self c.put.new.self c.args.caller base (Put c.args.from c.in-Some.less) c.put.result second.0 c.in_default-put.not-Done c.put.ensures.operates;
-}
-
-pub returns-in_default-put-2 : goal.returns-in_default-put-2
-returns-in_default-put-2 c = record {
-  ordinary = c.put-2.ensures.words;
-  moved = λ base begun is. absurd (false≢true is);
-  back = λ base begun is.
-      let first = gets c.args.core.now c.get.new.self c.args.caller base c.args.from c.in-Done.had begun c.in-Done.ensures.operates in
-      let second = gets c.get.new.self c.get-2.new.self c.args.caller base c.args.to c.in-Done-get.has first.0 c.in-Done-get.ensures.operates in
-      let third = puts c.get-2.new.self c.put.new.self c.args.caller base c.args.from c.in-Some.less c.in-Done-put.field-0 second.0 c.in-Done-put.ensures.operates in
-      stops c.put.new.self c.put-2.new.self c.args.caller base (Put c.args.to c.in-Some-checked_add.more) c.put-2.result third.0 c.in_default-put-2.not-Done c.put-2.ensures.operates;
-}
-
-pub returns-in_default-step : goal.returns-in_default-step
-returns-in_default-step c = record {
-  ordinary = c.step.ensures.words ∙ c.put-2.ensures.words;
-  moved = λ base begun is. absurd (false≢true is);
-  back = λ base begun is.
-      let first = gets c.args.core.now c.get.new.self c.args.caller base c.args.from c.in-Done.had begun c.in-Done.ensures.operates in
-      let second = gets c.get.new.self c.get-2.new.self c.args.caller base c.args.to c.in-Done-get.has first.0 c.in-Done-get.ensures.operates in
-      let third = puts c.get-2.new.self c.put.new.self c.args.caller base c.args.from c.in-Some.less c.in-Done-put.field-0 second.0 c.in-Done-put.ensures.operates in
-      let fourth = puts c.put.new.self c.put-2.new.self c.args.caller base c.args.to c.in-Some-checked_add.more c.in-Done-put-2.field-0 third.0 c.in-Done-put-2.ensures.operates in
-      not_committed c.put-2.new.self c.step.new.self c.args.caller base c.step.result fourth.0 c.in_default-step.not-Committed c.step.ensures.moves;
-}
+pub returns-in_err-write-2-clause-back : goal.returns-in_err-write-2-clause-back
+returns-in_err-write-2-clause-back c = λ base begun is.
+    let first = c.in_ok-had.ensures.has base begun c.in_ok-had.had refl in
+    let second = c.in_ok-has.ensures.has base first.stands c.in_ok-has.has refl in
+    let third = c.in_ok-write.ensures.wrote base second.stands refl in
+    c.in_err-write-2.ensures.back base third.stands refl
 
 pub returns-clause-moved : goal.returns-clause-moved
 returns-clause-moved c = λ base begun is.
-    let first = gets c.args.core.now c.get.new.self c.args.caller base c.args.from c.in-Done.had begun c.in-Done.ensures.operates in
-    let second = gets c.get.new.self c.get-2.new.self c.args.caller base c.args.to c.in-Done-get.has first.0 c.in-Done-get.ensures.operates in
-    let third = puts c.get-2.new.self c.put.new.self c.args.caller base c.args.from c.in-Some.less c.in-Done-put.field-0 second.0 c.in-Done-put.ensures.operates in
-    let fourth = puts c.put.new.self c.put-2.new.self c.args.caller base c.args.to c.in-Some-checked_add.more c.in-Done-put-2.field-0 third.0 c.in-Done-put-2.ensures.operates in
-    let last = commits c.put-2.new.self c.step.new.self c.args.caller base c.in-Committed.field-0 fourth.0 c.in-Committed.ensures.moves in
-    let old = now c.args.core.now.history in
-    let had : c.unwrap_or.result ≡ balance old c.args.from = c.unwrap_or.ensures ∙ ap (λ o. unwrap_or o 0) first.1 in
-    let has : c.unwrap_or-2.result ≡ balance old c.args.to = c.unwrap_or-2.ensures ∙ ap (λ o. unwrap_or o 0) (second.1 ∙ ap (λ m. get m c.args.to) first.2) in
-    transferred c.args.from c.args.to c.args.sum c.in-Some.less c.in-Some-checked_add.more old (now c.step.new.self.history) c.requires.apart
-    (omega (arith, had, c.in-Some.ensures)) (omega (arith, has, c.in-Some-checked_add.ensures))
-    (last ∙ fourth.1 ∙ ap (λ m. insert m c.args.to c.in-Some-checked_add.more) (third.1 ∙ ap (λ m. insert m c.args.from c.in-Some.less) (second.2 ∙ first.2)))
+    let first = c.in_ok-had.ensures.has base begun c.in_ok-had.had refl in
+    let second = c.in_ok-has.ensures.has base first.stands c.in_ok-has.has refl in
+    let third = c.in_ok-write.ensures.wrote base second.stands refl in
+    let fourth = c.in_ok-write-2.ensures.wrote base third.stands refl in
+    let last = c.commit.ensures.committed base fourth.stands is in
+    let has = second.right ∙ ap (λ m. balance m c.args.to) first.same in
+    transferred c.args.from c.args.to c.args.sum c.in_ok-less.less c.in_ok-more.more (now c.args.core.now.history) (now c.commit.new.core.history) c.requires.apart
+    (omega (arith, first.right, c.in_ok-less.ensures)) (omega (arith, has, c.in_ok-more.ensures))
+    (last ∙ fourth.changed ∙ ap (λ m. insert m c.args.to c.in_ok-more.more) (third.changed ∙ ap (λ m. insert m c.args.from c.in_ok-less.less) (second.same ∙ first.same)))
+
+pub returns-clause-back : goal.returns-clause-back
+returns-clause-back c = λ base begun is.
+    let first = c.in_ok-had.ensures.has base begun c.in_ok-had.had refl in
+    let second = c.in_ok-has.ensures.has base first.stands c.in_ok-has.has refl in
+    let third = c.in_ok-write.ensures.wrote base second.stands refl in
+    let fourth = c.in_ok-write-2.ensures.wrote base third.stands refl in
+    c.commit.ensures.back base fourth.stands is
