@@ -1,13 +1,14 @@
 //! Calls `visits`: four visitors put a value of their own at the same key, all at once, and each
 //! gets what it put.
+use boost_core::Core;
 use std::io;
 use std::io::Print;
 use std::marker::Brand;
 use std::sync::Wait;
 use std::sync::ledger::Blank;
 use std::thread::Threads;
-use txn_trace::Limits;
-use visits::{Visit, visit_all};
+use txn_trace::{Limits, Refusal};
+use visits::{Answer, Visit, visit_all};
 
 /// What the visitors put.
 const VISITS: [Visit; 4] = [
@@ -17,22 +18,35 @@ const VISITS: [Visit; 4] = [
     Visit { key: 7, value: 73 },
 ];
 
-/// Prints what each visitor put and got, in the order of the visits, and then how many keys there
-/// are.
-pub(crate) fn show<R: Threads + Wait + Sync + Print + AllocGlobal>(rt: &R) -> io::Result<()> {
-    let Ok(limits) = Limits::new(4, 8, 8) else {
-        return println!(rt; "limits");
-    };
+/// What a visitor put and got.
+fn say<R: Print + AllocGlobal>(rt: &R, visit: Visit, answer: Answer) -> io::Result<()> {
+    match answer {
+        Ok(Some(got)) => println!(rt; "put {}, got {got}", visit.value),
+        Ok(None) => println!(rt; "put {}, got none", visit.value),
+        Err(refusal) => println!(rt; "refused {}", refusal.number()),
+    }
+}
+
+/// What all visitors put and got, in the order of the visits.
+fn say_all<R: Print + AllocGlobal>(rt: &R, answers: &[Answer]) -> io::Result<()> {
+    for (visit, answer) in VISITS.iter().zip(answers.iter()) {
+        say(rt, *visit, *answer)?;
+    }
+    Ok(())
+}
+
+/// Has the visitors visit a map under a ledger of its own.
+fn visit<R: Threads + Wait + Sync + AllocGlobal>(rt: &R) -> Result<(Core, Vec<Answer>), Refusal> {
+    let limits = Limits::new(4, 8, 8)?;
     let blank = Blank::new(u64::from(limits.callers()));
-    match visit_all::<Brand, R>(rt, rt.alloc(), blank, limits, VISITS.as_slice()) {
+    visit_all::<Brand, R>(rt, rt.alloc(), blank, limits, VISITS.as_slice())
+}
+
+/// Prints what each visitor put and got, and then how many keys there are.
+pub(crate) fn show<R: Threads + Wait + Sync + Print + AllocGlobal>(rt: &R) -> io::Result<()> {
+    match visit(rt) {
         Ok((core, answers)) => {
-            for (visit, answer) in VISITS.iter().zip(answers.iter()) {
-                match answer {
-                    Ok(Some(got)) => println!(rt; "put {}, got {got}", visit.value)?,
-                    Ok(None) => println!(rt; "put {}, got none", visit.value)?,
-                    Err(refusal) => println!(rt; "refused {}", refusal.number())?,
-                }
-            }
+            say_all(rt, answers.as_slice())?;
             println!(rt; "keys {}", core.count())
         }
         Err(refusal) => println!(rt; "refused {}", refusal.number()),
