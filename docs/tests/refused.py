@@ -37,8 +37,8 @@ table_tests undo_log_tests::nine_undone_newest_first
 table_tests undo_log_tests::a_savepoint_keeps_its_jobs
 table_tests undo_log_tests::side_value_returns
 table_tests undo_log_tests::a_settled_value_stays
-core_tests cores::five_callers_undone
-core_tests cores::segments
+core_tests cores::refused::five_callers_undone
+core_tests cores::refused::segments
 core_tests histories::fed_entry_by_entry
 core_tests histories::fed_with_savepoints
 thread_tests map_tests::refused::refused_memory_between_callers

@@ -1,0 +1,270 @@
+//! What refused memory leaves of a core: tests that are also run with each allocation refused in
+//! turn, and with all from one on.
+use crate::devices::{
+    abort, core_if_made, limits_of, owed_by, pairs_of, sizes_of, step_is, take_step, trace_of,
+};
+use boost_core::Core;
+use std::alloc::Global;
+use std::process::Abort;
+use std::test::Fail;
+use txn_trace::{Answer, Op, Refusal, Reply, Step};
+
+/// How many entries there are, how many buckets and keys, and how many entries are owed, for which
+/// no memory is wanted.
+fn figures(core: &Core) -> (usize, (u32, u64), usize) {
+    (trace_of(core).len(), sizes_of(core), owed_by(core))
+}
+
+/// Takes a step. Where it is refused memory, all is as it was before, and the answer is false. The
+/// pairs are compared where there is memory for their lists.
+fn try_step(
+    rt: &impl Abort,
+    alloc: Global,
+    core: &mut Core,
+    step: Step,
+    wanted: Answer,
+) -> Result<bool, Fail> {
+    let pairs = pairs_of(alloc, core);
+    let before = figures(core);
+    let answer = take_step(core, step)?;
+    if answer != Answer::Refused(Refusal::NoMemory) {
+        assert_eq!(rt; answer, wanted, "at {step:?}");
+        return Ok(true);
+    }
+    assert_eq!(rt; figures(core), before);
+    let after = pairs_of(alloc, core);
+    if let (Ok(after), Ok(pairs)) = (&after, &pairs) {
+        assert_eq!(rt; after.as_slice(), pairs.as_slice());
+    }
+    Ok(false)
+}
+
+/// Takes steps up to one that is refused memory, where all stays: then the answer is false.
+fn try_steps(
+    rt: &impl Abort,
+    alloc: Global,
+    core: &mut Core,
+    lines: &[(Step, Answer)],
+) -> Result<bool, Fail> {
+    for (step, wanted) in lines {
+        if !try_step(rt, alloc, core, *step, *wanted)? {
+            return Ok(false);
+        }
+    }
+    Ok(true)
+}
+
+/// The steps by which a caller does an operation, with their answers.
+fn steps_of(caller: u64, op: Op, reply: Reply) -> [(Step, Answer); 3] {
+    [
+        (Step::Ask(caller, op), Answer::Asked),
+        (Step::Seek(caller), Answer::Placed),
+        (Step::Act(caller), Answer::Done(reply)),
+    ]
+}
+
+/// A caller begins and puts; false where memory is refused.
+fn begin_and_put(
+    rt: &impl Abort,
+    alloc: Global,
+    core: &mut Core,
+    caller: u64,
+) -> Result<bool, Fail> {
+    let next = caller.wrapping_add(1);
+    let put = steps_of(caller, Op::Put(next, 10), None);
+    Ok(
+        try_step(rt, alloc, core, Step::Begin(caller), Answer::Began(next))?
+            && try_steps(rt, alloc, core, &put)?,
+    )
+}
+
+/// A caller puts once more and takes; false where memory is refused.
+fn put_and_take(
+    rt: &impl Abort,
+    alloc: Global,
+    core: &mut Core,
+    caller: u64,
+) -> Result<bool, Fail> {
+    let key = caller.wrapping_add(1);
+    let put = steps_of(caller, Op::Put(key, 20), Some(10));
+    let take = steps_of(caller, Op::Take(key), Some(20));
+    Ok(try_steps(rt, alloc, core, &put)? && try_steps(rt, alloc, core, &take)?)
+}
+
+/// Five callers begin and change a key each three times; false where memory is refused.
+fn change_five(rt: &impl Abort, alloc: Global, core: &mut Core) -> Result<bool, Fail> {
+    for caller in 0..5 {
+        if !begin_and_put(rt, alloc, core, caller)? {
+            return Ok(false);
+        }
+    }
+    for caller in 0..5 {
+        if !put_and_take(rt, alloc, core, caller)? {
+            return Ok(false);
+        }
+    }
+    Ok(true)
+}
+
+/// Sees that five keys have this value. The pairs are compared where there is memory for their
+/// list, and else counted.
+fn has_five(rt: &impl Abort, alloc: Global, core: &Core, value: u64) {
+    assert_eq!(rt; sizes_of(core), (2, 5));
+    let wanted = [(4, value), (2, value), (1, value), (5, value), (3, value)];
+    if let Ok(pairs) = pairs_of(alloc, core) {
+        assert_eq!(rt; pairs.as_slice(), wanted.as_slice());
+    }
+}
+
+/// Each caller takes its newest change back, after which each key has this value.
+fn undo_five(
+    rt: &impl Abort,
+    alloc: Global,
+    core: &mut Core,
+    left: Option<u64>,
+) -> Result<(), Fail> {
+    for caller in 0..5 {
+        step_is(rt, core, Step::Seek(caller), Answer::Placed)?;
+        step_is(rt, core, Step::Act(caller), Answer::Undone)?;
+    }
+    match left {
+        Some(value) => has_five(rt, alloc, core, value),
+        None => assert_eq!(rt; sizes_of(core), (2, 0)),
+    }
+    Ok(())
+}
+
+/// Five callers abort, and leave from there.
+fn leave_five(rt: &impl Abort, core: &mut Core) -> Result<(), Fail> {
+    assert_eq!(rt; owed_by(core), 25);
+    for caller in 0..5 {
+        step_is(rt, core, Step::Abort(caller), Answer::Leaving)?;
+    }
+    assert_eq!(rt; owed_by(core), 20);
+    Ok(())
+}
+
+/// Five callers have taken everything back and end.
+fn end_five(rt: &impl Abort, core: &mut Core) -> Result<(), Fail> {
+    for caller in 0..5 {
+        step_is(rt, core, Step::Act(caller), Answer::Aborted)?;
+    }
+    Ok(())
+}
+
+/// Five callers change a key each three times, if memory is not refused, and take their changes
+/// back in turn.
+fn change_and_undo_five(rt: &impl Abort, alloc: Global, core: &mut Core) -> Result<(), Fail> {
+    if !change_five(rt, alloc, core)? {
+        return Ok(());
+    }
+    leave_five(rt, core)?;
+    undo_five(rt, alloc, core, Some(20))?;
+    undo_five(rt, alloc, core, Some(10))?;
+    undo_five(rt, alloc, core, None)?;
+    end_five(rt, core)
+}
+
+/// Aborts the callers below a number, each of which may not have begun, and looks that nothing is
+/// left. No memory is wanted.
+fn abort_all(rt: &impl Abort, core: &mut Core, callers: u64) {
+    for caller in 0..callers {
+        let answer = abort(core, caller);
+        assert!(rt; answer == Answer::Aborted || answer == Answer::Refused(Refusal::NotOpen));
+    }
+    assert_eq!(rt; (sizes_of(core).1, owed_by(core)), (0, 0));
+}
+
+/// Five callers change keys and take the changes back, if memory is not refused, and abort.
+fn play_five(rt: &impl Abort, alloc: Global, core: &mut Core) -> Result<(), Fail> {
+    change_and_undo_five(rt, alloc, core)?;
+    abort_all(rt, core, 5);
+    assert_eq!(rt; sizes_of(core).0, 2);
+    Ok(())
+}
+
+/// Where memory is refused every caller aborts, for which none is wanted. Without a core there is
+/// nothing to show.
+#[test]
+fn five_callers_undone(rt: HostRuntime) -> Result<(), Fail> {
+    let limits = limits_of(5, 8, 8)?;
+    let Some(mut core) = core_if_made(rt.alloc(), limits) else {
+        return Ok(());
+    };
+    play_five(&rt, rt.alloc(), &mut core)
+}
+
+/// Takes steps, and each once more where it is refused memory; false where one is refused again.
+fn try_steps_twice(
+    rt: &impl Abort,
+    alloc: Global,
+    core: &mut Core,
+    lines: &[(Step, Answer)],
+) -> Result<bool, Fail> {
+    for (step, wanted) in lines {
+        let is_taken = try_step(rt, alloc, core, *step, *wanted)?
+            || try_step(rt, alloc, core, *step, *wanted)?;
+        if !is_taken {
+            return Ok(false);
+        }
+    }
+    Ok(true)
+}
+
+/// Caller 0 puts 129 keys; false where a step is refused memory twice.
+fn put_many(rt: &impl Abort, alloc: Global, core: &mut Core) -> Result<bool, Fail> {
+    if !try_steps_twice(rt, alloc, core, &[(Step::Begin(0), Answer::Began(1))])? {
+        return Ok(false);
+    }
+    for key in 0..129 {
+        let put = steps_of(0, Op::Put(key, key), None);
+        if !try_steps_twice(rt, alloc, core, &put)? {
+            return Ok(false);
+        }
+    }
+    Ok(true)
+}
+
+/// Bucket 64, the first of the second segment, is stored.
+static SECOND_SEGMENT: [(Step, Answer); 12] = [
+    (Step::Double(2), Answer::Doubled(4)),
+    (Step::Double(4), Answer::Doubled(8)),
+    (Step::Double(8), Answer::Doubled(16)),
+    (Step::Double(16), Answer::Doubled(32)),
+    (Step::Double(32), Answer::Doubled(64)),
+    (Step::Double(64), Answer::Doubled(128)),
+    (Step::Double(128), Answer::AtLimit),
+    (
+        Step::InitSeek(0, 96),
+        Answer::Refused(Refusal::ParentMissing),
+    ),
+    (Step::InitSeek(0, 64), Answer::Placed),
+    (Step::InitLink(0), Answer::Linked),
+    (Step::InitStore(0), Answer::Stored),
+    (Step::InitSeek(0, 64), Answer::Ready),
+];
+
+/// Fills the table and stores the bucket; or the caller aborts where a step is refused memory
+/// twice.
+fn fill_segments(rt: &impl Abort, alloc: Global, core: &mut Core) -> Result<(), Fail> {
+    let is_done = put_many(rt, alloc, core)? && try_steps_twice(rt, alloc, core, &SECOND_SEGMENT)?;
+    if !is_done {
+        abort_all(rt, core, 1);
+        return Ok(());
+    }
+    step_is(rt, core, Step::Commit(0), Answer::Committed(1))?;
+    assert_eq!(rt; sizes_of(core), (128, 129));
+    Ok(())
+}
+
+/// Bucket 64 is the first of the second segment, so its store takes memory. Where a step is refused
+/// it may be taken again, and where it is refused again the caller aborts, for which no memory is
+/// wanted.
+#[test]
+fn segments(rt: HostRuntime) -> Result<(), Fail> {
+    let limits = limits_of(1, 8, 128)?;
+    let Some(mut core) = core_if_made(rt.alloc(), limits) else {
+        return Ok(());
+    };
+    fill_segments(&rt, rt.alloc(), &mut core)
+}
