@@ -60,40 +60,24 @@ fn time_map<R: Clock + Eprint, M: AnyMap>(
     Ok(())
 }
 
-/// Times a table of a largest size. A new one has two buckets, of which it has stored bucket 0.
-fn time_table<R: AllocGlobal + Clock + Eprint>(
-    rt: &R,
-    name: &str,
-    buckets: u32,
-    keys: u64,
-    operations: u64,
-) -> Result<()> {
-    let mut table = Table::new(rt.alloc(), buckets, 1)?;
-    store_bucket(&mut table, 1);
-    time_map(rt, name, &mut table, keys, operations)
-}
-
 /// Times the table at two largest sizes, the sorted map and the hash map of the standard library,
-/// one after the other.
+/// one after the other. A new table has two buckets, of which it has stored bucket 0.
 pub(crate) fn time_maps<R: AllocGlobal + Clock + Eprint>(
     rt: &R,
     keys: u64,
     operations: u64,
 ) -> Result<()> {
-    time_table(rt, "table", BUCKETS, keys, operations)?;
-    time_table(rt, "large", MANY_BUCKETS, keys, operations)?;
-    time_map(
-        rt,
-        "sorted",
-        &mut BTreeMap::new(rt.alloc()),
-        keys,
-        operations,
-    )?;
-    time_map(
-        rt,
-        "hashed",
-        &mut HashMap::new(rt.alloc()),
-        keys,
-        operations,
-    )
+    let mut table = Table::new(rt.alloc(), BUCKETS, 1)?;
+    store_bucket(&mut table, 1);
+    time_map(rt, "table", &mut table, keys, operations)?;
+    drop(table);
+    let mut table = Table::new(rt.alloc(), MANY_BUCKETS, 1)?;
+    store_bucket(&mut table, 1);
+    time_map(rt, "large", &mut table, keys, operations)?;
+    drop(table);
+    let mut sorted = BTreeMap::new(rt.alloc());
+    time_map(rt, "sorted", &mut sorted, keys, operations)?;
+    drop(sorted);
+    let mut hashed = HashMap::new(rt.alloc());
+    time_map(rt, "hashed", &mut hashed, keys, operations)
 }

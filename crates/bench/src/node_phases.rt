@@ -50,59 +50,30 @@ fn sweep_some(table: &mut NodeTable, sweeps: u64) -> u64 {
     sum
 }
 
-/// What is done with a list of nodes, over and over.
-#[derive(Clone, Copy)]
-enum Phase {
-    Insert,
-    Get,
-    Swap,
-    Mark,
-    Sweep,
-}
-
-impl Phase {
-    /// Does it so often, and answers the sum of what the calls answered.
-    fn run(self, table: &mut NodeTable, count: u64) -> Result<u64, SpareFault> {
-        match self {
-            Phase::Insert => insert_all(table, count),
-            Phase::Get => Ok(get_all(table, count)),
-            Phase::Swap => Ok(swap_all(table, count)),
-            Phase::Mark => Ok(mark_all(table, count)),
-            Phase::Sweep => Ok(sweep_some(table, count)),
-        }
-    }
-}
-
-/// The phases, each with its name and with how many keys there are for one that it uses: half of
-/// the keys are swapped, and a quarter of all marked. Few of the marked nodes are swept, since each
-/// sweep walks to the first one that is left; the last look-ups unlink the others.
-const PHASES: [(Phase, &str, u64); 6] = [
-    (Phase::Insert, "insert", 1),
-    (Phase::Get, "get", 1),
-    (Phase::Swap, "swap", 2),
-    (Phase::Mark, "mark", 4),
-    (Phase::Sweep, "sweep", 1000),
-    (Phase::Get, "unlink", 1),
-];
-
-/// A list with the dummies of all buckets, whose linking is the first phase.
-fn timed_table<R: AllocGlobal + Clock + Eprint>(rt: &R) -> Result<NodeTable> {
-    let watch = Stopwatch::start(rt)?;
-    let table = NodeTable::new(rt.alloc()).map_err(|fault| anyhow!("{fault:?}"))?;
-    watch.report(rt, "nodes", "dummies", u64::from(SIZE), u64::from(SIZE))?;
-    Ok(table)
-}
-
-/// Times each phase.
+/// Times each phase: half of the keys are swapped, and a quarter of all marked. Few of the marked
+/// nodes are swept, since each sweep walks to the first one that is left; the last look-ups unlink
+/// the others.
 pub(crate) fn time_nodes<R: AllocGlobal + Clock + Eprint>(rt: &R, keys: u64) -> Result<()> {
-    let mut table = timed_table(rt)?;
-    for (phase, name, share) in PHASES {
-        let count = keys / share.max(1);
-        let watch = Stopwatch::start(rt)?;
-        let sum = phase
-            .run(&mut table, count)
-            .map_err(|fault| anyhow!("{fault:?}"))?;
-        watch.report(rt, "nodes", name, count, sum)?;
-    }
+    let watch = Stopwatch::start(rt)?;
+    let mut table = NodeTable::new(rt.alloc()).map_err(|fault| anyhow!("{fault:?}"))?;
+    watch.report(rt, "nodes", "dummies", u64::from(SIZE), u64::from(SIZE))?;
+    let watch = Stopwatch::start(rt)?;
+    let inserted = insert_all(&mut table, keys).map_err(|fault| anyhow!("{fault:?}"))?;
+    watch.report(rt, "nodes", "insert", keys, inserted)?;
+    let watch = Stopwatch::start(rt)?;
+    let found = get_all(&mut table, keys);
+    watch.report(rt, "nodes", "get", keys, found)?;
+    let watch = Stopwatch::start(rt)?;
+    let swapped = swap_all(&mut table, keys / 2);
+    watch.report(rt, "nodes", "swap", keys / 2, swapped)?;
+    let watch = Stopwatch::start(rt)?;
+    let marked = mark_all(&mut table, keys / 4);
+    watch.report(rt, "nodes", "mark", keys / 4, marked)?;
+    let watch = Stopwatch::start(rt)?;
+    let swept = sweep_some(&mut table, keys / 1000);
+    watch.report(rt, "nodes", "sweep", keys / 1000, swept)?;
+    let watch = Stopwatch::start(rt)?;
+    let left = get_all(&mut table, keys);
+    watch.report(rt, "nodes", "unlink", keys, left)?;
     Ok(())
 }
