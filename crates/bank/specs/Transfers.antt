@@ -62,3 +62,7 @@ pub record HasRead (c : ℕ) (base : Map) (account has : ℕ) (old new : State) 
 pub record HasWritten (c : ℕ) (base : Map) (account value : ℕ) (old new : State) : Type 0 where
   pub stands : IsOpen c base new
   pub changed : now new.history ≡ insert (now old.history) account value
+
+-- Only this caller did anything: the entries of every other are what they were.
+abbrev pub OnlyDid : ℕ → State → State → Type 0
+OnlyDid c old new = (d : ℕ) → d ≢ c → own d new.history ≡ own d old.history

@@ -7,7 +7,8 @@
 ghost use Rattle.std.specs.Prelude.{ℕ, ◌≡◌, ◌≢◌, true, false, Some, IsSome, IsNone};
 ghost use Rattle.txn_trace.specs.Map.{Map};
 ghost use Rattle.txn_trace.specs.Now.{now};
-ghost use Rattle.bank.specs.Transfers.{IsTransfer, IsOpen, CanAbort, HasRead, HasWritten};
+ghost use Rattle.bank.specs.Transfers.{IsTransfer, IsOpen, CanAbort};
+ghost use Rattle.bank.specs.Transfers.{HasRead, HasWritten, OnlyDid};
 
 use boost_core::Core;
 use txn_trace::{Answer, Step};
@@ -17,7 +18,7 @@ use txn_trace::{Answer, Step};
 ///
 /// Nothing is moved, and the map is as it was, where the first has too little or the second would
 /// pass 2^64 - 1; where another caller holds one of the stripes (try again later); and where a step
-/// is refused, as for want of memory.
+/// is refused, as for want of memory. No other caller does anything.
 ///
 /// # Cost
 ///
@@ -29,6 +30,7 @@ pub fn transfer(core: &mut Core, caller: u64, from: u64, to: u64, sum: u64) -> b
     ensures moved { result ≡ true
         → IsTransfer from to sum (now core.old.history) (now core.new.history) }
     ensures kept { result ≡ false → now core.new.history ≡ now core.old.history }
+    ensures only { OnlyDid caller core.old core.new }
 {
     // What the proof rests on: the history is legal.
     let _history = core.trace();
@@ -52,6 +54,7 @@ fn move_sum(core: &mut Core, caller: u64, from: u64, to: u64, sum: u64) -> Optio
         → IsTransfer from to sum (now core.old.history) (now core.new.history) }
     ensures back { (base : Map) → IsOpen caller base core.old → IsNone result
         → CanAbort caller base core.new }
+    ensures only { OnlyDid caller core.old core.new }
 {
     let had = read(core, caller, from)?;
     let has = read(core, caller, to)?;
@@ -70,6 +73,7 @@ fn read(core: &mut Core, caller: u64, account: u64) -> Option<u64>
         → HasRead caller base account has core.old core.new }
     ensures back { (base : Map) → IsOpen caller base core.old → IsNone result
         → CanAbort caller base core.new }
+    ensures only { OnlyDid caller core.old core.new }
 {
     match core.get(caller, account) {
         Answer::Done(value) => Some(value.unwrap_or(0)),
@@ -85,6 +89,7 @@ fn write(core: &mut Core, caller: u64, account: u64, value: u64) -> Option<()>
         → HasWritten caller base account value core.old core.new }
     ensures back { (base : Map) → IsOpen caller base core.old → IsNone result
         → CanAbort caller base core.new }
+    ensures only { OnlyDid caller core.old core.new }
 {
     match core.put(caller, account, value) {
         Answer::Done(_) => Some(()),
@@ -99,6 +104,7 @@ fn commit(core: &mut Core, caller: u64) -> Option<()>
         → now core.new.history ≡ now core.old.history }
     ensures back { (base : Map) → IsOpen caller base core.old → IsNone result
         → CanAbort caller base core.new }
+    ensures only { OnlyDid caller core.old core.new }
 {
     match core.step(Step::Commit(caller)) {
         Answer::Committed(_) => Some(()),

@@ -52,6 +52,7 @@ impl Drive {
     /// # Cost
     ///
     /// Constant time; takes no memory.
+    #[inline(always)]
     pub fn turn(&mut self, size: u32) -> Turn
         ensures drive { self.new ≡ sized_of size self.old }
         ensures turn { result ≡ turn_of self.new }
@@ -94,6 +95,7 @@ impl Drive {
     }
 
     /// The turn of the phase.
+    #[inline(always)]
     fn show(self) -> Turn
         ensures { result ≡ turn_of self }
     {
@@ -124,6 +126,7 @@ impl Drive {
     /// # Cost
     ///
     /// Constant time: the search of a helper's next bucket takes up to 32 rounds; takes no memory.
+    #[inline(always)]
     pub fn told(&mut self, answer: Answer)
         ensures drive { self.new ≡ told_of self.old answer }
         ensures made { (step : Step) → step_of self.old ≡ Some step

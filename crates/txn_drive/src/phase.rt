@@ -51,6 +51,7 @@ pub enum Phase {
 impl Phase {
     /// The phase after an answer to the step of this one. Constant time, but for the search of the
     /// next bucket.
+    #[inline(always)]
     pub(crate) fn told(self, call: Call, answer: Answer) -> Phase
         ensures { result ≡ told_in call self answer }
     {
@@ -75,6 +76,7 @@ fn one_more(again: u8) -> u8
 }
 
 /// After the first step: an operation is sought, or changes are taken back, or the call has ended.
+#[inline(always)]
 fn told_first(call: Call, answer: Answer) -> Phase
     ensures { result ≡ told_first call answer }
 {
@@ -94,6 +96,7 @@ fn told_first(call: Call, answer: Answer) -> Phase
 
 /// After a seek: the place is there, or there is no change left to take back, which the act then
 /// says too.
+#[inline(always)]
 fn told_seek(work: Work, again: u8, answer: Answer) -> Phase
     ensures { result ≡ told_seek work again answer }
 {
@@ -108,6 +111,7 @@ fn told_seek(work: Work, again: u8, answer: Answer) -> Phase
 }
 
 /// After an act: the place did not fit, or one change more is taken back, or the call has ended.
+#[inline(always)]
 fn told_act(work: Work, again: u8, answer: Answer) -> Phase
     ensures { result ≡ told_act work again answer }
 {

@@ -48,6 +48,7 @@ impl Turn {
 
 /// A step that seeks and the step at the place found: two turns, or one after enough `again` in a
 /// row. Constant time.
+#[inline(always)]
 pub(crate) fn one_or_two(again: u8, seeking: Step, acting: Step) -> Turn
     ensures { result ≡ paired again seeking acting }
 {

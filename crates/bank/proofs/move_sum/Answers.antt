@@ -2,6 +2,7 @@ use Rattle.std.proofs.Common.{refl, ap, ◌∙◌, arith}
 use Rattle.txn_trace.specs.Map.{insert}
 use Rattle.txn_trace.specs.Now.{now}
 use Rattle.bank.specs.Transfers.{balance}
+use Rattle.bank.proofs.Only.{after}
 use Rattle.bank.proofs.Sums.{transferred}
 use Rattle.bank.proofs.move_sum.Goals as goal
 
@@ -42,3 +43,7 @@ returns-clause-back c = λ base begun is.
     let third = c.in_ok-write.ensures.wrote base second.stands refl in
     let fourth = c.in_ok-write-2.ensures.wrote base third.stands refl in
     c.commit.ensures.back base fourth.stands is
+
+pub returns-in_err-has-clause-only : goal.returns-in_err-has-clause-only
+returns-in_err-has-clause-only c =
+    after c.args.caller c.args.core.now c.read.new.core c.read-2.new.core c.read.ensures.only c.read-2.ensures.only
