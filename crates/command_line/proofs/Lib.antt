@@ -1,1 +1,6 @@
+pub mod Asking
+pub mod Building
+pub mod Calls
 pub mod Running
+pub mod Seeds
+pub mod Worked

@@ -1,28 +1,59 @@
 -- What standard output gets by a run of the program.
-use Rattle.std.proofs.Common.{◌≡◌, ◌⊎◌, inl, inr, ℕ, Bool, List, Option, Some, None, Result, Ok, Err, refl, subst}
-use Rattle.std.specs.Prelude.{IfSome}
+use Rattle.std.proofs.Common.{◌≡◌, ◌⊎◌, inl, inr, ℕ, List, Option, Some, None, Ok, Err, refl, sym, ap, subst, true}
+use Rattle.std.specs.Prelude.{IfSome, is_some}
+use Rattle.std.specs.Result.{IsErrAnd}
+use Rattle.std.specs.declared.io.ErrorKind.{ErrorKind}
+use Rattle.std.specs.declared.io.ErrorKind.TheVariants.{OutOfMemory}
+use Rattle.clap.specs.Words.{Text}
 use Rattle.std.specs.Io.KnownBytes.{Keeps}
 use Rattle.txn_files.specs.FileFault.{FileFault}
 use Rattle.boostmap_engine.specs.declared.fault.Fault.{Fault}
 use Rattle.boostmap_engine.specs.declared.fault.Fault.TheVariants as faults
 use Rattle.boostmap_engine.specs.Written.{Writes, Leaves}
-use Rattle.boostmap_engine.specs.Report.{IsReportOf, IsNoStepFile}
-use Rattle.boostmap_engine.specs.Mixture.{IsMixtureOf, IsNoScriptFile}
+use Rattle.boostmap_engine.specs.Mixture.{IsNoScriptFile}
 use Rattle.boostmap_engine.specs.Threaded.{IsThreadedOf, LeavesThreaded}
-use Rattle.boostmap_engine.specs.Judgement.{IsJudgement, IsJudgementOf, IsNoHistoryFile}
 use Rattle.command_line.specs.declared.words.Call.{Call}
 use Rattle.command_line.specs.declared.words.Call.TheVariants.{Replay, Run, Mix, Check}
-use Rattle.command_line.specs.Runs.{Outcome, Does, Runs, RunsNone, file_of}
+use Rattle.command_line.specs.Words.{asked, asked_of}
+use Rattle.command_line.specs.Runs.{Outcome, Does, Runs, RunsNone, file_of, memory_or}
 
 Keeps-same : (known : Option (List ℕ)) → Keeps known known
 Keeps-same None = tt
 Keeps-same (Some xs) = refl
 
+-- What holds of the words holds of the words that are known.
+of_known : (spoken : Option (List Text)) (words : List Text) (P : List Text → Type 0) → IfSome spoken (λ known. words ≡ known) → P words → IfSome spoken P
+of_known None words P same holds = tt
+of_known (Some known) words P same holds = subst P same holds
+
 -- Want of memory, and words or a file that are not there, leave standard output as it was.
-pub runs_none : (bytes_of : List ℕ → Option (List ℕ)) (known : Option (List ℕ)) (fault other : Fault) → (other ≡ faults.Usage) ⊎ (other ≡ faults.Read) → (fault ≡ faults.NoMemory) ⊎ (fault ≡ other) → Runs bytes_of known known (Err fault)
-runs_none bytes_of known fault other which (inl h) = rw h (inr (Keeps-same known))
-runs_none bytes_of known fault other (inl w) (inr h) = rw (h, w) (inr (Keeps-same known))
-runs_none bytes_of known fault other (inr w) (inr h) = rw (h, w) (inr (Keeps-same known))
+memory_or_is : (kind : ErrorKind) (other : Fault) → (memory_or kind other ≡ faults.NoMemory) ⊎ (memory_or kind other ≡ other)
+memory_or_is OutOfMemory other = inl refl
+memory_or_is kind other = inr refl
+
+runs_none : (spoken : Option (List Text)) (bytes_of : List ℕ → Option (List ℕ)) (known : Option (List ℕ)) (fault other : Fault) → RunsNone spoken known known (Err other)
+    → (fault ≡ faults.NoMemory) ⊎ (fault ≡ other) → Runs spoken bytes_of known known (Err fault)
+runs_none spoken bytes_of known fault other none (inl memory) = rw memory (inr (Keeps-same known))
+runs_none spoken bytes_of known fault other none (inr same) = rw same (inr none)
+
+pub no_words : (spoken : Option (List Text)) (bytes_of : List ℕ → Option (List ℕ)) (known : Option (List ℕ)) (kind : ErrorKind) → IfSome spoken (λ words. kind ≡ OutOfMemory)
+    → Runs spoken bytes_of known known (Err (memory_or kind faults.Usage))
+no_words None bytes_of known kind is = runs_none None bytes_of known _ faults.Usage (Keeps-same known, tt) (memory_or_is kind faults.Usage)
+no_words (Some words) bytes_of known kind is =
+    subst (λ k. Runs (Some words) bytes_of known known (Err (memory_or k faults.Usage))) (sym is) (inr (Keeps-same known))
+
+pub no_call : (spoken : Option (List Text)) (words : List Text) (bytes_of : List ℕ → Option (List ℕ)) (known : Option (List ℕ)) (outcome : Outcome) (fault : Fault) → IfSome spoken (λ known. words ≡ known)
+    → (fault ≡ faults.NoMemory) ⊎ ((fault ≡ faults.Usage) × (asked words ≡ None)) → IsErrAnd outcome (λ e. e ≡ fault) → Runs spoken bytes_of known known outcome
+no_call spoken words bytes_of known (Ok well) fault same which err = absurd err
+no_call spoken words bytes_of known (Err e) fault same (inl memory) err = rw (err, memory) (inr (Keeps-same known))
+no_call spoken words bytes_of known (Err e) fault same (inr (usage, none)) err =
+    rw (err, usage) (inr (Keeps-same known, of_known spoken words (λ given. asked given ≡ None) same none))
+
+pub not_opened : (spoken : Option (List Text)) (words : List Text) (call : Call) (bytes_of : List ℕ → Option (List ℕ)) (known : Option (List ℕ)) (kind : ErrorKind) → IfSome spoken (λ known. words ≡ known)
+    → asked words ≡ Some (asked_of call) → Runs spoken bytes_of known known (Err (memory_or kind faults.Read))
+not_opened spoken words call bytes_of known kind same spelled =
+    runs_none spoken bytes_of known _ faults.Read (Keeps-same known, of_known spoken words (λ given. is_some (asked given) ≡ true) same (ap is_some spelled))
+    (memory_or_is kind faults.Read)
 
 Writes-unknown : (IsTextOf : List ℕ → List ℕ → Type 0) (bytes old new : Option (List ℕ)) → Writes IsTextOf bytes old new → Writes IsTextOf None old new
 Writes-unknown IsTextOf bytes old new (read, text, is_read, is_text, grows) = (read, text, tt, is_text, grows)
@@ -62,6 +93,11 @@ does-known call None bytes old new outcome same h = does-unknown call bytes old 
 does-known call (Some xs) bytes old new outcome same h = subst (λ (read : Option (List ℕ)). Does call read old new outcome) same h
 
 -- What a command does with an open file, it does with the bytes that the file of that name is known to have.
-pub runs_call : (bytes_of : List ℕ → Option (List ℕ)) (call : Call) (name : List ℕ) (bytes old new : Option (List ℕ)) (outcome : Outcome) → name ≡ file_of call → IfSome (bytes_of name) (λ xs. bytes ≡ Some xs) → Does call bytes old new outcome → Runs bytes_of old new outcome
-runs_call bytes_of call name bytes old new outcome named same h =
-    inl (call, does-known call (bytes_of (file_of call)) bytes old new outcome (rw named at same) h)
+pub runs_call : (spoken : Option (List Text)) (words : List Text) (bytes_of : List ℕ → Option (List ℕ)) (call : Call) (name : List ℕ) (bytes old new : Option (List ℕ)) (outcome : Outcome)
+    → IfSome spoken (λ known. words ≡ known) → asked words ≡ Some (asked_of call) → name ≡ file_of call → IfSome (bytes_of name) (λ xs. bytes ≡ Some xs) → Does call bytes old new outcome
+    → Runs spoken bytes_of old new outcome
+runs_call spoken words bytes_of call name bytes old new outcome same spelled named known does = inl (record {
+  call = call;
+  spells = of_known spoken words (λ given. asked given ≡ Some (asked_of call)) same spelled;
+  does = does-known call (bytes_of (file_of call)) bytes old new outcome (rw named at known) does;
+})

@@ -1,5 +1,7 @@
 -- What the program does with the words of a call, and how it ends.
-use Rattle.std.specs.Prelude.{◌≡◌, ◌⊎◌, ℕ, Bool, true, false, List, [], ◌∷◌, ◌++◌, Option, Result, Ok, Err}
+use Rattle.std.specs.Prelude.{◌≡◌, ◌⊎◌, ℕ, Bool, true, false, List, Option, Some, None, is_some, IfSome, Result, Ok, Err}
+use Rattle.std.specs.declared.io.ErrorKind.{ErrorKind}
+use Rattle.std.specs.declared.io.ErrorKind.TheVariants.{OutOfMemory}
 use Rattle.std.specs.Io.KnownBytes.{Appends, Keeps}
 use Rattle.boostmap_engine.specs.declared.fault.Fault.{Fault}
 use Rattle.boostmap_engine.specs.declared.fault.Fault.TheVariants as faults
@@ -11,6 +13,8 @@ use Rattle.boostmap_engine.specs.Threaded.{IsThreadedOf, LeavesThreaded}
 use Rattle.boostmap_engine.specs.Judgement.{IsJudgement, IsJudgementOf, IsNoHistoryFile}
 use Rattle.command_line.specs.declared.words.Call.{Call}
 use Rattle.command_line.specs.declared.words.Call.TheVariants.{Replay, Run, Mix, Check}
+use Rattle.clap.specs.Words.{Text}
+use Rattle.command_line.specs.Words.{asked, asked_of}
 
 -- What a run comes to: whether all is well, or a fault.
 abbrev pub Outcome : Type 0
@@ -37,21 +41,37 @@ Does (Check file) bytes old new (Ok well) = Writes (IsJudgement well) bytes old 
 Does (Check file) bytes old new (Err fault) =
     Leaves IsJudgementOf IsNoHistoryFile bytes old new fault
 
--- No command ran: the words are no call, the file was not opened, or memory was refused.
-abbrev pub RunsNone : Option (List ℕ) → Option (List ℕ) → Outcome → Type 0
-RunsNone old new (Err faults.Usage) = Keeps old new
-RunsNone old new (Err faults.Read) = Keeps old new
-RunsNone old new (Err faults.NoMemory) = Keeps old new
-RunsNone old new (Err (faults.Input fault)) = ⊥
-RunsNone old new (Err faults.NoThread) = ⊥
-RunsNone old new (Err faults.Write) = ⊥
-RunsNone old new (Err faults.OutOfStep) = ⊥
-RunsNone old new (Ok well) = ⊥
+-- No command ran: the words are no call, their file was not opened, or memory was refused. What is
+-- said of the words holds where they are known.
+abbrev pub RunsNone : Option (List Text) → Option (List ℕ) → Option (List ℕ) → Outcome → Type 0
+RunsNone spoken old new (Err faults.Usage) =
+    Keeps old new × IfSome spoken (λ words. asked words ≡ None)
+RunsNone spoken old new (Err faults.Read) =
+    Keeps old new × IfSome spoken (λ words. is_some (asked words) ≡ true)
+RunsNone spoken old new (Err faults.NoMemory) = Keeps old new
+RunsNone spoken old new (Err (faults.Input fault)) = ⊥
+RunsNone spoken old new (Err faults.NoThread) = ⊥
+RunsNone spoken old new (Err faults.Write) = ⊥
+RunsNone spoken old new (Err faults.OutOfStep) = ⊥
+RunsNone spoken old new (Ok well) = ⊥
 
--- A call's command ran on the bytes of its own file, or none did.
-abbrev pub Runs : (List ℕ → Option (List ℕ)) → Option (List ℕ) → Option (List ℕ) → Outcome → Type 0
-Runs bytes_of old new outcome =
-    ((call : Call) × Does call (bytes_of (file_of call)) old new outcome) ⊎ RunsNone old new outcome
+-- A command ran on the bytes of its own file: the one that the words ask for.
+pub record RunsOne (spoken : Option (List Text)) (bytes_of : List ℕ → Option (List ℕ))
+    (old new : Option (List ℕ)) (outcome : Outcome) : Type 0 where
+  pub call : Call
+  pub spells : IfSome spoken (λ words. asked words ≡ Some (asked_of call))
+  pub does : Does call (bytes_of (file_of call)) old new outcome
+
+-- What a run comes to, by its words and the files' bytes, where they are known.
+abbrev pub Runs : Option (List Text) → (List ℕ → Option (List ℕ)) → Option (List ℕ)
+    → Option (List ℕ) → Outcome → Type 0
+Runs spoken bytes_of old new outcome =
+    RunsOne spoken bytes_of old new outcome ⊎ RunsNone spoken old new outcome
+
+-- Want of memory where an error of the system is that, else the other fault.
+abbrev pub memory_or : ErrorKind → Fault → Fault
+memory_or OutOfMemory other = faults.NoMemory
+memory_or kind other = other
 
 -- The exit status.
 abbrev pub status_after : Outcome → ℕ

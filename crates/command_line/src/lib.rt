@@ -7,10 +7,11 @@
 //! seed says; `boostmap check FILE` says whether the recorded history of a file is legal.
 //!
 //! `run` does all that the program does, over any system that gives words and opens files, and over
-//! any two writers. What it promises (`specs/Runs.antt`): the engine of the call's own command ran
-//! on the call's own file; standard output holds what that engine wrote and nothing else; standard
-//! error holds the line of the fault, where there is one, and nothing else; and the status is that
-//! of what came of it. Which call the words ask for, no contract says.
+//! any two writers. What it promises (`specs/Runs.antt`): the engine of the command that the words
+//! ask for ran on the file that they name; standard output holds what that engine wrote and nothing
+//! else; standard error holds the line of the fault, where there is one, and nothing else; and the
+//! status is that of what came of it. What the words ask for is `asked` (`specs/Words.antt`), by
+//! the rules of `clap`.
 #![tactic(auto)]
 
 mod program;

@@ -1,7 +1,7 @@
-ghost use Rattle.std.specs.Prelude.{◌≡◌, ◌⊎◌, Bool, Result};
+ghost use Rattle.std.specs.Prelude.{◌≡◌, Bool, Result};
 ghost use Rattle.boostmap_engine.specs.declared.fault.Fault.{Fault};
-ghost use Rattle.boostmap_engine.specs.declared.fault.Fault.TheVariants.{NoMemory};
-ghost use Rattle.command_line.specs.Runs.{Does, Runs, Tells, status_after};
+ghost use Rattle.std.specs.IoError.{error_kind};
+ghost use Rattle.command_line.specs.Runs.{Does, Runs, Tells, memory_or, status_after};
 
 use crate::system::System;
 use crate::words::{Call, call_in};
@@ -24,12 +24,11 @@ pub struct Ending {
 
 /// Want of memory where the error is that, else the other fault.
 fn memory_or(error: &io::Error, other: Fault) -> Fault
-    ensures { (result ≡ NoMemory) ⊎ (result ≡ other) }
+    ensures { result ≡ memory_or (error_kind error.now) other }
 {
-    if error.kind() == io::ErrorKind::OutOfMemory {
-        Fault::NoMemory
-    } else {
-        other
+    match error.kind() {
+        io::ErrorKind::OutOfMemory => Fault::NoMemory,
+        _ => other,
     }
 }
 
@@ -69,7 +68,8 @@ fn run_words<T: Threads + Wait + Sync, S: System, W: Write>(
     system: &S,
     output: &mut W,
 ) -> Result<bool, Fault>
-    ensures { Runs (S.bytes system.now) (W.contents output.old) (W.contents output.new) result }
+    ensures { Runs (S.spoken system.now) (S.bytes system.now) (W.contents output.old)
+        (W.contents output.new) result }
 {
     let words = match system.words(alloc) {
         Ok(words) => words,
@@ -110,7 +110,8 @@ pub fn run<T: Threads + Wait + Sync, S: System, W: Write, E: Write>(
     errors: &mut E,
 ) -> Ending
     ensures { (outcome : Result Bool Fault)
-        × Runs (S.bytes system.now) (W.contents output.old) (W.contents output.new) outcome
+        × Runs (S.spoken system.now) (S.bytes system.now) (W.contents output.old)
+        (W.contents output.new) outcome
         × (result.status ≡ status_after outcome)
         × Tells (E.contents errors.old) (E.contents errors.new) result.is_told outcome }
 {

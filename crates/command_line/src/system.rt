@@ -1,4 +1,7 @@
-ghost use Rattle.std.specs.Prelude.{◌≡◌, ℕ, List, Option, Some, None, IfOk, IfSome};
+ghost use Rattle.std.specs.Prelude.{◌≡◌, ℕ, List, Option, Some, None, IfOk, IfErr, IfSome, map};
+ghost use Rattle.std.specs.String.{string_bytes};
+ghost use Rattle.std.specs.IoError.{error_kind};
+ghost use Rattle.std.specs.declared.io.ErrorKind.TheVariants.{OutOfMemory};
 
 use std::alloc::{AllocError, Global};
 use std::env::Env;
@@ -11,6 +14,9 @@ pub trait System {
     /// A file that is open for reading.
     type Input: Read + Drop;
 
+    /// The words of the call, where they are known.
+    ghost spoken: { Self → Option (List (List ℕ)) } = { λ _. None };
+
     /// The bytes of the file of a name, where they are known.
     ghost bytes: { Self → List ℕ → Option (List ℕ) } = { λ _ _. None };
 
@@ -18,12 +24,17 @@ pub trait System {
     ///
     /// # Errors
     ///
-    /// `OutOfMemory` where memory is refused; another kind where a word is no text.
+    /// `OutOfMemory` where memory is refused; another kind, where the words are not known, for a word
+    /// that is no text.
     ///
     /// # Cost
     ///
     /// The system's own.
-    fn words(&self, alloc: Global) -> io::Result<Vec<String>>;
+    fn words(&self, alloc: Global) -> io::Result<Vec<String>>
+        ensures words { IfOk result (λ words. IfSome (spoken self.now)
+            (λ known. map string_bytes words.items ≡ known)) }
+        ensures err { IfErr result (λ error. IfSome (spoken self.now)
+            (λ known. error_kind error ≡ OutOfMemory)) };
 
     /// Opens the file of this name for reading.
     ///

@@ -1,10 +1,14 @@
-ghost use Rattle.std.specs.Prelude.{◌≡◌, ◌⊎◌, IfErr};
+ghost use Rattle.std.specs.Prelude.{◌≡◌, ◌⊎◌, Some, None, IfOk, IfErr, map, option_map};
+ghost use Rattle.std.specs.String.{string_bytes};
+ghost use Rattle.clap.specs.Words.{found_of, rows_of};
 ghost use Rattle.command_line.specs.Runs.{file_of};
+ghost use Rattle.command_line.specs.Words.{Has, asked, asked_in, asked_of, seed_of};
+ghost use Rattle.command_line.specs.Words.{command_line, over_file, seeded};
 ghost use Rattle.boostmap_engine.specs.declared.fault.Fault.TheVariants as faults;
 
 use boostmap_engine::Fault;
 use clap::error::ErrorKind;
-use clap::{Arg, ArgAction, Command};
+use clap::{Arg, ArgAction, ArgMatches, Command};
 use std::alloc::{AllocError, Global};
 
 /// What the words of a call ask for.
@@ -48,7 +52,9 @@ impl<'a> Call<'a> {
 }
 
 /// A command of this name over one file.
-fn command_on_file<'a>(alloc: Global, name: &'a str) -> Result<Command<'a>, AllocError> {
+fn command_on_file<'a>(alloc: Global, name: &'a str) -> Result<Command<'a>, AllocError>
+    ensures { IfOk result (λ command. Has command (over_file name.entry.now)) }
+{
     let file = Arg::new(alloc, "FILE")
         .required(true)
         .action(ArgAction::Set);
@@ -56,7 +62,9 @@ fn command_on_file<'a>(alloc: Global, name: &'a str) -> Result<Command<'a>, Allo
 }
 
 /// The command `mix`, which has a seed as well.
-fn mix_command<'a>(alloc: Global) -> Result<Command<'a>, AllocError> {
+fn mix_command<'a>(alloc: Global) -> Result<Command<'a>, AllocError>
+    ensures { IfOk result (λ command. Has command seeded) }
+{
     let seed = Arg::new(alloc, "seed")
         .long("seed")
         .required(true)
@@ -66,7 +74,9 @@ fn mix_command<'a>(alloc: Global) -> Result<Command<'a>, AllocError> {
 
 /// The command line of the program. Each command is added as soon as it is made, so that little has
 /// to be given back where memory is refused.
-fn command<'a>(alloc: Global) -> Result<Command<'a>, AllocError> {
+fn command<'a>(alloc: Global) -> Result<Command<'a>, AllocError>
+    ensures { IfOk result (λ command. Has command command_line) }
+{
     Command::new(alloc, "boostmap")
         .subcommand_required(true)
         .subcommand(command_on_file(alloc, "replay")?)?
@@ -76,52 +86,60 @@ fn command<'a>(alloc: Global) -> Result<Command<'a>, AllocError> {
 }
 
 /// The seed that a word spells: one or more decimal digits, of a number below 2^64.
-fn seed_in(word: &str) -> Option<u64> {
-    if word.bytes().all(|byte| byte.is_ascii_digit()) {
-        word.parse::<u64>().ok()
-    } else {
-        None
+fn seed_in(word: &str) -> Option<u64>
+    ensures { result ≡ seed_of word.now }
+{
+    match word.as_bytes().first().copied() {
+        Some(b'+') => None,
+        _ => word.parse::<u64>().ok(),
     }
 }
 
-/// What the words ask for, of which the first is the program's name.
+/// The call of the command of this name, by what was found of its arguments.
+fn call_named<'a>(name: &str, found: &ArgMatches<'a>) -> Option<Call<'a>>
+    ensures { option_map asked_of result ≡ asked_in name.now (rows_of (found_of found.now)) }
+{
+    let file = found.get_str("FILE")?;
+    match name {
+        "replay" => Some(Call::Replay { file }),
+        "run" => Some(Call::Run { file }),
+        "mix" => {
+            let seed = seed_in(found.get_str("seed")?)?;
+            Some(Call::Mix { seed, file })
+        }
+        "check" => Some(Call::Check { file }),
+        _ => None,
+    }
+}
+
+/// What the words ask for, of which the first is the program's name, by the rules of `clap`.
 ///
 /// # Errors
 ///
-/// - `Usage` for words that are no call of the program, a call for help among them.
+/// - `Usage` exactly for words that are no call of the program, a call for help among them.
 /// - `NoMemory` where memory is refused.
 ///
 /// # Cost
 ///
 /// Time and memory in proportion to the words.
 pub fn call_in<'a>(alloc: Global, words: &'a [String]) -> Result<Call<'a>, Fault>
-    ensures { IfErr result (λ fault. (fault ≡ faults.Usage) ⊎ (fault ≡ faults.NoMemory)) }
+    ensures call { IfOk result (λ call.
+        asked (map string_bytes words.entry.now) ≡ Some (asked_of call)) }
+    ensures err { IfErr result (λ fault. (fault ≡ faults.NoMemory)
+        ⊎ ((fault ≡ faults.Usage) × (asked (map string_bytes words.entry.now) ≡ None))) }
 {
     let command = command(alloc)?;
     let matches = match command.try_get_matches_from(words) {
         Ok(matches) => matches,
         Err(error) => {
-            return Err(if error.kind() == ErrorKind::OutOfMemory {
-                Fault::NoMemory
-            } else {
-                Fault::Usage
+            return Err(match error.kind() {
+                ErrorKind::OutOfMemory => Fault::NoMemory,
+                _ => Fault::Usage,
             });
         }
     };
     let Some((name, found)) = matches.subcommand() else {
         return Err(Fault::Usage);
     };
-    let Some(file) = found.get_str("FILE") else {
-        return Err(Fault::Usage);
-    };
-    match name {
-        "replay" => Ok(Call::Replay { file }),
-        "run" => Ok(Call::Run { file }),
-        "mix" => match found.get_str("seed").and_then(|word| seed_in(word)) {
-            Some(seed) => Ok(Call::Mix { seed, file }),
-            None => Err(Fault::Usage),
-        },
-        "check" => Ok(Call::Check { file }),
-        _ => Err(Fault::Usage),
-    }
+    call_named(name, found).ok_or(Fault::Usage)
 }

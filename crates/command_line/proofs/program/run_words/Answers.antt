@@ -1,14 +1,23 @@
-use Rattle.std.proofs.Common.{inl, inr, refl}
-use Rattle.boostmap_engine.specs.declared.fault.Fault.TheVariants.{Usage, Read}
-use Rattle.command_line.proofs.Running.{runs_none, runs_call}
+use Rattle.std.proofs.Common.{map, string_bytes, sym, ap, ◌∙◌}
+use Rattle.std.specs.IoError.{error_kind}
+use Rattle.command_line.specs.Words.{asked}
+use Rattle.command_line.proofs.Running.{no_words, no_call, not_opened, runs_call}
 use Rattle.command_line.proofs.program.run_words.Goals as goal
 
 pub returns-in-Err : goal.returns-in-Err
-returns-in-Err g c = runs_none (g.S.System.bytes c.args.system.now) _ c.memory_or.result Usage (inl refl) c.memory_or.ensures
+returns-in-Err g c = rw c.memory_or.ensures (no_words (g.S.System.spoken c.args.system.now) _ _ (error_kind c.in-Err.error) c.in-Err.ensures.err)
+
+pub returns-in_err-call : goal.returns-in_err-call
+returns-in_err-call g c =
+    no_call (g.S.System.spoken c.args.system.now) (map string_bytes c.in-Ok.words.items) _ _ c.from_residual.result c.in_err-call.field-0.0 c.in-Ok.ensures.words
+    (rw c.deref.ensures.value at c.in_err-call.ensures.err) c.from_residual.ensures.1
 
 pub returns-in-Err-open : goal.returns-in-Err-open
-returns-in-Err-open g c = runs_none (g.S.System.bytes c.args.system.now) _ c.memory_or-in-Err-open.result Read (inr refl) c.memory_or-in-Err-open.ensures
+returns-in-Err-open g c =
+    rw c.memory_or-in-Err-open.ensures (not_opened (g.S.System.spoken c.args.system.now) (map string_bytes c.in-Ok.words.items) c.in_ok-call.call _ _ (error_kind c.in-Err-open.error) c.in-Ok.ensures.words
+    (ap (λ words. asked (map string_bytes words)) (sym c.deref.ensures.value) ∙ c.in_ok-call.ensures.call))
 
 pub returns : goal.returns
 returns g c =
-    runs_call (g.S.System.bytes c.args.system.now) c.in_ok-call.call c.file.result.now _ _ _ c.run_engine.result c.file.ensures c.in-Ok-open.ensures c.run_engine.ensures
+    runs_call (g.S.System.spoken c.args.system.now) (map string_bytes c.in-Ok.words.items) (g.S.System.bytes c.args.system.now) c.in_ok-call.call c.file.result.now _ _ _ c.run_engine.result
+    c.in-Ok.ensures.words (ap (λ words. asked (map string_bytes words)) (sym c.deref.ensures.value) ∙ c.in_ok-call.ensures.call) c.file.ensures c.in-Ok-open.ensures c.run_engine.ensures

@@ -1,0 +1,90 @@
+-- Which call the words of a command line spell, by the rules of `clap`.
+use Rattle.std.specs.Prelude.{◌≡◌, ℕ, ◌^◌, ◌&&◌, Bool, true, false, List, [], ◌∷◌, codes, length}
+use Rattle.std.specs.Prelude.{Option, Some, None, if◌then◌else◌, nat_lt, option_map}
+use Rattle.std.specs.Prelude.{option_and_then}
+use Rattle.std.specs.List.{list_all, list_any}
+use Rattle.std.specs.Str.{bytes_eq}
+use Rattle.std.specs.Str.Parse.{digits_value}
+use Rattle.std.specs.Char.{digit_value}
+use Rattle.clap.specs.declared.builder.action.ArgAction.TheVariants.{Set}
+use Rattle.clap.specs.declared.builder.command.Command.{Command}
+use Rattle.clap.specs.declared.builder.command.Command.TheViews.{out-Command}
+use Rattle.clap.specs.Words.{App, Rule, Row, Text, Kinds, app_of, fault_of, first_of, new_app}
+use Rattle.clap.specs.Words.{new_rule, subcommand_of, with_rule, with_subcommand}
+use Rattle.clap.specs.Simple.{on_top}
+use Rattle.command_line.specs.declared.words.Call.{Call}
+use Rattle.command_line.specs.declared.words.Call.TheVariants.{Replay, Run, Mix, Check}
+
+-- What a call asks for: the name of its command, the seed of `mix`, and the name of its file.
+abbrev pub Asked : Type 0
+Asked = Text × Option ℕ × Text
+
+abbrev pub asked_of : Call → Asked
+asked_of (Replay file) = (codes "replay", None, file.now)
+asked_of (Run file) = (codes "run", None, file.now)
+asked_of (Mix seed file) = (codes "mix", Some seed, file.now)
+asked_of (Check file) = (codes "check", None, file.now)
+
+-- The command line: `replay FILE`, `run FILE`, `mix --seed N FILE` and `check FILE`, each as one
+-- of `clap`'s applications, whose own rules say how words are read.
+abbrev pub file_word : Rule
+file_word = record (new_rule (codes "FILE")) { required = true; action = Some Set }
+
+abbrev pub seed_word : Rule
+seed_word = record (new_rule (codes "seed")) {
+  long = Some (codes "seed");
+  required = true;
+  action = Some Set;
+}
+
+abbrev pub over_file : Text → App
+over_file name = with_rule (new_app name) file_word
+
+abbrev pub seeded : App
+seeded = with_rule (over_file (codes "mix")) seed_word
+
+abbrev pub without_commands : App
+without_commands = on_top (λ s. record s { subcommand_required = true }) (new_app (codes "boostmap"))
+
+abbrev pub command_line : App
+command_line =
+    let replay = with_subcommand without_commands (over_file (codes "replay")).top in
+    let run = with_subcommand replay (over_file (codes "run")).top in
+    let mix = with_subcommand run seeded.top in
+    with_subcommand mix (over_file (codes "check")).top
+
+-- A command that is built by `clap` is this one.
+abbrev pub Has : Command → App → Type 0
+Has command app = (app_of command ≡ app) × ((out-Command command).has_globals ≡ false)
+
+-- The number that a word of one or more decimal digits writes, if it is below 2^64.
+abbrev pub is_numeral : Text → Bool
+is_numeral word = nat_lt 0 (length word) && list_all (λ c. nat_lt (digit_value c) 10) word
+
+abbrev pub seed_of : Text → Option ℕ
+seed_of word =
+    let seed = digits_value 10 word in
+    if is_numeral word && nat_lt seed (2 ^ 64) then Some seed else None
+
+-- What a command with this name asks for, with this seed and this file.
+abbrev pub asked_for : Text → Option ℕ → Text → Option Asked
+asked_for name seed file =
+    if bytes_eq name (codes "mix") then option_map (λ n. (name, Some n, file)) seed
+    else if list_any (bytes_eq name) (codes "replay" ∷ codes "run" ∷ codes "check" ∷ [])
+    then Some (name, None, file) else None
+
+-- The same, by what was found for its arguments.
+abbrev pub asked_in : Text → List Row → Option Asked
+asked_in name rows = option_and_then (λ file.
+    asked_for name (option_and_then seed_of (first_of (codes "seed") rows)) file)
+    (first_of (codes "FILE") rows)
+
+-- What was found, where no fault was.
+abbrev pub unless : Kinds → Option Asked → Option Asked
+unless [] found = found
+unless (kind ∷ kinds) found = None
+
+-- What the words ask for, of which the first is the program's name; none where they are no call.
+abbrev pub asked : List Text → Option Asked
+asked words = unless (fault_of command_line words)
+    (option_and_then (λ found. asked_in found.0 found.1) (subcommand_of command_line words))
