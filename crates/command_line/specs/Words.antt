@@ -44,7 +44,8 @@ abbrev pub seeded : App
 seeded = with_rule (over_file (codes "mix")) seed_word
 
 abbrev pub without_commands : App
-without_commands = on_top (λ s. record s { subcommand_required = true }) (new_app (codes "boostmap"))
+without_commands =
+    on_top (λ s. record s { subcommand_required = true }) (new_app (codes "boostmap"))
 
 abbrev pub command_line : App
 command_line =

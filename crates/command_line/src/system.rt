@@ -24,8 +24,8 @@ pub trait System {
     ///
     /// # Errors
     ///
-    /// `OutOfMemory` where memory is refused; another kind, where the words are not known, for a word
-    /// that is no text.
+    /// `OutOfMemory` where memory is refused; another kind, where the words are not known, for a
+    /// word that is no text.
     ///
     /// # Cost
     ///
