@@ -394,7 +394,7 @@ impl Session {
 
 /// One line of the history.
 #[cfg_attr(alike, repr(C))]
-#[derive(Clone, Copy)]
+#[derive(Clone, Copy, PartialEq)]
 pub enum Entry {
     Began(u64, u64),
     Asked(u64, Op),
@@ -495,6 +495,10 @@ impl Core {
     #[inline(never)]
     pub fn run(&mut self, steps: &[Step]) -> Vec<Answer> {
         steps.iter().map(|step| self.step(*step)).collect()
+    }
+
+    pub fn history(&self) -> &[Entry] {
+        &self.history
     }
 
     pub fn into_history(self) -> Vec<Entry> {

@@ -15,7 +15,7 @@ pub struct Limits {
 }
 
 #[cfg_attr(alike, repr(C))]
-#[derive(Clone, Copy)]
+#[derive(Clone, Copy, PartialEq)]
 pub enum Op {
     Put(u64, u64),
     Take(u64),

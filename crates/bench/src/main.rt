@@ -1,15 +1,16 @@
 //! Times the nodes and cursors of the split-ordered list, as a table of 65,536 buckets uses them,
-//! the table itself beside other maps, the core, and the stripes as atomic words.
+//! the table itself beside other maps, the core, the shared map, and the stripes as atomic words.
 //!
 //! Each phase writes one line on standard error: what it did, how many operations, how long, and
 //! the sum of what they answered, by which another program that does the same can be compared; the
 //! words write how many takes were granted. Nothing is written on standard output.
 //!
-//! The first argument is `nodes`, `maps`, `core` or `words`, for that part alone, or `all`, as if
-//! there were none. The second is how many keys there are, of the words how many takes each thread
-//! has; without one there are few. The third is of `core` alone a step file, whose steps the core
-//! then takes in place of puts at few keys, and of `words` alone how many threads there are, up to
-//! 64; without one there are two.
+//! The first argument is `nodes`, `maps`, `core`, `shared` or `words`, for that part alone, or
+//! `all`, as if there were none. The second is how many keys there are, of the words how many takes
+//! each thread has; without one there are few. The third is of `core` alone a step file, whose
+//! steps the core then takes in place of puts at few keys, of `shared` alone a script file, whose
+//! scripts are run in place of puts at few keys, and of `words` alone how many threads there are,
+//! up to 64; without one there are two.
 #![tactic(auto)]
 
 mod any_map;
@@ -19,6 +20,7 @@ mod keys;
 mod map_phases;
 mod node_phases;
 mod node_table;
+mod shared_runs;
 mod stopwatch;
 mod words;
 
@@ -26,6 +28,7 @@ use anyhow::{Context, Result, ensure};
 use core_phases::{time_file, time_puts};
 use map_phases::time_maps;
 use node_phases::time_nodes;
+use shared_runs::{time_put_scripts, time_script_file};
 use std::env;
 use words::time_words;
 
@@ -42,7 +45,7 @@ fn main(rt: HostRuntime) -> Result<()> {
     let mut arguments = env::args(&rt)?.skip(1);
     let word = arguments.next();
     let part = word.as_ref().map_or("all", |word| word.as_str());
-    let is_part = matches!(part, "all" | "nodes" | "maps" | "core" | "words");
+    let is_part = matches!(part, "all" | "nodes" | "maps" | "core" | "shared" | "words");
     ensure!(is_part, "no such part: {part}");
     let wanted = |name: &str| part == name || part == "all";
     let (count, operations) = match arguments.next() {
@@ -59,6 +62,12 @@ fn main(rt: HostRuntime) -> Result<()> {
         match arguments.next() {
             Some(file) => time_file(&rt, &file)?,
             None => time_puts(&rt, count)?,
+        }
+    }
+    if wanted("shared") {
+        match arguments.next() {
+            Some(file) => time_script_file(&rt, &file)?,
+            None => time_put_scripts(&rt, count)?,
         }
     }
     if wanted("words") {

@@ -32,8 +32,8 @@ pub record Gap : Type 0 where
 -- The limits, whether stripes are words, the history, the size, for each bucket whether it is
 -- stored and whether its dummy is linked, the linked nodes in order, the list's change number, the
 -- last stamp given, for each caller the change number that its cursor noted and, where that fits,
--- the nodes between which it stands, the same nodes for each helper, what each helper has, and whose
--- cursor the last move placed.
+-- the nodes between which it stands, the same nodes for each helper, what each helper has, and
+-- whose cursor the last move placed.
 pub record State : Type 0 where
   pub limits : Sizes
   pub words : Bool

@@ -6,10 +6,10 @@ ghost use Rattle.boostmap_engine.specs.Judgement.{verdict_line, says_legal, hold
 ghost use Rattle.boostmap_engine.specs.Written.{HasNone};
 
 use crate::fault::Fault;
-use history_check::{Verdict, check};
+use history_check::{Verdict, check_packed};
 use std::alloc::{AllocError, Global};
-use txn_files::{FileFault, read_history};
-use txn_trace::{Entry, Holder};
+use txn_files::{FileFault, read_packed_history};
+use txn_trace::{Holder, PackedEntry};
 
 /// The last version of history files in which a Busy names a caller that holds the stripe.
 const LAST_OF_NOW: u64 = 2;
@@ -27,10 +27,10 @@ fn holder_in(version: u64) -> Holder
 
 /// The stripes, the entries and the version of the history file that the bytes are, with no bytes
 /// left.
-fn history_in(alloc: Global, bytes: Vec<u8>) -> Result<(u32, Vec<Entry>, u64), FileFault>
+fn history_in(alloc: Global, bytes: Vec<u8>) -> Result<(u32, Vec<PackedEntry>, u64), FileFault>
     ensures { Gives (λ file. (file.0, file.1.items, file.2)) result (history_of bytes.items) }
 {
-    read_history(alloc, &bytes)
+    read_packed_history(alloc, &bytes)
 }
 
 /// The verdict on the history that the bytes are, by the rule of their version.
@@ -47,7 +47,7 @@ pub fn judge(alloc: Global, bytes: Vec<u8>) -> Result<Verdict, Fault>
     ensures err { IfErr result (HasNone IsNoHistoryFile bytes.items) }
 {
     let (stripes, entries, version) = history_in(alloc, bytes)?;
-    let verdict = check(alloc, &entries, u64::from(stripes), holder_in(version))?;
+    let verdict = check_packed(alloc, &entries, u64::from(stripes), holder_in(version))?;
     Ok(verdict)
 }
 

@@ -274,8 +274,8 @@ static CASES: [Case; 9] = [
             (Step::Act(0), Answer::Aborted, Some(Outcome::Aborted), None),
         ],
     },
-    // A refused call aborts the transaction, and a refused begin ends the script; help with a bad key
-    // takes no step.
+    // A refused call aborts the transaction, and a refused begin ends the script; help with a bad
+    // key takes no step.
     Case {
         number: 0,
         workers: 1,
@@ -314,8 +314,8 @@ static CASES: [Case; 9] = [
             ),
         ],
     },
-    // The first help with a bad key is refused without a step, and its transaction given up: neither
-    // further ones nor a put come after it.
+    // The first help with a bad key is refused without a step, and its transaction given up:
+    // neither further ones nor a put come after it.
     Case {
         number: 0,
         workers: 1,

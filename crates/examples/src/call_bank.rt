@@ -5,8 +5,8 @@ use boost_core::Core;
 use std::io::Print;
 use txn_trace::{Limits, Step};
 
-/// Caller 0 opens two accounts and begins anew; caller 1 moves a sum and then one that is too large.
-/// Prints what came of it.
+/// Caller 0 opens two accounts and begins anew; caller 1 moves a sum and then one that is too
+/// large. Prints what came of it.
 pub(crate) fn show<R: Print + AllocGlobal>(rt: &R) -> Result<()> {
     let limits = Limits::new(2, 8, 8).map_err(|refusal| anyhow!("refused {refusal}"))?;
     let mut core = Core::new(rt.alloc(), limits).map_err(|refusal| anyhow!("refused {refusal}"))?;

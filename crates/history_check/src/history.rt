@@ -8,7 +8,7 @@ ghost use Rattle.history_check.specs.Verdicts.{meaning_of, SaysLegal};
 use crate::checker::Checker;
 use crate::verdict::Verdict;
 use std::alloc::{AllocError, Global};
-use txn_trace::{Entry, Holder};
+use txn_trace::{Entry, Holder, PackedEntry};
 
 /// Judges a whole history of a map with so many stripes, whose callers are below 64 and whose Busy
 /// entries may name such a caller.
@@ -44,6 +44,35 @@ pub fn check(
     let mut checker = Checker::new(alloc, stripes, holder)?;
     for entry in entries {
         checker.feed(entry)?;
+    }
+    Ok(checker.verdict())
+}
+
+/// The same as `check`, of entries that are packed.
+///
+/// # Errors
+///
+/// `AllocError` where memory is refused.
+///
+/// # Cost
+///
+/// That of `check`.
+pub fn check_packed(
+    alloc: Global,
+    entries: &[PackedEntry],
+    stripes: u64,
+    holder: Holder,
+) -> Result<Verdict, AllocError>
+    requires stripes { 0 < stripes }
+    requires callers { All (λ entry. caller_of entry < 64) entries.now }
+    ensures verdict { IfOk result (λ outcome.
+        meaning_of outcome ≡ verdict holder stripes entries.now) }
+    ensures legal { IfOk result (λ outcome.
+        SaysLegal outcome ↔ IsLegal holder stripes entries.now) }
+{
+    let mut checker = Checker::new(alloc, stripes, holder)?;
+    for entry in entries {
+        checker.feed(&entry.entry())?;
     }
     Ok(checker.verdict())
 }

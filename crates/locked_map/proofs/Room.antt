@@ -43,7 +43,21 @@ room_free n step free adds save owes = record {
   save = λ is. absurd (false≢true (sym save ∙ is));
 }
 
--- Nor does one where something is owed.
+saves_none : (step : Step) → adds_entry step ≡ false → (reserved step ≡ 0) × (is_save step ≡ false)
+saves_none (steps.Begin c) is = absurd (false≢true (sym is))
+saves_none (steps.Ask c op) is = absurd (false≢true (sym is))
+saves_none (steps.Act c) is = absurd (false≢true (sym is))
+saves_none (steps.Save c) is = absurd (false≢true (sym is))
+saves_none (steps.Back c n) is = absurd (false≢true (sym is))
+saves_none (steps.Commit c) is = absurd (false≢true (sym is))
+saves_none (steps.Abort c) is = absurd (false≢true (sym is))
+saves_none step is = (refl, refl)
+
+-- Any step that adds none finds its room there.
+pub room_for_none : (n : Noted) (step : Step) → adds_entry step ≡ false → owed_by (seat_after n.entries) ≤ n.room → HasRoomFor n step
+room_for_none n step adds owes = let none = saves_none step adds in room_free n step none.0 adds none.1 owes
+
+-- Nor does one want more where something is owed.
 room_owed : (n : Noted) (s : Seat) (step : Step) → seat_after n.entries ≡ Some s → 0 < owed_in s.standing s.phase → reserved step ≡ 0 → is_save step ≡ false → owed_by (seat_after n.entries) ≤ n.room → HasRoomFor n step
 room_owed n s step at some free save owes =
     let owed_is : owed_by (seat_after n.entries) ≡ owed_in s.standing s.phase = ap owed_by at in record {

@@ -9,6 +9,7 @@ use Rattle.txn_trace.specs.declared.step.Step.{Step}
 use Rattle.txn_trace.specs.Entries.{entries_of}
 use Rattle.txn_trace.specs.History.{is_commit}
 use Rattle.txn_trace.specs.Shape.{Seat, seat_after}
+use Rattle.txn_trace.specs.Sizes.{Sizes}
 use Rattle.txn_drive.specs.declared.call.Call.{Call}
 use Rattle.txn_drive.specs.declared.drive.Drive.{Drive}
 use Rattle.txn_drive.specs.declared.«end».End.{End}
@@ -22,7 +23,7 @@ use Rattle.boost_core.specs.State.{State}
 use Rattle.boost_core.specs.Words.{Goes}
 use Rattle.locked_map.specs.Claims.{Trial, claim_in}
 use Rattle.locked_map.specs.Tokens.{Token, IsSameCaller, IsSameClaims}
-use Rattle.locked_map.specs.Suits.{is_odd, Fits, IsInStep}
+use Rattle.locked_map.specs.Suits.{is_odd, may_refuse, Fits, IsInStep, IsSized}
 
 -- How a hold went: the token was broken; the core has not as many stripes as there are words; there
 -- was no room for what the turn may add; or the turn was taken.
@@ -122,6 +123,20 @@ FitsIf (Some s) call phase = Fits s call phase
 pub record GoesOn (base seen : List Entry) (d : Drive) : Type 0 where
   pub entries : seen ≡ base ++ made d
   pub fits : FitsIf (seat_after seen) d.call d.phase
+
+-- What taking a turn comes to: `taken` says whether there was room for what it may add. Without
+-- room nothing is done, which happens only to a call that has added nothing yet and may be refused
+-- memory.
+pub record TurnTaken (tried : Option Trial) (m : State) (seen : List Entry) (d : Drive)
+    (turn : Turn) (taken : Bool) (n : State) (seen' : List Entry) (e : Drive) : Type 0 where
+  pub took : taken ≡ true → TakesTurn tried m seen d turn n seen' e
+  pub whose : (e.caller ≡ d.caller) × (e.call ≡ d.call)
+  pub no_room : taken ≡ false → (n ≡ m) × (seen' ≡ seen) × (e ≡ d)
+  pub in_step : (limits : Sizes) (c : ℕ) → IsSized m.size d.phase → IsInStep m limits c seen d
+      → IsInStep n limits c seen' e
+  pub goes : (base : List Entry) → GoesOn base seen d → GoesOn base seen' e
+  pub starts : taken ≡ false → (base : List Entry) → GoesOn base seen d
+      → (made d ≡ []) × (may_refuse d.call NoMemory ≡ true)
 
 -- How a call may end.
 abbrev pub MayEnd : Call → End → Type 0

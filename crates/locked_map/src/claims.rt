@@ -78,6 +78,7 @@ impl Claims {
 
     /// Takes a step of the caller on a core. An operation is asked for by the right, or by the word
     /// that was found.
+    #[inline(always)]
     pub(crate) fn step(&self, core: &mut Core, step: Step) -> Answer
         requires words { core.old.words ≡ true }
         requires stripes { core.old.limits.stripes ≡ self.now.stripes }

@@ -100,14 +100,18 @@ impl<L: Ledger> Seen<L> {
     /// # Errors
     ///
     /// `AllocError` where memory is refused, and only where there was no such room.
+    #[inline(always)]
     pub(crate) fn reserve(&mut self, step: Step) -> Result<(), AllocError>
         requires { is_some (seat_after self.old.entries) ≡ true }
         ensures entries { self.new.entries ≡ self.old.entries }
         ensures ok { OnOk result (HasRoomFor self.new step) }
         ensures full { OnErr result (HasRoomFor self.old step → ⊥) }
     {
-        let least = u64::from(adds_entry(step));
-        let wanted = (self.seat.owed() + step.entry_room()).max(least);
+        let _seen = self.entries();
+        if !adds_entry(step) {
+            return Ok(());
+        }
+        let wanted = (self.seat.owed() + step.entry_room()).max(1);
         self.entries.reserve(wanted as usize)?;
         if let Step::Save(_) = step {
             self.seat.reserve_level()?;
@@ -116,6 +120,7 @@ impl<L: Ledger> Seen<L> {
     }
 
     /// Notes the entries of a step that was answered so, and counts them in the book.
+    #[inline(always)]
     pub(crate) fn note(&mut self, book: &mut Book<L>, step: Step, answer: Answer)
         requires whole { is_some (seat_after self.old.entries) ≡ true }
         requires room { HasRoomFor self.old step }

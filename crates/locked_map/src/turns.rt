@@ -10,7 +10,7 @@ ghost use Rattle.txn_drive.specs.Made.{made};
 ghost use Rattle.locked_map.specs.Claims.{HasTriedFor};
 ghost use Rattle.locked_map.specs.Noted.{HasRoomFor};
 ghost use Rattle.locked_map.specs.Suits.{may_refuse, IsSized, IsInStep};
-ghost use Rattle.locked_map.specs.Holds.{Takes, TakesTurn, GoesOn};
+ghost use Rattle.locked_map.specs.Holds.{Takes, TurnTaken, GoesOn};
 
 use crate::booked::Booked;
 use crate::claims::Claims;
@@ -31,44 +31,114 @@ pub(crate) fn take_turn<L: Ledger>(
     requires whole { is_some (seat_after seen.old.entries) ≡ true }
     requires stripes { booked.old.core.limits.stripes ≡ claims.now.stripes }
     requires tried { HasTriedFor claims.now.tried claims.now.stripes drive.old.call }
-    ensures took { result ≡ true
-        → TakesTurn claims.now.tried booked.old.core seen.old.entries drive.old turn
-        booked.new.core seen.new.entries drive.new }
-    ensures whose { (drive.new.caller ≡ drive.old.caller) × (drive.new.call ≡ drive.old.call) }
-    ensures no_room { result ≡ false
-        → (booked.new.core ≡ booked.old.core) × (seen.new.entries ≡ seen.old.entries)
-        × (drive.new ≡ drive.old) }
-    ensures in_step { (limits : Sizes) (c : ℕ) → IsSized booked.old.core.size drive.old.phase
-        → IsInStep booked.old.core limits c seen.old.entries drive.old
-        → IsInStep booked.new.core limits c seen.new.entries drive.new }
-    ensures goes { (base : List Entry) → GoesOn base seen.old.entries drive.old
-        → GoesOn base seen.new.entries drive.new }
-    ensures starts { result ≡ false → (base : List Entry) → GoesOn base seen.old.entries drive.old
-        → (made drive.old ≡ []) × (may_refuse drive.old.call Refusal.NoMemory ≡ true) }
+    ensures { TurnTaken claims.now.tried booked.old.core seen.old.entries drive.old turn
+        result booked.new.core seen.new.entries drive.new }
+{
+    match turn {
+        Turn::One(step) => take_step(seen, claims, booked, drive, step),
+        Turn::Two(first, second) => take_two(seen, claims, booked, drive, first, second),
+        Turn::Ended(_) => true,
+    }
+}
+
+/// The same of a turn of one step. An arm each, so that `take_one` is compiled by itself for the
+/// kinds of step of which each operation takes one.
+#[inline(always)]
+fn take_step<L: Ledger>(
+    seen: &mut Seen<L>,
+    claims: &Claims,
+    booked: &mut Booked<L>,
+    drive: &mut Drive,
+    step: Step,
+) -> bool
+    requires turn { Turn.One step ≡ turn_of drive.old }
+    requires whole { is_some (seat_after seen.old.entries) ≡ true }
+    requires stripes { booked.old.core.limits.stripes ≡ claims.now.stripes }
+    requires tried { HasTriedFor claims.now.tried claims.now.stripes drive.old.call }
+    ensures { TurnTaken claims.now.tried booked.old.core seen.old.entries drive.old
+        (Turn.One step) result booked.new.core seen.new.entries drive.new }
+{
+    match step {
+        Step::Ask(caller, op) => take_one(seen, claims, booked, drive, Step::Ask(caller, op)),
+        Step::Seek(caller) => take_one(seen, claims, booked, drive, Step::Seek(caller)),
+        Step::Act(caller) => take_one(seen, claims, booked, drive, Step::Act(caller)),
+        _ => take_other(seen, claims, booked, drive, step),
+    }
+}
+
+/// The same of any step, compiled once.
+#[inline(never)]
+fn take_other<L: Ledger>(
+    seen: &mut Seen<L>,
+    claims: &Claims,
+    booked: &mut Booked<L>,
+    drive: &mut Drive,
+    step: Step,
+) -> bool
+    requires turn { Turn.One step ≡ turn_of drive.old }
+    requires whole { is_some (seat_after seen.old.entries) ≡ true }
+    requires stripes { booked.old.core.limits.stripes ≡ claims.now.stripes }
+    requires tried { HasTriedFor claims.now.tried claims.now.stripes drive.old.call }
+    ensures { TurnTaken claims.now.tried booked.old.core seen.old.entries drive.old
+        (Turn.One step) result booked.new.core seen.new.entries drive.new }
+{
+    take_one(seen, claims, booked, drive, step)
+}
+
+/// The same, compiled for each kind of step that it is called with.
+#[inline(always)]
+fn take_one<L: Ledger>(
+    seen: &mut Seen<L>,
+    claims: &Claims,
+    booked: &mut Booked<L>,
+    drive: &mut Drive,
+    step: Step,
+) -> bool
+    requires turn { Turn.One step ≡ turn_of drive.old }
+    requires whole { is_some (seat_after seen.old.entries) ≡ true }
+    requires stripes { booked.old.core.limits.stripes ≡ claims.now.stripes }
+    requires tried { HasTriedFor claims.now.tried claims.now.stripes drive.old.call }
+    ensures { TurnTaken claims.now.tried booked.old.core seen.old.entries drive.old
+        (Turn.One step) result booked.new.core seen.new.entries drive.new }
 {
     let _seen = seen.entries();
-    match turn {
-        Turn::One(step) => {
-            if seen.reserve(step).is_err() {
-                return false;
-            }
-            take(seen, claims, booked, drive, step);
-        }
-        Turn::Two(first, second) => {
-            if seen.reserve(second).is_err() {
-                return false;
-            }
-            if let Answer::Placed = take(seen, claims, booked, drive, first) {
-                take(seen, claims, booked, drive, second);
-            }
-        }
-        Turn::Ended(_) => {}
+    if seen.reserve(step).is_err() {
+        return false;
+    }
+    take(seen, claims, booked, drive, step);
+    true
+}
+
+/// The same of a turn of two steps: the second is taken where the first was answered `Placed`.
+#[inline(never)]
+fn take_two<L: Ledger>(
+    seen: &mut Seen<L>,
+    claims: &Claims,
+    booked: &mut Booked<L>,
+    drive: &mut Drive,
+    first: Step,
+    second: Step,
+) -> bool
+    requires turn { Turn.Two first second ≡ turn_of drive.old }
+    requires whole { is_some (seat_after seen.old.entries) ≡ true }
+    requires stripes { booked.old.core.limits.stripes ≡ claims.now.stripes }
+    requires tried { HasTriedFor claims.now.tried claims.now.stripes drive.old.call }
+    ensures { TurnTaken claims.now.tried booked.old.core seen.old.entries drive.old
+        (Turn.Two first second) result booked.new.core seen.new.entries drive.new }
+{
+    let _seen = seen.entries();
+    if seen.reserve(second).is_err() {
+        return false;
+    }
+    if let Answer::Placed = take(seen, claims, booked, drive, first) {
+        take(seen, claims, booked, drive, second);
     }
     true
 }
 
 /// Takes a step, for which there is room: on the core, in the book, in what is seen, and in the
 /// drive.
+#[inline(always)]
 #[tactic(auto, using(crate::proofs::Claiming::tried_step))]
 fn take<L: Ledger>(
     seen: &mut Seen<L>,

@@ -102,7 +102,7 @@ impl Heard {
     }
 
     /// Makes a call, if there is room for its reply, and notes how it has ended.
-    #[tactic(auto, using(crate::proofs::Adding::adds_of, crate::proofs::Adding::adds_none, crate::proofs::Adding::room_at))]
+    #[tactic(auto, using(crate::proofs::Adding::adds_of, crate::proofs::Adding::room_at))]
     fn hear<L: Ledger, H: OnRelease, R: Wait>(
         &mut self,
         rt: &R,

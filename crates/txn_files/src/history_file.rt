@@ -1,4 +1,4 @@
-ghost use Rattle.std.specs.Prelude.{◌≡◌, map, true, false};
+ghost use Rattle.std.specs.Prelude.{◌≡◌, map, true, false, IfOk};
 ghost use Rattle.std.specs.List.{list_all};
 ghost use Rattle.piece_files.specs.Plain.{data_of};
 ghost use Rattle.piece_files.specs.Faults.{Gives};
@@ -12,8 +12,8 @@ use piece_files::{
     FileFault, Part, PieceKind, Plain, Stop, end_in, number_in, one_in, optional_in,
     plain_elements, read_file, word_in,
 };
-use std::alloc::Global;
-use txn_trace::{Entry, Limits};
+use std::alloc::{AllocError, Global};
+use txn_trace::{Entry, Limits, PackedEntry};
 
 /// The largest number that a caller may have.
 const MAX_CALLER: u64 = Limits::MAX_CALLERS - 1;
@@ -87,13 +87,20 @@ fn entry_in(values: &[Plain<'_>]) -> Option<Entry>
     entry_named_in(name, caller, rest)
 }
 
-/// Entries, as pieces of a history file.
+/// The entry that has these elements, packed.
+fn packed_entry_in(values: &[Plain<'_>]) -> Option<PackedEntry>
+    ensures { result ≡ entry_of (map data_of values.now) }
+{
+    Some(PackedEntry::new(entry_in(values)?))
+}
+
+/// Entries, as pieces of a history file. They are kept packed.
 struct EntryKind;
 
 impl PieceKind for EntryKind {
     ghost use Rattle.piece_files.specs.declared.part.Part.TheVariants as parts;
 
-    type Piece = Entry;
+    type Piece = PackedEntry;
 
     ghost of = { entry_of };
 
@@ -109,8 +116,8 @@ impl PieceKind for EntryKind {
         Part::Entry
     }
 
-    fn is_old(entry: &Entry) -> bool {
-        match *entry {
+    fn is_old(entry: &PackedEntry) -> bool {
+        match entry.entry() {
             Entry::Asked(_, op) | Entry::Busy(_, op, _) => is_old_op(op),
             _ => true,
         }
@@ -121,10 +128,14 @@ impl PieceKind for EntryKind {
     }
 
     #[tactic(auto, using(crate::proofs::PlainPieces::no_entry))]
-    fn read(_alloc: Global, reader: &mut Reader<'_>, depth: usize) -> Result<Option<Entry>, Stop> {
+    fn read(
+        _alloc: Global,
+        reader: &mut Reader<'_>,
+        depth: usize,
+    ) -> Result<Option<PackedEntry>, Stop> {
         let mut elements = ArrayVec::<Plain<'_>, MAX_ELEMENTS>::new();
         if plain_elements(reader, depth, &mut elements)? {
-            Ok(entry_in(&elements))
+            Ok(packed_entry_in(&elements))
         } else {
             Ok(None)
         }
@@ -132,10 +143,10 @@ impl PieceKind for EntryKind {
 }
 
 /// Whether the callers of an entry are in range.
-fn is_in_range(entry: &Entry) -> bool
+fn is_in_range(entry: &PackedEntry) -> bool
     ensures { result ≡ is_in_range entry.now }
 {
-    match *entry {
+    match entry.entry() {
         Entry::Busy(caller, _, holder) => caller <= MAX_CALLER && holder <= MAX_CALLER,
         Entry::Began(caller, _)
         | Entry::Asked(caller, _)
@@ -150,14 +161,14 @@ fn is_in_range(entry: &Entry) -> bool
 }
 
 /// Whether the callers of all entries are in range.
-fn are_in_range(entries: &[Entry]) -> bool
+fn are_in_range(entries: &[PackedEntry]) -> bool
     ensures { result ≡ list_all is_in_range entries.now }
 {
     entries.iter().all(|entry| is_in_range(entry))
 }
 
 /// Whether the numbers of a history are in range.
-fn is_history(stripes: u64, entries: &[Entry]) -> bool
+fn is_history(stripes: u64, entries: &[PackedEntry]) -> bool
     ensures { result ≡ is_history stripes entries.now }
 {
     1 <= stripes && stripes <= Limits::MAX_STRIPES && are_in_range(entries)
@@ -169,8 +180,8 @@ fn is_history(stripes: u64, entries: &[Entry]) -> bool
 fn entries_in(
     version: u64,
     numbers: [u64; 1],
-    entries: Vec<Entry>,
-) -> Result<(u32, Vec<Entry>, u64), FileFault>
+    entries: Vec<PackedEntry>,
+) -> Result<(u32, Vec<PackedEntry>, u64), FileFault>
     ensures { Gives (λ file. (file.0, file.1.items, file.2)) result
         (entries_from version numbers entries.items) }
 {
@@ -206,8 +217,44 @@ fn entries_in(
 ///
 /// # Cost
 ///
-/// Time and memory in proportion to the bytes.
+/// Time and memory in proportion to the bytes. While it runs the entries are there twice, once of
+/// them packed.
 pub fn read_history(alloc: Global, bytes: &[u8]) -> Result<(u32, Vec<Entry>, u64), FileFault>
+    ensures { Gives (λ file. (file.0, file.1.items, file.2)) result (history_of bytes.now) }
+{
+    let (stripes, packed, version) = read_packed_history(alloc, bytes)?;
+    let entries = unpacked(alloc, &packed)?;
+    Ok((stripes, entries, version))
+}
+
+/// The entries, which were packed.
+///
+/// # Errors
+///
+/// `AllocError` where memory is refused.
+fn unpacked(alloc: Global, packed: &[PackedEntry]) -> Result<Vec<Entry>, AllocError>
+    ensures { IfOk result (λ entries. entries.items ≡ packed.now) }
+{
+    let mut entries = Vec::with_capacity(alloc, packed.len())?;
+    for entry in packed {
+        entries.push(entry.entry())?;
+    }
+    Ok(entries)
+}
+
+/// The same as `read_history`, with the entries packed, which take three quarters of the memory.
+///
+/// # Errors
+///
+/// Those of `read_history`, in its order.
+///
+/// # Cost
+///
+/// Time and memory in proportion to the bytes.
+pub fn read_packed_history(
+    alloc: Global,
+    bytes: &[u8],
+) -> Result<(u32, Vec<PackedEntry>, u64), FileFault>
     ensures { Gives (λ file. (file.0, file.1.items, file.2)) result (history_of bytes.now) }
 {
     let (version, numbers, entries) = read_file::<EntryKind, 1>(

@@ -11,11 +11,11 @@
 //! alone, which are those below 2^63. A file of any other version has the shapes of version 2, and
 //! is refused only then.
 //!
-//! Promised: `read_steps`, `read_scripts` and `read_history` compute these functions, or say that
-//! memory was refused. `history_text` writes a history, as `text_of_history` says. Time and memory
-//! are proportional to the length of the file or text: a file is read once, and of its steps,
-//! entries and scripts no more are kept than show that there are too many. Of a script's actions
-//! all are kept.
+//! Promised: `read_steps`, `read_scripts`, `read_history` and `read_packed_history` compute these
+//! functions, or say that memory was refused. `history_text` writes a history, as `text_of_history`
+//! says. Time and memory are proportional to the length of the file or text: a file is read once,
+//! and of its steps, entries and scripts no more are kept than show that there are too many. Of a
+//! script's actions all are kept.
 #![tactic(auto)]
 
 mod history_file;
@@ -24,7 +24,7 @@ mod script_file;
 mod step_file;
 mod text;
 
-pub use history_file::read_history;
+pub use history_file::{read_history, read_packed_history};
 pub use piece_files::{FileFault, Part};
 pub use script_file::read_scripts;
 pub use step_file::read_steps;

@@ -16,5 +16,6 @@ pub mod Log
 pub mod Legal
 pub mod Erase
 pub mod Owed
+pub mod Packed
 pub mod Plays
 pub mod Entries

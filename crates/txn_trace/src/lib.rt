@@ -14,9 +14,9 @@
 //! Proved: the laws of histories in `proofs/`, entry by entry, for crates above to cite; and, as
 //! the contract of `laws::erased`, that nothing is left of aborted transactions. The code is that
 //! of definitions which crates above share: limits and texts, the entry of a step with its answer,
-//! what an operation and a step need in a history, and a caller's seat. Each call but `answer_text`
-//! takes constant time, amortized where savepoints come or go, and only `answer_text` and
-//! `Seat::reserve_level` take memory.
+//! an entry packed, what an operation and a step need in a history, and a caller's seat. Each call
+//! but `answer_text` takes constant time, amortized where savepoints come or go, and only
+//! `answer_text` and `Seat::reserve_level` take memory.
 #![tactic(auto)]
 
 mod action;
@@ -26,6 +26,7 @@ mod holder;
 pub mod laws;
 mod limits;
 mod op;
+mod packed_entry;
 mod refusal;
 mod script;
 mod seat;
@@ -37,6 +38,7 @@ pub use entry::Entry;
 pub use holder::Holder;
 pub use limits::Limits;
 pub use op::{Op, Reply};
+pub use packed_entry::PackedEntry;
 pub use refusal::Refusal;
 pub use script::{Script, Scripts};
 pub use seat::{Phase, Seat};

@@ -1,8 +1,8 @@
 //! The commands `replay`, `check`, `mix` and `run` of the program, in plain Rust: read with typed serde, do, write. It writes
 //! what the program writes, and nothing is proved of it. See ../../SPEED.md.
 //!
-//! Usage: whole replay FILE | whole check FILE | whole mix --seed N FILE | whole run FILE | whole history FILE N, which
-//! writes the first N entries of a step file's history.
+//! Usage: whole replay FILE | whole check FILE | whole mix --seed N FILE | whole run FILE | whole run_kept FILE, which also
+//! keeps what each worker saw | whole history FILE N, which writes the first N entries of a step file's history.
 #![allow(dead_code, unexpected_cfgs)]
 
 mod check;
@@ -28,6 +28,7 @@ use std::fmt::Write as _;
 use std::fs;
 use std::io::{self, Write as _};
 use std::process::ExitCode;
+use std::time::Instant;
 
 /// What `replay` prints.
 fn replay(bytes: Vec<u8>) -> Result<String, Box<dyn Error>> {
@@ -50,6 +51,16 @@ fn history_of(core: Core, scripts: Scripts, version: u64) -> String {
     let stripes = scripts.limits.stripes;
     drop(scripts);
     history_text(&core.into_history(), stripes, version)
+}
+
+/// Writes on standard error how long the scripts of a file take in threads, map and threads included.
+fn time_run(file: &str, run: fn(&Scripts) -> Core) -> Result<(String, bool), Box<dyn Error>> {
+    let scripts = read_scripts(&fs::read(file)?)?;
+    let start = Instant::now();
+    let history = run(&scripts).into_history();
+    let nanos = start.elapsed().as_nanos();
+    eprintln!("run {} in {nanos} ns, {} entries", scripts.scripts.len(), history.len());
+    Ok((String::new(), true))
 }
 
 fn output() -> Result<(String, bool), Box<dyn Error>> {
@@ -75,6 +86,12 @@ fn output() -> Result<(String, bool), Box<dyn Error>> {
             let scripts = read_scripts(&fs::read(file)?)?;
             history_of(run::run(&scripts), scripts, 3)
         }
+        ["run_kept", file] => {
+            let scripts = read_scripts(&fs::read(file)?)?;
+            history_of(run::run_kept(&scripts), scripts, 3)
+        }
+        ["time_run", file] => return time_run(file, run::run),
+        ["time_run_kept", file] => return time_run(file, run::run_kept),
         _ => return Err("no such words".into()),
     };
     Ok((text, true))

@@ -2,7 +2,7 @@
 use crate::files::{Action, Scripts};
 use crate::machine::Core;
 use crate::split::parent;
-use crate::step::{Answer, Refusal, Step};
+use crate::step::{Answer, Op, Refusal, Step};
 
 /// After so many `again` in a row a seek and its act are one turn.
 const PATIENCE: u8 = 8;
@@ -75,11 +75,11 @@ enum End {
 }
 
 pub struct Worker {
-    number: u64,
+    pub number: u64,
     // The script that it is at, the action, and how often the script was begun anew.
     script: usize,
     action: usize,
-    again: u64,
+    pub again: u64,
     call: Call,
     phase: Phase,
     // The operation found its stripe held.
@@ -105,6 +105,14 @@ impl Worker {
             call: Call::Begin,
             phase: Phase::First,
             was_busy: false,
+        }
+    }
+
+    /// The operation that its next step asks for, if it does.
+    pub fn asks(&self) -> Option<Op> {
+        match (self.phase, self.call) {
+            (Phase::First, Call::Do(Action::Op(op))) => Some(op),
+            _ => None,
         }
     }
 

@@ -1,13 +1,28 @@
 //! Workers in threads, over one core under one mutex. Each turn takes the mutex anew.
 use crate::files::Scripts;
-use crate::machine::Core;
+use crate::machine::{Core, Entry};
 use crate::mix::{Worker, turn};
+use crate::step::Reply;
+use std::mem::take;
 use std::sync::Mutex;
+use std::sync::atomic::{AtomicU64, Ordering};
 use std::thread;
+
+/// Lets other threads go on where the worker found a stripe held and begins its script anew.
+fn give_way(before: u64, worker: &Worker) {
+    if before < worker.again {
+        thread::yield_now();
+    }
+}
 
 /// Takes a worker's turns to its end.
 fn work(core: &Mutex<Core>, mut worker: Worker, file: &Scripts) {
-    while turn(&mut core.lock().unwrap(), &mut worker, file) {}
+    let mut is_live = true;
+    while is_live {
+        let again = worker.again;
+        is_live = turn(&mut core.lock().unwrap(), &mut worker, file);
+        give_way(again, &worker);
+    }
 }
 
 /// The core after all scripts.
@@ -20,4 +35,124 @@ pub fn run(file: &Scripts) -> Core {
         }
     });
     core.into_inner().unwrap()
+}
+
+/// How a script ended whose transaction is committed: its number, its place, its replies.
+struct Outcome {
+    txn: u64,
+    place: u64,
+    replies: Vec<Reply>,
+}
+
+/// A worker that does what `boostmap run` promises beside the history: it keeps the entries that it
+/// saw, takes the word of a stripe before it asks for it, and keeps how each script ended.
+struct Keeper<'a> {
+    words: &'a [AtomicU64],
+    number: u64,
+    held: Vec<usize>,
+    seen: Vec<Entry>,
+    txn: u64,
+    replies: Vec<Reply>,
+    outcomes: Vec<Option<Outcome>>,
+}
+
+impl<'a> Keeper<'a> {
+    fn new(words: &'a [AtomicU64], number: u64) -> Keeper<'a> {
+        Keeper {
+            words,
+            number,
+            held: Vec::new(),
+            seen: Vec::new(),
+            txn: 0,
+            replies: Vec::new(),
+            outcomes: Vec::new(),
+        }
+    }
+
+    /// Tries the word of the key's stripe, in one try, unless it is held already.
+    fn try_word(&mut self, key: u64) {
+        let stripe = (key % self.words.len() as u64) as usize;
+        if self.held.contains(&stripe) {
+            return;
+        }
+        let (own, order) = (self.number + 1, Ordering::SeqCst);
+        if self.words[stripe].compare_exchange(0, own, order, order).is_ok() {
+            self.held.push(stripe);
+        }
+    }
+
+    /// Gives all words back.
+    fn give_back(&mut self) {
+        while let Some(stripe) = self.held.pop() {
+            self.words[stripe].store(0, Ordering::SeqCst);
+        }
+    }
+
+    /// Notes what an entry of its own says of its script.
+    fn hear(&mut self, entry: Entry) {
+        match entry {
+            Entry::Began(_, txn) => {
+                self.txn = txn;
+                self.replies.clear();
+            }
+            Entry::Did(_, reply) => self.replies.push(reply),
+            Entry::Committed(_, place) => {
+                let replies = take(&mut self.replies);
+                let txn = self.txn;
+                self.outcomes.push(Some(Outcome { txn, place, replies }));
+                self.give_back();
+            }
+            Entry::Aborted(_) => {
+                self.outcomes.push(None);
+                self.give_back();
+            }
+            _ => {}
+        }
+    }
+
+    /// Takes a worker's turns to its end.
+    fn work(mut self, core: &Mutex<Core>, mut worker: Worker, file: &Scripts) -> Keeper<'a> {
+        let mut is_live = true;
+        while is_live {
+            if let Some(op) = worker.asks() {
+                self.try_word(op.key());
+            }
+            let (again, heard) = (worker.again, self.seen.len());
+            {
+                let mut core = core.lock().unwrap();
+                let before = core.history().len();
+                is_live = turn(&mut core, &mut worker, file);
+                self.seen.extend_from_slice(&core.history()[before..]);
+            }
+            for place in heard..self.seen.len() {
+                self.hear(self.seen[place]);
+            }
+            give_way(again, &worker);
+        }
+        self
+    }
+}
+
+/// The core after all scripts, of workers that keep what they saw; their entries in its history are
+/// compared with it.
+pub fn run_kept(file: &Scripts) -> Core {
+    let core = Mutex::new(Core::new(file.limits));
+    let words: Vec<AtomicU64> = (0..file.limits.stripes).map(|_| AtomicU64::new(0)).collect();
+    let keepers: Vec<Keeper> = thread::scope(|scope| {
+        let threads: Vec<_> = file
+            .live_workers()
+            .into_iter()
+            .map(|worker| {
+                let (core, words) = (&core, &words);
+                scope.spawn(move || Keeper::new(words, worker.number).work(core, worker, file))
+            })
+            .collect();
+        threads.into_iter().map(|thread| thread.join().unwrap()).collect()
+    });
+    let core = core.into_inner().unwrap();
+    for keeper in &keepers {
+        let own = core.history().iter().filter(|entry| entry.caller() == keeper.number);
+        assert!(own.eq(keeper.seen.iter()));
+    }
+    core
 }
