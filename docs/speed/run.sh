@@ -6,7 +6,8 @@
 # without reading and writing: `run_scripts` (the part `shared` of crates/bench) and both twins.
 #
 # There are 1, 2 and 4 threads, at 1,000 and 100,000 keys; 10,000 scripts, each of four operations and a help; a tenth aborts. With
-# one thread all print the same history, which is compared; with more, each history is judged.
+# one thread all print the same history, which is compared; with more, each history is judged. All run in turn, so that a machine
+# whose speed changes is as fast for one as for the other; the middle one of the rounds counts.
 # Usage: docs/speed/run.sh [ROUNDS]
 source "$(dirname "${BASH_SOURCE[0]}")/common.sh"
 rounds=${1:-9}
@@ -15,52 +16,50 @@ build_proved bench shared 1000
 mv "$work/proved" "$work/shared"
 take_program
 build_whole
-scripts=10000
 
-# The middle of so many lines of one number each.
-middle() {
-  sort -n | sed -n "$(((rounds + 1) / 2))p"
+TIMEFORMAT=%R
+
+# One run of a command, whose seconds by the clock are added to a file of its name. A history that is longer than a file may be is
+# not judged.
+run_once() {
+  { time "$work/$1" "$2" "$work/run.json" >"$work/$1.$2"; } 2>>"$work/seconds.$1.$2"
+  [ "$(stat -c %s "$work/$1.$2")" -gt 16777216 ] || "$work/proved" check "$work/$1.$2" | grep -q '^legal .* open$'
 }
 
-# Runs a program so often, and prints the seconds by the clock of each run. A history that is longer than a file may be is not
-# judged.
-seconds() {
-  for _ in $(seq "$rounds"); do
-    { time "$work/$1" "$2" "$work/run.json" >"$work/$2.text"; } 2>&1
-  done
-  [ "$(stat -c %s "$work/$2.text")" -gt 16777216 ] || "$work/proved" check "$work/$2.text" | grep -q '^legal .* open$'
+# The same of the library alone: what it writes of its time is added, in seconds.
+time_once() {
+  "$work/$1" "${@:2}" "$work/run.json" 2>&1 >"$work/none" |
+    awk '{ for (i = 1; i < NF; i++) if ($i == "in") print $(i + 1) / ($(i + 2) ~ /^ms/ ? 1e3 : 1e9) }' >>"$work/seconds.$1.$2"
 }
 
-# The same of the library alone, in seconds.
-library_seconds() {
-  for _ in $(seq "$rounds"); do
-    "$work/$1" "${@:2}" "$work/run.json" 2>&1 >"$work/none"
-  done | awk '{ for (i = 1; i < NF; i++) if ($i == "in") print $(i + 1) / ($(i + 2) ~ /^ms/ ? 1e3 : 1e9) }'
-}
-
-# A line of the table: threads, keys, and the seconds of the program and its twins, or of the library and its twins.
+# A line of the table: what ran, threads, keys, transactions a second of the three, and the ratios of their times.
 line() {
-  echo "$@" | awk -v scripts="$scripts" '{
+  local name seconds=()
+  for name in "${@:4}"; do
+    seconds+=("$(sort -n "$work/seconds.$name" | sed -n "$(((rounds + 1) / 2))p")")
+  done
+  echo "${@:1:3}" "${seconds[@]}" | awk -v scripts=10000 '{
     printf "%8s %8d %8d %8d %8d %8d %7.2f %7.2f\n", $1, $2, $3, scripts / $4, scripts / $5, scripts / $6, $4 / $5, $4 / $6 }'
 }
 
-TIMEFORMAT=%R
 printf '%8s %8s %8s %8s %8s %8s %7s %7s\n' what threads keys proved plain kept ratio to_kept
 for keys in 1000 100000; do
   for workers in 1 2 4; do
     write_run_file "$workers" "$keys"
-    proved=$(seconds proved run | middle)
-    mv "$work/run.text" "$work/proved.text"
-    plain=$(seconds plain run | middle)
-    kept=$(seconds plain run_kept | middle)
+    rm -f "$work"/seconds.*
+    for _ in $(seq "$rounds"); do
+      run_once proved run
+      run_once plain run
+      run_once plain run_kept
+      time_once shared shared 1
+      time_once plain time_run
+      time_once plain time_run_kept
+    done
     if [ "$workers" = 1 ]; then
-      cmp "$work/proved.text" "$work/run.text"
-      cmp "$work/proved.text" "$work/run_kept.text"
+      cmp "$work/proved.run" "$work/plain.run"
+      cmp "$work/proved.run" "$work/plain.run_kept"
     fi
-    line program "$workers" "$keys" "$proved" "$plain" "$kept"
-    proved=$(library_seconds shared shared 1 | middle)
-    plain=$(library_seconds plain time_run | middle)
-    kept=$(library_seconds plain time_run_kept | middle)
-    line library "$workers" "$keys" "$proved" "$plain" "$kept"
+    line program "$workers" "$keys" proved.run plain.run plain.run_kept
+    line library "$workers" "$keys" shared.shared plain.time_run plain.time_run_kept
   done
 done

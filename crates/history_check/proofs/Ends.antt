@@ -21,7 +21,7 @@ use Rattle.history_check.specs.declared.verdict.Rule.{Rule}
 use Rattle.history_check.specs.declared.verdict.Verdict.{Verdict}
 use Rattle.history_check.specs.declared.verdict.Verdict.TheVariants.{Legal, Illegal}
 use Rattle.history_check.specs.Callers.{seat_of}
-use Rattle.history_check.specs.Verdicts.{number_of, meaning_of, SaysLegal}
+use Rattle.history_check.specs.Verdicts.{number_of, meaning_of, SaysLegal, IsVerdictOn}
 use Rattle.history_check.specs.States.{Sits, Tells}
 use Rattle.history_check.specs.Fed.{FedWith}
 
@@ -76,7 +76,7 @@ pub bad_now : {holder : Holder} (stripes : ℕ) (h : List Entry) (e : Entry) (i 
 bad_now stripes h e i rule is_legal index breaks = first_bad-found stripes (h ++ e ∷ []) i rule (record { front = h; entry = e; back = []; is = refl; index = index; legal = is_legal; breaks = breaks })
 
 -- A verdict says that the history is legal exactly where it is.
-pub says_legal : {holder : Holder} (stripes : ℕ) (h : List Entry) (v : Verdict) → meaning_of v ≡ verdict holder stripes h → SaysLegal v ↔ IsLegal holder stripes h
+says_legal : {holder : Holder} (stripes : ℕ) (h : List Entry) (v : Verdict) → meaning_of v ≡ verdict holder stripes h → SaysLegal v ↔ IsLegal holder stripes h
 says_legal stripes h (Legal commits running) is = (
   λ u. elim (legal_or_bad stripes h) [
     | inl fine ↦ fine
@@ -91,3 +91,7 @@ says_legal stripes h (Illegal entry rule) is = (λ u. absurd u, λ fine. absurd 
   where
     differ : {c r i n : ℕ} → legal.Illegal i n ≡ legal.Legal c r → ⊥
     differ same = cc (same)
+
+-- So what means the verdict of the definitions is the verdict on the history.
+pub verdict_on : {holder : Holder} (stripes : ℕ) (h : List Entry) (v : Verdict) → meaning_of v ≡ verdict holder stripes h → IsVerdictOn holder stripes h v
+verdict_on stripes h v is = record { meaning = is; legal = says_legal stripes h v is }

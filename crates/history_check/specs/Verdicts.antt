@@ -1,5 +1,7 @@
 -- What the verdict of the checker means.
-use Rattle.std.specs.Prelude.{ℕ}
+use Rattle.std.specs.Prelude.{ℕ, ◌≡◌, ◌↔◌, List}
+use Rattle.txn_trace.specs.declared.entry.Entry.{Entry}
+use Rattle.txn_trace.specs.declared.holder.Holder.{Holder}
 use Rattle.txn_trace.specs.Legal as legal
 use Rattle.history_check.specs.declared.verdict.Rule.{Rule}
 use Rattle.history_check.specs.declared.verdict.Rule.TheVariants.{Replies, Locks, Shape}
@@ -21,3 +23,10 @@ meaning_of (Illegal entry rule) = legal.Illegal entry (number_of rule)
 abbrev pub SaysLegal : Verdict → Type 0
 SaysLegal (Legal commits running) = Unit {0}
 SaysLegal (Illegal entry rule) = ⊥
+
+-- The verdict on a history: the one of the definitions, which says legal exactly where the history
+-- is.
+pub record IsVerdictOn (holder : Holder) (stripes : ℕ) (h : List Entry) (outcome : Verdict) :
+    Type 0 where
+  pub meaning : meaning_of outcome ≡ legal.verdict holder stripes h
+  pub legal : SaysLegal outcome ↔ legal.IsLegal holder stripes h

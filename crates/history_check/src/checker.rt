@@ -1,9 +1,8 @@
 //! A checker that is fed the entries of a history one after another.
 ghost use Rattle.std.specs.Prelude.{◌≡◌, ℕ, ◌<◌, ◌++◌, [], ◌∷◌, List, IfOk, OnOk, OnErr};
 ghost use Rattle.txn_trace.specs.History.{caller_of};
-ghost use Rattle.txn_trace.specs.Legal.{verdict};
 ghost use Rattle.txn_trace.specs.declared.holder.Holder.{Holder};
-ghost use Rattle.history_check.specs.Verdicts.{meaning_of};
+ghost use Rattle.history_check.specs.Verdicts.{IsVerdictOn};
 
 use crate::state::State;
 use crate::verdict::{Rule, Verdict};
@@ -87,7 +86,7 @@ impl Checker {
     /// Constant time: a look at each of 64 callers; takes no memory.
     pub fn verdict(&self) -> Verdict
         ensures { (holder : Holder) (stripes : ℕ) (h : List Entry) →
-            IsFed holder stripes h self.now → meaning_of result ≡ verdict holder stripes h }
+            IsFed holder stripes h self.now → IsVerdictOn holder stripes h result }
     {
         match self.bad {
             Some((entry, rule)) => Verdict::Illegal { entry, rule },

@@ -1,9 +1,8 @@
 //! The check of a whole history.
-ghost use Rattle.std.specs.Prelude.{◌≡◌, ◌<◌, ◌↔◌, IfOk};
+ghost use Rattle.std.specs.Prelude.{◌<◌, IfOk};
 ghost use Rattle.std.specs.List.{All};
 ghost use Rattle.txn_trace.specs.History.{caller_of};
-ghost use Rattle.txn_trace.specs.Legal.{IsLegal, verdict};
-ghost use Rattle.history_check.specs.Verdicts.{meaning_of, SaysLegal};
+ghost use Rattle.history_check.specs.Verdicts.{IsVerdictOn};
 
 use crate::checker::Checker;
 use crate::verdict::Verdict;
@@ -36,10 +35,7 @@ pub fn check(
 ) -> Result<Verdict, AllocError>
     requires stripes { 0 < stripes }
     requires callers { All (λ entry. caller_of entry < 64) entries.now }
-    ensures verdict { IfOk result (λ outcome.
-        meaning_of outcome ≡ verdict holder stripes entries.now) }
-    ensures legal { IfOk result (λ outcome.
-        SaysLegal outcome ↔ IsLegal holder stripes entries.now) }
+    ensures { IfOk result (IsVerdictOn holder stripes entries.now) }
 {
     let mut checker = Checker::new(alloc, stripes, holder)?;
     for entry in entries {
@@ -65,10 +61,7 @@ pub fn check_packed(
 ) -> Result<Verdict, AllocError>
     requires stripes { 0 < stripes }
     requires callers { All (λ entry. caller_of entry < 64) entries.now }
-    ensures verdict { IfOk result (λ outcome.
-        meaning_of outcome ≡ verdict holder stripes entries.now) }
-    ensures legal { IfOk result (λ outcome.
-        SaysLegal outcome ↔ IsLegal holder stripes entries.now) }
+    ensures { IfOk result (IsVerdictOn holder stripes entries.now) }
 {
     let mut checker = Checker::new(alloc, stripes, holder)?;
     for entry in entries {

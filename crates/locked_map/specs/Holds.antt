@@ -21,7 +21,7 @@ use Rattle.txn_drive.specs.Made.{made, IsMade}
 use Rattle.txn_drive.specs.Drives.{sized_of, turn_of, told_of, end_of}
 use Rattle.boost_core.specs.State.{State}
 use Rattle.boost_core.specs.Words.{Goes}
-use Rattle.locked_map.specs.Claims.{Trial, claim_in}
+use Rattle.locked_map.specs.Claims.{Claimed, Trial, HasTriedFor, claim_in}
 use Rattle.locked_map.specs.Tokens.{Token, IsSameCaller, IsSameClaims}
 use Rattle.locked_map.specs.Suits.{is_odd, may_refuse, Fits, IsInStep, IsSized}
 
@@ -51,6 +51,12 @@ is_out outcome = false
 abbrev pub out_if : Option End → Bool
 out_if None = false
 out_if (Some outcome) = is_out outcome
+
+-- Claims, a core and what was seen, with which a step of the call may be taken.
+pub record MayTake (claims : Claimed) (m : State) (seen : List Entry) (call : Call) : Type 0 where
+  pub whole : is_some (seat_after seen) ≡ true
+  pub stripes : m.limits.stripes ≡ claims.stripes
+  pub tried : HasTriedFor claims.tried claims.stripes call
 
 -- A step is taken: the core makes its move, or where an operation is asked for does what the claim
 -- to its stripe comes to; the drive is told the answer, and the step's entries are seen.

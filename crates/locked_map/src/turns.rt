@@ -7,10 +7,9 @@ ghost use Rattle.txn_trace.specs.Shape.{seat_after};
 ghost use Rattle.txn_trace.specs.Sizes.{Sizes};
 ghost use Rattle.txn_drive.specs.Drives.{step_of, turn_of};
 ghost use Rattle.txn_drive.specs.Made.{made};
-ghost use Rattle.locked_map.specs.Claims.{HasTriedFor};
 ghost use Rattle.locked_map.specs.Noted.{HasRoomFor};
 ghost use Rattle.locked_map.specs.Suits.{may_refuse, IsSized, IsInStep};
-ghost use Rattle.locked_map.specs.Holds.{Takes, TurnTaken, GoesOn};
+ghost use Rattle.locked_map.specs.Holds.{MayTake, Takes, TurnTaken, GoesOn};
 
 use crate::booked::Booked;
 use crate::claims::Claims;
@@ -20,6 +19,9 @@ use std::sync::ledger::Ledger;
 use txn_trace::{Answer, Step};
 
 /// Takes a turn if there is room for what it may add, and says whether there was.
+///
+/// A step has an arm each, so that `take_one` is compiled by itself for the kinds of step of which
+/// each operation takes one.
 pub(crate) fn take_turn<L: Ledger>(
     seen: &mut Seen<L>,
     claims: &Claims,
@@ -28,45 +30,23 @@ pub(crate) fn take_turn<L: Ledger>(
     turn: Turn,
 ) -> bool
     requires turn { turn ≡ turn_of drive.old }
-    requires whole { is_some (seat_after seen.old.entries) ≡ true }
-    requires stripes { booked.old.core.limits.stripes ≡ claims.now.stripes }
-    requires tried { HasTriedFor claims.now.tried claims.now.stripes drive.old.call }
+    requires may { MayTake claims.now booked.old.core seen.old.entries drive.old.call }
     ensures { TurnTaken claims.now.tried booked.old.core seen.old.entries drive.old turn
         result booked.new.core seen.new.entries drive.new }
 {
     match turn {
-        Turn::One(step) => take_step(seen, claims, booked, drive, step),
+        Turn::One(step) => match step {
+            Step::Ask(caller, op) => take_one(seen, claims, booked, drive, Step::Ask(caller, op)),
+            Step::Seek(caller) => take_one(seen, claims, booked, drive, Step::Seek(caller)),
+            Step::Act(caller) => take_one(seen, claims, booked, drive, Step::Act(caller)),
+            _ => take_other(seen, claims, booked, drive, step),
+        },
         Turn::Two(first, second) => take_two(seen, claims, booked, drive, first, second),
         Turn::Ended(_) => true,
     }
 }
 
-/// The same of a turn of one step. An arm each, so that `take_one` is compiled by itself for the
-/// kinds of step of which each operation takes one.
-#[inline(always)]
-fn take_step<L: Ledger>(
-    seen: &mut Seen<L>,
-    claims: &Claims,
-    booked: &mut Booked<L>,
-    drive: &mut Drive,
-    step: Step,
-) -> bool
-    requires turn { Turn.One step ≡ turn_of drive.old }
-    requires whole { is_some (seat_after seen.old.entries) ≡ true }
-    requires stripes { booked.old.core.limits.stripes ≡ claims.now.stripes }
-    requires tried { HasTriedFor claims.now.tried claims.now.stripes drive.old.call }
-    ensures { TurnTaken claims.now.tried booked.old.core seen.old.entries drive.old
-        (Turn.One step) result booked.new.core seen.new.entries drive.new }
-{
-    match step {
-        Step::Ask(caller, op) => take_one(seen, claims, booked, drive, Step::Ask(caller, op)),
-        Step::Seek(caller) => take_one(seen, claims, booked, drive, Step::Seek(caller)),
-        Step::Act(caller) => take_one(seen, claims, booked, drive, Step::Act(caller)),
-        _ => take_other(seen, claims, booked, drive, step),
-    }
-}
-
-/// The same of any step, compiled once.
+/// The same of a turn of one step, compiled once.
 #[inline(never)]
 fn take_other<L: Ledger>(
     seen: &mut Seen<L>,
@@ -76,9 +56,7 @@ fn take_other<L: Ledger>(
     step: Step,
 ) -> bool
     requires turn { Turn.One step ≡ turn_of drive.old }
-    requires whole { is_some (seat_after seen.old.entries) ≡ true }
-    requires stripes { booked.old.core.limits.stripes ≡ claims.now.stripes }
-    requires tried { HasTriedFor claims.now.tried claims.now.stripes drive.old.call }
+    requires may { MayTake claims.now booked.old.core seen.old.entries drive.old.call }
     ensures { TurnTaken claims.now.tried booked.old.core seen.old.entries drive.old
         (Turn.One step) result booked.new.core seen.new.entries drive.new }
 {
@@ -95,9 +73,7 @@ fn take_one<L: Ledger>(
     step: Step,
 ) -> bool
     requires turn { Turn.One step ≡ turn_of drive.old }
-    requires whole { is_some (seat_after seen.old.entries) ≡ true }
-    requires stripes { booked.old.core.limits.stripes ≡ claims.now.stripes }
-    requires tried { HasTriedFor claims.now.tried claims.now.stripes drive.old.call }
+    requires may { MayTake claims.now booked.old.core seen.old.entries drive.old.call }
     ensures { TurnTaken claims.now.tried booked.old.core seen.old.entries drive.old
         (Turn.One step) result booked.new.core seen.new.entries drive.new }
 {
@@ -120,9 +96,7 @@ fn take_two<L: Ledger>(
     second: Step,
 ) -> bool
     requires turn { Turn.Two first second ≡ turn_of drive.old }
-    requires whole { is_some (seat_after seen.old.entries) ≡ true }
-    requires stripes { booked.old.core.limits.stripes ≡ claims.now.stripes }
-    requires tried { HasTriedFor claims.now.tried claims.now.stripes drive.old.call }
+    requires may { MayTake claims.now booked.old.core seen.old.entries drive.old.call }
     ensures { TurnTaken claims.now.tried booked.old.core seen.old.entries drive.old
         (Turn.Two first second) result booked.new.core seen.new.entries drive.new }
 {
@@ -148,10 +122,8 @@ fn take<L: Ledger>(
     step: Step,
 ) -> Answer
     requires step { step_of drive.old ≡ Some step }
-    requires whole { is_some (seat_after seen.old.entries) ≡ true }
+    requires may { MayTake claims.now booked.old.core seen.old.entries drive.old.call }
     requires room { HasRoomFor seen.old step }
-    requires stripes { booked.old.core.limits.stripes ≡ claims.now.stripes }
-    requires tried { HasTriedFor claims.now.tried claims.now.stripes drive.old.call }
     ensures takes { Takes claims.now.tried booked.old.core seen.old.entries drive.old step result
         booked.new.core seen.new.entries drive.new }
     ensures limits { booked.new.core.limits ≡ booked.old.core.limits }

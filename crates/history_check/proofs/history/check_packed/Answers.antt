@@ -1,7 +1,6 @@
 use Rattle.std.proofs.Common.{take, subst, sym, ◌∙◌, ◌++◌, ◌∷◌, []}
 use Rattle.std.proofs.lemmas.List.{take_more, take_all}
 use Rattle.history_check.specs.Fed.{IsFed}
-use Rattle.history_check.proofs.Ends.{says_legal}
 use Rattle.history_check.proofs.history.check_packed.Goals as goal
 
 pub loop-entry-preserved : goal.loop-entry-preserved
@@ -10,13 +9,7 @@ loop-entry-preserved c =
     (subst (λ e. IsFed c.args.holder c.args.stripes (take c.loop-entry.entry-index c.args.entries.now ++ e ∷ []) c.feed.new.self) (c.entry.ensures ∙ c.entry-item.is)
     (c.in_ok-feed.ensures.ok c.args.holder c.args.stripes (take c.loop-entry.entry-index c.args.entries.now) c.loop-entry.invariant))
 
-pub returns-clause-verdict : goal.returns-clause-verdict
-returns-clause-verdict c =
+pub returns : goal.returns
+returns c =
     c.verdict.ensures c.args.holder c.args.stripes c.args.entries.now
     (subst (λ es. IsFed c.args.holder c.args.stripes es c.loop-entry.checker) (take_all c.loop-entry.entry-index c.args.entries.now c.loop-entry-test.false) c.loop-entry.invariant)
-
-pub returns-clause-legal : goal.returns-clause-legal
-returns-clause-legal c =
-    says_legal c.args.stripes c.args.entries.now c.verdict.result
-    (c.verdict.ensures c.args.holder c.args.stripes c.args.entries.now
-    (subst (λ es. IsFed c.args.holder c.args.stripes es c.loop-entry.checker) (take_all c.loop-entry.entry-index c.args.entries.now c.loop-entry-test.false) c.loop-entry.invariant))

@@ -11,7 +11,7 @@ returns-clause-in_step g c = λ limits number sized ins.
     (record { goes = c.step-answer.ensures.goes; told = c.told.ensures.drive; entries = c.note.ensures.entries }) ins
 
 pub returns-clause-goes : goal.returns-clause-goes
-returns-clause-goes g c = λ base goes. goes_told base _ _ _ _ c.args.step c.step-answer.result c.requires.step c.requires.whole c.note.ensures.entries c.told.ensures.drive goes
+returns-clause-goes g c = λ base goes. goes_told base _ _ _ _ c.args.step c.step-answer.result c.requires.step c.requires.may.whole c.note.ensures.entries c.told.ensures.drive goes
 
 pub invariant_of-booked-clause-counted : goal.invariant_of-booked-clause-counted
 invariant_of-booked-clause-counted g c =
