@@ -19,9 +19,9 @@
 //! the stripes, and to the most keys, changes that can be taken back and savepoints that there are
 //! at one time.
 //!
-//! Proved: `check`, `check_packed`, and a `Checker` that was fed the same entries, say what the definition
-//! `verdict` of `txn_trace` says, and they say legal exactly where `IsLegal` holds. An entry that
-//! is refused for want of memory leaves a checker fed with what it was fed before.
+//! Proved: `check`, `check_packed`, and a `Checker` that was fed the same entries, say what the
+//! definition `verdict` of `txn_trace` says, and they say legal exactly where `IsLegal` holds. An
+//! entry that is refused for want of memory leaves a checker fed with what it was fed before.
 #![tactic(auto)]
 
 mod caller;
