@@ -11,17 +11,23 @@ import json
 import pathlib
 import sys
 
-import jsonschema
+try:
+    import jsonschema
+except ImportError:
+    sys.exit("why.py needs the package jsonschema for python3: pip install jsonschema")
 
 KINDS = {"scripts": "script", "entries": "history"}
 
 
 def main():
-    with open(sys.argv[1], encoding="utf-8") as file:
-        try:
-            value = json.load(file)
-        except ValueError as error:
-            sys.exit(f"no JSON: {error}")
+    if len(sys.argv) != 2:
+        sys.exit("usage: why.py FILE")
+    try:
+        value = json.loads(pathlib.Path(sys.argv[1]).read_text(encoding="utf-8"))
+    except OSError as error:
+        sys.exit(f"cannot read {sys.argv[1]}: {error.strerror}")
+    except ValueError as error:
+        sys.exit(f"no JSON: {error}")
     members = value if isinstance(value, dict) else {}
     kind = next((kind for member, kind in KINDS.items() if member in members), "step")
     path = pathlib.Path(__file__).resolve().parent / f"{kind}.schema.json"
