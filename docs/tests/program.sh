@@ -5,14 +5,9 @@
 # is 'program: N passed, M failed', and it ends with status 1 where M is not 0.
 set -uo pipefail
 cd "$(dirname "${BASH_SOURCE[0]}")/../.." || exit 1
+name=program
 program=${1:-crates/boostmap/out/boostmap}
-if [ ! -x "$program" ]; then
-  echo "program: there is no $program: ./boostmap or rt ci builds it" >&2
-  exit 1
-fi
-work=$(mktemp -d)
-trap 'rm -rf "$work"' EXIT
-passed=0 failed=0
+. docs/tests/common.sh
 
 # The usage, as the tests of the command line have it, without its last line feed.
 usage=$(sed -n '/^const USAGE: &str = "/,/^";$/{s/^const USAGE: &str = "//;/^";$/d;p;}' \
@@ -25,37 +20,6 @@ shown() {
     /^(replay|mix|check) / { inside = $0 == call; next }
     inside { print }' crates/examples/stdout |
     if [ "${1%% *}" = run ]; then sed 's/"version":[12]}$/"version":3}/'; else cat; fi
-}
-
-# Compares status, standard output and standard error of the last run, as $work has them, with what
-# is wanted of them. A text that is wanted is without its last line feed.
-judge() {
-  local name=$1 status=$2 out=$3 err=$4
-  printf '%s' "${out:+$out$'\n'}" >"$work/out.wanted"
-  printf '%s' "${err:+$err$'\n'}" >"$work/err.wanted"
-  if [ "$(cat "$work/status")" = "$status" ] && cmp -s "$work/out" "$work/out.wanted" \
-    && cmp -s "$work/err" "$work/err.wanted"; then
-    passed=$((passed + 1))
-  else
-    failed=$((failed + 1))
-    echo "program: $name: status $(cat "$work/status"), wanted $status" >&2
-    diff "$work/out.wanted" "$work/out" >&2
-    diff "$work/err.wanted" "$work/err" >&2
-  fi
-}
-
-# Runs the program with words on an empty standard input.
-run() {
-  "$program" "$@" >"$work/out" 2>"$work/err" </dev/null
-  echo $? >"$work/status"
-}
-
-# wants STATUS OUT ERR WORD..: runs the program with these words, and judges it.
-wants() {
-  local status=$1 out=$2 err=$3
-  shift 3
-  run "$@"
-  judge "$*" "$status" "$out" "$err"
 }
 
 each_command_on_each_example() {
@@ -336,5 +300,4 @@ failing_devices
 early_pipes
 standard_input
 little_memory
-echo "program: $passed passed, $failed failed"
-[ "$failed" = 0 ]
+conclude
