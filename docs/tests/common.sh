@@ -22,8 +22,8 @@ judge() {
   else
     failed=$((failed + 1))
     echo "$name: $what: status $(cat "$work/status"), wanted $status" >&2
-    diff "$work/out.wanted" "$work/out" >&2
-    diff "$work/err.wanted" "$work/err" >&2
+    { diff "$work/out.wanted" "$work/out"; diff "$work/err.wanted" "$work/err"; } |
+      head -n 20 | cut -c 1-200 >&2
   fi
 }
 
