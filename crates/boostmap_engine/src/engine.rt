@@ -1,3 +1,5 @@
+//! The four commands over a reader and a writer. Each reads its whole input, makes its whole text,
+//! and only then writes: so a fault before the writing leaves the output unchanged.
 ghost use Rattle.std.specs.Prelude.{OnOk, IfOk, IfErr};
 ghost use Rattle.boostmap_engine.specs.Written.{Writes, Leaves};
 ghost use Rattle.boostmap_engine.specs.Report.{IsReportOf, IsNoStepFile};

@@ -1,3 +1,5 @@
+//! Why the program gives up, the exit status and the line of each fault, and the usage. It stands
+//! apart since all commands and the command line share it.
 ghost use Rattle.std.specs.Prelude.{◌≡◌};
 ghost use Rattle.boostmap_engine.specs.Faults.{status_of, message_of, of_file};
 ghost use Rattle.boostmap_engine.specs.declared.fault.Fault.TheVariants as faults;

@@ -1,3 +1,5 @@
+//! The bytes of the input, up to one more than a file may have, so that a file that is too long is
+//! known to be without reading all of it. A reader is not called again after it failed.
 ghost use Rattle.std.specs.Prelude.{◌≡◌, length, IfOk, IfErr};
 ghost use Rattle.boostmap_engine.specs.Written.{IsRead};
 ghost use Rattle.piece_files.specs.Faults.{Gives};

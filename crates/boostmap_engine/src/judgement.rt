@@ -1,3 +1,5 @@
+//! What `check` prints: the verdict on the entries of a history file, by the rule of locks of the
+//! file's version.
 ghost use Rattle.std.specs.Prelude.{◌≡◌, IfOk, IfErr, string_bytes};
 ghost use Rattle.piece_files.specs.Faults.{Gives};
 ghost use Rattle.txn_files.specs.HistoryFile.{history_of};

@@ -1,3 +1,5 @@
+//! Writing a text as a whole, or a proper beginning of it if the writer fails. A writer is not
+//! called again after it failed or took nothing.
 ghost use Rattle.std.specs.Prelude.{◌≡◌, OnOk, OnErr, IfErr};
 ghost use Rattle.std.specs.Io.KnownBytes.{Appends};
 ghost use Rattle.boostmap_engine.specs.declared.fault.Fault.TheVariants as faults;

@@ -1,3 +1,5 @@
+//! What `replay` prints: the answer of each step as it is taken, then the size, the count and the
+//! pairs of the core after the last step.
 ghost use Rattle.std.specs.Prelude.{◌≡◌, ◌++◌, false, List, OnOk, IfOk, IfErr, string_bytes};
 ghost use Rattle.txn_trace.specs.declared.answer.Answer.{Answer};
 ghost use Rattle.boost_core.specs.Machine.{Moves};

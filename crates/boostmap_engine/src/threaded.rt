@@ -1,3 +1,5 @@
+//! What `run` prints: the history of a map on which each worker ran its scripts in a thread of its
+//! own. The only engine that starts threads and waits.
 ghost use Rattle.std.specs.Prelude.{◌≡◌, IfOk, IfErr, string_bytes};
 ghost use Rattle.boostmap_engine.specs.Faults.{of_run};
 ghost use Rattle.boostmap_engine.specs.Threaded.{HasNoneThreaded, IsThreadedOf};

@@ -1,3 +1,5 @@
+//! The whole call: words, file, engine, the line of a fault, exit status. It is generic over the
+//! system and both outputs, so that contracts and tests reach all of it.
 ghost use Rattle.std.specs.Prelude.{◌≡◌, Bool, Result};
 ghost use Rattle.boostmap_engine.specs.declared.fault.Fault.{Fault};
 ghost use Rattle.std.specs.IoError.{error_kind};

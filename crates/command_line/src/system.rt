@@ -1,3 +1,5 @@
+//! What the program asks of the system that it runs on, and the system behind a runtime. The
+//! toolchain promises nothing of a process's words and files, so nothing is known of `Host`'s.
 ghost use Rattle.std.specs.Prelude.{◌≡◌, ℕ, List, Option, Some, None, IfOk, IfErr, IfSome, map};
 ghost use Rattle.std.specs.String.{string_bytes};
 ghost use Rattle.std.specs.IoError.{error_kind};

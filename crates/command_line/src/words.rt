@@ -1,3 +1,5 @@
+//! The command line, by the rules of `clap`: which call the words ask for, or that they ask for
+//! none. Each command is made and added by itself, which keeps the proof of `command` cheap.
 ghost use Rattle.std.specs.Prelude.{◌≡◌, ◌⊎◌, Some, None, IfOk, IfErr, map, option_map};
 ghost use Rattle.std.specs.String.{string_bytes};
 ghost use Rattle.clap.specs.Words.{found_of, rows_of};

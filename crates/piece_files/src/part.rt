@@ -1,3 +1,4 @@
+//! The names of the pieces that a kind of file has, as a fault prints them.
 /// What the pieces of a file are, which a fault names with the index of a piece.
 #[derive(Clone, Copy, Debug, PartialEq, Eq)]
 pub enum Part {

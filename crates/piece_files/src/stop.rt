@@ -1,3 +1,5 @@
+//! Why reading tokens stops early, in the words of the reader of JSON. `file_fault` says the same
+//! in the words of a file; inside the loops over tokens these two reasons are all that there are.
 ghost use Rattle.std.specs.Prelude.{◌≡◌};
 ghost use Rattle.piece_files.specs.declared.stop.Stop.TheVariants.{NotJson, NoMemory};
 

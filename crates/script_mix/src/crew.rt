@@ -1,3 +1,5 @@
+//! The workers side by side, by rising numbers: how many are live, and which one stands at a place
+//! among the live ones. A draw looks at each worker twice and takes no memory.
 ghost use Rattle.std.specs.Prelude.{◌≡◌, ◌<◌, ◌≤◌, ◌%◌, IfOk, IfSome, None, []};
 ghost use Rattle.rand_pcg.specs.Pcg.{pcg32};
 ghost use Rattle.script_mix.specs.Turns.{AreDone, IsAtPlace, first_crew, live};

@@ -1,3 +1,5 @@
+//! The draw of a place among the live workers: the only use of the generator, so that the turns of
+//! a seed are those of `Pcg32` and of nothing else.
 ghost use Rattle.std.specs.Prelude.{◌≡◌, ◌<◌, ◌%◌};
 ghost use Rattle.rand_pcg.specs.Pcg.{pcg32};
 

@@ -1,3 +1,5 @@
+//! The whole run: draw a live worker, let it take its turn, until none has a step left. The loop's
+//! invariant says that every worker keeps to its scripts and which worker was drawn for each turn.
 ghost use Rattle.std.specs.Prelude.{IfOk};
 ghost use Rattle.script_mix.specs.Crews.{IsMixed};
 

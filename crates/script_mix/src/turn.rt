@@ -1,3 +1,5 @@
+//! One turn of one worker on the core. Each of its steps adds entries of this worker's caller and
+//! of no other, which is why every other worker's account of its own entries stays true.
 ghost use Rattle.std.specs.Prelude.{◌≡◌, is_some, true};
 ghost use Rattle.txn_trace.specs.Shape.{own};
 ghost use Rattle.script_worker.specs.Workers.{step_by};

@@ -1,3 +1,5 @@
+//! One attempt at a script: which call comes next, and what follows the end of a call. Apart from
+//! the worker since these rules speak of one script only, and know no step.
 ghost use Rattle.std.specs.Prelude.{◌≡◌};
 ghost use Rattle.script_worker.specs.Attempts.{first_attempt, call_for, call_at, done_with, done_at, busy_at, refused_with, refused_at, progress_of};
 

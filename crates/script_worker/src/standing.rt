@@ -1,3 +1,6 @@
+//! A worker's number and what it is at, and how an answer moves it on: the drive is told, a call
+//! that ended is followed by the next one, and a script that is over by the worker's next script.
+//! Constant time and no memory throughout.
 ghost use Rattle.std.specs.Prelude.{◌≡◌, is_some};
 ghost use Rattle.script_worker.specs.Workers.{new_worker, started, progressed, settled, told_drive, told_by, end_by, outcome_at, outcome_by, outcome_told, sized_by, turn_by, IsReady, IsTurnBy};
 

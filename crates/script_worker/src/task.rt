@@ -1,3 +1,5 @@
+//! The script that a worker is at: its number, the attempt at it, and the drive of the present
+//! call. Apart from `standing` since it exists only while the worker has a script left.
 use crate::attempt::Attempt;
 use txn_drive::Drive;
 

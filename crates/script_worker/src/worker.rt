@@ -1,3 +1,5 @@
+//! A worker as its users see it: while it has a script left it has a step to take, by the invariant
+//! of the type. Which step that is, and what an answer changes, stands in `standing`.
 ghost use Rattle.std.specs.Option.{option_or};
 ghost use Rattle.std.specs.Prelude.{◌≡◌, ◌<◌, ◌++◌, List, [], Some, true, is_some};
 ghost use Rattle.txn_trace.specs.declared.action.Action.{Action};

@@ -1,3 +1,5 @@
+//! Which bucket a key belongs to, a bucket's parent, and the bucket of a place in the order.
+//! Constant time.
 ghost use Rattle.std.specs.Prelude.{◌≡◌, ℕ, ◌%◌, ◌<◌, ◌≤◌};
 ghost use Rattle.split_key.specs.Split.{reversed, split, parent_of, IsParent};
 ghost use Rattle.split_key.specs.Split.{IsAncestor, IsPowerOfTwo};

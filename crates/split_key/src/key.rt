@@ -1,3 +1,4 @@
+//! Keys: any number of 64 bits, or one of the lower half, which files of version 1 are held to.
 ghost use Rattle.std.specs.Prelude.{◌≡◌, ℕ, ◌<◌, ◌≤◌, ◌^◌, MatchResult};
 ghost use Rattle.split_key.specs.Text.{bad_key_text};
 

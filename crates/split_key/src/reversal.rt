@@ -1,3 +1,5 @@
+//! The bits of a word in reverse, by six swaps of neighbouring groups. Everything else of this
+//! crate rests on what it promises of each bit.
 ghost use Rattle.std.specs.Prelude.{◌≡◌, ℕ, ◌-◌, ◌*◌, ◌/◌, ◌%◌, ◌<◌};
 ghost use Rattle.std.specs.Int.{bit_at};
 ghost use Rattle.split_key.specs.Split.{reversed};

@@ -1,3 +1,5 @@
+//! Split keys: the order of keys and dummies in the list. A key's split key ends in 1, a dummy's in
+//! 0, so a bucket's dummy stands before the keys of the bucket.
 ghost use Rattle.std.specs.Prelude.{◌≡◌, ◌≢◌, ℕ, ◌%◌, ◌^◌, ◌<◌};
 ghost use Rattle.split_key.specs.Split.{reversed, split, IsAncestor};
 

@@ -1,3 +1,5 @@
+//! History files: entries as pieces, which are kept packed, and the numbers around them. The loops
+//! over tokens are those of `piece_files`; this file says which shapes and ranges entries have.
 ghost use Rattle.std.specs.Prelude.{◌≡◌, map, true, false, IfOk};
 ghost use Rattle.std.specs.List.{list_all};
 ghost use Rattle.piece_files.specs.Plain.{data_of};

@@ -1,3 +1,5 @@
+//! Script files: actions and scripts as pieces, and the numbers around them. The loops over tokens
+//! are those of `piece_files`; this file says which shapes and ranges actions and scripts have.
 ghost use Rattle.std.specs.Prelude.{◌≡◌, map, true, false};
 ghost use Rattle.std.specs.List.{list_all};
 ghost use Rattle.piece_files.specs.Plain.{data_of};

@@ -1,3 +1,5 @@
+//! Step files: the thirteen steps as pieces, and the limits around them. The loops over tokens are
+//! those of `piece_files`; this file says which shapes and ranges steps have.
 ghost use Rattle.std.specs.Prelude.{◌≡◌, map, true, false};
 ghost use Rattle.piece_files.specs.Plain.{data_of};
 ghost use Rattle.piece_files.specs.Faults.{Gives};

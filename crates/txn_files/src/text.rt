@@ -1,3 +1,5 @@
+//! Histories as compact JSON: each entry as an array, and the object around them. The text is a
+//! function of the entries, `text_of_history`. Time and memory in proportion to the text.
 ghost use Rattle.std.specs.Prelude.{◌≡◌, [], ◌∷◌, ◌++◌, decimal, map, OnOk, IfOk, string_bytes};
 ghost use Rattle.std.specs.List.{flat_map, join_with_byte};
 ghost use Rattle.txn_files.specs.HistoryText.{array_text, comma, entry_text, optional_text, quoted, text_of_history};
