@@ -1,4 +1,5 @@
 pub mod Refusals
+pub mod Sentences
 pub mod Text
 pub mod Sizes
 pub mod Work

@@ -1,12 +1,14 @@
 //! Why a call is refused, by number.
 ghost use Rattle.std.specs.Prelude.{◌≡◌};
 ghost use Rattle.txn_trace.specs.Refusals.{number_of, words_of};
+ghost use Rattle.txn_trace.specs.Sentences.{sentence_of};
 
+use std::alloc::AllocError;
 use std::error::Error;
 use std::fmt;
 
-/// Why a call was refused. Each has a number, by which answers and programs name it, and is printed
-/// as that number.
+/// Why a call was refused. Each has a number, by which answers and programs name it, and `Display`
+/// writes that number, as files and traces need it. For a person to read there is `text`.
 #[derive(Clone, Copy, Debug, PartialEq, Eq)]
 pub enum Refusal {
     /// 1: the key is 2^63 or more, and the limits take half keys alone.
@@ -100,5 +102,55 @@ impl Refusal {
             Refusal::WrongShape => 21,
             Refusal::Limit => 22,
         }
+    }
+
+    /// The refusal as a sentence in English, without a capital letter at the front and without a
+    /// full stop, as `Display` of an error mostly is.
+    ///
+    /// # Cost
+    ///
+    /// Constant time; takes no memory.
+    pub fn text(self) -> &'static str
+        ensures { result.now ≡ sentence_of self }
+    {
+        match self {
+            Refusal::BadKey => "the key is 2^63 or more, and the map takes half keys only",
+            Refusal::NoSuchCaller => "there is no caller of this number",
+            Refusal::NotOpen => "the caller has no open transaction",
+            Refusal::AlreadyOpen => "the caller has an open transaction already",
+            Refusal::OperationUnfinished => "an operation of the caller has no reply yet",
+            Refusal::Leaving => "the caller is taking its changes back",
+            Refusal::Unplaced => "there is no cursor to act on",
+            Refusal::NothingToSeek => {
+                "there is neither an operation to seek for nor a change to take back"
+            }
+            Refusal::NoSuchLevel => "the transaction has no savepoint of this number",
+            Refusal::NoSuchBucket => "the bucket is not below the size of the table",
+            Refusal::ParentMissing => "the parent of the bucket is not initialised",
+            Refusal::NoSuchHelper => "there is no helper of this number",
+            Refusal::HelperOutOfOrder => {
+                "the helper has no cursor to link at, or no dummy to store"
+            }
+            Refusal::NoMemory => "memory was refused",
+            Refusal::OutOfStep => "the map answered what the state of the caller excludes",
+            Refusal::StampsUsedUp => "no stamp is left for another node",
+            Refusal::CallersMissing => "the map has not one caller of each number",
+            Refusal::NoThread => "a thread could not be started",
+            Refusal::StaleWord => "the word of a stripe names a transaction that is over",
+            Refusal::NotJson => "the file is not JSON",
+            Refusal::WrongShape => "the file has a piece of another shape than it should have",
+            Refusal::Limit => "the file, or a number in it, is out of range",
+        }
+    }
+}
+
+/// Memory that is refused is the refusal `NoMemory`, so that `?` converts it.
+impl From<AllocError> for Refusal {
+    ghost use Rattle.txn_trace.specs.declared.refusal.Refusal.TheVariants.{NoMemory};
+
+    ghost from_gives = { λ _ refusal. refusal ≡ NoMemory };
+
+    fn from(_: AllocError) -> Refusal {
+        Refusal::NoMemory
     }
 }
