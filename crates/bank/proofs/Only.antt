@@ -55,8 +55,8 @@ same c old new is = λ d apart. ap (λ (s : State). own d s.history) is
 
 all_moved : (c : ℕ) (old new : State) (steps : List Step) (given : List Answer) → AllByRecursion (IsBy c) steps → Moves old steps given new → OnlyDid c old new
 all_moved c old new [] [] by is = same c old new is
-all_moved c old new (step ∷ steps) (answer ∷ given) by (between, move, rest) =
-    after c old between new (moved c old between step answer by.0 move) (all_moved c between new steps given by.1 rest)
+all_moved c old new (step ∷ steps) (answer ∷ given) by (between, event, rest) =
+    after c old between new (moved c old between step answer by.0 event.move) (all_moved c between new steps given by.1 rest)
 all_moved c old new [] (answer ∷ given) by none = absurd none
 all_moved c old new (step ∷ steps) [] by none = absurd none
 
@@ -68,15 +68,15 @@ undoing_by c (suc changes) steps by = undoing_by c changes (Seek c ∷ Act c ∷
 pub operated : (c : ℕ) (old new : State) (op : Op) (answer : Answer) → Operates old c op answer new → OnlyDid c old new
 operated c old new op (answers.Done reply) moves = all_moved c old new (Ask c op ∷ Seek c ∷ Act c ∷ []) (answers.Asked ∷ answers.Placed ∷ answers.Done reply ∷ []) (refl, (refl, (refl, tt))) moves
 operated c old new op answers.Asked none = absurd none
-operated c old new op answer move = moved c old new (Ask c op) answer refl move
+operated c old new op answer event = moved c old new (Ask c op) answer refl event.move
 
 left : (c : ℕ) (old new : State) (b : Bool) → Leaves b old c new → OnlyDid c old new
 left c old new true is = same c old new is
-left c old new false move = moved c old new (Abort c) answers.Leaving refl move
+left c old new false event = moved c old new (Abort c) answers.Leaving refl event.move
 
 pub aborted : (c : ℕ) (old new : State) (answer : Answer) → Aborts old c answer new → OnlyDid c old new
 aborted c old new answers.Aborted (between, leaves, (changes, moves)) =
     after c old between new (left c old between (is_at_end (seat_in old.history c).phase) leaves)
     (all_moved c between new (undoing changes c (Act c ∷ [])) (undone changes (answers.Aborted ∷ [])) (undoing_by c changes (Act c ∷ []) (refl, tt)) moves)
 aborted c old new answers.Leaving none = absurd none
-aborted c old new answer refused = moved c old new (Abort c) answer refl refused.1
+aborted c old new answer refused = moved c old new (Abort c) answer refl refused.1.move

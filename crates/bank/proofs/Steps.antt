@@ -21,7 +21,7 @@ use Rattle.txn_trace.specs.Legal.{IsLegal}
 use Rattle.boost_core.specs.State.{State, holder_by, seat_in}
 use Rattle.boost_core.specs.Refusals.{refusal_of, is_closed, is_leaving, has_job, has_stamp_for}
 use Rattle.boost_core.specs.Answers.{IsReply, is_at_end}
-use Rattle.boost_core.specs.Machine.{Move, Moves}
+use Rattle.boost_core.specs.Machine.{Move, Event, Moves}
 use Rattle.boost_core.specs.Plain.{Operates, Aborts, Ends, Leaves, undoing, undone}
 use Rattle.bank.specs.Transfers.{Stands, IsAt, IsOpen, CanAbort}
 use Rattle.bank.proofs.Histories.{seat_there, began_now, asked_now, busy_now, got_now, put_now, left_now, undone_now, aborted_now, committed_now}
@@ -82,14 +82,14 @@ record Waits (old between : State) (c : ℕ) (base : Map) (op : Op) : Type 0 whe
   pub stands : IsAt c base (Waiting op) between
   pub same : now between.history ≡ now old.history
 
-waits : (old between next : State) (c : ℕ) (base : Map) (op : Op) → IsOpen c base old → Move old (Ask c op) answers.Asked between → Move between (Seek c) answers.Placed next → Waits old next c base op
+waits : (old between next : State) (c : ℕ) (base : Map) (op : Op) → IsOpen c base old → Event old (Ask c op) answers.Asked between → Event between (Seek c) answers.Placed next → Waits old next c base op
 waits old between next c base op stands ask seek =
-    let locked = (and_parts (has_stamp_for old op) _ ask.allowed.1).1 in
+    let locked = (and_parts (has_stamp_for old op) _ ask.move.allowed.1).1 in
     let asked = asked_now old.limits c base old.history op stands locked in
-    let waiting = to_state c base (Waiting op) _ between ask.state asked.0 in
+    let waiting = to_state c base (Waiting op) _ between ask.move.state asked.0 in
     record {
-      stands = to_state c base (Waiting op) _ next seek.state (unmoved c base (Waiting op) between waiting);
-      same = ap now_of seek.state ∙ ap now (append-nil between.history) ∙ ap now_of ask.state ∙ asked.1;
+      stands = to_state c base (Waiting op) _ next seek.move.state (unmoved c base (Waiting op) between waiting);
+      same = ap now_of seek.move.state ∙ ap now (append-nil between.history) ∙ ap now_of ask.move.state ∙ asked.1;
     }
 
 -- The reply is that of the map.
@@ -101,32 +101,32 @@ pub gets : (old new : State) (c : ℕ) (base : Map) (k : ℕ) (x : Option ℕ) �
     → IsOpen c base new × (x ≡ get (now old.history) k) × (now new.history ≡ now old.history)
 gets old new c base k x stands (s1, ask, (s2, seek, (s3, did, last))) =
     let w = waits old s1 s2 c base (Get k) stands ask seek in
-    let right = replied s2 c base (Get k) x w.stands did.allowed.1 in
+    let right = replied s2 c base (Get k) x w.stands did.move.allowed.1 in
     let done = got_now s2.limits c base s2.history k x w.stands right in (
-      to_state c base Opened s3 new last (to_state c base Opened _ s3 did.state done.0),
+      to_state c base Opened s3 new last (to_state c base Opened _ s3 did.move.state done.0),
       right ∙ ap (λ m. get m k) w.same,
-      ap now_of last ∙ ap now_of did.state ∙ done.1 ∙ w.same,
+      ap now_of last ∙ ap now_of did.move.state ∙ done.1 ∙ w.same,
     )
 
 pub puts : (old new : State) (c : ℕ) (base : Map) (k v : ℕ) (x : Option ℕ) → IsOpen c base old → Operates old c (Put k v) (answers.Done x) new
     → IsOpen c base new × (now new.history ≡ insert (now old.history) k v)
 puts old new c base k v x stands (s1, ask, (s2, seek, (s3, did, last))) =
     let w = waits old s1 s2 c base (Put k v) stands ask seek in
-    let right = replied s2 c base (Put k v) x w.stands did.allowed.1 in
+    let right = replied s2 c base (Put k v) x w.stands did.move.allowed.1 in
     let done = put_now s2.limits c base s2.history k v x w.stands right in (
-      to_state c base Opened s3 new last (to_state c base Opened _ s3 did.state done.0),
-      ap now_of last ∙ ap now_of did.state ∙ done.1 ∙ ap (λ m. insert m k v) w.same,
+      to_state c base Opened s3 new last (to_state c base Opened _ s3 did.move.state done.0),
+      ap now_of last ∙ ap now_of did.move.state ∙ done.1 ∙ ap (λ m. insert m k v) w.same,
     )
 
 -- An operation with another answer leaves a transaction that can be aborted.
 pub stops : (old new : State) (c : ℕ) (base : Map) (op : Op) (answer : Answer) → IsOpen c base old → ((x : Option ℕ) → answer ≡ answers.Done x → ⊥) → Operates old c op answer new → CanAbort c base new
-stops old new c base op (answers.Refused refusal) stands other move = inl (to_state c base Opened _ new move.state stands)
-stops old new c base op (answers.Busy x) stands other move =
-    let locked = (and_parts (old.words || has_stamp_for old op) _ move.allowed.1).1 in
-    inr (to_state c base LeavingToEnd _ new move.state (busy_now old.limits c base old.history op x stands locked))
-stops old new c base op (answers.Done x) stands other move = absurd (other x refl)
-stops old new c base op answers.Asked stands other move = absurd move
-stops old new c base op _ stands other move = absurd move.allowed.1
+stops old new c base op (answers.Refused refusal) stands other event = inl (to_state c base Opened _ new event.move.state stands)
+stops old new c base op (answers.Busy x) stands other event =
+    let locked = (and_parts (old.words || has_stamp_for old op) _ event.move.allowed.1).1 in
+    inr (to_state c base LeavingToEnd _ new event.move.state (busy_now old.limits c base old.history op x stands locked))
+stops old new c base op (answers.Done x) stands other event = absurd (other x refl)
+stops old new c base op answers.Asked stands other event = absurd event
+stops old new c base op _ stands other event = absurd event.move.allowed.1
 
 pub commits : (old new : State) (c : ℕ) (base : Map) (p : ℕ) → IsOpen c base old → Move old (Commit c) (answers.Committed p) new → now new.history ≡ now old.history
 commits old new c base p stands move = ap now_of move.state ∙ committed_now old.limits c base old.history p stands move.allowed.1
@@ -137,12 +137,12 @@ not_committed old new c base (answers.Committed p) stands other move = absurd (o
 not_committed old new c base _ stands other move = absurd move.allowed.1
 
 -- One change is taken back.
-one_back : (old between new : State) (c : ℕ) (base : Map) → IsAt c base LeavingToEnd old → Move old (Seek c) answers.Placed between → Move between (Act c) answers.Undone new → IsAt c base LeavingToEnd new
+one_back : (old between new : State) (c : ℕ) (base : Map) → IsAt c base LeavingToEnd old → Event old (Seek c) answers.Placed between → Event between (Act c) answers.Undone new → IsAt c base LeavingToEnd new
 one_back old between new c base stands seek act =
-    let sought = to_state c base LeavingToEnd _ between seek.state (unmoved c base LeavingToEnd old stands) in
-    let job : has_job sought.seat ≡ true = subst (λ (seat : Seat). has_job seat ≡ true) (phase_in c base LeavingToEnd between sought) act.allowed.1 in
+    let sought = to_state c base LeavingToEnd _ between seek.move.state (unmoved c base LeavingToEnd old stands) in
+    let job : has_job sought.seat ≡ true = subst (λ (seat : Seat). has_job seat ≡ true) (phase_in c base LeavingToEnd between sought) act.move.allowed.1 in
     let some : nat_lt 0 sought.seat.standing ≡ true = subst (λ q. has_job (record (sought.seat) { phase = q }) ≡ true) sought.phase_is job in
-    to_state c base LeavingToEnd _ new act.state (undone_now between.limits c base between.history sought (ltb-true 0 sought.seat.standing some))
+    to_state c base LeavingToEnd _ new act.move.state (undone_now between.limits c base between.history sought (ltb-true 0 sought.seat.standing some))
 
 -- All changes are taken back, up to these steps.
 backwards : (old new : State) (c : ℕ) (base : Map) (changes : ℕ) (steps : List Step) (others : List Answer) → IsAt c base LeavingToEnd old → Moves old (undoing changes c steps) (undone changes others) new
@@ -155,10 +155,10 @@ backwards old new c base (suc changes) steps others stands moves =
 ends : (old new : State) (c : ℕ) (base : Map) → IsAt c base LeavingToEnd old → Ends old c answers.Aborted new → now new.history ≡ base
 ends old new c base stands (changes, moves) =
     let (between, there, (s1, act, last)) = backwards old new c base changes (Act c ∷ []) (answers.Aborted ∷ []) stands moves in
-    let free = (and_parts (not (has_job (seat_in between.history c))) _ act.allowed.1).0 in
+    let free = (and_parts (not (has_job (seat_in between.history c))) _ act.move.allowed.1).0 in
     let rests : not (has_job there.seat) ≡ true = subst (λ (seat : Seat). not (has_job seat) ≡ true) (phase_in c base LeavingToEnd between there) free in
     let none : not (nat_lt 0 there.seat.standing) ≡ true = subst (λ q. not (has_job (record (there.seat) { phase = q })) ≡ true) there.phase_is rests in
-    ap now_of last ∙ ap now_of act.state ∙ aborted_now between.limits c base between.history there (no_more there.seat.standing none)
+    ap now_of last ∙ ap now_of act.move.state ∙ aborted_now between.limits c base between.history there (no_more there.seat.standing none)
   where
     no_more : (n : ℕ) → not (nat_lt 0 n) ≡ true → n ≡ 0
     no_more zero is = refl
@@ -167,16 +167,16 @@ ends old new c base stands (changes, moves) =
 -- A caller with such a transaction aborts, and the map is as it was before.
 aborts_all : (old new : State) (c : ℕ) (base : Map) → CanAbort c base old → Aborts old c answers.Aborted new → now new.history ≡ base
 aborts_all old new c base (inl stands) (left, leaves, ended) =
-    let leave : Move old (Abort c) answers.Leaving left = subst (λ b. Leaves b old c left) (phase_of old c base Opened stands is_at_end) leaves in
-    ends left new c base (to_state c base LeavingToEnd _ left leave.state (left_now old.limits c base old.history stands)) ended
+    let leave : Event old (Abort c) answers.Leaving left = subst (λ b. Leaves b old c left) (phase_of old c base Opened stands is_at_end) leaves in
+    ends left new c base (to_state c base LeavingToEnd _ left leave.move.state (left_now old.limits c base old.history stands)) ended
 aborts_all old new c base (inr stands) (left, leaves, ended) =
     let same : left ≡ old = subst (λ b. Leaves b old c left) (phase_of old c base LeavingToEnd stands is_at_end) leaves in
     ends left new c base (to_state c base LeavingToEnd old left same stands) ended
 
 -- Such a caller's abort is not refused.
 never_refused : (old new : State) (c : ℕ) (base : Map) (refusal : Refusal) → CanAbort c base old → Aborts old c (answers.Refused refusal) new → ⊥
-never_refused old new c base refusal (inr stands) (on, move) = false≢true (sym on ∙ phase_of old c base LeavingToEnd stands is_at_end)
-never_refused old new c base refusal (inl stands) (on, move) = never move.allowed
+never_refused old new c base refusal (inr stands) (on, event) = false≢true (sym on ∙ phase_of old c base LeavingToEnd stands is_at_end)
+never_refused old new c base refusal (inl stands) (on, event) = never event.move.allowed
   where
     free : refusal_of old (Abort c) ≡ None
     free =
@@ -192,4 +192,4 @@ pub aborts : (old new : State) (c : ℕ) (base : Map) (answer : Answer) → CanA
 aborts old new c base answers.Aborted can aborted = aborts_all old new c base can aborted
 aborts old new c base answers.Leaving can aborted = absurd aborted
 aborts old new c base (answers.Refused refusal) can aborted = absurd (never_refused old new c base refusal can aborted)
-aborts old new c base _ can aborted = absurd aborted.1.allowed.1
+aborts old new c base _ can aborted = absurd aborted.1.move.allowed.1

@@ -13,9 +13,9 @@ use Rattle.txn_trace.specs.declared.entry.Entry.TheVariants as entry
 use Rattle.txn_trace.specs.declared.refusal.Refusal.{Refusal}
 use Rattle.txn_trace.specs.declared.refusal.Refusal.TheVariants as refusals
 use Rattle.txn_trace.specs.declared.step.Step.{Step}
-use Rattle.txn_trace.specs.declared.step.Step.TheVariants.{Ask, Seek, Act}
+use Rattle.txn_trace.specs.declared.step.Step.TheVariants.{Ask, Seek, Act, Back, Abort}
 use Rattle.txn_trace.specs.declared.answer.Answer.{Answer}
-use Rattle.txn_trace.specs.declared.answer.Answer.TheVariants.{Refused, Asked, Placed, Again, Done, Undone, Returned, Aborted}
+use Rattle.txn_trace.specs.declared.answer.Answer.TheVariants.{Refused, Asked, Placed, Again, Done, Undone, Leaving, Returned, Aborted}
 use Rattle.txn_trace.specs.Map.{Map}
 use Rattle.txn_trace.specs.Sizes.{Sizes}
 use Rattle.txn_trace.specs.History.{caller_of}
@@ -26,8 +26,8 @@ use Rattle.txn_trace.proofs.Pushes.{own-push_in, seat_after-push}
 use Rattle.boost_core.specs.State.{State, Owner, Caller, seat_in, caller_changes}
 use Rattle.boost_core.specs.Refusals.{refusal_of, lacks_in, MayLack, is_closed, is_waiting, is_leaving, has_job, has_target}
 use Rattle.boost_core.specs.Answers.{IsReply, is_back_at, is_at_end, end_of, owner_changes, is_just_placed, may_be_stale}
-use Rattle.boost_core.specs.Machine.{Move}
-use Rattle.boost_core.specs.Plain.{Operates}
+use Rattle.boost_core.specs.Machine.{Move, Event}
+use Rattle.boost_core.specs.Plain.{Operates, Returns, Aborts}
 use Rattle.boost_core.proofs.Refused.{or_else, refusal_parts, free, ask_open}
 
 -- The seat of a caller that has a transaction is that of its entries.
@@ -217,23 +217,39 @@ took_back old between new c first second within leaves job seeks cursor acts =
           fewer = omega arith;
         }
 
-done_so : (old asked sought new : State) (c : ℕ) (op : Op) (answer : Answer) (reply : Option ℕ) → answer ≡ Done reply → Move old (Ask c op) Asked asked → Move asked (Seek c) Placed sought → Move sought (Act c) answer new → Operates old c op answer new
-done_so old asked sought new c op answer reply is asks seeks acts = subst (λ a. Operates old c op a new) (sym is) (asked, asks, (sought, seeks, (new, subst (λ a. Move sought (Act c) a new) is acts, refl)))
+done_so : (old asked sought new : State) (c : ℕ) (op : Op) (answer : Answer) (reply : Option ℕ) → answer ≡ Done reply → Event old (Ask c op) Asked asked → Event asked (Seek c) Placed sought → Event sought (Act c) answer new → Operates old c op answer new
+done_so old asked sought new c op answer reply is asks seeks acts = subst (λ a. Operates old c op a new) (sym is) (asked, asks, (sought, seeks, (new, subst (λ a. Event sought (Act c) a new) is acts, refl)))
 
 -- An operation that was asked for is done.
-pub operated : (old asked sought new : State) (c : ℕ) (op : Op) (first second : Answer) → Move old (Ask c op) Asked asked → Move asked (Seek c) first sought → (first ≡ Placed → is_some (caller_changes sought.cursors c) ≡ true) → Move sought (Act c) second new
+pub operated : (old asked sought new : State) (c : ℕ) (op : Op) (first second : Answer) → Event old (Ask c op) Asked asked → Event asked (Seek c) first sought → (first ≡ Placed → is_some (caller_changes sought.cursors c) ≡ true) → Event sought (Act c) second new
     → Operates old c op second new
 operated old asked sought new c op first second asks seeks cursor acts =
-    let is_free = free old c (Ask c op) refl asks.allowed.0 in
+    let is_free = free old c (Ask c op) refl asks.move.allowed.0 in
     let opened : (seat_in old.history c).phase ≡ Opened = ask_open old.limits.half (seat_in old.history c) c op is_free.seat in
-    let seat : seat_in asked.history c ≡ record (seat_in old.history c) { phase = Waiting op } = seat_pushed old.history asked.history c (entry.Asked c op) _ (ap (λ (s : State). s.history) asks.state) refl (ap is_closed opened) (ap (λ q. row (seat_in old.history c) q (entry.Asked c op)) opened) in
+    let seat : seat_in asked.history c ≡ record (seat_in old.history c) { phase = Waiting op } = seat_pushed old.history asked.history c (entry.Asked c op) _ (ap (λ (s : State). s.history) asks.move.state) refl (ap is_closed opened) (ap (λ q. row (seat_in old.history c) q (entry.Asked c op)) opened) in
     let waits : (seat_in asked.history c).phase ≡ Waiting op = ap (λ (s : Seat). s.phase) seat in
-    let within : nat_le asked.limits.callers c ≡ false = ap (λ (s : State). nat_le s.limits.callers c) asks.state ∙ is_free.within in
-    let is_placed : first ≡ Placed = seek_places asked sought c first (seek_free asked c within (ap is_closed waits) (ap (λ q. is_waiting q || has_job (seat_in asked.history c)) waits)) seeks in
-    let seeks_so : Move asked (Seek c) Placed sought = subst (λ a. Move asked (Seek c) a sought) is_placed seeks in
-    let same : seat_in sought.history c ≡ seat_in asked.history c = ap (λ (h : List Entry). seat_in h c) (ap (λ (s : State). s.history) seeks_so.state ∙ append-nil asked.history) in
-    let done = act_does sought new c op second (ap (λ (s : State). nat_le s.limits.callers c) seeks_so.state ∙ within) (ap (λ (s : Seat). s.phase) same ∙ waits) (cursor is_placed) (ap (λ (s : State). s.placed) seeks_so.state) acts in
+    let within : nat_le asked.limits.callers c ≡ false = ap (λ (s : State). nat_le s.limits.callers c) asks.move.state ∙ is_free.within in
+    let is_placed : first ≡ Placed = seek_places asked sought c first (seek_free asked c within (ap is_closed waits) (ap (λ q. is_waiting q || has_job (seat_in asked.history c)) waits)) seeks.move in
+    let seeks_so : Event asked (Seek c) Placed sought = subst (λ a. Event asked (Seek c) a sought) is_placed seeks in
+    let same : seat_in sought.history c ≡ seat_in asked.history c = ap (λ (h : List Entry). seat_in h c) (ap (λ (s : State). s.history) seeks_so.move.state ∙ append-nil asked.history) in
+    let done = act_does sought new c op second (ap (λ (s : State). nat_le s.limits.callers c) seeks_so.move.state ∙ within) (ap (λ (s : Seat). s.phase) same ∙ waits) (cursor is_placed) (ap (λ (s : State). s.placed) seeks_so.move.state) acts.move in
     done_so old asked sought new c op second done.0 done.1 asks seeks_so acts
+
+-- An operation that is not granted, and what is refused of a return to a level and of an abort: the first step is all.
+pub stopped : (old new : State) (c : ℕ) (op : Op) (answer : Answer) → (answer ≡ Asked → ⊥) → Event old (Ask c op) answer new → Operates old c op answer new
+stopped old new c op Asked other event = absurd (other refl)
+stopped old new c op (Done reply) other event = absurd event.move.allowed.1
+stopped old new c op _ other event = event
+
+pub stayed : (old new : State) (c level : ℕ) (answer : Answer) → (answer ≡ Leaving → ⊥) → Event old (Back c level) answer new → Returns old c level answer new
+stayed old new c level Leaving other event = absurd (other refl)
+stayed old new c level (Returned n) other event = absurd event.move.allowed.1
+stayed old new c level _ other event = event
+
+pub unaborted : (old new : State) (c : ℕ) (answer : Answer) → (answer ≡ Leaving → ⊥) → is_at_end (seat_in old.history c).phase ≡ false → Event old (Abort c) answer new → Aborts old c answer new
+unaborted old new c Leaving other there event = absurd (other refl)
+unaborted old new c Aborted other there event = absurd event.move.allowed.1
+unaborted old new c _ other there event = (there, event)
 
 -- A caller without a transaction, by its number alone.
 own_none : (callers c : ℕ) (h : List Entry) → All (λ e. caller_of e < callers) h → callers ≤ c → own c h ≡ []

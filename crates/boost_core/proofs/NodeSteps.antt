@@ -41,7 +41,7 @@ use Rattle.boost_core.specs.Sessions.{Does, ActsIn, DoesIn, TakesBackIn, SeeksIn
 use Rattle.boost_core.specs.Words.{Claim, Lock, Right, Held, Stale, IsClaim, ListsAsk, ListsBy, stamp_by}
 use Rattle.boost_core.specs.Core.{World, Tells, state_of, node_at}
 use Rattle.boost_core.proofs.NodeLists.{seen, inserted, replaced, written_seen, seeks_from}
-use Rattle.boost_core.proofs.Outcomes.{is_late}
+use Rattle.boost_core.proofs.Outcomes.{is_stale_word}
 use Rattle.boost_core.proofs.Refused.{seat_here}
 use Rattle.boost_core.proofs.Sides.{last_job, at_last, changes_last, waiting_op}
 
@@ -308,13 +308,13 @@ stamp_stays stamp (steps.Ask c op) refusal = refl
 stamp_stays stamp (steps.InitLink h) refusal = refl
 stamp_stays stamp _ refusal = refl
 
-right_stays : (stamp : ℕ) (step : Step) (refusal : Refusal) → is_late refusal ≡ false → stamp_by Right stamp step (answers.Refused refusal) ≡ stamp
+right_stays : (stamp : ℕ) (step : Step) (refusal : Refusal) → is_stale_word refusal ≡ false → stamp_by Right stamp step (answers.Refused refusal) ≡ stamp
 right_stays stamp (steps.Ask c op) refusals.StaleWord early = absurd (false≢true (sym early))
 right_stays stamp (steps.Ask c op) _ early = refl
 right_stays stamp (steps.InitLink h) refusal early = refl
 right_stays stamp _ refusal early = refl
 
-pub refused_lists : (claim : Claim) (old new : State) (step : Step) (refusal : Refusal) → (claim ≡ Lock) ⊎ (is_late refusal ≡ false) → Keeps old new → new.stamp ≡ old.stamp → ListsBy claim old step (answers.Refused refusal) new
+pub refused_lists : (claim : Claim) (old new : State) (step : Step) (refusal : Refusal) → (claim ≡ Lock) ⊎ (is_stale_word refusal ≡ false) → Keeps old new → new.stamp ≡ old.stamp → ListsBy claim old step (answers.Refused refusal) new
 refused_lists claim old new step refusal (inl lock) keeps same =
     subst (λ k. ListsBy k old step (answers.Refused refusal) new) (sym lock) (record { nodes = touched old new step refusal keeps; stamp = same ∙ sym (stamp_stays old.stamp step refusal) })
 refused_lists claim old new step refusal (inr early) keeps same = by claim

@@ -32,7 +32,7 @@ use Rattle.boost_core.specs.Counts.{counts_after}
 use Rattle.boost_core.specs.Placed.{placed_then}
 use Rattle.boost_core.specs.Answers.{keeps_list, after}
 use Rattle.boost_core.specs.Machine.{Move, IsAllowed}
-use Rattle.boost_core.specs.Words.{Claim, Lock, Right, Held, Stale, Goes, IsClaim, may_come}
+use Rattle.boost_core.specs.Words.{Claim, Lock, Right, Held, Stale, Goes, IsClaim, may_come, reserved_by}
 use Rattle.boost_core.specs.Adding.{Enters, CanAdd}
 use Rattle.boost_core.specs.Spares.{times_of, times_in, IsCovered}
 use Rattle.boost_core.specs.Sessions.{owed_of, spare_if, times_kept}
@@ -77,9 +77,19 @@ goes_of claim state old new step answer is goes = subst (λ s. Goes claim s step
 
 -- What no test of an Ask refuses: it comes behind all of them.
 abbrev pub is_late : Refusal → Bool
+is_late NoMemory = true
 is_late StampsUsedUp = true
 is_late StaleWord = true
 is_late _ = false
+
+-- What a stale right is refused.
+abbrev pub is_stale_word : Refusal → Bool
+is_stale_word StaleWord = true
+is_stale_word _ = false
+
+early_fresh : (refusal : Refusal) → is_late refusal ≡ false → is_stale_word refusal ≡ false
+early_fresh StaleWord early = absurd (false≢true (sym early))
+early_fresh _ early = refl
 
 next_early : (b : Bool) (first refusal : Refusal) (rest : Option Refusal) → is_late first ≡ false → (rest ≡ Some refusal → is_late refusal ≡ false) → cond b (Some first) rest ≡ Some refusal → is_late refusal ≡ false
 next_early true first refusal rest early later is = let same : first ≡ refusal = cc (is) in ap is_late (sym same) ∙ early
@@ -96,8 +106,10 @@ ask_early state c op refusal is = first_early (tests_of state (owner_of (steps.A
 may_refuse : (claim : Claim) (refusal : Refusal) → is_late refusal ≡ false → may_come claim (answers.Refused refusal) ≡ true
 may_refuse Lock refusal early = refl
 may_refuse Right refusal early = refl
+may_refuse (Held named) NoMemory early = absurd (false≢true (sym early))
 may_refuse (Held named) StampsUsedUp early = absurd (false≢true (sym early))
 may_refuse (Held named) _ early = refl
+may_refuse Stale NoMemory early = absurd (false≢true (sym early))
 may_refuse Stale StampsUsedUp early = absurd (false≢true (sym early))
 may_refuse Stale _ early = refl
 
@@ -107,11 +119,22 @@ goes_early Right state step refusal early move = inr (may_refuse Right refusal e
 goes_early (Held named) state step refusal early move = inr (may_refuse (Held named) refusal early, move)
 goes_early Stale state step refusal early move = inr (may_refuse Stale refusal early, move)
 
-pub goes_lacking : (claim : Claim) (state : State) (step : Step) → Move state step (answers.Refused NoMemory) state → Goes claim state step (answers.Refused NoMemory) state
-goes_lacking claim state step move = goes_early claim state step NoMemory refl move
+-- Memory is wanted only where the claim reserves something.
+pub goes_lacking : (claim : Claim) (state : State) (step : Step) → 0 < reserved_by claim step → Move state step (answers.Refused NoMemory) state → Goes claim state step (answers.Refused NoMemory) state
+goes_lacking Lock state step some move = move
+goes_lacking Right state step some move = inr (refl, move)
+goes_lacking (Held named) state step some move = absurd (omega arith)
+goes_lacking Stale state step some move = absurd (omega arith)
+
+-- A claim reserves no more than its step.
+pub reserved_least : (claim : Claim) (step : Step) → reserved_by claim step ≤ reserved step
+reserved_least Lock step = omega arith
+reserved_least Right step = omega arith
+reserved_least (Held named) step = omega arith
+reserved_least Stale step = omega arith
 
 -- Where a test of a step refuses it, a claim wants nothing else.
-pub early_or_lock : (claim : Claim) (state : State) (step : Step) (refusal : Refusal) → IsClaim claim state step → refusal_of state step ≡ Some refusal → (claim ≡ Lock) ⊎ (is_late refusal ≡ false)
+early_or_lock : (claim : Claim) (state : State) (step : Step) (refusal : Refusal) → IsClaim claim state step → refusal_of state step ≡ Some refusal → (claim ≡ Lock) ⊎ (is_late refusal ≡ false)
 early_or_lock Lock state step refusal claims is = inl refl
 early_or_lock Right state (steps.Ask c op) refusal claims is = inr (ask_early state c op refusal is)
 early_or_lock Right state _ refusal claims is = absurd claims
@@ -119,6 +142,12 @@ early_or_lock (Held named) state (steps.Ask c op) refusal claims is = inr (ask_e
 early_or_lock (Held named) state _ refusal claims is = absurd claims
 early_or_lock Stale state (steps.Ask c op) refusal claims is = inr (ask_early state c op refusal is)
 early_or_lock Stale state _ refusal claims is = absurd claims
+
+pub fresh_or_lock : (claim : Claim) (state : State) (step : Step) (refusal : Refusal) → IsClaim claim state step → refusal_of state step ≡ Some refusal → (claim ≡ Lock) ⊎ (is_stale_word refusal ≡ false)
+fresh_or_lock claim state step refusal claims is = elim (early_or_lock claim state step refusal claims is) [
+  | inl lock ↦ inl lock
+  | inr early ↦ inr (early_fresh refusal early)
+]
 
 pub goes_refused : (claim : Claim) (state : State) (step : Step) (refusal : Refusal) → IsClaim claim state step → refusal_of state step ≡ Some refusal → Goes claim state step (answers.Refused refusal) state
 goes_refused claim state step refusal claims is = elim (early_or_lock claim state step refusal claims is) [
@@ -196,6 +225,36 @@ reserved_within (steps.Abort c) answer e is = left answer is
     left _ is = absurd (cc (is))
 reserved_within _ answer e is = absurd (cc (is))
 
+-- Nor is more than what its claim reserves: a Busy entry, which a word alone may add, is owed already.
+no_entry : (step : Step) (refusal : Refusal) → entries_of step (answers.Refused refusal) ≡ []
+no_entry (steps.Begin c) refusal = refl
+no_entry step refusal = refl
+
+busy_within : (step : Step) (x : ℕ) (e : Entry) → e ∷ [] ≡ entries_of step (answers.Busy x) → reserved_for e ≤ 0
+busy_within (steps.Ask c op) x e is = let same : e ≡ entry.Busy c op x = cc (is) in subst (λ f. reserved_for f ≤ 0) (sym same) (omega arith)
+busy_within (steps.Begin c) x e is = absurd (cc (is))
+busy_within _ x e is = absurd (cc (is))
+
+none_within : (step : Step) (refusal : Refusal) (e : Entry) → e ∷ [] ≡ entries_of step (answers.Refused refusal) → reserved_for e ≤ 0
+none_within step refusal e is = absurd (let none : e ∷ [] ≡ [] = is ∙ no_entry step refusal in cc (none))
+
+held_within : (named : ℕ) (step : Step) (answer : Answer) (e : Entry) → may_come (Held named) answer ≡ true → e ∷ [] ≡ entries_of step answer → reserved_for e ≤ 0
+held_within named step (answers.Busy x) e may is = busy_within step x e is
+held_within named step (answers.Refused refusal) e may is = none_within step refusal e is
+held_within named step _ e may is = absurd (false≢true may)
+
+stale_within : (step : Step) (answer : Answer) (e : Entry) → may_come Stale answer ≡ true → e ∷ [] ≡ entries_of step answer → reserved_for e ≤ 0
+stale_within step (answers.Refused refusal) e may is = none_within step refusal e is
+stale_within step _ e may is = absurd (false≢true may)
+
+claim_within : (claim : Claim) (state new : State) (step : Step) (answer : Answer) (e : Entry) → Goes claim state step answer new → e ∷ [] ≡ entries_of step answer → reserved_for e ≤ reserved_by claim step
+claim_within Lock state new step answer e goes is = reserved_within step answer e is
+claim_within Right state new step answer e goes is = reserved_within step answer e is
+claim_within (Held named) state new step answer e (inl stale) is = none_within step StaleWord e (is ∙ ap (entries_of step) stale.refused)
+claim_within (Held named) state new step answer e (inr goes) is = held_within named step answer e goes.0 is
+claim_within Stale state new step answer e (inl stale) is = none_within step StaleWord e (is ∙ ap (entries_of step) stale.refused)
+claim_within Stale state new step answer e (inr goes) is = stale_within step answer e goes.0 is
+
 -- No more changes stand than entries are owed.
 standing_owed : (q : Phase) (standing : ℕ) (kept : List ℕ) → IsLevelIn q standing kept → standing ≤ owed_in standing q
 standing_owed Closed standing kept is = let none : standing ≡ 0 = is.0 in omega arith
@@ -222,7 +281,7 @@ module _ (w : World) (tells : Tells w) (c : ℕ) (x y : Session) (at : slice_get
       omega arith
 
   -- The entry that the step adds may be added.
-  pub can_add : (o : Option Entry) → option_to_list o ≡ entries_of step answer → (len cap owed : ℕ) → owed ≡ sum_by owed_of w.sessions → len + (owed + reserved step) ≤ cap → cap < 2 ^ 63 → CanAdd y.seat len cap owed o
+  pub can_add : (o : Option Entry) → option_to_list o ≡ entries_of step answer → (len cap owed : ℕ) → owed ≡ sum_by owed_of w.sessions → len + (owed + reserved_by claim step) ≤ cap → cap < 2 ^ 63 → CanAdd y.seat len cap owed o
   can_add None is len cap owed owes room small =
       let most : owed_of x ≤ sum_by owed_of w.sessions = one_of_sum owed_of w.sessions c x at in
       let same : owed_in y.seat.seat.standing y.seat.seat.phase ≡ owed_of x = ap (λ (s : Seat). owed_in s.standing s.phase) (same_seat None is) in
@@ -233,7 +292,7 @@ module _ (w : World) (tells : Tells w) (c : ℕ) (x y : Session) (at : slice_get
       let most : owed_of x ≤ sum_by owed_of w.sessions = one_of_sum owed_of w.sessions c x at in
       let same : owed_in y.seat.seat.standing y.seat.seat.phase ≡ owed_of x = ap (λ (s : Seat). owed_in s.standing s.phase) comes.same_seat in
       let takes : owed_by (Some comes.seat) + 1 ≤ owed_by (Some x.seat.seat) + reserved_for e = owed_by-row x.seat.seat comes.seat e goes in
-      let few = reserved_within step answer e is in
+      let few = claim_within claim _ _ step answer e (called.move y.seat) is in
       record {
         next = comes.seat;
         row_is = ap (λ (s : Seat). row s s.phase e) comes.same_seat ∙ goes;
@@ -270,7 +329,7 @@ module _ (w : World) (tells : Tells w) (c : ℕ) (x y : Session) (at : slice_get
       let same : owed_in y.seat.seat.standing y.seat.seat.phase ≡ owed_of x = ap (λ (s : Seat). owed_in s.standing s.phase) (same_seat o is) in
       omega arith
 
-  pub called_room : (seat' : RoomySeat) (o : Option Entry) → option_to_list o ≡ entries_of step answer → Enters y.seat (option_to_list o) seat' → (len cap : ℕ) → len + (sum_by owed_of w.sessions + reserved step) ≤ cap
+  pub called_room : (seat' : RoomySeat) (o : Option Entry) → option_to_list o ≡ entries_of step answer → Enters y.seat (option_to_list o) seat' → (len cap : ℕ) → len + (sum_by owed_of w.sessions + reserved_by claim step) ≤ cap
       → len + length (option_to_list o) + sum_by owed_of (slice_set w.sessions c (seated_as y seat')) ≤ cap
   called_room seat' None is entered len cap room =
       let sums : sum_by owed_of (slice_set w.sessions c (seated_as y seat')) + owed_of x ≡ sum_by owed_of w.sessions + owed_of (seated_as y seat') = sum_changed owed_of w.sessions c x (seated_as y seat') at in
@@ -280,7 +339,7 @@ module _ (w : World) (tells : Tells w) (c : ℕ) (x y : Session) (at : slice_get
       let sums : sum_by owed_of (slice_set w.sessions c (seated_as y seat')) + owed_of x ≡ sum_by owed_of w.sessions + owed_of (seated_as y seat') = sum_changed owed_of w.sessions c x (seated_as y seat') at in
       let takes : owed_by (Some seat'.seat) + 1 ≤ owed_by (Some y.seat.seat) + reserved_for e = owed_by-row y.seat.seat seat'.seat e entered in
       let same : owed_in y.seat.seat.standing y.seat.seat.phase ≡ owed_of x = ap (λ (s : Seat). owed_in s.standing s.phase) (same_seat (Some e) is) in
-      let few = reserved_within step answer e is in
+      let few = claim_within claim _ _ step answer e (called.move y.seat) is in
       omega arith
 
   -- The move.

@@ -7,6 +7,7 @@ use Rattle.txn_trace.specs.declared.answer.Answer.TheVariants as answers
 use Rattle.txn_trace.specs.Sizes.{Sizes}
 use Rattle.boost_core.specs.Refusals.{refusal_of, MayLack}
 use Rattle.boost_core.specs.Answers.{IsAnswer, keeps_list, after}
+use Rattle.boost_core.specs.Nodes.{Lists, Cursors}
 
 -- Whether a step may be answered so: by the first refusal whose test holds, and where none does, by
 -- want of memory or of stamps, or by an answer of the step.
@@ -32,11 +33,18 @@ pub record Move (old : State) (step : Step) (answer : Answer) (new : State) : Ty
   pub stamp : old.stamp ≤ new.stamp
   pub one_stamp : new.stamp ≤ old.stamp + 1
 
--- These answers to these steps, one after the other.
+-- A step is taken, and nothing is done besides: it makes a move, and the linked nodes, the last
+-- stamp and all cursors become what `Nodes` says.
+pub record Event (old : State) (step : Step) (answer : Answer) (new : State) : Type 0 where
+  pub move : Move old step answer new
+  pub lists : Lists old step answer new
+  pub cursors : Cursors old step answer new
+
+-- These answers to these steps, taken one after the other.
 abbrev pub Moves : State → List Step → List Answer → State → Type 0
 Moves old [] [] new = new ≡ old
 Moves old (step ∷ steps) (answer ∷ answers) new =
-    (between : State) × Move old step answer between × Moves between steps answers new
+    (between : State) × Event old step answer between × Moves between steps answers new
 Moves old steps answers new = ⊥
 
 -- A run: these answers to these steps, from the state in which nothing has happened.

@@ -1,4 +1,5 @@
--- The plain calls: moves of one caller with none between, of which none is answered `again`.
+-- The plain calls: steps of one caller with none between and nothing besides, of which none is
+-- answered `again`.
 use Rattle.std.specs.Prelude.{◌≡◌, ℕ, ◌%◌, zero, suc, Bool, true, false, nat_le, List, [], ◌∷◌, Option, Some, Result, Ok, Err}
 use Rattle.txn_trace.specs.declared.op.Op.{Op}
 use Rattle.txn_trace.specs.declared.step.Step.{Step}
@@ -14,7 +15,7 @@ use Rattle.txn_drive.specs.declared.«end».End.TheVariants as ends
 use Rattle.txn_drive.specs.Drives.{new_drive, sized_of, step_of, told_of, end_of}
 use Rattle.boost_core.specs.State.{State, seat_in, is_set}
 use Rattle.boost_core.specs.Answers.{is_at_end}
-use Rattle.boost_core.specs.Machine.{Move, Moves}
+use Rattle.boost_core.specs.Machine.{Event, Moves}
 
 -- An operation is asked for, sought and done; or the asking has another answer, and that is all.
 abbrev pub Operates : State → ℕ → Op → Answer → State → Type 0
@@ -22,7 +23,7 @@ Operates old c op answers.Asked new = ⊥
 Operates old c op (answers.Done reply) new =
     Moves old (Ask c op ∷ Seek c ∷ Act c ∷ [])
     (answers.Asked ∷ answers.Placed ∷ answers.Done reply ∷ []) new
-Operates old c op answer new = Move old (Ask c op) answer new
+Operates old c op answer new = Event old (Ask c op) answer new
 
 -- So many changes are sought and taken back, and then these steps are taken.
 abbrev pub undoing : ℕ → ℕ → List Step → List Step
@@ -44,14 +45,14 @@ Ends old c answer new =
 abbrev pub Returns : State → ℕ → ℕ → Answer → State → Type 0
 Returns old c n answers.Leaving new = ⊥
 Returns old c n (answers.Returned m) new =
-    (m ≡ n) × (left : State) × Move old (Back c n) answers.Leaving left
+    (m ≡ n) × (left : State) × Event old (Back c n) answers.Leaving left
     × Ends left c (answers.Returned m) new
-Returns old c n answer new = Move old (Back c n) answer new
+Returns old c n answer new = Event old (Back c n) answer new
 
 -- The step by which a caller leaves to the end, unless it does already.
 abbrev pub Leaves : Bool → State → ℕ → State → Type 0
 Leaves true old c left = left ≡ old
-Leaves false old c left = Move old (Abort c) answers.Leaving left
+Leaves false old c left = Event old (Abort c) answers.Leaving left
 
 -- A caller aborts: it leaves to the end, and ends that; or the step has another answer, and that is
 -- all.
@@ -61,7 +62,7 @@ Aborts old c answers.Aborted new =
     (left : State) × Leaves (is_at_end (seat_in old.history c).phase) old c left
     × Ends left c answers.Aborted new
 Aborts old c answer new =
-    (is_at_end (seat_in old.history c).phase ≡ false) × Move old (Abort c) answer new
+    (is_at_end (seat_in old.history c).phase ≡ false) × Event old (Abort c) answer new
 
 -- So many moves of a drive, with none of another's between: each is the step that the drive names
 -- at the size of that moment, and the drive is told the answer.
@@ -69,7 +70,7 @@ abbrev pub Drives : ℕ → Drive → State → Drive → State → Type 0
 Drives zero drive old last new = (last ≡ drive) × (new ≡ old)
 Drives (suc moves) drive old last new =
     (step : Step) × (answer : Answer) × (between : State)
-    × (step_of (sized_of old.size drive) ≡ Some step) × Move old step answer between
+    × (step_of (sized_of old.size drive) ≡ Some step) × Event old step answer between
     × Drives moves (told_of (sized_of old.size drive) answer) between last new
 
 -- A caller's call for help, from its first move to this end.

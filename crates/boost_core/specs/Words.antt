@@ -10,7 +10,8 @@ use Rattle.txn_trace.specs.declared.step.Step.TheVariants.{Ask}
 use Rattle.txn_trace.specs.declared.answer.Answer.{Answer}
 use Rattle.txn_trace.specs.declared.answer.Answer.TheVariants as answers
 use Rattle.txn_trace.specs.declared.entry.Entry.TheVariants as entries
-use Rattle.txn_trace.specs.declared.refusal.Refusal.TheVariants.{StaleWord, StampsUsedUp}
+use Rattle.txn_trace.specs.declared.refusal.Refusal.TheVariants.{NoMemory, StaleWord, StampsUsedUp}
+use Rattle.txn_trace.specs.Owed.{reserved}
 use Rattle.txn_trace.specs.Locks.{has_begun, is_locked}
 use Rattle.map_ops.specs.Jobs.{takes_node}
 use Rattle.boost_core.specs.State.{State}
@@ -41,13 +42,21 @@ is_stale Right state (Ask c op) = has_stamp_for state op && is_taken state c op
 is_stale Stale state (Ask c op) = true
 is_stale claim state step = false
 
+-- What a step reserves in the history by its claim: with a word nothing, since the entry that it may
+-- add is owed already.
+abbrev pub reserved_by : Claim → Step → ℕ
+reserved_by Lock step = reserved step
+reserved_by Right step = reserved step
+reserved_by claim step = 0
+
 -- What else may be answered to a claim: with a right no operation is busy, with a word none is
--- granted and no stamp is wanted.
+-- granted, and neither memory nor a stamp is wanted.
 abbrev pub may_come : Claim → Answer → Bool
 may_come Lock answer = true
 may_come Right (answers.Busy x) = false
 may_come Right answer = true
 may_come (Held named) (answers.Busy x) = x == named
+may_come claim (answers.Refused NoMemory) = false
 may_come claim (answers.Refused StampsUsedUp) = false
 may_come claim (answers.Refused refusal) = true
 may_come claim answer = false

@@ -1,4 +1,7 @@
 //! Claims to stripes.
+ghost use Rattle.std.specs.Prelude.{◌≡◌};
+
+use txn_trace::Step;
 
 /// By what an operation claims the stripe of its key.
 #[derive(Clone, Copy, Debug, PartialEq, Eq)]
@@ -12,4 +15,20 @@ pub enum Claim {
     Held(u64),
     /// The stripe's word names nobody who may hold it: the word is stale.
     Stale,
+}
+
+impl Claim {
+    ghost use Rattle.boost_core.specs.Words.{reserved_by};
+
+    /// How many entries the history makes room for before a step is taken by this claim: none for a
+    /// word, whose Busy is owed already. Constant time.
+    #[inline(always)]
+    pub(crate) fn entry_room(self, step: Step) -> u64
+        ensures { result ≡ reserved_by self step }
+    {
+        match self {
+            Claim::Lock | Claim::Right => step.entry_room(),
+            Claim::Held(_) | Claim::Stale => 0,
+        }
+    }
 }

@@ -182,6 +182,7 @@ impl Core {
         ensures moves { Goes claim self.old step result self.new }
         ensures lists { ListsBy claim self.old step result self.new }
         ensures cursors { Cursors self.old step result self.new }
+        ensures limits { self.new.limits ≡ self.old.limits }
         ensures words { self.new.words ≡ self.old.words }
         ensures cursor { result ≡ Answer.Placed
             → is_some (caller_changes self.new.cursors caller) ≡ true }
@@ -191,7 +192,7 @@ impl Core {
         }
         if self
             .history
-            .reserve(self.owed + step.entry_room() as usize)
+            .reserve(self.owed + claim.entry_room(step) as usize)
             .is_err()
         {
             return Answer::Refused(Refusal::NoMemory);
@@ -229,8 +230,8 @@ impl Core {
         answer
     }
 
-    /// Takes the steps one after another, and gives their answers. Room for all answers is made
-    /// first. Where stripes are words, none of the steps may be an `Ask`.
+    /// Takes the steps one after another, and nothing besides, and gives their answers. Room for all
+    /// answers is made first. Where stripes are words, none of the steps may be an `Ask`.
     ///
     /// # Errors
     ///

@@ -58,6 +58,8 @@ impl Core {
         ensures asks { Asks Claim.Right self.old (Step.Ask caller op) result self.new }
         ensures lists { ListsAsk Claim.Right self.old (Step.Ask caller op) result self.new }
         ensures cursors { Cursors self.old (Step.Ask caller op) result self.new }
+        ensures limits { self.new.limits ≡ self.old.limits }
+        ensures words { self.new.words ≡ true }
     {
         // The right is shown, and nothing else is asked of it.
         let _stripe = right.stripe();
@@ -69,12 +71,13 @@ impl Core {
     ///
     /// The answer is `Busy` with that number, after which the caller leaves to the end, or the
     /// first refusal whose test holds: `NoSuchCaller`, `NotOpen`, `Leaving`, `OperationUnfinished`,
-    /// `BadKey`, `NoMemory` for the history, and `StaleWord` where the word names the caller itself
-    /// or one that has never begun a transaction. A refusal leaves the state. No spare is made.
+    /// `BadKey`, and `StaleWord` where the word names the caller itself or one that has never begun a
+    /// transaction. A refusal leaves the state. No spare is made, and room for the entry is there
+    /// since the transaction began.
     ///
     /// # Cost
     ///
-    /// Amortized constant time; may take memory for the history.
+    /// Constant time; takes no memory.
     pub fn ask_held(&mut self, caller: u64, op: Op, word: u64) -> Answer
         requires words { self.old.words ≡ true }
         requires word { word ≢ 0 }
@@ -83,6 +86,8 @@ impl Core {
         ensures lists { ListsAsk (claim_of self.old caller (word - 1)) self.old
             (Step.Ask caller op) result self.new }
         ensures cursors { Cursors self.old (Step.Ask caller op) result self.new }
+        ensures limits { self.new.limits ≡ self.old.limits }
+        ensures words { self.new.words ≡ true }
     {
         let claim = self.claim_of(caller, word - 1);
         self.call(caller, Step::Ask(caller, op), claim)

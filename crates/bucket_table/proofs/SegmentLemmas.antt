@@ -1,6 +1,6 @@
 -- A row of segments, and the entries that it stands for.
 use Prim.Native.Nat.{zero, suc}
-use Rattle.std.proofs.Common.{◌≡◌, ◌≢◌, ℕ, ◌*◌, ◌/◌, ◌%◌, ◌^◌, ◌<◌, ◌≤◌, ◌⊎◌, inl, inr, List, Option, Some, None, true, false, replicate, is_some, length, refl, sym, ◌∙◌, ap, subst, arith, get_or, length-set, slice_index_or, slice_set}
+use Rattle.std.proofs.Common.{◌+◌, ◌≡◌, ◌≢◌, ℕ, ◌*◌, ◌/◌, ◌%◌, ◌^◌, ◌<◌, ◌≤◌, ◌⊎◌, inl, inr, List, Option, Some, None, true, false, replicate, is_some, length, refl, sym, ◌∙◌, ap, subst, arith, get_or, length-set, slice_index_or, slice_set}
 use Rattle.std.specs.Prelude.{Result, Ok, Err, IfOk, OnErr}
 use Rattle.std.proofs.lemmas.Bool.{cases_eq, cases_lt}
 use Rattle.std.proofs.lemmas.List.{ext_get_or, get_or_past, get_or_read, get_or-set_same, get_or-set_other, set-get_or, length-replicate}
@@ -76,6 +76,7 @@ module _ (limit : ℕ) (row : List (Option (List (Option ℕ)))) (bucket : ℕ) 
   pub row_set : IsRow limit row → IsRow limit changed
   row_set is = record {
     long = let same = length-set row (bucket / 64) (Some segment) in omega (arith, same, long);
+    no_longer = let same = length-set row (bucket / 64) (Some segment) in omega (arith, same, is.no_longer);
     fits = is.fits;
     used = used;
   }
@@ -122,10 +123,11 @@ segment_here place dummy within = get_or-set_same (replicate 64 None) place (Som
 pub segment_elsewhere : (place dummy other : ℕ) → other ≢ place → slice_index_or (slice_set (replicate 64 None) place (Some dummy)) other None ≡ None
 segment_elsewhere place dummy other apart = get_or-set_other (replicate 64 None) place other (Some dummy) None apart ∙ none_in 64 other
 
--- A row of segments that are not there, long enough for so many buckets.
-pub row_missing : (limit count : ℕ) → limit ≤ 64 * count → limit < 2 ^ 32 → IsRow limit (replicate count None)
-row_missing limit count long fits = record {
+-- A row of segments that are not there, just long enough for so many buckets.
+pub row_missing : (limit count : ℕ) → limit ≤ 64 * count → 64 * count < limit + 64 → limit < 2 ^ 32 → IsRow limit (replicate count None)
+row_missing limit count long no_longer fits = record {
   long = let same = length-replicate {A = Option (List (Option ℕ))} count None in omega (arith, same, long);
+  no_longer = let same = length-replicate {A = Option (List (Option ℕ))} count None in omega (arith, same, no_longer);
   fits = fits;
   used = λ segment there. absurd (let no : false ≡ true = sym (ap is_some (none_in count segment)) ∙ there in cc);
 }

@@ -1,5 +1,5 @@
 -- A row of segments of 64 entries, and the flat list of entries that it stands for.
-use Rattle.std.specs.Prelude.{◌≡◌, ◌≢◌, ℕ, ◌*◌, ◌/◌, ◌%◌, ◌<◌, ◌≤◌, ◌^◌, Bool, true, false, List, [], Option, Some, None, map, length, is_some, slice_index_or}
+use Rattle.std.specs.Prelude.{◌≡◌, ◌≢◌, ℕ, ◌+◌, ◌*◌, ◌/◌, ◌%◌, ◌<◌, ◌≤◌, ◌^◌, Bool, true, false, List, [], Option, Some, None, map, length, is_some, slice_index_or}
 use Rattle.std.specs.List.{range_with_len}
 
 -- The entries of a segment; one that is not there has none.
@@ -43,10 +43,11 @@ pub record HasStored (entries : List (Option ℕ)) (segment : ℕ) : Type 0 wher
   pub of : bucket / 64 ≡ segment
   pub stored : is_stored_in entries bucket ≡ true
 
--- The row is long enough for so many buckets, and a segment is there only where one of its buckets
--- is stored.
+-- The row is just long enough for so many buckets, and a segment is there only where one of its
+-- buckets is stored.
 pub record IsRow (limit : ℕ) (row : List (Option (List (Option ℕ)))) : Type 0 where
   pub long : limit ≤ 64 * length row
+  pub no_longer : 64 * length row < limit + 64
   pub fits : limit < 2 ^ 32
   pub used : (segment : ℕ) → is_some (slice_index_or row segment None) ≡ true
       → HasStored (entries_of limit row) segment

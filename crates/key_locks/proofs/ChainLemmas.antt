@@ -1,6 +1,6 @@
 -- A lock puts a stripe before its caller's chain, and a release takes the first one off.
 use Prim.Native.Nat.{zero, suc}
-use Rattle.std.proofs.Common.{◌≡◌, ◌≢◌, ℕ, ◌<◌, List, [], ◌∷◌, length, get_or, set, replicate, Option, None, Some, true, false, cond, ◌||◌, refl, sym, ◌∙◌, ap, subst, arith, inl, inr, eqb, eq-eqb, ne_eqb, length-set, get_or-set_other, get_or-set_same}
+use Rattle.std.proofs.Common.{◌≡◌, ◌≢◌, ℕ, ◌<◌, ◌≤◌, List, [], ◌∷◌, length, get_or, set, replicate, Option, None, Some, true, false, cond, ◌||◌, refl, sym, ◌∙◌, ap, subst, arith, inl, inr, eqb, eq-eqb, ne_eqb, length-set, get_or-set_other, get_or-set_same}
 use Rattle.std.proofs.lemmas.Bool.{cases_eq, cases_lt, or_parts, or_left, eqb-true, eqb-false}
 use Rattle.std.proofs.lemmas.List.{get_or_past, get_or_read, set-get_or}
 use Rattle.std.proofs.lemmas.List.Sums.{sum_by-set}
@@ -105,13 +105,43 @@ IsChain-freed holders older caller stripe rest is =
           (λ differs. sym (ap (λ b. b || is_in rest other) (ne_eqb stripe other (λ same. differs (sym same)))) ∙ is.held other);
     }
 
+-- ---- who holds
+-- Only callers do, also after a write of a caller or of none.
+abbrev NoneElse : Holders → Type 0
+NoneElse holders = (stripe holder : ℕ) → get_or holders stripe None ≡ Some holder → holder < 64
+
+none_else-taken : (holders : Holders) (stripe caller : ℕ) → stripe < length holders → caller < 64 → NoneElse holders → NoneElse (set holders stripe (Some caller))
+none_else-taken holders stripe caller within below none_else other holder =
+    get_or-set_is holders stripe other (Some caller) within (λ h. h ≡ Some holder → holder < 64)
+    (λ same held. let is : caller ≡ holder = some_same caller holder held in rw (← is) below)
+    (λ differs held. none_else other holder held)
+
+none_else-freed : (holders : Holders) (stripe : ℕ) → stripe < length holders → NoneElse holders → NoneElse (set holders stripe None)
+none_else-freed holders stripe within none_else other holder =
+    get_or-set_is holders stripe other None within (λ h. h ≡ Some holder → holder < 64)
+    (λ same held. absurd (none_is_not_some None holder refl held))
+    (λ differs held. none_else other holder held)
+
+-- A number that is no caller's holds no stripe.
+not_a_caller : (caller : ℕ) (held : Option ℕ) → ((holder : ℕ) → held ≡ Some holder → holder < 64) → 64 ≤ caller → held ≡ without_caller caller held
+not_a_caller caller None few past = refl
+not_a_caller caller (Some holder) few past =
+    let below = few holder refl in
+    sym (ap (λ b. cond b None (Some holder)) (ne_eqb holder caller (λ same. omega arith)))
+
+pub Releases-none : (holders older newest : Holders) (caller : ℕ) → AreChained holders older newest → 64 ≤ caller → Releases caller holders holders
+Releases-none holders older newest caller are past = record {
+  each = λ stripe. not_a_caller caller (get_or holders stripe None) (are.none_else stripe) past;
+  as_many = refl;
+}
+
 -- ---- all chains
 -- one caller's chain begins elsewhere
 AreChained-set : (holders older newest : Holders) (caller : ℕ) (first : Option ℕ) → length older ≡ length holders → length newest ≡ 64 → caller < 64
     → (chain : List ℕ) × IsChain holders older caller first chain
     → ((other : ℕ) → other < 64 → other ≢ caller → (chain : List ℕ) × IsChain holders older other (get_or newest other None) chain)
-    → AreChained holders older (set newest caller first)
-AreChained-set holders older newest caller first as_many callers below own others = record {
+    → NoneElse holders → AreChained holders older (set newest caller first)
+AreChained-set holders older newest caller first as_many callers below own others none_else = record {
   as_many = as_many;
   callers = length-set newest caller first ∙ callers;
   chain_of = λ other other_below. elim (cases_eq other caller) [
@@ -121,6 +151,7 @@ AreChained-set holders older newest caller first as_many callers below own other
     | inr differs ↦
         subst (λ from. (chain : List ℕ) × IsChain holders older other from chain) (sym (get_or-set_other newest caller other first None differs)) (others other other_below differs)
   ];
+  none_else = none_else;
 }
 
 pub AreChained-taken : (holders older newest : Holders) (caller stripe : ℕ) → AreChained holders older newest → caller < 64 → stripe < length holders → get_or holders stripe None ≡ None
@@ -134,6 +165,7 @@ AreChained-taken holders older newest caller stripe are below within free =
     (λ other other_below differs.
     let its = are.chain_of other other_below in
     (its.0, IsChain-elsewhere holders older other stripe _ next (Some caller) its.0 its.1 (none_is_no_caller other _ free) (some_is_no_other caller other _ refl differs) within))
+    (none_else-taken holders stripe caller within below are.none_else)
 
 -- The stripe is the one that the caller took last.
 pub record IsNewest (holders older newest : List (Option ℕ)) (caller stripe : ℕ) : Type 0 where
@@ -169,6 +201,7 @@ AreChained-freed holders older newest caller stripe are below is =
       subst (λ after. IsChain (set holders stripe None) after other (get_or newest other None) its.0) (set-get_or older stripe None)
           (IsChain-elsewhere holders older other stripe _ (get_or older stripe None) None its.0 its.1 (some_is_no_other caller other _ is.held differs) refl is.within),
     ))
+    (none_else-freed holders stripe is.within are.none_else)
 
 -- At first no caller has a stripe.
 pub AreChained-new : (stripes : ℕ) (holders older newest : Holders) → holders ≡ replicate stripes None → older ≡ replicate stripes None → newest ≡ replicate 64 None → AreChained holders older newest
@@ -182,6 +215,7 @@ AreChained-new stripes holders older newest holders_is older_is newest_is = reco
       held = λ stripe. sym (none_is_no_caller caller _ (ap (λ l. get_or l stripe None) holders_is ∙ none_of stripes stripe));
     },
   );
+  none_else = λ stripe holder held. absurd (none_is_not_some _ holder (ap (λ l. get_or l stripe None) holders_is ∙ none_of stripes stripe) held);
 }
 
 -- ---- a release

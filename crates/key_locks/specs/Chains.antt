@@ -20,9 +20,10 @@ pub record IsChain (holders older : List (Option ℕ)) (caller : ℕ) (first : O
   pub leads : Leads older first chain
   pub held : (stripe : ℕ) → is_in chain stripe ≡ is_caller caller (holder_of holders stripe)
 
--- Each caller has a chain.
+-- Each caller has a chain, and nobody else holds a stripe.
 pub record AreChained (holders older newest : List (Option ℕ)) : Type 0 where
   pub as_many : length older ≡ length holders
   pub callers : length newest ≡ 64
   pub chain_of : (caller : ℕ) → caller < 64 → (chain : List ℕ)
       × IsChain holders older caller (slice_index_or newest caller None) chain
+  pub none_else : (stripe holder : ℕ) → holder_of holders stripe ≡ Some holder → holder < 64

@@ -5,7 +5,7 @@ use Rattle.boost_core.specs.declared.counts.Counts.{Counts}
 use Rattle.boost_core.specs.Counts.{counts_after}
 use Rattle.boost_core.specs.State.{Owner}
 use Rattle.boost_core.specs.Sessions.{Does, Takes, owed_of}
-use Rattle.boost_core.specs.Words.{Goes}
+use Rattle.boost_core.specs.Words.{Goes, reserved_by}
 use Rattle.boost_core.specs.Core.{Tells, world_of, state_of}
 use Rattle.boost_core.proofs.Beginners.{noted_then}
 use Rattle.boost_core.proofs.Numbers.{began_bound, committed_bound, when_ok, when_err}
@@ -16,7 +16,7 @@ use Rattle.boost_core.proofs.Grow.{world_after, seated_as}
 use Rattle.boost_core.proofs.NodeSteps.{lists_by_of, refused_lists, does}
 use Rattle.boost_core.proofs.GapSteps.{cursors_of, does_cursors}
 use Rattle.boost_core.proofs.Called.{called, takes, placed_cursor, changes_there}
-use Rattle.boost_core.proofs.Outcomes.{CalledBy, claims_of, goes_of, goes_lacking, goes_refused, early_or_lock, reserved_few, no_memory, can_add, called_caller, called_tells, called_owes, called_room, called_move}
+use Rattle.boost_core.proofs.Outcomes.{CalledBy, claims_of, goes_of, goes_lacking, goes_refused, fresh_or_lock, reserved_least, reserved_few, no_memory, can_add, called_caller, called_tells, called_owes, called_room, called_move}
 use Rattle.txn_trace.specs.declared.answer.Answer.TheVariants as answers
 use Rattle.txn_trace.specs.declared.refusal.Refusal.TheVariants as refusals
 use Rattle.txn_trace.specs.Owed.{reserved}
@@ -24,7 +24,7 @@ use Rattle.boost_core.specs.Core.{World}
 use Rattle.boost_core.proofs.machine.Core.call.Goals as goal
 
 pub overflow_add-self-inside : goal.overflow_add-self-inside
-overflow_add-self-inside c = omega (arith, reserved_few c.args.step, c.entry_room.ensures, c.self.invariant.owes, c.self.invariant.room, c.self.inside.history.ok, c.self.inside.history.small)
+overflow_add-self-inside c = omega (arith, reserved_least c.args.claim c.args.step, reserved_few c.args.step, c.entry_room.ensures, c.self.invariant.owes, c.self.invariant.room, c.self.inside.history.ok, c.self.inside.history.small)
 
 pub answer-answer-requires : goal.answer-answer-requires
 answer-answer-requires c =
@@ -104,8 +104,9 @@ returns-then-is_err-clause-moves c =
     let none = none_of _ _ c.args.step _ c.self.view_is c.refusal.ensures c.in_default.is in
     let w : World = world_of c.self.inside.limits c.self.inside.history c.self.inside.counts c.self.inside.table c.self.inside.sessions c.self.inside.locks c.self.inside.placed c.self.inside.words in
     let full = when_err c.reserve.result c.if-is_err.ensures.value c.reserve.ensures.full in
-    let some : 0 < reserved c.args.step = omega (arith, full, c.entry_room.ensures, c.self.invariant.owes, c.self.invariant.room) in
-    goes_of c.args.claim _ _ _ _ _ c.self.view_is (subst (λ (h : List Entry). Goes c.args.claim (state_of w) c.args.step (answers.Refused refusals.NoMemory) (state_of (record w { history = h }))) (sym c.reserve.ensures.items) (goes_lacking c.args.claim (state_of w) c.args.step (no_memory (state_of w) c.args.step none some)))
+    let some : 0 < reserved_by c.args.claim c.args.step = omega (arith, full, c.entry_room.ensures, c.self.invariant.owes, c.self.invariant.room) in
+    let some_more : 0 < reserved c.args.step = omega (arith, reserved_least c.args.claim c.args.step, some) in
+    goes_of c.args.claim _ _ _ _ _ c.self.view_is (subst (λ (h : List Entry). Goes c.args.claim (state_of w) c.args.step (answers.Refused refusals.NoMemory) (state_of (record w { history = h }))) (sym c.reserve.ensures.items) (goes_lacking c.args.claim (state_of w) c.args.step some (no_memory (state_of w) c.args.step none some_more)))
 
 pub returns-then-is_err-clause-lists : goal.returns-then-is_err-clause-lists
 returns-then-is_err-clause-lists c =
@@ -116,4 +117,4 @@ pub returns-in-Some-clause-moves : goal.returns-in-Some-clause-moves
 returns-in-Some-clause-moves c = goes_refused c.args.claim c.args.self.now c.args.step c.in-Some.refusal c.requires.claim (sym c.refusal.ensures ∙ c.in-Some.is)
 
 pub returns-in-Some-clause-lists : goal.returns-in-Some-clause-lists
-returns-in-Some-clause-lists c = refused_lists c.args.claim c.args.self.now c.args.self.now c.args.step c.in-Some.refusal (early_or_lock c.args.claim c.args.self.now c.args.step c.in-Some.refusal c.requires.claim (sym c.refusal.ensures ∙ c.in-Some.is)) (record { nodes = refl; changes = refl }) refl
+returns-in-Some-clause-lists c = refused_lists c.args.claim c.args.self.now c.args.self.now c.args.step c.in-Some.refusal (fresh_or_lock c.args.claim c.args.self.now c.args.step c.in-Some.refusal c.requires.claim (sym c.refusal.ensures ∙ c.in-Some.is)) (record { nodes = refl; changes = refl }) refl

@@ -47,7 +47,7 @@ loop-step-preserved c =
     (most_there c.self.inside.limits c.loop-step.self.limits limits c.callers.ensures.limits) (within_there c.self.inside.limits c.loop-step.self.limits c.args.caller c.from.result c.callers.result limits c.if-caller-from.false c.from.ensures c.callers.ensures.value)
     so_far.caller so_far.call so_far.fits step_is c.step-answer.ensures.moves in
     record {
-      drives = λ more last new drives. so_far.drives (suc more) last new (c.in-Some.step, c.step-answer.result, c.step-answer.new.self, step_is, c.step-answer.ensures.moves, subst (λ (d : Drive). Drives more d c.step-answer.new.self last new) told_is drives);
+      drives = λ more last new drives. so_far.drives (suc more) last new (c.in-Some.step, c.step-answer.result, c.step-answer.new.self, step_is, record { move = c.step-answer.ensures.moves; lists = c.step-answer.ensures.lists; cursors = c.step-answer.ensures.cursors }, subst (λ (d : Drive). Drives more d c.step-answer.new.self last new) told_is drives);
       caller = ap (λ (d : Drive). d.caller) told_is ∙ so_far.caller;
       call = ap (λ (d : Drive). d.call) told_is ∙ so_far.call;
       words = c.step-answer.ensures.words ∙ so_far.words;

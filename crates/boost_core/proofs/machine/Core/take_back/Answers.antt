@@ -6,7 +6,7 @@ use Rattle.txn_trace.specs.declared.answer.Answer.TheVariants.{Placed, Undone}
 use Rattle.txn_trace.specs.declared.step.Step.TheVariants.{Seek, Act}
 use Rattle.boost_core.specs.Refusals.{is_leaving}
 use Rattle.boost_core.specs.Answers.{end_of}
-use Rattle.boost_core.specs.Machine.{Move}
+use Rattle.boost_core.specs.Machine.{Event}
 use Rattle.boost_core.proofs.Calls.{took_back, act_ends}
 use Rattle.boost_core.proofs.machine.Core.take_back.Goals as goal
 
@@ -19,8 +19,8 @@ loop-self-preserved c =
       changes = suc so_far.changes;
       moves = λ steps answers new moves. so_far.moves (Seek c.args.caller ∷ Act c.args.caller ∷ steps) (Placed ∷ Undone ∷ answers) new (
         c.call.new.self,
-        subst (λ (a : Answer). Move c.loop-self.self (Seek c.args.caller) a c.call.new.self) back.placed c.call.ensures.moves,
-        (c.call-in-loop-self.new.self, subst (λ (a : Answer). Move c.call.new.self (Act c.args.caller) a c.call-in-loop-self.new.self) back.undone c.call-in-loop-self.ensures.moves, moves),
+        subst (λ (a : Answer). Event c.loop-self.self (Seek c.args.caller) a c.call.new.self) back.placed (record { move = c.call.ensures.moves; lists = c.call.ensures.lists; cursors = c.call.ensures.cursors }),
+        (c.call-in-loop-self.new.self, subst (λ (a : Answer). Event c.call.new.self (Act c.args.caller) a c.call-in-loop-self.new.self) back.undone (record { move = c.call-in-loop-self.ensures.moves; lists = c.call-in-loop-self.ensures.lists; cursors = c.call-in-loop-self.ensures.cursors }), moves),
       );
       limits = back.limits ∙ so_far.limits;
       words = c.call-in-loop-self.ensures.words ∙ c.call.ensures.words ∙ so_far.words;
@@ -37,7 +37,7 @@ loop-self-smaller c =
 pub returns-clause-ends : goal.returns-clause-ends
 returns-clause-ends c =
     let so_far = c.loop-self.invariant in
-    (so_far.changes, so_far.moves (Act c.args.caller ∷ []) (c.call-2.result ∷ []) c.call-2.new.self (c.call-2.new.self, c.call-2.ensures.moves, refl))
+    (so_far.changes, so_far.moves (Act c.args.caller ∷ []) (c.call-2.result ∷ []) c.call-2.new.self (c.call-2.new.self, record { move = c.call-2.ensures.moves; lists = c.call-2.ensures.lists; cursors = c.call-2.ensures.cursors }, refl))
 
 pub returns-clause-answer : goal.returns-clause-answer
 returns-clause-answer c =
