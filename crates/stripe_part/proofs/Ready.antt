@@ -1,13 +1,9 @@
 -- Jobs stay ready where the spares stay, where one is given, and where one is spent.
-use Rattle.std.proofs.Common.{◌≡◌, ◌≢◌, ℕ, inl, inr, Bool, true, false, cond, Option, Some, None, List, [], ◌∷◌, ◌++◌, refl, sym, ap, subst, ◌∙◌}
-use Rattle.std.specs.Prelude.{is_some, map, reverse, option_to_list, nat_eq}
-use Rattle.std.specs.Option.{option_eq}
-use Rattle.std.specs.List.{AllByRecursion}
-use Rattle.std.proofs.lemmas.Bool.{false≢true}
+use Rattle.std.proofs.Common.{◌≡◌, ℕ, false, cond, Option, Some, None, List, [], ◌∷◌, ◌++◌, refl, sym, ap, subst, ◌∙◌}
+use Rattle.std.specs.Prelude.{reverse, option_to_list}
 use Rattle.std.proofs.lemmas.List.{reverse-append, append-nil}
 use Rattle.txn_trace.specs.declared.op.Op.{Op}
-use Rattle.txn_trace.specs.declared.op.Op.TheVariants.{Put, Take, Get, PutIf}
-use Rattle.txn_trace.specs.Map.{Map, after, empty, get, key_of, reply_of}
+use Rattle.txn_trace.specs.Map.{Map, after, empty, key_of}
 use Rattle.txn_trace.specs.Now.{set_at}
 use Rattle.txn_trace.specs.Shape.{changes}
 use Rattle.txn_trace.proofs.Acting.{after_unchanged}
@@ -15,12 +11,12 @@ use Rattle.txn_trace.proofs.Fits.{changes-reply}
 use Rattle.map_ops.specs.declared.job.MapJob.{MapJob}
 use Rattle.map_ops.specs.declared.job.MapJob.TheVariants.{Unput, Restore, Relink}
 use Rattle.map_ops.specs.TableAt.{TableAt, SpareAt, IsClean, KeepsSpares, content}
-use Rattle.map_ops.specs.Jobs.{job_of, key_of_job, relink, spare_of_job, takes_node, unput, value_before}
+use Rattle.map_ops.specs.Jobs.{key_of_job, spare_of_job, value_before}
 use Rattle.map_ops.specs.Changes.{Applies, AreApart, GivesBack, GivesSpare, JobSpare, OwnsIf, Spends, TakesBack}
 use Rattle.map_ops.proofs.Laws.{content-no_job, fresh_apart, other_owned, set_at-after, shows_after, still_owned, still_owned_if}
 use Rattle.stripe_part.specs.PartAt.{nothing}
-use Rattle.stripe_part.specs.Calls.{Does, noted}
-use Rattle.stripe_part.specs.Ready.{AreReady, CanUndo, IsApart, IsSound, log_of}
+use Rattle.stripe_part.specs.Calls.{Does}
+use Rattle.stripe_part.specs.Ready.{AreReady, CanUndo, IsApart, IsSound}
 use Rattle.stripe_part.specs.Stays.{Stays}
 
 -- The same spares: what was ready is.
@@ -89,7 +85,7 @@ ready_done t t' op reply job older applies ready =
     let shows = shows_after t t' op reply job applies in
     let rest = joined t t' (content t) job older applies.spares ready in
     let before : set_at (content t') (key_of_job job) (value_before job) ≡ content t =
-        ap (λ (m : Map). set_at m (key_of_job job) (value_before job)) applies.content_is ∙ set_at-after (content t) op applies.spare job (sym applies.job_is) in
+    ap (λ (m : Map). set_at m (key_of_job job) (value_before job)) applies.content_is ∙ set_at-after (content t) op applies.spare job (sym applies.job_is) in
     (shows.0, shows.1, rest.0, subst (λ (m : Map). AreReady t' m older) (sym before) rest.1)
 
 -- What was done can be undone, and all that was before.
@@ -104,38 +100,6 @@ can_undo_done t t' op reply (Some job) jobs applies can =
 -- Where the content and the spares stay, the same can be undone.
 pub can_undo_kept : (t t' : TableAt) (jobs : List MapJob) → content t' ≡ content t → KeepsSpares t t' → CanUndo t jobs → CanUndo t' jobs
 can_undo_kept t t' jobs same keeps can = subst (λ (m : Map). AreReady t' m (reverse jobs)) (sym same) (ready_kept t t' (content t) (reverse jobs) keeps can)
-
--- The log with a job more.
-log_more : (log : List (ℕ × Option ℕ)) (k : ℕ) (o : Option ℕ) → (k, o) ∷ log ≡ log_of (option_to_list (unput k o)) ++ log
-log_more log k None = refl
-log_more log k (Some old) = refl
-
-noted_take : (log : List (ℕ × Option ℕ)) (k : ℕ) (o : Option ℕ) (spare : Option SpareAt) → is_some spare ≡ true → noted log (Take k) o ≡ log_of (option_to_list (relink k o spare)) ++ log
-noted_take log k None spare there = refl
-noted_take log k (Some old) None there = absurd (false≢true there)
-noted_take log k (Some old) (Some spare) there = refl
-
-noted_job : (log : List (ℕ × Option ℕ)) (m : Map) (op : Op) (spare : Option SpareAt) → is_some spare ≡ takes_node op → noted log op (reply_of m op) ≡ log_of (option_to_list (job_of m op spare)) ++ log
-noted_job log m (Put k v) spare there = log_more log k (get m k)
-noted_job log m (Take k) spare there = noted_take log k (get m k) spare there
-noted_job log m (Get k) spare there = refl
-noted_job log m (PutIf k expected v) spare there =
-    elim (option_eq nat_eq (get m k) expected) as (λ b. cond b ((k, get m k) ∷ log) log ≡ log_of (option_to_list (cond b (unput k (get m k)) None)) ++ log) [
-      | true ↦ log_more log k (get m k)
-      | false ↦ refl
-    ]
-
-log_push : (jobs : List MapJob) (job : Option MapJob) → log_of (jobs ++ option_to_list job) ≡ log_of (option_to_list job) ++ log_of jobs
-log_push jobs None = ap log_of (append-nil jobs)
-log_push jobs (Some job) = ap (map (λ (j : MapJob). (key_of_job j, value_before j))) (reverse-append jobs (job ∷ []))
-
--- The log of the jobs with that of an operation is the log with its change noted.
-pub log_done : (t t' : TableAt) (op : Op) (reply : Option ℕ) (job : Option MapJob) (jobs : List MapJob) → Applies t t' op reply job → log_of (jobs ++ option_to_list job) ≡ noted (log_of jobs) op reply
-log_done t t' op reply job jobs applies =
-    log_push jobs job
-    ∙ ap (λ (j : Option MapJob). log_of (option_to_list j) ++ log_of jobs) applies.job_is
-    ∙ sym (noted_job (log_of jobs) (content t) op applies.spare applies.spare_is)
-    ∙ ap (noted (log_of jobs) op) (sym applies.reply_is)
 
 -- What is left to undo once the newest change is taken back.
 pub can_undo_back : (t t' : TableAt) (jobs : List MapJob) (job : MapJob) → CanUndo t (jobs ++ job ∷ []) → TakesBack t t' job → CanUndo t' jobs

@@ -1,5 +1,5 @@
 -- A sweep that unlinks a node leaves fewer.
-use Rattle.std.proofs.Common.{◌≡◌, ℕ, ◌+◌, ◌<◌, Bool, true, false, List, [], ◌∷◌, length, refl, arith}
+use Rattle.std.proofs.Common.{◌≡◌, ◌<◌, Bool, true, false, List, [], ◌∷◌, length, refl, arith}
 use Rattle.std.specs.List.{AllByRecursion}
 use Rattle.node_list.specs.Nodes.{NodeAt}
 use Rattle.list_steps.specs.Steps.{without_first_marked}

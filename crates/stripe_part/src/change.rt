@@ -47,11 +47,7 @@ fn unput_key(job: &MapJob) -> Option<u64> {
 }
 
 /// Does an operation, and keeps its job.
-pub(crate) fn apply(
-    table: &mut Table,
-    jobs: &mut Vec<MapJob>,
-    op: Op,
-) -> Result<Reply, Refusal>
+pub(crate) fn apply(table: &mut Table, jobs: &mut Vec<MapJob>, op: Op) -> Result<Reply, Refusal>
     requires { IsSound table.old jobs.old.items }
     ensures ok { IfOk result (Does (part_of table.old jobs.old.items)
         (part_of table.new jobs.new.items) op) }

@@ -169,3 +169,70 @@ fn run_drawn(
     }
     is_alike(rt, alloc, &part, &plain)
 }
+
+#[test]
+fn drawn_steps_beside_a_plain_map(rt: HostRuntime) -> Result<(), Fail> {
+    let mut draws = Draws(1);
+    for keys in [1, 4, 64, 4_000] {
+        for _ in 0..4 {
+            run_drawn(&rt, rt.alloc(), &mut draws, keys, 3_000)?;
+        }
+    }
+    Ok(())
+}
+
+/// This test is also run with each allocation refused in turn.
+#[test]
+fn refused_memory(rt: HostRuntime) -> Result<(), Fail> {
+    let alloc = rt.alloc();
+    let mut part = Part::new();
+    for key in 0..300 {
+        assert!(rt; apply_again(&rt, alloc, &mut part, Op::Put(key, key))?.is_none());
+    }
+    for key in 100..200 {
+        assert!(rt; apply_again(&rt, alloc, &mut part, Op::Take(key))? == Some(key));
+    }
+    assert!(rt; part.len() == 200 && part.changes() == 400);
+    while part.changes() > 100 {
+        part.take_back();
+    }
+    let pairs = pairs_of(alloc, &part)?;
+    assert!(rt; pairs.len() == 100);
+    for (key, pair) in (0..100).zip(&pairs) {
+        assert!(rt; *pair == (key, key));
+    }
+    Ok(())
+}
+
+/// An empty part takes no memory, and neither does what changes nothing of it.
+#[test]
+fn empty(rt: HostRuntime) -> Result<(), Fail> {
+    let alloc = rt.alloc();
+    let mut part = Part::new();
+    for op in [Op::Get(1), Op::Take(1), Op::PutIf(1, Some(2), 3)] {
+        assert!(rt; part.apply(alloc, op) == Ok(None));
+    }
+    part.settle();
+    assert!(rt; part.len() == 0 && part.changes() == 0 && pairs_of(alloc, &part)?.is_empty());
+    Ok(())
+}
+
+/// A part that has grown by rising keys has them all, and takes them all back.
+#[test]
+fn rising_keys(rt: HostRuntime) -> Result<(), Fail> {
+    let alloc = rt.alloc();
+    let mut part = Part::new();
+    for key in 0..100_000 {
+        assert!(rt; part.apply(alloc, Op::Put(key, key)) == Ok(None));
+    }
+    part.settle();
+    for key in 0..100_000 {
+        assert!(rt; part.apply(alloc, Op::Take(key)) == Ok(Some(key)));
+    }
+    assert!(rt; part.len() == 0 && part.changes() == 100_000);
+    while part.changes() > 0 {
+        part.take_back();
+    }
+    assert!(rt; part.len() == 100_000);
+    Ok(())
+}

@@ -1,4 +1,4 @@
-use Rattle.std.proofs.Common.{◌≡◌, Some, None, List, [], ◌∷◌, ◌++◌, refl, ap, subst, sym, ◌∙◌}
+use Rattle.std.proofs.Common.{◌≡◌, List, [], ◌∷◌, ◌++◌, ap, subst, sym, ◌∙◌}
 use Rattle.std.specs.Prelude.{Option, option_to_list}
 use Rattle.std.proofs.lemmas.List.{append-nil}
 use Rattle.map_ops.specs.declared.job.MapJob.{MapJob}
@@ -17,8 +17,8 @@ returns-in_err-prepare-clause-sound c =
 pub returns-in_err-reply-clause-sound : goal.returns-in_err-reply-clause-sound
 returns-in_err-reply-clause-sound c =
     let kept : IsSound c.prepare.new.table c.prepare.new.jobs.items =
-        subst (λ (js : List MapJob). IsSound c.prepare.new.table js) (sym c.prepare.ensures.jobs)
-        (sound_kept c.args.table.now c.prepare.new.table c.args.jobs.now.items c.prepare.ensures.stays c.prepare.ensures.clean c.requires.can_undo) in
+    subst (λ (js : List MapJob). IsSound c.prepare.new.table js) (sym c.prepare.ensures.jobs)
+    (sound_kept c.args.table.now c.prepare.new.table c.args.jobs.now.items c.prepare.ensures.stays c.prepare.ensures.clean c.requires.can_undo) in
     subst (λ (t : TableAt). IsSound t c.prepare.new.jobs.items) (sym c.in_err-reply.ensures.unchanged) kept
 
 pub returns-clause-sound : goal.returns-clause-sound

@@ -1,4 +1,4 @@
-use Rattle.std.proofs.Common.{◌≡◌, List, [], ◌∷◌, ◌++◌, ap, subst, sym, ◌∙◌, reverse}
+use Rattle.std.proofs.Common.{◌≡◌, List, [], ◌∷◌, ◌++◌, ap, subst, ◌∙◌, reverse}
 use Rattle.std.specs.Prelude.{option_to_list}
 use Rattle.txn_trace.specs.Now.{set_at}
 use Rattle.map_ops.specs.declared.job.MapJob.{MapJob}

@@ -1,4 +1,4 @@
-use Rattle.std.proofs.Common.{◌≡◌, ap, subst, sym, ◌∙◌}
+use Rattle.std.proofs.Common.{◌≡◌, ap, subst, ◌∙◌}
 use Rattle.stripe_part.specs.PartAt.{PartAt}
 use Rattle.stripe_part.specs.Calls.{TakesBack}
 use Rattle.stripe_part.proofs.part.Part.take_back.Goals as goal
