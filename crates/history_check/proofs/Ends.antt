@@ -1,60 +1,26 @@
 -- What the checker says, from what it was fed.
-use Rattle.std.proofs.Common.{◌≡◌, ℕ, suc, ◌+◌, ◌<◌, ◌≤◌, true, cond, List, [], ◌∷◌, ◌++◌, length, refl, ap, sym, subst, ◌∙◌, Some, None, Option, is_some, arith, append_assoc, max}
-use Rattle.std.specs.Prelude.{slice_get, ◌↔◌}
-use Rattle.std.specs.Option.{IfSome}
-use Rattle.std.specs.List.{All, fold, range_with_len, count_by}
+use Rattle.std.proofs.Common.{◌≡◌, ℕ, true, List, [], ◌∷◌, ◌++◌, length, refl, ap, sym, ◌∙◌, Some, None, Option, is_some, append_assoc}
+use Rattle.std.specs.Prelude.{◌↔◌}
 use Rattle.std.proofs.lemmas.Bool.{false≢true}
-use Rattle.std.proofs.lemmas.List.Sums.{length-filter, sum_by-cons}
-use Rattle.std.proofs.lemmas.List.Elements.{All-head, All-tail}
 use mathlib.Core.Logic.{inl, inr}
 use Rattle.txn_trace.specs.declared.entry.Entry.{Entry}
 use Rattle.txn_trace.specs.declared.holder.Holder.{Holder}
-use Rattle.txn_trace.specs.History.{caller_of}
-use Rattle.txn_trace.specs.Shape.{seat_after, own}
+use Rattle.txn_trace.specs.History.{is_commit}
+use Rattle.txn_trace.specs.Shape.{how_many}
 use Rattle.txn_trace.specs.Legal as legal
-use Rattle.txn_trace.specs.Legal.{IsLegal, broken, first_bad, runs, is_running, callers_in, running, verdict}
-use Rattle.txn_trace.proofs.Counts.{length-open_txns}
+use Rattle.txn_trace.specs.Legal.{IsLegal, broken, first_bad, callers_in, running, verdict}
 use Rattle.txn_trace.proofs.Verdicts.{first_bad_is, first_bad-found, verdict-legal, verdict-illegal, legal_or_bad}
-use Rattle.history_check.specs.declared.caller.Caller.{Caller}
 use Rattle.history_check.specs.declared.state.State.{State}
 use Rattle.history_check.specs.declared.verdict.Rule.{Rule}
 use Rattle.history_check.specs.declared.verdict.Verdict.{Verdict}
 use Rattle.history_check.specs.declared.verdict.Verdict.TheVariants.{Legal, Illegal}
-use Rattle.history_check.specs.Callers.{seat_of}
 use Rattle.history_check.specs.Verdicts.{number_of, meaning_of, SaysLegal, IsVerdictOn}
-use Rattle.history_check.specs.States.{Sits, Tells}
 use Rattle.history_check.specs.Fed.{FedWith}
 
--- The callers that are in a transaction, counted in the table and in the history.
-count_by-sits : (h : List Entry) (callers : List Caller) (start : ℕ) → ((k : ℕ) → IfSome (slice_get callers k) (Sits h (start + k)))
-    → count_by (λ (caller : Caller). runs (seat_of caller).phase) callers ≡ count_by (λ c. is_running (seat_after (own c h))) (range_with_len start (length callers))
-count_by-sits h [] start sits = refl
-count_by-sits h (x ∷ xs) start sits =
-    let here : start + 0 ≡ start = omega arith in
-    let head : Sits h start x = subst (λ c. Sits h c x) here (sits 0) in
-    let rest = count_by-sits h xs (start + 1) (λ k. let next : start + suc k ≡ start + 1 + k = omega arith in subst (λ c. IfSome (slice_get xs k) (Sits h c)) next (sits (suc k))) in
-    sum_by-cons (λ (caller : Caller). cond (runs (seat_of caller).phase) 1 0) x xs
-    ∙ (λ i. cond (is_running (sym head.seat i)) 1 0 + rest i)
-    ∙ sym (sum_by-cons (λ c. cond (is_running (seat_after (own c h))) 1 0) start (range_with_len (start + 1) (length xs)))
-
-callers_below : (n : ℕ) (h : List Entry) → n ≤ 64 → All (λ e. caller_of e < 64) h → fold (λ n e. max n (caller_of e + 1)) n h ≤ 64
-callers_below n [] within all = within
-callers_below n (e ∷ h) within all =
-    let head = All-head (λ e. caller_of e < 64) e h all in
-    callers_below (max n (caller_of e + 1)) h (omega arith) (All-tail (λ e. caller_of e < 64) e h all)
-
 -- The verdict on a legal history.
-pub verdict-tells : {holder : Holder} (stripes : ℕ) (h : List Entry) (state : State) (running : ℕ) → Tells holder stripes h state → running ≡ count_by (λ (caller : Caller). runs (seat_of caller).phase) state.callers.items
-    → legal.Legal state.committed running ≡ verdict holder stripes h
-verdict-tells stripes h state count t count_is =
-    let all : length state.callers.items ≡ 64 = sym state.callers.ok.0 ∙ state.all_callers in
-    let in_table : count ≡ length (running 64 h) =
-    count_is ∙ count_by-sits h state.callers.items 0 (λ k. let same : k ≡ 0 + k = omega arith in subst (λ c. IfSome (slice_get state.callers.items k) (Sits h c)) same (t.seats k))
-    ∙ ap (λ n. count_by (λ c. is_running (seat_after (own c h))) (range_with_len 0 n)) all ∙ sym (length-filter (λ c. is_running (seat_after (own c h))) (range_with_len 0 64)) in
-    let some : 0 ≤ 64 = omega arith in
-    let same : length (running 64 h) ≡ length (running (callers_in h) h) =
-    sym (length-open_txns 64 h t.legal.shape (callers_below 0 h some t.callers)) ∙ length-open_txns (callers_in h) h t.legal.shape (omega arith) in
-    (λ i. legal.Legal (t.commits i) ((in_table ∙ same) i)) ∙ sym (verdict-legal stripes h t.legal)
+pub verdict-tells : {holder : Holder} (stripes : ℕ) (h : List Entry) (committed count : ℕ) → IsLegal holder stripes h → committed ≡ how_many is_commit h → count ≡ length (running (callers_in h) h)
+    → legal.Legal committed count ≡ verdict holder stripes h
+verdict-tells stripes h committed count is_legal commits_are count_is = (λ i. legal.Legal (commits_are i) (count_is i)) ∙ sym (verdict-legal stripes h is_legal)
 
 -- A bad entry stays the first one.
 pub bad_stays : (holder : Holder) (stripes : ℕ) (h : List Entry) (e : Entry) (fed : ℕ) (state : State) (bad : Option (ℕ × Rule)) → is_some bad ≡ true → FedWith holder stripes h fed state bad → FedWith holder stripes (h ++ e ∷ []) fed state bad

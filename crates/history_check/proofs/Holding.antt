@@ -1,5 +1,5 @@
 -- The stripes: which lock entries may stand, and who holds each stripe after them.
-use Rattle.std.proofs.Common.{◌≡◌, ℕ, ◌<◌, ◌%◌, ◌==◌, ◌&&◌, Bool, true, false, not, cond, List, refl, ap, sym, ◌∙◌, Some, None, Option, arith}
+use Rattle.std.proofs.Common.{◌≡◌, ◌≢◌, ℕ, ◌<◌, ◌%◌, ◌==◌, ◌&&◌, Bool, true, false, not, cond, List, refl, ap, sym, ◌∙◌, Some, None, Option, arith}
 use Rattle.std.specs.Prelude.{nat_eq}
 use Rattle.std.specs.Option.{option_eq}
 use Rattle.std.proofs.lemmas.Bool.{cases_eq, eq-eqb, ne_eqb}
@@ -13,8 +13,9 @@ use Rattle.txn_trace.specs.Map.{key_of}
 use Rattle.txn_trace.specs.Locks.{stripe_of, holder_of, has_begun, is_locked}
 use Rattle.txn_trace.proofs.Holders.{is_locked-asked, is_locked-busy}
 use Rattle.key_locks.specs.Locks as locks
-use Rattle.history_check.specs.declared.state.State.{State}
-use Rattle.history_check.specs.States.{Tells}
+use Rattle.txn_trace.specs.Legal.{IsLegal}
+use Rattle.history_check.specs.declared.live_map.LiveMap.{LiveMap}
+use Rattle.history_check.specs.LiveMaps.{Shows}
 
 same_test : (a b : ℕ) → (a == b) ≡ (b == a)
 same_test a b = elim (cases_eq a b) [
@@ -42,20 +43,27 @@ without : (c : ℕ) (o : Option ℕ) → locks.without_caller c o ≡ cond {A = 
 without c None = refl
 without c (Some d) = refl
 
-module _ {holder : Holder} (stripes : ℕ) (h : List Entry) (state : State) (t : Tells holder stripes h state) (c : ℕ) where
+-- Where it names one that has begun, a Busy may stand where another caller than its own has.
+pub busy-begun : {holder : Holder} (stripes : ℕ) (h : List Entry) → IsLegal holder stripes h → (c : ℕ) (op : Op) → holder ≡ Begun → (x : ℕ) → x ≢ c → is_locked holder stripes h (Busy c op x) ≡ has_begun x h
+busy-begun {holder} stripes h legal c op begun x other =
+    is_locked-busy holder stripes h c op x legal.shape legal.locks
+    ∙ ap (λ (r : Holder). not (x == c) && elim r as (λ r. Bool) [ Now ↦ option_eq nat_eq (holder_of stripes (stripe_of stripes (key_of op)) h) (Some x) | Begun ↦ has_begun x h ]) begun
+    ∙ ap (λ b. not b && has_begun x h) (ne_eqb x c other)
+
+module _ {holder : Holder} (stripes : ℕ) (h : List Entry) (legal : IsLegal holder stripes h) (live : LiveMap) (t : Shows holder stripes h live) (c : ℕ) where
   -- A caller's stripes are free when it gives them back.
-  pub released : (new : List (Option ℕ)) → locks.Releases c state.locks new → (s : ℕ) → s < stripes → locks.holder_of new s ≡ cond (option_eq nat_eq (holder_of stripes s h) (Some c)) None (holder_of stripes s h)
+  pub released : (new : List (Option ℕ)) → locks.Releases c live.locks new → (s : ℕ) → s < stripes → locks.holder_of new s ≡ cond (option_eq nat_eq (holder_of stripes s h) (Some c)) None (holder_of stripes s h)
   released new is s below = is.each s ∙ ap (locks.without_caller c) (t.holders s below) ∙ without c (holder_of stripes s h)
 
   module _ (op : Op) (key : ℕ) (key_is : key ≡ key_of op) where
-    stripe_is : key % state.stripes ≡ stripe_of stripes (key_of op)
+    stripe_is : key % live.stripes ≡ stripe_of stripes (key_of op)
     stripe_is = λ i. key_is i % t.stripes_are i
 
     below_stripes : stripe_of stripes (key_of op) < stripes
-    below_stripes = let some : 0 < state.stripes = state.some_stripes in let same = t.stripes_are in omega arith
+    below_stripes = let some : 0 < live.stripes = live.some_stripes in let same = t.stripes_are in omega arith
 
-    held : locks.holder_of state.locks (key % state.stripes) ≡ holder_of stripes (stripe_of stripes (key_of op)) h
-    held = ap (locks.holder_of state.locks) stripe_is ∙ t.holders (stripe_of stripes (key_of op)) below_stripes
+    held : locks.holder_of live.locks (key % live.stripes) ≡ holder_of stripes (stripe_of stripes (key_of op)) h
+    held = ap (locks.holder_of live.locks) stripe_is ∙ t.holders (stripe_of stripes (key_of op)) below_stripes
 
     abbrev asked_test : Option ℕ → Bool
     asked_test o = elim o as (λ o. Bool) [ None ↦ true | Some d ↦ d == c ]
@@ -64,30 +72,30 @@ module _ {holder : Holder} (stripes : ℕ) (h : List Entry) (state : State) (t :
     busy_test x o = not (x == c) && option_eq nat_eq o (Some x)
 
     -- An Asked may stand where the stripe is granted, and not where another caller holds it.
-    pub asked-granted : (new : List (Option ℕ)) → locks.Grants c (key % state.stripes) state.locks new → is_locked holder stripes h (Asked c op) ≡ true
-    asked-granted new is = is_locked-asked holder stripes h c op t.legal.shape t.legal.locks ∙ elim is.open_to_caller [
+    pub asked-granted : (new : List (Option ℕ)) → locks.Grants c (key % live.stripes) live.locks new → is_locked holder stripes h (Asked c op) ≡ true
+    asked-granted new is = is_locked-asked holder stripes h c op legal.shape legal.locks ∙ elim is.open_to_caller [
       | inl none ↦ ap asked_test (sym held ∙ none)
       | inr mine ↦ ap asked_test (sym held ∙ mine) ∙ eq-eqb c c refl
     ]
 
-    pub asked-refused : (other : ℕ) (new : List (Option ℕ)) → locks.Refuses c (key % state.stripes) other state.locks new → is_locked holder stripes h (Asked c op) ≡ false
-    asked-refused other new is = is_locked-asked holder stripes h c op t.legal.shape t.legal.locks ∙ ap asked_test (sym held ∙ is.held) ∙ ne_eqb other c is.by_another
+    pub asked-refused : (other : ℕ) (new : List (Option ℕ)) → locks.Refuses c (key % live.stripes) other live.locks new → is_locked holder stripes h (Asked c op) ≡ false
+    asked-refused other new is = is_locked-asked holder stripes h c op legal.shape legal.locks ∙ ap asked_test (sym held ∙ is.held) ∙ ne_eqb other c is.by_another
 
     busy_now : holder ≡ Now → (x : ℕ) → is_locked holder stripes h (Busy c op x) ≡ busy_test x (holder_of stripes (stripe_of stripes (key_of op)) h)
     busy_now now x =
-        is_locked-busy holder stripes h c op x t.legal.shape t.legal.locks
+        is_locked-busy holder stripes h c op x legal.shape legal.locks
         ∙ ap (λ (r : Holder). not (x == c) && elim r as (λ r. Bool) [ Now ↦ option_eq nat_eq (holder_of stripes (stripe_of stripes (key_of op)) h) (Some x) | Begun ↦ has_begun x h ]) now
 
     -- Where it names a holder of now, a Busy may stand where another caller holds the stripe, and is the one that it names.
-    pub busy-granted : holder ≡ Now → (x : ℕ) (new : List (Option ℕ)) → locks.Grants c (key % state.stripes) state.locks new → is_locked holder stripes h (Busy c op x) ≡ false
+    pub busy-granted : holder ≡ Now → (x : ℕ) (new : List (Option ℕ)) → locks.Grants c (key % live.stripes) live.locks new → is_locked holder stripes h (Busy c op x) ≡ false
     busy-granted now x new is = busy_now now x ∙ elim is.open_to_caller [
       | inl none ↦ ap (busy_test x) (sym held ∙ none) ∙ and_false (not (x == c))
       | inr mine ↦ ap (busy_test x) (sym held ∙ mine) ∙ not_both x c
     ]
 
-    pub busy-refused : holder ≡ Now → (x other : ℕ) (new : List (Option ℕ)) → locks.Refuses c (key % state.stripes) other state.locks new → is_locked holder stripes h (Busy c op x) ≡ (other == x)
+    pub busy-refused : holder ≡ Now → (x other : ℕ) (new : List (Option ℕ)) → locks.Refuses c (key % live.stripes) other live.locks new → is_locked holder stripes h (Busy c op x) ≡ (other == x)
     busy-refused now x other new is = busy_now now x ∙ ap (busy_test x) (sym held ∙ is.held) ∙ named x c other is.by_another
 
     -- A stripe that is granted is the caller's.
-    pub granted : (new : List (Option ℕ)) → locks.Grants c (key % state.stripes) state.locks new → (s : ℕ) → s < stripes → locks.holder_of new s ≡ cond (stripe_of stripes (key_of op) == s) (Some c) (holder_of stripes s h)
+    pub granted : (new : List (Option ℕ)) → locks.Grants c (key % live.stripes) live.locks new → (s : ℕ) → s < stripes → locks.holder_of new s ≡ cond (stripe_of stripes (key_of op) == s) (Some c) (holder_of stripes s h)
     granted new is s below = is.each s ∙ (λ i. cond ((ap (λ r. s == r) stripe_is ∙ same_test s (stripe_of stripes (key_of op))) i) (Some c) (t.holders s below i))

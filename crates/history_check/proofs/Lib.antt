@@ -1,6 +1,7 @@
 pub mod OneKey
 pub mod EachKind
-pub mod Growth
+pub mod Seating
+pub mod Showing
 pub mod Holding
 pub mod Beginners
 pub mod Starts

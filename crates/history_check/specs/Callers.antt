@@ -1,12 +1,18 @@
--- What a caller of the checker says.
-use Rattle.std.specs.Prelude.{◌≡◌, ◌||◌, ℕ, Option, Some, None, List, reverse}
+-- What a caller of the checker says, and the table of all callers.
+use Rattle.std.specs.Prelude.{◌≡◌, ◌||◌, ℕ, ◌<◌, true, Option, Some, None, List, reverse, slice_get, vec_len, vec_capacity}
+use Rattle.std.specs.List.{All}
+use Rattle.std.specs.Option.{IfSome}
 use Rattle.txn_trace.specs.declared.entry.Entry.{Entry}
 use Rattle.txn_trace.specs.declared.seat.Phase.{Phase}
 use Rattle.txn_trace.specs.declared.seat.Phase.TheVariants.{LeavingTo, LeavingToEnd}
-use Rattle.txn_trace.specs.History.{is_began}
-use Rattle.txn_trace.specs.Shape.{Seat, row}
+use Rattle.txn_trace.specs.History.{caller_of, is_began, is_commit}
+use Rattle.txn_trace.specs.Locks.{has_begun}
+use Rattle.txn_trace.specs.Log.{log_of}
+use Rattle.txn_trace.specs.Seats.{is_saved}
+use Rattle.txn_trace.specs.Shape.{Seat, row, seat_after, own, how_many, IsShaped}
 use Rattle.history_check.specs.declared.caller.Caller.{Caller}
-use Rattle.history_check.specs.Logs.{log_entered}
+use Rattle.history_check.specs.declared.callers.Callers.{Callers}
+use Rattle.history_check.specs.Logs.{is_did, log_entered}
 
 -- The phase of a caller that goes back to a level, or to none.
 abbrev pub goal_of : Option ℕ → Phase
@@ -27,3 +33,33 @@ pub record Enters (e : Entry) (old new : Caller) : Type 0 where
   pub seat : row (seat_of old) (seat_of old).phase e ≡ Some (seat_of new)
   pub log : log_in new ≡ log_entered (seat_of old).phase (log_in old) e
   pub begun : new.has_begun ≡ (old.has_begun || is_began e)
+
+-- There is room for what an entry takes: a Did for a change, a Saved for a savepoint.
+pub record HasRoom (e : Entry) (caller : Caller) : Type 0 where
+  pub change : is_did e ≡ true → vec_len caller.changes < vec_capacity caller.changes
+  pub level : is_saved e ≡ true → 0 < caller.seat.room
+
+-- The caller has the seat and the log that its entries give it, and says whether it has begun.
+pub record Sits (h : List Entry) (c : ℕ) (caller : Caller) : Type 0 where
+  pub seat : seat_after (own c h) ≡ Some (seat_of caller)
+  pub log : log_of c h ≡ log_in caller
+  pub begun : has_begun c h ≡ caller.has_begun
+
+-- The callers have entered these entries, which have the right shape: each sits as its own make
+-- it, and the counts are theirs.
+pub record HaveEntered (h : List Entry) (callers : Callers) : Type 0 where
+  pub shape : IsShaped h
+  pub below : All (λ e. caller_of e < 64) h
+  pub begins : callers.began ≡ how_many is_began h
+  pub commits : callers.committed ≡ how_many is_commit h
+  pub seats : (c : ℕ) → IfSome (slice_get callers.table.items c) (Sits h c)
+
+-- The caller of an entry has room for it.
+abbrev pub HasRoomFor : Entry → Callers → Type 0
+HasRoomFor e callers = IfSome (slice_get callers.table.items (caller_of e)) (HasRoom e)
+
+-- A caller is in this phase.
+pub record IsIn (h : List Entry) (c : ℕ) (phase : Phase) : Type 0 where
+  pub seat : Seat
+  pub seat_is : seat_after (own c h) ≡ Some seat
+  pub phase_is : seat.phase ≡ phase

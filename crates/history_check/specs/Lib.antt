@@ -2,5 +2,6 @@ pub mod Verdicts
 pub mod Logs
 pub mod Callers
 pub mod Values
+pub mod LiveMaps
 pub mod States
 pub mod Fed

@@ -1,8 +1,7 @@
 //! What a caller's entries so far make of it.
-ghost use Rattle.std.specs.Prelude.{◌≡◌, ◌<◌, [], true, false, reverse, slice_get, vec_len, vec_capacity, is_some, OnOk, OnErr};
+ghost use Rattle.std.specs.Prelude.{◌≡◌, ◌<◌, [], true, false, reverse, slice_get, vec_len, vec_capacity, is_some, OnOk};
 ghost use Rattle.txn_trace.specs.History.{is_began};
 ghost use Rattle.txn_trace.specs.Shape.{closed_seat, row};
-ghost use Rattle.txn_trace.specs.Seats.{is_saved};
 ghost use Rattle.txn_trace.specs.Legal.{runs};
 ghost use Rattle.history_check.specs.Logs.{is_did, log_entered};
 
@@ -20,7 +19,7 @@ pub(crate) struct Caller {
 }
 
 impl Caller {
-    ghost use Rattle.history_check.specs.Callers.{seat_of, log_in, Enters};
+    ghost use Rattle.history_check.specs.Callers.{seat_of, log_in, HasRoom, Enters};
 
     /// A caller without a transaction. Takes no memory.
     pub(crate) fn new(alloc: Global) -> Caller
@@ -63,31 +62,23 @@ impl Caller {
         self.changes.last().copied()
     }
 
-    /// Makes room for a change.
-    pub(crate) fn reserve_change(&mut self) -> Result<(), AllocError>
+    /// Makes room for what an entry takes: a change or a savepoint.
+    pub(crate) fn reserve(&mut self, entry: &Entry) -> Result<(), AllocError>
         ensures seat { seat_of self.new ≡ seat_of self.old }
         ensures log { log_in self.new ≡ log_in self.old }
         ensures begun { self.new.has_begun ≡ self.old.has_begun }
-        ensures ok { OnOk result (vec_len self.new.changes < vec_capacity self.new.changes) }
+        ensures ok { OnOk result (HasRoom entry.now self.new) }
     {
-        self.changes.reserve(1)
-    }
-
-    /// Makes room for a savepoint.
-    pub(crate) fn reserve_level(&mut self) -> Result<(), AllocError>
-        ensures seat { seat_of self.new ≡ seat_of self.old }
-        ensures log { log_in self.new ≡ log_in self.old }
-        ensures begun { self.new.has_begun ≡ self.old.has_begun }
-        ensures ok { OnOk result (0 < self.new.seat.room) }
-    {
-        self.seat.reserve_level()
+        match entry {
+            Entry::Did(..) => self.changes.reserve(1),
+            Entry::Saved(_) => self.seat.reserve_level(),
+            _ => Ok(()),
+        }
     }
 
     /// Goes on by an entry of it that may come next.
     pub(crate) fn enter(&mut self, entry: Entry)
-        requires level { is_saved entry ≡ true → 0 < self.old.seat.room }
-        requires change { is_did entry ≡ true →
-            vec_len self.old.changes < vec_capacity self.old.changes }
+        requires { HasRoom entry self.old }
         ensures { is_some (row (seat_of self.old) (seat_of self.old).phase entry) ≡ true →
             Enters entry self.old self.new }
     {

@@ -91,8 +91,8 @@ impl Checker {
         match self.bad {
             Some((entry, rule)) => Verdict::Illegal { entry, rule },
             None => Verdict::Legal {
-                commits: self.state.committed,
-                running: self.state.running(),
+                commits: self.state.callers.committed(),
+                running: self.state.callers.running(),
             },
         }
     }

@@ -25,12 +25,15 @@
 #![tactic(auto)]
 
 mod caller;
+mod callers;
 mod checker;
 mod history;
+mod live_map;
 mod state;
 mod values;
 mod verdict;
 
+pub use callers::Callers;
 pub use checker::Checker;
 pub use history::{check, check_packed};
 pub use verdict::{Rule, Verdict};

@@ -8,7 +8,7 @@ use Rattle.history_check.proofs.checker.Checker.verdict.Goals as goal
 pub returns-in-None : goal.returns-in-None
 returns-in-None c holder stripes h fed =
     let told = subst (FedWith holder stripes h c.args.self.now.fed c.args.self.now.state) c.in-None.is fed in
-    verdict_on stripes h _ (verdict-tells stripes h c.args.self.now.state c.running.result told.0 c.running.ensures)
+    verdict_on stripes h _ (verdict-tells stripes h c.committed.result c.running.result told.0.legal (c.committed.ensures h told.0.entered) (c.running.ensures h told.0.entered))
 
 pub returns-in-Some : goal.returns-in-Some
 returns-in-Some c holder stripes h fed =

@@ -1,0 +1,40 @@
+-- What the live map of a checker says of the entries so far.
+use Rattle.std.specs.Prelude.{◌≡◌, ℕ, ◌<◌, Bool, true, List, [], ◌∷◌, ◌++◌}
+use Rattle.txn_trace.specs.declared.entry.Entry.{Entry}
+use Rattle.txn_trace.specs.declared.holder.Holder.{Holder}
+use Rattle.txn_trace.specs.Now.{now}
+use Rattle.txn_trace.specs.Locks.{holder_of, is_locked}
+use Rattle.txn_trace.specs.Shape.{is_shaped}
+use Rattle.txn_trace.specs.Legal.{IsLegal, replies_hold}
+use Rattle.key_locks.specs.Locks as locks
+use Rattle.history_check.specs.declared.callers.Callers.{Callers}
+use Rattle.history_check.specs.declared.live_map.LiveMap.{LiveMap}
+use Rattle.history_check.specs.Callers.{HaveEntered}
+use Rattle.history_check.specs.Values.{Has}
+
+-- Its values are those of the map now, and its stripes have the holders that the history says.
+pub record Shows (holder : Holder) (stripes : ℕ) (h : List Entry) (live : LiveMap) : Type 0 where
+  pub holder_is : live.holder ≡ holder
+  pub stripes_are : live.stripes ≡ stripes
+  pub values : Has (now h) live.values
+  pub holders : (s : ℕ) → s < stripes → locks.holder_of live.locks s ≡ holder_of stripes s h
+
+-- The new map shows what the old one shows.
+abbrev pub Keeps : LiveMap → LiveMap → Type 0
+Keeps old new =
+    (holder : Holder) (stripes : ℕ) (h : List Entry)
+    → Shows holder stripes h old → Shows holder stripes h new
+
+-- After a legal history an entry of right shape and reply breaks the rule of locks or, where the
+-- answer is that it does not, the new map shows one entry more.
+pub record FollowsAt (holder : Holder) (stripes : ℕ) (h : List Entry) (e : Entry) (right : Bool)
+    (new : LiveMap) : Type 0 where
+  pub locked : is_locked holder stripes h e ≡ right
+  pub shows : right ≡ true → Shows holder stripes (h ++ e ∷ []) new
+
+abbrev pub Follows : Entry → Callers → LiveMap → Bool → LiveMap → Type 0
+Follows e callers old right new =
+    (holder : Holder) (stripes : ℕ) (h : List Entry)
+    → IsLegal holder stripes h → HaveEntered h callers → Shows holder stripes h old
+    → is_shaped h e ≡ true → replies_hold (h ++ e ∷ []) ≡ true
+    → FollowsAt holder stripes h e right new

@@ -1,0 +1,213 @@
+//! The callers of a history: the judge of shape, which both judges of replies stand on.
+ghost use Rattle.std.specs.Prelude.{◌≡◌, ℕ, ◌+◌, ◌<◌, ◌==◌, ◌++◌, [], ◌∷◌, List, length, true, slice_get, IfOk, OnOk, vec_len};
+ghost use Rattle.txn_trace.specs.History.{caller_of, is_began, is_commit};
+ghost use Rattle.txn_trace.specs.Shape.{how_many, is_numbered, is_shaped};
+ghost use Rattle.txn_trace.specs.declared.entry.Entry.{Entry};
+
+use crate::caller::Caller;
+use key_locks::CALLERS;
+use std::alloc::{AllocError, Global};
+use txn_trace::{Entry, Phase, Reply};
+
+/// The 64 callers of a history: the seat of each, with the changes of its transaction that stand,
+/// and how many transactions began and committed.
+///
+/// It is the judge of the rule of shape: it says which entry may come next, and is fed the entries
+/// that do. A contract sees which it was fed: `HaveEntered h callers`, which says too that they have
+/// the right shape.
+#[derive(Drop)]
+pub struct Callers {
+    /// How many transactions began.
+    began: u64,
+    /// How many transactions committed.
+    committed: u64,
+    /// Each caller, by its number.
+    table: Vec<Caller>,
+    ghost all: { vec_len table ≡ 64 },
+}
+
+impl Callers {
+    ghost use Rattle.txn_trace.specs.Legal.{running, callers_in};
+    ghost use Rattle.txn_trace.specs.Locks.{has_begun};
+    ghost use Rattle.txn_trace.specs.Log.{log_of};
+    ghost use Rattle.history_check.specs.Callers.{HaveEntered, IsIn, HasRoomFor};
+
+    /// The callers before the first entry.
+    ///
+    /// # Errors
+    ///
+    /// `AllocError` if memory is refused.
+    ///
+    /// # Cost
+    ///
+    /// Time and memory for 64 callers.
+    pub fn new(alloc: Global) -> Result<Callers, AllocError>
+        ensures { IfOk result (HaveEntered []) }
+    {
+        let mut table = Vec::with_capacity(alloc, CALLERS)?;
+        for _ in 0..CALLERS {
+            table.push(Caller::new(alloc))?;
+        }
+        Ok(Callers {
+            began: 0,
+            committed: 0,
+            table,
+        })
+    }
+
+    /// How many transactions are committed.
+    ///
+    /// # Cost
+    ///
+    /// Constant time; takes no memory.
+    pub fn committed(&self) -> u64
+        ensures { (h : List Entry) → HaveEntered h self.now → result ≡ how_many is_commit h }
+    {
+        self.committed
+    }
+
+    /// How many callers are in a transaction.
+    ///
+    /// # Cost
+    ///
+    /// A look at each of 64 callers; takes no memory.
+    pub fn running(&self) -> u64
+        ensures { (h : List Entry) → HaveEntered h self.now →
+            result ≡ length (running (callers_in h) h) }
+    {
+        self.table
+            .iter()
+            .filter(|caller| caller.is_running())
+            .count() as u64
+    }
+
+    /// Whether the entry has the right shape: it follows the state table, and has the right number.
+    ///
+    /// # Cost
+    ///
+    /// Constant time; takes no memory.
+    pub fn has_shape(&self, entry: &Entry) -> bool
+        requires { caller_of entry.now < 64 }
+        ensures { (h : List Entry) → HaveEntered h self.now → result ≡ is_shaped h entry.now }
+    {
+        let caller = entry.caller();
+        let is_numbered = has_next_number(self.began, self.committed, entry);
+        self.table[caller as usize].allows(entry) && is_numbered
+    }
+
+    /// The phase of a caller.
+    ///
+    /// # Cost
+    ///
+    /// Constant time; takes no memory.
+    pub fn phase(&self, caller: u64) -> Phase
+        requires { caller < 64 }
+        ensures { (h : List Entry) → HaveEntered h self.now → IsIn h caller result }
+    {
+        self.table[caller as usize].phase()
+    }
+
+    /// The newest change of a caller's transaction that stands: its key and the value before it.
+    ///
+    /// # Cost
+    ///
+    /// Constant time; takes no memory.
+    pub fn newest_change(&self, caller: u64) -> Option<(u64, Reply)>
+        requires { caller < 64 }
+        ensures { (h : List Entry) → HaveEntered h self.now →
+            result ≡ slice_get (log_of caller h) 0 }
+    {
+        self.table[caller as usize].newest()
+    }
+
+    /// Whether a caller, of any number, has begun a transaction.
+    ///
+    /// # Cost
+    ///
+    /// Constant time; takes no memory.
+    pub fn has_begun(&self, caller: u64) -> bool
+        ensures { (h : List Entry) → HaveEntered h self.now → result ≡ has_begun caller h }
+    {
+        match self.table.get(caller as usize) {
+            Some(caller) => caller.has_begun,
+            None => false,
+        }
+    }
+
+    /// Makes room for what an entry takes: a Did for a change, a Saved for a savepoint.
+    ///
+    /// # Errors
+    ///
+    /// `AllocError` if memory is refused. Either way no entry more has entered.
+    ///
+    /// # Cost
+    ///
+    /// Constant time, spread over many calls.
+    pub fn reserve(&mut self, entry: &Entry) -> Result<(), AllocError>
+        requires { caller_of entry.now < 64 }
+        ensures same { (h : List Entry) → HaveEntered h self.old → HaveEntered h self.new }
+        ensures ok { OnOk result (HasRoomFor entry.now self.new) }
+    {
+        let caller = entry.caller();
+        self.table[caller as usize].reserve(entry)
+    }
+
+    /// Goes on by an entry, for which there is room.
+    ///
+    /// # Cost
+    ///
+    /// Constant time; takes no memory.
+    pub fn enter(&mut self, entry: Entry)
+        requires caller { caller_of entry < 64 }
+        requires room { HasRoomFor entry self.old }
+        ensures { (h : List Entry) → HaveEntered h self.old → is_shaped h entry ≡ true →
+            HaveEntered (h ++ entry ∷ []) self.new }
+    {
+        self.began = began_after(self.began, entry);
+        self.committed = committed_after(self.committed, entry);
+        let caller = entry.caller();
+        self.table[caller as usize].enter(entry);
+    }
+}
+
+/// Whether a transaction that begins or commits has the next number.
+fn has_next_number(began: u64, committed: u64, entry: &Entry) -> bool
+    ensures { (h : List Entry) →
+        began ≡ how_many is_began h → committed ≡ how_many is_commit h →
+        result ≡ is_numbered h entry.now }
+{
+    match *entry {
+        Entry::Began(_, txn) => is_next(began, txn),
+        Entry::Committed(_, number) => is_next(committed, number),
+        _ => true,
+    }
+}
+
+/// Whether the number is one more than that before it.
+fn is_next(before: u64, number: u64) -> bool
+    ensures { result ≡ (number == before + 1) }
+{
+    before.checked_add(1) == Some(number)
+}
+
+/// How many transactions began, with an entry of the right number.
+fn began_after(began: u64, entry: Entry) -> u64
+    ensures { (h : List Entry) → began ≡ how_many is_began h → is_numbered h entry ≡ true →
+        result ≡ how_many is_began (h ++ entry ∷ []) }
+{
+    match entry {
+        Entry::Began(_, txn) => txn,
+        _ => began,
+    }
+}
+
+/// How many transactions committed, with an entry of the right number.
+fn committed_after(committed: u64, entry: Entry) -> u64
+    ensures { (h : List Entry) → committed ≡ how_many is_commit h → is_numbered h entry ≡ true →
+        result ≡ how_many is_commit (h ++ entry ∷ []) }
+{
+    match entry {
+        Entry::Committed(_, number) => number,
+        _ => committed,
+    }
+}

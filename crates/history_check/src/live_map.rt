@@ -1,0 +1,121 @@
+//! The map as it is now and who holds its stripes: the judge of replies and of locks.
+ghost use Rattle.std.specs.Prelude.{◌≡◌, ℕ, ◌<◌, ◌++◌, [], ◌∷◌, List, length, true, IfOk, OnOk, OnErr};
+ghost use Rattle.txn_trace.specs.History.{caller_of};
+ghost use Rattle.txn_trace.specs.Legal.{IsLegal};
+ghost use Rattle.txn_trace.specs.declared.holder.Holder.{Holder};
+
+use crate::callers::Callers;
+use crate::values::{operate, restore};
+use key_locks::{KeyLocks, LockAnswer};
+use std::alloc::{AllocError, Global};
+use std::collections::BTreeMap;
+use txn_trace::{Entry, Holder, Op, Phase};
+
+/// The map as it is now, with what open transactions changed, and the holder of each stripe.
+#[derive(Drop)]
+pub(crate) struct LiveMap {
+    /// Whom a Busy may name.
+    pub(crate) holder: Holder,
+    /// How many stripes the keys are shared out to.
+    pub(crate) stripes: u64,
+    /// The values of the keys.
+    pub(crate) values: BTreeMap<u64, u64>,
+    /// The holder of each stripe.
+    pub(crate) locks: KeyLocks,
+    ghost some_stripes: { 0 < stripes },
+    ghost all_locks: { length locks ≡ stripes },
+}
+
+impl LiveMap {
+    ghost use Rattle.txn_trace.specs.Legal.{replies_hold};
+    ghost use Rattle.txn_trace.specs.Locks.{is_locked};
+    ghost use Rattle.txn_trace.specs.Shape.{is_shaped};
+    ghost use Rattle.history_check.specs.Callers.{HaveEntered, IsIn};
+    ghost use Rattle.history_check.specs.LiveMaps.{Shows, Follows, Keeps};
+
+    /// The empty map, whose stripes are free.
+    pub(crate) fn new(alloc: Global, stripes: u64, holder: Holder) -> Result<LiveMap, AllocError>
+        requires { 0 < stripes }
+        ensures { IfOk result (Shows holder stripes []) }
+    {
+        let locks = KeyLocks::new(alloc, stripes as usize)?;
+        Ok(LiveMap {
+            holder,
+            stripes,
+            values: BTreeMap::new(alloc),
+            locks,
+        })
+    }
+
+    /// Whether a reply is that of the map as it is now.
+    pub(crate) fn is_answered(&self, callers: &Callers, entry: &Entry) -> bool
+        requires { caller_of entry.now < 64 }
+        ensures { (holder : Holder) (stripes : ℕ) (h : List Entry) →
+            IsLegal holder stripes h → HaveEntered h callers.now → Shows holder stripes h self.now →
+            is_shaped h entry.now ≡ true → result ≡ replies_hold (h ++ entry.now ∷ []) }
+    {
+        let Entry::Did(caller, reply) = *entry else {
+            return true;
+        };
+        match callers.phase(caller) {
+            Phase::Waiting(op) => reply == self.values.get(&op.key()).copied(),
+            _ => true,
+        }
+    }
+
+    /// Does what an entry does that has the right shape and reply, or answers that it breaks the
+    /// rule of locks.
+    pub(crate) fn follow(&mut self, callers: &Callers, entry: &Entry) -> Result<bool, AllocError>
+        requires { caller_of entry.now < 64 }
+        ensures ok { IfOk result (λ right. Follows entry.now callers.now self.old right self.new) }
+        ensures err { OnErr result (Keeps self.old self.new) }
+    {
+        match *entry {
+            Entry::Asked(caller, op) => return Ok(self.ask(caller, op)),
+            Entry::Busy(caller, op, named) => return Ok(self.may_name(callers, caller, op, named)),
+            Entry::Did(caller, _) => {
+                if let Phase::Waiting(op) = callers.phase(caller) {
+                    operate(&mut self.values, op)?;
+                }
+            }
+            Entry::Undone(caller) => {
+                if let Some((key, before)) = callers.newest_change(caller) {
+                    restore(&mut self.values, key, before)?;
+                }
+            }
+            Entry::Committed(caller, _) => self.locks.release_all(caller as usize),
+            Entry::Aborted(caller) => self.locks.release_all(caller as usize),
+            _ => {}
+        }
+        Ok(true)
+    }
+
+    /// An operation is asked for, if no other caller holds the stripe of its key.
+    fn ask(&mut self, caller: u64, op: Op) -> bool
+        requires { caller < 64 }
+        ensures { (callers : Callers) → Follows (Entry.Asked caller op) callers self.old result self.new }
+    {
+        let stripe = op.key() % self.stripes;
+        match self.locks.lock(caller as usize, stripe as usize) {
+            LockAnswer::Granted => true,
+            LockAnswer::Busy(_) => false,
+        }
+    }
+
+    /// Whether a Busy of the caller may name that one. Nothing changes if it may.
+    fn may_name(&mut self, callers: &Callers, caller: u64, op: Op, named: u64) -> bool
+        requires { caller < 64 }
+        ensures { Follows (Entry.Busy caller op named) callers.now self.old result self.new }
+    {
+        match self.holder {
+            Holder::Begun => named != caller && callers.has_begun(named),
+            Holder::Now => {
+                let stripe = op.key() % self.stripes;
+                match self.locks.lock(caller as usize, stripe as usize) {
+                    LockAnswer::Granted => false,
+                    LockAnswer::Busy(other) => other as u64 == named,
+                }
+            }
+        }
+    }
+}
