@@ -19,14 +19,15 @@ use Rattle.txn_drive.specs.declared.call.Call.TheVariants as calls
 use Rattle.txn_drive.specs.declared.drive.Drive.{Drive}
 use Rattle.txn_drive.specs.declared.phase.Phase.{Phase}
 use Rattle.txn_drive.specs.declared.phase.Phase.TheVariants.{Fresh, Seeking, Acting, Doubling, Initialising, Linking, Storing}
-use Rattle.txn_drive.specs.Drives.{step_in, step_of, told_in}
+use Rattle.txn_drive.specs.Drives.{sized_in, sized_of, step_in, step_of, told_in}
 use Rattle.boost_core.specs.State.{State}
 use Rattle.boost_core.specs.Answers.{after}
 use Rattle.boost_core.specs.Machine.{Move}
 use Rattle.boost_core.specs.declared.claim.Claim.{Claim}
 use Rattle.boost_core.specs.declared.claim.Claim.TheVariants.{Lock, Right, Held, Stale}
 use Rattle.boost_core.specs.Words.{Goes, IsStale, is_ask, is_stale}
-use Rattle.locked_map.specs.Claims.{Trial, HasTriedFor, HasTriedStep, claim_in}
+use Rattle.locked_map.specs.Claims.{Trial, HasTriedFor, HasTriedIf, HasTriedStep, claim_in}
+use Rattle.locked_map.specs.Tokens.{Token, HasTried, HasTriedNext}
 use Rattle.locked_map.specs.Suits.{Suits}
 
 -- A move or a stale word leaves the limits, adds the entries of its step, and leaves words words.
@@ -90,12 +91,8 @@ plain_claim (Some trial) m step other = refl
 pub counted_more : (h more es : List Entry) (total next : ℕ) → total ≡ length h → next ≡ total + length es → more ≡ h ++ es → next ≡ length more
 counted_more h more es total next counts adds is = let longer : length more ≡ length h + length es = ap length is ∙ length-append h es in omega (arith, counts, adds, longer)
 
--- The step of a drive that asks for an operation has its word tried.
-abbrev TriedIf : Option Trial → ℕ → Option Step → Type 0
-TriedIf tried stripes None = Unit {0}
-TriedIf tried stripes (Some step) = HasTriedStep tried stripes step
-
-tried_in : (tried : Option Trial) (stripes c : ℕ) (call : Call) (phase : Phase) → HasTriedFor tried stripes call → TriedIf tried stripes (step_in c call phase)
+-- Where the word of an operation's stripe was tried, so it was for each step of its drive.
+tried_in : (tried : Option Trial) (stripes c : ℕ) (call : Call) (phase : Phase) → HasTriedFor tried stripes call → HasTriedIf tried stripes (step_in c call phase)
 tried_in tried stripes c calls.Begin Fresh has = tt
 tried_in tried stripes c (calls.Op op) Fresh has = has
 tried_in tried stripes c calls.Save Fresh has = tt
@@ -111,8 +108,26 @@ tried_in tried stripes c call (Linking way again) has = tt
 tried_in tried stripes c call (Storing way) has = tt
 tried_in tried stripes c call phase has = tt
 
-pub tried_step : (tried : Option Trial) (stripes : ℕ) (d : Drive) (step : Step) → step_of d ≡ Some step → HasTriedFor tried stripes d.call → HasTriedStep tried stripes step
-tried_step tried stripes d step is has = subst (TriedIf tried stripes) is (tried_in tried stripes d.caller d.call d.phase has)
+pub tried_next : {S : Type 0} (k : Token S) (d : Drive) → HasTried k d.call → HasTriedNext k d
+tried_next k d has = tried_in k.claims.tried k.limits.stripes d.caller d.call d.phase has
+
+pub tried_step : (tried : Option Trial) (stripes : ℕ) (d : Drive) (step : Step) → step_of d ≡ Some step → HasTriedIf tried stripes (step_of d) → HasTriedStep tried stripes step
+tried_step tried stripes d step is = subst (HasTriedIf tried stripes) is
+
+-- The size at this moment does not matter to that.
+tried_sized_in : (tried : Option Trial) (stripes c size : ℕ) (call : Call) (phase : Phase) → HasTriedIf tried stripes (step_in c call phase) → HasTriedIf tried stripes (step_in c call (sized_in size phase))
+tried_sized_in tried stripes c size call (Doubling seen) has = tt
+tried_sized_in tried stripes c size call phase has = has
+
+tried_sized : (tried : Option Trial) (stripes size : ℕ) (d : Drive) → HasTriedIf tried stripes (step_of d) → HasTriedIf tried stripes (step_of (sized_of size d))
+tried_sized tried stripes size d = tried_sized_in tried stripes d.caller size d.call d.phase
+
+-- The next step of a drive has its word tried where it had so before the size was known.
+pub may_next : {S : Type 0} (t k : Token S) (stripes size : ℕ) (d d' : Drive) → t ≡ k → stripes ≡ t.limits.stripes → d' ≡ sized_of size d → HasTriedNext k d → HasTriedIf t.claims.tried stripes (step_of d')
+may_next {S} t k stripes size d d' view as_many sized has =
+    let there : HasTriedNext t d = subst (λ (x : Token S). HasTriedNext x d) (sym view) has in
+    let at : HasTriedIf t.claims.tried stripes (step_of d) = subst (λ (n : ℕ). HasTriedIf t.claims.tried n (step_of d)) (sym as_many) there in
+    subst (λ (x : Drive). HasTriedIf t.claims.tried stripes (step_of x)) (sym sized) (tried_sized t.claims.tried stripes size d at)
 
 -- A stale word ends an operation, whose first step alone asks.
 stale_asks : (claim : Claim) (m : State) (step : Step) → IsTrue (is_stale claim m step) → is_ask step ≡ true

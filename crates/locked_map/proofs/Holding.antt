@@ -143,7 +143,7 @@ no_room_run base seen seen' d e same is starts goes = record {
     none_made c call = refl
 
 pub held_took : {S : Type 0} (m n : State) (t k l : Token S) (d d' e : Drive) (turn : Turn) (size : ℕ) (end r : Option End) (whole : Bool) → t ≡ k → t.broken ≡ false → size ≡ m.size → d' ≡ sized_of size d → turn ≡ turn_of d'
-    → m.limits.stripes ≡ t.limits.stripes → TakesTurn t.tried m t.seen d' turn n l.seen e → whole ≡ is_some (seat_after l.seen) → end ≡ end_of e → l.broken ≡ (not whole || odd_if e.call end) → r ≡ end_in l.broken end
+    → m.limits.stripes ≡ t.limits.stripes → TakesTurn t.claims.tried m t.seen d' turn n l.seen e → whole ≡ is_some (seat_after l.seen) → end ≡ end_of e → l.broken ≡ (not whole || odd_if e.call end) → r ≡ end_in l.broken end
     → IsSameCaller t l → IsSameClaims t l → l.side ≡ t.side → Held m k d r n l e
 held_took {S} m n t k l d d' e turn size end r whole view sound size_is is turn_is stripes took whole_is end_is broken ends_is whose claims side =
     let sized : d' ≡ sized_of m.size d = is ∙ ap (λ z. sized_of z d) size_is in
@@ -152,7 +152,7 @@ held_took {S} m n t k l d d' e turn size end r whole view sound size_is is turn_
       record {
         sound = sound;
         stripes = stripes;
-        turn = subst (λ x. TakesTurn t.tried m t.seen x (turn_of x) n l.seen e) sized (subst (λ x. TakesTurn t.tried m t.seen d' x n l.seen e) turn_is took);
+        turn = subst (λ x. TakesTurn t.claims.tried m t.seen x (turn_of x) n l.seen e) sized (subst (λ x. TakesTurn t.claims.tried m t.seen d' x n l.seen e) turn_is took);
         broken = broken ∙ (λ i. not (whole_is i) || odd_if e.call (end_is i));
         ends = ends_is ∙ ap (end_in l.broken) end_is;
         whose = whose;

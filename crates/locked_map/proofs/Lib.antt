@@ -1,6 +1,5 @@
 pub mod Noting
 pub mod Claiming
-pub mod Passing
 pub mod Phases
 pub mod Starting
 pub mod Working
@@ -13,3 +12,6 @@ pub mod Room
 pub mod Holding
 pub mod Adding
 pub mod Refusing
+pub mod Calling
+pub mod Driving
+pub mod Trying

@@ -1,5 +1,5 @@
 -- What a shared call leaves of its caller.
-use Rattle.std.specs.Prelude.{ℕ, ◌≡◌, ◌⊎◌, if◌then◌else◌, Bool, true, false, List, [], ◌∷◌, ◌++◌, Option, Some, None, is_some, Result, Ok, Err}
+use Rattle.std.specs.Prelude.{ℕ, ◌≡◌, ◌≤◌, ◌⊎◌, if◌then◌else◌, Bool, true, false, List, [], ◌∷◌, ◌++◌, length, Option, Some, None, is_some, Result, Ok, Err}
 use Rattle.std.specs.Option.{option_or}
 use Rattle.txn_trace.specs.declared.entry.Entry.{Entry}
 use Rattle.txn_trace.specs.declared.refusal.Refusal.{Refusal}
@@ -13,10 +13,11 @@ use Rattle.txn_drive.specs.declared.«end».End.{End}
 use Rattle.txn_drive.specs.declared.«end».End.TheVariants as ends
 use Rattle.txn_drive.specs.Drives.{first_step}
 use Rattle.txn_drive.specs.Made.{IsMade}
-use Rattle.locked_map.specs.Holds.{CommitNothing}
+use Rattle.locked_map.specs.Claims.{Readies, claims_at}
+use Rattle.locked_map.specs.Holds.{CommitNothing, IsHeld}
 use Rattle.locked_map.specs.Sides.{IsSameSide, Follows}
 use Rattle.locked_map.specs.Suits.{may_refuse}
-use Rattle.locked_map.specs.Tokens.{Token, IsSameCaller, RightsLeft, RightsOf}
+use Rattle.locked_map.specs.Tokens.{Token, IsSameCaller, IsSameSeen}
 use Rattle.locked_map.specs.declared.stop.Stop.{Stop}
 use Rattle.locked_map.specs.declared.stop.Stop.TheVariants as stops
 
@@ -36,6 +37,19 @@ refused_at half false (Some s) call =
 abbrev pub refused_by : {S : Type 0} → Token S → Call → Option Refusal
 refused_by k call = refused_at k.limits.half k.broken (seat_after k.seen) call
 
+-- A call that took the lock: an operation had tried the word of its key's stripe before. What it has
+-- seen is what its holds added, and its claims are those that it was ready with, but that all rights
+-- are given back where the call ended its transaction.
+pub record WentOn {S : Type 0} (k : Token S) (call : Call) (outcome : End) (l : Token S) : Type 0
+  where
+    pub ready : Token S
+    pub same : IsSameSeen k ready
+    pub readied : Readies k.claims call ready.claims
+    pub last : Token S
+    pub held : IsHeld ready call outcome last
+    pub seen : l.seen ≡ last.seen
+    pub claims : l.claims ≡ claims_at outcome ready.claims
+
 -- A call that its token let pass, and that did what it was asked, or found a stripe held and took
 -- all back: it added what belongs to its end, and side value and rights followed.
 pub record Ran {S : Type 0} (words : S → List ℕ) (k : Token S) (call : Call) (outcome : End)
@@ -47,10 +61,15 @@ pub record Ran {S : Type 0} (words : S → List ℕ) (k : Token S) (call : Call)
   pub entries : l.seen ≡ k.seen ++ added
   pub made : IsMade k.number call outcome added
   pub side : Follows words outcome k.side l.side
-  pub rights : RightsLeft k call outcome l
+  pub went : WentOn k call outcome l
+
+-- A call that took no lock, since memory was refused for one right more or for one level more: no
+-- word was tried.
+abbrev pub TriedNothing : {S : Type 0} → Token S → Refusal → Token S → Type 0
+TriedNothing k refusal l = (refusal ≡ NoMemory) × (l.claims ≡ k.claims)
 
 -- A call that its token let pass, and that found no memory, no stamp or a stale word: it added
--- nothing.
+-- nothing. Where it took the lock its last hold was answered so.
 pub record FoundNone {S : Type 0} (k : Token S) (call : Call) (refusal : Refusal) (l : Token S) :
     Type 0 where
   pub may : may_refuse call refusal ≡ true
@@ -58,11 +77,17 @@ pub record FoundNone {S : Type 0} (k : Token S) (call : Call) (refusal : Refusal
   pub sound : l.broken ≡ false
   pub seen : l.seen ≡ k.seen
   pub side : IsSameSide k.side l.side
-  pub rights : RightsOf k call l
+  pub cause : TriedNothing k refusal l ⊎ WentOn k call (ends.Refused refusal) l
+
+-- A return to a level that the side value has not: nothing was tried, and nothing is seen.
+abbrev pub LacksLevel : {S : Type 0} → Token S → Call → Token S → Type 0
+LacksLevel k (calls.Back level) l =
+    (length k.side.levels ≤ level) × (l.seen ≡ k.seen) × (l.claims ≡ k.claims)
+LacksLevel k call l = ⊥
 
 -- A call that its token let pass, and that fell out of step: it added the entries of its moves,
 -- none of which commits as long as all that was seen has rows, and the token is broken. It keeps
--- its rights.
+-- its rights. Its last hold was answered so, but for a return to a level that is not there.
 pub record FellOut {S : Type 0} (k : Token S) (call : Call) (l : Token S) : Type 0 where
   pub whose : IsSameCaller k l
   pub broken : l.broken ≡ true
@@ -70,7 +95,7 @@ pub record FellOut {S : Type 0} (k : Token S) (call : Call) (l : Token S) : Type
   pub entries : l.seen ≡ k.seen ++ added
   pub quiet : is_some (seat_after l.seen) ≡ true → CommitNothing added
   pub side : IsSameSide k.side l.side
-  pub rights : RightsOf k call l
+  pub cause : LacksLevel k call l ⊎ WentOn k call (ends.Refused OutOfStep) l
 
 abbrev pub Failed : {S : Type 0} → Token S → Call → Refusal → Token S → Type 0
 Failed k call OutOfStep l = FellOut k call l
@@ -98,12 +123,15 @@ abbrev pub Stopped : {S : Type 0} → (S → List ℕ) → Token S → Call → 
 Stopped words k call (stops.Busy holder) l = Ran words k call (ends.Busy holder) l
 Stopped words k call (stops.Refused refusal) l = WasRefused k call refusal l
 
--- A call that did what it was asked: its token let it pass. Its entries and what becomes of the
--- side value are said by each call.
+-- A call that did what it was asked: its token let it pass, and its last hold was answered so. Its
+-- entries and what becomes of the side value are said by each call.
 pub record Passed {S : Type 0} (k : Token S) (call : Call) (l : Token S) : Type 0 where
   pub free : refused_by k call ≡ None
   pub whose : IsSameCaller k l
   pub sound : l.broken ≡ false
+  pub outcome : End
+  pub done : IsDone outcome
+  pub went : WentOn k call outcome l
 
 -- What a call leaves by its result: what it was asked for, or why not.
 abbrev pub LeavesBy : {S T : Type 0} → (S → List ℕ) → Token S → Call → Result T Stop → Token S

@@ -1,5 +1,6 @@
 -- The rights that a caller holds, the word that it tried last, and what becomes of them.
-use Rattle.std.specs.Prelude.{ℕ, ◌≡◌, ◌≢◌, ◌⊎◌, ◌-◌, ◌==◌, List, [], ◌∷◌, ◌++◌, Option, Some, None, slice_get, if◌then◌else◌}
+use Rattle.std.specs.Prelude.{ℕ, ◌≡◌, ◌≢◌, ◌+◌, ◌-◌, ◌==◌, List, [], ◌∷◌, ◌++◌, Option, Some, None, slice_get, if◌then◌else◌}
+use Rattle.atomic_table.specs.Seated.{TableId}
 use Rattle.txn_trace.specs.declared.answer.Answer.TheVariants as answers
 use Rattle.txn_trace.specs.declared.step.Step.{Step}
 use Rattle.txn_trace.specs.declared.step.Step.TheVariants.{Ask}
@@ -12,8 +13,12 @@ use Rattle.txn_drive.specs.declared.«end».End.TheVariants as ends
 use Rattle.key_words.specs.declared.rights.Rights.{Rights}
 use Rattle.key_words.specs.declared.taken.Tried.{Tried}
 use Rattle.key_words.specs.declared.taken.Tried.TheVariants.{Mine, Another}
+use Rattle.key_words.specs.declared.view.View.{View}
 use Rattle.key_words.specs.declared.words.KeyWords.{KeyWords}
+use Rattle.key_words.specs.Kept.{none_held}
+use Rattle.key_words.specs.Rule.{Holds}
 use Rattle.key_words.specs.Seats.{IsOf}
+use Rattle.key_words.specs.Steps.{gained, with_note}
 use Rattle.boost_core.specs.State.{State}
 use Rattle.boost_core.specs.declared.claim.Claim.{Claim}
 use Rattle.boost_core.specs.declared.claim.Claim.TheVariants.{Lock, Right}
@@ -24,24 +29,23 @@ pub record Trial : Type 0 where
   pub stripe : ℕ
   pub word : ℕ
 
--- The number of the caller's seat, how many stripes there are, the stripes whose rights it holds,
--- the newest last, and its last trial.
+abbrev pub trial : ℕ → ℕ → Option Trial
+trial stripe word = Some (record { stripe = stripe; word = word })
+
+-- Whose words these are, how many stripes they have, what the caller's seat at them knows, the
+-- stripes whose rights are held, the newest last, and the last trial.
 pub record Claimed : Type 0 where
-  pub number : ℕ
+  pub words : TableId
   pub stripes : ℕ
+  pub seat : View
   pub held : List ℕ
   pub tried : Option Trial
-
--- A caller that has tried nothing.
-abbrev pub new_claims : ℕ → ℕ → Claimed
-new_claims number stripes =
-    record { number = number; stripes = stripes; held = []; tried = None }
 
 -- What the try of a stripe's word found.
 abbrev pub trial_of : ℕ → Option Tried → Option Trial
 trial_of stripe None = None
-trial_of stripe (Some (Mine place)) = Some (record { stripe = stripe; word = 0 })
-trial_of stripe (Some (Another word)) = Some (record { stripe = stripe; word = word })
+trial_of stripe (Some (Mine place)) = trial stripe 0
+trial_of stripe (Some (Another word)) = trial stripe word
 
 -- The right that was found lies at its place, and another's word is not 0.
 abbrev pub IsTrial : List ℕ → ℕ → Option Tried → Type 0
@@ -54,6 +58,42 @@ pub record IsClaimed (words : KeyWords) (rights : Rights) (stripe : ℕ) (tried 
     Type 0 where
   pub seat : IsOf rights.seat words
   pub trial : IsTrial rights.rights.items stripe tried
+
+-- Nothing was tried yet, and no right is held.
+pub record IsIdle (k : Claimed) : Type 0 where
+  pub notes : k.seat.notes ≡ []
+  pub stripes : k.seat.held ≡ []
+  pub held : k.held ≡ []
+  pub tried : k.tried ≡ None
+
+-- What is found where a stripe's word is to be tried: the right is in hand, the word is 0, or it is
+-- another's.
+pub data Found : Type 0 where
+  InHand : Found
+  WasFree : Found
+  WasHeld : ℕ → Found
+
+-- With the right in hand no word is tried. Else one is, and the seat has one note more, of this
+-- stripe with the word that was found: where that was 0 the right has come, and else the word is
+-- not the seat's own.
+abbrev pub TriesAt : Found → Claimed → ℕ → Claimed → Type 0
+TriesAt InHand k stripe l = Holds k.seat stripe × (l ≡ record k { tried = trial stripe 0 })
+TriesAt WasFree k stripe l =
+    (Holds k.seat stripe → ⊥)
+    × (l
+    ≡ record k {
+      seat = gained k.seat stripe;
+      held = k.held ++ stripe ∷ [];
+      tried = trial stripe 0;
+    })
+TriesAt (WasHeld word) k stripe l =
+    (Holds k.seat stripe → ⊥) × (word ≢ 0) × (word ≢ k.seat.number + 1)
+    × (l ≡ record k { seat = with_note k.seat stripe word; tried = trial stripe word })
+
+-- A stripe's word is tried, unless its right is in hand.
+pub record Tries (k : Claimed) (stripe : ℕ) (l : Claimed) : Type 0 where
+  pub found : Found
+  pub so : TriesAt found k stripe l
 
 -- The last trial was of this stripe.
 abbrev pub HasTriedAt : Option Trial → ℕ → Type 0
@@ -70,6 +110,11 @@ abbrev pub HasTriedStep : Option Trial → ℕ → Step → Type 0
 HasTriedStep tried stripes (Ask c op) = HasTriedAt tried (stripe_of stripes (key_of op))
 HasTriedStep tried stripes step = Unit {0}
 
+-- And where there is a step that does.
+abbrev pub HasTriedIf : Option Trial → ℕ → Option Step → Type 0
+HasTriedIf tried stripes None = Unit {0}
+HasTriedIf tried stripes (Some step) = HasTriedStep tried stripes step
+
 -- What a trial claims for a caller: by the right that it found, or by the word.
 abbrev pub claim_by : State → ℕ → Trial → Claim
 claim_by m c trial = if trial.word == 0 then Right else claim_of m c (trial.word - 1)
@@ -81,31 +126,26 @@ claim_in None m step = Lock
 claim_in (Some trial) m (Ask c op) = claim_by m c trial
 claim_in (Some trial) m step = Lock
 
--- The stripes whose rights are held are as they were.
-abbrev pub KeepsRights : List ℕ → List ℕ → Type 0
-KeepsRights held held' = held' ≡ held
+-- What a call does with words before its first hold of the lock: an operation tries the word of its
+-- key's stripe.
+abbrev pub Readies : Claimed → Call → Claimed → Type 0
+Readies k (calls.Op op) l = Tries k (stripe_of k.stripes (key_of op)) l
+Readies k call l = l ≡ k
 
--- They are as they were, or this stripe has come to them.
-abbrev pub MayGain : List ℕ → ℕ → List ℕ → Type 0
-MayGain held stripe held' = KeepsRights held held' ⊎ (held' ≡ held ++ stripe ∷ [])
+-- All rights are given back.
+abbrev pub given_back : Claimed → Claimed
+given_back k = record k { seat = none_held k.seat; held = []; tried = None }
 
--- What becomes of them in a call that ends no transaction: an operation may take the right to the
--- stripe of its key.
-abbrev pub RightsIn : ℕ → List ℕ → Call → List ℕ → Type 0
-RightsIn stripes held (calls.Op op) held' =
-    MayGain held (stripe_of stripes (key_of op)) held'
-RightsIn stripes held call held' = KeepsRights held held'
+-- What the end of a call leaves of the claims: all rights are given back where it ends the
+-- transaction, and else they stay.
+abbrev pub claims_at : End → Claimed → Claimed
+claims_at (ends.Answered (answers.Committed place)) k = given_back k
+claims_at (ends.Answered answers.Aborted) k = given_back k
+claims_at (ends.Busy holder) k = given_back k
+claims_at outcome k = k
 
--- What becomes of them in a call with this end: all are given back where it ends the transaction.
-abbrev pub RightsAfter : ℕ → List ℕ → Call → End → List ℕ → Type 0
-RightsAfter stripes held call (ends.Answered (answers.Committed place)) held' = held' ≡ []
-RightsAfter stripes held call (ends.Answered answers.Aborted) held' = held' ≡ []
-RightsAfter stripes held call (ends.Busy holder) held' = held' ≡ []
-RightsAfter stripes held call outcome held' = RightsIn stripes held call held'
-
--- What is given back at an end: all where it ends the transaction, else nothing.
-abbrev pub GivesBack : End → List ℕ → List ℕ → Type 0
-GivesBack (ends.Answered (answers.Committed place)) held held' = held' ≡ []
-GivesBack (ends.Answered answers.Aborted) held held' = held' ≡ []
-GivesBack (ends.Busy holder) held held' = held' ≡ []
-GivesBack outcome held held' = KeepsRights held held'
+-- What a call with this end makes of the claims.
+pub record ClaimsAfter (k : Claimed) (call : Call) (outcome : End) (l : Claimed) : Type 0 where
+  pub ready : Claimed
+  pub readied : Readies k call ready
+  pub left : l ≡ claims_at outcome ready

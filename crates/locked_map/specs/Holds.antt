@@ -1,5 +1,5 @@
 -- What a hold of the lock does to core, token and drive, and what a call has done by its end.
-use Rattle.std.specs.Prelude.{ℕ, ◌≡◌, ◌≢◌, Bool, true, false, not, ◌||◌, List, [], ◌++◌, Option, Some, None, is_some}
+use Rattle.std.specs.Prelude.{ℕ, zero, suc, ◌≡◌, ◌≢◌, Bool, true, false, not, ◌||◌, List, [], ◌++◌, Option, Some, None, is_some}
 use Rattle.std.specs.List.{filter}
 use Rattle.txn_trace.specs.declared.answer.Answer.{Answer}
 use Rattle.txn_trace.specs.declared.answer.Answer.TheVariants as answers
@@ -18,10 +18,10 @@ use Rattle.txn_drive.specs.declared.turn.Turn.{Turn}
 use Rattle.txn_drive.specs.declared.turn.Turn.TheVariants.{One, Two, Ended}
 use Rattle.txn_drive.specs.declared.phase.Phase.{Phase}
 use Rattle.txn_drive.specs.Made.{made, IsMade}
-use Rattle.txn_drive.specs.Drives.{sized_of, turn_of, told_of, end_of}
+use Rattle.txn_drive.specs.Drives.{new_drive, sized_of, step_of, turn_of, told_of, end_of}
 use Rattle.boost_core.specs.State.{State}
 use Rattle.boost_core.specs.Words.{Goes}
-use Rattle.locked_map.specs.Claims.{Claimed, Trial, HasTriedFor, claim_in}
+use Rattle.locked_map.specs.Claims.{Claimed, Trial, HasTriedIf, claim_in}
 use Rattle.locked_map.specs.Tokens.{Token, IsSameCaller, IsSameClaims}
 use Rattle.locked_map.specs.Suits.{is_odd, may_refuse, Fits, IsInStep, IsSized}
 
@@ -52,11 +52,11 @@ abbrev pub out_if : Option End → Bool
 out_if None = false
 out_if (Some outcome) = is_out outcome
 
--- Claims, a core and what was seen, with which a step of the call may be taken.
-pub record MayTake (claims : Claimed) (m : State) (seen : List Entry) (call : Call) : Type 0 where
+-- Claims, a core and what was seen, with which the next step of a drive may be taken.
+pub record MayTake (claims : Claimed) (m : State) (seen : List Entry) (d : Drive) : Type 0 where
   pub whole : is_some (seat_after seen) ≡ true
   pub stripes : m.limits.stripes ≡ claims.stripes
-  pub tried : HasTriedFor claims.tried claims.stripes call
+  pub tried : HasTriedIf claims.tried claims.stripes (step_of d)
 
 -- A step is taken: the core makes its move, or where an operation is asked for does what the claim
 -- to its stripe comes to; the drive is told the answer, and the step's entries are seen.
@@ -91,7 +91,7 @@ pub record TurnHeld {S : Type 0} (m : State) (k : Token S) (d : Drive) (outcome 
     (n : State) (l : Token S) (e : Drive) : Type 0 where
   pub sound : k.broken ≡ false
   pub stripes : m.limits.stripes ≡ k.limits.stripes
-  pub turn : TakesTurn k.tried m k.seen d (turn_of d) n l.seen e
+  pub turn : TakesTurn k.claims.tried m k.seen d (turn_of d) n l.seen e
   pub broken : l.broken ≡ (not (is_some (seat_after l.seen)) || odd_if e.call (end_of e))
   pub ends : outcome ≡ end_in l.broken (end_of e)
   pub whose : IsSameCaller k l
@@ -176,3 +176,28 @@ pub record IsGoing (base seen : List Entry) (d : Drive) : Type 0 where
 abbrev pub GoesTo : List Entry → List Entry → Drive → Option End → Type 0
 GoesTo base seen d None = IsGoing base seen d
 GoesTo base seen d (Some outcome) = HasRun base seen d.caller d.call outcome
+
+-- So many holds of a call, none of which has ended it: each is of the core that lies under the lock
+-- then, and the steps of other callers come between.
+abbrev pub HasHeld : {S : Type 0} → ℕ → Token S → Drive → Token S → Drive → Type 0
+HasHeld zero k d l e = (l ≡ k) × (e ≡ d)
+HasHeld {S} (suc holds) k d l e =
+    (between : Token S) × (half : Drive) × (m : State) × (n : State)
+    × HasHeld holds k d between half × Held m between half None n l e
+
+-- A call is on its way, after some holds.
+pub record IsHolding {S : Type 0} (k : Token S) (call : Call) (l : Token S) (d : Drive) : Type 0
+  where
+    pub holds : ℕ
+    pub held : HasHeld holds k (new_drive k.limits.half k.number call) l d
+
+-- A call has ended so with its last hold: what it did is what its holds did, and no other.
+pub record IsHeld {S : Type 0} (k : Token S) (call : Call) (outcome : End) (l : Token S) : Type 0
+  where
+    pub between : Token S
+    pub half : Drive
+    pub holding : IsHolding k call between half
+    pub before : State
+    pub after : State
+    pub last : Drive
+    pub held : Held before between half (Some outcome) after l last

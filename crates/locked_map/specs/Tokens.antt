@@ -1,30 +1,40 @@
 -- What contracts see of a caller and of a pass, and when a call leaves a caller the same.
-use Rattle.std.specs.Prelude.{ℕ, ◌≡◌, Bool, List, [], Option, None}
+use Rattle.std.specs.Prelude.{ℕ, ◌≡◌, Bool, true, List, map, Option, Some, None}
+use Rattle.std.specs.List.{range_with_len}
+use Rattle.atomic_table.specs.Seated.{TableId}
 use Rattle.txn_trace.specs.declared.entry.Entry.{Entry}
+use Rattle.txn_trace.specs.Seats.{is_closed}
+use Rattle.txn_trace.specs.Shape.{Seat}
 use Rattle.txn_trace.specs.Sizes.{Sizes}
 use Rattle.txn_drive.specs.declared.call.Call.{Call}
-use Rattle.txn_drive.specs.declared.«end».End.{End}
+use Rattle.txn_drive.specs.declared.drive.Drive.{Drive}
+use Rattle.txn_drive.specs.Drives.{step_of}
 use Rattle.undo_log.specs.SideValue.{Leveled}
-use Rattle.locked_map.specs.Claims.{Claimed, Trial, HasTriedFor, KeepsRights, RightsIn, RightsAfter}
+use Rattle.locked_map.specs.Claims.{Claimed, HasTriedFor, HasTriedIf, IsIdle}
 
--- A caller: its number, its map's limits, its side value, the entries that it has seen, the stripes
--- whose rights it holds, its last trial of a word, and whether it is out of step for good.
+-- A caller: its number, its map's limits, its side value, the entries that it has seen, by what it
+-- claims stripes, and whether it is out of step for good.
 pub record Token (S : Type 0) : Type 0 where
   pub number : ℕ
   pub limits : Sizes
   pub side : Leveled S
   pub seen : List Entry
-  pub held : List ℕ
-  pub tried : Option Trial
+  pub claims : Claimed
   pub broken : Bool
 
--- A pass.
+-- A pass: its number, its map's limits, and the words at which its caller has a seat.
 pub record Ticket : Type 0 where
   pub number : ℕ
   pub limits : Sizes
+  pub words : TableId
 
-abbrev pub new_ticket : Sizes → ℕ → Ticket
-new_ticket limits number = record { number = number; limits = limits }
+abbrev pub new_ticket : Sizes → TableId → ℕ → Ticket
+new_ticket limits words number = record { number = number; limits = limits; words = words }
+
+-- One pass for each caller's number, rising, all of them at the same words.
+pub record AreTickets (limits : Sizes) (passes : List Ticket) : Type 0 where
+  pub words : TableId
+  pub are : passes ≡ map (new_ticket limits words) (range_with_len 0 limits.callers)
 
 -- Both are the same caller of the same map.
 pub record IsSameCaller {S : Type 0} (k l : Token S) : Type 0 where
@@ -32,9 +42,8 @@ pub record IsSameCaller {S : Type 0} (k l : Token S) : Type 0 where
   pub limits : l.limits ≡ k.limits
 
 -- It holds the same rights, and has tried no other word.
-pub record IsSameClaims {S : Type 0} (k l : Token S) : Type 0 where
-  pub held : KeepsRights k.held l.held
-  pub tried : l.tried ≡ k.tried
+abbrev pub IsSameClaims : {S : Type 0} → Token S → Token S → Type 0
+IsSameClaims k l = l.claims ≡ k.claims
 
 -- All of the caller but its side value and its claims is as it was.
 pub record IsSameSeen {S : Type 0} (k l : Token S) : Type 0 where
@@ -51,22 +60,23 @@ pub record IsSameButSide {S : Type 0} (k l : Token S) : Type 0 where
 
 -- The seat of a pass or of a caller: it has the number, and there is a word for each stripe.
 pub record IsSeated (number : ℕ) (limits : Sizes) (claims : Claimed) : Type 0 where
-  pub number_is : claims.number ≡ number
+  pub number_is : claims.seat.number ≡ number
   pub stripes : claims.stripes ≡ limits.stripes
 
--- A pass holds no right, and has tried nothing.
+-- A pass has tried nothing.
 pub record IsUnused (number : ℕ) (limits : Sizes) (claims : Claimed) : Type 0 where
   pub seat : IsSeated number limits claims
-  pub held : claims.held ≡ []
-  pub tried : claims.tried ≡ None
+  pub idle : IsIdle claims
+
+-- Whether no transaction is open at a seat: there is none either where the entries give no seat.
+abbrev pub is_over : Option Seat → Bool
+is_over None = true
+is_over (Some s) = is_closed s.phase
 
 -- Where the call is an operation, the caller has tried the word of its key's stripe last.
 abbrev pub HasTried : {S : Type 0} → Token S → Call → Type 0
-HasTried k call = HasTriedFor k.tried k.limits.stripes call
+HasTried k call = HasTriedFor k.claims.tried k.limits.stripes call
 
--- What becomes of its rights in a call that ends no transaction, and in one with this end.
-abbrev pub RightsOf : {S : Type 0} → Token S → Call → Token S → Type 0
-RightsOf k call l = RightsIn k.limits.stripes k.held call l.held
-
-abbrev pub RightsLeft : {S : Type 0} → Token S → Call → End → Token S → Type 0
-RightsLeft k call outcome l = RightsAfter k.limits.stripes k.held call outcome l.held
+-- The same where the next step of a drive asks for an operation.
+abbrev pub HasTriedNext : {S : Type 0} → Token S → Drive → Type 0
+HasTriedNext k d = HasTriedIf k.claims.tried k.limits.stripes (step_of d)

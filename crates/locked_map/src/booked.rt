@@ -1,7 +1,9 @@
-ghost use Rattle.std.specs.Prelude.{◌≡◌, true, length};
+ghost use Rattle.std.specs.Prelude.{◌≡◌, true, length, IfErr, IfOk};
 
 use boost_core::Core;
+use std::alloc::Global;
 use std::sync::ledger::{Book, Ledger, Share};
+use txn_trace::{Limits, Refusal};
 
 /// What lies under the lock: the core, and the book that counts the entries of its history.
 ///
@@ -18,4 +20,30 @@ pub struct Booked<L: Ledger> {
     pub(crate) ghost of_words: { core.words ≡ true },
     pub(crate) ghost no_parts: { none.parts ≡ 0 },
     pub(crate) ghost no_amount: { none.amount ≡ 0 },
+}
+
+impl<L: Ledger> Booked<L> {
+    ghost use Rattle.boost_core.specs.State.{start_with_words};
+
+    /// A core in which nothing has happened, under these limits, and a book that has counted
+    /// nothing.
+    ///
+    /// # Errors
+    ///
+    /// `NoMemory` where memory is refused.
+    pub(crate) fn new(
+        alloc: Global,
+        limits: Limits,
+        book: Book<L>,
+        none: Share<L>,
+    ) -> Result<Booked<L>, Refusal>
+        requires total { book.total ≡ 0 }
+        requires no_parts { none.parts ≡ 0 }
+        requires no_amount { none.amount ≡ 0 }
+        ensures core { IfOk result (λ booked. booked.core ≡ start_with_words limits) }
+        ensures err { IfErr result (λ refusal. refusal ≡ Refusal.NoMemory) }
+    {
+        let core = Core::with_words(alloc, limits)?;
+        Ok(Booked { core, book, none })
+    }
 }

@@ -1,15 +1,15 @@
-ghost use Rattle.std.specs.Prelude.{◌≡◌, ◌≢◌, ◌<◌, true, false, is_some, length, Some, [], ◌∷◌, List, ◌+◌, IfSome, IfNone, IfErr, OnOk, OnErr};
+ghost use Rattle.std.specs.Prelude.{◌≡◌, ◌≢◌, ◌<◌, true, false, is_some, length, unwrap_or, Some, None, [], ◌∷◌, List, ◌+◌, IfSome, IfNone, IfErr, OnOk, OnErr};
 ghost use Rattle.txn_trace.specs.declared.entry.Entry.{Entry};
 ghost use Rattle.txn_trace.specs.declared.refusal.Refusal.{Refusal};
 ghost use Rattle.txn_trace.specs.Shape.{Seat, seat_after};
 ghost use Rattle.txn_drive.specs.declared.«end».End.{End};
 ghost use Rattle.txn_drive.specs.Drives.{first_step};
 ghost use Rattle.locked_map.specs.Calls.{Failed, refused_by, refused_help, refused_side};
-ghost use Rattle.locked_map.specs.Claims.{GivesBack};
+ghost use Rattle.locked_map.specs.Claims.{IsIdle, Readies, claims_at};
 ghost use Rattle.locked_map.specs.Holds.{Held, InStep, IsGoing, GoesTo, out_if};
 ghost use Rattle.locked_map.specs.Noted.{last_txn};
 ghost use Rattle.locked_map.specs.Sides.{CanFollow, Follows, IsReadyFor, IsSameSide};
-ghost use Rattle.locked_map.specs.Tokens.{HasTried, IsSameButSide, IsSameCaller, IsSameClaims, IsSameSeen, IsSeated, RightsOf};
+ghost use Rattle.locked_map.specs.Tokens.{HasTried, HasTriedNext, IsSameButSide, IsSameCaller, IsSameClaims, IsSameSeen, IsSeated, is_over};
 
 use crate::booked::Booked;
 use crate::claims::Claims;
@@ -26,9 +26,9 @@ use undo_log::{Side, SideJob, SideValue};
 /// One caller of a shared map: its token. It is not cloned, so each number is in one place.
 ///
 /// A contract sees its number, the limits of its map, its side value, in `seen` the entries that
-/// its calls have added, in `held` the stripes whose rights it holds, in `tried` what it found at
-/// the word that it tried last, and whether it is `broken`: a call that falls out of step breaks
-/// it, and from then on each call answers `Refusal::OutOfStep`.
+/// its calls have added, in `claims` the stripes whose rights it holds and all words that it has
+/// tried, and whether it is `broken`: a call that falls out of step breaks it, and from then on
+/// each call answers `Refusal::OutOfStep`.
 ///
 /// It keeps its rights until its transaction has committed or aborted. A broken token keeps them
 /// for good, and a token that is dropped loses them: their stripes stay held.
@@ -54,8 +54,7 @@ impl<L: Ledger, S: Side> Model for Caller<L, S> {
       limits = c.limits;
       side = c.side;
       seen = c.seen.entries;
-      held = c.claims.held;
-      tried = c.claims.tried;
+      claims = c.claims;
       broken = c.is_broken;
     } };
 
@@ -79,7 +78,7 @@ impl<L: Ledger, S: Side> Caller<L, S> {
         ensures number { result.number ≡ number }
         ensures limits { result.limits ≡ limits }
         ensures seen { result.seen ≡ [] }
-        ensures held { result.held ≡ claims.held }
+        ensures claims { result.claims ≡ claims }
         ensures broken { result.broken ≡ false }
         ensures value { result.side.value ≡ side }
         ensures levels { result.side.levels ≡ S.words_of side ∷ [] }
@@ -119,6 +118,14 @@ impl<L: Ledger, S: Side> Caller<L, S> {
         self.seen.entries()
     }
 
+    /// Whether it has no transaction open: it may begin one. Of a broken token, which may do nothing,
+    /// this says only what its entries say. Constant time.
+    pub fn is_idle(&self) -> bool
+        ensures { result ≡ is_over (seat_after self.now.seen) }
+    {
+        self.seen.is_over()
+    }
+
     /// The four words of the side value.
     ///
     /// # Cost
@@ -135,7 +142,7 @@ impl<L: Ledger, S: Side> Caller<L, S> {
     ///
     /// The core takes the steps of the turn and no other, and `seen` gains their entries and no
     /// other. An operation is asked for by the word that was tried last: so before its first turn
-    /// comes `try_word`. Side value and rights stay as they are: a shared call takes the one back,
+    /// comes `try_word`, once. Side value and rights stay as they are: a shared call takes the one back,
     /// and gives back the others, once its drive has ended.
     ///
     /// # Errors
@@ -157,7 +164,7 @@ impl<L: Ledger, S: Side> Caller<L, S> {
     /// the steps and for `seen`.
     pub fn hold(&mut self, booked: &mut Booked<L>, drive: &mut Drive) -> Option<End>
         requires caller { drive.old.caller ≡ self.old.number }
-        requires tried { HasTried self.old drive.old.call }
+        requires tried { HasTriedNext self.old drive.old }
         ensures held { Held booked.old.core self.old drive.old result
             booked.new.core self.new drive.new }
         ensures same { self.new.side ≡ self.old.side }
@@ -222,7 +229,10 @@ impl<L: Ledger, S: Side> Caller<L, S> {
     ///
     /// # Errors
     ///
-    /// `NoMemory` where memory is refused for one right more: no word was tried.
+    /// No word was tried, and the token is as it was:
+    /// - the refusal of the operation by the token, as a shared call answers it: so a token without
+    ///   a transaction tries no word;
+    /// - then `NoMemory` where memory is refused for one right more.
     ///
     /// # Cost
     ///
@@ -231,8 +241,24 @@ impl<L: Ledger, S: Side> Caller<L, S> {
     pub fn try_word(&mut self, op: Op) -> Result<(), Refusal>
         ensures same { IsSameSeen self.old self.new }
         ensures side { self.new.side ≡ self.old.side }
+        ensures free { OnOk result (refused_by self.old (Call.Op op) ≡ None) }
         ensures tried { OnOk result (HasTried self.new (Call.Op op)) }
-        ensures rights { RightsOf self.old (Call.Op op) self.new }
+        ensures readied { OnOk result (Readies self.old.claims (Call.Op op) self.new.claims) }
+        ensures err { IfErr result (λ refusal. (self.new ≡ self.old)
+            × (refusal ≡ unwrap_or (refused_by self.old (Call.Op op)) Refusal.NoMemory)) }
+    {
+        if let Some(refusal) = self.refusal(Call::Op(op)) {
+            return Err(refusal);
+        }
+        self.try_stripe(op)
+    }
+
+    /// The same of a token that does not refuse the operation.
+    fn try_stripe(&mut self, op: Op) -> Result<(), Refusal>
+        ensures same { IsSameSeen self.old self.new }
+        ensures side { self.new.side ≡ self.old.side }
+        ensures tried { OnOk result (HasTried self.new (Call.Op op)) }
+        ensures readied { OnOk result (Readies self.old.claims (Call.Op op) self.new.claims) }
         ensures err { IfErr result (λ refusal. (refusal ≡ Refusal.NoMemory)
             × (self.new ≡ self.old)) }
     {
@@ -256,11 +282,11 @@ impl<L: Ledger, S: Side> Caller<L, S> {
         ensures side { OnOk result (IsSameSide self.old.side self.new.side) }
         ensures ready { OnOk result (IsReadyFor call self.new.side) }
         ensures tried { OnOk result (HasTried self.new call) }
-        ensures rights { RightsOf self.old call self.new }
+        ensures readied { OnOk result (Readies self.old.claims call self.new.claims) }
         ensures err { IfErr result (λ refusal. Failed self.old call refusal self.new) }
     {
         match call {
-            Call::Op(op) => self.try_word(op),
+            Call::Op(op) => self.try_stripe(op),
             Call::Save => match self.side.save_room() {
                 Ok(()) => Ok(()),
                 Err(AllocError) => Err(Refusal::NoMemory),
@@ -282,7 +308,7 @@ impl<L: Ledger, S: Side> Caller<L, S> {
         requires { CanFollow end self.old.side }
         ensures same { IsSameSeen self.old self.new }
         ensures side { Follows S.words_of end self.old.side self.new.side }
-        ensures rights { GivesBack end self.old.held self.new.held }
+        ensures claims { self.new.claims ≡ claims_at end self.old.claims }
     {
         self.claims.follow(end);
         let _levels = self.side.level();

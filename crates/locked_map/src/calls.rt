@@ -8,8 +8,9 @@
 //! and `close` compares. Each call has the clauses
 //! - `ok`: what it has added, where it did what it was asked (`level` of `save`: its answer);
 //! - `side`: what it has then made of the side value;
-//! - `rights`: which rights to stripes it has then: an operation may take the right to the stripe
-//!   of its key, and the end of the transaction gives all back;
+//! - `claims`: which rights to stripes it has then, and which words it has tried: an operation tries
+//!   the word of its key's stripe, unless it has the right, which comes where the word is free; and
+//!   the end of the transaction gives all back;
 //! - `leaves`: that the token let it pass, or why it was not done and what is left then; and that
 //!   after `OutOfStep` every call answers that and nothing changes any more (`Leaves` in
 //!   `specs/Calls.antt`).
@@ -18,11 +19,11 @@ ghost use Rattle.txn_trace.specs.declared.entry.Entry.TheVariants as entries;
 ghost use Rattle.txn_trace.specs.Shape.{Seat, seat_after};
 ghost use Rattle.txn_trace.specs.Sizes.{is_bad_key};
 ghost use Rattle.txn_drive.specs.Made.{undone_by};
-ghost use Rattle.locked_map.specs.Calls.{Leaves, refused_side};
+ghost use Rattle.locked_map.specs.Calls.{Leaves, WentOn, refused_side};
 ghost use Rattle.locked_map.specs.Noted.{last_txn};
 ghost use Rattle.locked_map.specs.Sides.{HasLevel, IsBackAt, IsSameSide, IsSettled};
-ghost use Rattle.locked_map.specs.Claims.{KeepsRights};
-ghost use Rattle.locked_map.specs.Tokens.{IsSameButSide, RightsOf};
+ghost use Rattle.locked_map.specs.Claims.{Readies, given_back};
+ghost use Rattle.locked_map.specs.Tokens.{IsSameButSide};
 
 use crate::caller::Caller;
 use crate::receipt::Receipt;
@@ -53,7 +54,7 @@ impl<L: Ledger> SharedMap<L> {
         ensures ok { IfOk result (λ txn. me.new.seen
             ≡ me.old.seen ++ entries.Began me.old.number txn ∷ []) }
         ensures side { OnOk result (IsSettled S.words_of me.old.side me.new.side) }
-        ensures rights { OnOk result (KeepsRights me.old.held me.new.held) }
+        ensures claims { OnOk result (me.new.claims ≡ me.old.claims) }
         ensures leaves { Leaves S.words_of me.old Call.Begin result me.new }
     {
         match self.call(rt, me, Call::Begin)? {
@@ -95,7 +96,8 @@ impl<L: Ledger> SharedMap<L> {
             ++ entries.Asked me.old.number (Op.Put key value)
             ∷ entries.Did me.old.number reply ∷ []) }
         ensures side { OnOk result (IsSameSide me.old.side me.new.side) }
-        ensures rights { OnOk result (RightsOf me.old (Call.Op (Op.Put key value)) me.new) }
+        ensures claims { OnOk result (Readies me.old.claims (Call.Op (Op.Put key value))
+            me.new.claims) }
         ensures leaves { Leaves S.words_of me.old (Call.Op (Op.Put key value)) result me.new }
     {
         self.operate(rt, me, Op::Put(key, value))
@@ -132,7 +134,7 @@ impl<L: Ledger> SharedMap<L> {
         ensures ok { IfOk result (λ reply. me.new.seen ≡ me.old.seen
             ++ entries.Asked me.old.number (Op.Take key) ∷ entries.Did me.old.number reply ∷ []) }
         ensures side { OnOk result (IsSameSide me.old.side me.new.side) }
-        ensures rights { OnOk result (RightsOf me.old (Call.Op (Op.Take key)) me.new) }
+        ensures claims { OnOk result (Readies me.old.claims (Call.Op (Op.Take key)) me.new.claims) }
         ensures leaves { Leaves S.words_of me.old (Call.Op (Op.Take key)) result me.new }
     {
         self.operate(rt, me, Op::Take(key))
@@ -173,8 +175,8 @@ impl<L: Ledger> SharedMap<L> {
             ++ entries.Asked me.old.number (Op.PutIf key expected value)
             ∷ entries.Did me.old.number reply ∷ []) }
         ensures side { OnOk result (IsSameSide me.old.side me.new.side) }
-        ensures rights { OnOk result (RightsOf me.old (Call.Op (Op.PutIf key expected value))
-            me.new) }
+        ensures claims { OnOk result (Readies me.old.claims
+            (Call.Op (Op.PutIf key expected value)) me.new.claims) }
         ensures leaves { Leaves S.words_of me.old (Call.Op (Op.PutIf key expected value))
             result me.new }
     {
@@ -212,7 +214,7 @@ impl<L: Ledger> SharedMap<L> {
         ensures ok { IfOk result (λ reply. me.new.seen ≡ me.old.seen
             ++ entries.Asked me.old.number (Op.Get key) ∷ entries.Did me.old.number reply ∷ []) }
         ensures side { OnOk result (IsSameSide me.old.side me.new.side) }
-        ensures rights { OnOk result (RightsOf me.old (Call.Op (Op.Get key)) me.new) }
+        ensures claims { OnOk result (Readies me.old.claims (Call.Op (Op.Get key)) me.new.claims) }
         ensures leaves { Leaves S.words_of me.old (Call.Op (Op.Get key)) result me.new }
     {
         self.operate(rt, me, Op::Get(key))
@@ -236,7 +238,7 @@ impl<L: Ledger> SharedMap<L> {
         ensures level { IfOk result (λ level. (s : Seat) → seat_after me.new.seen ≡ Some s
             → length s.kept ≡ level + 1) }
         ensures side { OnOk result (HasLevel S.words_of me.old.side me.new.side) }
-        ensures rights { OnOk result (KeepsRights me.old.held me.new.held) }
+        ensures claims { OnOk result (me.new.claims ≡ me.old.claims) }
         ensures leaves { Leaves S.words_of me.old Call.Save result me.new }
     {
         match self.call(rt, me, Call::Save)? {
@@ -272,7 +274,7 @@ impl<L: Ledger> SharedMap<L> {
             ++ (entries.Leave me.old.number (Some level) ∷ undone_by me.old.number undone
             ++ entries.Returned me.old.number level ∷ []))) }
         ensures side { OnOk result (IsBackAt S.words_of level me.old.side me.new.side) }
-        ensures rights { OnOk result (KeepsRights me.old.held me.new.held) }
+        ensures claims { OnOk result (me.new.claims ≡ me.old.claims) }
         ensures leaves { Leaves S.words_of me.old (Call.Back level) result me.new }
     {
         match self.call(rt, me, Call::Back(level))? {
@@ -299,7 +301,7 @@ impl<L: Ledger> SharedMap<L> {
         ensures ok { IfOk result (λ receipt. (receipt.txn ≡ last_txn me.old.seen) × (me.new.seen
             ≡ me.old.seen ++ entries.Committed me.old.number receipt.place ∷ [])) }
         ensures side { OnOk result (IsSettled S.words_of me.old.side me.new.side) }
-        ensures rights { OnOk result (me.new.held ≡ []) }
+        ensures claims { OnOk result (me.new.claims ≡ given_back me.old.claims) }
         ensures leaves { Leaves S.words_of me.old Call.Commit result me.new }
     {
         let txn = me.txn();
@@ -330,7 +332,7 @@ impl<L: Ledger> SharedMap<L> {
             ++ (entries.Leave me.old.number None ∷ undone_by me.old.number undone
             ++ entries.Aborted me.old.number ∷ []))) }
         ensures side { OnOk result (IsBackAt S.words_of 0 me.old.side me.new.side) }
-        ensures rights { OnOk result (me.new.held ≡ []) }
+        ensures claims { OnOk result (me.new.claims ≡ given_back me.old.claims) }
         ensures leaves { Leaves S.words_of me.old Call.Abort result me.new }
     {
         match self.call(rt, me, Call::Abort)? {
@@ -364,10 +366,11 @@ impl<L: Ledger> SharedMap<L> {
         key: u64,
     ) -> Result<(), Stop>
         ensures ok { OnOk result (me.new.seen ≡ me.old.seen) }
+        ensures helped { OnOk result (WentOn me.old (Call.Help key) End.Helped me.new) }
         ensures side { OnOk result (IsSameSide me.old.side me.new.side) }
         ensures bad_key { me.old.broken ≡ false → (result ≡ Err (Stop.Refused Refusal.BadKey))
             ↔ (is_bad_key me.old.limits.half key ≡ true) }
-        ensures rights { OnOk result (KeepsRights me.old.held me.new.held) }
+        ensures claims { OnOk result (me.new.claims ≡ me.old.claims) }
         ensures leaves { Leaves S.words_of me.old (Call.Help key) result me.new }
     {
         let _seen = me.seen();
@@ -424,7 +427,7 @@ impl<L: Ledger> SharedMap<L> {
         ensures ok { IfOk result (λ reply. me.new.seen ≡ me.old.seen
             ++ entries.Asked me.old.number op ∷ entries.Did me.old.number reply ∷ []) }
         ensures side { OnOk result (IsSameSide me.old.side me.new.side) }
-        ensures rights { OnOk result (RightsOf me.old (Call.Op op) me.new) }
+        ensures claims { OnOk result (Readies me.old.claims (Call.Op op) me.new.claims) }
         ensures leaves { Leaves S.words_of me.old (Call.Op op) result me.new }
     {
         match self.call(rt, me, Call::Op(op))? {

@@ -3,7 +3,7 @@ ghost use Rattle.std.specs.Prelude.{◌≡◌, ◌<◌, [], true, None, IfErr, O
 ghost use Rattle.txn_trace.specs.Locks.{stripe_of};
 ghost use Rattle.txn_trace.specs.Map.{key_of};
 ghost use Rattle.boost_core.specs.Words.{Goes};
-ghost use Rattle.locked_map.specs.Claims.{GivesBack, HasTriedAt, HasTriedStep, MayGain, claim_in, new_claims};
+ghost use Rattle.locked_map.specs.Claims.{HasTriedAt, HasTriedStep, IsIdle, Tries, claim_in, claims_at};
 
 use boost_core::{Core, End};
 use key_words::{KeySeat, KeyWords, Rights, Tried};
@@ -31,8 +31,9 @@ impl Model for Claims {
     ghost Value = { Claimed };
 
     ghost view = { λ c. record {
-      number = (known c.rights.seat).number;
+      words = c.words.value.table.shared.table_id;
       stripes = stripes_of c.words.value;
+      seat = known c.rights.seat;
       held = c.rights.rights.items;
       tried = trial_of c.stripe c.tried;
     } };
@@ -47,7 +48,11 @@ impl Claims {
     pub(crate) fn new(alloc: Global, words: Arc<KeyWords, Global>, seat: KeySeat) -> Claims
         requires seat { IsOf seat words.value }
         requires held { (known seat).held ≡ [] }
-        ensures { result ≡ new_claims (known seat).number (stripes_of words.value) }
+        requires notes { (known seat).notes ≡ [] }
+        ensures words { result.words ≡ words.value.table.shared.table_id }
+        ensures stripes { result.stripes ≡ stripes_of words.value }
+        ensures number { result.seat.number ≡ (known seat).number }
+        ensures idle { IsIdle result }
     {
         Claims {
             words,
@@ -64,10 +69,7 @@ impl Claims {
     /// `AllocError` where memory is refused for one right more: then nothing has changed.
     pub(crate) fn try_word(&mut self, stripe: u64) -> Result<(), AllocError>
         requires { stripe < self.old.stripes }
-        ensures number { self.new.number ≡ self.old.number }
-        ensures stripes { self.new.stripes ≡ self.old.stripes }
-        ensures tried { OnOk result (HasTriedAt self.new.tried stripe) }
-        ensures rights { MayGain self.old.held stripe self.new.held }
+        ensures tries { OnOk result (Tries self.old stripe self.new) }
         ensures err { IfErr result (λ _. self.new ≡ self.old) }
     {
         let tried = self.rights.take(&*self.words, stripe as usize)?;
@@ -112,9 +114,7 @@ impl Claims {
     ///
     /// Takes no memory, and time in proportion to the rights.
     pub(crate) fn follow(&mut self, end: End)
-        ensures number { self.new.number ≡ self.old.number }
-        ensures stripes { self.new.stripes ≡ self.old.stripes }
-        ensures rights { GivesBack end self.old.held self.new.held }
+        ensures { self.new ≡ claims_at end self.old }
     {
         match end {
             End::Answered(Answer::Committed(_) | Answer::Aborted) | End::Busy(_) => {

@@ -55,7 +55,6 @@ impl<L: Ledger> SharedMap<L> {
         }
         let booked = self.into_booked();
         let same = is_seen(&booked.core, limits, callers.as_slice());
-        let _legal = booked.core.trace();
         let mut callers = callers;
         let core = core_of(booked, callers.as_mut_slice());
         if same {

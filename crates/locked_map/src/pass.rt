@@ -26,14 +26,19 @@ impl<L: Ledger> Model for Pass<L> {
 
     ghost Value = { Ticket };
 
-    ghost view = { λ p. record { number = p.number; limits = p.limits } };
+    ghost view = { λ p. record {
+      number = p.number;
+      limits = p.limits;
+      words = p.claims.words;
+    } };
 
     ghost invariant = { λ p. (p.share.parts ≡ 1) × (p.share.amount ≡ 0)
         × IsUnused p.number p.limits p.claims };
 }
 
 impl<L: Ledger> Pass<L> {
-    ghost use Rattle.locked_map.specs.Tokens.{IsUnused};
+    ghost use Rattle.locked_map.specs.Claims.{IsIdle};
+    ghost use Rattle.locked_map.specs.Tokens.{IsUnused, new_ticket};
 
     /// The pass of a number, with a share of one part that has counted nothing, and the number's
     /// seat.
@@ -41,7 +46,7 @@ impl<L: Ledger> Pass<L> {
         requires parts { share.parts ≡ 1 }
         requires amount { share.amount ≡ 0 }
         requires unused { IsUnused number limits claims }
-        ensures { result ≡ record { number = number; limits = limits } }
+        ensures { result ≡ new_ticket limits claims.words number }
     {
         Pass {
             number,
@@ -67,7 +72,8 @@ impl<L: Ledger> Pass<L> {
         ensures number { result.number ≡ self.number }
         ensures limits { result.limits ≡ self.limits }
         ensures seen { result.seen ≡ [] }
-        ensures held { result.held ≡ [] }
+        ensures words { result.claims.words ≡ self.words }
+        ensures idle { IsIdle result.claims }
         ensures broken { result.broken ≡ false }
         ensures value { result.side.value ≡ side }
         ensures levels { result.side.levels ≡ S.words_of side ∷ [] }

@@ -5,11 +5,12 @@ ghost use Rattle.txn_trace.specs.Owed.{owed_by};
 ghost use Rattle.txn_trace.specs.Shape.{Seat as Standing, seat_after};
 ghost use Rattle.txn_trace.specs.Seats.{refusal_in};
 ghost use Rattle.locked_map.specs.Noted.{HasRoomFor, adds_entry, began_by, last_txn};
+ghost use Rattle.locked_map.specs.Tokens.{is_over};
 
 use std::alloc::{AllocError, Global};
 use std::marker::Model;
 use std::sync::ledger::{Book, Ledger, Share};
-use txn_trace::{Answer, Entry, Limits, Refusal, Seat, Step, entry_of};
+use txn_trace::{Answer, Entry, Limits, Phase, Refusal, Seat, Step, entry_of};
 
 /// The entries that a caller's calls have added, in order, and the seat that they give it.
 ///
@@ -70,6 +71,13 @@ impl<L: Ledger> Seen<L> {
         ensures { result ≡ is_some (seat_after self.now.entries) }
     {
         self.is_whole
+    }
+
+    /// Whether no transaction is open.
+    pub(crate) fn is_over(&self) -> bool
+        ensures { result ≡ is_over (seat_after self.now.entries) }
+    {
+        !self.is_whole || matches!(self.seat.phase(), Phase::Closed)
     }
 
     /// The number of the last transaction that began.

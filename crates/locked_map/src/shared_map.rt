@@ -1,10 +1,12 @@
-ghost use Rattle.std.specs.Prelude.{◌≡◌, ◌<◌, ◌≤◌, IfOk, IfErr, map};
+ghost use Rattle.std.specs.Prelude.{◌≡◌, ◌<◌, ◌≤◌, true, IfOk, IfErr, map};
 ghost use Rattle.std.specs.List.{range_with_len};
 ghost use Rattle.txn_trace.specs.Shape.{seat_after};
 ghost use Rattle.txn_drive.specs.Drives.{first_phase};
 ghost use Rattle.locked_map.specs.Calls.{Ended, IsDone, Leaves, Ran};
-ghost use Rattle.locked_map.specs.Holds.{FitsIf, HasRun, is_out};
-ghost use Rattle.locked_map.specs.Tokens.{HasTried, IsSameCaller, IsSameClaims, new_ticket};
+ghost use Rattle.locked_map.specs.Holds.{FitsIf, HasRun, IsHeld, is_out};
+ghost use Rattle.locked_map.specs.Tokens.{AreTickets, HasTried, IsSameCaller, IsSameClaims, new_ticket};
+ghost use Rattle.txn_trace.specs.declared.holder.Holder.TheVariants.{Begun};
+ghost use Rattle.txn_trace.specs.Legal.{IsLegal};
 ghost use Rattle.key_words.specs.Seats.{AreSeats, stripes_of};
 
 use crate::booked::Booked;
@@ -12,7 +14,7 @@ use crate::caller::Caller;
 use crate::claims::Claims;
 use crate::pass::Pass;
 use crate::stop::Stop;
-use boost_core::{Call, Core, Drive, End};
+use boost_core::{Call, Drive, End};
 use key_words::{KeySeat, KeyWords, StripeRight};
 use std::alloc::{AllocError, Global};
 use std::sync::ledger::{Blank, Ledger, Share};
@@ -49,8 +51,9 @@ impl OnRelease for Unheard {
 }
 
 impl<L: Ledger> SharedMap<L> {
-    /// A new map, and a pass for each caller's number, rising. The blank ledger is to be named `L`
-    /// and to have one part for each caller.
+    /// A new map, and a pass for each caller's number, rising. The callers of all passes share the
+    /// words of its stripes, of which none is taken. The blank ledger is to be named `L` and to have
+    /// one part for each caller.
     ///
     /// # Errors
     ///
@@ -68,15 +71,13 @@ impl<L: Ledger> SharedMap<L> {
         requires parts { blank.parts ≡ L.parts }
         requires one_each { blank.parts ≡ limits.callers }
         ensures map { IfOk result (λ r. r.0.limits ≡ limits) }
-        ensures passes { IfOk result (λ r. r.1.items
-            ≡ map (new_ticket limits) (range_with_len 0 limits.callers)) }
+        ensures passes { IfOk result (λ r. AreTickets limits r.1.items) }
         ensures err { IfErr result (λ refusal. refusal ≡ Refusal.NoMemory) }
     {
         let (book, mut all) = blank.open::<L>();
         let none = all.empty();
-        let core = Core::with_words(alloc, limits)?;
+        let booked = Mutex::new(Booked::new(alloc, limits, book, none)?);
         let (words, seats) = words_of(alloc, limits)?;
-        let booked = Mutex::new(Booked { core, book, none });
         match passes_of(alloc, limits, words, seats, &mut all) {
             Ok(passes) => Ok((SharedMap { booked, limits }, passes)),
             Err(AllocError) => Err(Refusal::NoMemory),
@@ -90,10 +91,20 @@ impl<L: Ledger> SharedMap<L> {
         self.limits
     }
 
-    /// What lies under the lock.
-    pub fn into_booked(self) -> Booked<L> {
+    /// What lies under the lock, for who takes the holds of its calls by hand: a core whose stripes
+    /// are words and whose history is legal. The map is gone, and can be closed no more.
+    ///
+    /// # Cost
+    ///
+    /// Constant time; takes no memory.
+    pub fn into_booked(self) -> Booked<L>
+        ensures words { result.core.words ≡ true }
+        ensures legal { IsLegal Begun result.core.limits.stripes result.core.history }
+    {
         let SharedMap { booked, limits: _ } = self;
-        booked.into_inner()
+        let booked = booked.into_inner();
+        let _legal = booked.core.trace();
+        booked
     }
 
     /// Takes the turns of a call, each under a hold of its own, until the call has ended.
@@ -113,6 +124,7 @@ impl<L: Ledger> SharedMap<L> {
         ensures claims { IsSameClaims me.old me.new }
         ensures broken { me.new.broken ≡ is_out result }
         ensures run { HasRun me.old.seen me.new.seen me.old.number call result }
+        ensures held { IsHeld me.old call result me.new }
     {
         let mut drive = Drive::new(me.number(), call, me.limits());
         for _ in rt.forever() {
@@ -210,7 +222,8 @@ fn passes_of<L: Ledger>(
     requires parts { all.old.parts ≡ limits.callers }
     requires amount { all.old.amount ≡ 0 }
     ensures { IfOk result (λ passes. passes.items
-        ≡ map (new_ticket limits) (range_with_len 0 limits.callers)) }
+        ≡ map (new_ticket limits words.value.table.shared.table_id)
+        (range_with_len 0 limits.callers)) }
 {
     let mut passes = Vec::with_capacity(alloc, seats.len())?;
     while let Some(seat) = seats.pop() {

@@ -30,7 +30,7 @@ pub(crate) fn take_turn<L: Ledger>(
     turn: Turn,
 ) -> bool
     requires turn { turn ≡ turn_of drive.old }
-    requires may { MayTake claims.now booked.old.core seen.old.entries drive.old.call }
+    requires may { MayTake claims.now booked.old.core seen.old.entries drive.old }
     ensures { TurnTaken claims.now.tried booked.old.core seen.old.entries drive.old turn
         result booked.new.core seen.new.entries drive.new }
 {
@@ -56,7 +56,7 @@ fn take_other<L: Ledger>(
     step: Step,
 ) -> bool
     requires turn { Turn.One step ≡ turn_of drive.old }
-    requires may { MayTake claims.now booked.old.core seen.old.entries drive.old.call }
+    requires may { MayTake claims.now booked.old.core seen.old.entries drive.old }
     ensures { TurnTaken claims.now.tried booked.old.core seen.old.entries drive.old
         (Turn.One step) result booked.new.core seen.new.entries drive.new }
 {
@@ -73,7 +73,7 @@ fn take_one<L: Ledger>(
     step: Step,
 ) -> bool
     requires turn { Turn.One step ≡ turn_of drive.old }
-    requires may { MayTake claims.now booked.old.core seen.old.entries drive.old.call }
+    requires may { MayTake claims.now booked.old.core seen.old.entries drive.old }
     ensures { TurnTaken claims.now.tried booked.old.core seen.old.entries drive.old
         (Turn.One step) result booked.new.core seen.new.entries drive.new }
 {
@@ -96,7 +96,7 @@ fn take_two<L: Ledger>(
     second: Step,
 ) -> bool
     requires turn { Turn.Two first second ≡ turn_of drive.old }
-    requires may { MayTake claims.now booked.old.core seen.old.entries drive.old.call }
+    requires may { MayTake claims.now booked.old.core seen.old.entries drive.old }
     ensures { TurnTaken claims.now.tried booked.old.core seen.old.entries drive.old
         (Turn.Two first second) result booked.new.core seen.new.entries drive.new }
 {
@@ -122,7 +122,7 @@ fn take<L: Ledger>(
     step: Step,
 ) -> Answer
     requires step { step_of drive.old ≡ Some step }
-    requires may { MayTake claims.now booked.old.core seen.old.entries drive.old.call }
+    requires may { MayTake claims.now booked.old.core seen.old.entries drive.old }
     requires room { HasRoomFor seen.old step }
     ensures takes { Takes claims.now.tried booked.old.core seen.old.entries drive.old step result
         booked.new.core seen.new.entries drive.new }

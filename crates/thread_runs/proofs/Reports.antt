@@ -6,6 +6,7 @@ use Rattle.std.proofs.lemmas.List.FromFn.{length-map-range_with_len, get_or-map-
 use Rattle.std.proofs.Math.Nat.{mod-lt}
 use Rattle.std.proofs.lemmas.List.{get_or-map, length-map, length-reverse, reverse-reverse}
 use Rattle.std.proofs.lemmas.Option.{slice_get_cases}
+use Rattle.atomic_table.specs.Seated.{TableId}
 use Rattle.txn_trace.specs.declared.holder.Holder.TheVariants.{Begun}
 use Rattle.txn_trace.specs.declared.action.Action.{Action}
 use Rattle.txn_trace.specs.declared.entry.Entry.{Entry}
@@ -26,9 +27,9 @@ use Rattle.thread_runs.proofs.Lists.{all_at, get_map, map_get}
 use Rattle.thread_runs.proofs.Working.{all_true, told_within}
 
 -- A report of a pass that has this number and these limits.
-pub reported_at : {L : Type 0} (limits : Sizes) (workers tries : ℕ) (scripts : List (List Action)) (c : ℕ) (pass : Ticket) (report : WorkerReport L) → pass ≡ new_ticket limits c → HasReported pass.limits.half workers tries scripts pass.number report
+pub reported_at : {L : Type 0} (limits : Sizes) (words : TableId) (workers tries : ℕ) (scripts : List (List Action)) (c : ℕ) (pass : Ticket) (report : WorkerReport L) → pass ≡ new_ticket limits words c → HasReported pass.limits.half workers tries scripts pass.number report
     → HasReported limits.half workers tries scripts c report
-reported_at limits workers tries scripts c pass report is = subst (λ (t : Ticket). HasReported t.limits.half workers tries scripts t.number report) is
+reported_at limits words workers tries scripts c pass report is = subst (λ (t : Ticket). HasReported t.limits.half workers tries scripts t.number report) is
 
 -- Reports of a work that has these numbers and scripts.
 pub reported_as : {L : Type 0} (half : Bool) (workers workers' tries tries' : ℕ) (scripts scripts' : List (List Action)) (reports : List (WorkerReport L)) → workers' ≡ workers → tries' ≡ tries → scripts' ≡ scripts

@@ -1,7 +1,6 @@
 //! The workers' threads.
 ghost use Rattle.std.specs.Prelude.{◌≡◌, IfOk, IfErr, length, map};
-ghost use Rattle.std.specs.List.{range_with_len};
-ghost use Rattle.locked_map.specs.Tokens.{new_ticket};
+ghost use Rattle.locked_map.specs.Tokens.{AreTickets};
 ghost use Rattle.thread_runs.specs.Each.{Each};
 ghost use Rattle.thread_runs.specs.Runs.{HasReported, IsRunRefusal};
 
@@ -43,7 +42,7 @@ pub(crate) fn in_threads<
     orders: &Orders<L, G, T>,
     passes: Vec<Pass<L>>,
 ) -> Result<Vec<WorkerReport<L>>, Refusal>
-    requires { passes.items ≡ map (new_ticket limits) (range_with_len 0 limits.callers) }
+    requires { AreTickets limits passes.items }
     ensures len { IfOk result (λ reports. length reports.items ≡ limits.callers) }
     ensures each { IfOk result (λ reports.
         Each (HasReported limits.half T.workers T.tries T.scripts) reports.items) }
@@ -53,7 +52,7 @@ pub(crate) fn in_threads<
         thread::scope_env(),
         rt,
         |scope| -> Result<Vec<WorkerReport<L>>, Refusal>
-            requires { passes.items ≡ map (new_ticket limits) (range_with_len 0 limits.callers) }
+            requires { AreTickets limits passes.items }
             ensures len { IfOk result (λ reports. length reports.items ≡ limits.callers) }
             ensures each { IfOk result (λ reports.
                 Each (HasReported limits.half T.workers T.tries T.scripts) reports.items) }
@@ -88,8 +87,7 @@ fn join_all<L: Ledger, T: Terms, R: Threads>(
     limits: Limits,
     threads: Vec<PromisedHandle<Result<WorkerReport<L>, AllocError>, Runs<L, T>>>,
 ) -> Result<Vec<WorkerReport<L>>, AllocError>
-    requires { map (λ thread. thread.promise.pass.value) threads.items
-        ≡ map (new_ticket limits) (range_with_len 0 limits.callers) }
+    requires { AreTickets limits (map (λ thread. thread.promise.pass.value) threads.items) }
     ensures len { IfOk result (λ reports. length reports.items ≡ limits.callers) }
     ensures each { IfOk result (λ reports.
         Each (HasReported limits.half T.workers T.tries T.scripts) reports.items) }

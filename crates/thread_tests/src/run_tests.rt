@@ -14,7 +14,7 @@ use txn_trace::{Action, Entry, Limits, Op, Refusal, Script};
 
 /// Runs scripts on so many workers, on a map of so many stripes. A script that finds a stripe held
 /// is tried again so often.
-fn run<G: Gate, R: Threads + Wait + Sync>(
+pub(crate) fn run<G: Gate, R: Threads + Wait + Sync>(
     rt: &R,
     alloc: Global,
     scripts: &[Script],
@@ -32,7 +32,7 @@ fn run<G: Gate, R: Threads + Wait + Sync>(
 }
 
 /// Scripts of these actions, a list for each.
-fn scripts_of(alloc: Global, lists: &[&[Action]]) -> Result<Vec<Script>, AllocError> {
+pub(crate) fn scripts_of(alloc: Global, lists: &[&[Action]]) -> Result<Vec<Script>, AllocError> {
     let mut scripts = Vec::new(alloc);
     for list in lists {
         let mut actions = Vec::new(alloc);
@@ -42,7 +42,7 @@ fn scripts_of(alloc: Global, lists: &[&[Action]]) -> Result<Vec<Script>, AllocEr
     Ok(scripts)
 }
 
-const fn put(key: u64, value: u64) -> Action {
+pub(crate) const fn put(key: u64, value: u64) -> Action {
     Action::Op(Op::Put(key, value))
 }
 
@@ -50,7 +50,7 @@ const fn put(key: u64, value: u64) -> Action {
 const TURNS: u64 = 20_000;
 
 /// Waits until a flag is set. The test fails where that takes too long.
-fn await_flag<R: Abort + Clock>(rt: &R, flag: &AtomicBool) {
+pub(crate) fn await_flag<R: Abort + Clock>(rt: &R, flag: &AtomicBool) {
     for _ in 0..TURNS {
         if flag.load(Ordering::SeqCst) {
             return;

@@ -19,8 +19,8 @@ loop-thread-preserved g c =
     let reports = c.loop-thread.reports.items in
     let items = c.in_ok-push.ensures.items in
     let turn = YieldsList-turn (YieldsList-from_vec {s = c.into_iter-thread-iterator.result} c.args.threads.items began.0 (began.1 ∙ c.args.threads.ok.0)) c.loop-thread.yielded c.loop-thread.thread-iterator c.loop-thread.yielded_by c.next.result c.next.new.self thread c.in-Some.is c.next.ensures.steps in
-    let pass = shown_at (λ t. t.promise.pass.value) (new_ticket c.args.limits) c.args.limits.callers c.args.threads.items _ thread c.requires turn in
-    let here = reported_at c.args.limits g.T.Terms.workers g.T.Terms.tries g.T.Terms.scripts _ _ report pass c.in_ok-report.ensures in
+    let pass = shown_at (λ t. t.promise.pass.value) (new_ticket c.args.limits c.requires.words) c.args.limits.callers c.args.threads.items _ thread c.requires.are turn in
+    let here = reported_at c.args.limits c.requires.words g.T.Terms.workers g.T.Terms.tries g.T.Terms.scripts _ _ report pass c.in_ok-report.ensures in
     let P = HasReported c.args.limits.half g.T.Terms.workers g.T.Terms.tries g.T.Terms.scripts in (
       ap length items ∙ length_push reports report ∙ ap (λ (n : ℕ). n + 1) inv.0 ∙ sym (length_push c.loop-thread.yielded thread),
       subst (λ rs. Each P rs) (sym items) (each_push P reports report inv.1 (subst (λ (n : ℕ). P n report) (sym inv.0) here)),
@@ -30,4 +30,4 @@ pub returns-clause-len : goal.returns-clause-len
 returns-clause-len g c =
     let began = c.into_iter-thread-iterator.ensures.into_iter_gives in
     let whole = YieldsList-end (YieldsList-from_vec {s = c.into_iter-thread-iterator.result} c.args.threads.items began.0 (began.1 ∙ c.args.threads.ok.0)) c.loop-thread.yielded c.loop-thread.thread-iterator c.loop-thread.yielded_by c.next.result c.next.new.self c.in-None.is c.next.ensures.steps in
-    c.loop-thread.invariant.0 ∙ whole.1 ∙ sym (length-map c.args.threads.items (λ t. t.promise.pass.value)) ∙ ap length c.requires ∙ length-map-range_with_len (new_ticket c.args.limits) 0 c.args.limits.callers
+    c.loop-thread.invariant.0 ∙ whole.1 ∙ sym (length-map c.args.threads.items (λ t. t.promise.pass.value)) ∙ ap length c.requires.are ∙ length-map-range_with_len (new_ticket c.args.limits c.requires.words) 0 c.args.limits.callers

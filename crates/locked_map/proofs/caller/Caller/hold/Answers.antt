@@ -1,9 +1,17 @@
-use Rattle.std.proofs.Common.{◌≡◌, ℕ, List, true, false, refl, sym, ap, subst, ◌∙◌}
+use Rattle.std.proofs.Common.{rules, ◌≡◌, ℕ, List, true, false, refl, sym, ap, subst, ◌∙◌}
 use Rattle.std.specs.List.{filter}
 use Rattle.txn_trace.specs.History.{is_commit}
 use Rattle.txn_trace.specs.Sizes.{Sizes}
+use Rattle.locked_map.proofs.Claiming.{may_next}
 use Rattle.locked_map.proofs.Holding.{ins_sized, goes_on_sized, no_room_run, broken_run, broken_ends, held_no_room, held_took, held_in_step, goes_held}
 use Rattle.locked_map.proofs.caller.Caller.hold.Goals as goal
+
+pub take_turn-requires-clause-may : goal.take_turn-requires-clause-may
+take_turn-requires-clause-may g c = record {
+  whole = search rules;
+  stripes = search rules;
+  tried = may_next _ _ _ _ _ _ c.self.view_is c.self.invariant.0.stripes c.turn-turn.ensures.drive c.requires.tried;
+}
 
 pub returns-then-self-clause-goes : goal.returns-then-self-clause-goes
 returns-then-self-clause-goes g c = λ base goes.
@@ -24,7 +32,7 @@ returns-then-not-take_turn-clause-goes g c = λ base goes.
 pub returns-clause-held : goal.returns-clause-held
 returns-clause-held g c =
     held_took _ _ _ _ _ _ _ _ _ _ _ _ _ c.self.view_is c.if-self.false c.size.ensures c.turn-turn.ensures.drive c.turn-turn.ensures.turn (sym (ap (λ (z : Sizes). z.stripes) c.limits.ensures) ∙ sym c.stripes.ensures.value ∙ c.if-stripes.false ∙ c.stripes-2.ensures.value) (c.take_turn.ensures.took c.if-not-take_turn.false) c.is_whole.ensures c.ended-end.ensures.drive
-    c.breaks-self-inside.ensures c.end_in.ensures (record { number = refl; limits = refl }) (record { held = refl; tried = refl }) refl
+    c.breaks-self-inside.ensures c.end_in.ensures (record { number = refl; limits = refl }) refl refl
 
 pub returns-clause-in_step : goal.returns-clause-in_step
 returns-clause-in_step g c = λ ins.

@@ -1,6 +1,6 @@
 use Rattle.std.proofs.Common.{◌≡◌, ◌↔◌, ◌∙◌, ℕ, Bool, true, false, All, IsTrue, List, sym, ap, subst}
 use Rattle.std.proofs.lemmas.Bool.{false≢true}
-use Rattle.boost_core.specs.State.{State, holder_by}
+use Rattle.boost_core.specs.State.{State}
 use Rattle.txn_trace.specs.declared.holder.Holder.TheVariants.{Begun}
 use Rattle.txn_trace.specs.Legal.{IsLegal}
 use Rattle.txn_trace.specs.declared.entry.Entry.{Entry}
@@ -29,7 +29,7 @@ pub returns-then-same-clause-legal : goal.returns-then-same-clause-legal
 returns-then-same-clause-legal g c =
     let core = c.into_booked-booked.result.core in
     subst (λ (s : State). IsLegal Begun s.limits.stripes s.history) (sym c.core_of-core.ensures.core)
-    (subst (λ words. IsLegal (holder_by words) core.limits.stripes core.history) c.into_booked-booked.result.of_words c.trace-legal.ensures.legal)
+    c.into_booked-booked.ensures.legal
 
 pub returns-else-same-clause-why : goal.returns-else-same-clause-why
 returns-else-same-clause-why g c =

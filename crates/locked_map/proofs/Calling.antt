@@ -1,0 +1,124 @@
+-- What a call leaves of its caller, by how its holds have ended it.
+use Rattle.std.proofs.Common.{◌≡◌, ◌∙◌, ℕ, ◌+◌, ◌<◌, Bool, true, false, not, List, [], ◌∷◌, ◌++◌, None, Option, inl, inr, is_some, length, take, arith, refl, sym, ap, subst}
+use Rattle.std.specs.Prelude.{slice_get}
+use Rattle.std.proofs.lemmas.Bool.{false≢true}
+use Rattle.std.proofs.lemmas.List.{append-nil}
+use Rattle.txn_trace.specs.declared.answer.Answer.{Answer}
+use Rattle.txn_trace.specs.declared.answer.Answer.TheVariants as answers
+use Rattle.txn_trace.specs.declared.entry.Entry.{Entry}
+use Rattle.txn_trace.specs.declared.refusal.Refusal.{Refusal}
+use Rattle.txn_trace.specs.declared.refusal.Refusal.TheVariants.{OutOfStep}
+use Rattle.txn_trace.specs.Shape.{seat_after}
+use Rattle.txn_drive.specs.declared.call.Call.{Call}
+use Rattle.txn_drive.specs.declared.call.Call.TheVariants.{Back}
+use Rattle.txn_drive.specs.declared.«end».End.{End}
+use Rattle.txn_drive.specs.declared.«end».End.TheVariants as ends
+use Rattle.txn_drive.specs.Made.{IsMade}
+use Rattle.undo_log.specs.SideValue.{Leveled}
+use Rattle.locked_map.specs.Calls.{Ended, FellOut, IsDone, Passed, Ran, WentOn, refused_by}
+use Rattle.locked_map.specs.Claims.{Readies, claims_at}
+use Rattle.locked_map.specs.Holds.{HasRun, IsHeld, is_out}
+use Rattle.locked_map.specs.Sides.{Follows, IsBackAt, IsSameSide}
+use Rattle.locked_map.specs.Suits.{may_refuse}
+use Rattle.locked_map.specs.Tokens.{Token, IsSameCaller, IsSameSeen}
+
+back_on : {S : Type 0} (words : S → List ℕ) (level : ℕ) (a b c : Leveled S) → IsSameSide a b → IsBackAt words level b c → IsBackAt words level a c
+back_on words level a b c same on = record {
+  value = ap (λ ls. slice_get ls level) (sym same.levels) ∙ on.value;
+  levels = on.levels ∙ ap (take (level + 1)) same.levels;
+  changes = ap (λ ns. slice_get ns level) (sym same.kept) ∙ on.changes;
+  kept = on.kept ∙ ap (take (level + 1)) same.kept;
+}
+
+-- A side value follows an end as well from where it was the same.
+follows_on : {S : Type 0} (words : S → List ℕ) (outcome : End) (a b c : Leveled S) → IsSameSide a b → Follows words outcome b c → Follows words outcome a c
+follows_on words (ends.Answered (answers.Began t)) a b c same on =
+    record { value = on.value ∙ same.value; levels = on.levels ∙ ap (λ v. words v ∷ []) same.value; changes = on.changes; kept = on.kept }
+follows_on words (ends.Answered (answers.Committed p)) a b c same on =
+    record { value = on.value ∙ same.value; levels = on.levels ∙ ap (λ v. words v ∷ []) same.value; changes = on.changes; kept = on.kept }
+follows_on words (ends.Answered (answers.Saved n)) a b c same on =
+    record { value = on.value ∙ same.value; levels = on.levels ∙ cc (same.levels, same.value); changes = on.changes ∙ same.changes; kept = on.kept ∙ cc (same.kept, same.changes) }
+follows_on words (ends.Answered (answers.Returned n)) a b c same on = back_on words n a b c same on
+follows_on words (ends.Answered answers.Aborted) a b c same on = back_on words 0 a b c same on
+follows_on words (ends.Busy holder) a b c same on = back_on words 0 a b c same on
+follows_on words outcome a b c same on =
+    record { value = on.value ∙ same.value; levels = on.levels ∙ same.levels; changes = on.changes ∙ same.changes; kept = on.kept ∙ same.kept }
+
+-- A call that its token let pass: `r` was ready for its holds, which left `h`, whose end `l` followed.
+module _ {S : Type 0} (words : S → List ℕ) (k r h l : Token S) (call : Call) (free : refused_by k call ≡ None) (same : IsSameSeen k r) (side : IsSameSide k.side r.side) (readied : Readies k.claims call r.claims) (held_side : h.side ≡ r.side)
+    (caller : IsSameCaller r h) (kept : h.claims ≡ r.claims) (followed : IsSameSeen h l) where
+  whose : IsSameCaller k l
+  whose = record { number = followed.whose.number ∙ caller.number ∙ same.whose.number; limits = followed.whose.limits ∙ caller.limits ∙ same.whose.limits }
+
+  went_on : (outcome : End) → IsHeld r call outcome h → l.claims ≡ claims_at outcome h.claims → WentOn k call outcome l
+  went_on outcome held claims = record { ready = r; same = same; readied = readied; last = h; held = held; seen = followed.seen; claims = claims ∙ ap (claims_at outcome) kept }
+
+  side_is : (outcome : End) → Follows words outcome h.side l.side → Follows words outcome k.side l.side
+  side_is outcome follows = follows_on words outcome k.side r.side l.side side (subst (λ (x : Leveled S). Follows words outcome x l.side) held_side follows)
+
+  seen_is : (added : List Entry) → h.seen ≡ r.seen ++ added → l.seen ≡ k.seen ++ added
+  seen_is added entries = followed.seen ∙ entries ∙ ap (λ es. es ++ added) same.seen
+
+  ran_of : (outcome : End) → is_out outcome ≡ false → h.broken ≡ is_out outcome → HasRun r.seen h.seen r.number call outcome → IsHeld r call outcome h → Follows words outcome h.side l.side → l.claims ≡ claims_at outcome h.claims → Ran words k call outcome l
+  ran_of outcome plain broken run held follows claims = record {
+    free = free;
+    whose = whose;
+    sound = followed.broken ∙ broken ∙ plain;
+    added = run.added;
+    entries = seen_is run.added run.entries;
+    made = subst (λ (c : ℕ). IsMade c call outcome run.added) same.whose.number run.made;
+    side = side_is outcome follows;
+    went = went_on outcome held claims;
+  }
+
+  plain_may : (b : Bool) → not b ≡ false → b ≡ true
+  plain_may true is = refl
+  plain_may false is = absurd (false≢true (sym is))
+
+  pub ended_of : (outcome : End) → h.broken ≡ is_out outcome → HasRun r.seen h.seen r.number call outcome → IsHeld r call outcome h → Follows words outcome h.side l.side → l.claims ≡ claims_at outcome h.claims → Ended words k call outcome l
+  ended_of (ends.Refused OutOfStep) broken run held follows claims = inr (
+    free,
+    record {
+      whose = whose;
+      broken = followed.broken ∙ broken;
+      added = run.added;
+      entries = seen_is run.added run.entries;
+      quiet = λ whole. run.quiet (subst (λ es. is_some (seat_after es) ≡ true) followed.seen whole);
+      side = side_is (ends.Refused OutOfStep) follows;
+      cause = inr (went_on (ends.Refused OutOfStep) held claims);
+    },
+  )
+  ended_of (ends.Refused refusal) broken run held follows claims = inr (
+    free,
+    record {
+      may = plain_may (may_refuse call refusal) run.may;
+      whose = whose;
+      sound = followed.broken ∙ broken;
+      seen = followed.seen ∙ run.entries ∙ ap (λ es. r.seen ++ es) run.made ∙ append-nil r.seen ∙ same.seen;
+      side = side_is (ends.Refused refusal) follows;
+      cause = inr (went_on (ends.Refused refusal) held claims);
+    },
+  )
+  ended_of (ends.Answered a) broken run held follows claims = ran_of (ends.Answered a) refl broken run held follows claims
+  ended_of ends.Helped broken run held follows claims = ran_of ends.Helped refl broken run held follows claims
+  ended_of (ends.Busy x) broken run held follows claims = ran_of (ends.Busy x) refl broken run held follows claims
+
+-- A call that did what it was asked.
+pub passed_of : {S : Type 0} (words : S → List ℕ) (k l : Token S) (call : Call) (outcome : End) → IsDone outcome → Ran words k call outcome l → Passed k call l
+passed_of words k l call outcome done ran = record { free = ran.free; whose = ran.whose; sound = ran.sound; outcome = outcome; done = done; went = ran.went }
+
+-- A return to a level that the side value has not.
+pub lacks_level : {S : Type 0} (k t : Token S) (call : Call) (level n : ℕ) → t ≡ k → call ≡ Back level → n + 1 ≡ length t.side.levels → n < level → FellOut k call (record t { broken = true })
+lacks_level {S} k t call level n view is as_many above =
+    subst (λ (x : Token S). FellOut x call (record t { broken = true })) view (subst (λ x. FellOut t x (record t { broken = true })) (sym is) fell)
+  where
+    fell : FellOut t (Back level) (record t { broken = true })
+    fell = record {
+      whose = record { number = refl; limits = refl };
+      broken = refl;
+      added = [];
+      entries = sym (append-nil t.seen);
+      quiet = λ whole. refl;
+      side = record { value = refl; levels = refl; changes = refl; kept = refl };
+      cause = inl (omega (arith, as_many, above), refl, refl);
+    }

@@ -1,0 +1,129 @@
+//! What lies under the lock of a new map, and what a map that is closed hands out: no contract sees
+//! through the lock.
+use super::rows::play_rows;
+use crate::devices::{Play, Shared, Told, callers_of, close, play_with};
+use boost_core::{Call, Core};
+use locked_map::Pass;
+use std::alloc::Global;
+use std::process::Abort;
+use std::sync::Wait;
+use std::sync::ledger::Ledger;
+use std::test::Fail;
+use txn_trace::{Answer, Limits, Op, Refusal, Step};
+
+/// Takes a step that asks for no operation; none for one that does.
+fn step(core: &mut Core, step: Step) -> Option<Answer> {
+    match step {
+        Step::Ask(..) => None,
+        _ => Some(core.step(step)),
+    }
+}
+
+/// The steps are answered so.
+fn play_steps<R: Abort>(rt: &R, core: &mut Core, steps: &[(Step, Answer)]) {
+    for &(what, wanted) in steps {
+        assert_eq!(rt; step(core, what), Some(wanted), "{what:?}");
+    }
+}
+
+/// A map that is closed at once. Its core has two buckets, nothing to sweep, and no helper that has
+/// sought.
+struct Unused;
+
+impl Play for Unused {
+    fn play<L: Ledger, R: Wait + Abort>(
+        &self,
+        rt: &R,
+        alloc: Global,
+        shared: Shared<L>,
+        passes: Vec<Pass<L>>,
+    ) -> Result<(), Fail> {
+        let callers = callers_of(alloc, passes)?;
+        let mut closed = close(shared, callers)?;
+        assert!(rt; closed.core.limits() == Limits::new(2, 8, 8)?);
+        assert!(rt; closed.core.words() && closed.core.trace().is_empty());
+        assert_eq!(rt; closed.core.count(), 0);
+        let steps = [
+            (Step::InitLink(0), Answer::Refused(Refusal::HelperOutOfOrder)),
+            (Step::InitLink(1), Answer::Refused(Refusal::HelperOutOfOrder)),
+            (Step::Sweep, Answer::Clean),
+            (Step::Double(2), Answer::Light),
+            (Step::InitSeek(0, 0), Answer::Ready),
+            (Step::InitSeek(0, 1), Answer::Placed),
+            (Step::Begin(1), Answer::Began(1)),
+        ];
+        play_steps(rt, &mut closed.core, steps.as_slice());
+        Ok(())
+    }
+}
+
+#[test]
+fn new_core(rt: HostRuntime) -> Result<(), Fail> {
+    play_with(&rt, rt.alloc(), 2, &Unused)
+}
+
+/// The node of a key that is taken is marked, and nobody seeks past it: the core that is handed out
+/// has it still.
+struct Marked;
+
+impl Play for Marked {
+    fn play<L: Ledger, R: Wait + Abort>(
+        &self,
+        rt: &R,
+        alloc: Global,
+        shared: Shared<L>,
+        passes: Vec<Pass<L>>,
+    ) -> Result<(), Fail> {
+        let mut callers = callers_of(alloc, passes)?;
+        let rows = [
+            (0, Call::Begin, Ok(Told::Number(1))),
+            (0, Call::Op(Op::Put(1, 10)), Ok(Told::Replied(None))),
+            (0, Call::Op(Op::Take(1)), Ok(Told::Replied(Some(10)))),
+            (0, Call::Commit, Ok(Told::Committed(1, 1))),
+        ];
+        play_rows(rt, &shared, callers.as_mut_slice(), rows.as_slice());
+        let mut closed = close(shared, callers)?;
+        let steps = [
+            (Step::Sweep, Answer::Swept),
+            (Step::Sweep, Answer::Clean),
+            (Step::Begin(0), Answer::Began(2)),
+        ];
+        play_steps(rt, &mut closed.core, steps.as_slice());
+        Ok(())
+    }
+}
+
+#[test]
+fn marked_node_at_close(rt: HostRuntime) -> Result<(), Fail> {
+    play_with(&rt, rt.alloc(), 1, &Marked)
+}
+
+/// A token without a transaction tries no word, so nobody finds its stripe held.
+struct Idle;
+
+impl Play for Idle {
+    fn play<L: Ledger, R: Wait + Abort>(
+        &self,
+        rt: &R,
+        alloc: Global,
+        shared: Shared<L>,
+        passes: Vec<Pass<L>>,
+    ) -> Result<(), Fail> {
+        let mut callers = callers_of(alloc, passes)?;
+        let me = callers.first_mut().ok_or("caller 0")?;
+        assert_eq!(rt; me.try_word(Op::Get(1)), Err(Refusal::NotOpen));
+        let rows = [
+            (1, Call::Begin, Ok(Told::Number(1))),
+            (1, Call::Op(Op::Put(1, 10)), Ok(Told::Replied(None))),
+        ];
+        play_rows(rt, &shared, callers.as_mut_slice(), rows.as_slice());
+        let idle = callers.iter().map(|me| me.is_idle());
+        assert!(rt; idle.eq([true, false]));
+        Ok(())
+    }
+}
+
+#[test]
+fn idle_token(rt: HostRuntime) -> Result<(), Fail> {
+    play_with(&rt, rt.alloc(), 2, &Idle)
+}

@@ -1,0 +1,80 @@
+//! Who hears of releases hears of each hold of the lock, once.
+use crate::devices::{Play, Shared, callers_of, play_with, run_heard};
+use boost_core::Call;
+use locked_map::{Caller, NoSide, OnRelease, Pass};
+use std::alloc::Global;
+use std::process::Abort;
+use std::sync::Wait;
+use std::sync::atomic::{AtomicU64, Ordering};
+use std::sync::ledger::Ledger;
+use std::test::Fail;
+use txn_trace::Op;
+
+/// Counts releases.
+struct Count {
+    releases: AtomicU64,
+}
+
+impl OnRelease for Count {
+    fn on_release(&self) {
+        self.releases.fetch_add(1, Ordering::SeqCst);
+    }
+}
+
+/// How many releases a call tells of.
+fn releases_of<L: Ledger, R: Wait>(
+    rt: &R,
+    shared: &Shared<L>,
+    me: &mut Caller<L, NoSide>,
+    call: Call,
+) -> u64 {
+    let count = Count {
+        releases: AtomicU64::new(0),
+    };
+    run_heard(rt, shared, me, call, &count);
+    count.releases.load(Ordering::SeqCst)
+}
+
+/// One caller. A call that its token refuses takes no lock. A bucket is initialised by three holds,
+/// an operation takes three, and where changes are taken back there are three and two for each.
+struct OneEach;
+
+impl Play for OneEach {
+    fn play<L: Ledger, R: Wait + Abort>(
+        &self,
+        rt: &R,
+        alloc: Global,
+        shared: Shared<L>,
+        passes: Vec<Pass<L>>,
+    ) -> Result<(), Fail> {
+        let mut callers = callers_of(alloc, passes)?;
+        let me = callers.first_mut().ok_or("caller 0")?;
+        for (call, wanted) in [
+            (Call::Commit, 0),
+            (Call::Help(0), 1),
+            (Call::Help(1), 4),
+            (Call::Begin, 1),
+            (Call::Begin, 0),
+            (Call::Op(Op::Put(1, 10)), 3),
+            (Call::Op(Op::Get(1)), 3),
+            (Call::Save, 1),
+            (Call::Op(Op::Put(3, 30)), 3),
+            (Call::Back(1), 5),
+            (Call::Back(2), 0),
+            (Call::Op(Op::PutIf(1, Some(10), 11)), 3),
+            (Call::Commit, 1),
+            (Call::Begin, 1),
+            (Call::Op(Op::Take(1)), 3),
+            (Call::Abort, 5),
+        ] {
+            let releases = releases_of(rt, &shared, me, call);
+            assert_eq!(rt; releases, wanted, "{call:?}");
+        }
+        Ok(())
+    }
+}
+
+#[test]
+fn one_release_a_hold(rt: HostRuntime) -> Result<(), Fail> {
+    play_with(&rt, rt.alloc(), 1, &OneEach)
+}
