@@ -11,7 +11,6 @@ use Rattle.key_words.specs.Seats.{known}
 use Rattle.key_words.specs.Steps.{gained, with_note}
 use Rattle.locked_map.specs.Claims.{Claimed, InHand, WasFree, WasHeld, Tries, Trial, trial, trial_of}
 
-
 held_or_not : (n : ℕ) → (0 < n) ⊎ (0 < n → ⊥)
 held_or_not zero = inr (λ some. omega arith)
 held_or_not (suc n) = inl (omega arith)
