@@ -84,7 +84,12 @@ fn heard_of<R: Threads + Wait + Abort + Clock + Sync>(
 }
 
 /// What is heard of one worker.
-fn own(alloc: Global, heard: &[Heard], worker: usize, workers: usize) -> Result<Vec<Heard>, AllocError> {
+fn own(
+    alloc: Global,
+    heard: &[Heard],
+    worker: usize,
+    workers: usize,
+) -> Result<Vec<Heard>, AllocError> {
     let mut own = Vec::new(alloc);
     for &call in heard {
         if call.worker(workers) == worker {
@@ -158,7 +163,10 @@ fn two_workers_are_heard(rt: HostRuntime) -> Result<(), Fail> {
             (Heard::Done(worker), 1),
         ];
         let own = own(rt.alloc(), heard.as_slice(), worker, 2)?;
-        assert!(&rt; is_heard(own.as_slice(), wanted.as_slice()), "worker {worker}");
+        assert!(&rt;
+            is_heard(own.as_slice(), wanted.as_slice()),
+            "worker {worker}"
+        );
     }
     Ok(())
 }

@@ -44,8 +44,14 @@ impl Play for Unused {
         assert!(rt; closed.core.words() && closed.core.trace().is_empty());
         assert_eq!(rt; closed.core.count(), 0);
         let steps = [
-            (Step::InitLink(0), Answer::Refused(Refusal::HelperOutOfOrder)),
-            (Step::InitLink(1), Answer::Refused(Refusal::HelperOutOfOrder)),
+            (
+                Step::InitLink(0),
+                Answer::Refused(Refusal::HelperOutOfOrder),
+            ),
+            (
+                Step::InitLink(1),
+                Answer::Refused(Refusal::HelperOutOfOrder),
+            ),
             (Step::Sweep, Answer::Clean),
             (Step::Double(2), Answer::Light),
             (Step::InitSeek(0, 0), Answer::Ready),

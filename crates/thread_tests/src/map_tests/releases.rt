@@ -11,6 +11,7 @@ use std::test::Fail;
 use txn_trace::Op;
 
 /// Counts releases.
+#[derive(Drop)]
 struct Count {
     releases: AtomicU64,
 }

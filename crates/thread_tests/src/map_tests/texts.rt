@@ -19,10 +19,7 @@ fn texts_of_stops(rt: HostRuntime) -> Result<(), Fail> {
             Stop::from(Refusal::NotOpen),
             "the call was refused (refusal 3)",
         ),
-        (
-            Stop::from(AllocError),
-            "the call was refused (refusal 14)",
-        ),
+        (Stop::from(AllocError), "the call was refused (refusal 14)"),
     ] {
         let text = text_of(rt.alloc(), stop)?;
         assert_eq!(&rt; text.as_str(), wanted);
