@@ -8,6 +8,7 @@ use txn_trace::{Op, Refusal, Reply};
 
 /// Drawn numbers, by a linear congruence (Knuth, "The Art of Computer Programming", volume 2,
 /// section 3.3.4, table 1, line 26).
+#[derive(Drop)]
 struct Draws(u64);
 
 /// The next number, below a limit.
@@ -81,12 +82,7 @@ fn draw_op(draws: &mut Draws, keys: u64) -> Op {
 }
 
 /// Does an operation; where memory is refused, the part is unchanged and is asked once more.
-fn apply_again(
-    rt: &impl Abort,
-    alloc: Global,
-    part: &mut Part,
-    op: Op,
-) -> Result<Reply, Fail> {
+fn apply_again(rt: &impl Abort, alloc: Global, part: &mut Part, op: Op) -> Result<Reply, Fail> {
     let seen = (part.len(), part.changes());
     match part.apply(alloc, op) {
         Ok(reply) => Ok(reply),
