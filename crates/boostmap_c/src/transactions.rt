@@ -46,12 +46,7 @@ pub extern "C" fn boostmap_begin(
 ///
 /// Constant time, amortized; may take memory for the history and the level.
 #[unsafe(no_mangle)]
-pub extern "C" fn boostmap_save(
-    alloc: Global,
-    map: &mut Handle,
-    caller: u64,
-    word: &mut u64,
-) -> u32
+pub extern "C" fn boostmap_save(alloc: Global, map: &mut Handle, caller: u64, word: &mut u64) -> u32
     ensures { Answers (λ old answer new. Move old (Step.Save caller) answer new)
         map.old.held.core result word.old word.new map.new.held.core }
 {

@@ -51,4 +51,4 @@ restore_spec 𝓤 𝓛 𝓜 𝓡 wired =
     sets ! (agg ! (and_then ! (get ! refl) (no_more !))) refl (tt, (tt, tt)) $ makes_pointer core.the_row ! heap b o x $
     -- [the pointer; what is ensured], and nothing of the parameter
     use0 𝓛 (raw (fact 𝓤 (v.core ≡ Some x))) (fact_i 𝓤 (v.core ≡ Some x) (emp 𝓤) there) $ nothing ! $ nothing ! $ fjoin ! $ nothing ! $
-    returns ! (look_at ! 0 refl) $ free_all ! refl $ keep ! (0 ∷ 1 ∷ 3 ∷ 2 ∷ []) $ by ! (leaves 𝓛 ended hs c z (word p) (record { at = p; value = x }) (tt, tt) (tt, tt)))))))))
+    returns ! (look_at ! 0 refl) $ free_all ! refl $ keep ! (0 ∷ 1 ∷ 3 ∷ 2 ∷ []) $ by ! (leaves 𝓛 ended hs c z (word p) (record { at = p; value = x }) (tt, tt) (tt, tt))))))))
