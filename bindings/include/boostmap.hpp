@@ -55,7 +55,8 @@ public:
 
     std::uint64_t count() {
         std::uint64_t word = 0;
-        return *told(boostmap_count(&handle_, &word), word);
+        boostmap_status status = boostmap_count(&handle_, &word);
+        return *told(status, word);
     }
     void help(std::uint64_t caller, std::uint64_t key) { told(boostmap_help(&handle_, caller, key), 0); }
 
@@ -119,7 +120,8 @@ private:
     friend class map;
     transaction(map *owner, std::uint64_t caller) : map_(owner), caller_(caller) {
         std::uint64_t word = 0;
-        number_ = *map::told(boostmap_begin(&owner->handle_, caller, &word), word);
+        boostmap_status status = boostmap_begin(&owner->handle_, caller, &word);
+        number_ = *map::told(status, word);
     }
     template <class Call, class... Words> value call(Call function, Words... words) {
         if (!map_) throw error(BOOSTMAP_NOT_OPEN);

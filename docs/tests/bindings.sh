@@ -10,11 +10,11 @@ work=$(mktemp -d)
 trap 'rm -rf "$work"' EXIT
 passed=0 failed=0
 
-# Runs a test, by its name; what it wrote is shown only where it fails.
+# Runs a test, by its name; what it wrote is shown only if it fails.
 try() {
   local name=$1
   shift
-  if timeout 600 "$@" >"$work/log" 2>&1 </dev/null; then
+  if "$@" >"$work/log" 2>&1 </dev/null; then
     passed=$((passed + 1))
   else
     failed=$((failed + 1))
@@ -30,7 +30,10 @@ has() {
   false
 }
 
-prints_the_example() { "$@" | cmp - bindings/examples/stdout; }
+# No test takes longer.
+within() { timeout 600 "$@"; }
+
+prints_the_example() { within "$@" | cmp - bindings/examples/stdout; }
 
 use=(-Ibindings/tests "-I$work/usr/include" "-L$work/usr/lib")
 strict=(-O2 -Wall -Wextra -Wpedantic -Werror)
@@ -40,7 +43,7 @@ c_test() {
   local name=$1 standard=$2
   shift 2
   try "compile $name.c" cc "-std=$standard" "${strict[@]}" "${use[@]}" "bindings/tests/$name.c" -o "$work/$name" -lboostmap "$@"
-  try "$name" "$work/$name"
+  try "$name" within "$work/$name"
 }
 
 in_c() {
@@ -56,15 +59,15 @@ in_c_again() {
   local name
   if has valgrind 'the tests in C under valgrind'; then
     for name in statuses no_memory threads; do
-      try "$name under valgrind" valgrind -q --error-exitcode=9 --leak-check=full "$work/$name"
+      try "$name under valgrind" within valgrind -q --error-exitcode=9 --leak-check=full "$work/$name"
     done
   fi
   echo 'int main(void) { return 0; }' >"$work/empty.c"
   if cc -fsanitize=thread "$work/empty.c" -o "$work/empty" 2>/dev/null && "$work/empty" 2>/dev/null; then
     for name in threads door; do
-      try "$name with ThreadSanitizer" cc -std=c11 -D_GNU_SOURCE -O1 -g -fsanitize=thread -pthread "${use[@]}" \
+      try "compile $name.c with ThreadSanitizer" cc -std=c11 -D_GNU_SOURCE -O1 -g -fsanitize=thread -pthread "${use[@]}" \
         "bindings/tests/$name.c" -o "$work/$name.tsan" -lboostmap
-      try "$name with ThreadSanitizer" "$work/$name.tsan"
+      try "$name with ThreadSanitizer" within "$work/$name.tsan"
     done
   else
     echo 'bindings: not run, since cc has no ThreadSanitizer: the threads in C with it'
@@ -73,7 +76,7 @@ in_c_again() {
 
 in_cpp() {
   try 'compile values.cpp' c++ -std=c++17 "${strict[@]}" "${use[@]}" bindings/tests/values.cpp -o "$work/values" -lboostmap
-  try 'values in C++' "$work/values"
+  try 'values in C++' within "$work/values"
   try 'compile transfer.cpp' c++ -std=c++17 "${strict[@]}" "${use[@]}" bindings/examples/transfer.cpp -o "$work/transfer" -lboostmap
   try 'example in C++' prints_the_example "$work/transfer"
 }
@@ -82,13 +85,13 @@ in_rust() {
   local run=(env "BOOSTMAP_LIB=$work/usr/lib" "CARGO_TARGET_DIR=$work/target" cargo)
   local crate=(--offline --quiet --manifest-path "$work/rust/Cargo.toml")
   cp -r bindings/rust "$work/rust"
-  try 'tests in Rust' "${run[@]}" test "${crate[@]}"
+  try 'tests in Rust' within "${run[@]}" test "${crate[@]}"
   try 'example in Rust' prints_the_example "${run[@]}" run "${crate[@]}" --example transfer
 }
 
 in_python() {
   local run=(env "PYTHONPATH=$work/usr/share/boostmap/python" PYTHONDONTWRITEBYTECODE=1 python3)
-  try 'tests in Python' "${run[@]}" bindings/python/test_boostmap.py
+  try 'tests in Python' within "${run[@]}" bindings/tests/test_boostmap.py
   try 'example in Python' prints_the_example "${run[@]}" bindings/examples/transfer.py
 }
 
