@@ -1,0 +1,151 @@
+/* BOOSTMAP(3)
+ *
+ * NAME
+ *     boostmap - a transactional map from 64-bit keys to 64-bit values, and a judge of histories
+ *
+ * SYNOPSIS
+ *     #include <boostmap.h>            cc program.c $(pkg-config --cflags --libs boostmap)
+ *
+ *     boostmap map = BOOSTMAP_INIT;
+ *     uint64_t word;
+ *     if (boostmap_new(&map, 2, 64, 1024) != BOOSTMAP_DONE)      2 callers, 64 stripes, 1024 buckets
+ *         return 1;
+ *     boostmap_begin(&map, 0, &word);                            caller 0 begins a transaction
+ *     boostmap_put(&map, 0, 7, 70, &word);                       BOOSTMAP_ABSENT: 7 had no value
+ *     boostmap_get(&map, 0, 7, &word);                           BOOSTMAP_DONE: word is 70
+ *     boostmap_commit(&map, 0, &word);                           word is 1: the first commit
+ *     boostmap_free(&map);
+ *
+ * DESCRIPTION
+ *     A map has 1 to 64 callers, by number. Each may have one transaction open; the calls of
+ *     several callers may come in any order. Keys belong to stripes. An operation takes the stripe
+ *     of its key, and its transaction keeps it to the end, so committed transactions have the
+ *     replies of running one after another, in the order of their commits. A caller that finds a
+ *     stripe held by another is told so (BOOSTMAP_BUSY), never waits, and can only abort.
+ *
+ *     Every call returns a status. Most take a `word`: BOOSTMAP_DONE and BOOSTMAP_BUSY write it,
+ *     no other status does.
+ *
+ * OWNERSHIP
+ *     A `boostmap` is memory of the program's, 16 bytes, all zeros at first (BOOSTMAP_INIT).
+ *     boostmap_new gives it a map, boostmap_free frees that and makes it all zeros again. It may be
+ *     moved by copying its bytes, if only the copy is used from then on. Never read or write the
+ *     fields. The same holds of a `boostmap_judge`.
+ *
+ * THREADS
+ *     One call at a time on one handle. Any thread may make the next call, if a mutex, a thread's
+ *     start or join, or a seq_cst atomic puts it after the last one. Different handles share
+ *     nothing. No call waits, starts a thread, or calls back.
+ *
+ * WHAT IS PROVED, AND WHAT ONLY RUNS
+ *     The archive is proved: each call, made as the next section says, is free of undefined
+ *     behaviour, returns, and does what its contract in crates/boostmap_c states. This header, the
+ *     other headers and the bindings are tested, and proved by nothing.
+ *
+ * WHAT THE PROGRAM OWES (a break is undefined behaviour)
+ *     1. A handle is all zeros or as these calls left it.            garbage is mostly answered 3
+ *     2. `map`, `judge` and `word` are not null and do not overlap.  null crashes; boostmap_checked.h
+ *                                                                    answers it
+ *     3. One call at a time on one handle, ordered as above.         two at once corrupt the map;
+ *                                                                    boostmap_checked.h answers it
+ *     4. A copy of a handle is not used after the other was freed.   use after free
+ *     5. An array has as many elements as its count says.            reads or writes beyond it
+ *     6. No call from a signal handler, or from the forked child of a process with threads.
+ *     7. malloc, realloc and free come from one allocator and align to 16, as any C library's.
+ *
+ *     Everything else is answered by a status: an empty handle, also after boostmap_free, a caller,
+ *     a level or a limit out of range, calls out of order, and memory that is refused.
+ *
+ * SEE ALSO
+ *     boostmap_checked.h (null and two calls at once become statuses), boostmap.hpp (C++),
+ *     docs/C.md
+ */
+#ifndef BOOSTMAP_H
+#define BOOSTMAP_H
+
+#include <stddef.h>
+#include <stdint.h>
+
+#ifdef __cplusplus
+extern "C" {
+#endif
+
+/* A handle of a map: all zeros, or a map. The fields are not the program's. */
+typedef struct boostmap {
+    uint64_t tag;
+    void *held;
+} boostmap;
+
+#define BOOSTMAP_INIT { 0, 0 }
+
+typedef uint32_t boostmap_status;
+
+enum {
+    BOOSTMAP_DONE = 0,   /* done; *word is the value, transaction, level or commit number */
+    BOOSTMAP_ABSENT = 1, /* done, at a key without a value */
+    BOOSTMAP_BUSY = 2,   /* caller *word holds the key's stripe: this transaction can only abort */
+    BOOSTMAP_EMPTY = 3,  /* the handle has no map; nothing was done */
+    BOOSTMAP_FULL = 4,   /* the handle has a map already; nothing was done */
+    BOOSTMAP_NULL = 5,   /* only by boostmap_checked.h: a null pointer */
+    BOOSTMAP_IN_CALL = 6, /* only by boostmap_checked.h: the handle is in another call */
+    BOOSTMAP_SHORT = 7,  /* the array is too short; *word is the count that it needs */
+    /* 16 + the number of a refusal: map and transaction are unchanged */
+    BOOSTMAP_NO_SUCH_CALLER = 18,  /* the caller's number is not below the number of callers */
+    BOOSTMAP_NOT_OPEN = 19,        /* the caller has no transaction */
+    BOOSTMAP_ALREADY_OPEN = 20,    /* the caller has a transaction already */
+    BOOSTMAP_LEAVING = 22,         /* after BOOSTMAP_BUSY: the transaction can only abort */
+    BOOSTMAP_NO_SUCH_LEVEL = 25,   /* the level is above the number of savepoints */
+    BOOSTMAP_NO_SUCH_HELPER = 28,  /* as 18, of boostmap_help */
+    BOOSTMAP_NO_MEMORY = 30,       /* memory was refused; never by commit and abort */
+    BOOSTMAP_STAMPS_USED_UP = 32,  /* 2^64 - 2 nodes were made */
+    BOOSTMAP_LIMIT = 38            /* a limit of boostmap_new is out of range */
+};
+
+/* Makes a map for 1 to 64 callers, 1 to 4096 stripes, and at most so many buckets: a power of two
+ * from 2 to 65536.    0; 4; 38; 30 */
+boostmap_status boostmap_new(boostmap *map, uint64_t callers, uint64_t stripes, uint64_t buckets);
+
+/* Frees the map, whatever is open.    0; 3 */
+boostmap_status boostmap_free(boostmap *map);
+
+/* *word: how many keys the map has now, the changes of open transactions included.    0; 3 */
+boostmap_status boostmap_count(boostmap *map, uint64_t *word);
+
+/* Doubles the table if it has more than two keys a bucket, and prepares the key's bucket. Nothing
+ * else doubles the table: call it now and then beside puts, or it stays one long list.
+ * 0; 3; 28; 32; 30 */
+boostmap_status boostmap_help(boostmap *map, uint64_t caller, uint64_t key);
+
+/* Begins a transaction; *word: its number, from 1.    0; 3; 18; 20; 30 */
+boostmap_status boostmap_begin(boostmap *map, uint64_t caller, uint64_t *word);
+
+/* Commits; *word: the place in the order of commits, from 1.    0; 3; 18; 19; 22 */
+boostmap_status boostmap_commit(boostmap *map, uint64_t caller, uint64_t *word);
+
+/* Aborts: takes every change back, and gives the stripes back. It writes no word.    0; 3; 18; 19 */
+boostmap_status boostmap_abort(boostmap *map, uint64_t caller, uint64_t *word);
+
+/* Operations; *word: the value that the key had. Each may answer 0; 1; 2; 3; 18; 19; 22; 30, and
+ * the puts also 32. */
+boostmap_status boostmap_get(boostmap *map, uint64_t caller, uint64_t key, uint64_t *word);
+boostmap_status boostmap_take(boostmap *map, uint64_t caller, uint64_t key, uint64_t *word);
+boostmap_status boostmap_put(boostmap *map, uint64_t caller, uint64_t key, uint64_t value, uint64_t *word);
+
+/* Puts only if the key has no value: BOOSTMAP_ABSENT says that it put. */
+boostmap_status boostmap_put_if_absent(boostmap *map, uint64_t caller, uint64_t key, uint64_t value, uint64_t *word);
+
+/* Puts only if the key has the value `expected`: BOOSTMAP_DONE with that word says that it put. */
+boostmap_status boostmap_put_if_equal(boostmap *map, uint64_t caller, uint64_t key, uint64_t expected, uint64_t value,
+                                      uint64_t *word);
+
+/* Sets a savepoint; *word: its level, from 1.    0; 3; 18; 19; 22; 30 */
+boostmap_status boostmap_save(boostmap *map, uint64_t caller, uint64_t *word);
+
+/* Takes back every change since the level was set; 0 is the beginning. The level stays set, the
+ * stripes stay held; *word: the level.    0; 3; 18; 19; 22; 25; 30 */
+boostmap_status boostmap_back(boostmap *map, uint64_t caller, uint64_t level, uint64_t *word);
+
+#ifdef __cplusplus
+}
+#endif
+#endif

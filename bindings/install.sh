@@ -1,0 +1,43 @@
+#!/usr/bin/env bash
+# Installs the library below a folder: bindings/install.sh PREFIX
+#   PREFIX/lib/libboostmap.a             the proved archive, with the allocator glue of its kit
+#   PREFIX/lib/pkgconfig/boostmap.pc
+#   PREFIX/include/boostmap.h, boostmap_checked.h, boostmap.hpp
+#   PREFIX/share/boostmap/python/        boostmap.py and the shared object that it loads
+# It proves and builds the archive first, if that was not done: a quarter of an hour. Needs rt, cc and ar.
+set -euo pipefail
+if [ $# != 1 ]; then
+  echo "usage: bindings/install.sh PREFIX" >&2
+  exit 2
+fi
+mkdir -p "$1"
+prefix=$(cd "$1" && pwd)
+cd "$(dirname "${BASH_SOURCE[0]}")/.."
+proved=crates/boostmap_c/out/libboostmap_c.a
+[ -f "$proved" ] || (cd crates/boostmap_c && ${RT:-rt} lib) >&2
+glue=$(dirname "$(${RT:-rt} doc)")/c/liblibc_c.a
+python=$prefix/share/boostmap/python
+mkdir -p "$prefix/lib/pkgconfig" "$prefix/include" "$python"
+
+rm -f "$prefix/lib/libboostmap.a"
+ar -M <<MERGE
+create $prefix/lib/libboostmap.a
+addlib $proved
+addlib $glue
+save
+end
+MERGE
+cc -shared -o "$python/libboostmap.so" -Wl,--whole-archive "$proved" -Wl,--no-whole-archive "$glue"
+cp bindings/include/boostmap.h bindings/include/boostmap_checked.h bindings/include/boostmap.hpp "$prefix/include/"
+cp bindings/python/boostmap.py "$python/"
+cat >"$prefix/lib/pkgconfig/boostmap.pc" <<PC
+prefix=$prefix
+libdir=\${prefix}/lib
+includedir=\${prefix}/include
+
+Name: boostmap
+Description: A transactional map from 64-bit keys to 64-bit values, proved
+Version: 0.1.0
+Cflags: -I\${includedir}
+Libs: -L\${libdir} -lboostmap
+PC

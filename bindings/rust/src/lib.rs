@@ -1,0 +1,322 @@
+//! A transactional map from `u64` to `u64` for 1 to 64 callers, over the proved static library
+//! `boostmap_c`.
+//!
+//! ```
+//! use boostmap::Map;
+//!
+//! let mut accounts = Map::new(2, 64, 1024)?;
+//! accounts.transact(0, |t| {
+//!     t.put(1, 100)?;
+//!     t.put(2, 50)
+//! })?;
+//! let moved = accounts.transact(0, |t| {
+//!     let from = t.get(1)?.unwrap_or(0);
+//!     let to = t.get(2)?.unwrap_or(0);
+//!     t.put(1, from - 30)?;
+//!     t.put(2, to + 30)?;
+//!     Ok(30)
+//! })?;
+//! assert_eq!(moved, 30);
+//! # Ok::<(), boostmap::Error>(())
+//! ```
+//!
+//! Safe: `&mut self` is the rule "one call at a time on a handle", `Drop` frees the map, and no call
+//! of the archive asks for more than its types. The archive is proved; this crate, with its
+//! declarations of the archive's calls, is only tested. A map may change threads, since a handle
+//! that owns a core is `Send` (proved: `sends_core`), and be shared behind a `Mutex`.
+
+use std::error;
+use std::ffi::c_void;
+use std::fmt;
+
+mod sys {
+    use std::ffi::c_void;
+
+    #[repr(C)]
+    pub struct Handle {
+        pub tag: u64,
+        pub held: *mut c_void,
+    }
+
+    pub const DONE: u32 = 0;
+    pub const ABSENT: u32 = 1;
+    pub const BUSY: u32 = 2;
+
+    extern "C" {
+        pub fn boostmap_new(map: *mut Handle, callers: u64, stripes: u64, buckets: u64) -> u32;
+        pub fn boostmap_free(map: *mut Handle) -> u32;
+        pub fn boostmap_count(map: *mut Handle, word: *mut u64) -> u32;
+        pub fn boostmap_help(map: *mut Handle, caller: u64, key: u64) -> u32;
+        pub fn boostmap_begin(map: *mut Handle, caller: u64, word: *mut u64) -> u32;
+        pub fn boostmap_commit(map: *mut Handle, caller: u64, word: *mut u64) -> u32;
+        pub fn boostmap_abort(map: *mut Handle, caller: u64, word: *mut u64) -> u32;
+        pub fn boostmap_get(map: *mut Handle, caller: u64, key: u64, word: *mut u64) -> u32;
+        pub fn boostmap_take(map: *mut Handle, caller: u64, key: u64, word: *mut u64) -> u32;
+        pub fn boostmap_put(map: *mut Handle, caller: u64, key: u64, value: u64, word: *mut u64) -> u32;
+        pub fn boostmap_put_if_absent(map: *mut Handle, caller: u64, key: u64, value: u64, word: *mut u64) -> u32;
+        pub fn boostmap_put_if_equal(
+            map: *mut Handle,
+            caller: u64,
+            key: u64,
+            expected: u64,
+            value: u64,
+            word: *mut u64,
+        ) -> u32;
+        pub fn boostmap_save(map: *mut Handle, caller: u64, word: *mut u64) -> u32;
+        pub fn boostmap_back(map: *mut Handle, caller: u64, level: u64, word: *mut u64) -> u32;
+    }
+}
+
+/// Why a call was not done.
+#[derive(Clone, Copy, Debug, PartialEq, Eq)]
+pub enum Error {
+    /// Another caller, of this number, holds the key's stripe: the transaction can only abort.
+    Busy(u64),
+    /// The caller's number is not below the number of callers.
+    NoSuchCaller,
+    /// The caller has no transaction.
+    NotOpen,
+    /// The caller has a transaction already.
+    AlreadyOpen,
+    /// After `Busy`: the transaction can only abort.
+    Leaving,
+    /// The level is above the number of savepoints.
+    NoSuchLevel,
+    /// Memory was refused. Nothing has changed.
+    NoMemory,
+    /// All stamps are used up: 2^64 - 2 nodes were made.
+    StampsUsedUp,
+    /// A limit is out of range.
+    Limit,
+    /// A status that no call of this crate can be answered.
+    Other(u32),
+}
+
+impl Error {
+    fn from_status(status: u32, word: u64) -> Error {
+        match status {
+            sys::BUSY => Error::Busy(word),
+            18 | 28 => Error::NoSuchCaller,
+            19 => Error::NotOpen,
+            20 => Error::AlreadyOpen,
+            22 => Error::Leaving,
+            25 => Error::NoSuchLevel,
+            30 => Error::NoMemory,
+            32 => Error::StampsUsedUp,
+            38 => Error::Limit,
+            other => Error::Other(other),
+        }
+    }
+}
+
+impl fmt::Display for Error {
+    fn fmt(&self, f: &mut fmt::Formatter<'_>) -> fmt::Result {
+        match self {
+            Error::Busy(caller) => write!(f, "caller {caller} holds the key's stripe"),
+            Error::NoSuchCaller => f.write_str("there is no such caller"),
+            Error::NotOpen => f.write_str("the caller has no transaction"),
+            Error::AlreadyOpen => f.write_str("the caller has a transaction already"),
+            Error::Leaving => f.write_str("the transaction can only abort"),
+            Error::NoSuchLevel => f.write_str("there is no such level"),
+            Error::NoMemory => f.write_str("memory was refused"),
+            Error::StampsUsedUp => f.write_str("no stamp is left"),
+            Error::Limit => f.write_str("a limit is out of range"),
+            Error::Other(status) => write!(f, "status {status}"),
+        }
+    }
+}
+
+impl error::Error for Error {}
+
+/// What a call gives.
+pub type Result<T> = std::result::Result<T, Error>;
+
+/// A transactional map.
+pub struct Map(sys::Handle);
+
+// SAFETY: `sends_core` of the archive proves `Send` of what a handle owns, and `&mut self` puts the
+// calls one after another.
+unsafe impl Send for Map {}
+
+impl Map {
+    /// A map in which nothing has happened, for 1 to 64 callers, 1 to 4096 stripes and at most so
+    /// many buckets, a power of two from 2 to 65536.
+    ///
+    /// # Errors
+    ///
+    /// `Limit` and `NoMemory`.
+    pub fn new(callers: u64, stripes: u64, buckets: u64) -> Result<Map> {
+        let mut map = Map(sys::Handle { tag: 0, held: std::ptr::null_mut::<c_void>() });
+        // SAFETY: the handle is all zeros and uniquely borrowed.
+        match unsafe { sys::boostmap_new(&mut map.0, callers, stripes, buckets) } {
+            sys::DONE => Ok(map),
+            status => Err(Error::from_status(status, 0)),
+        }
+    }
+
+    /// How many keys the map has, the changes of open transactions included.
+    pub fn count(&mut self) -> Result<u64> {
+        self.call(|map, word| unsafe { sys::boostmap_count(map, word) }).map(Option::unwrap_or_default)
+    }
+
+    /// Doubles the table if it has more than two keys a bucket, and prepares the key's bucket.
+    ///
+    /// # Errors
+    ///
+    /// `NoSuchCaller`, `StampsUsedUp` and `NoMemory`.
+    pub fn help(&mut self, caller: u64, key: u64) -> Result<()> {
+        self.call(|map, _| unsafe { sys::boostmap_help(map, caller, key) }).map(drop)
+    }
+
+    /// Begins a transaction of a caller, which aborts when it is dropped uncommitted. Meanwhile it
+    /// borrows the map; to have several open at once, use the calls by number, as `begin_caller`.
+    ///
+    /// # Errors
+    ///
+    /// `NoSuchCaller`, `AlreadyOpen` and `NoMemory`.
+    pub fn begin(&mut self, caller: u64) -> Result<Transaction<'_>> {
+        let number = self.begin_caller(caller)?;
+        Ok(Transaction { map: self, caller, number, is_open: true })
+    }
+
+    /// Runs a job in a transaction: commits, or aborts if the job fails or panics.
+    ///
+    /// # Errors
+    ///
+    /// The job's, and those of `begin`.
+    pub fn transact<T>(&mut self, caller: u64, job: impl FnOnce(&mut Transaction<'_>) -> Result<T>) -> Result<T> {
+        let mut transaction = self.begin(caller)?;
+        let value = job(&mut transaction)?;
+        transaction.commit()?;
+        Ok(value)
+    }
+
+    /// Begins a transaction, and gives its number. The caller commits or aborts it by number.
+    pub fn begin_caller(&mut self, caller: u64) -> Result<u64> {
+        self.call(|map, word| unsafe { sys::boostmap_begin(map, caller, word) }).map(Option::unwrap_or_default)
+    }
+
+    /// Commits a caller's transaction, and gives its place in the order of commits.
+    pub fn commit_caller(&mut self, caller: u64) -> Result<u64> {
+        self.call(|map, word| unsafe { sys::boostmap_commit(map, caller, word) }).map(Option::unwrap_or_default)
+    }
+
+    /// Aborts a caller's transaction.
+    pub fn abort_caller(&mut self, caller: u64) -> Result<()> {
+        self.call(|map, word| unsafe { sys::boostmap_abort(map, caller, word) }).map(drop)
+    }
+
+    /// The value at a key, in the caller's transaction.
+    pub fn get(&mut self, caller: u64, key: u64) -> Result<Option<u64>> {
+        self.call(|map, word| unsafe { sys::boostmap_get(map, caller, key, word) })
+    }
+
+    /// Takes a key out, and gives the value that it had.
+    pub fn take(&mut self, caller: u64, key: u64) -> Result<Option<u64>> {
+        self.call(|map, word| unsafe { sys::boostmap_take(map, caller, key, word) })
+    }
+
+    /// Puts a value, and gives the one before.
+    pub fn put(&mut self, caller: u64, key: u64, value: u64) -> Result<Option<u64>> {
+        self.call(|map, word| unsafe { sys::boostmap_put(map, caller, key, value, word) })
+    }
+
+    /// Puts a value if the key has the expected one, or none; gives the value before. It was put
+    /// exactly if that is what was expected.
+    pub fn put_if(&mut self, caller: u64, key: u64, expected: Option<u64>, value: u64) -> Result<Option<u64>> {
+        self.call(|map, word| unsafe {
+            match expected {
+                None => sys::boostmap_put_if_absent(map, caller, key, value, word),
+                Some(expected) => sys::boostmap_put_if_equal(map, caller, key, expected, value, word),
+            }
+        })
+    }
+
+    /// Sets a savepoint, and gives its level.
+    pub fn save(&mut self, caller: u64) -> Result<u64> {
+        self.call(|map, word| unsafe { sys::boostmap_save(map, caller, word) }).map(Option::unwrap_or_default)
+    }
+
+    /// Takes back every change since the level was set; 0 is the beginning.
+    pub fn back(&mut self, caller: u64, level: u64) -> Result<()> {
+        self.call(|map, word| unsafe { sys::boostmap_back(map, caller, level, word) }).map(drop)
+    }
+
+    // Each job is one call of the archive. SAFETY of them all: the handle is live from `new` to
+    // `drop`, and both pointers are unique borrows.
+    fn call(&mut self, job: impl FnOnce(*mut sys::Handle, *mut u64) -> u32) -> Result<Option<u64>> {
+        let mut word = 0;
+        match job(&mut self.0, &mut word) {
+            sys::DONE => Ok(Some(word)),
+            sys::ABSENT => Ok(None),
+            status => Err(Error::from_status(status, word)),
+        }
+    }
+}
+
+impl Drop for Map {
+    fn drop(&mut self) {
+        // SAFETY: dropped once; a handle of all zeros is answered and left.
+        unsafe { sys::boostmap_free(&mut self.0) };
+    }
+}
+
+/// An open transaction, which aborts when it is dropped uncommitted.
+pub struct Transaction<'a> {
+    map: &'a mut Map,
+    caller: u64,
+    number: u64,
+    is_open: bool,
+}
+
+impl Transaction<'_> {
+    /// Its number, counted from 1 over all callers.
+    pub fn number(&self) -> u64 {
+        self.number
+    }
+
+    /// The value at a key.
+    pub fn get(&mut self, key: u64) -> Result<Option<u64>> {
+        self.map.get(self.caller, key)
+    }
+
+    /// Takes a key out, and gives the value that it had.
+    pub fn take(&mut self, key: u64) -> Result<Option<u64>> {
+        self.map.take(self.caller, key)
+    }
+
+    /// Puts a value, and gives the one before.
+    pub fn put(&mut self, key: u64, value: u64) -> Result<Option<u64>> {
+        self.map.put(self.caller, key, value)
+    }
+
+    /// Puts a value if the key has the expected one, or none; gives the value before.
+    pub fn put_if(&mut self, key: u64, expected: Option<u64>, value: u64) -> Result<Option<u64>> {
+        self.map.put_if(self.caller, key, expected, value)
+    }
+
+    /// Sets a savepoint, and gives its level.
+    pub fn save(&mut self) -> Result<u64> {
+        self.map.save(self.caller)
+    }
+
+    /// Takes back every change since the level was set; 0 is the beginning.
+    pub fn back(&mut self, level: u64) -> Result<()> {
+        self.map.back(self.caller, level)
+    }
+
+    /// Commits, and gives the place in the order of commits.
+    pub fn commit(mut self) -> Result<u64> {
+        let number = self.map.commit_caller(self.caller)?;
+        self.is_open = false;
+        Ok(number)
+    }
+}
+
+impl Drop for Transaction<'_> {
+    fn drop(&mut self) {
+        if self.is_open {
+            let _ = self.map.abort_caller(self.caller);
+        }
+    }
+}

@@ -1,0 +1,81 @@
+/* Each allocation refused in turn: the call that asked for it answers BOOSTMAP_NO_MEMORY and changes
+ * nothing, so the same call succeeds when it is made again; no other call fails, and nothing leaks.
+ * Linked with -Wl,--wrap=malloc -Wl,--wrap=realloc -Wl,--wrap=free. */
+#include "boostmap.h"
+#include "check.h"
+
+/* How many allocations pass before one is refused, or -1; and the blocks that are live. */
+static long before_refusal = -1;
+static long live;
+
+void *__real_malloc(size_t bytes);
+void *__real_realloc(void *block, size_t bytes);
+void __real_free(void *block);
+
+static int is_refused(void) {
+    if (before_refusal < 0) return 0;
+    return before_refusal-- == 0;
+}
+
+void *__wrap_malloc(size_t bytes) {
+    void *block = is_refused() ? 0 : __real_malloc(bytes);
+    if (block) live++;
+    return block;
+}
+
+void *__wrap_realloc(void *block, size_t bytes) {
+    void *moved = is_refused() ? 0 : __real_realloc(block, bytes);
+    if (moved && !block) live++;
+    return moved;
+}
+
+void __wrap_free(void *block) {
+    if (block) live--;
+    __real_free(block);
+}
+
+/* How often memory was refused in the round, and the status of the call made again. */
+static long refusals;
+#define AGAIN(call) do status = (call); while (status == BOOSTMAP_NO_MEMORY && ++refusals)
+
+enum { TRANSACTIONS = 20, KEYS = 8 };
+
+/* Even transactions commit KEYS new keys, odd ones abort. */
+static void round_trip(void) {
+    boostmap m = BOOSTMAP_INIT;
+    boostmap_status status;
+    uint64_t w;
+    AGAIN(boostmap_new(&m, 2, 16, 64));
+    CHECK(status == BOOSTMAP_DONE);
+    for (uint64_t t = 0; t < TRANSACTIONS; t++) {
+        AGAIN(boostmap_begin(&m, 0, &w));
+        CHECK(status == BOOSTMAP_DONE && w == t + 1);
+        for (uint64_t k = 0; k < KEYS; k++) {
+            AGAIN(boostmap_put(&m, 0, KEYS * t + k, t, &w));
+            CHECK(status == BOOSTMAP_ABSENT);
+        }
+        AGAIN(boostmap_save(&m, 0, &w));
+        CHECK(status == BOOSTMAP_DONE && w == 1);
+        if (t % 2) CHECK(boostmap_abort(&m, 0, &w) == BOOSTMAP_DONE);
+        else CHECK(boostmap_commit(&m, 0, &w) == BOOSTMAP_DONE && w == t / 2 + 1);
+        AGAIN(boostmap_help(&m, 0, KEYS * t));
+        CHECK(status == BOOSTMAP_DONE);
+    }
+    CHECK(boostmap_count(&m, &w) == BOOSTMAP_DONE && w == KEYS * TRANSACTIONS / 2);
+    CHECK(boostmap_free(&m) == BOOSTMAP_DONE);
+}
+
+int main(void) {
+    long nth = 0;
+    do {
+        long live_before = live;
+        before_refusal = nth++;
+        refusals = 0;
+        round_trip();
+        CHECK(refusals == (before_refusal < 0));
+        CHECK(live == live_before);
+    } while (before_refusal < 0);
+    printf("no_memory: each of %ld allocations refused in turn\n", nth - 1);
+    CHECK(nth > 10);
+    return 0;
+}

@@ -1,0 +1,108 @@
+/* Each status of each call, once: what it answers, what it writes, and what it leaves. */
+#include "boostmap.h"
+#include "check.h"
+
+enum { UNTOUCHED = 77 };
+
+/* One status, and the word after it, which was UNTOUCHED before. */
+#define ANSWERS(call, status, after) \
+    do {                             \
+        w = UNTOUCHED;               \
+        CHECK((call) == (status));   \
+        CHECK(w == (after));         \
+    } while (0)
+
+/* No call but boostmap_new does anything on a handle without a map. */
+static void an_empty_handle(boostmap *m) {
+    uint64_t w;
+    ANSWERS(boostmap_free(m), BOOSTMAP_EMPTY, UNTOUCHED);
+    ANSWERS(boostmap_count(m, &w), BOOSTMAP_EMPTY, UNTOUCHED);
+    ANSWERS(boostmap_help(m, 0, 1), BOOSTMAP_EMPTY, UNTOUCHED);
+    ANSWERS(boostmap_begin(m, 0, &w), BOOSTMAP_EMPTY, UNTOUCHED);
+    ANSWERS(boostmap_commit(m, 0, &w), BOOSTMAP_EMPTY, UNTOUCHED);
+    ANSWERS(boostmap_abort(m, 0, &w), BOOSTMAP_EMPTY, UNTOUCHED);
+    ANSWERS(boostmap_get(m, 0, 1, &w), BOOSTMAP_EMPTY, UNTOUCHED);
+    ANSWERS(boostmap_take(m, 0, 1, &w), BOOSTMAP_EMPTY, UNTOUCHED);
+    ANSWERS(boostmap_put(m, 0, 1, 2, &w), BOOSTMAP_EMPTY, UNTOUCHED);
+    ANSWERS(boostmap_put_if_absent(m, 0, 1, 2, &w), BOOSTMAP_EMPTY, UNTOUCHED);
+    ANSWERS(boostmap_put_if_equal(m, 0, 1, 2, 3, &w), BOOSTMAP_EMPTY, UNTOUCHED);
+    ANSWERS(boostmap_save(m, 0, &w), BOOSTMAP_EMPTY, UNTOUCHED);
+    ANSWERS(boostmap_back(m, 0, 0, &w), BOOSTMAP_EMPTY, UNTOUCHED);
+    CHECK(m->tag == 0 && m->held == 0);
+}
+
+/* Limits: each number just out of range, and the largest and least that are in it. */
+static void limits(void) {
+    static const struct { uint64_t callers, stripes, buckets; boostmap_status status; } rows[] = {
+        {0, 16, 16, BOOSTMAP_LIMIT},     {65, 16, 16, BOOSTMAP_LIMIT},   {1, 0, 16, BOOSTMAP_LIMIT},
+        {1, 4097, 16, BOOSTMAP_LIMIT},   {1, 16, 1, BOOSTMAP_LIMIT},     {1, 16, 24, BOOSTMAP_LIMIT},
+        {1, 16, 131072, BOOSTMAP_LIMIT}, {UINT64_MAX, 1, 2, BOOSTMAP_LIMIT},
+        {1, 1, 2, BOOSTMAP_DONE},        {64, 4096, 65536, BOOSTMAP_DONE},
+    };
+    for (size_t i = 0; i < sizeof rows / sizeof *rows; i++) {
+        boostmap m = BOOSTMAP_INIT;
+        CHECK(boostmap_new(&m, rows[i].callers, rows[i].stripes, rows[i].buckets) == rows[i].status);
+        CHECK(boostmap_free(&m) == (rows[i].status ? BOOSTMAP_EMPTY : BOOSTMAP_DONE));
+    }
+}
+
+static void order(boostmap *m) {
+    uint64_t w;
+    ANSWERS(boostmap_new(m, 2, 16, 16), BOOSTMAP_DONE, UNTOUCHED);
+    ANSWERS(boostmap_new(m, 1, 1, 2), BOOSTMAP_FULL, UNTOUCHED);
+    ANSWERS(boostmap_put(m, 0, 5, 50, &w), BOOSTMAP_NOT_OPEN, UNTOUCHED);
+    ANSWERS(boostmap_commit(m, 0, &w), BOOSTMAP_NOT_OPEN, UNTOUCHED);
+    ANSWERS(boostmap_abort(m, 0, &w), BOOSTMAP_NOT_OPEN, UNTOUCHED);
+    ANSWERS(boostmap_begin(m, 2, &w), BOOSTMAP_NO_SUCH_CALLER, UNTOUCHED);
+    ANSWERS(boostmap_abort(m, UINT64_MAX, &w), BOOSTMAP_NO_SUCH_CALLER, UNTOUCHED);
+    ANSWERS(boostmap_begin(m, 0, &w), BOOSTMAP_DONE, 1);
+    ANSWERS(boostmap_begin(m, 0, &w), BOOSTMAP_ALREADY_OPEN, UNTOUCHED);
+}
+
+static void operations(boostmap *m) {
+    uint64_t w;
+    ANSWERS(boostmap_get(m, 0, 5, &w), BOOSTMAP_ABSENT, UNTOUCHED);
+    ANSWERS(boostmap_put(m, 0, 5, 50, &w), BOOSTMAP_ABSENT, UNTOUCHED);
+    ANSWERS(boostmap_put_if_absent(m, 0, 5, 51, &w), BOOSTMAP_DONE, 50);
+    ANSWERS(boostmap_put_if_equal(m, 0, 5, 49, 53, &w), BOOSTMAP_DONE, 50);
+    ANSWERS(boostmap_put_if_equal(m, 0, 5, 50, 52, &w), BOOSTMAP_DONE, 50);
+    ANSWERS(boostmap_get(m, 0, 5, &w), BOOSTMAP_DONE, 52);
+    ANSWERS(boostmap_save(m, 0, &w), BOOSTMAP_DONE, 1);
+    ANSWERS(boostmap_take(m, 0, 5, &w), BOOSTMAP_DONE, 52);
+    ANSWERS(boostmap_get(m, 0, 5, &w), BOOSTMAP_ABSENT, UNTOUCHED);
+    ANSWERS(boostmap_back(m, 0, 2, &w), BOOSTMAP_NO_SUCH_LEVEL, UNTOUCHED);
+    ANSWERS(boostmap_back(m, 0, 1, &w), BOOSTMAP_DONE, 1);
+    ANSWERS(boostmap_get(m, 0, 5, &w), BOOSTMAP_DONE, 52);
+}
+
+static void two_callers(boostmap *m) {
+    uint64_t w;
+    ANSWERS(boostmap_begin(m, 1, &w), BOOSTMAP_DONE, 2);
+    ANSWERS(boostmap_get(m, 1, 5, &w), BOOSTMAP_BUSY, 0);
+    ANSWERS(boostmap_get(m, 1, 6, &w), BOOSTMAP_LEAVING, UNTOUCHED);
+    ANSWERS(boostmap_commit(m, 1, &w), BOOSTMAP_LEAVING, UNTOUCHED);
+    ANSWERS(boostmap_save(m, 1, &w), BOOSTMAP_LEAVING, UNTOUCHED);
+    ANSWERS(boostmap_abort(m, 1, &w), BOOSTMAP_DONE, UNTOUCHED);
+    ANSWERS(boostmap_count(m, &w), BOOSTMAP_DONE, 1);
+    ANSWERS(boostmap_commit(m, 0, &w), BOOSTMAP_DONE, 1);
+    ANSWERS(boostmap_begin(m, 1, &w), BOOSTMAP_DONE, 3);
+    ANSWERS(boostmap_put(m, 1, 5, 99, &w), BOOSTMAP_DONE, 52);
+    ANSWERS(boostmap_abort(m, 1, &w), BOOSTMAP_DONE, UNTOUCHED);
+    ANSWERS(boostmap_begin(m, 1, &w), BOOSTMAP_DONE, 4);
+    ANSWERS(boostmap_get(m, 1, 5, &w), BOOSTMAP_DONE, 52);
+    ANSWERS(boostmap_commit(m, 1, &w), BOOSTMAP_DONE, 2);
+    ANSWERS(boostmap_help(m, 0, 5), BOOSTMAP_DONE, UNTOUCHED);
+    ANSWERS(boostmap_help(m, 2, 5), BOOSTMAP_NO_SUCH_HELPER, UNTOUCHED);
+}
+
+int main(void) {
+    boostmap m = BOOSTMAP_INIT;
+    an_empty_handle(&m);
+    limits();
+    order(&m);
+    operations(&m);
+    two_callers(&m);
+    CHECK(boostmap_free(&m) == BOOSTMAP_DONE);
+    an_empty_handle(&m);
+    return 0;
+}

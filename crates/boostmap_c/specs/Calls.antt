@@ -1,0 +1,54 @@
+-- What a call does to a handle, by the state of the map that it owns before and after: a handle
+-- without a map is told so, and stays without one.
+use Rattle.std.specs.Prelude.{◌≡◌, ℕ, Option, Some, None, Result, Ok, Err}
+use Rattle.txn_trace.specs.declared.answer.Answer.{Answer}
+use Rattle.txn_trace.specs.declared.refusal.Refusal.{Refusal}
+use Rattle.txn_trace.specs.declared.refusal.Refusal.TheVariants.{NoMemory}
+use Rattle.txn_trace.specs.Sizes.{Sizes, limits_of}
+use Rattle.txn_trace.specs.Map.{count_of}
+use Rattle.txn_trace.specs.Now.{now}
+use Rattle.boost_core.specs.Machine.{State, start}
+use Rattle.boost_core.specs.Plain.{Helps}
+use Rattle.boostmap_c.specs.Replies.{done, empty, full, refused, status_of, word_after, status_of_result}
+
+-- The map takes a step of this kind, and C is told the answer.
+abbrev pub Answers : (State → Answer → State → Type 0) → Option State → ℕ → ℕ → ℕ → Option State
+    → Type 0
+Answers Steps (Some old) status before after (Some new) =
+    (answer : Answer) × Steps old answer new × (status ≡ status_of answer)
+    × (after ≡ word_after before answer)
+Answers Steps None status before after None = (status ≡ empty) × (after ≡ before)
+Answers Steps old status before after new = ⊥
+
+-- The map helps its table to grow.
+abbrev pub HelpsWith : Option State → ℕ → ℕ → ℕ → Option State → Type 0
+HelpsWith (Some old) c key status (Some new) =
+    (outcome : Result Unit Refusal) × Helps old c key outcome new
+    × (status ≡ status_of_result outcome)
+HelpsWith None c key status None = status ≡ empty
+HelpsWith old c key status new = ⊥
+
+-- The word is how many keys the map has.
+abbrev pub Counts : Option State → ℕ → ℕ → ℕ → Option State → Type 0
+Counts (Some old) status before after (Some new) =
+    (new ≡ old) × (status ≡ done) × (after ≡ count_of (now old.history))
+Counts None status before after None = (status ≡ empty) × (after ≡ before)
+Counts old status before after new = ⊥
+
+-- A map in which nothing has happened; or none, where its limits or memory are refused.
+abbrev pub MakesWithin : Result Sizes Refusal → ℕ → Option State → Type 0
+MakesWithin (Ok limits) status (Some new) = (status ≡ done) × (new ≡ start limits)
+MakesWithin (Ok limits) status None = status ≡ refused NoMemory
+MakesWithin (Err refusal) status (Some new) = ⊥
+MakesWithin (Err refusal) status None = status ≡ refused refusal
+
+-- A handle without a map gets one; a handle with a map keeps it.
+abbrev pub Makes : Option State → ℕ → ℕ → ℕ → ℕ → Option State → Type 0
+Makes None callers stripes buckets status new =
+    MakesWithin (limits_of callers stripes buckets) status new
+Makes (Some old) callers stripes buckets status new = (status ≡ full) × (new ≡ Some old)
+
+-- The handle has no map any more.
+abbrev pub Frees : Option State → ℕ → Option State → Type 0
+Frees (Some old) status new = (status ≡ done) × (new ≡ None)
+Frees None status new = (status ≡ empty) × (new ≡ None)

@@ -1,0 +1,17 @@
+-- What a handle owns: a core on the heap, or nothing.
+use Rattle.std.specs.Prelude.{Bool, false, not, Option, Some, None}
+use Rattle.boost_core.specs.State.{State}
+use Rattle.boost_core.specs.contracts.machine.Core.{the_row}
+use Rattle.owned_pointer.specs.Blocks.{owns_block}
+use base.Fml.{Fml, ftrue}
+use denote.RawPtr.{Ptr}
+
+-- The block at the pointer with this core in it; without a core nothing.
+abbrev pub owns_core : Ptr → Option State → Fml
+owns_core p None = ftrue
+owns_core p (Some core) = owns_block the_row p core
+
+-- Whether there is a core that takes its stripes itself, as `Core::new` makes it.
+abbrev pub takes_stripes : Option State → Bool
+takes_stripes None = false
+takes_stripes (Some core) = not core.words

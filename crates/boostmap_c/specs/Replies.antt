@@ -1,0 +1,55 @@
+-- What C is told of an answer: a status, and for some a word.
+use Rattle.std.specs.Prelude.{ℕ, ◌+◌, Option, Some, None, Result, Ok, Err}
+use Rattle.txn_trace.specs.declared.answer.Answer.{Answer}
+use Rattle.txn_trace.specs.declared.answer.Answer.TheVariants.{Began, Busy, Done, Returned, Aborted, Saved, Committed, Refused}
+use Rattle.txn_trace.specs.declared.refusal.Refusal.{Refusal}
+use Rattle.txn_trace.specs.Refusals.{number_of}
+
+-- The statuses of a call that is done, done at a key without a value, or refused by a stripe's
+-- holder; and of a handle that has no map, or has one already.
+abbrev pub done : ℕ
+done = 0
+
+abbrev pub absent : ℕ
+absent = 1
+
+abbrev pub busy : ℕ
+busy = 2
+
+abbrev pub empty : ℕ
+empty = 3
+
+abbrev pub full : ℕ
+full = 4
+
+-- The status of a refusal.
+abbrev pub refused : Refusal → ℕ
+refused refusal = 16 + number_of refusal
+
+-- The status of an answer. No call that C can make has any other answer than these.
+abbrev pub status_of : Answer → ℕ
+status_of (Done None) = absent
+status_of (Done (Some value)) = done
+status_of (Began transaction) = done
+status_of (Saved level) = done
+status_of (Returned level) = done
+status_of (Committed number) = done
+status_of Aborted = done
+status_of (Busy holder) = busy
+status_of (Refused refusal) = refused refusal
+status_of other = 63
+
+-- The word after an answer, which is `before` where the answer has none to tell.
+abbrev pub word_after : ℕ → Answer → ℕ
+word_after before (Done (Some value)) = value
+word_after before (Began transaction) = transaction
+word_after before (Saved level) = level
+word_after before (Returned level) = level
+word_after before (Committed number) = number
+word_after before (Busy holder) = holder
+word_after before other = before
+
+-- The status of a call that only succeeds or is refused.
+abbrev pub status_of_result : Result Unit Refusal → ℕ
+status_of_result (Ok succeeded) = done
+status_of_result (Err refusal) = refused refusal

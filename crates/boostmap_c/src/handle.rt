@@ -1,0 +1,76 @@
+//! The handle that C keeps, and how a call takes the map out of it and puts it back. It stands
+//! apart so that no export sees the pointer: the tag says whether there is a map, so a call on an
+//! empty handle is answered and touches nothing.
+ghost use Rattle.std.specs.Prelude.{◌≡◌, Some, None, IfSome, IsNone, true, false, is_some};
+ghost use Rattle.boostmap_c.specs.Held.{takes_stripes};
+
+use crate::core_pointer::CorePointer;
+use boost_core::Core;
+use owned_pointer::OwnedPointer;
+use std::alloc::Global;
+use std::mem;
+
+/// The tag of a handle with a map: the bytes of "boostmap".
+const LIVE: u64 = 0x7061_6d74_736f_6f62;
+
+/// What C keeps: all zeros, or a map.
+#[repr(C)]
+#[derive(Drop)]
+pub struct Handle {
+    tag: u64,
+    pub(crate) held: CorePointer,
+    ghost live: { tag ≡ 0x7061_6d74_736f_6f62 → takes_stripes held.core ≡ true },
+    ghost dead: { is_some held.core ≡ true → tag ≡ 0x7061_6d74_736f_6f62 },
+}
+
+impl Handle {
+    /// Whether it has a map.
+    pub(crate) fn is_live(&self) -> bool
+        ensures { result ≡ is_some self.now.held.core }
+    {
+        self.tag == LIVE
+    }
+}
+
+/// Takes the map out of a handle, if it has one; the handle is all zeros then.
+pub(crate) fn open(alloc: Global, handle: &mut Handle) -> Option<Box<Core, Global>>
+    ensures some { IfSome result (λ core. (handle.old.held.core ≡ Some core.value)
+        × (core.value.words ≡ false)) }
+    ensures none { IsNone result → handle.old.held.core ≡ None }
+    ensures zeros { handle.new.held.core ≡ None }
+{
+    let zeros = Handle {
+        tag: 0,
+        held: CorePointer::null(),
+    };
+    let Handle { tag, held } = mem::replace(handle, zeros);
+    if tag != LIVE {
+        return None;
+    }
+    Some(held.restore().into_box(alloc))
+}
+
+/// Puts a map into a handle.
+pub(crate) fn close(handle: &mut Handle, core: Box<Core, Global>)
+    requires { core.value.words ≡ false }
+    ensures { handle.new.held.core ≡ Some core.value }
+{
+    *handle = Handle {
+        tag: LIVE,
+        held: CorePointer::erase(OwnedPointer::from_box(core)),
+    };
+}
+
+/// What may go to another thread.
+fn sends<T: Send>(value: T) -> T
+    ensures { result ≡ value }
+{
+    value
+}
+
+/// A core may go to another thread, and so may a handle that owns one.
+pub(crate) fn sends_core(core: Core) -> Core
+    ensures { result ≡ core }
+{
+    sends(core)
+}

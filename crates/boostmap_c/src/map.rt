@@ -1,0 +1,113 @@
+//! A map as a whole: made, freed, counted, and helped to grow. These calls need no transaction.
+ghost use Rattle.std.specs.Prelude.{◌≡◌, Some, None};
+ghost use Rattle.txn_trace.specs.Map.{count_of};
+ghost use Rattle.txn_trace.specs.Now.{now};
+ghost use Rattle.boostmap_c.specs.Calls.{Counts, Frees, HelpsWith, Makes};
+
+use crate::handle::{Handle, close, open};
+use crate::status::{DONE, EMPTY, FULL, refused, status_of};
+use boost_core::Core;
+use std::alloc::Global;
+use txn_trace::{Limits, Refusal};
+
+/// Makes a map in which nothing has happened, for 1 to 64 callers, 1 to 4096 stripes and, at the
+/// most, a power of two of buckets from 2 to 65536.
+///
+/// # Errors
+///
+/// The handle is unchanged: 4 if it has a map, 38 (`Limit`) if a number is out of range, 30
+/// (`NoMemory`) if memory is refused.
+///
+/// # Cost
+///
+/// Time and memory in proportion to the callers, the stripes and the buckets.
+#[unsafe(no_mangle)]
+pub extern "C" fn boostmap_new(
+    alloc: Global,
+    map: &mut Handle,
+    callers: u64,
+    stripes: u64,
+    buckets: u64,
+) -> u32
+    ensures { Makes map.old.held.core callers stripes buckets result map.new.held.core }
+{
+    if map.is_live() {
+        return FULL;
+    }
+    let limits = match Limits::new(callers, stripes, buckets) {
+        Ok(limits) => limits,
+        Err(refusal) => return refused(refusal),
+    };
+    let core = match Core::new(alloc, limits) {
+        Ok(core) => core,
+        Err(refusal) => return refused(refusal),
+    };
+    let Ok(core) = Box::new(alloc, core) else {
+        return refused(Refusal::NoMemory);
+    };
+    close(map, core);
+    DONE
+}
+
+/// Frees the map, with all transactions that are open; the handle is all zeros then.
+///
+/// # Errors
+///
+/// 3 if the handle has no map.
+///
+/// # Cost
+///
+/// Time in proportion to the nodes and the callers; takes no memory.
+#[unsafe(no_mangle)]
+pub extern "C" fn boostmap_free(alloc: Global, map: &mut Handle) -> u32
+    ensures { Frees map.old.held.core result map.new.held.core }
+{
+    match open(alloc, map) {
+        Some(_core) => DONE,
+        None => EMPTY,
+    }
+}
+
+/// Writes how many keys the map has, the changes of open transactions included.
+///
+/// # Errors
+///
+/// 3 if the handle has no map.
+///
+/// # Cost
+///
+/// Constant time; takes no memory.
+#[unsafe(no_mangle)]
+pub extern "C" fn boostmap_count(alloc: Global, map: &mut Handle, word: &mut u64) -> u32
+    ensures { Counts map.old.held.core result word.old word.new map.new.held.core }
+{
+    let Some(core) = open(alloc, map) else {
+        return EMPTY;
+    };
+    *word = core.count();
+    close(map, core);
+    DONE
+}
+
+/// Doubles the table if it has more than two keys a bucket, then initialises the bucket of a key.
+/// Nothing else doubles the table: call it now and then beside puts.
+///
+/// # Errors
+///
+/// 3 if the handle has no map, else as `Core::help`: 28 (`NoSuchHelper`), 32 (`StampsUsedUp`), 30
+/// (`NoMemory`). Buckets that are initialised stay so.
+///
+/// # Cost
+///
+/// At most 16 buckets, each with time in proportion to the nodes that are passed to its place.
+#[unsafe(no_mangle)]
+pub extern "C" fn boostmap_help(alloc: Global, map: &mut Handle, caller: u64, key: u64) -> u32
+    ensures { HelpsWith map.old.held.core caller key result map.new.held.core }
+{
+    let Some(mut core) = open(alloc, map) else {
+        return EMPTY;
+    };
+    let outcome = core.help(caller, key);
+    close(map, core);
+    status_of(outcome)
+}

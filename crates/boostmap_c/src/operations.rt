@@ -1,0 +1,171 @@
+//! The operations of a transaction on one key. Each takes the key's stripe, which its transaction
+//! holds to its end.
+ghost use Rattle.std.specs.Prelude.{Some, None};
+ghost use Rattle.boost_core.specs.Plain.{Operates};
+ghost use Rattle.boostmap_c.specs.Calls.{Answers};
+
+use crate::handle::{Handle, close, open};
+use crate::status::{EMPTY, tell};
+use std::alloc::Global;
+use txn_trace::Op;
+
+/// Puts a value at a key; the word is the value before.
+///
+/// # Errors
+///
+/// 3 if the handle has no map; 2 if another caller holds the key's stripe, after which the
+/// transaction can only abort. A refusal changes nothing: 18 (`NoSuchCaller`), 19 (`NotOpen`), 22
+/// (`Leaving`), 30
+/// (`NoMemory`), 32 (`StampsUsedUp`).
+///
+/// # Cost
+///
+/// Time in proportion to the nodes from the nearest initialised bucket to the key's place.
+#[unsafe(no_mangle)]
+pub extern "C" fn boostmap_put(
+    alloc: Global,
+    map: &mut Handle,
+    caller: u64,
+    key: u64,
+    value: u64,
+    word: &mut u64,
+) -> u32
+    ensures { Answers (λ old answer new. Operates old caller (Op.Put key value) answer new)
+        map.old.held.core result word.old word.new map.new.held.core }
+{
+    let Some(mut core) = open(alloc, map) else {
+        return EMPTY;
+    };
+    let answer = core.put(caller, key, value);
+    close(map, core);
+    tell(answer, word)
+}
+
+/// Puts a value at a key that has none. The word is the value that the key has: if one is written,
+/// nothing was put.
+///
+/// # Errors
+///
+/// 3 if the handle has no map; 2 if another caller holds the key's stripe, after which the
+/// transaction can only abort. A refusal changes nothing: 18 (`NoSuchCaller`), 19 (`NotOpen`), 22
+/// (`Leaving`), 30
+/// (`NoMemory`), 32 (`StampsUsedUp`).
+///
+/// # Cost
+///
+/// Time in proportion to the nodes from the nearest initialised bucket to the key's place.
+#[unsafe(no_mangle)]
+pub extern "C" fn boostmap_put_if_absent(
+    alloc: Global,
+    map: &mut Handle,
+    caller: u64,
+    key: u64,
+    value: u64,
+    word: &mut u64,
+) -> u32
+    ensures { Answers (λ old answer new. Operates old caller (Op.PutIf key None value) answer new)
+        map.old.held.core result word.old word.new map.new.held.core }
+{
+    let Some(mut core) = open(alloc, map) else {
+        return EMPTY;
+    };
+    let answer = core.put_if(caller, key, None, value);
+    close(map, core);
+    tell(answer, word)
+}
+
+/// Puts a value at a key that has the expected one. The word is the value before: if it is another
+/// one, or none is written, nothing was put.
+///
+/// # Errors
+///
+/// 3 if the handle has no map; 2 if another caller holds the key's stripe, after which the
+/// transaction can only abort. A refusal changes nothing: 18 (`NoSuchCaller`), 19 (`NotOpen`), 22
+/// (`Leaving`), 30
+/// (`NoMemory`), 32 (`StampsUsedUp`).
+///
+/// # Cost
+///
+/// Time in proportion to the nodes from the nearest initialised bucket to the key's place.
+#[unsafe(no_mangle)]
+pub extern "C" fn boostmap_put_if_equal(
+    alloc: Global,
+    map: &mut Handle,
+    caller: u64,
+    key: u64,
+    expected: u64,
+    value: u64,
+    word: &mut u64,
+) -> u32
+    ensures { Answers (λ old answer new. Operates old caller (Op.PutIf key (Some expected) value) answer new)
+        map.old.held.core result word.old word.new map.new.held.core }
+{
+    let Some(mut core) = open(alloc, map) else {
+        return EMPTY;
+    };
+    let answer = core.put_if(caller, key, Some(expected), value);
+    close(map, core);
+    tell(answer, word)
+}
+
+/// Takes a key out; the word is the value that it had.
+///
+/// # Errors
+///
+/// 3 if the handle has no map; 2 if another caller holds the key's stripe, after which the
+/// transaction can only abort. A refusal changes nothing: 18 (`NoSuchCaller`), 19 (`NotOpen`), 22
+/// (`Leaving`), 30
+/// (`NoMemory`).
+///
+/// # Cost
+///
+/// Time in proportion to the nodes from the nearest initialised bucket to the key's place.
+#[unsafe(no_mangle)]
+pub extern "C" fn boostmap_take(
+    alloc: Global,
+    map: &mut Handle,
+    caller: u64,
+    key: u64,
+    word: &mut u64,
+) -> u32
+    ensures { Answers (λ old answer new. Operates old caller (Op.Take key) answer new)
+        map.old.held.core result word.old word.new map.new.held.core }
+{
+    let Some(mut core) = open(alloc, map) else {
+        return EMPTY;
+    };
+    let answer = core.take(caller, key);
+    close(map, core);
+    tell(answer, word)
+}
+
+/// Gets the value at a key, which is the word.
+///
+/// # Errors
+///
+/// 3 if the handle has no map; 2 if another caller holds the key's stripe, after which the
+/// transaction can only abort. A refusal changes nothing: 18 (`NoSuchCaller`), 19 (`NotOpen`), 22
+/// (`Leaving`), 30
+/// (`NoMemory`).
+///
+/// # Cost
+///
+/// Time in proportion to the nodes from the nearest initialised bucket to the key's place.
+#[unsafe(no_mangle)]
+pub extern "C" fn boostmap_get(
+    alloc: Global,
+    map: &mut Handle,
+    caller: u64,
+    key: u64,
+    word: &mut u64,
+) -> u32
+    ensures { Answers (λ old answer new. Operates old caller (Op.Get key) answer new)
+        map.old.held.core result word.old word.new map.new.held.core }
+{
+    let Some(mut core) = open(alloc, map) else {
+        return EMPTY;
+    };
+    let answer = core.get(caller, key);
+    close(map, core);
+    tell(answer, word)
+}

@@ -1,0 +1,68 @@
+//! The statuses, and what C is told of an answer. They stand apart because each export ends here.
+ghost use Rattle.std.specs.Prelude.{◌≡◌};
+ghost use Rattle.boostmap_c.specs.Replies.{refused, status_of, status_of_result, word_after};
+
+use txn_trace::{Answer, Refusal};
+
+/// Done; the word is the value, the transaction, the level or the commit number.
+pub(crate) const DONE: u32 = 0;
+
+/// Done, at a key without a value.
+pub(crate) const ABSENT: u32 = 1;
+
+/// Another caller, the word, holds the key's stripe.
+pub(crate) const BUSY: u32 = 2;
+
+/// The handle has no map.
+pub(crate) const EMPTY: u32 = 3;
+
+/// The handle has a map already.
+pub(crate) const FULL: u32 = 4;
+
+/// Every refusal's status is this and the refusal's number.
+const REFUSED: u32 = 16;
+
+/// No call that C can make is answered so.
+const OTHER: u32 = 63;
+
+/// The status of a refusal.
+pub(crate) fn refused(refusal: Refusal) -> u32
+    ensures { result ≡ refused refusal }
+{
+    REFUSED + refusal.number() as u32
+}
+
+/// The status of a call that only succeeds or is refused.
+pub(crate) fn status_of(outcome: Result<(), Refusal>) -> u32
+    ensures { result ≡ status_of_result outcome }
+{
+    match outcome {
+        Ok(()) => DONE,
+        Err(refusal) => refused(refusal),
+    }
+}
+
+/// Writes an answer's word, if it has one, and gives its status.
+pub(crate) fn tell(answer: Answer, word: &mut u64) -> u32
+    ensures status { result ≡ status_of answer }
+    ensures word { word.new ≡ word_after word.old answer }
+{
+    match answer {
+        Answer::Done(None) => ABSENT,
+        Answer::Done(Some(number))
+        | Answer::Began(number)
+        | Answer::Saved(number)
+        | Answer::Returned(number)
+        | Answer::Committed(number) => {
+            *word = number;
+            DONE
+        }
+        Answer::Busy(holder) => {
+            *word = holder;
+            BUSY
+        }
+        Answer::Aborted => DONE,
+        Answer::Refused(refusal) => refused(refusal),
+        _ => OTHER,
+    }
+}

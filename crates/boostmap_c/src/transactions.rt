@@ -1,0 +1,143 @@
+//! The ends of a transaction and its savepoints.
+ghost use Rattle.boost_core.specs.Machine.{Move};
+ghost use Rattle.boost_core.specs.Plain.{Aborts, Returns};
+ghost use Rattle.boostmap_c.specs.Calls.{Answers};
+
+use crate::handle::{Handle, close, open};
+use crate::status::{EMPTY, tell};
+use std::alloc::Global;
+use txn_trace::Step;
+
+/// Begins a transaction; the word is its number, counted from 1.
+///
+/// # Errors
+///
+/// 3 if the handle has no map. A refusal changes nothing: 18 (`NoSuchCaller`), 20 (`AlreadyOpen`), 30 (`NoMemory`).
+///
+/// # Cost
+///
+/// Constant time, amortized; may take memory for the history.
+#[unsafe(no_mangle)]
+pub extern "C" fn boostmap_begin(
+    alloc: Global,
+    map: &mut Handle,
+    caller: u64,
+    word: &mut u64,
+) -> u32
+    ensures { Answers (λ old answer new. Move old (Step.Begin caller) answer new)
+        map.old.held.core result word.old word.new map.new.held.core }
+{
+    let Some(mut core) = open(alloc, map) else {
+        return EMPTY;
+    };
+    let answer = core.step(Step::Begin(caller));
+    close(map, core);
+    tell(answer, word)
+}
+
+/// Sets a savepoint; the word is its level, counted from 1.
+///
+/// # Errors
+///
+/// 3 if the handle has no map. A refusal changes nothing: 18 (`NoSuchCaller`), 19 (`NotOpen`), 22 (`Leaving`), 30
+/// (`NoMemory`).
+///
+/// # Cost
+///
+/// Constant time, amortized; may take memory for the history and the level.
+#[unsafe(no_mangle)]
+pub extern "C" fn boostmap_save(alloc: Global, map: &mut Handle, caller: u64, word: &mut u64) -> u32
+    ensures { Answers (λ old answer new. Move old (Step.Save caller) answer new)
+        map.old.held.core result word.old word.new map.new.held.core }
+{
+    let Some(mut core) = open(alloc, map) else {
+        return EMPTY;
+    };
+    let answer = core.step(Step::Save(caller));
+    close(map, core);
+    tell(answer, word)
+}
+
+/// Takes back every change since a level was set, newest first; 0 is the beginning. The word is the
+/// level, which stays set. Stripes stay held.
+///
+/// # Errors
+///
+/// 3 if the handle has no map. A refusal changes nothing: 18 (`NoSuchCaller`), 19 (`NotOpen`), 22 (`Leaving`), 25
+/// (`NoSuchLevel`), 30 (`NoMemory`).
+///
+/// # Cost
+///
+/// That of an operation for each change; may take memory for the history only.
+#[unsafe(no_mangle)]
+pub extern "C" fn boostmap_back(
+    alloc: Global,
+    map: &mut Handle,
+    caller: u64,
+    level: u64,
+    word: &mut u64,
+) -> u32
+    ensures { Answers (λ old answer new. Returns old caller level answer new)
+        map.old.held.core result word.old word.new map.new.held.core }
+{
+    let Some(mut core) = open(alloc, map) else {
+        return EMPTY;
+    };
+    let answer = core.back(caller, level);
+    close(map, core);
+    tell(answer, word)
+}
+
+/// Commits; the word is the transaction's place in the order of commits, counted from 1.
+///
+/// # Errors
+///
+/// 3 if the handle has no map. A refusal changes nothing: 18 (`NoSuchCaller`), 19 (`NotOpen`), 22 (`Leaving`).
+///
+/// # Cost
+///
+/// A step for each change and each stripe; takes no memory.
+#[unsafe(no_mangle)]
+pub extern "C" fn boostmap_commit(
+    alloc: Global,
+    map: &mut Handle,
+    caller: u64,
+    word: &mut u64,
+) -> u32
+    ensures { Answers (λ old answer new. Move old (Step.Commit caller) answer new)
+        map.old.held.core result word.old word.new map.new.held.core }
+{
+    let Some(mut core) = open(alloc, map) else {
+        return EMPTY;
+    };
+    let answer = core.step(Step::Commit(caller));
+    close(map, core);
+    tell(answer, word)
+}
+
+/// Aborts: takes back every change, newest first, and gives all stripes back. No word is written.
+///
+/// # Errors
+///
+/// 3 if the handle has no map. A refusal changes nothing: 18 (`NoSuchCaller`), 19 (`NotOpen`).
+///
+/// # Cost
+///
+/// That of an operation for each change, and a step for each stripe; takes no memory.
+#[unsafe(no_mangle)]
+pub extern "C" fn boostmap_abort(
+    alloc: Global,
+    map: &mut Handle,
+    caller: u64,
+    word: &mut u64,
+) -> u32
+    ensures { Answers (λ old answer new. Aborts old caller answer new)
+        map.old.held.core result word.old word.new map.new.held.core }
+{
+    let Some(mut core) = open(alloc, map) else {
+        return EMPTY;
+    };
+    let answer = core.abort(caller);
+    close(map, core);
+    tell(answer, word)
+}

@@ -1,0 +1,30 @@
+-- The heap as the allocator of a box: what a call of a method of `Box` is handed for it. Assumes nothing.
+use mathlib.Core.Path.{refl}
+use mathlib.Core.List.{[], ◌∷◌}
+use mir.Raw.{raw}
+use mir.Syntax.{Ty, Dict, tnil, tcons, dnil, impl}
+use denote.RattleType.{RattleType}
+use denote.Exit.{no}
+use denote.Param.{layout, arg}
+use denote.Param.Laws.{Laws, arg_laws}
+use Rattle.core.proofs.alloc.Calls.{Al}
+use Rattle.std.proofs.alloc.Global.TheLaws as laws
+use Rattle.std.specs.contracts.alloc.Global as heap
+use Rattle.std.specs.contracts.impls.GlobalAllocator.TheImpl.{ghosts, dict}
+use Rattle.std_alloc.proofs.BoxSteps.Form.{Bx}
+
+-- How a call writes the heap's handle, which takes no bytes.
+abbrev handle : Ty
+handle = raw (layout heap.the_row)
+
+-- The glue that this crate's code names for the heap's handle, which needs no drop.
+abbrev pub glue : Dict
+glue = impl ("owned_pointer::Destruct++none::drop" ∷ []) (tcons handle tnil) dnil
+
+-- The heap, with all that a statement assumes of an allocator, as an argument of a call.
+abbrev pub the_heap : Al
+the_heap = record { row = arg handle no heap.the_row; laws = arg_laws handle no heap.the_row laws.the_row_laws refl; g = ghosts; d = dict; drops = glue }
+
+-- A box of the heap, at its element.
+abbrev pub on_heap : (T : RattleType) → Laws T → Bx
+on_heap T L = record { row = T; laws = L; al = the_heap }

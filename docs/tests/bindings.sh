@@ -1,0 +1,107 @@
+#!/usr/bin/env bash
+# Builds and runs the library for C, C++, Rust and Python from outside: installs it below a folder that goes at the end,
+# then each language's tests and its example, against bindings/examples/stdout. It needs rt and cc; c++, cargo, python3,
+# valgrind and a compiler with ThreadSanitizer if they are there: what is missing is named as not run. Nothing is fetched.
+# Where the archive is not built, `rt lib` proves and builds it first. Takes a minute besides.
+# The last line is 'bindings: N passed, M failed', and the status is 1 where M is not 0.
+set -uo pipefail
+cd "$(dirname "${BASH_SOURCE[0]}")/../.." || exit 1
+work=$(mktemp -d)
+trap 'rm -rf "$work"' EXIT
+passed=0 failed=0
+
+# Runs a test, by its name; what it wrote is shown only if it fails.
+try() {
+  local name=$1
+  shift
+  if "$@" >"$work/log" 2>&1 </dev/null; then
+    passed=$((passed + 1))
+  else
+    failed=$((failed + 1))
+    echo "bindings: $name: failed" >&2
+    cat "$work/log" >&2
+  fi
+}
+
+# Whether a command is there; if not, what is not run is named.
+has() {
+  command -v "$1" >/dev/null && return
+  echo "bindings: not run, since there is no $1: $2"
+  false
+}
+
+# No test takes longer.
+within() { timeout 600 "$@"; }
+
+prints_the_example() { within "$@" | cmp - bindings/examples/stdout; }
+
+use=(-Ibindings/tests "-I$work/usr/include" "-L$work/usr/lib")
+strict=(-O2 -Wall -Wextra -Wpedantic -Werror)
+
+# A test in C: its name, its standard, and further words for the compiler.
+c_test() {
+  local name=$1 standard=$2
+  shift 2
+  try "compile $name.c" cc "-std=$standard" "${strict[@]}" "${use[@]}" "bindings/tests/$name.c" -o "$work/$name" -lboostmap "$@"
+  try "$name" within "$work/$name"
+}
+
+in_c() {
+  c_test statuses c99
+  c_test threads c11 -D_GNU_SOURCE -pthread
+  c_test door c11 -pthread
+  c_test no_memory c11 -Wl,--wrap=malloc -Wl,--wrap=realloc -Wl,--wrap=free
+  try 'compile transfer.c' cc -std=c99 "${strict[@]}" "${use[@]}" bindings/examples/transfer.c -o "$work/transfer" -lboostmap
+  try 'example in C' prints_the_example "$work/transfer"
+}
+
+in_c_again() {
+  local name
+  if has valgrind 'the tests in C under valgrind'; then
+    for name in statuses no_memory threads; do
+      try "$name under valgrind" within valgrind -q --error-exitcode=9 --leak-check=full "$work/$name"
+    done
+  fi
+  echo 'int main(void) { return 0; }' >"$work/empty.c"
+  if cc -fsanitize=thread "$work/empty.c" -o "$work/empty" 2>/dev/null && "$work/empty" 2>/dev/null; then
+    for name in threads door; do
+      try "compile $name.c with ThreadSanitizer" cc -std=c11 -D_GNU_SOURCE -O1 -g -fsanitize=thread -pthread "${use[@]}" \
+        "bindings/tests/$name.c" -o "$work/$name.tsan" -lboostmap
+      try "$name with ThreadSanitizer" within "$work/$name.tsan"
+    done
+  else
+    echo 'bindings: not run, since cc has no ThreadSanitizer: the threads in C with it'
+  fi
+}
+
+in_cpp() {
+  try 'compile values.cpp' c++ -std=c++17 "${strict[@]}" "${use[@]}" bindings/tests/values.cpp -o "$work/values" -lboostmap
+  try 'values in C++' within "$work/values"
+  try 'compile transfer.cpp' c++ -std=c++17 "${strict[@]}" "${use[@]}" bindings/examples/transfer.cpp -o "$work/transfer" -lboostmap
+  try 'example in C++' prints_the_example "$work/transfer"
+}
+
+in_rust() {
+  local run=(env "BOOSTMAP_LIB=$work/usr/lib" "CARGO_TARGET_DIR=$work/target" cargo)
+  local crate=(--offline --quiet --manifest-path "$work/rust/Cargo.toml")
+  cp -r bindings/rust "$work/rust"
+  try 'tests in Rust' within "${run[@]}" test "${crate[@]}"
+  try 'example in Rust' prints_the_example "${run[@]}" run "${crate[@]}" --example transfer
+}
+
+in_python() {
+  local run=(env "PYTHONPATH=$work/usr/share/boostmap/python" PYTHONDONTWRITEBYTECODE=1 python3)
+  try 'tests in Python' within "${run[@]}" bindings/tests/test_boostmap.py
+  try 'example in Python' prints_the_example "${run[@]}" bindings/examples/transfer.py
+}
+
+try 'install.sh' bindings/install.sh "$work/usr"
+if has cc 'everything in C'; then in_c && in_c_again; fi
+if has pkg-config 'the pkg-config file'; then
+  try 'boostmap.pc' env "PKG_CONFIG_PATH=$work/usr/lib/pkgconfig" pkg-config --cflags --libs boostmap
+fi
+if has c++ 'everything in C++'; then in_cpp; fi
+if has cargo 'everything in Rust'; then in_rust; fi
+if has python3 'everything in Python'; then in_python; fi
+echo "bindings: $passed passed, $failed failed"
+[ "$failed" = 0 ]
