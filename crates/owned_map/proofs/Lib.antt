@@ -1,0 +1,4 @@
+pub mod Histories
+pub mod Only
+pub mod Steps
+pub mod Calls

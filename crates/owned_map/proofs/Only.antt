@@ -1,0 +1,157 @@
+-- What a caller's own steps and plain calls add is its own, and only a commit commits.
+use Rattle.std.proofs.Common.{◌≡◌, ◌≢◌, ℕ, zero, suc, true, false, Bool, cond, List, [], ◌∷◌, ◌++◌, Some, refl, sym, ap, ◌∙◌}
+use Rattle.std.specs.List.{AllByRecursion, filter}
+use Rattle.std.proofs.lemmas.Bool.{ne_eqb, false≢true}
+use Rattle.std.proofs.lemmas.List.{append-nil}
+use Rattle.std.proofs.lemmas.List.Elements.{filter-append}
+use Rattle.txn_trace.specs.declared.op.Op.{Op}
+use Rattle.txn_trace.specs.declared.step.Step.{Step}
+use Rattle.txn_trace.specs.declared.step.Step.TheVariants.{Begin, Ask, Seek, Act, Save, Back, Commit, Abort, InitSeek, InitLink, InitStore, Double}
+use Rattle.txn_trace.specs.declared.answer.Answer.{Answer}
+use Rattle.txn_trace.specs.declared.answer.Answer.TheVariants as answers
+use Rattle.txn_trace.specs.declared.entry.Entry.{Entry}
+use Rattle.txn_trace.specs.declared.entry.Entry.TheVariants.{Committed}
+use Rattle.txn_trace.specs.Entries.{entries_of}
+use Rattle.txn_trace.specs.History.{caller_of, is_commit}
+use Rattle.txn_trace.specs.Shape.{own}
+use Rattle.txn_trace.proofs.Pushes.{own-push_out}
+use Rattle.boost_core.specs.declared.owner.Owner.TheVariants.{Caller}
+use Rattle.boost_core.specs.State.{State, seat_in}
+use Rattle.boost_core.specs.Refusals.{owner_of}
+use Rattle.boost_core.specs.Answers.{is_at_end}
+use Rattle.boost_core.specs.Machine.{Move, Moves}
+use Rattle.boost_core.specs.Plain.{Operates, Returns, Aborts, Ends, Leaves, undoing, undone}
+use Rattle.owned_map.specs.Within.{OnlyDid, IsBeside, commits_of, is_grown, IsGrown}
+
+-- A step of a caller that does not commit.
+abbrev pub is_quiet : Step → Bool
+is_quiet (Commit c) = false
+is_quiet step = true
+
+pub record IsBy (c : ℕ) (step : Step) : Type 0 where
+  pub whose : owner_of step ≡ Some (Caller c)
+  pub quiet : is_quiet step ≡ true
+
+-- One entry of another caller.
+apart_from : (c d : ℕ) (h : List Entry) (e : Entry) → caller_of e ≡ c → d ≢ c → own d (h ++ e ∷ []) ≡ own d h
+apart_from c d h e is apart = own-push_out d h e (ne_eqb (caller_of e) d (λ same. apart (sym same ∙ is)))
+
+entries_apart : (c d : ℕ) (h : List Entry) (step : Step) (answer : Answer) → owner_of step ≡ Some (Caller c) → d ≢ c → own d (h ++ entries_of step answer) ≡ own d h
+entries_apart c d h (Begin e) (answers.Began t) by apart = apart_from c d h _ (cc by) apart
+entries_apart c d h (Ask e op) answers.Asked by apart = apart_from c d h _ (cc by) apart
+entries_apart c d h (Ask e op) (answers.Busy x) by apart = apart_from c d h _ (cc by) apart
+entries_apart c d h (Act e) (answers.Done reply) by apart = apart_from c d h _ (cc by) apart
+entries_apart c d h (Act e) answers.Undone by apart = apart_from c d h _ (cc by) apart
+entries_apart c d h (Act e) (answers.Returned n) by apart = apart_from c d h _ (cc by) apart
+entries_apart c d h (Act e) answers.Aborted by apart = apart_from c d h _ (cc by) apart
+entries_apart c d h (Save e) (answers.Saved n) by apart = apart_from c d h _ (cc by) apart
+entries_apart c d h (Back e n) answers.Leaving by apart = apart_from c d h _ (cc by) apart
+entries_apart c d h (Commit e) (answers.Committed p) by apart = apart_from c d h _ (cc by) apart
+entries_apart c d h (Abort e) answers.Leaving by apart = apart_from c d h _ (cc by) apart
+entries_apart c d h step answer by apart = ap (own d) (append-nil h)
+
+-- The entries of such a step.
+none_committed : (step : Step) (answer : Answer) → is_quiet step ≡ true → commits_of (entries_of step answer) ≡ []
+none_committed (Commit e) (answers.Committed p) quiet = absurd (false≢true quiet)
+none_committed (Begin e) (answers.Began t) quiet = refl
+none_committed (Ask e op) answers.Asked quiet = refl
+none_committed (Ask e op) (answers.Busy x) quiet = refl
+none_committed (Act e) (answers.Done reply) quiet = refl
+none_committed (Act e) answers.Undone quiet = refl
+none_committed (Act e) (answers.Returned n) quiet = refl
+none_committed (Act e) answers.Aborted quiet = refl
+none_committed (Save e) (answers.Saved n) quiet = refl
+none_committed (Back e n) answers.Leaving quiet = refl
+none_committed (Abort e) answers.Leaving quiet = refl
+none_committed step answer quiet = refl
+
+commits_after : (h : List Entry) (step : Step) (answer : Answer) → is_quiet step ≡ true → commits_of (h ++ entries_of step answer) ≡ commits_of h
+commits_after h step answer quiet =
+    filter-append is_commit h (entries_of step answer) ∙ ap (λ es. commits_of h ++ es) (none_committed step answer quiet) ∙ append-nil (commits_of h)
+
+pub same : (c : ℕ) (old new : State) → new.history ≡ old.history → IsBeside c old new
+same c old new is = record { only = λ d apart. ap (own d) is; commits = ap commits_of is }
+
+-- One after the other.
+pub after : (c : ℕ) (old between new : State) → IsBeside c old between → IsBeside c between new → IsBeside c old new
+after c old between new first second = record {
+  only = λ d apart. second.only d apart ∙ first.only d apart;
+  commits = second.commits ∙ first.commits;
+}
+
+pub moved : (c : ℕ) (old new : State) (step : Step) (answer : Answer) → IsBy c step → Move old step answer new → IsBeside c old new
+moved c old new step (answers.Refused refusal) by move = same c old new (ap (λ (s : State). s.history) move.state)
+moved c old new step answer by move = record {
+  only = λ d apart. ap (λ (s : State). own d s.history) move.state ∙ entries_apart c d old.history step answer by.whose apart;
+  commits = ap (λ (s : State). commits_of s.history) move.state ∙ commits_after old.history step answer by.quiet;
+}
+
+-- A commit commits, and nobody else did anything.
+pub committed : (c p : ℕ) (old new : State) → Move old (Commit c) (answers.Committed p) new
+    → OnlyDid c old new × (commits_of new.history ≡ commits_of old.history ++ Committed c p ∷ [])
+committed c p old new move = (
+  λ d apart. ap (λ (s : State). own d s.history) move.state ∙ entries_apart c d old.history (Commit c) (answers.Committed p) refl apart,
+  ap (λ (s : State). commits_of s.history) move.state ∙ filter-append is_commit old.history (Committed c p ∷ []),
+)
+
+all_moved : (c : ℕ) (old new : State) (steps : List Step) (given : List Answer) → AllByRecursion (IsBy c) steps → Moves old steps given new → IsBeside c old new
+all_moved c old new [] [] by is = same c old new (ap (λ (s : State). s.history) is)
+all_moved c old new (step ∷ steps) (answer ∷ given) by (between, move, rest) =
+    after c old between new (moved c old between step answer by.0 move) (all_moved c between new steps given by.1 rest)
+all_moved c old new [] (answer ∷ given) by none = absurd none
+all_moved c old new (step ∷ steps) [] by none = absurd none
+
+seek_by : (c : ℕ) → IsBy c (Seek c)
+seek_by c = record { whose = refl; quiet = refl }
+
+act_by : (c : ℕ) → IsBy c (Act c)
+act_by c = record { whose = refl; quiet = refl }
+
+ask_by : (c : ℕ) (op : Op) → IsBy c (Ask c op)
+ask_by c op = record { whose = refl; quiet = refl }
+
+undoing_by : (c changes : ℕ) (steps : List Step) → AllByRecursion (IsBy c) steps → AllByRecursion (IsBy c) (undoing changes c steps)
+undoing_by c zero steps by = by
+undoing_by c (suc changes) steps by = undoing_by c changes (Seek c ∷ Act c ∷ steps) (seek_by c, (act_by c, by))
+
+-- The plain calls.
+pub operated : (c : ℕ) (old new : State) (op : Op) (answer : Answer) → Operates old c op answer new → IsBeside c old new
+operated c old new op (answers.Done reply) moves = all_moved c old new (Ask c op ∷ Seek c ∷ Act c ∷ []) (answers.Asked ∷ answers.Placed ∷ answers.Done reply ∷ []) (ask_by c op, (seek_by c, (act_by c, tt))) moves
+operated c old new op answers.Asked none = absurd none
+operated c old new op answer move = moved c old new (Ask c op) answer (ask_by c op) move
+
+left : (c : ℕ) (old new : State) (b : Bool) → Leaves b old c new → IsBeside c old new
+left c old new true is = same c old new (ap (λ (s : State). s.history) is)
+left c old new false move = moved c old new (Abort c) answers.Leaving (record { whose = refl; quiet = refl }) move
+
+ended : (c : ℕ) (old new : State) (answer : Answer) → Ends old c answer new → IsBeside c old new
+ended c old new answer (changes, moves) =
+    all_moved c old new (undoing changes c (Act c ∷ [])) (undone changes (answer ∷ [])) (undoing_by c changes (Act c ∷ []) (act_by c, tt)) moves
+
+pub aborted : (c : ℕ) (old new : State) (answer : Answer) → Aborts old c answer new → IsBeside c old new
+aborted c old new answers.Aborted (between, leaves, ends) =
+    after c old between new (left c old between (is_at_end (seat_in old.history c).phase) leaves) (ended c between new answers.Aborted ends)
+aborted c old new answers.Leaving none = absurd none
+aborted c old new answer refused = moved c old new (Abort c) answer (record { whose = refl; quiet = refl }) refused.1
+
+pub returned : (c n : ℕ) (old new : State) (answer : Answer) → Returns old c n answer new → IsBeside c old new
+returned c n old new (answers.Returned m) (reached, between, move, ends) =
+    after c old between new (moved c old between (Back c n) answers.Leaving (record { whose = refl; quiet = refl }) move) (ended c between new (answers.Returned m) ends)
+returned c n old new answers.Leaving none = absurd none
+returned c n old new answer refused = moved c old new (Back c n) answer (record { whose = refl; quiet = refl }) refused
+
+-- A step of a helper or of the table adds no entry.
+pub grown : (old new : State) (step : Step) (answer : Answer) → is_grown step ≡ true → Move old step answer new → new.words ≡ old.words → IsGrown old new
+grown old new step answer is move words = record { history = added step answer is move; limits = kept answer move; words = words }
+  where
+    added : (step : Step) (answer : Answer) → is_grown step ≡ true → Move old step answer new → new.history ≡ old.history
+    added step (answers.Refused refusal) is move = ap (λ (s : State). s.history) move.state
+    added (InitSeek h b) answer is move = ap (λ (s : State). s.history) move.state ∙ append-nil old.history
+    added (InitLink h) answer is move = ap (λ (s : State). s.history) move.state ∙ append-nil old.history
+    added (InitStore h) answer is move = ap (λ (s : State). s.history) move.state ∙ append-nil old.history
+    added (Double n) answer is move = ap (λ (s : State). s.history) move.state ∙ append-nil old.history
+    added step answer is move = absurd (false≢true is)
+
+    kept : (answer : Answer) → Move old step answer new → new.limits ≡ old.limits
+    kept (answers.Refused refusal) move = ap (λ (s : State). s.limits) move.state
+    kept answer move = ap (λ (s : State). s.limits) move.state

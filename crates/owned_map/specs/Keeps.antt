@@ -1,0 +1,10 @@
+-- What every call within a transaction keeps, so also every work that is made of such calls.
+use Rattle.std.specs.Prelude.{◌≡◌}
+use Rattle.owned_map.specs.declared.transaction.Transaction.{Transaction}
+use Rattle.owned_map.specs.Within.{GoesOn}
+
+-- It is the same transaction, of the same caller on the same map, and it went on.
+pub record Keeps (old new : Transaction) : Type 0 where
+  pub same_map : new.map.ghost_name ≡ old.map.ghost_name
+  pub same_caller : new.caller ≡ old.caller
+  pub goes_on : GoesOn old.caller old.map.now.core new.map.now.core

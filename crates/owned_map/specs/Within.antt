@@ -1,0 +1,114 @@
+-- A transaction of one caller that no step of another comes between: what its calls leave.
+use Rattle.std.specs.Prelude.{ℕ, ◌≡◌, ◌≢◌, ◌⊎◌, Bool, true, List, [], ◌∷◌, ◌++◌, Option, Some, nat_le, false}
+use Rattle.std.specs.List.{filter}
+use Rattle.txn_trace.specs.declared.op.Op.{Op}
+use Rattle.txn_trace.specs.declared.step.Step.{Step}
+use Rattle.txn_trace.specs.declared.step.Step.TheVariants.{InitSeek, InitLink, InitStore, Double}
+use Rattle.txn_trace.specs.declared.holder.Holder.{Holder}
+use Rattle.txn_trace.specs.declared.entry.Entry.{Entry}
+use Rattle.txn_trace.specs.declared.entry.Entry.TheVariants.{Committed}
+use Rattle.txn_trace.specs.declared.seat.Phase.{Phase}
+use Rattle.txn_trace.specs.declared.seat.Phase.TheVariants.{Opened, LeavingToEnd}
+use Rattle.txn_trace.specs.History.{is_commit}
+use Rattle.txn_trace.specs.Sizes.{Sizes}
+use Rattle.txn_trace.specs.Map.{Map, reply_of, after}
+use Rattle.txn_trace.specs.Now.{now, set_at}
+use Rattle.txn_trace.specs.Log.{log_of}
+use Rattle.txn_trace.specs.Seats.{is_closed}
+use Rattle.txn_trace.specs.Shape.{Seat, seat_after, own}
+use Rattle.txn_trace.specs.Legal.{IsLegal}
+use Rattle.boost_core.specs.State.{State, holder_by, seat_in}
+
+-- The map after these changes are taken back, the first of them first: of each its key and the
+-- value before it.
+abbrev pub taken_back : List (ℕ × Option ℕ) → Map → Map
+taken_back [] m = m
+taken_back (job ∷ jobs) m = taken_back jobs (set_at m job.0 job.1)
+
+-- A caller is in this phase, and with its standing changes taken back the map is this one.
+pub record Stands (rule : Holder) (limits : Sizes) (c : ℕ) (base : Map) (phase : Phase)
+    (h : List Entry) : Type 0 where
+  pub within : nat_le limits.callers c ≡ false
+  pub legal : IsLegal rule limits.stripes h
+  pub seat : Seat
+  pub seat_is : seat_after (own c h) ≡ Some seat
+  pub phase_is : seat.phase ≡ phase
+  pub back : taken_back (log_of c h) (now h) ≡ base
+
+abbrev pub IsAt : ℕ → Map → Phase → State → Type 0
+IsAt c base phase state =
+    Stands (holder_by state.words) state.limits c base phase state.history
+
+-- A caller has a transaction that began on this map and can be aborted, or is being aborted.
+abbrev pub CanAbort : ℕ → Map → State → Type 0
+CanAbort c base state = IsAt c base Opened state ⊎ IsAt c base LeavingToEnd state
+
+-- A caller has no transaction.
+abbrev pub IsIdle : ℕ → State → Type 0
+IsIdle c state = is_closed (seat_in state.history c).phase ≡ true
+
+-- Only this caller did anything: the entries of every other are unchanged.
+abbrev pub OnlyDid : ℕ → State → State → Type 0
+OnlyDid c old new = (d : ℕ) → d ≢ c → own d new.history ≡ own d old.history
+
+-- The Committed entries of a history, in order.
+abbrev pub commits_of : List Entry → List Entry
+commits_of h = filter is_commit h
+
+-- No other caller did anything, and nothing was committed.
+pub record IsBeside (c : ℕ) (old new : State) : Type 0 where
+  pub only : OnlyDid c old new
+  pub commits : commits_of new.history ≡ commits_of old.history
+
+-- A caller went on in its transaction: it can still be taken back to the same map. No other caller
+-- did anything, and nothing was committed.
+pub record GoesOn (c : ℕ) (old new : State) : Type 0 where
+  pub back : (base : Map) → CanAbort c base old → CanAbort c base new
+  pub beside : IsBeside c old new
+
+-- An operation was done: its reply is that of the map, and the map is the one that it makes.
+pub record HasDone (op : Op) (reply : Option ℕ) (old new : State) : Type 0 where
+  pub replied : reply ≡ reply_of (now old.history) op
+  pub changed : now new.history ≡ after (now old.history) op
+
+-- A caller's transaction was taken back: the map is the one that it began on. No other caller did
+-- anything, and nothing was committed.
+pub record IsTakenBack (c : ℕ) (old new : State) : Type 0 where
+  pub back : (base : Map) → CanAbort c base old → (now new.history ≡ base) × IsIdle c new
+  pub beside : IsBeside c old new
+
+-- A caller's transaction was committed, at this place: the map is unchanged by that, no other
+-- caller did anything, and no other commit was made.
+pub record IsCommitted (c place : ℕ) (old new : State) : Type 0 where
+  pub same : now new.history ≡ now old.history
+  pub idle : IsIdle c new
+  pub only : OnlyDid c old new
+  pub commits : commits_of new.history ≡ commits_of old.history ++ Committed c place ∷ []
+
+-- The map is unchanged, nothing was committed, and no other caller did anything.
+pub record IsSameMap (c : ℕ) (old new : State) : Type 0 where
+  pub same : now new.history ≡ now old.history
+  pub beside : IsBeside c old new
+
+-- A caller began a transaction on the map of `old`, was at `begun` then, had done its work at
+-- `done`, and committed it: the one Committed entry more is its own, and the map is the one that
+-- the work made.
+pub record IsRun (c : ℕ) (old begun done new : State) : Type 0 where
+  pub began : now begun.history ≡ now old.history
+  pub ended : now new.history ≡ now done.history
+  pub place : ℕ
+  pub commits : commits_of new.history ≡ commits_of old.history ++ Committed c place ∷ []
+
+-- A step of a helper or of the table.
+abbrev pub is_grown : Step → Bool
+is_grown (InitSeek h b) = true
+is_grown (InitLink h) = true
+is_grown (InitStore h) = true
+is_grown (Double n) = true
+is_grown step = false
+
+-- The table grew, or not: the history is unchanged, so the map and every transaction is.
+pub record IsGrown (old new : State) : Type 0 where
+  pub history : new.history ≡ old.history
+  pub limits : new.limits ≡ old.limits
+  pub words : new.words ≡ old.words

@@ -1,0 +1,210 @@
+//! The map: a core and how far its table has grown, and the calls that need both.
+//!
+//! The calls of a transaction are made here for a caller, in the words of states; `Transaction` has
+//! them in its own. Every bucket below `grown` is initialised, unless memory was refused.
+ghost use Rattle.std.specs.Prelude.{◌≡◌, ◌==◌, true, false, IfOk, IfErr, OnOk, OnErr, Ok};
+ghost use Rattle.txn_trace.specs.Map.{count_of};
+ghost use Rattle.txn_trace.specs.Now.{now};
+ghost use Rattle.boost_core.specs.State.{start};
+ghost use Rattle.boost_core.specs.Plain.{Operates};
+ghost use Rattle.owned_map.specs.Within.{CanAbort, GoesOn, HasDone, IsBeside, IsCommitted, IsGrown, IsRun, IsSameMap, IsTakenBack, OnlyDid, is_grown};
+
+use crate::stop::Stop;
+use crate::transaction::Transaction;
+use boost_core::Core;
+use std::alloc::Global;
+use txn_trace::{Answer, Limits, Op, Refusal, Reply, Step};
+
+/// A transactional map from `u64` to `u64` that has one owner, who makes every call, for whichever
+/// caller. Contracts see its core.
+#[derive(Drop)]
+pub struct OwnedMap {
+    pub(crate) core: Core,
+    // The next bucket to initialise: all below it are.
+    grown: u64,
+    ghost ordinary: { core.words ≡ false },
+}
+
+impl OwnedMap {
+    ghost use Rattle.owned_map.specs.Keeps.{Keeps};
+
+    /// A map without keys, in which nothing has happened.
+    ///
+    /// # Errors
+    ///
+    /// `NoMemory` if memory is refused.
+    ///
+    /// # Cost
+    ///
+    /// Time and memory in proportion to the callers, the stripes and the largest number of buckets.
+    pub fn new(alloc: Global, limits: Limits) -> Result<OwnedMap, Refusal>
+        ensures ok { IfOk result (λ map. map.core ≡ start limits) }
+        ensures err { IfErr result (λ refusal. refusal ≡ Refusal.NoMemory) }
+    {
+        let core = Core::new(alloc, limits)?;
+        Ok(OwnedMap { core, grown: 1 })
+    }
+
+    /// How many keys the map has, with the changes of open transactions. Constant time.
+    pub fn len(&self) -> u64
+        ensures { result ≡ count_of (now self.now.core.history) }
+    {
+        self.core.count()
+    }
+
+    /// Whether the map has no keys, with the changes of open transactions. Constant time.
+    pub fn is_empty(&self) -> bool
+        ensures { result ≡ (count_of (now self.now.core.history) == 0) }
+    {
+        self.core.count() == 0
+    }
+
+    /// How many buckets the table has, which is not how many keys are in it. Constant time.
+    pub fn buckets(&self) -> u32
+        ensures { result ≡ self.now.core.size }
+    {
+        self.core.size()
+    }
+
+    /// The core, whose calls by reference read the history, the map and the list. Constant time.
+    pub fn core(&self) -> &Core
+        ensures { result.now ≡ self.now.core }
+    {
+        &self.core
+    }
+
+    /// Takes the core out. Constant time.
+    pub fn into_core(self) -> Core
+        ensures { result ≡ self.core }
+    {
+        let OwnedMap { core, grown: _ } = self;
+        core
+    }
+
+    /// Begins a transaction of a caller.
+    fn begin(&mut self, caller: u64) -> Result<(), Stop>
+        ensures ok { OnOk result (CanAbort caller (now self.old.core.history) self.new.core) }
+        ensures same { now self.new.core.history ≡ now self.old.core.history }
+        ensures beside { IsBeside caller self.old.core self.new.core }
+    {
+        let _legal = self.core.trace();
+        match self.core.step(Step::Begin(caller)) {
+            Answer::Began(_) => Ok(()),
+            Answer::Refused(refusal) => Err(Stop::Refused(refusal)),
+            _ => unreachable!(),
+        }
+    }
+
+    /// Does an operation, and grows the table by a step where it put a new key.
+    pub(crate) fn operate(&mut self, caller: u64, op: Op) -> Result<Reply, Stop>
+        ensures goes_on { GoesOn caller self.old.core self.new.core }
+        ensures ok { IfOk result (λ reply. HasDone op reply self.old.core self.new.core) }
+        ensures err { OnErr result (now self.new.core.history ≡ now self.old.core.history) }
+    {
+        let _legal = self.core.trace();
+        match self.ask(caller, op) {
+            Answer::Done(reply) => {
+                if reply.is_none() {
+                    self.grow(caller);
+                }
+                Ok(reply)
+            }
+            Answer::Busy(holder) => Err(Stop::Busy { holder }),
+            Answer::Refused(refusal) => Err(Stop::Refused(refusal)),
+            _ => unreachable!(),
+        }
+    }
+
+    /// The plain call of an operation.
+    fn ask(&mut self, caller: u64, op: Op) -> Answer
+        ensures { Operates self.old.core caller op result self.new.core }
+    {
+        match op {
+            Op::Put(key, value) => self.core.put(caller, key, value),
+            Op::Take(key) => self.core.take(caller, key),
+            Op::Get(key) => self.core.get(caller, key),
+            Op::PutIf(key, expected, value) => self.core.put_if(caller, key, expected, value),
+        }
+    }
+
+    /// Commits a caller's transaction, and answers its place among the commits.
+    pub(crate) fn commit(&mut self, caller: u64) -> Result<u64, Stop>
+        ensures ok { IfOk result (λ place. IsCommitted caller place self.old.core self.new.core) }
+        ensures err { OnErr result (GoesOn caller self.old.core self.new.core) }
+    {
+        let _legal = self.core.trace();
+        match self.core.step(Step::Commit(caller)) {
+            Answer::Committed(place) => Ok(place),
+            Answer::Refused(refusal) => Err(Stop::Refused(refusal)),
+            _ => unreachable!(),
+        }
+    }
+
+    /// Aborts a caller's transaction.
+    #[tactic(auto, using(crate::proofs::Steps::taken_back_by))]
+    pub(crate) fn abort(&mut self, caller: u64)
+        ensures { IsTakenBack caller self.old.core self.new.core }
+    {
+        self.core.abort(caller);
+    }
+
+    /// Grows the table by a step: doubles it where it has more than two keys a bucket, and
+    /// initialises the next bucket, if there is one.
+    pub(crate) fn grow(&mut self, caller: u64)
+        ensures { IsGrown self.old.core self.new.core }
+    {
+        let buckets = u64::from(self.core.size());
+        if self.core.count() / 2 > buckets {
+            self.serve(Step::Double(buckets));
+        }
+        if self.grown < u64::from(self.core.size()) {
+            self.serve(Step::InitSeek(caller, self.grown));
+            self.serve(Step::InitLink(caller));
+            if let Answer::Stored = self.serve(Step::InitStore(caller)) {
+                self.grown = self.grown.saturating_add(1);
+            }
+        }
+    }
+
+    /// Takes a step of a helper or of the table.
+    #[tactic(auto, using(crate::proofs::Only::grown))]
+    fn serve(&mut self, step: Step) -> Answer
+        requires { is_grown step ≡ true }
+        ensures { IsGrown self.old.core self.new.core }
+    {
+        self.core.step(step)
+    }
+
+    /// Runs the work in a transaction of a caller, and commits it. If the work answers an error, the
+    /// transaction is aborted and the error is handed on: so an error of the work's own, as of an
+    /// account with too little, takes everything back.
+    ///
+    /// # Errors
+    ///
+    /// The map is unchanged and nothing was committed.
+    /// - What the work answers.
+    /// - `Stop`, as the work's error: `Refused` with `NoSuchCaller`, with `AlreadyOpen` if the caller
+    ///   has a transaction, with `NoMemory`, or with `Leaving` if the work went on after a `Busy`.
+    ///
+    /// # Cost
+    ///
+    /// A begin, the work, and a commit or an abort.
+    pub fn transact<T: Drop, E: From<Stop> + Drop, F: Fn(&mut Transaction<'_>) -> Result<T, E>>(
+        &mut self,
+        caller: u64,
+        work: F,
+    ) -> Result<T, E>
+        requires callable { F.IsAlwaysCallable work }
+        requires keeps { (t : _) (r : _) (u : _) → F.post work t r u → Keeps t.now u.now }
+        ensures ok { IfOk result (λ value. (t : _) × (u : _) × F.post work t (Ok value) u
+            × IsRun caller self.old.core t.now.map.now.core u.now.map.now.core self.new.core) }
+        ensures err { OnErr result (IsSameMap caller self.old.core self.new.core) }
+        ensures only { OnlyDid caller self.old.core self.new.core }
+    {
+        self.begin(caller)?;
+        let mut open = Transaction { map: self, caller };
+        let value = work(&mut open)?;
+        open.commit()?;
+        Ok(value)
+    }
+}

@@ -1,0 +1,166 @@
+//! A transaction as a value: its operations, and its end.
+//!
+//! It stands apart from the map so that no other call can be made on the map while it is open. Each
+//! operation keeps `Keeps`, by which a work of several operations keeps it too.
+ghost use Rattle.std.specs.Prelude.{◌≡◌, IfOk, OnErr, ◌++◌, ◌∷◌, [], ℕ, false};
+ghost use Rattle.txn_trace.specs.Now.{now};
+ghost use Rattle.owned_map.specs.Within.{HasDone, IsCommitted, IsTakenBack};
+
+use crate::owned_map::OwnedMap;
+use crate::stop::Stop;
+use txn_trace::{Op, Reply};
+
+/// An open transaction of a caller on a map, which it borrows. Dropped before it is committed, it is
+/// aborted: at every `?` and every early return its changes are taken back, and no stripe stays
+/// held.
+pub struct Transaction<'a> {
+    pub(crate) map: &'a mut OwnedMap,
+    pub(crate) caller: u64,
+}
+
+impl Transaction<'_> {
+    ghost use Rattle.owned_map.specs.Keeps.{Keeps};
+
+    /// Gets the value at a key, if the key is there.
+    ///
+    /// # Errors
+    ///
+    /// The map is unchanged.
+    /// - `Busy` if another caller's open transaction holds the key's stripe. This transaction can
+    ///   then only be aborted: every further operation is refused as `Leaving`.
+    /// - `Refused` with `BadKey` if the limits have half keys and the key is 2^63 or more, with
+    ///   `NoMemory`, or with `Leaving` after a `Busy`. Otherwise the transaction can go on.
+    ///
+    /// # Cost
+    ///
+    /// Time in proportion to the nodes from the nearest initialised bucket to the key's place; may
+    /// take memory for the history.
+    pub fn get(&mut self, key: u64) -> Result<Reply, Stop>
+        ensures keeps { Keeps self.old self.new }
+        ensures ok { IfOk result (λ reply. HasDone (Op.Get key) reply
+            self.old.map.now.core self.new.map.now.core) }
+        ensures err { OnErr result (now self.new.map.now.core.history
+            ≡ now self.old.map.now.core.history) }
+    {
+        self.operate(Op::Get(key))
+    }
+
+    /// Puts a value at a key, and answers the value before. If the key is new, the table grows by a
+    /// step, if that is due.
+    ///
+    /// # Errors
+    ///
+    /// Those of `get`, and `Refused` with `StampsUsedUp` if no stamp is left.
+    ///
+    /// # Cost
+    ///
+    /// That of `get`, and up to four steps of the table for a new key; may take memory also for a
+    /// node and for the log.
+    pub fn put(&mut self, key: u64, value: u64) -> Result<Reply, Stop>
+        ensures keeps { Keeps self.old self.new }
+        ensures ok { IfOk result (λ reply. HasDone (Op.Put key value) reply
+            self.old.map.now.core self.new.map.now.core) }
+        ensures err { OnErr result (now self.new.map.now.core.history
+            ≡ now self.old.map.now.core.history) }
+    {
+        self.operate(Op::Put(key, value))
+    }
+
+    /// Takes a key out, and answers the value it had, if it was there.
+    ///
+    /// # Errors
+    ///
+    /// Those of `get`.
+    ///
+    /// # Cost
+    ///
+    /// That of `get`; may take memory also for the log.
+    pub fn take(&mut self, key: u64) -> Result<Reply, Stop>
+        ensures keeps { Keeps self.old self.new }
+        ensures ok { IfOk result (λ reply. HasDone (Op.Take key) reply
+            self.old.map.now.core self.new.map.now.core) }
+        ensures err { OnErr result (now self.new.map.now.core.history
+            ≡ now self.old.map.now.core.history) }
+    {
+        self.operate(Op::Take(key))
+    }
+
+    /// Puts a value at a key exactly where the key has what is expected, a value or none: the reply
+    /// is what it had, so the value was put exactly where that is what was expected.
+    ///
+    /// # Errors
+    ///
+    /// Those of `put`.
+    ///
+    /// # Cost
+    ///
+    /// That of `put`.
+    pub fn put_if(&mut self, key: u64, expected: Option<u64>, value: u64) -> Result<Reply, Stop>
+        ensures keeps { Keeps self.old self.new }
+        ensures ok { IfOk result (λ reply. HasDone (Op.PutIf key expected value) reply
+            self.old.map.now.core self.new.map.now.core) }
+        ensures err { OnErr result (now self.new.map.now.core.history
+            ≡ now self.old.map.now.core.history) }
+    {
+        self.operate(Op::PutIf(key, expected, value))
+    }
+
+    /// Does an operation.
+    #[tactic(auto, using(crate::proofs::Calls::keeps_by))]
+    fn operate(&mut self, op: Op) -> Result<Reply, Stop>
+        ensures keeps { Keeps self.old self.new }
+        ensures ok { IfOk result (λ reply. HasDone op reply
+            self.old.map.now.core self.new.map.now.core) }
+        ensures err { OnErr result (now self.new.map.now.core.history
+            ≡ now self.old.map.now.core.history) }
+    {
+        let caller = self.caller;
+        self.map.operate(caller, op)
+    }
+
+    /// Commits, and answers the place among all commits, from 1.
+    ///
+    /// # Errors
+    ///
+    /// `Refused` with `Leaving` if an operation was `Busy`: the transaction is aborted then.
+    ///
+    /// # Cost
+    ///
+    /// A step for each change and each stripe of the transaction; takes no memory.
+    pub fn commit(self) -> Result<u64, Stop>
+        ensures ok { IfOk result (λ place. IsCommitted self.entry.caller place
+            self.entry.map.now.core self.exit.0.now.core) }
+        ensures err { OnErr result (IsTakenBack self.entry.caller
+            self.entry.map.now.core self.exit.0.now.core) }
+    {
+        let Transaction { map, caller } = self;
+        match map.commit(caller) {
+            Ok(place) => Ok(place),
+            Err(stop) => {
+                map.abort(caller);
+                Err(stop)
+            }
+        }
+    }
+
+    /// Aborts, as dropping it does: takes back every change, newest first, and gives all stripes
+    /// back.
+    ///
+    /// # Cost
+    ///
+    /// A seek and an act for each change, and a step for each stripe; takes no memory.
+    pub fn abort(self)
+        ensures { IsTakenBack self.entry.caller self.entry.map.now.core self.exit.0.now.core }
+    {
+        drop(self);
+    }
+}
+
+impl Drop for Transaction<'_> {
+    fn drop(self)
+        ensures { IsTakenBack self.entry.caller self.entry.map.now.core self.exit.0.now.core }
+    {
+        let Transaction { map, caller } = self;
+        map.abort(caller);
+    }
+}
