@@ -57,6 +57,11 @@ program_tests engines::failing::mix_without_memory
 program_tests engines::failing::run_without_memory
 program_tests commands::refused_allocations
 """
+# Tests that ask for no more bytes at once than this, and for so many once: what a list takes for
+# its counts of marked nodes is the largest that a small core wants.
+LARGEST = """
+core_tests cores::nine_undone_newest_first 33280
+"""
 # What an assertion says of a call that was refused memory.
 OF_MEMORY = re.compile("AllocError|AllocFailed|NoMemory")
 
@@ -135,10 +140,14 @@ class Runner:
         self.library = f"{folder}/refuse.so"
         self.told = os.open(f"{folder}/told", os.O_RDWR | os.O_CREAT | os.O_APPEND)
 
-    def run(self, words, first=0, last=0):
-        """How the words end where these allocations are refused, and whether one was met."""
+    def run(self, words, first=0, last=0, larger=0):
+        """How the words end where these allocations are refused, and whether one was met.
+
+        `larger` refuses each allocation of more bytes than that, where it is not 0.
+        """
         os.ftruncate(self.told, 0)
-        given = {"REFUSE_FIRST": first, "REFUSE_LAST": last, "REFUSE_TOLD": self.told}
+        given = {"REFUSE_FIRST": first, "REFUSE_LAST": last, "REFUSE_LARGER": larger}
+        given["REFUSE_TOLD"] = self.told
         ran = subprocess.run(
             words,
             stdin=subprocess.DEVNULL,
@@ -152,6 +161,14 @@ class Runner:
         )
         ended = Ended(ran.returncode, ran.stdout.decode(), ran.stderr.decode())
         return ended, os.fstat(self.told).st_size > 0
+
+    def asks_for(self, name, words, largest):
+        """Whether the largest allocation is of so many bytes; prints a line."""
+        is_enough = not self.run(words, larger=largest)[1]
+        is_wanted = self.run(words, larger=largest - 1)[1]
+        told = "is" if is_enough and is_wanted else "is not"
+        print(f"refused: {name}: the largest allocation {told} of {largest} bytes", flush=True)
+        return is_enough and is_wanted
 
     def refuse_in_turn(self, name, words, lengths, kind_of):
         """Refuses one allocation after the other until a run meets none, and prints a line.
@@ -269,8 +286,18 @@ def kind_of_test(kinds):
     return kind_of
 
 
+def largest_are(runner, crates):
+    """For each test of these crates whose largest allocation is known, whether it is that."""
+    for crate, name, largest in map(str.split, LARGEST.strip().split("\n")):
+        program = f"crates/{crate}/out/{crate}_tests"
+        if not crates or crate in crates:
+            is_built = os.path.exists(program)
+            yield is_built and runner.asks_for(f"{crate} {name}", [program, name], int(largest))
+
+
 def all_tests(runner, crates):
     """For each test of these crates, or of all, whether all is right."""
+    yield from largest_are(runner, crates)
     ends = [(ALONE, LENGTHS[:1], []), (PASSING, LENGTHS[:1], [])]
     ends += [(PASSING, LENGTHS[1:], ["gave up", "stopped"])]
     ends += [(WHOLE, LENGTHS, [])]

@@ -5,7 +5,8 @@
 # from that one on. A command must end as with memory, or with status 4 and nothing but `no memory`
 # (of `run` also `no thread`); or, where steps were answered `refused 14`, all the rest must be as if
 # they were not there, and a history that `mix` or `run` wrote must be legal. A test must pass; where
-# more than one allocation is refused, some may give up. None may crash, or take ten seconds.
+# more than one allocation is refused, some may give up. None may crash, or take ten seconds. And
+# where the largest allocation of a test is known, no larger one is asked for.
 #
 # With words it tries the tests of those crates, as 'map_ops core_tests', or `commands`. `rt ci`
 # builds all that it wants, and `rt test` the tests of one crate. It needs a C compiler (CC) and

@@ -47,13 +47,14 @@ level_of phase = 0
 abbrev pub owed_of : Session → ℕ
 owed_of s = owed_in s.seat.seat.standing s.seat.seat.phase
 
--- No transaction, nothing that waits, no cursor and an empty log.
+-- No transaction, nothing that waits, no cursor, and an empty log with room for eight jobs.
 pub record IsIdle (s : Session) : Type 0 where
   pub seat : s.seat.seat ≡ closed_seat
   pub pending : s.pending ≡ None
   pub cursor : s.cursor ≡ None
   pub jobs : s.log.jobs ≡ []
   pub kept : s.log.kept ≡ []
+  pub room : s.log.room ≡ 8
 
 -- An operation waits exactly in the phase that says so; it has room for its job, and a spare if it
 -- takes a node.

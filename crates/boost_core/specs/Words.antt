@@ -42,8 +42,8 @@ is_stale Right state (Ask c op) = has_stamp_for state op && is_taken state c op
 is_stale Stale state (Ask c op) = true
 is_stale claim state step = false
 
--- What a step reserves in the history by its claim: with a word nothing, since the entry that it may
--- add is owed already.
+-- What a step reserves in the history by its claim: with a word nothing, since the entry that it
+-- may add is owed already.
 abbrev pub reserved_by : Claim → Step → ℕ
 reserved_by Lock step = reserved step
 reserved_by Right step = reserved step

@@ -230,7 +230,7 @@ impl Core {
         answer
     }
 
-    /// Takes the steps one after another, and nothing besides, and gives their answers. Room for all
+    /// Takes the steps one after another and nothing besides, and gives their answers. Room for all
     /// answers is made first. Where stripes are words, none of the steps may be an `Ask`.
     ///
     /// # Errors

@@ -71,8 +71,8 @@ impl Core {
     ///
     /// The answer is `Busy` with that number, after which the caller leaves to the end, or the
     /// first refusal whose test holds: `NoSuchCaller`, `NotOpen`, `Leaving`, `OperationUnfinished`,
-    /// `BadKey`, and `StaleWord` where the word names the caller itself or one that has never begun a
-    /// transaction. A refusal leaves the state. No spare is made, and room for the entry is there
+    /// `BadKey`, and `StaleWord` where the word names the caller itself or one that has never begun
+    /// a transaction. A refusal leaves the state. No spare is made, and room for the entry is there
     /// since the transaction began.
     ///
     /// # Cost

@@ -1,4 +1,5 @@
 //! Worked runs on the core.
+mod limits;
 mod pairs;
 mod plain_map;
 mod refused;

@@ -49,12 +49,21 @@ pub(crate) fn operate(core: &mut Core, caller: u64, op: Op) -> Result<Answer, Fa
     }
 }
 
-/// Takes a step by `run`, on a core whose stripes are no words.
-pub(crate) fn run_step(alloc: Global, core: &mut Core, step: Step) -> Result<Answer, Fail> {
+/// Takes steps by `run`, on a core whose stripes are no words.
+pub(crate) fn run_steps(
+    alloc: Global,
+    core: &mut Core,
+    steps: &[Step],
+) -> Result<Vec<Answer>, Fail> {
     if core.words() {
         return Err("stripes are words".into());
     }
-    let answers = core.run(alloc, &[step])?;
+    Ok(core.run(alloc, steps)?)
+}
+
+/// Takes one step so.
+pub(crate) fn run_step(alloc: Global, core: &mut Core, step: Step) -> Result<Answer, Fail> {
+    let answers = run_steps(alloc, core, &[step])?;
     Ok(answers.first().copied().ok_or("no answer")?)
 }
 

@@ -89,7 +89,7 @@ impl KeyLocks {
         }
     }
 
-    /// Frees all stripes that the caller holds, and no other: none, where the number is no caller's.
+    /// Frees all stripes that the caller holds, and no other: none if the number is no caller's.
     ///
     /// # Cost
     ///

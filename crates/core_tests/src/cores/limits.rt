@@ -1,0 +1,237 @@
+//! Cores at their limits. Memory may be refused to any call that takes some, so a body that gives
+//! up at a limit is proved; with ample memory these calls are answered as everywhere else.
+use super::{Call, begun_core, call_is, help_is, play_calls, put, put_helped};
+use crate::devices::{
+    abort, back, core_with, has_map, limits_of, operate, pairs_of, run_steps, sizes_of, step_is,
+};
+use boost_core::Core;
+use std::alloc::Global;
+use std::process::Abort;
+use std::test::Fail;
+use txn_trace::{Answer, Op, Refusal, Step};
+
+/// Callers, stripes and buckets: of each the least and the most.
+static SIZES: [(u64, u64, u64); 4] = [
+    (1, 1, 2),
+    (1, 4_096, 65_536),
+    (64, 1, 65_536),
+    (64, 4_096, 2),
+];
+
+/// The least and the greatest key, the two in the middle, and one of stripe 4,095 of 4,096.
+static KEYS: [u64; 5] = [
+    0,
+    4_095,
+    9_223_372_036_854_775_807,
+    9_223_372_036_854_775_808,
+    18_446_744_073_709_551_615,
+];
+
+/// Each operation on a key that is not there, with the least and the greatest value, and its reply;
+/// the last one takes the key out again.
+fn operations_at(key: u64) -> [(Op, Option<u64>); 9] {
+    [
+        (Op::Get(key), None),
+        (Op::Take(key), None),
+        (Op::PutIf(key, Some(0), 1), None),
+        (Op::PutIf(key, None, 0), None),
+        (Op::Put(key, u64::MAX), Some(0)),
+        (Op::PutIf(key, Some(u64::MAX), 0), Some(u64::MAX)),
+        (Op::PutIf(key, Some(0), u64::MAX), Some(0)),
+        (Op::Get(key), Some(u64::MAX)),
+        (Op::Take(key), Some(u64::MAX)),
+    ]
+}
+
+/// A caller does each operation on a key.
+fn operations_are(rt: &impl Abort, core: &mut Core, caller: u64, key: u64) -> Result<(), Fail> {
+    for (op, reply) in &operations_at(key) {
+        let answer = operate(core, caller, *op)?;
+        assert_eq!(rt; answer, Answer::Done(*reply), "at {op:?} of {caller}");
+    }
+    Ok(())
+}
+
+/// A caller does each operation on each key.
+fn works_on_keys(rt: &impl Abort, core: &mut Core, caller: u64) -> Result<(), Fail> {
+    for key in &KEYS {
+        operations_are(rt, core, caller, *key)?;
+    }
+    Ok(())
+}
+
+/// Each caller has a transaction of its own, and helps; there is none of the next number.
+fn callers_work(rt: &impl Abort, core: &mut Core, callers: u64) -> Result<(), Fail> {
+    let mut count: u64 = 0;
+    for caller in 0..callers {
+        count = count.wrapping_add(1);
+        step_is(rt, core, Step::Begin(caller), Answer::Began(count))?;
+        works_on_keys(rt, core, caller)?;
+        help_is(rt, core, (caller, u64::MAX), Ok(()));
+        step_is(rt, core, Step::Commit(caller), Answer::Committed(count))?;
+    }
+    let none = Answer::Refused(Refusal::NoSuchCaller);
+    step_is(rt, core, Step::Begin(callers), none)?;
+    help_is(rt, core, (callers, 0), Err(Refusal::NoSuchHelper));
+    Ok(())
+}
+
+fn sizes_work(rt: &impl Abort, alloc: Global, rows: &[(u64, u64, u64)]) -> Result<(), Fail> {
+    for (callers, stripes, buckets) in rows {
+        let limits = limits_of(*callers, *stripes, *buckets)?;
+        callers_work(rt, &mut core_with(alloc, limits)?, *callers)?;
+    }
+    Ok(())
+}
+
+/// Each operation at each key by each caller, at the least and the largest limits.
+#[test]
+fn every_limit(rt: HostRuntime) -> Result<(), Fail> {
+    sizes_work(&rt, rt.alloc(), &SIZES)
+}
+
+/// The last stripe of 4,096 and the last caller of 64.
+const LAST_STRIPE: [(Call, Answer); 8] = [
+    (Call::Step(Step::Begin(0)), Answer::Began(1)),
+    (Call::Step(Step::Begin(63)), Answer::Began(2)),
+    (Call::Op(63, Op::Put(4_095, 1)), Answer::Done(None)),
+    (Call::Op(0, Op::Put(4_094, 1)), Answer::Done(None)),
+    (Call::Op(0, Op::Get(8_191)), Answer::Busy(63)),
+    (Call::Abort(0), Answer::Aborted),
+    (Call::Op(63, Op::Get(8_190)), Answer::Done(None)),
+    (Call::Run(Step::Commit(63)), Answer::Committed(1)),
+];
+
+#[test]
+fn last_stripe(rt: HostRuntime) -> Result<(), Fail> {
+    let mut core = core_with(rt.alloc(), limits_of(64, 4_096, 8)?)?;
+    play_calls(&rt, rt.alloc(), &mut core, &LAST_STRIPE)
+}
+
+/// Caller 0 makes so many savepoints, each after one more key.
+fn save_all(rt: &impl Abort, core: &mut Core, levels: u64) -> Result<(), Fail> {
+    let mut level: u64 = 0;
+    for _ in 0..levels {
+        level = level.wrapping_add(1);
+        put(rt, core, level)?;
+        step_is(rt, core, Step::Save(0), Answer::Saved(level))?;
+    }
+    Ok(())
+}
+
+/// Levels to go back to, one after the other: as many keys are left.
+static LEVELS: [u64; 7] = [1_000, 999, 500, 11, 10, 1, 0];
+
+fn levels_are(rt: &impl Abort, core: &mut Core, levels: &[u64]) {
+    for level in levels {
+        let above = Answer::Refused(Refusal::NoSuchLevel);
+        assert_eq!(rt; back(core, 0, level.wrapping_add(1_000)), above);
+        assert_eq!(rt; back(core, 0, *level), Answer::Returned(*level));
+        assert_eq!(rt; sizes_of(core).1, *level);
+    }
+}
+
+/// A thousand savepoints.
+#[test]
+fn levels_to_a_thousand(rt: HostRuntime) -> Result<(), Fail> {
+    let mut core = begun_core(&rt, rt.alloc(), limits_of(1, 8, 8)?)?;
+    save_all(&rt, &mut core, 1_000)?;
+    levels_are(&rt, &mut core, &LEVELS);
+    Ok(())
+}
+
+/// Caller 0 changes a key so often, from 0 on, each time to one more.
+fn change_often(rt: &impl Abort, core: &mut Core, times: u64) -> Result<(), Fail> {
+    let mut value: u64 = 0;
+    for _ in 0..times {
+        let next = value.wrapping_add(1);
+        let expected = Op::PutIf(5, Some(value), next);
+        assert_eq!(rt; operate(core, 0, expected)?, Answer::Done(Some(value)));
+        value = next;
+    }
+    Ok(())
+}
+
+/// How many jobs stand in a log: as many as in the log itself, one more, and very many.
+static JOBS: [u64; 3] = [8, 9, 100_000];
+
+/// Caller 0 changes a key that is 0 so often in one transaction, and takes all back.
+fn jobs_are(rt: &impl Abort, core: &mut Core, times: u64) -> Result<(), Fail> {
+    change_often(rt, core, times)?;
+    assert_eq!(rt; operate(core, 0, Op::Get(5))?, Answer::Done(Some(times)));
+    assert_eq!(rt; back(core, 0, 1), Answer::Returned(1));
+    assert_eq!(rt; operate(core, 0, Op::Get(5))?, Answer::Done(Some(0)));
+    Ok(())
+}
+
+fn logs_are(rt: &impl Abort, core: &mut Core, rows: &[u64]) -> Result<(), Fail> {
+    for times in rows {
+        jobs_are(rt, core, *times)?;
+    }
+    assert_eq!(rt; abort(core, 0), Answer::Aborted);
+    assert_eq!(rt; sizes_of(core).1, 0);
+    Ok(())
+}
+
+/// A key that is 0, and a savepoint.
+const FIRST_VALUE: [(Call, Answer); 2] = [
+    (Call::Op(0, Op::Put(5, 0)), Answer::Done(None)),
+    (Call::Step(Step::Save(0)), Answer::Saved(1)),
+];
+
+/// Logs of up to 100,000 jobs.
+#[test]
+fn logs_to_100_000_jobs(rt: HostRuntime) -> Result<(), Fail> {
+    let mut core = begun_core(&rt, rt.alloc(), limits_of(1, 8, 8)?)?;
+    play_calls(&rt, rt.alloc(), &mut core, &FIRST_VALUE)?;
+    logs_are(&rt, &mut core, &JOBS)
+}
+
+/// So many sweeps by one call, each of which finds nothing.
+fn run_many(rt: &impl Abort, alloc: Global, core: &mut Core, count: usize) -> Result<(), Fail> {
+    let mut steps = Vec::new(alloc);
+    for _ in 0..count {
+        steps.push(Step::Sweep)?;
+    }
+    let answers = run_steps(alloc, core, &steps)?;
+    assert_eq!(rt; answers.len(), count);
+    assert!(rt; answers.iter().all(|answer| *answer == Answer::Clean));
+    Ok(())
+}
+
+/// Sees that list and map have so many pairs.
+fn has_many(rt: &impl Abort, alloc: Global, core: &Core, count: usize) -> Result<(), Fail> {
+    let pairs = pairs_of(alloc, core)?;
+    assert_eq!(rt; pairs.len(), count);
+    has_map(rt, alloc, core, &pairs)
+}
+
+/// Bucket 63 is the last of its segment.
+const LAST_PLACE: [(Call, Answer); 5] = [
+    (Call::Step(Step::InitSeek(0, 63)), Answer::Ready),
+    (Call::Step(Step::InitSeek(0, 65_535)), Answer::Ready),
+    (
+        Call::Step(Step::InitSeek(0, 65_536)),
+        Answer::Refused(Refusal::NoSuchBucket),
+    ),
+    (Call::Step(Step::Double(65_536)), Answer::AtLimit),
+    (Call::Run(Step::Commit(0)), Answer::Committed(1)),
+];
+
+/// A table of 65,536 buckets, each initialised by help, with 65,538 keys.
+fn fill(rt: &impl Abort, alloc: Global, core: &mut Core) -> Result<(), Fail> {
+    put_helped(rt, core, 65_538)?;
+    call_is(rt, alloc, core, Call::Help(0, 63), Answer::Ready)?;
+    call_is(rt, alloc, core, Call::Help(0, 65_535), Answer::Ready)?;
+    play_calls(rt, alloc, core, &LAST_PLACE)?;
+    assert_eq!(rt; sizes_of(core), (65_536, 65_538));
+    has_many(rt, alloc, core, 65_538)
+}
+
+/// The largest table, and a run of more than 100,000 steps on it.
+#[test]
+fn largest_table(rt: HostRuntime) -> Result<(), Fail> {
+    let mut core = begun_core(&rt, rt.alloc(), limits_of(1, 64, 65_536)?)?;
+    fill(&rt, rt.alloc(), &mut core)?;
+    run_many(&rt, rt.alloc(), &mut core, 100_001)
+}
