@@ -1,63 +1,35 @@
--- What the checker says, from what it was fed.
-use Rattle.std.proofs.Common.{◌≡◌, ℕ, true, List, [], ◌∷◌, ◌++◌, length, refl, ap, sym, ◌∙◌, Some, None, Option, is_some, append_assoc}
+-- The judge of legal histories as one of those by any rule.
+use Rattle.std.proofs.Common.{◌≡◌, ℕ, ◌+◌, List, [], ◌∷◌, ◌++◌, length, refl, ap, sym, ◌∙◌, Some, None, Option}
 use Rattle.std.specs.Prelude.{◌↔◌}
-use Rattle.std.proofs.lemmas.Bool.{false≢true}
-use mathlib.Core.Logic.{inl, inr}
 use Rattle.txn_trace.specs.declared.entry.Entry.{Entry}
 use Rattle.txn_trace.specs.declared.holder.Holder.{Holder}
 use Rattle.txn_trace.specs.History.{is_commit}
 use Rattle.txn_trace.specs.Shape.{how_many}
 use Rattle.txn_trace.specs.Legal as legal
 use Rattle.txn_trace.specs.Legal.{IsLegal, broken, first_bad, callers_in, running, verdict}
-use Rattle.txn_trace.proofs.Verdicts.{first_bad_is, first_bad-found, verdict-legal, verdict-illegal, legal_or_bad}
-use Rattle.history_check.specs.declared.state.State.{State}
-use Rattle.history_check.specs.declared.verdict.Rule.{Rule}
+use Rattle.txn_trace.proofs.Judging.{legal_iff}
 use Rattle.history_check.specs.declared.verdict.Verdict.{Verdict}
-use Rattle.history_check.specs.declared.verdict.Verdict.TheVariants.{Legal, Illegal}
-use Rattle.history_check.specs.Verdicts.{number_of, meaning_of, SaysLegal, IsVerdictOn}
-use Rattle.history_check.specs.Fed.{FedWith}
+use Rattle.history_check.specs.Verdicts.{meaning_of, IsVerdictOn}
+use Rattle.history_check.specs.FirstBad.{first_bad_by, verdict_by}
+use Rattle.history_check.proofs.FirstBad.{says}
 
--- The verdict on a legal history.
-pub verdict-tells : {holder : Holder} (stripes : ℕ) (h : List Entry) (committed count : ℕ) → IsLegal holder stripes h → committed ≡ how_many is_commit h → count ≡ length (running (callers_in h) h)
-    → legal.Legal committed count ≡ verdict holder stripes h
-verdict-tells stripes h committed count is_legal commits_are count_is = (λ i. legal.Legal (commits_are i) (count_is i)) ∙ sym (verdict-legal stripes h is_legal)
+module _ (holder : Holder) (stripes : ℕ) where
+  same_first : (g h : List Entry) (i : ℕ) → first_bad_by (broken holder stripes) g h i ≡ first_bad holder stripes g h i
+  same_first g [] i = refl
+  same_first g (e ∷ h) i = ap (λ (o : Option (ℕ × ℕ)). elim (broken holder stripes g e) as (λ o. Option (ℕ × ℕ)) [ Some rule ↦ Some (i, rule) | None ↦ o ]) (same_first (g ++ e ∷ []) h (i + 1))
 
--- A bad entry stays the first one.
-pub bad_stays : (holder : Holder) (stripes : ℕ) (h : List Entry) (e : Entry) (fed : ℕ) (state : State) (bad : Option (ℕ × Rule)) → is_some bad ≡ true → FedWith holder stripes h fed state bad → FedWith holder stripes (h ++ e ∷ []) fed state bad
-bad_stays holder stripes h e fed state None some is = absurd (false≢true some)
-bad_stays holder stripes h e fed state (Some bad) some is =
-    let first = first_bad_is stripes h bad.0 (number_of bad.1) is in
-    first_bad-found stripes (h ++ e ∷ []) bad.0 (number_of bad.1) (record {
-      front = first.front;
-      entry = first.entry;
-      back = first.back ++ e ∷ [];
-      is = ap (λ w. w ++ e ∷ []) first.is ∙ append_assoc first.front (first.entry ∷ first.back) (e ∷ []);
-      index = first.index;
-      legal = first.legal;
-      breaks = first.breaks;
-    })
+  legal_where : (h : List Entry) → IsLegal holder stripes h ↔ (first_bad_by (broken holder stripes) [] h 0 ≡ None)
+  legal_where h = (λ legal. same_first [] h 0 ∙ (legal_iff stripes h).0 legal, λ none. (legal_iff stripes h).1 (sym (same_first [] h 0) ∙ none))
 
--- An entry that breaks a rule after a legal history is the first bad one.
-pub bad_now : {holder : Holder} (stripes : ℕ) (h : List Entry) (e : Entry) (i rule : ℕ) → IsLegal holder stripes h → i ≡ length h → broken holder stripes h e ≡ Some rule → first_bad holder stripes [] (h ++ e ∷ []) 0 ≡ Some (i, rule)
-bad_now stripes h e i rule is_legal index breaks = first_bad-found stripes (h ++ e ∷ []) i rule (record { front = h; entry = e; back = []; is = refl; index = index; legal = is_legal; breaks = breaks })
+  pub none_bad_in : (h : List Entry) → IsLegal holder stripes h → first_bad_by (broken holder stripes) [] h 0 ≡ None
+  none_bad_in h legal = (legal_where h).0 legal
 
--- A verdict says that the history is legal exactly where it is.
-says_legal : {holder : Holder} (stripes : ℕ) (h : List Entry) (v : Verdict) → meaning_of v ≡ verdict holder stripes h → SaysLegal v ↔ IsLegal holder stripes h
-says_legal stripes h (Legal commits running) is = (
-  λ u. elim (legal_or_bad stripes h) [
-    | inl fine ↦ fine
-    | inr bad ↦ absurd (differ (is ∙ verdict-illegal stripes h bad.0 bad.1 bad.2))
-  ],
-  λ u. tt,
-)
-  where
-    differ : {c r i n : ℕ} → legal.Legal c r ≡ legal.Illegal i n → ⊥
-    differ same = cc (same)
-says_legal stripes h (Illegal entry rule) is = (λ u. absurd u, λ fine. absurd (differ (is ∙ verdict-legal stripes h fine)))
-  where
-    differ : {c r i n : ℕ} → legal.Illegal i n ≡ legal.Legal c r → ⊥
-    differ same = cc (same)
+  same_verdict : (h : List Entry) → verdict_by (broken holder stripes) h ≡ verdict holder stripes h
+  same_verdict h = ap (λ (o : Option (ℕ × ℕ)). elim o as (λ o. legal.Verdict) [
+    | None ↦ legal.Legal (how_many is_commit h) (length (running (callers_in h) h))
+    | Some bad ↦ legal.Illegal bad.0 bad.1
+  ]) (same_first [] h 0)
 
--- So what means the verdict of the definitions is the verdict on the history.
-pub verdict_on : {holder : Holder} (stripes : ℕ) (h : List Entry) (v : Verdict) → meaning_of v ≡ verdict holder stripes h → IsVerdictOn holder stripes h v
-verdict_on stripes h v is = record { meaning = is; legal = says_legal stripes h v is }
+  -- What means the verdict by that rule is the verdict on the history.
+  pub verdict_on : (h : List Entry) (v : Verdict) → meaning_of v ≡ verdict_by (broken holder stripes) h → IsVerdictOn holder stripes h v
+  verdict_on h v is = record { meaning = is ∙ same_verdict h; legal = says (broken holder stripes) (IsLegal holder stripes h) h v (legal_where h) is }

@@ -5,5 +5,6 @@ pub mod Showing
 pub mod Holding
 pub mod Beginners
 pub mod Starts
+pub mod FirstBad
 pub mod Ends
 pub mod Judged

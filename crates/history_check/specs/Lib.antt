@@ -1,4 +1,5 @@
 pub mod Verdicts
+pub mod FirstBad
 pub mod Logs
 pub mod Callers
 pub mod Values

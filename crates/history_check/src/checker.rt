@@ -4,6 +4,7 @@ ghost use Rattle.txn_trace.specs.History.{caller_of};
 ghost use Rattle.txn_trace.specs.declared.holder.Holder.{Holder};
 ghost use Rattle.history_check.specs.Verdicts.{IsVerdictOn};
 
+use crate::callers::Callers;
 use crate::state::State;
 use crate::verdict::{Rule, Verdict};
 use std::alloc::{AllocError, Global};
@@ -23,6 +24,10 @@ pub struct Checker {
 }
 
 impl Checker {
+    ghost use Rattle.txn_trace.specs.Legal.{IsLegal};
+    ghost use Rattle.txn_trace.specs.Map.{get};
+    ghost use Rattle.txn_trace.specs.Now.{now};
+    ghost use Rattle.history_check.specs.Callers.{HaveEntered};
     ghost use Rattle.history_check.specs.Fed.{IsFed};
 
     /// A checker of the history of a map with so many stripes, whose Busy entries may name such a
@@ -95,5 +100,31 @@ impl Checker {
                 running: self.state.callers.running(),
             },
         }
+    }
+
+    /// The callers as the entries so far make them, as long as none is bad: of each the phase, which
+    /// says what may come next.
+    ///
+    /// # Cost
+    ///
+    /// Constant time; takes no memory.
+    pub fn callers(&self) -> &Callers
+        ensures { (holder : Holder) (stripes : ℕ) (h : List Entry) →
+            IsFed holder stripes h self.now → IsLegal holder stripes h → HaveEntered h result.now }
+    {
+        &self.state.callers
+    }
+
+    /// The value of a key in the map as it is now, as long as no entry is bad: the reply that an
+    /// operation on it is due.
+    ///
+    /// # Cost
+    ///
+    /// The logarithm of the number of keys; takes no memory.
+    pub fn value(&self, key: u64) -> Option<u64>
+        ensures { (holder : Holder) (stripes : ℕ) (h : List Entry) →
+            IsFed holder stripes h self.now → IsLegal holder stripes h → result ≡ get (now h) key }
+    {
+        self.state.map.values.get(&key).copied()
     }
 }

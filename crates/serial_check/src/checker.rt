@@ -1,14 +1,17 @@
 //! A checker that is fed the entries of a history one after another.
-ghost use Rattle.std.specs.Prelude.{◌≡◌, ℕ, ◌<◌, ◌++◌, [], ◌∷◌, List, IfOk, OnOk, OnErr};
+ghost use Rattle.std.specs.Prelude.{◌≡◌, ℕ, ◌<◌, ◌++◌, [], ◌∷◌, List, IfOk, OnOk, OnErr, IfSome, IsNone, Some, true};
 ghost use Rattle.txn_trace.specs.History.{caller_of};
 ghost use Rattle.serial_check.specs.Verdicts.{IsVerdictOn};
 
+use crate::commits::Misread;
 use crate::state::State;
-use history_check::{Rule, Verdict};
+use history_check::{Callers, Rule, Verdict};
 use std::alloc::{AllocError, Global};
 use txn_trace::Entry;
 
-/// A checker that is fed the entries of a history one after another.
+/// A checker that is fed the entries of a history one after another, and keeps none of them.
+///
+/// A contract sees which entries it was fed: `IsFed h checker`.
 #[derive(Drop)]
 pub struct Checker {
     state: State,
@@ -19,13 +22,23 @@ pub struct Checker {
 }
 
 impl Checker {
+    ghost use Rattle.txn_trace.specs.History.{is_open};
+    ghost use Rattle.txn_trace.specs.Map.{get};
+    ghost use Rattle.txn_trace.specs.Serial.{serial};
+    ghost use Rattle.history_check.specs.Callers.{HaveEntered};
+    ghost use Rattle.serial_check.specs.Commits.{IsMisread, FitsOrTorn};
     ghost use Rattle.serial_check.specs.Fed.{IsFed};
+    ghost use Rattle.serial_check.specs.Serializable.{IsSerializable, txn_in};
 
     /// A checker before the first entry.
     ///
     /// # Errors
     ///
-    /// `AllocError` where memory is refused.
+    /// `AllocError` if memory is refused.
+    ///
+    /// # Cost
+    ///
+    /// Time and memory for 64 callers.
     pub fn new(alloc: Global) -> Result<Checker, AllocError>
         ensures { IfOk result (IsFed []) }
     {
@@ -42,8 +55,16 @@ impl Checker {
     ///
     /// # Errors
     ///
-    /// `AllocError` where memory is refused, or where 2^64 - 1 entries were fed. Then it was fed no
-    /// entry more, and the same one may be fed again.
+    /// `AllocError` if memory is refused, or if 2^64 - 1 entries were fed. Then it was fed no entry
+    /// more, and the same one may be fed again.
+    ///
+    /// # Cost
+    ///
+    /// For a Did or an Undone time in proportion to the logarithm of the number of keys that its
+    /// transaction asked for; for a Committed, for each of them, to the logarithm of the number of
+    /// keys in the map; for an Aborted to the number that it asked for. Else constant time. Takes
+    /// memory for a key that the transaction asks for the first time, for a change, for a savepoint,
+    /// and at a Committed for new keys. After the first bad entry constant time, and no memory.
     pub fn feed(&mut self, entry: &Entry) -> Result<(), AllocError>
         requires { caller_of entry.now < 64 }
         ensures ok { OnOk result ((h : List Entry) → IsFed h self.old → IsFed (h ++ entry.now ∷ []) self.new) }
@@ -60,16 +81,68 @@ impl Checker {
         Ok(())
     }
 
-    /// What it says of the entries so far: the verdict on the history that they are.
+    /// What it says of the entries so far: the verdict on the history that they are. `Illegal` names
+    /// the first bad entry, and the rule that it breaks: `Shape`, or `Replies`, for which the entry
+    /// is the Committed of a transaction with a wrong reply.
+    ///
+    /// # Cost
+    ///
+    /// Constant time: a look at each of 64 callers; takes no memory.
     pub fn verdict(&self) -> Verdict
         ensures { (h : List Entry) → IsFed h self.now → IsVerdictOn h result }
     {
         match self.bad {
             Some((entry, rule)) => Verdict::Illegal { entry, rule },
             None => Verdict::Legal {
-                commits: self.state.committed,
-                running: self.state.running(),
+                commits: self.state.callers.committed(),
+                running: self.state.callers.running(),
             },
         }
+    }
+
+    /// The callers as the entries so far make them, as long as none is bad: of each the phase, which
+    /// says what may come next.
+    ///
+    /// # Cost
+    ///
+    /// Constant time; takes no memory.
+    pub fn callers(&self) -> &Callers
+        ensures { (h : List Entry) →
+            IsFed h self.now → IsSerializable h → HaveEntered h result.now }
+    {
+        &self.state.callers
+    }
+
+    /// The value of a key in the map that the committed transactions leave, as long as no entry is
+    /// bad.
+    ///
+    /// # Cost
+    ///
+    /// The logarithm of the number of keys; takes no memory.
+    pub fn value(&self, key: u64) -> Option<u64>
+        ensures { (h : List Entry) →
+            IsFed h self.now → IsSerializable h → result ≡ get (serial h) key }
+    {
+        self.state.commits.values.get(&key).copied()
+    }
+
+    /// A key at which the open transaction of a caller, which is below 64, read what is not
+    /// committed, as long as no entry is bad. If its Committed were next, it would be bad for that.
+    ///
+    /// `None` if it could commit; or if its replies contradict one another, so that it could on no
+    /// map.
+    ///
+    /// # Cost
+    ///
+    /// For each key that the transaction asked for the logarithm of the number of keys; takes no
+    /// memory.
+    pub fn misread(&self, caller: u64) -> Option<Misread>
+        requires { caller < 64 }
+        ensures some { (h : List Entry) (t : ℕ) → IsFed h self.now → IsSerializable h →
+            txn_in h caller ≡ Some t → is_open t h ≡ true → IfSome result (IsMisread h t) }
+        ensures none { IsNone result → (h : List Entry) (t : ℕ) → IsFed h self.now →
+            IsSerializable h → txn_in h caller ≡ Some t → is_open t h ≡ true → FitsOrTorn h t }
+    {
+        self.state.commits.misread(caller)
     }
 }

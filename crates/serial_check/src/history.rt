@@ -11,9 +11,19 @@ use txn_trace::{Entry, PackedEntry};
 
 /// Judges a whole history, whose callers are below 64, by the order of its commits.
 ///
+/// The verdict is `Legal`, with the number of commits and of callers that are in a transaction at
+/// the end, just where the history is serializable in that order. Otherwise it is `Illegal`, with
+/// the index of the first entry that breaks a rule, from 0, and the rule: shape, or replies, for
+/// which the entry is the Committed of a transaction with a wrong reply.
+///
 /// # Errors
 ///
-/// `AllocError` where memory is refused.
+/// `AllocError` if memory is refused.
+///
+/// # Cost
+///
+/// That of a `Checker` that is fed the entries: memory in proportion to the committed map and to the
+/// different keys, standing changes and savepoints of the transactions that are open at one time.
 pub fn check(alloc: Global, entries: &[Entry]) -> Result<Verdict, AllocError>
     requires { All (λ entry. caller_of entry < 64) entries.now }
     ensures { IfOk result (IsVerdictOn entries.now) }
@@ -29,7 +39,7 @@ pub fn check(alloc: Global, entries: &[Entry]) -> Result<Verdict, AllocError>
 ///
 /// # Errors
 ///
-/// `AllocError` where memory is refused.
+/// `AllocError` if memory is refused.
 ///
 /// # Cost
 ///

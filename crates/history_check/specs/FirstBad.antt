@@ -1,0 +1,33 @@
+-- The first bad entry of a history, by any rule that says which entry breaks it after a beginning.
+use Rattle.std.specs.Prelude.{◌≡◌, ℕ, ◌+◌, Option, Some, None, List, [], ◌∷◌, ◌++◌, length}
+use Rattle.txn_trace.specs.declared.entry.Entry.{Entry}
+use Rattle.txn_trace.specs.History.{is_commit}
+use Rattle.txn_trace.specs.Shape.{how_many}
+use Rattle.txn_trace.specs.Legal.{Verdict, Legal, Illegal, callers_in, running}
+use Rattle.history_check.specs.declared.verdict.Rule.{Rule}
+use Rattle.history_check.specs.Verdicts.{number_of}
+
+-- Of the entries h that come after g, the i-th and following ones, the first that breaks a rule,
+-- and the rule's number.
+abbrev pub first_bad_by : (List Entry → Entry → Option ℕ)
+    → List Entry → List Entry → ℕ → Option (ℕ × ℕ)
+first_bad_by broken g [] i = None
+first_bad_by broken g (e ∷ h) i = elim (broken g e) [
+  | Some rule ↦ Some (i, rule)
+  | None ↦ first_bad_by broken (g ++ e ∷ []) h (i + 1)
+]
+
+-- The verdict on a history: the first bad entry; where none is, the numbers of commits and of
+-- callers that are not closed.
+abbrev pub verdict_by : (List Entry → Entry → Option ℕ) → List Entry → Verdict
+verdict_by broken h = elim (first_bad_by broken [] h 0) [
+  | None ↦ Legal (how_many is_commit h) (length (running (callers_in h) h))
+  | Some bad ↦ Illegal bad.0 bad.1
+]
+
+-- What a checker was fed: as many entries as it counted, of which its state tells; or ones of which
+-- the first bad is the one that it noted.
+abbrev pub FedBy : (List Entry → Entry → Option ℕ)
+    → Type 0 → List Entry → ℕ → Option (ℕ × Rule) → Type 0
+FedBy broken told h fed None = told × (fed ≡ length h)
+FedBy broken told h fed (Some bad) = first_bad_by broken [] h 0 ≡ Some (bad.0, number_of bad.1)

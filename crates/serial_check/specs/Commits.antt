@@ -1,0 +1,64 @@
+-- What the committed map and the footprints of a checker say of the entries so far.
+use Rattle.std.specs.Prelude.{◌≡◌, ◌≢◌, ◌⊎◌, ℕ, Bool, true, false, List, [], ◌∷◌, ◌++◌, None, Some, IsSome, slice_get}
+use Rattle.std.specs.Option.{IfSome}
+use Rattle.txn_trace.specs.declared.entry.Entry.{Entry}
+use Rattle.txn_trace.specs.Alone.{Run, alone}
+use Rattle.txn_trace.specs.History.{is_open, of}
+use Rattle.txn_trace.specs.Legal.{is_running}
+use Rattle.txn_trace.specs.Log.{log_of}
+use Rattle.txn_trace.specs.Map.{Map, get}
+use Rattle.txn_trace.specs.Serial.{serial}
+use Rattle.txn_trace.specs.Shape.{seat_after, own, is_shaped}
+use Rattle.history_check.specs.declared.callers.Callers.{Callers}
+use Rattle.history_check.specs.Callers.{HaveEntered}
+use Rattle.history_check.specs.Values.{Has}
+use Rattle.serial_check.specs.declared.footprint.Footprint.{Footprint}
+use Rattle.serial_check.specs.declared.commits.Commits.{Commits}
+use Rattle.serial_check.specs.declared.commits.Misread.{Misread}
+use Rattle.serial_check.specs.Serializable.{txn_in, commits_right}
+use Rattle.serial_check.specs.Footprints.{FootsIf}
+use Rattle.serial_check.specs.Kept.{IsFresh, cell_of}
+
+-- It is the footprint of the caller's transaction, where one is open.
+abbrev pub IsOfTxn : List Entry → ℕ → Footprint → Type 0
+IsOfTxn h c foot =
+    (t : ℕ) → txn_in h c ≡ Some t → is_open t h ≡ true
+    → FootsIf foot.is_torn (of t h) (cell_of foot) (log_of c h)
+
+-- That of a caller: it is empty where the caller is in no transaction.
+pub record IsOfCaller (h : List Entry) (c : ℕ) (foot : Footprint) : Type 0 where
+  pub idle : is_running (seat_after (own c h)) ≡ false → IsFresh foot
+  pub of_txn : IsOfTxn h c foot
+
+-- The values are those of the map that the committed transactions leave, and each caller has the
+-- footprint of its transaction.
+pub record Keeps (h : List Entry) (commits : Commits) : Type 0 where
+  pub values : Has (serial h) commits.values
+  pub footprints : (c : ℕ) → IfSome (slice_get commits.footprints.items c) (IsOfCaller h c)
+
+-- The new ones keep what the old ones keep.
+abbrev pub Stays : Commits → Commits → Type 0
+Stays old new = (h : List Entry) → Keeps h old → Keeps h new
+
+-- After a history the answer is whether an entry commits right what it commits; where it does, or
+-- commits nothing, the new ones keep one entry more.
+pub record JudgesAt (h : List Entry) (e : Entry) (right : Bool) (new : Commits) : Type 0 where
+  pub right_is : commits_right h e ≡ right
+  pub keeps : right ≡ true → Keeps (h ++ e ∷ []) new
+
+-- That holds after each history that the callers have entered, for an entry of right shape.
+abbrev pub Judges : Entry → Callers → Commits → Bool → Commits → Type 0
+Judges e callers old right new =
+    (h : List Entry) → HaveEntered h callers → Keeps h old → is_shaped h e ≡ true
+    → JudgesAt h e right new
+
+-- The replies of a transaction need the key to have been what it read, and the committed map has
+-- what was due there, which is another.
+pub record IsMisread (h : List Entry) (t : ℕ) (miss : Misread) : Type 0 where
+  pub read_is : (m : Map) (r : Run) → alone m (of t h) ≡ Some r → get m miss.key ≡ miss.read
+  pub due_is : get (serial h) miss.key ≡ miss.due
+  pub differs : miss.read ≢ miss.due
+
+-- A transaction has the replies of running alone on the committed map, or on no map at all.
+abbrev pub FitsOrTorn : List Entry → ℕ → Type 0
+FitsOrTorn h t = IsSome (alone (serial h) (of t h)) ⊎ ((m : Map) → alone m (of t h) ≡ None)

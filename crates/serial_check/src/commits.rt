@@ -1,0 +1,112 @@
+//! The committed map and the footprints of open transactions: the judge of what commits.
+ghost use Rattle.std.specs.Prelude.{◌≡◌, ℕ, ◌<◌, true, [], List, Some, IfOk, OnErr, IfSome, IsNone, vec_len};
+ghost use Rattle.txn_trace.specs.History.{caller_of, is_open};
+ghost use Rattle.txn_trace.specs.declared.entry.Entry.{Entry};
+
+use crate::footprint::Footprint;
+use history_check::Callers;
+use std::alloc::{AllocError, Global};
+use std::collections::BTreeMap;
+use txn_trace::{Entry, Phase, Reply};
+
+/// How many callers there are.
+const CALLERS: usize = 64;
+
+/// A key of which a transaction got a reply that the committed map does not give.
+#[derive(Clone, Copy, Debug, PartialEq, Eq)]
+pub struct Misread {
+    /// The key.
+    pub key: u64,
+    /// The reply of the transaction's first operation there.
+    pub read: Reply,
+    /// What the committed map has there: the reply that was due.
+    pub due: Reply,
+}
+
+/// The map that the committed transactions leave, and the footprint of each caller's transaction.
+#[derive(Drop)]
+pub(crate) struct Commits {
+    /// The values of the keys.
+    pub(crate) values: BTreeMap<u64, u64>,
+    /// The footprint of each caller's transaction, by its number.
+    pub(crate) footprints: Vec<Footprint>,
+    ghost all: { vec_len footprints ≡ 64 },
+}
+
+impl Commits {
+    ghost use Rattle.serial_check.specs.Serializable.{txn_in};
+    ghost use Rattle.serial_check.specs.Commits.{Keeps, Judges, Stays, IsMisread, FitsOrTorn};
+
+    /// The empty map, without transactions.
+    pub(crate) fn new(alloc: Global) -> Result<Commits, AllocError>
+        ensures { IfOk result (Keeps []) }
+    {
+        let mut footprints = Vec::with_capacity(alloc, CALLERS)?;
+        for _ in 0..CALLERS {
+            footprints.push(Footprint::new(alloc))?;
+        }
+        Ok(Commits {
+            values: BTreeMap::new(alloc),
+            footprints,
+        })
+    }
+
+    /// Goes on by an entry of right shape, or answers that it commits what has a wrong reply.
+    pub(crate) fn take_in(&mut self, callers: &Callers, entry: &Entry) -> Result<bool, AllocError>
+        requires { caller_of entry.now < 64 }
+        ensures ok { IfOk result (λ right. Judges entry.now callers.now self.old right self.new) }
+        ensures err { OnErr result (Stays self.old self.new) }
+    {
+        match *entry {
+            Entry::Did(caller, reply) => {
+                if let Phase::Waiting(op) = callers.phase(caller) {
+                    self.footprints[caller as usize].answer(op, reply)?;
+                }
+            }
+            Entry::Undone(caller) => {
+                if let Some((key, before)) = callers.newest_change(caller) {
+                    self.footprints[caller as usize].put_back(key, before);
+                }
+            }
+            Entry::Committed(caller, _) => return self.commit(caller),
+            Entry::Aborted(caller) => self.footprints[caller as usize].clear(),
+            _ => {}
+        }
+        Ok(true)
+    }
+
+    /// The caller's transaction commits, if it has the replies of running alone on the map: the map
+    /// has what it leaves, and its footprint is empty.
+    fn commit(&mut self, caller: u64) -> Result<bool, AllocError>
+        requires { caller < 64 }
+        ensures ok { IfOk result (λ right. (callers : Callers) (number : ℕ) →
+            Judges (Entry.Committed caller number) callers self.old right self.new) }
+        ensures err { OnErr result (Stays self.old self.new) }
+    {
+        let footprint = &mut self.footprints[caller as usize];
+        if !footprint.fits(&self.values) {
+            return Ok(false);
+        }
+        footprint.settle(&mut self.values)?;
+        footprint.clear();
+        Ok(true)
+    }
+
+    /// A key at which the caller's transaction, whose replies fit some map, got a first reply that
+    /// the committed map does not give. A step for each key.
+    pub(crate) fn misread(&self, caller: u64) -> Option<Misread>
+        requires { caller < 64 }
+        ensures some { (h : List Entry) (t : ℕ) → Keeps h self.now → txn_in h caller ≡ Some t →
+            is_open t h ≡ true → IfSome result (IsMisread h t) }
+        ensures none { IsNone result → (h : List Entry) (t : ℕ) → Keeps h self.now →
+            txn_in h caller ≡ Some t → is_open t h ≡ true → FitsOrTorn h t }
+    {
+        let footprint = &self.footprints[caller as usize];
+        if footprint.is_torn {
+            return None;
+        }
+        let (key, read) = footprint.misfit(&self.values)?;
+        let due = self.values.get(&key).copied();
+        Some(Misread { key, read, due })
+    }
+}

@@ -1,0 +1,255 @@
+//! Worked histories, judged by locks and by the order of commits.
+
+use history_check::{Rule, Verdict};
+use serial_check::Checker;
+use std::alloc::{AllocError, Global};
+use std::process::Abort;
+use std::test::Fail;
+use txn_trace::{Entry, Holder, Op};
+
+/// Two transactions touch key 1, each as if the other were not there; the reader commits first.
+const READS_BESIDE: [Entry; 8] = [
+    Entry::Began(0, 1),
+    Entry::Began(1, 2),
+    Entry::Asked(0, Op::Get(1)),
+    Entry::Did(0, None),
+    Entry::Asked(1, Op::Put(1, 10)),
+    Entry::Did(1, None),
+    Entry::Committed(0, 1),
+    Entry::Committed(1, 2),
+];
+
+/// The same, in which the writer commits first: the reader's value is old.
+const READS_STALE: [Entry; 8] = [
+    Entry::Began(0, 1),
+    Entry::Began(1, 2),
+    Entry::Asked(0, Op::Get(1)),
+    Entry::Did(0, None),
+    Entry::Asked(1, Op::Put(1, 10)),
+    Entry::Did(1, None),
+    Entry::Committed(1, 1),
+    Entry::Committed(0, 2),
+];
+
+/// Each of two transactions reads what the other one writes.
+const WRITE_SKEW: [Entry; 16] = [
+    Entry::Began(0, 1),
+    Entry::Began(1, 2),
+    Entry::Asked(0, Op::Get(1)),
+    Entry::Did(0, None),
+    Entry::Asked(0, Op::Get(2)),
+    Entry::Did(0, None),
+    Entry::Asked(1, Op::Get(1)),
+    Entry::Did(1, None),
+    Entry::Asked(1, Op::Get(2)),
+    Entry::Did(1, None),
+    Entry::Asked(0, Op::Put(1, 10)),
+    Entry::Did(0, None),
+    Entry::Asked(1, Op::Put(2, 20)),
+    Entry::Did(1, None),
+    Entry::Committed(0, 1),
+    Entry::Committed(1, 2),
+];
+
+/// One with a wrong reply aborts, another stays open.
+const WRONG_BUT_ABORTED: [Entry; 8] = [
+    Entry::Began(0, 1),
+    Entry::Asked(0, Op::Get(1)),
+    Entry::Did(0, Some(99)),
+    Entry::Leave(0, None),
+    Entry::Aborted(0),
+    Entry::Began(1, 2),
+    Entry::Asked(1, Op::Take(3)),
+    Entry::Did(1, Some(7)),
+];
+
+/// A value that was not committed when it was read, and is when its reader commits.
+const RIGHT_LATER: [Entry; 8] = [
+    Entry::Began(0, 1),
+    Entry::Began(1, 2),
+    Entry::Asked(0, Op::Get(1)),
+    Entry::Did(0, Some(10)),
+    Entry::Asked(1, Op::Put(1, 10)),
+    Entry::Did(1, None),
+    Entry::Committed(1, 1),
+    Entry::Committed(0, 2),
+];
+
+/// A wrong reply above a savepoint, to which its transaction goes back.
+const WRONG_BUT_TAKEN_BACK: [Entry; 9] = [
+    Entry::Began(0, 1),
+    Entry::Asked(0, Op::Put(1, 10)),
+    Entry::Did(0, None),
+    Entry::Saved(0),
+    Entry::Asked(0, Op::Get(1)),
+    Entry::Did(0, Some(11)),
+    Entry::Leave(0, Some(1)),
+    Entry::Returned(0, 1),
+    Entry::Committed(0, 1),
+];
+
+/// A transaction goes back to a savepoint while another one writes beside it, and aborts.
+const BACK_TO_A_SAVEPOINT: [Entry; 20] = [
+    Entry::Began(0, 1),
+    Entry::Asked(0, Op::Put(1, 10)),
+    Entry::Did(0, None),
+    Entry::Saved(0),
+    Entry::Began(1, 2),
+    Entry::Asked(0, Op::Put(2, 20)),
+    Entry::Did(0, None),
+    Entry::Asked(1, Op::Put(1, 11)),
+    Entry::Did(1, None),
+    Entry::Asked(0, Op::Get(2)),
+    Entry::Did(0, Some(20)),
+    Entry::Leave(0, Some(1)),
+    Entry::Undone(0),
+    Entry::Returned(0, 1),
+    Entry::Asked(0, Op::Get(2)),
+    Entry::Did(0, None),
+    Entry::Committed(0, 1),
+    Entry::Leave(1, None),
+    Entry::Undone(1),
+    Entry::Aborted(1),
+];
+
+/// Keys are put, put over, taken, and read by the next transaction; the last reads an old value.
+const NEW_KEYS: [Entry; 22] = [
+    Entry::Began(0, 1),
+    Entry::Asked(0, Op::Put(1, 10)),
+    Entry::Did(0, None),
+    Entry::Asked(0, Op::Put(2, 20)),
+    Entry::Did(0, None),
+    Entry::Asked(0, Op::Put(3, 30)),
+    Entry::Did(0, None),
+    Entry::Committed(0, 1),
+    Entry::Began(1, 2),
+    Entry::Asked(1, Op::Take(1)),
+    Entry::Did(1, Some(10)),
+    Entry::Asked(1, Op::PutIf(2, Some(20), 21)),
+    Entry::Did(1, Some(20)),
+    Entry::Asked(1, Op::Get(3)),
+    Entry::Did(1, Some(30)),
+    Entry::Committed(1, 2),
+    Entry::Began(0, 3),
+    Entry::Asked(0, Op::Get(1)),
+    Entry::Did(0, None),
+    Entry::Asked(0, Op::Get(2)),
+    Entry::Did(0, Some(20)),
+    Entry::Committed(0, 3),
+];
+
+/// A first commit with number 2.
+const NUMBERED_WRONG: [Entry; 2] = [Entry::Began(0, 1), Entry::Committed(0, 2)];
+
+/// A legal verdict.
+fn legal(commits: u64, running: u64) -> Verdict {
+    Verdict::Legal { commits, running }
+}
+
+/// One that names a bad entry.
+fn illegal(entry: u64, rule: Rule) -> Verdict {
+    Verdict::Illegal { entry, rule }
+}
+
+/// A history, its verdict by locks of 8 stripes, and by the order of commits.
+type Row = (&'static [Entry], Verdict, Verdict);
+
+/// Sees that both judges say this.
+fn judge(rt: &impl Abort, alloc: Global, row: &Row) -> Result<(), AllocError> {
+    let (entries, by_locks, by_commits) = *row;
+    assert!(rt; entries.iter().all(|entry| entry.caller() < 64));
+    let found = history_check::check(alloc, entries, 8, Holder::Now)?;
+    assert_eq!(rt; found, by_locks, "by locks: {entries:?}");
+    let found = serial_check::check(alloc, entries)?;
+    assert_eq!(rt; found, by_commits, "by commits: {entries:?}");
+    Ok(())
+}
+
+/// Feeds a checker one entry, once more if memory is refused.
+fn feed(rt: &impl Abort, checker: &mut Checker, entry: &Entry) -> Result<(), AllocError> {
+    assert!(rt; entry.caller() < 64);
+    match checker.feed(entry) {
+        Ok(()) => Ok(()),
+        Err(_) => checker.feed(entry),
+    }
+}
+
+/// Sees that a checker that is fed entry by entry says it of each beginning: legal up to the first
+/// bad entry, and from there on that one.
+fn feed_each(rt: &impl Abort, alloc: Global, row: &Row) -> Result<(), AllocError> {
+    let (entries, _, wanted) = *row;
+    let mut checker = match Checker::new(alloc) {
+        Ok(checker) => checker,
+        Err(_) => Checker::new(alloc)?,
+    };
+    for (i, entry) in entries.iter().enumerate() {
+        feed(rt, &mut checker, entry)?;
+        let found = checker.verdict();
+        match wanted {
+            Verdict::Illegal { entry, .. } if entry <= i as u64 => {
+                assert_eq!(rt; found, wanted, "at {i} of {entries:?}");
+            }
+            _ => {
+                let is_legal = matches!(found, Verdict::Legal { .. });
+                assert!(rt; is_legal, "at {i} of {entries:?}");
+            }
+        }
+    }
+    assert_eq!(rt; checker.verdict(), wanted, "{entries:?}");
+    Ok(())
+}
+
+/// The worked histories.
+fn rows() -> [Row; 9] {
+    [
+        (&READS_BESIDE, illegal(4, Rule::Locks), legal(2, 0)),
+        (
+            &READS_STALE,
+            illegal(4, Rule::Locks),
+            illegal(7, Rule::Replies),
+        ),
+        (
+            &WRITE_SKEW,
+            illegal(6, Rule::Locks),
+            illegal(15, Rule::Replies),
+        ),
+        (&WRONG_BUT_ABORTED, illegal(2, Rule::Replies), legal(0, 1)),
+        (&RIGHT_LATER, illegal(3, Rule::Replies), legal(2, 0)),
+        (
+            &WRONG_BUT_TAKEN_BACK,
+            illegal(5, Rule::Replies),
+            illegal(8, Rule::Replies),
+        ),
+        (&BACK_TO_A_SAVEPOINT, illegal(7, Rule::Locks), legal(1, 0)),
+        (
+            &NEW_KEYS,
+            illegal(20, Rule::Replies),
+            illegal(21, Rule::Replies),
+        ),
+        (
+            &NUMBERED_WRONG,
+            illegal(1, Rule::Shape),
+            illegal(1, Rule::Shape),
+        ),
+    ]
+}
+
+#[test]
+fn have_both_verdicts(rt: HostRuntime) -> Result<(), Fail> {
+    let alloc = rt.alloc();
+    for row in rows() {
+        if judge(&rt, alloc, &row).is_err() {
+            judge(&rt, alloc, &row)?;
+        }
+    }
+    Ok(())
+}
+
+#[test]
+fn fed_entry_by_entry(rt: HostRuntime) -> Result<(), Fail> {
+    let alloc = rt.alloc();
+    for row in rows() {
+        feed_each(&rt, alloc, &row)?;
+    }
+    Ok(())
+}

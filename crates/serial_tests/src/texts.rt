@@ -1,0 +1,78 @@
+//! The texts of a verdict and of a rule, and both as errors.
+
+use anyhow::Result;
+use history_check::{Rule, Verdict};
+use std::alloc::{AllocError, Global};
+use std::fmt::Display;
+use std::process::Abort;
+use std::test::Fail;
+
+/// Sees that a value is printed so.
+fn prints(
+    rt: &impl Abort,
+    alloc: Global,
+    value: impl Display + Drop,
+    wanted: &str,
+) -> Result<(), AllocError> {
+    let text = value.to_string(alloc)?;
+    assert_eq!(rt; text.as_str(), wanted);
+    Ok(())
+}
+
+#[test]
+fn are_those_of_the_programs(rt: HostRuntime) -> Result<(), Fail> {
+    let alloc = rt.alloc();
+    let legal = Verdict::Legal {
+        commits: 2,
+        running: 0,
+    };
+    let illegal = Verdict::Illegal {
+        entry: 502,
+        rule: Rule::Replies,
+    };
+    prints(&rt, alloc, legal, "legal 2 commits 0 open")?;
+    prints(&rt, alloc, illegal, "illegal entry 502 rule 1")?;
+    prints(&rt, alloc, Rule::Replies, "rule 1")?;
+    prints(&rt, alloc, Rule::Locks, "rule 2")?;
+    prints(&rt, alloc, Rule::Shape, "rule 3")?;
+    Ok(())
+}
+
+/// Hands a verdict on as an error if it is not legal.
+fn only_legal(verdict: Verdict) -> Result<()> {
+    match verdict {
+        Verdict::Legal { .. } => Ok(()),
+        Verdict::Illegal { .. } => Err(verdict.into()),
+    }
+}
+
+/// Hands a rule on as an error.
+fn broken(rule: Rule) -> Result<()> {
+    Err(rule)?;
+    Ok(())
+}
+
+/// Sees that an outcome is an error with this text.
+fn fails(
+    rt: &impl Abort,
+    alloc: Global,
+    outcome: Result<()>,
+    wanted: &str,
+) -> Result<(), AllocError> {
+    match outcome {
+        Ok(()) => panic!(rt; "no error"),
+        Err(error) => prints(rt, alloc, error, wanted),
+    }
+}
+
+#[test]
+fn are_those_of_errors(rt: HostRuntime) -> Result<(), Fail> {
+    let alloc = rt.alloc();
+    let illegal = Verdict::Illegal {
+        entry: 7,
+        rule: Rule::Shape,
+    };
+    fails(&rt, alloc, only_legal(illegal), "illegal entry 7 rule 3")?;
+    fails(&rt, alloc, broken(Rule::Locks), "rule 2")?;
+    Ok(())
+}
