@@ -84,11 +84,12 @@ enum {
     BOOSTMAP_DONE = 0,   /* done; *word is the value, transaction, level or commit number */
     BOOSTMAP_ABSENT = 1, /* done, at a key without a value */
     BOOSTMAP_BUSY = 2,   /* caller *word holds the key's stripe: this transaction can only abort */
-    BOOSTMAP_EMPTY = 3,  /* the handle has no map; nothing was done */
-    BOOSTMAP_FULL = 4,   /* the handle has a map already; nothing was done */
+    BOOSTMAP_EMPTY = 3,  /* the handle is empty; nothing was done */
+    BOOSTMAP_FULL = 4,   /* the handle has a map, or a judge, already; nothing was done */
     BOOSTMAP_NULL = 5,   /* only by boostmap_checked.h: a null pointer */
     BOOSTMAP_IN_CALL = 6, /* only by boostmap_checked.h: the handle is in another call */
-    BOOSTMAP_SHORT = 7,  /* the array is too short; *word is the count that it needs */
+    BOOSTMAP_SHORT = 7,  /* boostmap_read: the array is too short; *word is the number of places that it needs */
+    BOOSTMAP_NO_ENTRY = 8, /* boostmap_judge_feed: the numbers say no entry of a caller below 64 */
     /* 16 + the number of a refusal: map and transaction are unchanged */
     BOOSTMAP_NO_SUCH_CALLER = 18,  /* the caller's number is not below the number of callers */
     BOOSTMAP_NOT_OPEN = 19,        /* the caller has no transaction */
@@ -98,8 +99,33 @@ enum {
     BOOSTMAP_NO_SUCH_HELPER = 28,  /* as 18, of boostmap_help */
     BOOSTMAP_NO_MEMORY = 30,       /* memory was refused; never by commit and abort */
     BOOSTMAP_STAMPS_USED_UP = 32,  /* 2^64 - 2 nodes were made */
-    BOOSTMAP_LIMIT = 38            /* a limit of boostmap_new is out of range */
+    BOOSTMAP_LIMIT = 38            /* a limit, the stripes or the holder are out of range */
 };
+
+/* A status in words. */
+static inline const char *boostmap_text(boostmap_status status) {
+    switch (status) {
+    case BOOSTMAP_DONE: return "done";
+    case BOOSTMAP_ABSENT: return "done, at a key without a value";
+    case BOOSTMAP_BUSY: return "another caller holds the key's stripe";
+    case BOOSTMAP_EMPTY: return "the handle is empty";
+    case BOOSTMAP_FULL: return "the handle is in use already";
+    case BOOSTMAP_NULL: return "a pointer is null";
+    case BOOSTMAP_IN_CALL: return "the handle is in another call";
+    case BOOSTMAP_SHORT: return "the array is too short";
+    case BOOSTMAP_NO_ENTRY: return "the numbers say no entry";
+    case BOOSTMAP_NO_SUCH_CALLER: return "there is no such caller";
+    case BOOSTMAP_NOT_OPEN: return "the caller has no transaction";
+    case BOOSTMAP_ALREADY_OPEN: return "the caller has a transaction already";
+    case BOOSTMAP_LEAVING: return "the transaction can only abort";
+    case BOOSTMAP_NO_SUCH_LEVEL: return "there is no such level";
+    case BOOSTMAP_NO_SUCH_HELPER: return "there is no such helper";
+    case BOOSTMAP_NO_MEMORY: return "memory was refused";
+    case BOOSTMAP_STAMPS_USED_UP: return "no stamp is left";
+    case BOOSTMAP_LIMIT: return "a limit is out of range";
+    default: return "no call is answered so";
+    }
+}
 
 /* Makes a map for 1 to 64 callers, 1 to 4096 stripes, and at most so many buckets: a power of two
  * from 2 to 65536.    0; 4; 38; 30 */

@@ -1,6 +1,7 @@
 /* Each status of each call, once: what it answers, what it writes, and what it leaves. */
 #include "boostmap.h"
 #include "check.h"
+#include <string.h>
 
 enum { UNTOUCHED = 77 };
 
@@ -95,8 +96,23 @@ static void two_callers(boostmap *m) {
     ANSWERS(boostmap_help(m, 2, 5), BOOSTMAP_NO_SUCH_HELPER, UNTOUCHED);
 }
 
+/* Each status that is named has words, and no two the same; no other has any. */
+static void words(void) {
+    const char *none = boostmap_text(63);
+    int named = 0;
+    for (boostmap_status status = 0; status < 100; status++) {
+        const char *text = boostmap_text(status);
+        if (!strcmp(text, none)) continue;
+        named++;
+        for (boostmap_status other = 0; other < status; other++) CHECK(strcmp(text, boostmap_text(other)));
+    }
+    CHECK(named == 18);
+    CHECK(!strcmp(boostmap_text(BOOSTMAP_NO_MEMORY), "memory was refused"));
+}
+
 int main(void) {
     boostmap m = BOOSTMAP_INIT;
+    words();
     an_empty_handle(&m);
     limits();
     order(&m);
