@@ -1,0 +1,9 @@
+use Rattle.std.proofs.Common.{◌≡◌}
+use Rattle.shared_transactions.specs.Within.{IsUndone}
+use Rattle.shared_transactions.proofs.attempts.transact.Given as goal
+
+abbrev pub invariant-loop-round : goal.invariant-loop-round
+invariant-loop-round g l = record {
+  same_token : (g.G.Attempts.me l.it).ghost_name ≡ (g.G.Attempts.me l.fn.it).ghost_name;
+  undone : IsUndone (g.G.Attempts.me l.fn.it).now (g.G.Attempts.me l.it).now;
+}

@@ -1,0 +1,53 @@
+//! Transactions as values on a map that threads share, work that is run in one, and a call that
+//! makes such a map.
+//!
+//! - A `Transaction` is a caller's token with its map. It is begun, worked in, and committed; if it
+//!   is dropped before it is committed, at a `?` or an early return, it is aborted.
+//! - `transact` begins, runs the work and commits. If another caller held a stripe, the thread gives
+//!   way and the work begins anew, as often as its `Retry` says; any other refusal takes everything
+//!   back and is handed on.
+//! - `run_session` makes the map and hands it, with a pass for each caller, to a `Session`, so that
+//!   its user names no ledger.
+//!
+//! ```text
+//! fn count<L: Ledger, R: Wait>(t: &mut Transaction<'_, L, R>) -> Result<u64, Stop>
+//!     ensures { Keeps t.old.me t.new.me }
+//! {
+//!     let before = t.get(7)?.unwrap_or(0);
+//!     t.put(7, before.saturating_add(1))?;
+//!     Ok(before)
+//! }
+//!
+//! let mut t = Transaction::new(rt, &map, &mut me);
+//! let (before, receipt) =
+//!     transact(&mut t, Retry::FOREVER, |t: &mut Transaction<'_, L, R>| count(t))?;
+//! ```
+//!
+//! The model is the caller's token: the entries that its calls have added to the history. Promised:
+//! - With `Ok` the token's last entries are one run of the work, begun from a token that has no
+//!   transaction, and its commit, with the number and the place of the receipt (`IsRun`); what came
+//!   before since the call committed nothing.
+//! - With `Err` there is no transaction where there was none before, and of what was added nothing
+//!   is committed (`IsUndone`). A drop says the same of the transaction that it ends (`IsTakenBack`).
+//! - A session's own promise holds of what it answers (`Session::promises`).
+//!
+//! What a map holds afterwards is said when it is closed, as `locked_map` says: other callers' steps
+//! come between. No clause speaks of time: not that a call returns, nor how often it tried.
+//!
+//! A work states what every call keeps by one definition, `Keeps`; `proofs/Within.antt` has
+//! `keeps_stay` and `keeps_on`, by which the check joins the calls of a work. The side value is
+//! `NoSide`.
+//!
+//! A transaction costs what its calls do. The idea of a transaction that is taken back and run again
+//! is that of Herlihy and Koskinen, "Transactional Boosting" (PPoPP 2008), section 2.
+#![tactic(auto)]
+
+mod attempts;
+mod retry;
+mod session;
+mod transaction;
+
+pub use attempts::{Attempts, transact};
+pub use retry::Retry;
+pub use session::{Session, callers_of, run_session};
+pub use transaction::Transaction;

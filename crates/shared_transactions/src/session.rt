@@ -1,0 +1,85 @@
+//! A map of threads with its ledger's name picked.
+ghost use Rattle.std.specs.Prelude.{◌≡◌, IfOk, map};
+ghost use Rattle.std.specs.List.{range_with_len};
+ghost use Rattle.locked_map.specs.Tokens.{new_ticket};
+
+use locked_map::{Caller, NoSide, Pass, SharedMap};
+use std::alloc::{AllocError, Global};
+use std::marker::Brand;
+use std::sync::ledger::{Blank, Ledger};
+use txn_trace::{Limits, Refusal};
+
+/// What is done on a map of threads, whatever the name of its ledger.
+pub trait Session<R> {
+    /// What comes of it.
+    type Output;
+
+    /// What the session promises of its outcome.
+    ghost promises: { Self → Self.Output → Type 0 };
+
+    /// Does it. There is a pass for each caller's number, rising.
+    fn run<L: Ledger + Send + Sync>(
+        self,
+        rt: &R,
+        alloc: Global,
+        shared: SharedMap<L>,
+        passes: Vec<Pass<L>>,
+    ) -> Self::Output
+        requires parts { shared.limits.callers ≡ L.parts }
+        requires passes { passes.items
+            ≡ map (new_ticket shared.limits) (range_with_len 0 shared.limits.callers) }
+        ensures { promises self result };
+}
+
+/// Makes a map of threads and does a session on it.
+pub fn run_session<R, W: Session<R> + Drop>(
+    rt: &R,
+    alloc: Global,
+    limits: Limits,
+    session: W,
+) -> Result<W::Output, Refusal>
+    ensures { IfOk result (λ outcome. W.promises session outcome) }
+{
+    let blank = Blank::new(u64::from(limits.callers()));
+    run_under::<Brand, R, W>(rt, alloc, blank, limits, session)
+}
+
+/// The same under a ledger that has a name.
+fn run_under<L: Ledger + Send + Sync, R, W: Session<R> + Drop>(
+    rt: &R,
+    alloc: Global,
+    blank: Blank,
+    limits: Limits,
+    session: W,
+) -> Result<W::Output, Refusal>
+    requires name { blank.name ≡ L.name }
+    requires parts { blank.parts ≡ L.parts }
+    requires one_each { blank.parts ≡ limits.callers }
+    ensures { IfOk result (λ outcome. W.promises session outcome) }
+{
+    let (map, passes) = SharedMap::<L>::new(alloc, blank, limits)?;
+    Ok(session.run(rt, alloc, map, passes))
+}
+
+/// The callers of passes, in their order, none with a side value.
+///
+/// # Errors
+///
+/// `AllocError` if memory is refused: then the passes are gone, and the map cannot be closed.
+///
+/// # Cost
+///
+/// Time and memory in proportion to the passes.
+pub fn callers_of<L: Ledger>(
+    alloc: Global,
+    passes: Vec<Pass<L>>,
+) -> Result<Vec<Caller<L, NoSide>>, AllocError>
+    ensures { IfOk result (λ callers.
+        map (λ k. k.number) callers.items ≡ map (λ p. p.number) passes.items) }
+{
+    let mut callers = Vec::new(alloc);
+    for pass in passes {
+        callers.push(pass.caller(alloc, NoSide))?;
+    }
+    Ok(callers)
+}

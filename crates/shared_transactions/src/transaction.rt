@@ -1,0 +1,190 @@
+//! A transaction as a value.
+ghost use Rattle.std.specs.Prelude.{◌≡◌, ◌++◌, [], ◌∷◌, true, IfOk, OnErr};
+ghost use Rattle.txn_trace.specs.declared.entry.Entry.TheVariants as entries;
+ghost use Rattle.locked_map.specs.Calls.{Ended};
+ghost use Rattle.shared_transactions.specs.Keeps.{Keeps};
+ghost use Rattle.shared_transactions.specs.Within.{IsBegun, IsCommitted, IsOver, IsTakenBack, IsUndone, is_quiet};
+
+use crate::attempts::Attempts;
+use boost_core::{Call, End};
+use locked_map::{Caller, NoSide, OnRelease, Receipt, SharedMap, Stop};
+use std::sync::Wait;
+use std::sync::ledger::Ledger;
+use txn_trace::{Answer, Op, Refusal, Reply};
+use undo_log::Side;
+
+/// Hears nothing.
+struct Unheard;
+
+impl OnRelease for Unheard {
+    fn on_release(&self) {}
+}
+
+/// A caller on a map of threads, in a transaction or about to begin one. A transaction that is not
+/// committed when this is dropped is aborted.
+pub struct Transaction<'a, L: Ledger, R: Wait> {
+    rt: &'a R,
+    map: &'a SharedMap<L>,
+    me: &'a mut Caller<L, NoSide>,
+}
+
+impl<'a, L: Ledger, R: Wait> Transaction<'a, L, R> {
+    /// A caller that has not begun yet.
+    pub fn new(
+        rt: &'a R,
+        map: &'a SharedMap<L>,
+        me: &'a mut Caller<L, NoSide>,
+    ) -> Transaction<'a, L, R>
+        ensures same_token { result.me.ghost_name ≡ me.entry.ghost_name }
+        ensures same { result.me.now ≡ me.old }
+    {
+        Transaction { rt, map, me }
+    }
+
+    /// Begins a transaction.
+    #[tactic(auto, using(crate::proofs::Within::begun, crate::proofs::Within::not_begun))]
+    pub fn begin(&mut self) -> Result<u64, Stop>
+        ensures same_token { self.new.me.ghost_name ≡ self.old.me.ghost_name }
+        ensures ok { IfOk result (λ txn. IsBegun self.old.me.now txn self.new.me.now
+            × IsOver self.old.me.now) }
+        ensures err { OnErr result (IsUndone self.old.me.now self.new.me.now) }
+    {
+        self.map.begin(self.rt, self.me)
+    }
+
+    /// Gets the value at a key.
+    pub fn get(&mut self, key: u64) -> Result<Reply, Stop>
+        ensures keeps { Keeps self.old.me self.new.me }
+        ensures ok { IfOk result (λ reply. self.new.me.now.seen ≡ self.old.me.now.seen
+            ++ entries.Asked self.old.me.now.number (Op.Get key)
+            ∷ entries.Did self.old.me.now.number reply ∷ []) }
+    {
+        self.operate(Op::Get(key))
+    }
+
+    /// Puts a value at a key, and answers the value before.
+    pub fn put(&mut self, key: u64, value: u64) -> Result<Reply, Stop>
+        ensures keeps { Keeps self.old.me self.new.me }
+        ensures ok { IfOk result (λ reply. self.new.me.now.seen ≡ self.old.me.now.seen
+            ++ entries.Asked self.old.me.now.number (Op.Put key value)
+            ∷ entries.Did self.old.me.now.number reply ∷ []) }
+    {
+        self.operate(Op::Put(key, value))
+    }
+
+    /// Takes a key out, and answers its value.
+    pub fn take(&mut self, key: u64) -> Result<Reply, Stop>
+        ensures keeps { Keeps self.old.me self.new.me }
+        ensures ok { IfOk result (λ reply. self.new.me.now.seen ≡ self.old.me.now.seen
+            ++ entries.Asked self.old.me.now.number (Op.Take key)
+            ∷ entries.Did self.old.me.now.number reply ∷ []) }
+    {
+        self.operate(Op::Take(key))
+    }
+
+    /// Puts a value at a key exactly where the key has what is expected, a value or none, and
+    /// answers what it had.
+    pub fn put_if(&mut self, key: u64, expected: Option<u64>, value: u64) -> Result<Reply, Stop>
+        ensures keeps { Keeps self.old.me self.new.me }
+        ensures ok { IfOk result (λ reply. self.new.me.now.seen ≡ self.old.me.now.seen
+            ++ entries.Asked self.old.me.now.number (Op.PutIf key expected value)
+            ∷ entries.Did self.old.me.now.number reply ∷ []) }
+    {
+        self.operate(Op::PutIf(key, expected, value))
+    }
+
+    /// Commits; or aborts, where that is refused.
+    pub fn commit(self) -> Result<Receipt, Stop>
+        ensures ok { IfOk result (λ receipt. IsCommitted receipt.txn receipt.place
+            self.entry.me.now self.exit.1.1.0.now) }
+        ensures err { OnErr result (IsTakenBack self.entry.me.now self.exit.1.1.0.now) }
+    {
+        let Transaction { rt, map, me } = self;
+        end(rt, map, me)
+    }
+
+    /// Aborts.
+    pub fn abort(self)
+        ensures { IsTakenBack self.entry.me.now self.exit.1.1.0.now }
+    {
+        drop(self);
+    }
+
+    /// Does an operation.
+    fn operate(&mut self, op: Op) -> Result<Reply, Stop>
+        ensures keeps { Keeps self.old.me self.new.me }
+        ensures ok { IfOk result (λ reply. self.new.me.now.seen ≡ self.old.me.now.seen
+            ++ entries.Asked self.old.me.now.number op
+            ∷ entries.Did self.old.me.now.number reply ∷ []) }
+    {
+        match self.call(Call::Op(op)) {
+            End::Answered(Answer::Done(reply)) => Ok(reply),
+            End::Busy(holder) => Err(Stop::Busy { holder }),
+            End::Refused(refusal) => Err(Stop::Refused(refusal)),
+            _ => Err(Stop::Refused(Refusal::OutOfStep)),
+        }
+    }
+
+    /// Takes a call that neither begins nor commits a transaction.
+    fn call(&mut self, call: Call) -> End
+        requires { is_quiet call ≡ true }
+        ensures keeps { Keeps self.old.me self.new.me }
+        ensures ended { Ended ⟦<NoSide as Side>⟧.words_of self.old.me.now call result
+            self.new.me.now }
+    {
+        self.map.run(self.rt, self.me, call, &Unheard)
+    }
+}
+
+impl<L: Ledger, R: Wait> Attempts for Transaction<'_, L, R> {
+    ghost me = { λ t. t.me };
+
+    fn begin_anew(&mut self) -> Result<u64, Stop> {
+        self.begin()
+    }
+
+    fn finish(&mut self) -> Result<Receipt, Stop> {
+        end(self.rt, self.map, self.me)
+    }
+
+    fn give_up(&mut self) {
+        take_back(self.rt, self.map, self.me);
+    }
+}
+
+impl<L: Ledger, R: Wait> Drop for Transaction<'_, L, R> {
+    fn drop(self)
+        ensures back { IsTakenBack self.entry.me.now self.exit.1.1.0.now }
+        ensures same { IsOver self.entry.me.now → self.exit.1.1.0.now ≡ self.entry.me.now }
+    {
+        let Transaction { rt, map, me } = self;
+        take_back(rt, map, me);
+    }
+}
+
+/// Commits a caller's transaction; or aborts it, where that is refused.
+fn end<L: Ledger, R: Wait>(
+    rt: &R,
+    map: &SharedMap<L>,
+    me: &mut Caller<L, NoSide>,
+) -> Result<Receipt, Stop>
+    ensures ok { IfOk result (λ receipt. IsCommitted receipt.txn receipt.place me.old me.new) }
+    ensures err { OnErr result (IsTakenBack me.old me.new) }
+{
+    match map.commit(rt, me) {
+        Ok(receipt) => Ok(receipt),
+        Err(stop) => {
+            take_back(rt, map, me);
+            Err(stop)
+        }
+    }
+}
+
+/// Aborts a caller's transaction, if it has one.
+#[tactic(auto, using(crate::proofs::Within::taken_back_by, crate::proofs::Within::idle_abort))]
+fn take_back<L: Ledger, R: Wait>(rt: &R, map: &SharedMap<L>, me: &mut Caller<L, NoSide>)
+    ensures back { IsTakenBack me.old me.new }
+    ensures same { IsOver me.old → me.new ≡ me.old }
+{
+    map.run(rt, me, Call::Abort, &Unheard);
+}
