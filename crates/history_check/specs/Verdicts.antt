@@ -1,5 +1,5 @@
 -- What the verdict of the checker means.
-use Rattle.std.specs.Prelude.{ℕ, ◌≡◌, ◌↔◌, List}
+use Rattle.std.specs.Prelude.{ℕ, ◌≡◌, ◌↔◌, List, ◌++◌, codes, decimal}
 use Rattle.txn_trace.specs.declared.entry.Entry.{Entry}
 use Rattle.txn_trace.specs.declared.holder.Holder.{Holder}
 use Rattle.txn_trace.specs.Legal as legal
@@ -13,6 +13,17 @@ abbrev pub number_of : Rule → ℕ
 number_of Replies = 1
 number_of Locks = 2
 number_of Shape = 3
+
+-- The text of a rule.
+abbrev pub rule_words : Rule → List ℕ
+rule_words rule = codes "rule " ++ decimal (number_of rule)
+
+-- The text of a verdict.
+abbrev pub verdict_words : Verdict → List ℕ
+verdict_words (Legal commits running) =
+    codes "legal " ++ (decimal commits ++ (codes " commits " ++ (decimal running ++ codes " open")))
+verdict_words (Illegal entry rule) =
+    codes "illegal entry " ++ (decimal entry ++ (codes " " ++ rule_words rule))
 
 -- The verdict of the definitions that a verdict of the checker is.
 abbrev pub meaning_of : Verdict → legal.Verdict

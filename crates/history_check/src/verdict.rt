@@ -1,8 +1,11 @@
-//! The verdict on a history, and the rules that an entry may break.
+//! The verdict on a history, and the rules that an entry may break, with their texts.
 ghost use Rattle.std.specs.Prelude.{◌≡◌};
 ghost use Rattle.history_check.specs.Verdicts.{number_of};
 
-/// A rule that an entry of a history may break, with its number.
+use std::error::Error;
+use std::fmt;
+
+/// A rule that an entry of a history may break, with its number. It is printed as `rule 1`.
 #[derive(Clone, Copy, Debug, PartialEq, Eq)]
 pub enum Rule {
     /// Each open transaction has the replies of running alone on the map of the committed ones,
@@ -29,7 +32,21 @@ impl Rule {
     }
 }
 
-/// What a checker says of a history.
+impl fmt::Display for Rule {
+    ghost use Rattle.std.specs.Prelude.{Some};
+    ghost use Rattle.history_check.specs.Verdicts.{rule_words};
+
+    ghost output = { λ rule. Some (rule_words rule) };
+
+    fn fmt<W: fmt::Write>(&self, f: &mut fmt::Formatter<W>) -> fmt::Result {
+        write!(f, "rule {}", self.number())
+    }
+}
+
+impl Error for Rule {}
+
+/// What a checker says of a history. It is printed as `legal 2 commits 0 open`, or as
+/// `illegal entry 12 rule 1`.
 #[derive(Clone, Copy, Debug, PartialEq, Eq)]
 pub enum Verdict {
     /// No entry breaks a rule.
@@ -47,3 +64,21 @@ pub enum Verdict {
         rule: Rule,
     },
 }
+
+impl fmt::Display for Verdict {
+    ghost use Rattle.std.specs.Prelude.{Some};
+    ghost use Rattle.history_check.specs.Verdicts.{verdict_words};
+
+    ghost output = { λ verdict. Some (verdict_words verdict) };
+
+    fn fmt<W: fmt::Write>(&self, f: &mut fmt::Formatter<W>) -> fmt::Result {
+        match *self {
+            Verdict::Legal { commits, running } => {
+                write!(f, "legal {commits} commits {running} open")
+            }
+            Verdict::Illegal { entry, rule } => write!(f, "illegal entry {entry} {rule}"),
+        }
+    }
+}
+
+impl Error for Verdict {}

@@ -1,0 +1,46 @@
+//! The check of a whole history.
+ghost use Rattle.std.specs.Prelude.{◌<◌, IfOk};
+ghost use Rattle.std.specs.List.{All};
+ghost use Rattle.txn_trace.specs.History.{caller_of};
+ghost use Rattle.serial_check.specs.Verdicts.{IsVerdictOn};
+
+use crate::checker::Checker;
+use history_check::Verdict;
+use std::alloc::{AllocError, Global};
+use txn_trace::{Entry, PackedEntry};
+
+/// Judges a whole history, whose callers are below 64, by the order of its commits.
+///
+/// # Errors
+///
+/// `AllocError` where memory is refused.
+pub fn check(alloc: Global, entries: &[Entry]) -> Result<Verdict, AllocError>
+    requires { All (λ entry. caller_of entry < 64) entries.now }
+    ensures { IfOk result (IsVerdictOn entries.now) }
+{
+    let mut checker = Checker::new(alloc)?;
+    for entry in entries {
+        checker.feed(entry)?;
+    }
+    Ok(checker.verdict())
+}
+
+/// The same as `check`, of entries that are packed.
+///
+/// # Errors
+///
+/// `AllocError` where memory is refused.
+///
+/// # Cost
+///
+/// That of `check`.
+pub fn check_packed(alloc: Global, entries: &[PackedEntry]) -> Result<Verdict, AllocError>
+    requires { All (λ entry. caller_of entry < 64) entries.now }
+    ensures { IfOk result (IsVerdictOn entries.now) }
+{
+    let mut checker = Checker::new(alloc)?;
+    for entry in entries {
+        checker.feed(&entry.entry())?;
+    }
+    Ok(checker.verdict())
+}
