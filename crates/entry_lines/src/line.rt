@@ -1,5 +1,5 @@
 //! The entry that a line is.
-ghost use Rattle.std.specs.Prelude.{◌≡◌, List, Some, None, Err, MatchResult, IfOk, option_and_then};
+ghost use Rattle.std.specs.Prelude.{◌≡◌, ◌<◌, List, true, Some, None, Err, MatchResult, IfOk, IfSome, option_and_then};
 ghost use Rattle.std.specs.List.{list_all};
 ghost use Rattle.serde_json.specs.Data.{Data};
 ghost use Rattle.serde_json.specs.Read.{max_depth, read};
@@ -8,6 +8,7 @@ ghost use Rattle.piece_files.specs.Faults.{Fails, Gives, or_fault};
 ghost use Rattle.piece_files.specs.Tokens.{value_at, items_at, items_from};
 ghost use Rattle.piece_files.specs.declared.file_fault.FileFault.TheVariants.{NotJson};
 ghost use Rattle.piece_files.specs.declared.stop.Stop.TheVariants as stops;
+ghost use Rattle.txn_trace.specs.History.{caller_of};
 ghost use Rattle.txn_files.specs.Entries.{entry_of};
 ghost use Rattle.txn_files.specs.HistoryFile.{is_in_range};
 ghost use Rattle.entry_lines.specs.EntryLine.{entry_found, entry_on, is_blank, is_space};
@@ -44,7 +45,8 @@ fn is_blank(line: &[u8]) -> bool
 
 /// Whether the callers of an entry are in range.
 fn is_in_range(entry: Entry) -> bool
-    ensures { result ≡ is_in_range entry }
+    ensures test { result ≡ is_in_range entry }
+    ensures caller { result ≡ true → caller_of entry < 64 }
 {
     let is_named_in_range = match entry {
         Entry::Busy(_, _, holder) => holder < Limits::MAX_CALLERS,
@@ -55,7 +57,8 @@ fn is_in_range(entry: Entry) -> bool
 
 /// The entry that was found, where there is one and its callers are in range.
 fn entry_in_range(found: Option<Entry>) -> Result<Option<Entry>, FileFault>
-    ensures { result ≡ entry_found found }
+    ensures found { result ≡ entry_found found }
+    ensures callers { IfOk result (λ found. IfSome found (λ entry. caller_of entry < 64)) }
 {
     let entry = found.ok_or(FileFault::Member)?;
     if is_in_range(entry) {
@@ -107,10 +110,7 @@ fn entry_in_value(reader: &mut Reader<'_>) -> Result<Option<Entry>, Stop>
 }
 
 /// The entry that a text is, or none where it is another value.
-fn entry_in_text(
-    text: &str,
-    scratch: &mut Scratch<Global>,
-) -> Result<Option<Entry>, FileFault>
+fn entry_in_text(text: &str, scratch: &mut Scratch<Global>) -> Result<Option<Entry>, FileFault>
     ensures { MatchResult result
         (λ found. (d : Data) × (read text.now ≡ Some d)
         × (found ≡ option_and_then entry_of (elements_of d)))
@@ -142,11 +142,9 @@ fn entry_in_text(
 ///
 /// Time in proportion to the line. Memory only where the scratch has no room for the line.
 #[tactic(auto, unfolding(crate::specs::EntryLine::entry_on))]
-pub fn entry_on(
-    line: &[u8],
-    scratch: &mut Scratch<Global>,
-) -> Result<Option<Entry>, FileFault>
-    ensures { Gives (λ entry. entry) result (entry_on line.now) }
+pub fn entry_on(line: &[u8], scratch: &mut Scratch<Global>) -> Result<Option<Entry>, FileFault>
+    ensures entry { Gives (λ entry. entry) result (entry_on line.now) }
+    ensures callers { IfOk result (λ found. IfSome found (λ entry. caller_of entry < 64)) }
 {
     if line.len() > MAX_LINE {
         return Err(FileFault::Limit);

@@ -57,12 +57,7 @@ fn put_busy(text: &mut String, caller: u64, op: Op, holder: u64) -> Result<(), A
 }
 
 /// Adds a line of a name, a caller and a number.
-fn put_numbered(
-    text: &mut String,
-    name: &str,
-    caller: u64,
-    number: u64,
-) -> Result<(), AllocError>
+fn put_numbered(text: &mut String, name: &str, caller: u64, number: u64) -> Result<(), AllocError>
     ensures { OnOk result (string_bytes text.new ≡ string_bytes text.old
         ++ (array_text (quoted name.now ∷ decimal caller ∷ decimal number ∷ []) ++ 10 ∷ [])) }
 {
