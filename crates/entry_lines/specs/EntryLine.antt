@@ -1,0 +1,44 @@
+-- The entry that a line is: the array that it is in a history file of the newest version.
+use Rattle.std.specs.Prelude.{ℕ, ◌==◌, ◌||◌, Bool, nat_le, List, length, Option, Some, None, option_and_then, Result, Ok, Err, if◌then◌else◌}
+use Rattle.std.specs.List.{list_all}
+use Rattle.serde_json.specs.Data.{Data}
+use Rattle.piece_files.specs.declared.file_fault.FileFault.{FileFault}
+use Rattle.piece_files.specs.declared.file_fault.FileFault.TheVariants.{Member, Limit}
+use Rattle.piece_files.specs.Elements.{elements_of}
+use Rattle.piece_files.specs.Faults.{◌>>=◌, or_fault}
+use Rattle.piece_files.specs.Json.{json_of}
+use Rattle.txn_files.specs.Entries.{entry_of}
+use Rattle.txn_files.specs.HistoryFile.{is_in_range}
+use Rattle.txn_trace.specs.declared.entry.Entry.{Entry}
+
+-- How many bytes a line may have, without its line feed.
+abbrev pub max_line : ℕ
+max_line = 1000
+
+-- Whether a byte is white space in JSON: a space, a tab, a carriage return or a line feed.
+abbrev pub is_space : ℕ → Bool
+is_space byte = byte == 32 || byte == 9 || byte == 13 || byte == 10
+
+-- Whether a line says nothing.
+abbrev pub is_blank : List ℕ → Bool
+is_blank line = list_all is_space line
+
+-- An entry whose callers are in range.
+abbrev pub in_range : Entry → Result (Option Entry) FileFault
+in_range entry = if is_in_range entry then Ok (Some entry) else Err Limit
+
+-- The entry that was found, if there is one and its callers are in range.
+abbrev pub entry_found : Option Entry → Result (Option Entry) FileFault
+entry_found found = or_fault Member found >>= in_range
+
+-- The entry that a value in JSON is.
+abbrev pub entry_in : Data → Result (Option Entry) FileFault
+entry_in d = entry_found (option_and_then entry_of (elements_of d))
+
+-- The entry that a line is, none where it is blank, or its first fault: it is too long, it is no
+-- JSON, it is no entry, or a caller is out of range.
+unfoldable pub entry_on : List ℕ → Result (Option Entry) FileFault
+entry_on line =
+    if nat_le (length line) max_line
+    then (if is_blank line then Ok None else json_of line >>= entry_in)
+    else Err Limit

@@ -1,0 +1,3 @@
+pub mod EntryLine
+pub mod Lines
+pub mod LineText

@@ -1,0 +1,25 @@
+//! A history as lines: each line of a text is an entry, written as the array that it is in a
+//! history file, as `["asked",0,"put",1,10]`. A store can append such lines while it runs, with no
+//! bracket to close and no bound on how many there are, and what was written before a crash can be
+//! read as far as it goes.
+//!
+//! The model is two functions of bytes (`specs/`): `entry_on` is the entry that a line is, none
+//! where the line is blank, or its first fault; `history_of_lines` is the entries of all lines up
+//! to the first that is refused, and the number of that line. What an array is as an entry is what
+//! `txn_files` says of the newest version of history files, and what is JSON what `piece_files`
+//! says.
+//!
+//! Promised: `entry_on` computes the definition of its name, or says that memory was refused;
+//! `history_lines` writes a history as `text_of_lines` says. Both take time in proportion to the
+//! text. Reading a line takes no memory but that of its `Scratch`, which grows to the longest line,
+//! at most 1,000 bytes.
+#![tactic(auto)]
+
+mod entry;
+mod line;
+mod text;
+
+pub use json::Scratch;
+pub use line::entry_on;
+pub use piece_files::FileFault;
+pub use text::history_lines;

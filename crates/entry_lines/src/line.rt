@@ -1,0 +1,160 @@
+//! The entry that a line is.
+ghost use Rattle.std.specs.Prelude.{◌≡◌, ◌<◌, List, true, Some, None, Err, MatchResult, IfOk, IfSome, option_and_then};
+ghost use Rattle.std.specs.List.{list_all};
+ghost use Rattle.serde_json.specs.Data.{Data};
+ghost use Rattle.serde_json.specs.Read.{max_depth, read};
+ghost use Rattle.piece_files.specs.Elements.{elements_of};
+ghost use Rattle.piece_files.specs.Faults.{Fails, Gives, or_fault};
+ghost use Rattle.piece_files.specs.Tokens.{value_at, items_at, items_from};
+ghost use Rattle.piece_files.specs.declared.file_fault.FileFault.TheVariants.{NotJson};
+ghost use Rattle.piece_files.specs.declared.stop.Stop.TheVariants as stops;
+ghost use Rattle.txn_trace.specs.History.{caller_of};
+ghost use Rattle.txn_files.specs.Entries.{entry_of};
+ghost use Rattle.txn_files.specs.HistoryFile.{is_in_range};
+ghost use Rattle.entry_lines.specs.EntryLine.{entry_found, entry_on, is_blank, is_space};
+
+use crate::entry::entry_with;
+use arrayvec::ArrayVec;
+use json::{Reader, Scratch, Token};
+use piece_files::{FileFault, Plain, Stop, pass_value, plain_elements};
+use std::alloc::Global;
+use txn_trace::{Entry, Limits};
+
+/// How many bytes a line may have.
+const MAX_LINE: usize = 1000;
+
+/// How deep arrays and objects may nest.
+const MAX_DEPTH: usize = 127;
+
+/// How many elements the longest entry has: `["busy",0,"put_if",1,10,12,2]`.
+const MAX_ELEMENTS: usize = 7;
+
+/// Whether a byte is white space in JSON.
+fn is_space(byte: u8) -> bool
+    ensures { result ≡ is_space byte }
+{
+    byte == b' ' || byte == b'\t' || byte == b'\r' || byte == b'\n'
+}
+
+/// Whether a line says nothing.
+fn is_blank(line: &[u8]) -> bool
+    ensures { result ≡ is_blank line.now }
+{
+    line.iter().all(|byte| is_space(*byte))
+}
+
+/// Whether the callers of an entry are in range.
+fn is_in_range(entry: Entry) -> bool
+    ensures test { result ≡ is_in_range entry }
+    ensures caller { result ≡ true → caller_of entry < 64 }
+{
+    let is_named_in_range = match entry {
+        Entry::Busy(_, _, holder) => holder < Limits::MAX_CALLERS,
+        _ => true,
+    };
+    entry.caller() < Limits::MAX_CALLERS && is_named_in_range
+}
+
+/// The entry that was found, where there is one and its callers are in range.
+fn entry_in_range(found: Option<Entry>) -> Result<Option<Entry>, FileFault>
+    ensures found { result ≡ entry_found found }
+    ensures callers { IfOk result (λ found. IfSome found (λ entry. caller_of entry < 64)) }
+{
+    let entry = found.ok_or(FileFault::Member)?;
+    if is_in_range(entry) {
+        Ok(Some(entry))
+    } else {
+        Err(FileFault::Limit)
+    }
+}
+
+/// The entry that an array is whose bracket was taken, or none where it is no entry.
+#[tactic(auto, using(txn_files::proofs::PlainPieces::no_entry))]
+fn entry_in_array(reader: &mut Reader<'_>) -> Result<Option<Entry>, Stop>
+    ensures ok { IfOk result (λ found. (ds : List Data)
+        × (items_at 126 reader.old ≡ Some (items_from ds, reader.new))
+        × (found ≡ entry_of ds)) }
+    ensures err { result ≡ Err stops.NotJson → items_at 126 reader.old ≡ None }
+{
+    let mut elements = ArrayVec::<Plain<'_>, MAX_ELEMENTS>::new();
+    if plain_elements(reader, MAX_DEPTH - 1, &mut elements)? {
+        Ok(entry_with(&elements))
+    } else {
+        Ok(None)
+    }
+}
+
+/// The entry that the next value is, or none where it is no entry.
+fn entry_in_value(reader: &mut Reader<'_>) -> Result<Option<Entry>, Stop>
+    ensures ok { IfOk result (λ found. (d : Data)
+        × (value_at max_depth reader.old ≡ Some (d, reader.new))
+        × (found ≡ option_and_then entry_of (elements_of d))) }
+    ensures err { result ≡ Err stops.NotJson → value_at max_depth reader.old ≡ None }
+{
+    let token = reader.next().ok_or(Stop::NotJson)?;
+    match token {
+        Token::BeginArray => entry_in_array(reader),
+        Token::BeginObject
+        | Token::EndObject
+        | Token::EndArray
+        | Token::Key(_)
+        | Token::String(_)
+        | Token::Number(_)
+        | Token::Bool(_)
+        | Token::Null
+        | Token::Bad => {
+            pass_value(token, reader, MAX_DEPTH)?;
+            Ok(None)
+        }
+    }
+}
+
+/// The entry that a text is, or none where it is another value.
+fn entry_in_text(text: &str, scratch: &mut Scratch<Global>) -> Result<Option<Entry>, FileFault>
+    ensures { MatchResult result
+        (λ found. (d : Data) × (read text.now ≡ Some d)
+        × (found ≡ option_and_then entry_of (elements_of d)))
+        (λ fault. Fails fault (or_fault NotJson (read text.now))) }
+{
+    let mut reader = Reader::new(text, scratch)?;
+    match entry_in_value(&mut reader) {
+        Ok(found) if reader.next().is_none() => Ok(found),
+        Ok(_) | Err(Stop::NotJson) => Err(FileFault::NotJson),
+        Err(Stop::NoMemory) => Err(FileFault::NoMemory),
+    }
+}
+
+/// The entry that a line is, which is given without its line feed: the array that it is in a
+/// history file of the newest version. A blank line is none.
+///
+/// # Errors
+///
+/// The first of these, in this order:
+///
+/// - `Limit` where the line has more than 1,000 bytes.
+/// - `NotJson` where it is no JSON as `piece_files::read_file` takes it.
+/// - `Member` where it is no entry.
+/// - `Limit` where a caller, or the holder that the entry names, is above 63.
+///
+/// `NoMemory` where memory is refused. It can come in place of any answer but the first.
+///
+/// # Cost
+///
+/// Time in proportion to the line. Memory only where the scratch has no room for the line.
+#[tactic(auto, unfolding(crate::specs::EntryLine::entry_on))]
+pub fn entry_on(line: &[u8], scratch: &mut Scratch<Global>) -> Result<Option<Entry>, FileFault>
+    ensures entry { Gives (λ entry. entry) result (entry_on line.now) }
+    ensures callers { IfOk result (λ found. IfSome found (λ entry. caller_of entry < 64)) }
+{
+    if line.len() > MAX_LINE {
+        return Err(FileFault::Limit);
+    }
+    if is_blank(line) {
+        return Ok(None);
+    }
+    let Ok(text) = std::str::from_utf8(line) else {
+        return Err(FileFault::NotJson);
+    };
+    let found = entry_in_text(text, scratch)?;
+    entry_in_range(found)
+}
