@@ -1,5 +1,4 @@
-use Rattle.std.proofs.Common.{ℕ, ◌≡◌, ◌+◌, ◌++◌, ◌∷◌, [], false, Some, None, Option, is_some, sym, subst, ◌∙◌, arith, length-append}
-use Rattle.std.specs.Option.{SomeIff}
+use Rattle.std.proofs.Common.{◌≡◌, ◌+◌, ◌++◌, ◌∷◌, [], sym, subst, ◌∙◌, arith, length-append}
 use Rattle.txn_trace.specs.Legal.{broken}
 use Rattle.history_check.specs.FirstBad.{FedBy}
 use Rattle.history_check.specs.States.{Tells, Judged}
