@@ -137,6 +137,17 @@ boostmap_status boostmap_free(boostmap *map);
 /* *word: how many keys the map has now, the changes of open transactions included.    0; 3 */
 boostmap_status boostmap_count(boostmap *map, uint64_t *word);
 
+/* A key and its value. */
+typedef struct boostmap_pair {
+    uint64_t key;
+    uint64_t value;
+} boostmap_pair;
+
+/* Writes the pairs of the map as it is now, the changes of open transactions included, to the front
+ * of an array with this many places, in the order of reversed bits; *word: how many there are. After
+ * 7 the array is unchanged, and *word the number of places that it needs.    0; 3; 7; 30 */
+boostmap_status boostmap_read(boostmap *map, boostmap_pair *pairs, size_t places, uint64_t *word);
+
 /* Doubles the table if it has more than two keys a bucket, and prepares the key's bucket. Nothing
  * else doubles the table: call it now and then beside puts, or it stays one long list.
  * 0; 3; 28; 32; 30 */
@@ -170,6 +181,78 @@ boostmap_status boostmap_save(boostmap *map, uint64_t caller, uint64_t *word);
 /* Takes back every change since the level was set; 0 is the beginning. The level stays set, the
  * stripes stay held; *word: the level.    0; 3; 18; 19; 22; 25; 30 */
 boostmap_status boostmap_back(boostmap *map, uint64_t caller, uint64_t level, uint64_t *word);
+
+/* ---- the judge of histories ---------------------------------------------------------------------
+ *
+ * A history is a list of entries, oldest first, of this map or of your own store. It is legal if
+ * each open transaction has the replies of running alone after the committed ones, in the order of
+ * commits; if a stripe of keys (key modulo the number of stripes) belongs to one open transaction
+ * at a time; and if each caller's entries follow the order of a transaction:
+ *
+ *     kind             numbers that it has
+ *     BEGAN            number: the transaction's, counted from 1 over all callers
+ *     ASKED            operation, key, and value or expected: the key's stripe is the caller's now
+ *     DID              has, value: the reply of the operation that was asked for
+ *     SAVED            a savepoint, the caller's next level
+ *     LEAVE            has, number: the caller goes back to a level, or aborts (has is 0)
+ *     UNDONE           the newest change that stood is taken back
+ *     RETURNED         number: the caller is back at the level
+ *     COMMITTED        number: the place in the order of commits, from 1
+ *     BUSY             operation, key, .. and number: another caller, which holds the key's stripe;
+ *                      the transaction aborts
+ *     ABORTED          all changes are taken back
+ *
+ * docs/JUDGE.md has the rules in full. Proved: the verdict says legal exactly if the history is. */
+
+typedef struct boostmap_judge {
+    uint64_t tag;
+    void *held;
+} boostmap_judge;
+
+enum {
+    BOOSTMAP_BEGAN = 1, BOOSTMAP_ASKED = 2, BOOSTMAP_DID = 3, BOOSTMAP_SAVED = 4, BOOSTMAP_LEAVE = 5,
+    BOOSTMAP_UNDONE = 6, BOOSTMAP_RETURNED = 7, BOOSTMAP_COMMITTED = 8, BOOSTMAP_FOUND_BUSY = 9,
+    BOOSTMAP_ABORTED = 10
+};
+
+enum { BOOSTMAP_PUT = 1, BOOSTMAP_PUT_IF = 2, BOOSTMAP_TAKE = 3, BOOSTMAP_GET = 4 };
+
+/* One entry. Numbers that its kind does not have may be anything. */
+typedef struct boostmap_entry {
+    uint32_t kind;
+    uint32_t operation;
+    uint64_t caller;   /* below 64 */
+    uint64_t key;
+    uint64_t value;
+    uint64_t expected; /* of a put_if that expects a value: then has is 1 */
+    uint64_t number;
+    uint64_t has;      /* 0: no reply, no expected value, no level */
+} boostmap_entry;
+
+typedef struct boostmap_verdict {
+    uint64_t is_legal; /* 1 or 0 */
+    uint64_t commits;  /* if legal: how many transactions are committed, */
+    uint64_t running;  /* and how many callers are in one */
+    uint64_t entry;    /* if not: the index of the first entry that breaks a rule, from 0, */
+    uint64_t rule;     /* and the rule: 1 replies, 2 locks, 3 shape */
+} boostmap_verdict;
+
+/* Whom a BUSY entry may name: a caller that holds the stripe at that moment, or, for stores that
+ * note the entry later, one that has begun a transaction before. */
+enum { BOOSTMAP_HOLDER_NOW = 0, BOOSTMAP_HOLDER_BEGUN = 1 };
+
+/* Begins to judge the history of a map with this many stripes.    0; 4; 38; 30 */
+boostmap_status boostmap_judge_new(boostmap_judge *judge, uint64_t stripes, uint32_t holder);
+
+/* The next entry. It was not fed unless the answer is 0; after 30 it may be fed again. After the
+ * first entry that breaks a rule no further one changes the verdict.    0; 3; 8; 30 */
+boostmap_status boostmap_judge_feed(boostmap_judge *judge, const boostmap_entry *entry);
+
+/* The verdict on the entries so far.    0; 3 */
+boostmap_status boostmap_judge_verdict(boostmap_judge *judge, boostmap_verdict *verdict);
+
+/* Frees the judge.    0; 3 */
+boostmap_status boostmap_judge_free(boostmap_judge *judge);
 
 #ifdef __cplusplus
 }

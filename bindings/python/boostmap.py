@@ -24,6 +24,10 @@ class _Handle(ctypes.Structure):
     _fields_ = [("tag", _U64), ("held", ctypes.c_void_p)]
 
 
+class _Pair(ctypes.Structure):
+    _fields_ = [("key", _U64), ("value", _U64)]
+
+
 _HANDLE, _WORD = ctypes.POINTER(_Handle), ctypes.POINTER(_U64)
 
 # The calls of boostmap.h: how many numbers stand between the handle and the word, and whether there
@@ -49,6 +53,8 @@ def _load():
         call = getattr(library, "boostmap_" + name)
         call.argtypes = [_HANDLE] + [_U64] * numbers + ([_WORD] if has_word else [])
         call.restype = ctypes.c_uint32
+    library.boostmap_read.argtypes = [_HANDLE, ctypes.POINTER(_Pair), ctypes.c_size_t, _WORD]
+    library.boostmap_read.restype = ctypes.c_uint32
     return library
 
 
@@ -100,6 +106,19 @@ class Map:
 
     def __len__(self):
         return self._call("count")
+
+    def items(self):
+        """A dictionary of the map as it is now, the changes of open transactions included."""
+        places, word = 0, _U64(0)
+        while True:
+            pairs = (_Pair * places)()
+            with self._lock:
+                status = _library.boostmap_read(self._handle, pairs, places, word)
+            if status == 0:
+                return {pairs[i].key: pairs[i].value for i in range(word.value)}
+            if status != 7:
+                raise Refused(status)
+            places = word.value
 
     def help(self, key, caller=0):
         """Doubles the table if it has more than two keys a bucket, and prepares the key's bucket."""

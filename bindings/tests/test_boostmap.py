@@ -16,6 +16,7 @@ class Calls(unittest.TestCase):
                 self.assertEqual(t.put_if(1, 10, 2**64 - 1), 10)
                 self.assertEqual(t.get(1), 2**64 - 1)
             self.assertEqual((t.number, t.commit_number, len(m)), (1, 1, 1))
+            self.assertEqual(m.items(), {1: 2**64 - 1})
             m.help(1)
 
     def test_an_exception_aborts(self):

@@ -48,6 +48,9 @@ c_test() {
 
 in_c() {
   c_test statuses c99
+  c_test read c99
+  c_test judge c99
+  c_test recorded c99
   c_test threads c11 -D_GNU_SOURCE -pthread
   c_test door c11 -pthread
   c_test no_memory c11 -Wl,--wrap=malloc -Wl,--wrap=realloc -Wl,--wrap=free
@@ -58,7 +61,7 @@ in_c() {
 in_c_again() {
   local name
   if has valgrind 'the tests in C under valgrind'; then
-    for name in statuses no_memory threads; do
+    for name in statuses read no_memory threads; do
       try "$name under valgrind" within valgrind -q --error-exitcode=9 --leak-check=full "$work/$name"
     done
   fi

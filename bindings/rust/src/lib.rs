@@ -38,6 +38,13 @@ mod sys {
         pub held: *mut c_void,
     }
 
+    #[repr(C)]
+    #[derive(Clone, Copy)]
+    pub struct Pair {
+        pub key: u64,
+        pub value: u64,
+    }
+
     pub const DONE: u32 = 0;
     pub const ABSENT: u32 = 1;
     pub const BUSY: u32 = 2;
@@ -46,6 +53,7 @@ mod sys {
         pub fn boostmap_new(map: *mut Handle, callers: u64, stripes: u64, buckets: u64) -> u32;
         pub fn boostmap_free(map: *mut Handle) -> u32;
         pub fn boostmap_count(map: *mut Handle, word: *mut u64) -> u32;
+        pub fn boostmap_read(map: *mut Handle, pairs: *mut Pair, places: usize, word: *mut u64) -> u32;
         pub fn boostmap_help(map: *mut Handle, caller: u64, key: u64) -> u32;
         pub fn boostmap_begin(map: *mut Handle, caller: u64, word: *mut u64) -> u32;
         pub fn boostmap_commit(map: *mut Handle, caller: u64, word: *mut u64) -> u32;
@@ -157,6 +165,20 @@ impl Map {
     /// How many keys the map has, the changes of open transactions included.
     pub fn count(&mut self) -> Result<u64> {
         self.call(|map, word| unsafe { sys::boostmap_count(map, word) }).map(Option::unwrap_or_default)
+    }
+
+    /// The pairs of the map as it is now, the changes of open transactions included, in no useful
+    /// order.
+    ///
+    /// # Errors
+    ///
+    /// `NoMemory`.
+    pub fn pairs(&mut self) -> Result<Vec<(u64, u64)>> {
+        let mut pairs = vec![sys::Pair { key: 0, value: 0 }; self.count()? as usize];
+        let (start, places) = (pairs.as_mut_ptr(), pairs.len());
+        // The array has the places that its length says, one for each key.
+        self.call(|map, word| unsafe { sys::boostmap_read(map, start, places, word) })?;
+        Ok(pairs.iter().map(|pair| (pair.key, pair.value)).collect())
     }
 
     /// Doubles the table if it has more than two keys a bucket, and prepares the key's bucket.

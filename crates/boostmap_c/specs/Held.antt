@@ -1,7 +1,9 @@
--- What a handle owns: a core on the heap, or nothing.
+-- What a handle owns: a core or a checker on the heap, or nothing.
 use Rattle.std.specs.Prelude.{Bool, false, not, Option, Some, None}
 use Rattle.boost_core.specs.State.{State}
 use Rattle.boost_core.specs.contracts.machine.Core.{the_row}
+use Rattle.history_check.specs.declared.checker.Checker.{Checker}
+use Rattle.history_check.specs.contracts.checker.Checker.{the_row as checker_row}
 use Rattle.owned_pointer.specs.Blocks.{owns_block}
 use base.Fml.{Fml, ftrue}
 use denote.RawPtr.{Ptr}
@@ -15,3 +17,8 @@ owns_core p (Some core) = owns_block the_row p core
 abbrev pub takes_stripes : Option State → Bool
 takes_stripes None = false
 takes_stripes (Some core) = not core.words
+
+-- The block at the pointer with this checker in it; without a checker nothing.
+abbrev pub owns_checker : Ptr → Option Checker → Fml
+owns_checker p None = ftrue
+owns_checker p (Some checker) = owns_block checker_row p checker

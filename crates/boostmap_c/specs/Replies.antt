@@ -1,5 +1,5 @@
 -- What C is told of an answer: a status, and for some a word.
-use Rattle.std.specs.Prelude.{ℕ, ◌+◌, Option, Some, None, Result, Ok, Err}
+use Rattle.std.specs.Prelude.{ℕ, ◌+◌, Some, None, Result, Ok, Err}
 use Rattle.txn_trace.specs.declared.answer.Answer.{Answer}
 use Rattle.txn_trace.specs.declared.answer.Answer.TheVariants.{Began, Busy, Done, Returned, Aborted, Saved, Committed, Refused}
 use Rattle.txn_trace.specs.declared.refusal.Refusal.{Refusal}
@@ -21,6 +21,14 @@ empty = 3
 
 abbrev pub full : ℕ
 full = 4
+
+-- The status of an array that is too short.
+abbrev pub short : ℕ
+short = 7
+
+-- The status of numbers that say no entry.
+abbrev pub no_entry : ℕ
+no_entry = 8
 
 -- The status of a refusal.
 abbrev pub refused : Refusal → ℕ

@@ -1,5 +1,6 @@
-//! The transactional map for C: `boost_core`'s `Core` behind a handle that C keeps, and one export
-//! for each of its calls.
+//! The transactional map for C, and the judge of its histories: `boost_core`'s `Core` and
+//! `history_check`'s `Checker`, each behind a handle that C keeps, and one export for each of their
+//! calls.
 //!
 //! C cannot name a type that holds a `Vec`, so a handle is a struct of two words, all zeros at
 //! first: a tag, and a pointer whose type is erased. What the pointer owns is ghost: a core, or
@@ -22,21 +23,29 @@
 //! | 1 absent | done at a key without a value; no word is written | goes on |
 //! | 2 busy | the word is the caller who holds the key's stripe | can only abort |
 //! | 3 empty, 4 full | the handle has no map, or has one already | nothing was done |
+//! | 7 short, 8 no entry | the array has too few places; the numbers say no entry | unchanged |
 //! | 16 + n | refusal n of `txn_trace` | unchanged, and so is the map |
 //!
 //! No export has a `requires`: a caller's number, a level or a limit that is out of range, a call
 //! out of order, and a handle without a map are all answered. What C owes beside is in the header:
-//! valid pointers, and one call at a time on a handle. Proved of each export, by the words of
-//! `specs/Calls.antt`: the state of the map before and after are those of the core's own contract,
-//! the status and the word are those of its answer, no word is written where none is due, and a
-//! handle with a map has one after every call but `boostmap_free`.
+//! valid pointers, and one call at a time on a handle.
+//!
+//! Proved of each export, by the words of `specs/Calls.antt`, `Contents.antt` and `Judges.antt`: the
+//! state of the map before and after are those of the core's own contract, the status and the word
+//! are those of its answer, no word is written where none is due, and a handle with a map has one
+//! after every call but `boostmap_free`. The judge's verdict is that of `history_check` on the
+//! entries that it was fed, which are those that C's numbers say.
 //!
 //! A crossing costs some 45 instructions and takes no memory.
 #![tactic(auto)]
 
+mod c_entry;
+mod checker_pointer;
 mod core_pointer;
 mod handle;
+mod judge;
 mod map;
 mod operations;
+mod read;
 mod status;
 mod transactions;

@@ -19,6 +19,12 @@ pub(crate) const EMPTY: u32 = 3;
 /// The handle has a map already.
 pub(crate) const FULL: u32 = 4;
 
+/// The array has too few places.
+pub(crate) const SHORT: u32 = 7;
+
+/// The numbers say no entry of a caller below 64.
+pub(crate) const NO_ENTRY: u32 = 8;
+
 /// Every refusal's status is this and the refusal's number.
 const REFUSED: u32 = 16;
 

@@ -1,0 +1,145 @@
+/* Four callers take turns at random in one map; the program notes each answer as an entry of a
+ * history, and the judge must find the history legal. Then one reply is forged, and it must not. */
+#include "boostmap.h"
+#include "check.h"
+#include <string.h>
+
+enum { CALLERS = 4, STRIPES = 16, KEYS = 64, CALLS = 100000, LEVELS = 8 };
+
+static boostmap map = BOOSTMAP_INIT;
+static boostmap_judge judge = BOOSTMAP_INIT;
+
+/* Of each caller: whether it is in a transaction, or can only abort; the changes that stand, in all
+ * and below each level. */
+static struct caller {
+    int is_open, is_leaving;
+    uint64_t changes, levels, below[LEVELS + 1];
+} callers[CALLERS];
+static uint64_t commits, forged_call = UINT64_MAX;
+
+static uint64_t drawn(uint64_t below) {
+    static uint64_t seed = 7;
+    seed = seed * 6364136223846793005u + 1442695040888963407u;
+    return (seed >> 33) % below;
+}
+
+static void note(boostmap_entry entry) { CHECK(boostmap_judge_feed(&judge, &entry) == BOOSTMAP_DONE); }
+
+static void note_kind(uint32_t kind, uint64_t caller, uint64_t number) {
+    note((boostmap_entry){.kind = kind, .caller = caller, .number = number});
+}
+
+static void note_undone(uint64_t caller, uint64_t level) {
+    struct caller *c = &callers[caller];
+    for (; c->changes > c->below[level]; c->changes--) note_kind(BOOSTMAP_UNDONE, caller, 0);
+}
+
+static void begins(uint64_t caller) {
+    uint64_t number;
+    CHECK(boostmap_begin(&map, caller, &number) == BOOSTMAP_DONE);
+    note_kind(BOOSTMAP_BEGAN, caller, number);
+    memset(&callers[caller], 0, sizeof callers[caller]);
+    callers[caller].is_open = 1;
+}
+
+static void aborts(uint64_t caller) {
+    uint64_t w;
+    CHECK(boostmap_abort(&map, caller, &w) == BOOSTMAP_DONE);
+    if (!callers[caller].is_leaving) note_kind(BOOSTMAP_LEAVE, caller, 0);
+    note_undone(caller, 0);
+    note_kind(BOOSTMAP_ABORTED, caller, 0);
+    callers[caller].is_open = 0;
+}
+
+static void ends(uint64_t caller) {
+    uint64_t number;
+    if (callers[caller].is_leaving || drawn(8) == 0) {
+        aborts(caller);
+        return;
+    }
+    CHECK(boostmap_commit(&map, caller, &number) == BOOSTMAP_DONE && number == ++commits);
+    note_kind(BOOSTMAP_COMMITTED, caller, number);
+    callers[caller].is_open = 0;
+}
+
+static void saves(uint64_t caller) {
+    struct caller *c = &callers[caller];
+    uint64_t level;
+    if (c->levels == LEVELS) return;
+    CHECK(boostmap_save(&map, caller, &level) == BOOSTMAP_DONE && level == ++c->levels);
+    c->below[level] = c->changes;
+    note_kind(BOOSTMAP_SAVED, caller, 0);
+}
+
+static void goes_back(uint64_t caller) {
+    struct caller *c = &callers[caller];
+    uint64_t level = drawn(c->levels + 1), w;
+    CHECK(boostmap_back(&map, caller, level, &w) == BOOSTMAP_DONE && w == level);
+    note((boostmap_entry){.kind = BOOSTMAP_LEAVE, .caller = caller, .number = level, .has = 1});
+    note_undone(caller, level);
+    note_kind(BOOSTMAP_RETURNED, caller, level);
+    c->levels = level;
+}
+
+/* One operation: the entry that asks for it, its answer, and whether it is a change. */
+static void operates(uint64_t caller, uint64_t call) {
+    struct caller *c = &callers[caller];
+    boostmap_entry e = {.kind = BOOSTMAP_ASKED, .operation = BOOSTMAP_PUT + (uint32_t)drawn(4), .caller = caller,
+                        .key = drawn(KEYS), .value = drawn(4), .expected = drawn(4), .has = drawn(2)};
+    boostmap_status status;
+    uint64_t w = 0;
+    switch (e.operation) {
+    case BOOSTMAP_PUT: status = boostmap_put(&map, caller, e.key, e.value, &w); break;
+    case BOOSTMAP_TAKE: status = boostmap_take(&map, caller, e.key, &w); break;
+    case BOOSTMAP_GET: status = boostmap_get(&map, caller, e.key, &w); break;
+    default:
+        status = e.has ? boostmap_put_if_equal(&map, caller, e.key, e.expected, e.value, &w)
+                       : boostmap_put_if_absent(&map, caller, e.key, e.value, &w);
+    }
+    if (status == BOOSTMAP_BUSY) {
+        e.kind = BOOSTMAP_FOUND_BUSY;
+        e.number = w;
+        note(e);
+        c->is_leaving = 1;
+        return;
+    }
+    CHECK(status == BOOSTMAP_DONE || status == BOOSTMAP_ABSENT);
+    int has = status == BOOSTMAP_DONE;
+    note(e);
+    note((boostmap_entry){.kind = BOOSTMAP_DID, .caller = caller, .has = has, .value = w + (call == forged_call)});
+    if (e.operation == BOOSTMAP_PUT || (e.operation == BOOSTMAP_TAKE && has) ||
+        (e.operation == BOOSTMAP_PUT_IF && has == (int)e.has && (!has || w == e.expected)))
+        c->changes++;
+}
+
+static boostmap_verdict runs(void) {
+    boostmap_verdict verdict;
+    memset(callers, 0, sizeof callers);
+    commits = 0;
+    CHECK(boostmap_new(&map, CALLERS, STRIPES, 64) == BOOSTMAP_DONE);
+    CHECK(boostmap_judge_new(&judge, STRIPES, BOOSTMAP_HOLDER_NOW) == BOOSTMAP_DONE);
+    for (uint64_t call = 0; call < CALLS; call++) {
+        uint64_t caller = drawn(CALLERS), kind = drawn(16);
+        if (!callers[caller].is_open) begins(caller);
+        else if (callers[caller].is_leaving || kind == 0) ends(caller);
+        else if (kind == 1) saves(caller);
+        else if (kind == 2) goes_back(caller);
+        else operates(caller, call);
+    }
+    for (uint64_t caller = 0; caller < CALLERS; caller++)
+        if (callers[caller].is_open) aborts(caller);
+    CHECK(boostmap_judge_verdict(&judge, &verdict) == BOOSTMAP_DONE);
+    CHECK(boostmap_judge_free(&judge) == BOOSTMAP_DONE);
+    CHECK(boostmap_free(&map) == BOOSTMAP_DONE);
+    return verdict;
+}
+
+int main(void) {
+    boostmap_verdict verdict = runs();
+    CHECK(verdict.is_legal && verdict.commits == commits && verdict.running == 0);
+    CHECK(commits > 1000);
+    /* A forged reply that is there: the operation of a later call with a reply. */
+    for (forged_call = CALLS / 2; (verdict = runs()).is_legal; forged_call++) CHECK(forged_call < CALLS / 2 + 100);
+    CHECK(verdict.rule == 1);
+    return 0;
+}

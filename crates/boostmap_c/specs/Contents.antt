@@ -1,0 +1,32 @@
+-- What reading a map gives C.
+use Rattle.std.specs.Prelude.{◌≡◌, ◌<◌, ◌⊎◌, ℕ, zero, suc, List, length, map, take, drop, Option, Some, None}
+use Rattle.txn_trace.specs.declared.refusal.Refusal.TheVariants.{NoMemory}
+use Rattle.boost_core.specs.State.{State}
+use Rattle.txn_trace.specs.Now.{now}
+use Rattle.txn_trace.specs.Ordered.{ordered}
+use Rattle.boostmap_c.specs.declared.read.CPair.{CPair}
+use Rattle.boostmap_c.specs.Replies.{empty, short, refused}
+
+abbrev pub pair_of : ℕ × ℕ → CPair
+pair_of pair = record { key = pair.0; value = pair.1 }
+
+-- The pairs lie at the front of an array, whose rest is unchanged.
+pub record Lie (pairs : List (ℕ × ℕ)) (before after : List CPair) : Type 0 where
+  pub front : take (length pairs) after ≡ map pair_of pairs
+  pub rest : drop (length pairs) after ≡ drop (length pairs) before
+
+-- The pairs, in the order of the list; or their number only, if the array has too few places; or
+-- nothing, for want of memory.
+abbrev pub ReadsOf : List (ℕ × ℕ) → ℕ → List CPair → List CPair → ℕ → ℕ → Type 0
+ReadsOf pairs zero before after was word = (word ≡ length pairs) × Lie pairs before after
+ReadsOf pairs (suc status) before after was word =
+    (after ≡ before)
+    × (((suc status ≡ short) × (word ≡ length pairs) × (length before < length pairs))
+    ⊎ ((suc status ≡ refused NoMemory) × (word ≡ was)))
+
+abbrev pub Reads : Option State → ℕ → List CPair → List CPair → ℕ → ℕ → Option State → Type 0
+Reads (Some old) status before after was word (Some new) =
+    (new ≡ old) × ReadsOf (ordered (now old.history)) status before after was word
+Reads None status before after was word None =
+    (status ≡ empty) × (after ≡ before) × (word ≡ was)
+Reads old status before after was word new = ⊥

@@ -1,0 +1,51 @@
+-- The entry of a history that C's numbers say.
+use Rattle.std.specs.Prelude.{ℕ, nat_eq, nat_le, Option, Some, None, if◌then◌else◌}
+use Rattle.txn_trace.specs.declared.op.Op.{Op}
+use Rattle.txn_trace.specs.declared.op.Op.TheVariants.{Put, PutIf, Take, Get}
+use Rattle.txn_trace.specs.declared.entry.Entry.{Entry}
+use Rattle.txn_trace.specs.declared.entry.Entry.TheVariants.{Began, Asked, Did, Saved, Leave, Undone, Returned, Committed, Busy, Aborted}
+use Rattle.txn_trace.specs.History.{caller_of}
+use Rattle.boostmap_c.specs.declared.c_entry.CEntry.{CEntry}
+
+-- A number that is there unless the flag is 0.
+abbrev pub optional : ℕ → ℕ → Option ℕ
+optional flag number = if nat_eq flag 0 then None else Some number
+
+-- The operation, if there is one of its number.
+abbrev pub op_of : CEntry → Option Op
+op_of e =
+    if nat_eq e.operation 1 then Some (Put e.key e.value)
+    else (if nat_eq e.operation 2 then Some (PutIf e.key (optional e.has e.expected) e.value)
+    else (if nat_eq e.operation 3 then Some (Take e.key)
+    else (if nat_eq e.operation 4 then Some (Get e.key) else None)))
+
+-- The asking for an operation, and the finding of its stripe in other hands.
+abbrev pub asked_of : CEntry → Option Op → Option Entry
+asked_of e None = None
+asked_of e (Some op) = Some (Asked e.caller op)
+
+abbrev pub busy_of : CEntry → Option Op → Option Entry
+busy_of e None = None
+busy_of e (Some op) = Some (Busy e.caller op e.number)
+
+-- The entry, if there is a kind of its number.
+abbrev pub entry_of : CEntry → Option Entry
+entry_of e =
+    if nat_eq e.kind 1 then Some (Began e.caller e.number)
+    else (if nat_eq e.kind 2 then asked_of e (op_of e)
+    else (if nat_eq e.kind 3 then Some (Did e.caller (optional e.has e.value))
+    else (if nat_eq e.kind 4 then Some (Saved e.caller)
+    else (if nat_eq e.kind 5 then Some (Leave e.caller (optional e.has e.number))
+    else (if nat_eq e.kind 6 then Some (Undone e.caller)
+    else (if nat_eq e.kind 7 then Some (Returned e.caller e.number)
+    else (if nat_eq e.kind 8 then Some (Committed e.caller e.number)
+    else (if nat_eq e.kind 9 then busy_of e (op_of e)
+    else (if nat_eq e.kind 10 then Some (Aborted e.caller) else None)))))))))
+
+-- An entry that the checker takes: its caller is below 64.
+abbrev pub taken : Option Entry → Option Entry
+taken None = None
+taken (Some entry) = if nat_le 64 (caller_of entry) then None else Some entry
+
+abbrev pub judged_entry : CEntry → Option Entry
+judged_entry e = taken (entry_of e)

@@ -1,0 +1,66 @@
+//! The content of a map, into an array of C's. It stands apart because it alone takes memory that
+//! it gives back before it ends, and writes more than a word.
+ghost use Rattle.std.specs.Prelude.{◌≡◌, ◌≤◌, length};
+ghost use Rattle.boostmap_c.specs.Contents.{Lie, Reads};
+
+use crate::handle::{Handle, close, open};
+use crate::status::{DONE, EMPTY, SHORT, refused};
+use std::alloc::Global;
+use txn_trace::Refusal;
+
+/// A key and its value.
+#[repr(C)]
+#[derive(Clone, Copy)]
+pub struct CPair {
+    pub key: u64,
+    pub value: u64,
+}
+
+/// Writes the pairs of the map as it is now, the changes of open transactions included, to the
+/// front of an array, in the order of the list, which is that of reversed bits; the word is their
+/// number.
+///
+/// # Errors
+///
+/// The array is unchanged: 3 if the handle has no map, 30 (`NoMemory`) if memory is refused, 7 if
+/// the array has too few places: then the word is the number that it needs.
+///
+/// # Cost
+///
+/// Time in proportion to the nodes, and memory in proportion to the pairs while it runs.
+#[unsafe(no_mangle)]
+pub extern "C" fn boostmap_read(
+    alloc: Global,
+    map: &mut Handle,
+    pairs: &mut [CPair],
+    word: &mut u64,
+) -> u32
+    ensures { Reads map.old.held.core result pairs.old pairs.new word.old word.new
+        map.new.held.core }
+{
+    let Some(core) = open(alloc, map) else {
+        return EMPTY;
+    };
+    let listed = core.regular_list(alloc);
+    close(map, core);
+    let Ok(listed) = listed else {
+        return refused(Refusal::NoMemory);
+    };
+    *word = listed.len() as u64;
+    if listed.len() > pairs.len() {
+        return SHORT;
+    }
+    lay(&listed, pairs);
+    DONE
+}
+
+/// Lays pairs to the front of an array that has room for them.
+fn lay(listed: &[(u64, u64)], pairs: &mut [CPair])
+    requires room { length listed.now ≤ length pairs.old }
+    ensures { Lie listed.now pairs.old pairs.new }
+{
+    'lays: for i in 0..listed.len() {
+        let (key, value) = listed[i];
+        pairs[i] = CPair { key, value };
+    }
+}
