@@ -2,8 +2,10 @@
 //!
 //! It stands apart from the token so that no other call can be made with it meanwhile. It has no
 //! state of its own: whether a transaction is open, the token says.
-ghost use Rattle.std.specs.Prelude.{◌≡◌, ◌++◌, [], ◌∷◌, true, IfOk, OnErr};
+ghost use Rattle.std.specs.Prelude.{◌≡◌, ◌+◌, ◌++◌, [], ◌∷◌, ℕ, Some, length, true, IfOk, OnErr, OnOk};
 ghost use Rattle.txn_trace.specs.declared.entry.Entry.TheVariants as entries;
+ghost use Rattle.txn_trace.specs.Shape.{Seat, seat_after};
+ghost use Rattle.txn_drive.specs.Made.{undone_by};
 ghost use Rattle.locked_map.specs.Calls.{Ended};
 ghost use Rattle.shared_transactions.specs.Keeps.{Keeps};
 ghost use Rattle.shared_transactions.specs.Within.{IsBegun, IsCommitted, IsOver, IsTakenBack, IsUndone, is_quiet};
@@ -137,6 +139,45 @@ impl<'a, L: Ledger, R: Wait> Transaction<'a, L, R> {
             ∷ entries.Did self.old.me.now.number reply ∷ []) }
     {
         self.operate(Op::PutIf(key, expected, value))
+    }
+
+    /// Sets a savepoint, and answers its level, from 1.
+    ///
+    /// # Errors
+    ///
+    /// `Refused` as the map's `save` is: the transaction is unchanged.
+    ///
+    /// # Cost
+    ///
+    /// That of the map's `save`.
+    pub fn save(&mut self) -> Result<u64, Stop>
+        ensures keeps { Keeps self.old.me self.new.me }
+        ensures ok { OnOk result (self.new.me.now.seen ≡ self.old.me.now.seen
+            ++ entries.Saved self.old.me.now.number ∷ []) }
+        ensures level { IfOk result (λ level. (s : Seat)
+            → seat_after self.new.me.now.seen ≡ Some s → length s.kept ≡ level + 1) }
+    {
+        self.map.save(self.rt, self.me)
+    }
+
+    /// Takes every change since a savepoint back, newest first, and keeps the savepoint; level 0 is
+    /// the beginning. Stripes stay held.
+    ///
+    /// # Errors
+    ///
+    /// `Refused` as the map's `back` is: the transaction is unchanged.
+    ///
+    /// # Cost
+    ///
+    /// That of the map's `back`.
+    pub fn back(&mut self, level: u64) -> Result<(), Stop>
+        ensures keeps { Keeps self.old.me self.new.me }
+        ensures ok { OnOk result ((undone : ℕ) × (self.new.me.now.seen ≡ self.old.me.now.seen
+            ++ (entries.Leave self.old.me.now.number (Some level)
+            ∷ undone_by self.old.me.now.number undone
+            ++ entries.Returned self.old.me.now.number level ∷ []))) }
+    {
+        self.map.back(self.rt, self.me, level)
     }
 
     /// Commits, and answers the transaction's number and its place among the commits.
