@@ -2,3 +2,4 @@ pub mod Histories
 pub mod Only
 pub mod Steps
 pub mod Calls
+pub mod Levels

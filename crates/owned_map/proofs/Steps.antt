@@ -29,24 +29,24 @@ use Rattle.owned_map.proofs.Histories.{seat_there, began_now, asked_now, busy_no
 use Rattle.owned_map.proofs.Only as only
 
 -- What is moved to another state that is the same.
-to_state : (c : ℕ) (base : Map) (q : Phase) (s t : State) → t ≡ s → IsAt c base q s → IsAt c base q t
+pub to_state : (c : ℕ) (base : Map) (q : Phase) (s t : State) → t ≡ s → IsAt c base q s → IsAt c base q t
 to_state c base q s t same = subst (IsAt c base q) (sym same)
 
 abbrev now_of : State → Map
 now_of s = now s.history
 
 -- Nothing is added.
-unmoved : (c : ℕ) (base : Map) (q : Phase) (s : State) → IsAt c base q s → Stands (holder_by s.words) s.limits c base q (s.history ++ [])
+pub unmoved : (c : ℕ) (base : Map) (q : Phase) (s : State) → IsAt c base q s → Stands (holder_by s.words) s.limits c base q (s.history ++ [])
 unmoved c base q s stands = subst (Stands (holder_by s.words) s.limits c base q) (sym (append-nil s.history)) stands
 
 -- The seat that the definitions of the core name is the seat.
-phase_in : (c : ℕ) (base : Map) (q : Phase) (s : State) → (stands : IsAt c base q s) → seat_in s.history c ≡ stands.seat
+pub phase_in : (c : ℕ) (base : Map) (q : Phase) (s : State) → (stands : IsAt c base q s) → seat_in s.history c ≡ stands.seat
 phase_in c base q s stands = ap (λ (o : Option Seat). unwrap_or o closed_seat) stands.seat_is
 
 phase_of : {A : Type 0} (s : State) (c : ℕ) (base : Map) (q : Phase) → IsAt c base q s → (f : Phase → A) → f (seat_in s.history c).phase ≡ f q
 phase_of s c base q stands f = ap (λ (seat : Seat). f seat.phase) (phase_in c base q s stands) ∙ ap f stands.phase_is
 
-first_none : (b : Bool) (refusal : Refusal) (rest : Option Refusal) → cond b (Some refusal) rest ≡ None → (b ≡ false) × (rest ≡ None)
+pub first_none : (b : Bool) (refusal : Refusal) (rest : Option Refusal) → cond b (Some refusal) rest ≡ None → (b ≡ false) × (rest ≡ None)
 first_none true refusal rest none = absurd (cc (none))
 first_none false refusal rest none = (refl, none)
 
@@ -125,17 +125,17 @@ open_phase (Waiting op) a b c = absurd (false≢true (sym c))
 open_phase (LeavingTo n) a b c = absurd (false≢true (sym b))
 open_phase LeavingToEnd a b c = absurd (false≢true (sym b))
 
-abbrev unready : State → ℕ → Option Refusal → Option Refusal
+abbrev pub unready : State → ℕ → Option Refusal → Option Refusal
 unready s c rest =
     cond (nat_le s.limits.callers c) (Some refusals.NoSuchCaller)
     (cond (is_closed (seat_in s.history c).phase) (Some refusals.NotOpen)
     (cond (is_leaving (seat_in s.history c).phase) (Some refusals.Leaving)
     (cond (is_waiting (seat_in s.history c).phase) (Some refusals.OperationUnfinished) rest)))
 
-abbrev based : ℕ → State → Map
+abbrev pub based : ℕ → State → Map
 based c s = taken_back (log_of c s.history) (now s.history)
 
-ready : (s : State) (c : ℕ) (rest : Option Refusal) → IsLegal (holder_by s.words) s.limits.stripes s.history → unready s c rest ≡ None → IsAt c (based c s) Opened s
+pub ready : (s : State) (c : ℕ) (rest : Option Refusal) → IsLegal (holder_by s.words) s.limits.stripes s.history → unready s c rest ≡ None → IsAt c (based c s) Opened s
 ready s c rest legal free =
     let within = first_none (nat_le s.limits.callers c) _ _ free in
     let closed = first_none _ _ _ within.1 in
@@ -153,7 +153,7 @@ ready s c rest legal free =
     }
 
 -- A caller that leaves to the end is refused so.
-leaves_on : (s : State) (c : ℕ) (base : Map) (rest : Option Refusal) → IsAt c base LeavingToEnd s → unready s c rest ≡ None → ⊥
+pub leaves_on : (s : State) (c : ℕ) (base : Map) (rest : Option Refusal) → IsAt c base LeavingToEnd s → unready s c rest ≡ None → ⊥
 leaves_on s c base rest stands free =
     let within = first_none (nat_le s.limits.callers c) _ _ free in
     let closed = first_none _ _ _ within.1 in

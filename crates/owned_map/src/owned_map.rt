@@ -6,7 +6,7 @@ ghost use Rattle.std.specs.Prelude.{◌≡◌, ◌==◌, true, false, IfOk, IfEr
 ghost use Rattle.txn_trace.specs.Map.{count_of};
 ghost use Rattle.txn_trace.specs.Now.{now};
 ghost use Rattle.boost_core.specs.State.{start};
-ghost use Rattle.boost_core.specs.Plain.{Operates};
+ghost use Rattle.boost_core.specs.Plain.{Operates, Returns};
 ghost use Rattle.owned_map.specs.Within.{CanAbort, GoesOn, HasDone, IsBeside, IsCommitted, IsGrown, IsRun, IsSameMap, IsTakenBack, OnlyDid, is_grown};
 
 use crate::stop::Stop;
@@ -124,6 +124,35 @@ impl OwnedMap {
             Op::Take(key) => self.core.take(caller, key),
             Op::Get(key) => self.core.get(caller, key),
             Op::PutIf(key, expected, value) => self.core.put_if(caller, key, expected, value),
+        }
+    }
+
+    /// Sets a savepoint in a caller's transaction, and answers its level.
+    pub(crate) fn save(&mut self, caller: u64) -> Result<u64, Stop>
+        ensures goes_on { GoesOn caller self.old.core self.new.core }
+        ensures same { now self.new.core.history ≡ now self.old.core.history }
+    {
+        let _legal = self.core.trace();
+        match self.core.step(Step::Save(caller)) {
+            Answer::Saved(level) => Ok(level),
+            Answer::Refused(refusal) => Err(Stop::Refused(refusal)),
+            _ => unreachable!(),
+        }
+    }
+
+    /// Takes a caller's changes back to a level.
+    pub(crate) fn back(&mut self, caller: u64, level: u64) -> Result<(), Stop>
+        ensures goes_on { GoesOn caller self.old.core self.new.core }
+        ensures ok { OnOk result (Returns self.old.core caller level (Answer.Returned level)
+            self.new.core) }
+        ensures err { OnErr result (now self.new.core.history ≡ now self.old.core.history) }
+    {
+        let answer = self.core.back(caller, level);
+        let _legal = self.core.trace();
+        match answer {
+            Answer::Returned(_) => Ok(()),
+            Answer::Refused(refusal) => Err(Stop::Refused(refusal)),
+            _ => unreachable!(),
         }
     }
 

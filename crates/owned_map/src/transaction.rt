@@ -2,13 +2,14 @@
 //!
 //! It stands apart from the map so that no other call can be made on the map while it is open. Each
 //! operation keeps `Keeps`, by which a work of several operations keeps it too.
-ghost use Rattle.std.specs.Prelude.{◌≡◌, IfOk, OnErr, ◌++◌, ◌∷◌, [], ℕ, false};
+ghost use Rattle.std.specs.Prelude.{◌≡◌, IfOk, OnErr, OnOk};
 ghost use Rattle.txn_trace.specs.Now.{now};
+ghost use Rattle.boost_core.specs.Plain.{Returns};
 ghost use Rattle.owned_map.specs.Within.{HasDone, IsCommitted, IsTakenBack};
 
 use crate::owned_map::OwnedMap;
 use crate::stop::Stop;
-use txn_trace::{Op, Reply};
+use txn_trace::{Answer, Op, Reply};
 
 /// An open transaction of a caller on a map, which it borrows. Dropped before it is committed, it is
 /// aborted: at every `?` and every early return its changes are taken back, and no stripe stays
@@ -103,6 +104,47 @@ impl Transaction<'_> {
             ≡ now self.old.map.now.core.history) }
     {
         self.operate(Op::PutIf(key, expected, value))
+    }
+
+    /// Sets a savepoint, and answers its level, from 1.
+    ///
+    /// # Errors
+    ///
+    /// `Refused` with `NoMemory`, or with `Leaving` after a `Busy`: nothing is changed.
+    ///
+    /// # Cost
+    ///
+    /// Amortized constant time; may take memory.
+    #[tactic(auto, using(crate::proofs::Calls::keeps_by))]
+    pub fn save(&mut self) -> Result<u64, Stop>
+        ensures keeps { Keeps self.old self.new }
+        ensures same { now self.new.map.now.core.history ≡ now self.old.map.now.core.history }
+    {
+        let caller = self.caller;
+        self.map.save(caller)
+    }
+
+    /// Takes every change since a savepoint back, newest first, and keeps the savepoint; level 0 is
+    /// the beginning. Stripes stay held.
+    ///
+    /// # Errors
+    ///
+    /// The map is unchanged: `Refused` with `NoSuchLevel`, `NoMemory`, or with `Leaving` after a
+    /// `Busy`.
+    ///
+    /// # Cost
+    ///
+    /// A seek and an act for each change that is taken back; may take memory for the history.
+    #[tactic(auto, using(crate::proofs::Calls::keeps_by))]
+    pub fn back(&mut self, level: u64) -> Result<(), Stop>
+        ensures keeps { Keeps self.old self.new }
+        ensures ok { OnOk result (Returns self.old.map.now.core self.old.caller level
+            (Answer.Returned level) self.new.map.now.core) }
+        ensures err { OnErr result (now self.new.map.now.core.history
+            ≡ now self.old.map.now.core.history) }
+    {
+        let caller = self.caller;
+        self.map.back(caller, level)
     }
 
     /// Does an operation.

@@ -115,7 +115,7 @@ row_steady phase standing kept (entries.Undone c) ends = absurd ends
 row_steady phase standing kept (entries.Busy c op x) ends = absurd ends
 
 -- After such an entry nothing is unfinished.
-steady_after : (xs : List Entry) (e : Entry) → ends_steady e → is_steady (seat_after (xs ++ e ∷ [])) ≡ true
+pub steady_after : (xs : List Entry) (e : Entry) → ends_steady e → is_steady (seat_after (xs ++ e ∷ [])) ≡ true
 steady_after xs e ends = ap is_steady (seat_append xs (e ∷ [])) ∙ at (seat_after xs)
   where
     at : (seat : Option Seat) → is_steady (option_and_then (λ (s : Seat). row s s.phase e) seat) ≡ true
@@ -142,19 +142,19 @@ over_after xs c = ap is_over (seat_append xs (entries.Aborted c ∷ [])) ∙ at 
     at (Some s) = in_phase s s.phase
 
 -- What a call adds: entries that commit nothing, and leave nothing unfinished, whatever came before.
-record Adds (es : List Entry) : Type 0 where
+pub record Adds (es : List Entry) : Type 0 where
   pub quiet : CommitNothing es
   pub steady : (xs : List Entry) → is_steady (seat_after (xs ++ es)) ≡ true
 
 -- No entry of these begins a transaction.
-abbrev BeginsNone : List Entry → Type 0
+abbrev pub BeginsNone : List Entry → Type 0
 BeginsNone es = (t : ℕ) → fold began_by t es ≡ t
 
-undone_none : (c k : ℕ) → BeginsNone (undone_by c k)
+pub undone_none : (c k : ℕ) → BeginsNone (undone_by c k)
 undone_none c zero t = refl
 undone_none c (suc k) t = undone_none c k t
 
-append_none : (xs ys : List Entry) → BeginsNone xs → BeginsNone ys → BeginsNone (xs ++ ys)
+pub append_none : (xs ys : List Entry) → BeginsNone xs → BeginsNone ys → BeginsNone (xs ++ ys)
 append_none xs ys first second t = fold-append began_by t xs ys ∙ second (fold began_by t xs) ∙ first t
 
 adds_two : (first last : Entry) → is_commit first ≡ false → is_commit last ≡ false → ends_steady last → Adds (first ∷ last ∷ [])
@@ -163,7 +163,7 @@ adds_two first last one two ends = record {
   steady = λ xs. ap (λ es. is_steady (seat_after es)) (sym (append_assoc xs (first ∷ []) (last ∷ []))) ∙ steady_after (xs ++ first ∷ []) last ends;
 }
 
-adds_undoing : (c k : ℕ) (opening closing : Entry) → is_commit opening ≡ false → is_commit closing ≡ false → ends_steady closing → Adds (opening ∷ undone_by c k ++ closing ∷ [])
+pub adds_undoing : (c k : ℕ) (opening closing : Entry) → is_commit opening ≡ false → is_commit closing ≡ false → ends_steady closing → Adds (opening ∷ undone_by c k ++ closing ∷ [])
 adds_undoing c k opening closing first last ends = record {
   quiet = undoing_quiet c k opening closing first last;
   steady = λ xs. ap (λ es. is_steady (seat_after es)) (sym (append_assoc xs (opening ∷ undone_by c k) (closing ∷ []))) ∙ steady_after (xs ++ (opening ∷ undone_by c k)) closing ends;
@@ -189,7 +189,7 @@ grows base k l es since whose more quiet steady = record {
   steady = steady;
 }
 
-adds : {S : Type 0} (base k l : Token S) (es : List Entry) → IsSince base k → IsSameCaller k l → l.seen ≡ k.seen ++ es → Adds es → IsSince base l
+pub adds : {S : Type 0} (base k l : Token S) (es : List Entry) → IsSince base k → IsSameCaller k l → l.seen ≡ k.seen ++ es → Adds es → IsSince base l
 adds base k l es since whose more which =
     grows base k l es since whose more (λ _. which.quiet) (λ _. ap (λ xs. is_steady (seat_after xs)) more ∙ which.steady k.seen)
 
@@ -199,7 +199,7 @@ fell_out base k call l since fell =
     grows base k l fell.added since fell.whose fell.entries fell.quiet (λ b. absurd (false≢true (sym b ∙ fell.broken)))
 
 -- A token that let a call pass is not broken.
-not_broken : {S : Type 0} (k : Token S) (call : Call) → refused_by k call ≡ None → k.broken ≡ false
+pub not_broken : {S : Type 0} (k : Token S) (call : Call) → refused_by k call ≡ None → k.broken ≡ false
 not_broken k call free = at k.broken (seat_after k.seen) free
   where
     at : (broken : Bool) (seat : Option Seat) → refused_at k.limits.half broken seat call ≡ None → broken ≡ false
@@ -235,7 +235,7 @@ ran words base k call outcome l since inner sound did =
     ]
 
 -- A call within a transaction leaves its token in it, or has aborted it, or has broken the token.
-since_ended : {S : Type 0} (words : S → List ℕ) (base k : Token S) (call : Call) (outcome : End) (l : Token S) → IsSince base k → is_quiet call ≡ true → Ended words k call outcome l → IsSince base l
+pub since_ended : {S : Type 0} (words : S → List ℕ) (base k : Token S) (call : Call) (outcome : End) (l : Token S) → IsSince base k → is_quiet call ≡ true → Ended words k call outcome l → IsSince base l
 since_ended words base k call (ends.Refused r) l since inner (inl (free, same)) = subst (IsSince base) (sym same) since
 since_ended words base k call (ends.Refused r) l since inner (inr (free, fell)) = failed base k call r l since free fell
 since_ended words base k call (ends.Answered a) l since inner did = ran words base k call (ends.Answered a) l since inner refl did
@@ -292,7 +292,7 @@ whose_refused : {S : Type 0} (k : Token S) (call : Call) (r : Refusal) (l : Toke
 whose_refused k call r l (inl (free, same)) = subst (IsSameCaller k) (sym same) (record { number = refl; limits = refl })
 whose_refused k call r l (inr (free, fell)) = whose_failed k call r l fell
 
-whose_ended : {S : Type 0} (words : S → List ℕ) (k : Token S) (call : Call) (outcome : End) (l : Token S) → Ended words k call outcome l → IsSameCaller k l
+pub whose_ended : {S : Type 0} (words : S → List ℕ) (k : Token S) (call : Call) (outcome : End) (l : Token S) → Ended words k call outcome l → IsSameCaller k l
 whose_ended words k call (ends.Refused r) l refused = whose_refused k call r l refused
 whose_ended words k call (ends.Answered a) l did = did.whose
 whose_ended words k call (ends.Busy x) l did = did.whose
@@ -338,7 +338,7 @@ over_stopped words k (stops.Refused OutOfStep) l over (inr (free, fell)) = λ so
 over_stopped words k (stops.Refused r) l over (inr (free, found)) = λ sound. ap (λ es. is_over (seat_after es)) found.seen ∙ over (not_broken k calls.Begin free)
 
 -- Whether a token that a call left is not broken.
-sound_ended : {S : Type 0} (words : S → List ℕ) (k : Token S) (call : Call) (outcome : End) (l : Token S) → Ended words k call outcome l → l.broken ≡ false → k.broken ≡ false
+pub sound_ended : {S : Type 0} (words : S → List ℕ) (k : Token S) (call : Call) (outcome : End) (l : Token S) → Ended words k call outcome l → l.broken ≡ false → k.broken ≡ false
 sound_ended words k call (ends.Refused r) l (inl (free, same)) = λ sound. sym (ap (λ (t : Token _). t.broken) same) ∙ sound
 sound_ended words k call (ends.Refused r) l (inr (free, failed)) = λ sound. not_broken k call free
 sound_ended words k call (ends.Answered a) l did = λ sound. not_broken k call did.free
@@ -358,7 +358,7 @@ made_none c calls.Abort (ends.Answered answers.Aborted) es inner sound (k, is) =
 made_none c (calls.Help key) ends.Helped es inner sound is = subst BeginsNone (sym is) (λ t. refl)
 made_none c call outcome es inner sound is = absurd is
 
-same_txn : (xs es : List Entry) → BeginsNone es → last_txn (xs ++ es) ≡ last_txn xs
+pub same_txn : (xs es : List Entry) → BeginsNone es → last_txn (xs ++ es) ≡ last_txn xs
 same_txn xs es none = fold-append began_by 0 xs es ∙ none (last_txn xs)
 
 txn_ran : {S : Type 0} (words : S → List ℕ) (k : Token S) (call : Call) (outcome : End) (l : Token S) → is_quiet call ≡ true → is_refused outcome ≡ false → Ran words k call outcome l → last_txn l.seen ≡ last_txn k.seen

@@ -1,4 +1,7 @@
-//! Work that is run in a transaction, again where another caller holds a stripe.
+//! Work that is run in a transaction, and begun anew if another caller holds a stripe.
+//!
+//! `Attempts` stands between `transact` and `Transaction`, since a bound cannot name the latter: its
+//! parameter `L` is owned by a ghost member of a bound.
 ghost use Rattle.std.specs.Prelude.{◌≡◌, IfOk, OnErr, Ok};
 ghost use Rattle.std.specs.Borrow.{MutBor};
 ghost use Rattle.locked_map.specs.Tokens.{Token};
@@ -9,7 +12,8 @@ ghost use Rattle.shared_transactions.specs.Within.{IsBegun, IsCommitted, IsOver,
 use crate::retry::Retry;
 use locked_map::{Receipt, Stop};
 
-/// What can begin a transaction, be worked in, and end it.
+/// What can begin a transaction, be worked in, and end it: a `Transaction`. No other type need
+/// implement it.
 pub trait Attempts {
     /// The token.
     ghost me: { Self → MutBor (Token NoSide) };
@@ -63,8 +67,21 @@ fn attempt<T: Drop, G: Attempts, F: Fn(&mut G) -> Result<T, Stop>>(
     }
 }
 
-/// Runs the work in a transaction and commits it; where a stripe was held, gives way and begins
-/// anew, as often as `retry` says.
+/// Runs the work in a transaction and commits it. If another caller held a stripe, gives way and
+/// begins anew, as often as `retry` says; so the work may run several times, and what it does but by
+/// the transaction it does each time. `it` is a `Transaction`, and the work's parameter is written
+/// with that type.
+///
+/// # Errors
+///
+/// No transaction is open if none was before, and nothing was committed.
+/// - `Busy` if a stripe was held at the last try.
+/// - `Refused` with the first refusal of the work's calls, of `begin` or of `commit`, or what else the
+///   work answers.
+///
+/// # Cost
+///
+/// A begin, the work, and a commit or an abort, for each try.
 #[tactic(auto, using(crate::proofs::Within::undone_same, crate::proofs::Within::undone_on))]
 pub fn transact<T: Drop, G: Attempts, F: Fn(&mut G) -> Result<T, Stop>>(
     it: &mut G,

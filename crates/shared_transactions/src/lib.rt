@@ -6,8 +6,8 @@
 //! - `transact` begins, runs the work and commits. If another caller held a stripe, the thread gives
 //!   way and the work begins anew, as often as its `Retry` says; any other refusal takes everything
 //!   back and is handed on.
-//! - `run_session` makes the map and hands it, with a pass for each caller, to a `Session`, so that
-//!   its user names no ledger.
+//! - `run_session` makes the map and hands it, with a pass for each caller, to a `Session` that
+//!   starts no threads, so that its user names no ledger. `callers_of` makes tokens of the passes.
 //!
 //! ```text
 //! fn count<L: Ledger, R: Wait>(t: &mut Transaction<'_, L, R>) -> Result<u64, Stop>

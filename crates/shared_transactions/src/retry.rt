@@ -1,4 +1,7 @@
-//! How often a transaction is begun anew.
+//! How often a transaction is begun anew, and how a thread gives way before.
+//!
+//! No contract speaks of it: it is a matter of time. It sleeps nowhere, since sleeping takes a clock,
+//! a handle that no caller of a map need have.
 ghost use Rattle.std.specs.Prelude.{◌≡◌, ◌≤◌};
 
 use std::thread;

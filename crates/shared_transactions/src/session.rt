@@ -1,4 +1,9 @@
-//! A map of threads with its ledger's name picked.
+//! A call that makes a map of threads and does something on it, so that nobody else names the map's
+//! ledger.
+//!
+//! A closure cannot be generic over the ledger's name, so what is done is a trait with a generic
+//! method. A `run` that starts threads gets no proof from the toolchain: what it sends to a thread
+//! rests on the bounds of the method. A caller with threads names the ledger itself, as `visits`.
 ghost use Rattle.std.specs.Prelude.{◌≡◌, IfOk, map};
 ghost use Rattle.std.specs.List.{range_with_len};
 ghost use Rattle.locked_map.specs.Tokens.{new_ticket};
@@ -31,7 +36,15 @@ pub trait Session<R> {
         ensures { promises self result };
 }
 
-/// Makes a map of threads and does a session on it.
+/// Makes a map of threads, which picks its ledger's name, and does a session on it.
+///
+/// # Errors
+///
+/// `NoMemory` if memory is refused for the map.
+///
+/// # Cost
+///
+/// That of `SharedMap::new` and of the session.
 pub fn run_session<R, W: Session<R> + Drop>(
     rt: &R,
     alloc: Global,

@@ -1,6 +1,11 @@
-//! A transaction as a value.
-ghost use Rattle.std.specs.Prelude.{◌≡◌, ◌++◌, [], ◌∷◌, true, IfOk, OnErr};
+//! A caller's token with its map, by which a transaction is begun, worked in and ended.
+//!
+//! It stands apart from the token so that no other call can be made with it meanwhile. It has no
+//! state of its own: whether a transaction is open, the token says.
+ghost use Rattle.std.specs.Prelude.{◌≡◌, ◌+◌, ◌++◌, [], ◌∷◌, ℕ, Some, length, true, IfOk, OnErr, OnOk};
 ghost use Rattle.txn_trace.specs.declared.entry.Entry.TheVariants as entries;
+ghost use Rattle.txn_trace.specs.Shape.{Seat, seat_after};
+ghost use Rattle.txn_drive.specs.Made.{undone_by};
 ghost use Rattle.locked_map.specs.Calls.{Ended};
 ghost use Rattle.shared_transactions.specs.Keeps.{Keeps};
 ghost use Rattle.shared_transactions.specs.Within.{IsBegun, IsCommitted, IsOver, IsTakenBack, IsUndone, is_quiet};
@@ -20,8 +25,9 @@ impl OnRelease for Unheard {
     fn on_release(&self) {}
 }
 
-/// A caller on a map of threads, in a transaction or about to begin one. A transaction that is not
-/// committed when this is dropped is aborted.
+/// A caller on a map of threads, in a transaction or about to begin one. A transaction that is still
+/// open when this is dropped is aborted: at every `?` and every early return its changes are taken
+/// back, and no stripe stays held. If none is open, a drop leaves the token unchanged.
 pub struct Transaction<'a, L: Ledger, R: Wait> {
     rt: &'a R,
     map: &'a SharedMap<L>,
@@ -29,7 +35,7 @@ pub struct Transaction<'a, L: Ledger, R: Wait> {
 }
 
 impl<'a, L: Ledger, R: Wait> Transaction<'a, L, R> {
-    /// A caller that has not begun yet.
+    /// A caller with its map; nothing is done yet. Constant time.
     pub fn new(
         rt: &'a R,
         map: &'a SharedMap<L>,
@@ -41,7 +47,16 @@ impl<'a, L: Ledger, R: Wait> Transaction<'a, L, R> {
         Transaction { rt, map, me }
     }
 
-    /// Begins a transaction.
+    /// Begins a transaction, and answers its number.
+    ///
+    /// # Errors
+    ///
+    /// `Refused` as the map's `begin` is: nothing was committed, and if the caller had no
+    /// transaction, it has none.
+    ///
+    /// # Cost
+    ///
+    /// That of the map's `begin`.
     #[tactic(auto, using(crate::proofs::Within::begun, crate::proofs::Within::not_begun))]
     pub fn begin(&mut self) -> Result<u64, Stop>
         ensures same_token { self.new.me.ghost_name ≡ self.old.me.ghost_name }
@@ -52,7 +67,16 @@ impl<'a, L: Ledger, R: Wait> Transaction<'a, L, R> {
         self.map.begin(self.rt, self.me)
     }
 
-    /// Gets the value at a key.
+    /// Gets the value at a key, if the key is there.
+    ///
+    /// # Errors
+    ///
+    /// `Busy` if another caller held the key's stripe: the transaction is aborted then, and every
+    /// further call of it is refused as `NotOpen`. `Refused` as the map's `get` is.
+    ///
+    /// # Cost
+    ///
+    /// That of the map's `get`.
     pub fn get(&mut self, key: u64) -> Result<Reply, Stop>
         ensures keeps { Keeps self.old.me self.new.me }
         ensures ok { IfOk result (λ reply. self.new.me.now.seen ≡ self.old.me.now.seen
@@ -63,6 +87,14 @@ impl<'a, L: Ledger, R: Wait> Transaction<'a, L, R> {
     }
 
     /// Puts a value at a key, and answers the value before.
+    ///
+    /// # Errors
+    ///
+    /// Those of `get`, as the map's `put` lists them.
+    ///
+    /// # Cost
+    ///
+    /// That of the map's `put`.
     pub fn put(&mut self, key: u64, value: u64) -> Result<Reply, Stop>
         ensures keeps { Keeps self.old.me self.new.me }
         ensures ok { IfOk result (λ reply. self.new.me.now.seen ≡ self.old.me.now.seen
@@ -73,6 +105,14 @@ impl<'a, L: Ledger, R: Wait> Transaction<'a, L, R> {
     }
 
     /// Takes a key out, and answers its value.
+    ///
+    /// # Errors
+    ///
+    /// Those of `get`, as the map's `take` lists them.
+    ///
+    /// # Cost
+    ///
+    /// That of the map's `take`.
     pub fn take(&mut self, key: u64) -> Result<Reply, Stop>
         ensures keeps { Keeps self.old.me self.new.me }
         ensures ok { IfOk result (λ reply. self.new.me.now.seen ≡ self.old.me.now.seen
@@ -84,6 +124,14 @@ impl<'a, L: Ledger, R: Wait> Transaction<'a, L, R> {
 
     /// Puts a value at a key exactly where the key has what is expected, a value or none, and
     /// answers what it had.
+    ///
+    /// # Errors
+    ///
+    /// Those of `get`, as the map's `put_if` lists them.
+    ///
+    /// # Cost
+    ///
+    /// That of the map's `put_if`.
     pub fn put_if(&mut self, key: u64, expected: Option<u64>, value: u64) -> Result<Reply, Stop>
         ensures keeps { Keeps self.old.me self.new.me }
         ensures ok { IfOk result (λ reply. self.new.me.now.seen ≡ self.old.me.now.seen
@@ -93,7 +141,54 @@ impl<'a, L: Ledger, R: Wait> Transaction<'a, L, R> {
         self.operate(Op::PutIf(key, expected, value))
     }
 
-    /// Commits; or aborts, where that is refused.
+    /// Sets a savepoint, and answers its level, from 1.
+    ///
+    /// # Errors
+    ///
+    /// `Refused` as the map's `save` is: the transaction is unchanged.
+    ///
+    /// # Cost
+    ///
+    /// That of the map's `save`.
+    pub fn save(&mut self) -> Result<u64, Stop>
+        ensures keeps { Keeps self.old.me self.new.me }
+        ensures ok { OnOk result (self.new.me.now.seen ≡ self.old.me.now.seen
+            ++ entries.Saved self.old.me.now.number ∷ []) }
+        ensures level { IfOk result (λ level. (s : Seat)
+            → seat_after self.new.me.now.seen ≡ Some s → length s.kept ≡ level + 1) }
+    {
+        self.map.save(self.rt, self.me)
+    }
+
+    /// Takes every change since a savepoint back, newest first, and keeps the savepoint; level 0 is
+    /// the beginning. Stripes stay held.
+    ///
+    /// # Errors
+    ///
+    /// `Refused` as the map's `back` is: the transaction is unchanged.
+    ///
+    /// # Cost
+    ///
+    /// That of the map's `back`.
+    pub fn back(&mut self, level: u64) -> Result<(), Stop>
+        ensures keeps { Keeps self.old.me self.new.me }
+        ensures ok { OnOk result ((undone : ℕ) × (self.new.me.now.seen ≡ self.old.me.now.seen
+            ++ (entries.Leave self.old.me.now.number (Some level)
+            ∷ undone_by self.old.me.now.number undone
+            ++ entries.Returned self.old.me.now.number level ∷ []))) }
+    {
+        self.map.back(self.rt, self.me, level)
+    }
+
+    /// Commits, and answers the transaction's number and its place among the commits.
+    ///
+    /// # Errors
+    ///
+    /// `Refused` as the map's `commit` is: the transaction is aborted then.
+    ///
+    /// # Cost
+    ///
+    /// That of the map's `commit`, and where that is refused of an abort.
     pub fn commit(self) -> Result<Receipt, Stop>
         ensures ok { IfOk result (λ receipt. IsCommitted receipt.txn receipt.place
             self.entry.me.now self.exit.1.1.0.now) }
@@ -103,7 +198,11 @@ impl<'a, L: Ledger, R: Wait> Transaction<'a, L, R> {
         end(rt, map, me)
     }
 
-    /// Aborts.
+    /// Aborts, as a drop does.
+    ///
+    /// # Cost
+    ///
+    /// That of the map's `abort`.
     pub fn abort(self)
         ensures { IsTakenBack self.entry.me.now self.exit.1.1.0.now }
     {
