@@ -97,42 +97,68 @@ fn apply_again(rt: &impl Abort, alloc: Global, part: &mut Part, op: Op) -> Resul
     }
 }
 
-/// The pairs of a part, asked for once more where memory is refused, by rising keys.
+/// The pairs of a part, asked for once more where memory is refused.
 fn pairs_of(alloc: Global, part: &Part) -> Result<Vec<(u64, u64)>, AllocError> {
-    let mut pairs = match part.pairs(alloc) {
-        Ok(pairs) => pairs,
-        Err(AllocError) => part.pairs(alloc)?,
-    };
-    if pairs.sort().is_err() {
-        pairs.sort()?;
+    match part.pairs(alloc) {
+        Ok(pairs) => Ok(pairs),
+        Err(AllocError) => part.pairs(alloc),
     }
-    Ok(pairs)
 }
 
 /// The part has the pairs of the plain map, and as many changes to take back.
 fn is_alike(rt: &impl Abort, alloc: Global, part: &Part, plain: &Plain) -> Result<(), Fail> {
     let pairs = pairs_of(alloc, part)?;
     assert!(rt; part.changes() == plain.log.len());
-    assert!(rt; part.len() == plain.map.len() as u64 && pairs.len() == plain.map.len());
-    for (found, (key, value)) in pairs.iter().zip(&plain.map) {
-        assert!(rt; found.0 == *key && found.1 == *value);
+    assert!(rt; part.len() == plain.map.len() as u64);
+    assert!(rt; pairs.len() == plain.map.len());
+    for pair in &pairs {
+        assert!(rt; plain.map.get(&pair.0).copied() == Some(pair.1));
     }
     Ok(())
 }
 
-/// Takes the newest change back on both, if there is one.
-fn take_one_back(part: &mut Part, plain: &mut Plain) -> Result<(), Fail> {
+/// Takes the newest change back, if there is one.
+fn undo_one(part: &mut Part) {
     if part.changes() > 0 {
         part.take_back();
     }
+}
+
+/// Takes the newest change back on both, if there is one.
+fn undo_both(part: &mut Part, plain: &mut Plain) -> Result<(), Fail> {
+    undo_one(part);
     if let Some((key, before)) = plain.log.pop() {
         set(plain, key, before)?;
     }
     Ok(())
 }
 
-/// Takes so many drawn steps on a new part and on a plain map: operations, take-backs and
-/// settlements.
+/// A drawn step on both: an operation, a take-back or a settlement.
+fn step_both(
+    rt: &impl Abort,
+    alloc: Global,
+    draws: &mut Draws,
+    keys: u64,
+    part: &mut Part,
+    plain: &mut Plain,
+) -> Result<(), Fail> {
+    match draw(draws, 8) {
+        0 => {
+            part.settle();
+            plain.log.clear();
+        }
+        1 | 2 => undo_both(part, plain)?,
+        _ => {
+            let op = draw_op(draws, keys);
+            let reply = apply_again(rt, alloc, part, op)?;
+            let expected = do_plain(plain, op)?;
+            assert!(rt; reply == expected, "{op:?}");
+        }
+    }
+    Ok(())
+}
+
+/// Takes drawn steps on a new part and on a plain map, and all that is left back.
 fn run_drawn(
     rt: &impl Abort,
     alloc: Global,
@@ -146,22 +172,11 @@ fn run_drawn(
         log: Vec::new(alloc),
     };
     for _ in 0..steps {
-        match draw(draws, 8) {
-            0 => {
-                part.settle();
-                plain.log.clear();
-            }
-            1 | 2 => take_one_back(&mut part, &mut plain)?,
-            _ => {
-                let op = draw_op(draws, keys);
-                let reply = apply_again(rt, alloc, &mut part, op)?;
-                assert!(rt; reply == do_plain(&mut plain, op)?, "{op:?}");
-            }
-        }
+        step_both(rt, alloc, draws, keys, &mut part, &mut plain)?;
     }
     is_alike(rt, alloc, &part, &plain)?;
-    while part.changes() > 0 {
-        take_one_back(&mut part, &mut plain)?;
+    for _ in 0..steps {
+        undo_both(&mut part, &mut plain)?;
     }
     is_alike(rt, alloc, &part, &plain)
 }
@@ -183,19 +198,21 @@ fn refused_memory(rt: HostRuntime) -> Result<(), Fail> {
     let alloc = rt.alloc();
     let mut part = Part::new();
     for key in 0..300 {
-        assert!(rt; apply_again(&rt, alloc, &mut part, Op::Put(key, key))?.is_none());
+        let reply = apply_again(&rt, alloc, &mut part, Op::Put(key, key))?;
+        assert!(rt; reply.is_none());
     }
     for key in 100..200 {
-        assert!(rt; apply_again(&rt, alloc, &mut part, Op::Take(key))? == Some(key));
+        let reply = apply_again(&rt, alloc, &mut part, Op::Take(key))?;
+        assert!(rt; reply == Some(key));
     }
     assert!(rt; part.len() == 200 && part.changes() == 400);
-    while part.changes() > 100 {
-        part.take_back();
+    for _ in 0..300 {
+        undo_one(&mut part);
     }
     let pairs = pairs_of(alloc, &part)?;
     assert!(rt; pairs.len() == 100);
-    for (key, pair) in (0..100).zip(&pairs) {
-        assert!(rt; *pair == (key, key));
+    for pair in &pairs {
+        assert!(rt; pair.0 < 100 && pair.1 == pair.0);
     }
     Ok(())
 }
@@ -206,28 +223,33 @@ fn empty(rt: HostRuntime) -> Result<(), Fail> {
     let alloc = rt.alloc();
     let mut part = Part::new();
     for op in [Op::Get(1), Op::Take(1), Op::PutIf(1, Some(2), 3)] {
-        assert!(rt; part.apply(alloc, op) == Ok(None));
+        let reply = part.apply(alloc, op);
+        assert!(rt; reply == Ok(None));
     }
     part.settle();
-    assert!(rt; part.len() == 0 && part.changes() == 0 && pairs_of(alloc, &part)?.is_empty());
+    let pairs = pairs_of(alloc, &part)?;
+    assert!(rt; part.len() == 0 && part.changes() == 0 && pairs.is_empty());
     Ok(())
 }
 
-/// A part that has grown by rising keys has them all, and takes them all back.
+/// A part that has grown by rising keys has them all, and takes their takes back. The time that a
+/// test has suffices only if the part grows.
 #[test]
 fn rising_keys(rt: HostRuntime) -> Result<(), Fail> {
     let alloc = rt.alloc();
     let mut part = Part::new();
     for key in 0..100_000 {
-        assert!(rt; part.apply(alloc, Op::Put(key, key)) == Ok(None));
+        let reply = part.apply(alloc, Op::Put(key, key));
+        assert!(rt; reply == Ok(None));
     }
     part.settle();
     for key in 0..100_000 {
-        assert!(rt; part.apply(alloc, Op::Take(key)) == Ok(Some(key)));
+        let reply = part.apply(alloc, Op::Take(key));
+        assert!(rt; reply == Ok(Some(key)));
     }
     assert!(rt; part.len() == 0 && part.changes() == 100_000);
-    while part.changes() > 0 {
-        part.take_back();
+    for _ in 0..100_000 {
+        undo_one(&mut part);
     }
     assert!(rt; part.len() == 100_000);
     Ok(())
