@@ -1,19 +1,16 @@
 -- What the calls of a transaction keep, in the words of their contracts.
-use Rattle.std.proofs.Common.{◌≡◌, ℕ, Bool, true, false, List, ◌++◌, ◌∷◌, [], refl, sym, ap, subst, ◌∙◌, Option}
+use Rattle.std.proofs.Common.{◌≡◌, ℕ, Bool, ◌++◌, ◌∷◌, [], refl, sym, ap, subst, ◌∙◌, Option}
 use Rattle.std.specs.Prelude.{Result, Ok, Err, OnErr}
 use mathlib.Core.Logic.{inl, inr}
-use Rattle.txn_trace.specs.declared.entry.Entry.{Entry}
 use Rattle.txn_trace.specs.declared.entry.Entry.TheVariants.{Committed}
 use Rattle.txn_trace.specs.declared.op.Op.{Op}
 use Rattle.txn_trace.specs.Map.{Map}
 use Rattle.txn_trace.specs.Now.{now}
-use Rattle.txn_trace.specs.Shape.{own}
 use Rattle.txn_trace.specs.Sizes.{Sizes}
 use Rattle.boost_core.specs.State.{State, holder_by}
-use Rattle.owned_map.specs.Within.{Stands, IsAt, CanAbort, IsIdle, IsBeside, GoesOn, HasDone, IsTakenBack, IsCommitted, IsSameMap, IsRun, IsGrown}
+use Rattle.owned_map.specs.Within.{Stands, IsAt, CanAbort, IsBeside, GoesOn, HasDone, IsTakenBack, IsCommitted, IsRun, IsGrown}
 use Rattle.owned_map.specs.Keeps.{Keeps}
 use Rattle.owned_map.proofs.Only as only
-use Rattle.owned_map.proofs.Steps as steps
 use Rattle.owned_map.specs.declared.transaction.Transaction.{Transaction}
 
 -- One part after another.

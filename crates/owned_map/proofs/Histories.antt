@@ -1,7 +1,7 @@
 -- What each entry of a transaction that nothing comes between makes of it, by the laws of histories.
-use Rattle.std.proofs.Common.{◌≡◌, ℕ, ◌+◌, ◌<◌, ◌==◌, Bool, true, false, cond, List, [], ◌∷◌, ◌++◌, length, Option, Some, None, is_some, refl, sym, ap, subst, ◌∙◌, arith}
+use Rattle.std.proofs.Common.{◌≡◌, ℕ, ◌+◌, ◌<◌, Bool, true, false, cond, List, [], ◌∷◌, ◌++◌, length, Option, Some, None, is_some, refl, sym, ap, subst, ◌∙◌, arith}
 use Rattle.std.specs.Prelude.{nat_le}
-use Rattle.std.proofs.lemmas.Bool.{false≢true, and_parts, cases_eq, eq-eqb, ne_eqb}
+use Rattle.std.proofs.lemmas.Bool.{false≢true, and_parts, cases_eq, ne_eqb}
 use Rattle.std.proofs.lemmas.List.{append-nil, append_assoc}
 use mathlib.Core.Logic.{inl, inr}
 use Rattle.txn_trace.specs.declared.holder.Holder.{Holder}
@@ -11,7 +11,7 @@ use Rattle.txn_trace.specs.declared.entry.Entry.TheVariants as entry
 use Rattle.txn_trace.specs.declared.seat.Phase.TheVariants.{Closed, Opened, Waiting, LeavingToEnd}
 use Rattle.txn_trace.specs.Sizes.{Sizes}
 use Rattle.txn_trace.specs.Map.{Map, key_of, reply_of, after}
-use Rattle.txn_trace.specs.Now.{now, set_at}
+use Rattle.txn_trace.specs.Now.{now}
 use Rattle.txn_trace.specs.Log.{log_of}
 use Rattle.txn_trace.specs.History.{caller_of, is_began, is_commit}
 use Rattle.txn_trace.specs.Shape.{Seat, seat_after, own, closed_seat, changes, IsShaped, is_numbered, how_many}

@@ -8,7 +8,7 @@ use Rattle.txn_trace.specs.declared.op.Op.{Op}
 use Rattle.txn_trace.specs.declared.refusal.Refusal.{Refusal}
 use Rattle.txn_trace.specs.declared.refusal.Refusal.TheVariants as refusals
 use Rattle.txn_trace.specs.declared.step.Step.{Step}
-use Rattle.txn_trace.specs.declared.step.Step.TheVariants.{Begin, Ask, Seek, Act, Save, Back, Commit, Abort}
+use Rattle.txn_trace.specs.declared.step.Step.TheVariants.{Begin, Ask, Seek, Act, Commit, Abort}
 use Rattle.txn_trace.specs.declared.answer.Answer.{Answer}
 use Rattle.txn_trace.specs.declared.answer.Answer.TheVariants as answers
 use Rattle.txn_trace.specs.declared.seat.Phase.{Phase}
@@ -24,7 +24,7 @@ use Rattle.boost_core.specs.Refusals.{refusal_of, is_closed, is_leaving, is_wait
 use Rattle.boost_core.specs.Answers.{IsReply, is_at_end}
 use Rattle.boost_core.specs.Machine.{Move, Moves}
 use Rattle.boost_core.specs.Plain.{Operates, Aborts, Ends, Leaves, undoing, undone}
-use Rattle.owned_map.specs.Within.{taken_back, Stands, IsAt, CanAbort, IsIdle, OnlyDid, GoesOn, HasDone, IsTakenBack, IsCommitted}
+use Rattle.owned_map.specs.Within.{taken_back, Stands, IsAt, CanAbort, IsIdle, GoesOn, HasDone, IsTakenBack, IsCommitted}
 use Rattle.owned_map.proofs.Histories.{seat_there, began_now, asked_now, busy_now, did_now, left_now, undone_now, aborted_now, committed_now}
 use Rattle.owned_map.proofs.Only as only
 
