@@ -1,0 +1,26 @@
+-- Operations on parts, and what they meet.
+use Rattle.std.specs.Prelude.{◌≡◌, ◌≢◌, ℕ, [], true}
+use Rattle.txn_trace.specs.declared.op.Op.{Op}
+use Rattle.txn_trace.specs.declared.op.Op.TheVariants.{Put, Take, Get, PutIf}
+use Rattle.txn_trace.specs.declared.refusal.Refusal.TheVariants.{NoMemory}
+use Rattle.txn_trace.specs.Locks.{has_begun}
+use Rattle.striped_map.specs.declared.view.View.{View}
+use Rattle.striped_map.specs.declared.stop.Stop.{Stop}
+use Rattle.striped_map.specs.declared.stop.Stop.TheVariants.{Busy, Refused}
+
+-- The operation under another key.
+abbrev pub under : Op → ℕ → Op
+under (Put k value) key = Put key value
+under (Take k) key = Take key
+under (Get k) key = Get key
+under (PutIf k expected value) key = PutIf key expected value
+
+-- The seat holds no stripe.
+abbrev pub idle : View → View
+idle v = record v { held = [] }
+
+-- Why a stripe was not taken: another caller, which has begun a transaction, had it, or memory was
+-- refused.
+abbrev pub IsMiss : View → Stop → Type 0
+IsMiss v (Busy holder) = (has_begun holder v.seen ≡ true) × (holder ≢ v.number)
+IsMiss v (Refused refusal) = refusal ≡ NoMemory
