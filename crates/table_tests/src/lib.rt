@@ -1,5 +1,5 @@
 //! Tests of the crates of the table: `split_key`, `node_list`, `list_steps`, `bucket_table`,
-//! `undo_log` and `map_ops`, each in a module of its own.
+//! `undo_log`, `map_ops` and `stripe_part`, each in a module of its own.
 //!
 //! They say what no contract says: that each call succeeds while there is memory, what a refused
 //! allocation leaves, and worked runs with their values. They stand in a crate of their own, since
@@ -17,5 +17,7 @@ mod map_ops_tests;
 mod node_list_tests;
 #[cfg(test)]
 mod split_key_tests;
+#[cfg(test)]
+mod stripe_part_tests;
 #[cfg(test)]
 mod undo_log_tests;

@@ -1,0 +1,4 @@
+pub mod PartAt
+pub mod Calls
+pub mod Ready
+pub mod Stays
