@@ -1,5 +1,5 @@
 -- What each step leaves of the parts that a caller holds.
-use Rattle.std.proofs.Common.{◌≡◌, ◌≢◌, ℕ, zero, suc, ◌+◌, ◌-◌, ◌*◌, ◌/◌, ◌%◌, ◌<◌, ◌≤◌, ◌==◌, ◌⊎◌, Bool, true, false, cond, List, [], ◌∷◌, ◌++◌, length, set, map, reverse, take, drop, Option, None, Some, slice_get, sym, refl, ◌∙◌, ap, subst, inl, inr, ⊎_elim, arith, eq-eqb, ne_eqb, append-nil, append_assoc}
+use Rattle.std.proofs.Common.{◌≡◌, ◌≢◌, ℕ, zero, suc, ◌+◌, ◌-◌, ◌*◌, ◌/◌, ◌%◌, ◌<◌, ◌≤◌, ◌==◌, ◌⊎◌, Bool, true, false, cond, List, [], ◌∷◌, ◌++◌, length, get_or, set, map, reverse, take, drop, Option, None, Some, slice_get, sym, refl, ◌∙◌, ap, subst, inl, inr, ⊎_elim, arith, eq-eqb, ne_eqb, append-nil, append_assoc}
 use mathlib.Core.Logic.{dite}
 use native.Mathlib.Decide.{ℕ_discrete}
 use Rattle.std.specs.Option.{option_eq}
@@ -11,6 +11,8 @@ use Rattle.txn_trace.specs.declared.entry.Entry.{Entry}
 use Rattle.txn_trace.specs.declared.holder.Holder.TheVariants.{Begun}
 use Rattle.txn_trace.specs.declared.op.Op.{Op}
 use Rattle.txn_trace.specs.declared.op.Op.TheVariants.{Put, Take, Get, PutIf}
+use Rattle.txn_trace.specs.declared.refusal.Refusal.{Refusal}
+use Rattle.txn_trace.specs.declared.refusal.Refusal.TheVariants.{NoMemory, StampsUsedUp}
 use Rattle.txn_trace.specs.Map.{Map, get, insert, remove, after, key_of}
 use Rattle.txn_trace.specs.Now.{now, set_at}
 use Rattle.txn_trace.specs.Locks.{stripe_of}
@@ -20,13 +22,14 @@ use Rattle.txn_trace.specs.Shape.{Seat, changes, own, seat_after}
 use Rattle.txn_trace.proofs.Acting.{get-after_other}
 use Rattle.txn_trace.proofs.Maps.{get-insert-here, get-remove-here}
 use Rattle.txn_trace.proofs.Table.{get-set_at}
-use Rattle.striped_map.specs.PartAt.{PartAt, Does, TakesBack, noted}
+use Rattle.stripe_part.specs.PartAt.{PartAt}
+use Rattle.stripe_part.specs.Calls.{Does, IsRefused, TakesBack, noted}
 use Rattle.striped_map.specs.declared.view.View.{View}
 use Rattle.striped_map.specs.declared.held.Held.{Held}
 use Rattle.striped_map.specs.Rule.{times, Holds, Fits, IsSettled}
 use Rattle.striped_map.specs.Steps.{Extends, TakesIn, removed, lost, gained, seat_of, undone}
 use Rattle.striped_map.specs.Additions.{due}
-use Rattle.striped_map.specs.Handling.{under}
+use Rattle.striped_map.specs.Handling.{IsShort, under}
 use Rattle.striped_map.specs.Sound.{stripes_in, log_in, AreHeld, AreLogged}
 use Rattle.striped_map.proofs.Lands.{own-append, own-none}
 
@@ -66,6 +69,12 @@ pub place_in : {A : Type 0} (xs : List A) (i : ℕ) (a : A) → slice_get xs i �
 place_in [] i a e = absurd (none_some a e)
 place_in (x ∷ xs) zero a e = omega arith
 place_in (x ∷ xs) (suc i) a e = let lt : i < length xs = place_in xs i a e in omega arith
+
+-- What is read at a place.
+pub read_at : (xs : List Held) (k : ℕ) (h : Held) → k < length xs → h ≡ get_or xs k h → slice_get xs k ≡ Some h
+read_at [] k h lt e = absurd (omega arith)
+read_at (x ∷ xs) zero h lt e = ap (λ (y : Held). Some y) (sym e)
+read_at (x ∷ xs) (suc k) h lt e = read_at xs k h (omega arith) e
 
 -- The stripes of parts.
 stripes_push : (held : List Held) (h : Held) → stripes_in (held ++ h ∷ []) ≡ stripes_in held ++ h.stripe ∷ []
@@ -375,3 +384,19 @@ extends_then n c seen mid es log a b = record {
 
 pub extends_none : (n c : ℕ) (seen : List Entry) → IsLegal Begun n seen → Extends n c seen [] seen
 extends_none n c seen legal = record { between = []; goes = sym (append-nil (seen ++ []) ∙ append-nil seen); others = refl; legal = legal }
+
+-- One change less is to be taken back.
+pub back_step : (m : Map) (left less : ℕ) (jobs older : List Job) (job : Job) → left ≡ suc less → jobs ≡ job ∷ older
+    → (undone (set_at m job.0 job.1) (take less older) ≡ undone m (take left jobs)) × (drop less older ≡ drop left jobs)
+back_step m left less jobs older job e f = subst (λ (l : ℕ). (undone (set_at m job.0 job.1) (take less older) ≡ undone m (take l jobs)) × (drop less older ≡ drop l jobs)) (sym e)
+    (subst (λ (js : List Job). (undone (set_at m job.0 job.1) (take less older) ≡ undone m (take (suc less) js)) × (drop less older ≡ drop (suc less) js)) (sym f) (refl, refl))
+
+-- No change is left to be taken back.
+pub back_done : (m : Map) (left : ℕ) (jobs : List Job) → left ≡ 0 → (undone m (take left jobs) ≡ m) × (drop left jobs ≡ jobs)
+back_done m left jobs e = subst (λ (l : ℕ). (undone m (take l jobs) ≡ m) × (drop l jobs ≡ jobs)) (sym e) (refl, refl)
+
+-- A part that is refused says why an operation is.
+pub short_of : (op : Op) (refusal : Refusal) → IsRefused op refusal → IsShort op refusal
+short_of op NoMemory is = tt
+short_of op StampsUsedUp is = is
+short_of op _ is = absurd is

@@ -1,5 +1,5 @@
 -- What each addition to the history is, and what it leaves.
-use Rattle.std.specs.Prelude.{ℕ, Option, List, [], ◌∷◌, None, Some, take, drop}
+use Rattle.std.specs.Prelude.{ℕ, Option, List, [], ◌∷◌, None, Some, take, drop, length, slice_index, ◌-◌}
 use Rattle.txn_trace.specs.declared.entry.Entry.{Entry}
 use Rattle.txn_trace.specs.declared.entry.Entry.TheVariants.{Asked, Did, Saved, Leave, Returned, Busy, Aborted}
 use Rattle.txn_trace.specs.Log.{log_of}
@@ -12,6 +12,10 @@ use Rattle.striped_map.specs.Steps.{Standing, Told, added, at_end, noting, savin
 -- What the caller of a view has to take back.
 abbrev pub due : View → List (ℕ × Option ℕ)
 due v = log_of v.number v.seen
+
+-- The changes of the caller since a level's savepoint.
+abbrev pub above : ℕ → View → List (ℕ × Option ℕ)
+above level v = take (length (due v) - slice_index (seat_of v).kept level) (due v)
 
 -- The entries of an addition.
 abbrev pub entries_of : View → Addition → List Entry

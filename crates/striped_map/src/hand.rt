@@ -2,20 +2,21 @@
 //!
 //! The parts of the stripes that it holds lie here and not in their slots, so that an operation
 //! works on plain memory. Who calls keeps the phases.
-ghost use Rattle.std.specs.Prelude.{◌≡◌, ◌≢◌, ℕ, ◌+◌, ◌-◌, ◌<◌, ◌≤◌, ◌%◌, ◌^◌, [], ◌∷◌, IfOk, IfErr, IfSome, OnOk, OnErr, None, Some, true, slice_get, length, take, drop, vec_len, vec_capacity};
-ghost use Rattle.txn_trace.specs.declared.entry.Entry.TheVariants.{Began, Asked, Did, Saved, Leave, Returned, Committed, Busy as BusyEntry, Aborted};
+ghost use Rattle.std.specs.Prelude.{◌≡◌, ◌≢◌, ℕ, ◌+◌, ◌-◌, ◌<◌, ◌≤◌, ◌%◌, ◌^◌, [], ◌∷◌, IfOk, IfErr, IfSome, OnOk, OnErr, None, Some, true, slice_get, slice_index, length, take, drop, vec_len, vec_capacity};
+ghost use Rattle.txn_trace.specs.declared.entry.Entry.TheVariants.{Began, Asked, Did, Saved, Leave, Returned, Committed};
 ghost use Rattle.txn_trace.specs.declared.seat.Phase.TheVariants.{Closed, Opened};
 ghost use Rattle.txn_trace.specs.Locks.{stripe_of};
 ghost use Rattle.txn_trace.specs.Map.{key_of};
+ghost use Rattle.txn_trace.specs.declared.refusal.Refusal.TheVariants.{NoMemory};
 ghost use Rattle.txn_trace.specs.Now.{now};
 ghost use Rattle.txn_trace.specs.Owed.{may_change};
-ghost use Rattle.striped_map.specs.PartAt.{IsRefused};
-ghost use Rattle.striped_map.specs.Additions.{due};
-ghost use Rattle.striped_map.specs.Handling.{IsMiss, idle};
+ghost use Rattle.stripe_part.specs.Calls.{IsRefused};
+ghost use Rattle.striped_map.specs.Additions.{above, due, entries_of};
+ghost use Rattle.striped_map.specs.Handling.{IsEnd, IsMiss, idle};
 ghost use Rattle.striped_map.specs.Rule.{Holds};
 ghost use Rattle.striped_map.specs.Seats.{IsOf, known, stripes_of};
 ghost use Rattle.striped_map.specs.Sound.{AreHeld, AreLogged, IsSound, stripes_in};
-ghost use Rattle.striped_map.specs.Steps.{Extends, IsAt, seat_of, undone, undoing};
+ghost use Rattle.striped_map.specs.Steps.{IsAt, seat_of, undone, undoing};
 
 use crate::addition::Addition;
 use crate::held::Held;
@@ -49,6 +50,14 @@ fn place_of(held: &Vec<Held>, stripe: usize) -> Option<usize>
         }
     }
     None
+}
+
+/// How many changes stood at a level.
+fn mark_of(levels: &Vec<usize>, level: usize) -> usize
+    requires { level ≤ vec_len levels.now }
+    ensures { result ≡ slice_index (0 ∷ levels.now.items) level }
+{
+    if level == 0 { 0 } else { levels[level - 1] }
 }
 
 /// The operation under another key.
@@ -108,7 +117,7 @@ fn give_all(map: &StripedMap, seat: &mut MapSeat, held: &mut Vec<Held>)
 }
 
 impl Hand {
-    ghost use Rattle.striped_map.specs.Hands.{Moves};
+    ghost use Rattle.striped_map.specs.Hands.{IsStopped, Moves};
 
     /// A hand that holds nothing, of a seat that has seen nothing.
     pub(crate) fn new(alloc: Global, seat: MapSeat) -> Hand
@@ -165,12 +174,18 @@ impl Hand {
                 self.held.push_reserved(Held { stripe, part });
                 Ok(place)
             }
-            Taken::Held(holder) => Err(Stop::Busy { holder }),
+            Taken::Denied(holder) => Err(Stop::Busy { holder }),
         }
     }
 
     /// Does an operation on the part at a place, and notes it.
-    fn apply(&mut self, map: &StripedMap, alloc: Global, place: usize, op: Op) -> Result<Reply, Refusal>
+    fn apply(
+        &mut self,
+        map: &StripedMap,
+        alloc: Global,
+        place: usize,
+        op: Op,
+    ) -> Result<Reply, Refusal>
         requires map { IsOf self.old.seat map.now }
         requires open { IsAt Opened (known self.old.seat) }
         requires place { slice_get (stripes_in self.old.held.items) place
@@ -188,15 +203,151 @@ impl Hand {
         let reply = self.held[place]
             .part
             .apply(alloc, under(op, op.key() / stripes))?;
-        map.add(
-            &mut self.seat,
-            map.quiet(),
-            Addition::Note(op, reply),
-        );
+        map.add(&mut self.seat, map.quiet(), Addition::Note(op, reply));
         if op.changes(reply) {
             self.order.push_reserved(place);
         }
         Ok(reply)
+    }
+
+    /// Does an operation.
+    #[tactic(auto, using(crate::proofs::Ends::moved_did, crate::proofs::Ends::moved_busy, crate::proofs::Hands::short_of))]
+    pub(crate) fn operate(&mut self, map: &StripedMap, alloc: Global, op: Op) -> Result<Reply, Stop>
+        requires map { IsOf self.old.seat map.now }
+        requires open { IsAt Opened (known self.old.seat) }
+        ensures map { IsOf self.new.seat map.now }
+        ensures ok { IfOk result (λ reply. IsAt Opened (known self.new.seat)
+            × Moves map.now self.old (Asked (known self.old.seat).number op
+            ∷ Did (known self.old.seat).number reply ∷ []) self.new) }
+        ensures err { IfErr result (IsStopped map.now self.old op self.new) }
+    {
+        if op.may_change() && self.order.reserve(1).is_err() {
+            return Err(Stop::Refused(Refusal::NoMemory));
+        }
+        let stripe = (op.key() % map.stripes() as u64) as usize;
+        match self.hold(map, stripe) {
+            Ok(place) => match self.apply(map, alloc, place, op) {
+                Ok(reply) => Ok(reply),
+                Err(refusal) => Err(Stop::Refused(refusal)),
+            },
+            Err(Stop::Busy { holder }) => {
+                self.leave(map, Addition::Yield(op, holder));
+                Err(Stop::Busy { holder })
+            }
+            Err(Stop::Refused(refusal)) => Err(Stop::Refused(refusal)),
+        }
+    }
+
+    /// Sets a savepoint, and answers its level.
+    pub(crate) fn save(&mut self, map: &StripedMap) -> Result<u64, Refusal>
+        requires map { IsOf self.old.seat map.now }
+        requires open { IsAt Opened (known self.old.seat) }
+        ensures map { IsOf self.new.seat map.now }
+        ensures open { IsAt Opened (known self.new.seat) }
+        ensures ok { IfOk result (λ level. (level + 1 ≡ length (seat_of (known self.new.seat)).kept)
+            × Moves map.now self.old (Saved (known self.old.seat).number ∷ []) self.new) }
+        ensures refused { IfErr result (λ refusal. refusal ≡ NoMemory) }
+        ensures unchanged { OnErr result (self.new.seat ≡ self.old.seat) }
+    {
+        if self.levels.reserve(1).is_err() {
+            return Err(Refusal::NoMemory);
+        }
+        map.add(&mut self.seat, map.quiet(), Addition::Save);
+        self.levels.push_reserved(self.order.len());
+        Ok(self.levels.len() as u64)
+    }
+
+    /// How many savepoints there are.
+    pub(crate) fn levels(&self) -> u64
+        ensures { result + 1 ≡ length (seat_of (known self.now.seat)).kept }
+    {
+        self.levels.len() as u64
+    }
+
+    /// Takes back the changes since a level's savepoint; level 0 is the transaction's beginning.
+    pub(crate) fn back(&mut self, map: &StripedMap, level: usize)
+        requires map { IsOf self.old.seat map.now }
+        requires open { IsAt Opened (known self.old.seat) }
+        requires level { level < length (seat_of (known self.old.seat)).kept }
+        ensures map { IsOf self.new.seat map.now }
+        ensures open { IsAt Opened (known self.new.seat) }
+        ensures moves { Moves map.now self.old
+            (Leave (known self.old.seat).number (Some level) ∷ undoing (known self.old.seat).number
+            (above level (known self.old.seat)) (Returned (known self.old.seat).number level))
+            self.new }
+    {
+        let mark = mark_of(&self.levels, level);
+        let count = self.order.len() - mark;
+        take_back(
+            map.stripes(),
+            &self.seat,
+            &mut self.held,
+            &mut self.order,
+            mark,
+        );
+        map.add(
+            &mut self.seat,
+            map.quiet(),
+            Addition::Back(level as u64, count),
+        );
+        self.levels.truncate(level);
+    }
+
+    /// Commits the transaction, gives the stripes back, and answers the commit's place.
+    pub(crate) fn commit(&mut self, map: &StripedMap) -> u64
+        requires map { IsOf self.old.seat map.now }
+        requires open { IsAt Opened (known self.old.seat) }
+        ensures map { IsOf self.new.seat map.now }
+        ensures closed { IsAt Closed (known self.new.seat) }
+        ensures idle { (known self.new.seat).held ≡ [] }
+        ensures committed { (place : ℕ) × (result ≡ place % 2 ^ 64)
+            × Moves map.now self.old (Committed (known self.old.seat).number place ∷ [])
+            self.new }
+    {
+        let place = map.commit(&mut self.seat);
+        self.order.clear();
+        self.levels.clear();
+        give_all(map, &mut self.seat, &mut self.held);
+        place
+    }
+
+    /// Takes all changes of the transaction back, ends it, and gives the stripes back.
+    pub(crate) fn leave(&mut self, map: &StripedMap, what: Addition)
+        requires map { IsOf self.old.seat map.now }
+        requires open { IsAt Opened (known self.old.seat) }
+        requires may { IsEnd (known self.old.seat) what }
+        ensures map { IsOf self.new.seat map.now }
+        ensures closed { IsAt Closed (known self.new.seat) }
+        ensures idle { (known self.new.seat).held ≡ [] }
+        ensures moves { Moves map.now self.old (entries_of (known self.old.seat) what) self.new }
+    {
+        take_back(
+            map.stripes(),
+            &self.seat,
+            &mut self.held,
+            &mut self.order,
+            0,
+        );
+        map.add(&mut self.seat, map.quiet(), what);
+        self.order.clear();
+        self.levels.clear();
+        give_all(map, &mut self.seat, &mut self.held);
+    }
+}
+
+impl Hand {
+    /// The seat of a hand that holds no stripe.
+    pub(crate) fn into_seat(self) -> MapSeat
+        requires idle { (known self.seat).held ≡ [] }
+        ensures { result ≡ self.seat }
+    {
+        let Hand {
+            seat,
+            held: _,
+            order: _,
+            levels: _,
+        } = self;
+        seat
     }
 }
 

@@ -1,5 +1,5 @@
 //! A part that a caller holds.
-use crate::part::Part;
+use stripe_part::Part;
 
 /// The part of a stripe that a caller holds.
 #[derive(Drop)]
