@@ -110,8 +110,9 @@ fn give_all(map: &StripedMap, seat: &mut MapSeat, held: &mut Vec<Held>)
     ensures idle { known seat.new ≡ idle (known seat.old) }
     ensures none { held.new.items ≡ [] }
 {
-    while let Some(Held { stripe, mut part }) = held.pop() {
-        part.settle();
+    while let Some(mut one) = held.pop() {
+        one.part.settle();
+        let Held { stripe, part } = one;
         map.give(seat, stripe, part);
     }
 }

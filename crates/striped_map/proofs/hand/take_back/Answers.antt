@@ -1,3 +1,4 @@
+use Rattle.std.specs.Prelude.{vec_len}
 use Rattle.std.proofs.Common.{◌≡◌, ◌≢◌, ℕ, suc, ◌+◌, ◌-◌, ◌/◌, ◌<◌, ◌≤◌, List, [], ◌∷◌, ◌++◌, Option, Some, slice_get, set, take, drop, length, sym, refl, ap, subst, ◌∙◌, arith}
 use Rattle.txn_trace.specs.Locks.{stripe_of}
 use Rattle.txn_trace.specs.Map.{Map}
@@ -15,7 +16,7 @@ nil_cons job jobs e = cc (e)
 
 pub loop-order-init : goal.loop-order-init
 loop-order-init c = let v = known c.args.seat.now in let m = c.requires.mark in
-    (now v.seen, due v, _, (let all = c.requires.mark in omega arith), c.requires.parts, c.requires.logged, refl, refl)
+    (now v.seen, due v, vec_len c.args.order.now - c.args.mark, omega arith, c.requires.parts, c.requires.logged, refl, refl)
 
 pub index_mut-requires : goal.index_mut-requires
 index_mut-requires c = let inv = c.loop-order.invariant in let held = c.loop-order.held.items in let place = c.in-Some.place in
@@ -42,7 +43,7 @@ loop-order-preserved c = let n = c.args.stripes in let v = known c.args.seat.now
     let at : slice_get held place ≡ Some h = read_at held place h (place_in held place p.0 p.1) c.index_mut.ensures.value in
     let in_k : h.stripe ≡ stripe_of n first.job.0 = some_same _ _ (sym (stripe_at held place h at) ∙ first.place_is) in
     let back = c.take_back.ensures (first.job.0 / n) first.job.1 (log_in n h.stripe first.older) (newest_log n held rest place inv.1 logged h at) in
-    let is = inv.3 in let t = c.loop-order-test.true in let len = c.pop.ensures.len in let some = c.in-Some.ensures.len in
+    let is = inv.3 in let t = c.loop-order-test.true in let l = c.len.ensures in let some = c.in-Some.ensures.len in
     let less : inv.2 ≡ suc (inv.2 - 1) = omega arith in
     let step = back_step inv.0 inv.2 (inv.2 - 1) inv.1 first.older first.job less first.jobs_are in (
       set_at inv.0 first.job.0 first.job.1,

@@ -1,3 +1,4 @@
+use Rattle.std.specs.Prelude.{vec_len}
 use Rattle.std.proofs.Common.{◌≡◌, ℕ, ◌+◌, ◌-◌, ◌<◌, ◌≤◌, List, [], ◌∷◌, Some, take, drop, length, get_or, slice_index, refl, sym, ap, subst, ◌∙◌, arith}
 use Rattle.std.proofs.lemmas.List.{take-append-drop, length-drop}
 use Rattle.txn_trace.specs.declared.entry.Entry.TheVariants.{Leave, Returned}
@@ -40,10 +41,10 @@ add-requires-clause-may c = let me = c.args.self.now in let v = known me.seat in
 pub invariant_of-self : goal.invariant_of-self
 invariant_of-self c = let me = c.args.self.now in let n = c.args.map.now.table.shared.table_id.slots in let v = known me.seat in let w = known c.add.new.seat in let level = c.args.level in
     let mark = c.mark_of-mark.result in let count = c.len.result - mark in
-    let same : me.order.len - mark ≡ count = ap (λ (x : ℕ). x - mark) (sym c.len.ensures) in
+    let same : vec_len me.order - mark ≡ count = ap (λ (x : ℕ). x - mark) (sym c.len.ensures) in
     let held = c.take_back.new.held.items in let order = c.take_back.new.order.items in
-    let parts : AreHeld n v held (undone (now v.seen) (take count (due v))) = subst (λ (x : ℕ). AreHeld n v held (undone (now v.seen) (take x (due v)))) same (subst (λ (s : ℕ). AreHeld s v held (undone (now v.seen) (take (me.order.len - mark) (due v)))) c.stripes.ensures c.take_back.ensures.parts) in
-    let logged : AreLogged n held order (drop count (due v)) = subst (λ (x : ℕ). AreLogged n held order (drop x (due v))) same (subst (λ (s : ℕ). AreLogged s held order (drop (me.order.len - mark) (due v))) c.stripes.ensures c.take_back.ensures.logged) in
+    let parts : AreHeld n v held (undone (now v.seen) (take count (due v))) = subst (λ (x : ℕ). AreHeld n v held (undone (now v.seen) (take x (due v)))) same (subst (λ (s : ℕ). AreHeld s v held (undone (now v.seen) (take (vec_len me.order - mark) (due v)))) c.stripes.ensures c.take_back.ensures.parts) in
+    let logged : AreLogged n held order (drop count (due v)) = subst (λ (x : ℕ). AreLogged n held order (drop x (due v))) same (subst (λ (s : ℕ). AreLogged s held order (drop (vec_len me.order - mark) (due v))) c.stripes.ensures c.take_back.ensures.logged) in
     let levelled = ap (take (level + 1)) me.sound.levelled ∙ take_first level me.levels.items ∙ ap (λ (l : List ℕ). 0 ∷ l) (sym c.truncate.ensures.items) in
     record {
       sound = subst (λ z. IsSound z.slots w held order c.truncate.new.self.items) (sym c.add.ensures.seat)

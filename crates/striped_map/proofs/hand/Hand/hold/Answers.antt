@@ -22,8 +22,8 @@ invariant_of-self-in-Granted c = let me = c.args.self.now in let n = c.args.map.
           (sound_taken n k v w me.held.items me.order.items me.levels.items c.in-Granted.part s (c.place_of.ensures.none c.in_default.is) c.in-Granted.ensures.taken));
     }
 
-pub invariant_of-self-in-Denied : goal.invariant_of-self-in-Denied
-invariant_of-self-in-Denied c = let me = c.args.self.now in let n = c.args.map.now.table.shared.table_id.slots in let v = known me.seat in let w = known c.take.new.seat in
+pub invariant_of-self-in-Denied-1 : goal.invariant_of-self-in-Denied-1
+invariant_of-self-in-Denied-1 c = let me = c.args.self.now in let n = c.args.map.now.table.shared.table_id.slots in let v = known me.seat in let w = known c.take.new.seat in
     let s : IsSound n v me.held.items me.order.items me.levels.items = subst (λ z. IsSound z.slots v me.held.items me.order.items me.levels.items) c.requires.map me.sound in
     record {
       sound = subst (λ z. IsSound z.slots w c.reserve.new.self.items me.order.items me.levels.items) (sym c.take.ensures.seat)
