@@ -1,0 +1,54 @@
+-- What a hand has added by a step.
+use Rattle.std.proofs.Common.{◌≡◌, ◌≢◌, ℕ, zero, suc, ◌-◌, ◌%◌, List, [], ◌∷◌, ◌++◌, get_or, Option, sym, refl, ap, subst, ◌∙◌, arith}
+use Rattle.txn_trace.specs.declared.entry.Entry.{Entry}
+use Rattle.txn_trace.specs.declared.entry.Entry.TheVariants.{Asked, Did, Busy, Aborted}
+use Rattle.txn_trace.specs.declared.op.Op.{Op}
+use Rattle.striped_map.specs.declared.hand.Hand.{Hand}
+use Rattle.striped_map.specs.declared.map.StripedMap.{StripedMap}
+use Rattle.striped_map.specs.declared.view.View.{View}
+use Rattle.striped_map.specs.Handling.{idle}
+use Rattle.striped_map.specs.Hands.{Moves}
+use Rattle.striped_map.specs.Seats.{known, stripes_of}
+use Rattle.striped_map.specs.Steps.{Standing, Extends, AddsIn, undoing}
+use Rattle.striped_map.specs.Additions.{due, entries_of}
+use Rattle.striped_map.specs.declared.addition.Addition.TheVariants.{Yield}
+use Rattle.striped_map.proofs.Hands.{extends_then, own_same}
+use Rattle.striped_map.proofs.Sounds.{due_same}
+
+pub moved : (map : StripedMap) (a b : Hand) (es : List Entry) (left : Standing) → AddsIn (stripes_of map) (known a.seat) es left (known b.seat) → Moves map a es b
+moved map a b es left x = record { number_is = ap (λ (v : View). v.number) x.view_is; goes = x.goes }
+
+-- The stripes were given back after it.
+pub moved_idle : (map : StripedMap) (a b : Hand) (w : View) (es : List Entry) (left : Standing) → AddsIn (stripes_of map) (known a.seat) es left w → known b.seat ≡ idle w → Moves map a es b
+moved_idle map a b w es left x is = record {
+  number_is = ap (λ (v : View). v.number) is ∙ ap (λ (v : View). v.number) x.view_is;
+  goes = subst (Extends (stripes_of map) (known a.seat).number (known a.seat).seen es) (sym (ap (λ (v : View). v.seen) is)) x.goes;
+}
+
+-- A step after one that added nothing: its entries are those of the number before.
+pub moved_then : (map : StripedMap) (a b c : Hand) (es : ℕ → List Entry) → Moves map a [] b → Moves map b (es (known b.seat).number) c → Moves map a (es (known a.seat).number) c
+moved_then map a b c es x y = record {
+  number_is = y.number_is ∙ x.number_is;
+  goes = extends_then (stripes_of map) (known a.seat).number (known a.seat).seen (known b.seat).seen (es (known a.seat).number) (known c.seat).seen x.goes
+      (subst (λ (k : ℕ). Extends (stripes_of map) k (known b.seat).seen (es k) (known c.seat).seen) x.number_is y.goes);
+}
+
+pub cons_at : (l : List ℕ) (level : ℕ) → level ≢ 0 → get_or l (level - 1) 0 ≡ get_or (0 ∷ l) level 0
+cons_at l zero ne = absurd (ne refl)
+cons_at l (suc k) ne = ap (λ (i : ℕ). get_or l i 0) (omega arith)
+
+-- The same of an operation that was done, of one that was refused, and of one that found its stripe in other hands.
+pub moved_did : (map : StripedMap) (a b c : Hand) (op : Op) (reply : Option ℕ) → Moves map a [] b → Moves map b (Asked (known b.seat).number op ∷ Did (known b.seat).number reply ∷ []) c → Moves map a (Asked (known a.seat).number op ∷ Did (known a.seat).number reply ∷ []) c
+moved_did map a b c op reply x y = moved_then map a b c (λ k. Asked k op ∷ Did k reply ∷ []) x y
+
+pub moved_busy : (map : StripedMap) (a b c : Hand) (op : Op) (holder : ℕ) → Moves map a [] b → Moves map b (entries_of (known b.seat) (Yield op holder)) c
+    → Moves map a (Busy (known a.seat).number op holder ∷ undoing (known a.seat).number (due (known a.seat)) (Aborted (known a.seat).number)) c
+moved_busy map a b c op holder x y = moved_then map a b c (λ k. Busy k op holder ∷ undoing k (due (known a.seat)) (Aborted k)) x
+    (subst (λ (jobs : List (ℕ × Option ℕ)). Moves map b (Busy (known b.seat).number op holder ∷ undoing (known b.seat).number jobs (Aborted (known b.seat).number)) c)
+    (due_same (known a.seat) (known b.seat) x.number_is (own_same (stripes_of map) (known a.seat).number (known a.seat).seen (known b.seat).seen x.goes)) y)
+
+pub moved_none : (map : StripedMap) (a b : Hand) → Moves map a [] b → (c : Hand) → c.seat ≡ b.seat → Moves map a [] c
+moved_none map a b x c same = record {
+  number_is = ap (λ z. (known z).number) same ∙ x.number_is;
+  goes = subst (Extends (stripes_of map) (known a.seat).number (known a.seat).seen []) (sym (ap (λ z. (known z).seen) same)) x.goes;
+}

@@ -1,0 +1,402 @@
+-- What each step leaves of the parts that a caller holds.
+use Rattle.std.proofs.Common.{◌≡◌, ◌≢◌, ℕ, zero, suc, ◌+◌, ◌-◌, ◌*◌, ◌/◌, ◌%◌, ◌<◌, ◌≤◌, ◌==◌, ◌⊎◌, Bool, true, false, cond, List, [], ◌∷◌, ◌++◌, length, get_or, set, map, reverse, take, drop, Option, None, Some, slice_get, sym, refl, ◌∙◌, ap, subst, inl, inr, ⊎_elim, arith, eq-eqb, ne_eqb, append-nil, append_assoc}
+use mathlib.Core.Logic.{dite}
+use native.Mathlib.Decide.{ℕ_discrete}
+use Rattle.std.specs.Option.{option_eq}
+use Rattle.std.specs.Prelude.{nat_eq}
+use Rattle.std.proofs.Math.Nat.{div-add-mod}
+use Rattle.std.proofs.lemmas.Bool.{false≢true}
+use Rattle.std.proofs.lemmas.List.{reverse-append}
+use Rattle.txn_trace.specs.declared.entry.Entry.{Entry}
+use Rattle.txn_trace.specs.declared.holder.Holder.TheVariants.{Begun}
+use Rattle.txn_trace.specs.declared.op.Op.{Op}
+use Rattle.txn_trace.specs.declared.op.Op.TheVariants.{Put, Take, Get, PutIf}
+use Rattle.txn_trace.specs.declared.refusal.Refusal.{Refusal}
+use Rattle.txn_trace.specs.declared.refusal.Refusal.TheVariants.{NoMemory, StampsUsedUp}
+use Rattle.txn_trace.specs.Map.{Map, get, insert, remove, after, key_of}
+use Rattle.txn_trace.specs.Now.{now, set_at}
+use Rattle.txn_trace.specs.Locks.{stripe_of}
+use Rattle.txn_trace.specs.Legal.{IsLegal}
+use Rattle.txn_trace.specs.Log.{log_after, log_of}
+use Rattle.txn_trace.specs.Shape.{Seat, changes, own, seat_after}
+use Rattle.txn_trace.proofs.Acting.{get-after_other}
+use Rattle.txn_trace.proofs.Maps.{get-insert-here, get-remove-here}
+use Rattle.txn_trace.proofs.Table.{get-set_at}
+use Rattle.stripe_part.specs.PartAt.{PartAt}
+use Rattle.stripe_part.specs.Calls.{Does, IsRefused, TakesBack, noted}
+use Rattle.striped_map.specs.declared.view.View.{View}
+use Rattle.striped_map.specs.declared.held.Held.{Held}
+use Rattle.striped_map.specs.Rule.{times, Holds, Fits, IsSettled}
+use Rattle.striped_map.specs.Steps.{Extends, TakesIn, removed, lost, gained, seat_of, undone}
+use Rattle.striped_map.specs.Additions.{due}
+use Rattle.striped_map.specs.Handling.{IsShort, under}
+use Rattle.striped_map.specs.Sound.{stripes_in, log_in, AreHeld, AreLogged}
+use Rattle.striped_map.proofs.Lands.{own-append, own-none}
+
+abbrev pub Job : Type 0
+Job = ℕ × Option ℕ
+
+pub some_same : {A : Type 0} (a b : A) → Some a ≡ Some b → a ≡ b
+some_same a b e = cc (e)
+
+pub none_some : {A : Type 0} (a : A) → None ≡ Some a → ⊥
+none_some a e = cc (e)
+
+-- Places of lists.
+push_at : {A : Type 0} (xs : List A) (x a : A) (i : ℕ) → slice_get (xs ++ x ∷ []) i ≡ Some a → (slice_get xs i ≡ Some a) ⊎ ((i ≡ length xs) × (x ≡ a))
+push_at [] x a zero e = inr (refl, some_same x a e)
+push_at [] x a (suc i) e = absurd (none_some a e)
+push_at (y ∷ xs) x a zero e = inl e
+push_at {A} (y ∷ xs) x a (suc i) e = ⊎_elim (λ (t : slice_get xs i ≡ Some a). inl t) (λ (t : (i ≡ length xs) × (x ≡ a)). inr (omega arith, t.1)) (push_at xs x a i e)
+
+pub push_old : {A : Type 0} (xs : List A) (x a : A) (i : ℕ) → slice_get xs i ≡ Some a → slice_get (xs ++ x ∷ []) i ≡ Some a
+push_old [] x a i e = absurd (none_some a e)
+push_old (y ∷ xs) x a zero e = e
+push_old (y ∷ xs) x a (suc i) e = push_old xs x a i e
+
+pub push_last : {A : Type 0} (xs : List A) (x : A) → slice_get (xs ++ x ∷ []) (length xs) ≡ Some x
+push_last [] x = refl
+push_last (y ∷ xs) x = push_last xs x
+
+set_place : {A : Type 0} (xs : List A) (j i : ℕ) (y a : A) → slice_get (set xs j y) i ≡ Some a → ((i ≡ j) × (y ≡ a)) ⊎ ((i ≢ j) × (slice_get xs i ≡ Some a))
+set_place [] j i y a e = absurd (none_some a e)
+set_place (x ∷ xs) zero zero y a e = inl (refl, some_same y a e)
+set_place (x ∷ xs) zero (suc i) y a e = inr ((λ z. omega arith), e)
+set_place (x ∷ xs) (suc j) zero y a e = inr ((λ z. omega arith), e)
+set_place {A} (x ∷ xs) (suc j) (suc i) y a e = ⊎_elim (λ (t : (i ≡ j) × (y ≡ a)). inl (omega arith, t.1)) (λ (t : (i ≢ j) × (slice_get xs i ≡ Some a)). inr ((λ z. t.0 (omega arith)), t.1)) (set_place xs j i y a e)
+
+pub place_in : {A : Type 0} (xs : List A) (i : ℕ) (a : A) → slice_get xs i ≡ Some a → i < length xs
+place_in [] i a e = absurd (none_some a e)
+place_in (x ∷ xs) zero a e = omega arith
+place_in (x ∷ xs) (suc i) a e = let lt : i < length xs = place_in xs i a e in omega arith
+
+-- What is read at a place.
+pub read_at : (xs : List Held) (k : ℕ) (h : Held) → k < length xs → h ≡ get_or xs k h → slice_get xs k ≡ Some h
+read_at [] k h lt e = absurd (omega arith)
+read_at (x ∷ xs) zero h lt e = ap (λ (y : Held). Some y) (sym e)
+read_at (x ∷ xs) (suc k) h lt e = read_at xs k h (omega arith) e
+
+-- The stripes of parts.
+stripes_push : (held : List Held) (h : Held) → stripes_in (held ++ h ∷ []) ≡ stripes_in held ++ h.stripe ∷ []
+stripes_push [] h = refl
+stripes_push (x ∷ held) h = ap (λ (l : List ℕ). x.stripe ∷ l) (stripes_push held h)
+
+pub stripe_at : (held : List Held) (i : ℕ) (h : Held) → slice_get held i ≡ Some h → slice_get (stripes_in held) i ≡ Some h.stripe
+stripe_at [] i h e = absurd (none_some h e)
+stripe_at (x ∷ held) zero h e = ap (λ (y : Held). Some y.stripe) (some_same x h e)
+stripe_at (x ∷ held) (suc i) h e = stripe_at held i h e
+
+pub part_at : (held : List Held) (i k : ℕ) → slice_get (stripes_in held) i ≡ Some k → (h : Held) × (slice_get held i ≡ Some h) × (h.stripe ≡ k)
+part_at [] i k e = absurd (none_some k e)
+part_at (x ∷ held) zero k e = (x, refl, some_same x.stripe k e)
+part_at (x ∷ held) (suc i) k e = part_at held i k e
+
+stripes_set : (held : List Held) (j : ℕ) (h new : Held) → slice_get held j ≡ Some h → new.stripe ≡ h.stripe → stripes_in (set held j new) ≡ stripes_in held
+stripes_set [] j h new at same = refl
+stripes_set (x ∷ held) zero h new at same = ap (λ (k : ℕ). k ∷ stripes_in held) (same ∙ ap (λ (y : Held). y.stripe) (sym (some_same x h at)))
+stripes_set (x ∷ held) (suc j) h new at same = ap (λ (l : List ℕ). x.stripe ∷ l) (stripes_set held j h new at same)
+
+-- Which stripes are held.
+times_same : (k : ℕ) (ks : List ℕ) → times k (k ∷ ks) ≡ 1 + times k ks
+times_same k ks = ap (λ b. cond b 1 0 + times k ks) (eq-eqb k k refl)
+
+times_other : (k j : ℕ) (ks : List ℕ) → j ≢ k → times k (j ∷ ks) ≡ times k ks
+times_other k j ks ne = ap (λ b. cond b 1 0 + times k ks) (ne_eqb j k ne) ∙ (omega arith)
+
+times_append : (k : ℕ) (xs ys : List ℕ) → times k (xs ++ ys) ≡ times k xs + times k ys
+times_append k [] ys = omega arith
+times_append k (x ∷ xs) ys = let more : times k (xs ++ ys) ≡ times k xs + times k ys = times_append k xs ys in dite (ℕ_discrete x k)
+    (λ (e : x ≡ k). subst (λ (j : ℕ). times k (j ∷ xs ++ ys) ≡ times k (j ∷ xs) + times k ys) (sym e) (omega (arith, more, times_same k xs, times_same k (xs ++ ys))))
+    (λ ne. omega (arith, more, times_other k x xs ne, times_other k x (xs ++ ys) ne))
+
+times_reverse : (k : ℕ) (ks : List ℕ) → times k (reverse ks) ≡ times k ks
+times_reverse k [] = refl
+times_reverse k (x ∷ ks) = ap (times k) (reverse-append (x ∷ []) ks) ∙ times_append k (reverse ks) (x ∷ []) ∙ ap (λ (n : ℕ). n + times k (x ∷ [])) (times_reverse k ks)
+    ∙ dite (ℕ_discrete x k) (λ (e : x ≡ k). subst (λ (j : ℕ). times k ks + times k (j ∷ []) ≡ times k (j ∷ ks)) (sym e) (omega (arith, times_same k [], times_same k ks)))
+    (λ ne. omega (arith, times_other k x [] ne, times_other k x ks ne))
+
+times_at : (ks : List ℕ) (i k : ℕ) → slice_get ks i ≡ Some k → 0 < times k ks
+times_at [] i k e = absurd (none_some k e)
+times_at (x ∷ ks) zero k e = let same : x ≡ k = some_same x k e in subst (λ (j : ℕ). 0 < times k (j ∷ ks)) (sym same) (omega (arith, times_same k ks))
+times_at (x ∷ ks) (suc i) k e = let more : 0 < times k ks = times_at ks i k e in omega arith
+
+at_times : (ks : List ℕ) (k : ℕ) → 0 < times k ks → (i : ℕ) × (slice_get ks i ≡ Some k)
+at_times [] k h = absurd (omega arith)
+at_times (x ∷ ks) k h = dite (ℕ_discrete x k) (λ (e : x ≡ k). (0, ap (λ (y : ℕ). Some y) e))
+    (λ ne. let more : 0 < times k ks = omega (arith, h, times_other k x ks ne) in let deep = at_times ks k more in (suc deep.0, deep.1))
+
+-- A part at a place is of a stripe that is held.
+pub holds_at : (n : ℕ) (v : View) (held : List Held) (m : Map) → AreHeld n v held m → (i k : ℕ) → slice_get (stripes_in held) i ≡ Some k → Holds v k
+holds_at n v held m s i k at = subst (λ (ks : List ℕ). 0 < times k ks) (sym s.kept) (let t : 0 < times k (stripes_in held) = times_at (stripes_in held) i k at in omega (arith, times_reverse k (stripes_in held)))
+
+-- A stripe of no part is not held.
+pub not_held : (n : ℕ) (v : View) (held : List Held) (m : Map) → AreHeld n v held m → (k : ℕ) → ((i : ℕ) → slice_get (stripes_in held) i ≢ Some k) → Holds v k → ⊥
+not_held n v held m s k none hold = let h : 0 < times k (reverse (stripes_in held)) = subst (λ (ks : List ℕ). 0 < times k ks) s.kept hold in
+    let at = at_times (stripes_in held) k (omega (arith, times_reverse k (stripes_in held))) in none at.0 at.1
+
+-- The map goes on, the same in the stripes that are held.
+pub parts_on : (n : ℕ) (v w : View) (held : List Held) (m k : Map) → AreHeld n v held m → w.held ≡ v.held → ((key : ℕ) → Holds v (stripe_of n key) → get k key ≡ get m key) → AreHeld n w held k
+parts_on n v w held m k s same have = record {
+  kept = same ∙ s.kept;
+  apart = s.apart;
+  fits = λ i h at q in_k. s.fits i h at q in_k ∙ sym (have q (subst (Holds v) (sym in_k) (holds_at n v held m s i h.stripe (stripe_at held i h at))));
+}
+
+-- A stripe is taken.
+pub parts_taken : (n k : ℕ) (v w : View) (held : List Held) (part : PartAt) → AreHeld n v held (now v.seen) → ((i : ℕ) → slice_get (stripes_in held) i ≢ Some k) → TakesIn n k v part w → AreHeld n w (held ++ (record { stripe = k; part = part }) ∷ []) (now w.seen)
+parts_taken n k v w held part s none t = let new : Held = record { stripe = k; part = part } in let ks : List ℕ = stripes_in held in
+    let is : stripes_in (held ++ new ∷ []) ≡ ks ++ k ∷ [] = stripes_push held new in
+    record {
+      kept = ap (λ (x : View). x.held) t.view_is ∙ ap (λ (l : List ℕ). k ∷ l) s.kept ∙ sym (reverse-append ks (k ∷ [])) ∙ ap reverse (sym is);
+      apart = λ i j stripe a b. ⊎_elim
+          (λ (x : slice_get ks i ≡ Some stripe). ⊎_elim (λ (y : slice_get ks j ≡ Some stripe). s.apart i j stripe x y)
+          (λ (y : (j ≡ length ks) × (k ≡ stripe)). absurd (none i (x ∙ ap (λ (z : ℕ). Some z) (sym y.1)))) (push_at ks k stripe j (ap (λ (l : List ℕ). slice_get l j) (sym is) ∙ b)))
+          (λ (x : (i ≡ length ks) × (k ≡ stripe)). ⊎_elim (λ (y : slice_get ks j ≡ Some stripe). absurd (none j (y ∙ ap (λ (z : ℕ). Some z) (sym x.1))))
+          (λ (y : (j ≡ length ks) × (k ≡ stripe)). x.0 ∙ sym y.0) (push_at ks k stripe j (ap (λ (l : List ℕ). slice_get l j) (sym is) ∙ b)))
+          (push_at ks k stripe i (ap (λ (l : List ℕ). slice_get l i) (sym is) ∙ a));
+      fits = λ i h at. ⊎_elim
+          (λ (x : slice_get held i ≡ Some h). λ q in_k. s.fits i h x q in_k ∙ sym (t.still q (subst (Holds v) (sym in_k) (holds_at n v held (now v.seen) s i h.stripe (stripe_at held i h x)))))
+          (λ (x : (i ≡ length held) × (new ≡ h)). subst (λ (y : Held). Fits n y.stripe y.part (now w.seen)) x.1 t.part_is.fits) (push_at held new h i at);
+    }
+
+-- The changes of a stripe.
+log_mine : (n k : ℕ) (job : Job) (jobs : List Job) → stripe_of n job.0 ≡ k → log_in n k (job ∷ jobs) ≡ (job.0 / n, job.1) ∷ log_in n k jobs
+log_mine n k job jobs is = ap (λ b. cond b ((job.0 / n, job.1) ∷ log_in n k jobs) (log_in n k jobs)) (eq-eqb (stripe_of n job.0) k is)
+
+log_other : (n k : ℕ) (job : Job) (jobs : List Job) → stripe_of n job.0 ≢ k → log_in n k (job ∷ jobs) ≡ log_in n k jobs
+log_other n k job jobs ne = ap (λ b. cond b ((job.0 / n, job.1) ∷ log_in n k jobs) (log_in n k jobs)) (ne_eqb (stripe_of n job.0) k ne)
+
+abbrev at_place : List ℕ → ℕ → Option ℕ
+at_place ks place = slice_get ks place
+
+abbrev of_job : ℕ → Job → Option ℕ
+of_job n job = Some (stripe_of n job.0)
+
+head_same : (a b : Option ℕ) (xs ys : List (Option ℕ)) → a ∷ xs ≡ b ∷ ys → a ≡ b
+head_same a b xs ys e = cc (e)
+
+tail_same : (a b : Option ℕ) (xs ys : List (Option ℕ)) → a ∷ xs ≡ b ∷ ys → xs ≡ ys
+tail_same a b xs ys e = cc (e)
+
+nil_cons : (a : Option ℕ) (xs : List (Option ℕ)) → [] ≡ a ∷ xs → ⊥
+nil_cons a xs e = cc (e)
+
+-- The newest change, and the place of its part.
+pub record Newest (n place : ℕ) (ks places : List ℕ) (jobs : List Job) : Type 0 where
+  pub job : Job
+  pub older : List Job
+  pub jobs_are : jobs ≡ job ∷ older
+  pub place_is : slice_get ks place ≡ Some (stripe_of n job.0)
+  pub ordered : map (at_place ks) places ≡ map (of_job n) older
+
+newest_of : (n place : ℕ) (ks places : List ℕ) (jobs : List Job) → map (at_place ks) (place ∷ places) ≡ map (of_job n) jobs → Newest n place ks places jobs
+newest_of n place ks places [] e = absurd (nil_cons (at_place ks place) (map (at_place ks) places) (sym e))
+newest_of n place ks places (job ∷ jobs) e = record {
+  job = job;
+  older = jobs;
+  jobs_are = refl;
+  place_is = head_same (at_place ks place) (of_job n job) (map (at_place ks) places) (map (of_job n) jobs) e;
+  ordered = tail_same (at_place ks place) (of_job n job) (map (at_place ks) places) (map (of_job n) jobs) e;
+}
+
+log_none : (n k : ℕ) (ks places : List ℕ) (jobs : List Job) → map (at_place ks) places ≡ map (of_job n) jobs → ((i : ℕ) → slice_get ks i ≢ Some k) → log_in n k jobs ≡ []
+log_none n k ks places [] e none = refl
+log_none n k ks [] (job ∷ jobs) e none = absurd (nil_cons (of_job n job) (map (of_job n) jobs) e)
+log_none n k ks (place ∷ places) (job ∷ jobs) e none = let first = newest_of n place ks places (job ∷ jobs) e in
+    let here : slice_get ks place ≡ Some (stripe_of n job.0) = head_same (at_place ks place) (of_job n job) (map (at_place ks) places) (map (of_job n) jobs) e in
+    log_other n k job jobs (λ is. none place (here ∙ ap (λ (x : ℕ). Some x) is)) ∙ log_none n k ks places jobs (tail_same (at_place ks place) (of_job n job) (map (at_place ks) places) (map (of_job n) jobs) e) none
+
+ordered_push : (n k : ℕ) (ks places : List ℕ) (jobs : List Job) → map (at_place ks) places ≡ map (of_job n) jobs → map (at_place (ks ++ k ∷ [])) places ≡ map (of_job n) jobs
+ordered_push n k ks [] jobs e = e
+ordered_push n k ks (place ∷ places) [] e = absurd (nil_cons (at_place ks place) (map (at_place ks) places) (sym e))
+ordered_push n k ks (place ∷ places) (job ∷ jobs) e =
+    let here : slice_get ks place ≡ Some (stripe_of n job.0) = head_same (at_place ks place) (of_job n job) (map (at_place ks) places) (map (of_job n) jobs) e in
+    let more = ordered_push n k ks places jobs (tail_same (at_place ks place) (of_job n job) (map (at_place ks) places) (map (of_job n) jobs) e) in
+    ap (λ (o : Option ℕ). o ∷ map (at_place (ks ++ k ∷ [])) places) (push_old ks k (stripe_of n job.0) place here) ∙ ap (λ (l : List (Option ℕ)). of_job n job ∷ l) more
+
+pub logged_taken : (n k : ℕ) (held : List Held) (order : List ℕ) (jobs : List Job) (part : PartAt) → AreLogged n held order jobs → ((i : ℕ) → slice_get (stripes_in held) i ≢ Some k) → part.log ≡ [] → AreLogged n (held ++ (record { stripe = k; part = part }) ∷ []) order jobs
+logged_taken n k held order jobs part s none empty = let new : Held = record { stripe = k; part = part } in let ks : List ℕ = stripes_in held in record {
+  logs = λ i h at. ⊎_elim (λ (x : slice_get held i ≡ Some h). s.logs i h x)
+      (λ (x : (i ≡ length held) × (new ≡ h)). subst (λ (y : Held). y.part.log ≡ log_in n y.stripe jobs) x.1 (empty ∙ sym (log_none n k ks (reverse order) jobs s.ordered none))) (push_at held new h i at);
+  ordered = ap (λ (l : List ℕ). map (at_place l) (reverse order)) (stripes_push held new) ∙ ordered_push n k ks (reverse order) jobs s.ordered;
+}
+
+-- The part at a place changes, and with it the map in its stripe.
+pub parts_changed : (n : ℕ) (v : View) (held : List Held) (m k : Map) → AreHeld n v held m → (j : ℕ) (h new : Held) → slice_get held j ≡ Some h → new.stripe ≡ h.stripe
+    → Fits n h.stripe new.part k → ((q : ℕ) → stripe_of n q ≢ h.stripe → get k q ≡ get m q) → AreHeld n v (set held j new) k
+parts_changed n v held m k s j h new at same fits still = let is = stripes_set held j h new at same in record {
+  kept = s.kept ∙ ap reverse (sym is);
+  apart = λ a b stripe x y. s.apart a b stripe (ap (λ (l : List ℕ). slice_get l a) (sym is) ∙ x) (ap (λ (l : List ℕ). slice_get l b) (sym is) ∙ y);
+  fits = λ i other there. ⊎_elim
+      (λ (t : (i ≡ j) × (new ≡ other)). subst (λ (y : Held). Fits n y.stripe y.part k) t.1 (subst (λ (stripe : ℕ). Fits n stripe new.part k) (sym same) fits))
+      (λ (t : (i ≢ j) × (slice_get held i ≡ Some other)). λ q in_k. s.fits i other t.1 q in_k
+      ∙ sym (still q (λ in_h. t.0 (s.apart i j h.stripe (stripe_at held i other t.1 ∙ ap (λ (x : ℕ). Some x) (sym in_k ∙ in_h)) (stripe_at held j h at))))) (set_place held j i new other there);
+}
+
+pub logged_changed : (n : ℕ) (v : View) (held : List Held) (m : Map) (order later : List ℕ) (jobs more : List Job) → AreHeld n v held m → AreLogged n held order jobs → (j : ℕ) (h new : Held) → slice_get held j ≡ Some h → new.stripe ≡ h.stripe
+    → new.part.log ≡ log_in n h.stripe more → ((k : ℕ) → k ≢ h.stripe → log_in n k more ≡ log_in n k jobs)
+    → map (at_place (stripes_in held)) (reverse later) ≡ map (of_job n) more → AreLogged n (set held j new) later more
+logged_changed n v held m order later jobs more p s j h new at same log still ordered = record {
+  logs = λ i other there. ⊎_elim
+      (λ (t : (i ≡ j) × (new ≡ other)). subst (λ (y : Held). y.part.log ≡ log_in n y.stripe more) t.1 (log ∙ ap (λ (k : ℕ). log_in n k more) (sym same)))
+      (λ (t : (i ≢ j) × (slice_get held i ≡ Some other)). s.logs i other t.1
+      ∙ sym (still other.stripe (λ in_h. t.0 (p.apart i j h.stripe (stripe_at held i other t.1 ∙ ap (λ (x : ℕ). Some x) in_h) (stripe_at held j h at))))) (set_place held j i new other there);
+  ordered = ap (λ (l : List ℕ). map (at_place l) (reverse later)) (stripes_set held j h new at same) ∙ ordered;
+}
+
+-- Keys of one stripe with one sub-key are the same.
+sub_apart : (n q key : ℕ) → stripe_of n q ≡ stripe_of n key → q ≢ key → q / n ≢ key / n
+sub_apart n q key same ne e = ne (sym (div-add-mod q n) ∙ ap (λ (x : ℕ). n * x + q % n) e ∙ ap (λ (x : ℕ). n * (key / n) + x) same ∙ div-add-mod key n)
+
+under_key : (op : Op) (s : ℕ) → key_of (under op s) ≡ s
+under_key (Put k value) s = refl
+under_key (Take k) s = refl
+under_key (Get k) s = refl
+under_key (PutIf k expected value) s = refl
+
+under_changes : (op : Op) (s : ℕ) (reply : Option ℕ) → changes (under op s) reply ≡ changes op reply
+under_changes (Put k value) s reply = refl
+under_changes (Take k) s reply = refl
+under_changes (Get k) s reply = refl
+under_changes (PutIf k expected value) s reply = refl
+
+put_if_same : (c m : Map) (s k value : ℕ) (a b : Bool) → a ≡ b → get c s ≡ get m k → get (cond a (insert c s value) c) s ≡ get (cond b (insert m k value) m) k
+put_if_same c m s k value true true e same = get-insert-here c s value ∙ sym (get-insert-here m k value)
+put_if_same c m s k value false false e same = same
+put_if_same c m s k value true false e same = absurd (false≢true (sym e))
+put_if_same c m s k value false true e same = absurd (false≢true e)
+
+after_here : (c m : Map) (op : Op) (s : ℕ) → get c s ≡ get m (key_of op) → get (after c (under op s)) s ≡ get (after m op) (key_of op)
+after_here c m (Put k value) s same = get-insert-here c s value ∙ sym (get-insert-here m k value)
+after_here c m (Take k) s same = get-remove-here c s ∙ sym (get-remove-here m k)
+after_here c m (Get k) s same = same
+after_here c m (PutIf k expected value) s same = put_if_same c m s k value _ _ (ap (λ (o : Option ℕ). option_eq nat_eq o expected) same) same
+
+-- An operation on a part is that on the map, in the part's stripe.
+sub_after : (n : ℕ) (c m : Map) (op : Op) (q : ℕ) → stripe_of n q ≡ stripe_of n (key_of op) → get c (q / n) ≡ get m q → get c (key_of op / n) ≡ get m (key_of op)
+    → get (after c (under op (key_of op / n))) (q / n) ≡ get (after m op) q
+sub_after n c m op q same at_q at_key = let s : ℕ = key_of op / n in dite (ℕ_discrete q (key_of op))
+    (λ (e : q ≡ key_of op). subst (λ (x : ℕ). get (after c (under op s)) (x / n) ≡ get (after m op) x) (sym e) (after_here c m op s at_key))
+    (λ ne. get-after_other c (under op s) (q / n) (λ e. sub_apart n q (key_of op) same ne (e ∙ under_key op s)) ∙ at_q ∙ sym (get-after_other m op q ne))
+
+pub parts_noted : (n : ℕ) (v : View) (held : List Held) (m : Map) → AreHeld n v held m → (j : ℕ) (h : Held) (part : PartAt) (op : Op) (reply : Option ℕ) → slice_get held j ≡ Some h → h.stripe ≡ stripe_of n (key_of op)
+    → Does h.part part (under op (key_of op / n)) reply → AreHeld n v (set held j (record { stripe = h.stripe; part = part })) (after m op)
+parts_noted n v held m s j h part op reply at in_k does = parts_changed n v held m (after m op) s j h (record { stripe = h.stripe; part = part }) at refl
+    (λ q in_h. ap (λ (c : Map). get c (q / n)) does.content_is ∙ sub_after n h.part.content m op q (in_h ∙ in_k) (s.fits j h at q in_h) (s.fits j h at (key_of op) (sym in_k)))
+    (λ q out. get-after_other m op q (λ e. out (ap (stripe_of n) e ∙ sym in_k)))
+
+-- The reply of a part is the map's.
+pub reply_right : (n : ℕ) (v : View) (held : List Held) (m : Map) → AreHeld n v held m → (j : ℕ) (h : Held) (part : PartAt) (op : Op) (reply : Option ℕ) → slice_get held j ≡ Some h → h.stripe ≡ stripe_of n (key_of op)
+    → Does h.part part (under op (key_of op / n)) reply → reply ≡ get m (key_of op)
+reply_right n v held m s j h part op reply at in_k does = does.reply_is ∙ ap (get h.part.content) (under_key op (key_of op / n)) ∙ s.fits j h at (key_of op) (sym in_k)
+
+log_split : (b : Bool) (n k : ℕ) (job : Job) (jobs : List Job) → stripe_of n job.0 ≢ k → log_in n k (cond b (job ∷ jobs) jobs) ≡ log_in n k jobs
+log_split true n k job jobs ne = log_other n k job jobs ne
+log_split false n k job jobs ne = refl
+
+log_grows : (b : Bool) (n k : ℕ) (job : Job) (jobs : List Job) → stripe_of n job.0 ≡ k → cond b ((job.0 / n, job.1) ∷ log_in n k jobs) (log_in n k jobs) ≡ log_in n k (cond b (job ∷ jobs) jobs)
+log_grows true n k job jobs is = sym (log_mine n k job jobs is)
+log_grows false n k job jobs is = refl
+
+order_grows : (b : Bool) (n j : ℕ) (ks order : List ℕ) (job : Job) (jobs : List Job) → slice_get ks j ≡ Some (stripe_of n job.0) → map (at_place ks) (reverse order) ≡ map (of_job n) jobs
+    → map (at_place ks) (reverse (cond b (order ++ j ∷ []) order)) ≡ map (of_job n) (cond b (job ∷ jobs) jobs)
+order_grows true n j ks order job jobs at e = ap (map (at_place ks)) (reverse-append order (j ∷ [])) ∙ ap (λ (o : Option ℕ). o ∷ map (at_place ks) (reverse order)) at ∙ ap (λ (l : List (Option ℕ)). of_job n job ∷ l) e
+order_grows false n j ks order job jobs at e = e
+
+pub logged_noted : (n : ℕ) (v : View) (held : List Held) (m : Map) (order : List ℕ) (jobs : List Job) → AreHeld n v held m → AreLogged n held order jobs → (j : ℕ) (h : Held) (part : PartAt) (op : Op) (reply : Option ℕ) → slice_get held j ≡ Some h
+    → h.stripe ≡ stripe_of n (key_of op) → Does h.part part (under op (key_of op / n)) reply
+    → AreLogged n (set held j (record { stripe = h.stripe; part = part })) (cond (changes op reply) (order ++ j ∷ []) order) (cond (changes op reply) ((key_of op, reply) ∷ jobs) jobs)
+logged_noted n v held m order jobs p s j h part op reply at in_k does = let b : Bool = changes op reply in let job : Job = (key_of op, reply) in let sub : ℕ = key_of op / n in
+    logged_changed n v held m order (cond b (order ++ j ∷ []) order) jobs (cond b (job ∷ jobs) jobs) p s j h (record { stripe = h.stripe; part = part }) at refl
+    (does.log_is ∙ ap (λ (c : Bool). cond c ((key_of (under op sub), reply) ∷ h.part.log) h.part.log) (under_changes op sub reply) ∙ ap (λ (x : ℕ). cond b ((x, reply) ∷ h.part.log) h.part.log) (under_key op sub)
+    ∙ ap (λ (l : List Job). cond b ((sub, reply) ∷ l) l) (s.logs j h at) ∙ log_grows b n h.stripe job jobs (sym in_k))
+    (λ k ne. log_split b n k job jobs (λ e. ne (sym e ∙ sym in_k)))
+    (order_grows b n j (stripes_in held) order job jobs (stripe_at held j h at ∙ ap (λ (x : ℕ). Some x) in_k) s.ordered)
+
+-- The newest change, where the order ends in the place of its part.
+pub newest : (n : ℕ) (held : List Held) (order : List ℕ) (place : ℕ) (jobs : List Job) → AreLogged n held (order ++ place ∷ []) jobs → Newest n place (stripes_in held) (reverse order) jobs
+newest n held order place jobs s = newest_of n place (stripes_in held) (reverse order) jobs (ap (map (at_place (stripes_in held))) (sym (reverse-append order (place ∷ []))) ∙ s.ordered)
+
+-- The log of its part begins with it.
+pub newest_log : (n : ℕ) (held : List Held) (order : List ℕ) (place : ℕ) (jobs : List Job) (s : AreLogged n held (order ++ place ∷ []) jobs) (h : Held) → slice_get held place ≡ Some h
+    → let new = newest n held order place jobs s in h.part.log ≡ (new.job.0 / n, new.job.1) ∷ log_in n h.stripe new.older
+newest_log n held order place jobs s h at = let new = newest n held order place jobs s in
+    let in_k : stripe_of n new.job.0 ≡ h.stripe = some_same _ _ (sym new.place_is ∙ stripe_at held place h at) in
+    s.logs place h at ∙ ap (log_in n h.stripe) new.jobs_are ∙ log_mine n h.stripe new.job new.older in_k
+
+-- It is taken back.
+pub parts_back : (n : ℕ) (v : View) (held : List Held) (m : Map) → AreHeld n v held m → (j : ℕ) (h : Held) (part : PartAt) (job : Job) (older : List Job) → slice_get held j ≡ Some h → h.stripe ≡ stripe_of n job.0
+    → TakesBack h.part part (job.0 / n) job.1 older → AreHeld n v (set held j (record { stripe = h.stripe; part = part })) (set_at m job.0 job.1)
+parts_back n v held m s j h part job older at in_k back = parts_changed n v held m (set_at m job.0 job.1) s j h (record { stripe = h.stripe; part = part }) at refl
+    (λ q in_h. ap (λ (c : Map). get c (q / n)) back.content_is ∙ get-set_at h.part.content (job.0 / n) job.1 (q / n) ∙ dite (ℕ_discrete q job.0)
+    (λ (e : q ≡ job.0). ap (λ b. cond b job.1 (get h.part.content (q / n))) (eq-eqb (q / n) (job.0 / n) (ap (λ (x : ℕ). x / n) e)) ∙ sym (get-set_at m job.0 job.1 q ∙ ap (λ b. cond b job.1 (get m q)) (eq-eqb q job.0 e)))
+    (λ ne. ap (λ b. cond b job.1 (get h.part.content (q / n))) (ne_eqb (q / n) (job.0 / n) (sub_apart n q job.0 (in_h ∙ in_k) ne)) ∙ s.fits j h at q in_h ∙ sym (get-set_at m job.0 job.1 q ∙ ap (λ b. cond b job.1 (get m q)) (ne_eqb q job.0 ne))))
+    (λ q out. get-set_at m job.0 job.1 q ∙ ap (λ b. cond b job.1 (get m q)) (ne_eqb q job.0 (λ e. out (ap (stripe_of n) e ∙ sym in_k))))
+
+pub logged_back : (n : ℕ) (v : View) (held : List Held) (m : Map) (order : List ℕ) (jobs : List Job) → AreHeld n v held m → (j : ℕ) (s : AreLogged n held (order ++ j ∷ []) jobs) (h : Held) (part : PartAt) → slice_get held j ≡ Some h
+    → let new = newest n held order j jobs s in part.log ≡ log_in n h.stripe new.older → AreLogged n (set held j (record { stripe = h.stripe; part = part })) order new.older
+logged_back n v held m order jobs p j s h part at log = let new = newest n held order j jobs s in
+    let in_k : stripe_of n new.job.0 ≡ h.stripe = some_same _ _ (sym new.place_is ∙ stripe_at held j h at) in
+    logged_changed n v held m (order ++ j ∷ []) order jobs new.older p s j h (record { stripe = h.stripe; part = part }) at refl log
+    (λ k ne. sym (ap (log_in n k) new.jobs_are ∙ log_other n k new.job new.older (λ e. ne (sym e ∙ in_k)))) new.ordered
+
+removed_first : (k : ℕ) (ks : List ℕ) → removed k (k ∷ ks) ≡ ks
+removed_first k ks = ap (λ b. cond b ks (k ∷ removed k ks)) (eq-eqb k k refl)
+
+-- The newest part is given back.
+pub newest_stripe : (n : ℕ) (v : View) (held : List Held) (m : Map) (h : Held) → AreHeld n v (held ++ h ∷ []) m → Holds v h.stripe
+newest_stripe n v held m h s = holds_at n v (held ++ h ∷ []) m s (length held) h.stripe (stripe_at (held ++ h ∷ []) (length held) h (push_last held h))
+
+pub newest_fits : (n : ℕ) (v : View) (held : List Held) (m : Map) (h : Held) → AreHeld n v (held ++ h ∷ []) m → Fits n h.stripe h.part m
+newest_fits n v held m h s = s.fits (length held) h (push_last held h)
+
+pub parts_given : (n : ℕ) (v : View) (held : List Held) (m : Map) (h : Held) → AreHeld n v (held ++ h ∷ []) m → AreHeld n (lost v h.stripe) held m
+parts_given n v held m h s = let ks : List ℕ = stripes_in held in let is = stripes_push held h in record {
+  kept = ap (removed h.stripe) (s.kept ∙ ap reverse is ∙ reverse-append ks (h.stripe ∷ [])) ∙ removed_first h.stripe (reverse ks);
+  apart = λ i j stripe a b. s.apart i j stripe (ap (λ (l : List ℕ). slice_get l i) is ∙ push_old ks h.stripe stripe i a) (ap (λ (l : List ℕ). slice_get l j) is ∙ push_old ks h.stripe stripe j b);
+  fits = λ i other at. s.fits i other (push_old held h other i at);
+}
+
+-- Nothing is held.
+pub parts_none : (n : ℕ) (v : View) (m : Map) → v.held ≡ [] → AreHeld n v [] m
+parts_none n v m is = record { kept = is; apart = λ i j k a b. absurd (none_some k a); fits = λ i h at. absurd (none_some h at) }
+
+pub logged_none : (n : ℕ) (held : List Held) → ((i : ℕ) (h : Held) → slice_get held i ≡ Some h → ⊥) → AreLogged n held [] []
+logged_none n held none = record { logs = λ i h at. absurd (none i h at); ordered = refl }
+
+-- The caller's own entries after the history went on.
+pub own_extends : (n c : ℕ) (seen es log : List Entry) → Extends n c seen es log → own c es ≡ es → own c log ≡ own c seen ++ es
+own_extends n c seen es log x whole =
+    ap (own c) x.goes ∙ own-append c (seen ++ x.between) es ∙ ap (λ (l : List Entry). l ++ own c es) (own-append c seen x.between ∙ ap (λ (l : List Entry). own c seen ++ l) x.others ∙ append-nil (own c seen))
+    ∙ ap (λ (l : List Entry). own c seen ++ l) whole
+
+pub own_same : (n c : ℕ) (seen log : List Entry) → Extends n c seen [] log → own c log ≡ own c seen
+own_same n c seen log x = own_extends n c seen [] log x refl ∙ append-nil (own c seen)
+
+-- One step after another.
+pub extends_then : (n c : ℕ) (seen mid es log : List Entry) → Extends n c seen [] mid → Extends n c mid es log → Extends n c seen es log
+extends_then n c seen mid es log a b = record {
+  between = a.between ++ b.between;
+  goes = b.goes ∙ ap (λ (l : List Entry). (l ++ b.between) ++ es) (a.goes ∙ append-nil (seen ++ a.between)) ∙ ap (λ (l : List Entry). l ++ es) (append_assoc seen a.between b.between);
+  others = own-none c a.between b.between a.others b.others;
+  legal = b.legal;
+}
+
+pub extends_none : (n c : ℕ) (seen : List Entry) → IsLegal Begun n seen → Extends n c seen [] seen
+extends_none n c seen legal = record { between = []; goes = sym (append-nil (seen ++ []) ∙ append-nil seen); others = refl; legal = legal }
+
+-- One change less is to be taken back.
+pub back_step : (m : Map) (left less : ℕ) (jobs older : List Job) (job : Job) → left ≡ suc less → jobs ≡ job ∷ older
+    → (undone (set_at m job.0 job.1) (take less older) ≡ undone m (take left jobs)) × (drop less older ≡ drop left jobs)
+back_step m left less jobs older job e f = subst (λ (l : ℕ). (undone (set_at m job.0 job.1) (take less older) ≡ undone m (take l jobs)) × (drop less older ≡ drop l jobs)) (sym e)
+    (subst (λ (js : List Job). (undone (set_at m job.0 job.1) (take less older) ≡ undone m (take (suc less) js)) × (drop less older ≡ drop (suc less) js)) (sym f) (refl, refl))
+
+-- No change is left to be taken back.
+pub back_done : (m : Map) (left : ℕ) (jobs : List Job) → left ≡ 0 → (undone m (take left jobs) ≡ m) × (drop left jobs ≡ jobs)
+back_done m left jobs e = subst (λ (l : ℕ). (undone m (take l jobs) ≡ m) × (drop l jobs ≡ jobs)) (sym e) (refl, refl)
+
+-- A part that is refused says why an operation is.
+pub short_of : (op : Op) (refusal : Refusal) → IsRefused op refusal → IsShort op refusal
+short_of op NoMemory is = tt
+short_of op StampsUsedUp is = is
+short_of op _ is = absurd is

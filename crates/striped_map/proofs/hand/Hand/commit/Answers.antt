@@ -1,0 +1,38 @@
+use Rattle.std.proofs.Common.{◌≡◌, ℕ, List, [], ◌∷◌, refl, sym, ap, subst, ◌∙◌}
+use Rattle.txn_trace.specs.declared.seat.Phase.TheVariants.{Closed}
+use Rattle.txn_trace.specs.Now.{now}
+use Rattle.striped_map.specs.declared.view.View.{View}
+use Rattle.striped_map.specs.Seats.{known}
+use Rattle.striped_map.specs.Sound.{IsSound}
+use Rattle.striped_map.specs.Steps.{at_end}
+use Rattle.striped_map.proofs.Ends.{moved_idle}
+use Rattle.striped_map.proofs.Hands.{parts_on}
+use Rattle.striped_map.proofs.Sounds.{sound_ended, sound_lists, at_added, at_idle}
+use Rattle.striped_map.proofs.hand.Hand.commit.Goals as goal
+
+pub give_all-requires-clause-over : goal.give_all-requires-clause-over
+give_all-requires-clause-over c = let v = known c.args.self.now.seat in let w = known c.commit-place.new.seat in let a = c.commit-place.ensures.committed.2 in
+    at_added _ v w _ (at_end (now v.seen)) Closed a refl
+
+pub give_all-requires-clause-parts : goal.give_all-requires-clause-parts
+give_all-requires-clause-parts c = let me = c.args.self.now in let n = c.args.map.now.table.shared.table_id.slots in let v = known me.seat in let w = known c.commit-place.new.seat in let a = c.commit-place.ensures.committed.2 in
+    let s : IsSound n v me.held.items me.order.items me.levels.items = subst (λ z. IsSound z.slots v me.held.items me.order.items me.levels.items) c.requires.map me.sound in
+    parts_on n v w me.held.items (now v.seen) (now w.seen) s.parts (ap (λ (x : View). x.held) a.view_is) a.have
+
+pub invariant_of-self : goal.invariant_of-self
+invariant_of-self c = let me = c.args.self.now in let n = c.args.map.now.table.shared.table_id.slots in let v = known me.seat in let w = known c.commit-place.new.seat in let u = known c.give_all.new.seat in let a = c.commit-place.ensures.committed.2 in
+    record {
+      sound = subst (λ z. IsSound z.slots u c.give_all.new.held.items c.clear.new.self.items c.clear-2.new.self.items) (sym c.give_all.ensures.map)
+          (sound_lists n u _ _ _ c.give_all.ensures.none c.clear.ensures.items c.clear-2.ensures.items (sound_ended n v w u _ (now v.seen) me.sound.plain a c.give_all.ensures.idle));
+    }
+
+pub returns-clause-closed : goal.returns-clause-closed
+returns-clause-closed c = let v = known c.args.self.now.seat in let w = known c.commit-place.new.seat in let u = known c.give_all.new.seat in let a = c.commit-place.ensures.committed.2 in
+    at_idle Closed w u (at_added _ v w _ (at_end (now v.seen)) Closed a refl) c.give_all.ensures.idle
+
+pub returns-clause-idle : goal.returns-clause-idle
+returns-clause-idle c = ap (λ (v : View). v.held) c.give_all.ensures.idle
+
+pub returns-clause-committed : goal.returns-clause-committed
+returns-clause-committed c = let p = c.commit-place.ensures.committed in let w = known c.commit-place.new.seat in
+    (p.0, p.1, moved_idle _ _ _ w _ _ p.2 c.give_all.ensures.idle)

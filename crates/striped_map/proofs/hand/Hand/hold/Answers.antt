@@ -1,0 +1,40 @@
+use Rattle.std.proofs.Common.{◌≡◌, ◌≢◌, ℕ, ◌+◌, List, [], ◌∷◌, ◌++◌, Some, slice_get, length, sym, ap, subst, ◌∙◌, arith}
+use Rattle.txn_trace.specs.Now.{now}
+use Rattle.striped_map.specs.declared.held.Held.{Held}
+use Rattle.striped_map.specs.Seats.{known}
+use Rattle.striped_map.specs.Sound.{IsSound, stripes_in}
+use Rattle.striped_map.proofs.Hands.{not_held, push_last, stripe_at}
+use Rattle.striped_map.proofs.Sounds.{sound_taken, sound_seen}
+use Rattle.striped_map.proofs.hand.Hand.hold.Goals as goal
+
+pub take-requires-clause-free : goal.take-requires-clause-free
+take-requires-clause-free c = let me = c.args.self.now in let n = me.seat.seat.table_id.slots in let v = known me.seat in
+    not_held n v me.held.items (now v.seen) me.sound.parts c.args.stripe (c.place_of.ensures.none c.in_default.is)
+
+pub invariant_of-self-in-Granted : goal.invariant_of-self-in-Granted
+invariant_of-self-in-Granted c = let me = c.args.self.now in let n = c.args.map.now.table.shared.table_id.slots in let v = known me.seat in let w = known c.take.new.seat in let k = c.args.stripe in
+    let s : IsSound n v me.held.items me.order.items me.levels.items = subst (λ z. IsSound z.slots v me.held.items me.order.items me.levels.items) c.requires.map me.sound in
+    let new : Held = record { stripe = k; part = c.in-Granted.part } in
+    let items : c.push_reserved.new.self.items ≡ me.held.items ++ new ∷ [] = c.push_reserved.ensures.items ∙ ap (λ (l : List Held). l ++ new ∷ []) c.reserve.ensures.items in
+    record {
+      sound = subst (λ z. IsSound z.slots w c.push_reserved.new.self.items me.order.items me.levels.items) (sym c.take.ensures.seat)
+          (subst (λ (l : List Held). IsSound n w l me.order.items me.levels.items) (sym items)
+          (sound_taken n k v w me.held.items me.order.items me.levels.items c.in-Granted.part s (c.place_of.ensures.none c.in_default.is) c.in-Granted.ensures.taken));
+    }
+
+pub invariant_of-self-in-Denied-1 : goal.invariant_of-self-in-Denied-1
+invariant_of-self-in-Denied-1 c = let me = c.args.self.now in let n = c.args.map.now.table.shared.table_id.slots in let v = known me.seat in let w = known c.take.new.seat in
+    let s : IsSound n v me.held.items me.order.items me.levels.items = subst (λ z. IsSound z.slots v me.held.items me.order.items me.levels.items) c.requires.map me.sound in
+    record {
+      sound = subst (λ z. IsSound z.slots w c.reserve.new.self.items me.order.items me.levels.items) (sym c.take.ensures.seat)
+          (subst (λ (l : List Held). IsSound n w l me.order.items me.levels.items) (sym c.reserve.ensures.items)
+          (sound_seen n v w me.held.items me.order.items me.levels.items s c.in-Denied.ensures.taken.sees));
+    }
+
+pub returns-in-Granted-clause-held : goal.returns-in-Granted-clause-held
+returns-in-Granted-clause-held c = let me = c.args.self.now in let k = c.args.stripe in
+    let new : Held = record { stripe = k; part = c.in-Granted.part } in
+    let items : c.push_reserved.new.self.items ≡ me.held.items ++ new ∷ [] = c.push_reserved.ensures.items ∙ ap (λ (l : List Held). l ++ new ∷ []) c.reserve.ensures.items in
+    let long : length me.held.items ≡ c.len-place.result = (let l = c.len-place.ensures in let r = c.reserve.ensures.len in let o = me.held.ok.0 in omega arith) in
+    subst (λ (l : List Held). slice_get (stripes_in l) c.len-place.result ≡ Some k) (sym items)
+    (subst (λ (i : ℕ). slice_get (stripes_in (me.held.items ++ new ∷ [])) i ≡ Some k) long (stripe_at (me.held.items ++ new ∷ []) (length me.held.items) new (push_last me.held.items new)))

@@ -1,0 +1,23 @@
+use Rattle.std.proofs.Common.{◌≡◌, ℕ, ◌+◌, List, [], ◌∷◌, ◌++◌, length, sym, ap, subst, ◌∙◌, arith}
+use Rattle.txn_trace.specs.Now.{now}
+use Rattle.striped_map.specs.Additions.{due}
+use Rattle.striped_map.specs.Seats.{known}
+use Rattle.striped_map.specs.Sound.{IsSound}
+use Rattle.striped_map.specs.Steps.{saving, seat_of}
+use Rattle.striped_map.proofs.Lands.{may_save}
+use Rattle.striped_map.proofs.Sounds.{sound_added, standing_is, order_length}
+use Rattle.striped_map.proofs.hand.Hand.save.Goals as goal
+
+pub add-requires-clause-may : goal.add-requires-clause-may
+add-requires-clause-may c = let seat = c.args.self.now.seat in let at = c.requires.open in may_save _ (known seat) seat.acting _ at.seat_is at.phase_is
+
+pub invariant_of-self-2 : goal.invariant_of-self-2
+invariant_of-self-2 c = let me = c.args.self.now in let n = c.args.map.now.table.shared.table_id.slots in let v = known me.seat in let w = known c.add.new.seat in
+    let s : IsSound n v me.held.items me.order.items me.levels.items = subst (λ z. IsSound z.slots v me.held.items me.order.items me.levels.items) c.requires.map me.sound in
+    let many : (seat_of v).standing ≡ c.len.result = (let l = c.len.ensures in let o = me.order.ok.0 in let st = standing_is v s.seat_is in let ol = order_length n me.held.items me.order.items (due v) s.logged in omega arith) in
+    let levels : c.push_reserved.new.self.items ≡ me.levels.items ++ c.len.result ∷ [] = c.push_reserved.ensures.items ∙ ap (λ (l : List ℕ). l ++ c.len.result ∷ []) c.reserve.ensures.items in
+    let kept = ap (λ (l : List ℕ). l ++ (seat_of v).standing ∷ []) s.levelled ∙ ap (λ (x : ℕ). (0 ∷ me.levels.items) ++ x ∷ []) many ∙ ap (λ (l : List ℕ). 0 ∷ l) (sym levels) in
+    record {
+      sound = subst (λ z. IsSound z.slots w me.held.items me.order.items c.push_reserved.new.self.items) (sym c.add.ensures.seat)
+          (sound_added n v w _ (saving v (seat_of v)) me.held.items me.order.items c.push_reserved.new.self.items s.plain c.add.ensures.added s.parts s.logged kept);
+    }

@@ -1,0 +1,18 @@
+use Rattle.std.proofs.Common.{Result, Ok, Err, OnOk, OnErr, ℕ, [], ◌∷◌}
+use Rattle.txn_trace.specs.declared.entry.Entry.TheVariants.{Saved}
+use Rattle.striped_map.specs.declared.caller.Caller.{Caller}
+use Rattle.striped_map.specs.declared.stop.Stop.{Stop}
+use Rattle.striped_map.specs.Callers.{number, IsStep, IsWithin}
+use Rattle.striped_map.proofs.Within.{within_then, within_saved, within_none}
+use Rattle.striped_map.proofs.transaction.Transaction.save.Goals as goal
+
+within_save : (a b : Caller) (r : Result ℕ Stop) → OnOk r (IsStep a (Saved (number a) ∷ []) b) → OnErr r (IsStep a [] b) → IsWithin a b
+within_save a b (Ok level) ok err = within_saved a b ok
+within_save a b (Err stop) ok err = within_none a b err
+
+split : (a b : Caller) (r : Result ℕ Stop) (P : Type 0) → OnErr r (P × IsStep a [] b) → OnErr r (IsStep a [] b)
+split a b (Ok level) P h = tt
+split a b (Err stop) P h = h.1
+
+pub invariant_of-self : goal.invariant_of-self
+invariant_of-self c = let t = c.args.self.now in record { within = within_then _ _ _ t.within (within_save t.me.now c.save.new.self c.save.result c.save.ensures.ok (split t.me.now c.save.new.self c.save.result _ c.save.ensures.unchanged)) }

@@ -1,0 +1,48 @@
+-- Which entries a caller may add to the history.
+use Rattle.std.specs.Prelude.{◌≡◌, ◌≢◌, ℕ, ◌+◌, ◌<◌, ◌⊎◌, List, [], ◌++◌, Option, Some}
+use Rattle.txn_trace.specs.declared.entry.Entry.{Entry}
+use Rattle.txn_trace.specs.declared.holder.Holder.TheVariants.{Begun}
+use Rattle.txn_trace.specs.History.{is_commit}
+use Rattle.txn_trace.specs.Map.{get}
+use Rattle.txn_trace.specs.Now.{now}
+use Rattle.txn_trace.specs.Locks.{stripe_of, holder_of}
+use Rattle.txn_trace.specs.Shape.{own, how_many, seat_after}
+use Rattle.txn_trace.specs.Log.{log_of}
+use Rattle.txn_trace.specs.Legal.{IsLegal}
+use Rattle.striped_map.specs.declared.view.View.{View}
+use Rattle.striped_map.specs.Rule.{Holds, HasSeen}
+use Rattle.striped_map.specs.Steps.{Standing}
+
+-- A legal history goes on with entries of caller c alone, some of them commits, which change
+-- nothing but in the stripes that P names.
+pub record Grows (stripes c : ℕ) (P : ℕ → Type 0) (commits_more : ℕ) (log es : List Entry) : Type 0
+  where
+    pub legal : IsLegal Begun stripes (log ++ es)
+    pub others : (d : ℕ) → d ≢ c → own d es ≡ []
+    pub commits : how_many is_commit (log ++ es) ≡ how_many is_commit log + commits_more
+    pub holders : (stripe d : ℕ) → holder_of stripes stripe (log ++ es) ≡ Some d
+        → (holder_of stripes stripe log ≡ Some d) ⊎ ((d ≡ c) × P stripe)
+    pub still : (key : ℕ) → (P (stripe_of stripes key) → ⊥)
+        → get (now (log ++ es)) key ≡ get (now log) key
+
+-- The history goes on from what the seat has seen, and only the seat holds its stripes there.
+pub record GoesOn (stripes : ℕ) (v : View) (log : List Entry) : Type 0 where
+  pub legal : IsLegal Begun stripes log
+  pub seen : HasSeen stripes log v
+  pub own_only : (stripe d : ℕ) → Holds v stripe → holder_of stripes stripe log ≡ Some d
+      → d ≡ v.number
+  pub mine : (stripe : ℕ) → stripe < stripes → holder_of stripes stripe log ≡ Some v.number
+      → Holds v stripe
+
+-- Such entries leave this of caller c, and of the stripes that P names.
+pub record Lands (stripes c : ℕ) (P : ℕ → Type 0) (commits_more : ℕ) (log es : List Entry)
+    (left : Standing) : Type 0 where
+  pub grows : Grows stripes c P commits_more log es
+  pub seat_is : seat_after (own c (log ++ es)) ≡ Some left.seat
+  pub log_is : log_of c (log ++ es) ≡ left.log
+  pub have : (key : ℕ) → P (stripe_of stripes key) → get (now (log ++ es)) key ≡ get left.map key
+
+-- The entries may be added to any such history, and leave this.
+abbrev pub MayAdd : ℕ → View → List Entry → Standing → Type 0
+MayAdd stripes v es left = (log : List Entry) → GoesOn stripes v log
+    → Lands stripes v.number (Holds v) 0 log es left

@@ -1,0 +1,85 @@
+-- What the calls of a caller add to the history.
+use Rattle.std.specs.Prelude.{◌≡◌, ℕ, ◌-◌, ◌%◌, ◌^◌, List, [], ◌∷◌, length, Some, slice_get, true, false, Option}
+use Rattle.txn_trace.specs.declared.entry.Entry.{Entry}
+use Rattle.txn_trace.specs.declared.entry.Entry.TheVariants.{Began, Committed, Busy as BusyEntry, Aborted}
+use Rattle.txn_trace.specs.declared.op.Op.{Op}
+use Rattle.txn_trace.specs.declared.refusal.Refusal.TheVariants.{NotOpen}
+use Rattle.txn_trace.specs.History.{is_began, is_commit}
+use Rattle.txn_trace.specs.Shape.{own, how_many}
+use Rattle.striped_map.specs.declared.caller.Caller.{Caller}
+use Rattle.striped_map.specs.declared.map.StripedMap.{StripedMap}
+use Rattle.striped_map.specs.declared.stop.Stop.{Stop}
+use Rattle.striped_map.specs.declared.stop.Stop.TheVariants.{Busy, Refused}
+use Rattle.striped_map.specs.Additions.{due, above}
+use Rattle.striped_map.specs.Handling.{IsShort}
+use Rattle.striped_map.specs.Steps.{Extends, seat_of, undoing}
+use Rattle.striped_map.specs.Seats.{known, stripes_of}
+
+-- The caller's number.
+abbrev pub number : Caller → ℕ
+number c = (known c.hand.seat).number
+
+-- The beginning of the history that it has seen.
+abbrev pub seen : Caller → List Entry
+seen c = (known c.hand.seat).seen
+
+-- How many stripes its map has.
+abbrev pub stripes_in : Caller → ℕ
+stripes_in c = stripes_of c.map.value
+
+-- How many savepoints its transaction has.
+abbrev pub levels : Caller → ℕ
+levels c = length (seat_of (known c.hand.seat)).kept - 1
+
+-- The changes of its transaction, newest first, and those since a level's savepoint.
+abbrev pub changes : Caller → List (ℕ × Option ℕ)
+changes c = due (known c.hand.seat)
+
+abbrev pub changes_above : ℕ → Caller → List (ℕ × Option ℕ)
+changes_above level c = above level (known c.hand.seat)
+
+-- The same caller of the same map: others may have added entries, and then it has added these.
+pub record IsStep (a : Caller) (es : List Entry) (b : Caller) : Type 0 where
+  pub map_is : b.map ≡ a.map
+  pub number_is : number b ≡ number a
+  pub goes : Extends (stripes_in a) (number a) (seen a) es (seen b)
+
+-- An operation was not done. Busy: another caller, which has begun a transaction before, held the
+-- stripe, and the transaction is aborted. NotOpen: there is no transaction. Any other refusal:
+-- memory or a stamp was refused, and the transaction is unchanged.
+abbrev pub IsStopped : Caller → Op → Caller → Stop → Type 0
+IsStopped a op b (Busy holder) = (a.is_open ≡ true) × (b.is_open ≡ false)
+    × IsStep a (BusyEntry (number a) op holder
+    ∷ undoing (number a) (changes a) (Aborted (number a))) b
+IsStopped a op b (Refused NotOpen) = (a.is_open ≡ false) × (b ≡ a)
+IsStopped a op b (Refused refusal) = IsShort op refusal × (a.is_open ≡ true)
+    × (b.is_open ≡ true) × IsStep a [] b
+
+-- The same caller of the same map, which has seen more, and committed nothing.
+pub record IsSince (a b : Caller) : Type 0 where
+  pub map_is : b.map ≡ a.map
+  pub number_is : number b ≡ number a
+  pub goes : (i : ℕ) (e : Entry) → slice_get (seen a) i ≡ Some e → slice_get (seen b) i ≡ Some e
+  pub commits : how_many is_commit (own (number a) (seen b)) ≡ how_many is_commit (own (number a) (seen a))
+
+-- And it began nothing.
+pub record IsWithin (a b : Caller) : Type 0 where
+  pub since : IsSince a b
+  pub begins : how_many is_began (own (number a) (seen b)) ≡ how_many is_began (own (number a) (seen a))
+
+-- One transaction that committed: it began from b, the work took it from t to u, and it ends in l.
+pub record IsRun (b t u l : Caller) (found : ℕ) : Type 0 where
+  pub txn : ℕ
+  pub began : IsStep b (Began (number b) txn ∷ []) t
+  pub works : IsWithin t u
+  pub place : ℕ
+  pub found_is : found ≡ place % 2 ^ 64
+  pub committed : IsStep u (Committed (number b) place ∷ []) l
+
+-- A caller of this map, with this number, which has done nothing yet.
+pub record IsNew (map : StripedMap) (stripes number_is : ℕ) (c : Caller) : Type 0 where
+  pub map_is : c.map.value ≡ map
+  pub stripes_are : stripes_in c ≡ stripes
+  pub numbered : number c ≡ number_is
+  pub closed : c.is_open ≡ false
+  pub unseen : seen c ≡ []

@@ -1,0 +1,43 @@
+-- Operations on parts, and what they meet.
+use Rattle.std.specs.Prelude.{◌≡◌, ◌≢◌, ℕ, [], true}
+use Rattle.txn_trace.specs.declared.op.Op.{Op}
+use Rattle.txn_trace.specs.declared.op.Op.TheVariants.{Put, Take, Get, PutIf}
+use Rattle.txn_trace.specs.declared.refusal.Refusal.{Refusal}
+use Rattle.txn_trace.specs.declared.refusal.Refusal.TheVariants.{NoMemory, StampsUsedUp}
+use Rattle.txn_trace.specs.Owed.{may_change}
+use Rattle.txn_trace.specs.Locks.{has_begun}
+use Rattle.striped_map.specs.declared.view.View.{View}
+use Rattle.striped_map.specs.declared.addition.Addition.{Addition}
+use Rattle.striped_map.specs.declared.addition.Addition.TheVariants.{Abort, Yield}
+use Rattle.striped_map.specs.declared.stop.Stop.{Stop}
+use Rattle.striped_map.specs.declared.stop.Stop.TheVariants.{Busy, Refused}
+
+-- The operation under another key.
+abbrev pub under : Op → ℕ → Op
+under (Put k value) key = Put key value
+under (Take k) key = Take key
+under (Get k) key = Get key
+under (PutIf k expected value) key = PutIf key expected value
+
+-- The seat holds no stripe.
+abbrev pub idle : View → View
+idle v = record v { held = [] }
+
+-- Why a stripe was not taken: another caller, which has begun a transaction, had it, or memory was
+-- refused.
+abbrev pub IsMiss : View → Stop → Type 0
+IsMiss v (Busy holder) = (has_begun holder v.seen ≡ true) × (holder ≢ v.number)
+IsMiss v (Refused refusal) = refusal ≡ NoMemory
+
+-- An end of a transaction that takes all back: an abort, or for another caller that was found, which
+-- has begun a transaction.
+abbrev pub IsEnd : View → Addition → Type 0
+IsEnd v Abort = Unit {0}
+IsEnd v (Yield op holder) = (has_begun holder v.seen ≡ true) × (holder ≢ v.number)
+IsEnd v _ = ⊥
+
+-- Why an operation may be refused: memory, or a stamp where it may be a change.
+abbrev pub IsShort : Op → Refusal → Type 0
+IsShort op NoMemory = Unit {0}
+IsShort op StampsUsedUp = may_change op ≡ true
+IsShort op refusal = ⊥

@@ -1,0 +1,30 @@
+-- What the calls of a hand leave.
+use Rattle.std.specs.Prelude.{◌≡◌, List, [], ◌∷◌}
+use Rattle.txn_trace.specs.declared.entry.Entry.{Entry}
+use Rattle.txn_trace.specs.declared.entry.Entry.TheVariants.{Busy as BusyEntry, Aborted}
+use Rattle.txn_trace.specs.declared.op.Op.{Op}
+use Rattle.txn_trace.specs.declared.seat.Phase.TheVariants.{Closed, Opened}
+use Rattle.striped_map.specs.Handling.{IsShort}
+use Rattle.striped_map.specs.declared.hand.Hand.{Hand}
+use Rattle.striped_map.specs.declared.map.StripedMap.{StripedMap}
+use Rattle.striped_map.specs.Seats.{known, stripes_of}
+use Rattle.striped_map.specs.Steps.{Extends, IsAt, undoing}
+use Rattle.striped_map.specs.Additions.{due}
+use Rattle.striped_map.specs.declared.stop.Stop.{Stop}
+use Rattle.striped_map.specs.declared.stop.Stop.TheVariants.{Busy, Refused}
+
+-- The same caller: others may have added entries, and then it has added these.
+pub record Moves (map : StripedMap) (a : Hand) (es : List Entry) (b : Hand) : Type 0 where
+  pub number_is : (known b.seat).number ≡ (known a.seat).number
+  pub goes : Extends (stripes_of map) (known a.seat).number (known a.seat).seen es
+      (known b.seat).seen
+
+-- An operation was not done. Busy: another caller, which has begun a transaction before, held the
+-- stripe, and the transaction is aborted. Refused: memory or a stamp was, and the transaction is
+-- unchanged.
+abbrev pub IsStopped : StripedMap → Hand → Op → Hand → Stop → Type 0
+IsStopped map a op b (Busy holder) = IsAt Closed (known b.seat) × ((known b.seat).held ≡ [])
+    × Moves map a (BusyEntry (known a.seat).number op holder
+    ∷ undoing (known a.seat).number (due (known a.seat)) (Aborted (known a.seat).number)) b
+IsStopped map a op b (Refused refusal) =
+    IsShort op refusal × IsAt Opened (known b.seat) × Moves map a [] b

@@ -1,0 +1,13 @@
+-- What contracts see of a host.
+use Rattle.std.specs.Prelude.{ℕ, List}
+use Rattle.txn_trace.specs.declared.entry.Entry.{Entry}
+use Rattle.striped_map.specs.declared.host.Host.{Host}
+use Rattle.striped_map.specs.Seats.{known}
+
+-- The callers that it has taken in, the newest first: each number, and all its entries.
+abbrev pub taken : Host → List (ℕ × List Entry)
+taken host = (known host.seat).retired
+
+-- The beginning of the history that it has seen.
+abbrev pub seen_by : Host → List Entry
+seen_by host = (known host.seat).seen

@@ -1,0 +1,366 @@
+//! What a caller has in hand.
+//!
+//! The parts of the stripes that it holds lie here and not in their slots, so that an operation
+//! works on plain memory. Who calls keeps the phases.
+ghost use Rattle.std.specs.Prelude.{◌≡◌, ◌≢◌, ℕ, ◌+◌, ◌-◌, ◌<◌, ◌≤◌, ◌%◌, ◌^◌, [], ◌∷◌, IfOk, IfErr, IfSome, OnOk, OnErr, None, Some, true, slice_get, slice_index, length, take, drop, vec_len, vec_capacity};
+ghost use Rattle.txn_trace.specs.declared.entry.Entry.TheVariants.{Began, Asked, Did, Saved, Leave, Returned, Committed};
+ghost use Rattle.txn_trace.specs.declared.seat.Phase.TheVariants.{Closed, Opened};
+ghost use Rattle.txn_trace.specs.Locks.{stripe_of};
+ghost use Rattle.txn_trace.specs.Map.{key_of};
+ghost use Rattle.txn_trace.specs.declared.refusal.Refusal.TheVariants.{NoMemory};
+ghost use Rattle.txn_trace.specs.Now.{now};
+ghost use Rattle.txn_trace.specs.Owed.{may_change};
+ghost use Rattle.stripe_part.specs.Calls.{IsRefused};
+ghost use Rattle.striped_map.specs.Additions.{above, due, entries_of};
+ghost use Rattle.striped_map.specs.Handling.{IsEnd, IsMiss, idle};
+ghost use Rattle.striped_map.specs.Rule.{Holds};
+ghost use Rattle.striped_map.specs.Seats.{IsOf, known, stripes_of};
+ghost use Rattle.striped_map.specs.Sound.{AreHeld, AreLogged, IsSound, stripes_in};
+ghost use Rattle.striped_map.specs.Steps.{IsAt, seat_of, undone, undoing};
+
+use crate::addition::Addition;
+use crate::held::Held;
+use crate::map::{StripedMap, Taken};
+use crate::seat::MapSeat;
+use crate::stop::Stop;
+use std::alloc::Global;
+use txn_trace::{Op, Refusal, Reply};
+
+/// A seat with the parts that it has taken, and what there is to take back. It may be let go only
+/// where it holds no stripe.
+pub(crate) struct Hand {
+    pub(crate) seat: MapSeat,
+    held: Vec<Held>,
+    order: Vec<usize>,
+    levels: Vec<usize>,
+    ghost sound: { IsSound seat.seat.table_id.slots (known seat) held.items order.items
+        levels.items },
+}
+
+/// The place of a stripe among the parts that are held.
+fn place_of(held: &Vec<Held>, stripe: usize) -> Option<usize>
+    ensures some { IfSome result (λ place. slice_get (stripes_in held.now.items) place
+        ≡ Some stripe) }
+    ensures none { result ≡ None → (place : ℕ)
+        → slice_get (stripes_in held.now.items) place ≢ Some stripe }
+{
+    for place in 0..held.len() {
+        if held[place].stripe == stripe {
+            return Some(place);
+        }
+    }
+    None
+}
+
+/// How many changes stood at a level.
+fn mark_of(levels: &Vec<usize>, level: usize) -> usize
+    requires { level ≤ vec_len levels.now }
+    ensures { result ≡ slice_index (0 ∷ levels.now.items) level }
+{
+    if level == 0 { 0 } else { levels[level - 1] }
+}
+
+/// The operation under another key.
+fn under(op: Op, key: u64) -> Op
+    ensures { result ≡ Rattle.striped_map.specs.Handling.under op key }
+{
+    match op {
+        Op::Put(_, value) => Op::Put(key, value),
+        Op::Take(_) => Op::Take(key),
+        Op::Get(_) => Op::Get(key),
+        Op::PutIf(_, expected, value) => Op::PutIf(key, expected, value),
+    }
+}
+
+/// Takes changes back, the newest first, in the parts, down to so many. It takes no memory.
+fn take_back(
+    stripes: usize,
+    seat: &MapSeat,
+    held: &mut Vec<Held>,
+    order: &mut Vec<usize>,
+    mark: usize,
+)
+    requires some { 0 < stripes }
+    requires mark { mark ≤ vec_len order.old }
+    requires parts { AreHeld stripes (known seat.now) held.old.items (now (known seat.now).seen) }
+    requires logged { AreLogged stripes held.old.items order.old.items (due (known seat.now)) }
+    ensures parts { AreHeld stripes (known seat.now) held.new.items
+        (undone (now (known seat.now).seen)
+        (take (vec_len order.old - mark) (due (known seat.now)))) }
+    ensures logged { AreLogged stripes held.new.items order.new.items
+        (drop (vec_len order.old - mark) (due (known seat.now))) }
+    ensures len { vec_len order.new ≡ mark }
+{
+    let (_stripes, _seat) = (stripes, seat);
+    while mark < order.len() {
+        let Some(place) = order.pop() else {
+            unreachable!()
+        };
+        held[place].part.take_back();
+    }
+}
+
+/// Gives all parts back, once the transaction is over.
+fn give_all(map: &StripedMap, seat: &mut MapSeat, held: &mut Vec<Held>)
+    requires map { IsOf seat.old map.now }
+    requires over { IsAt Closed (known seat.old) }
+    requires parts { AreHeld (stripes_of map.now) (known seat.old) held.old.items
+        (now (known seat.old).seen) }
+    ensures map { IsOf seat.new map.now }
+    ensures idle { known seat.new ≡ idle (known seat.old) }
+    ensures none { held.new.items ≡ [] }
+{
+    while let Some(mut one) = held.pop() {
+        one.part.settle();
+        let Held { stripe, part } = one;
+        map.give(seat, stripe, part);
+    }
+}
+
+impl Hand {
+    ghost use Rattle.striped_map.specs.Hands.{IsStopped, Moves};
+
+    /// A hand that holds nothing, of a seat that has seen nothing.
+    pub(crate) fn new(alloc: Global, seat: MapSeat) -> Hand
+        requires seen { (known seat).seen ≡ [] }
+        requires held { (known seat).held ≡ [] }
+        requires retired { (known seat).retired ≡ [] }
+        ensures { result.seat ≡ seat }
+    {
+        Hand {
+            seat,
+            held: Vec::new(alloc),
+            order: Vec::new(alloc),
+            levels: Vec::new(alloc),
+        }
+    }
+
+    /// Begins a transaction.
+    pub(crate) fn begin(&mut self, map: &StripedMap)
+        requires map { IsOf self.old.seat map.now }
+        requires closed { IsAt Closed (known self.old.seat) }
+        requires idle { (known self.old.seat).held ≡ [] }
+        ensures map { IsOf self.new.seat map.now }
+        ensures open { IsAt Opened (known self.new.seat) }
+        ensures begun { (t : ℕ) × Moves map.now self.old
+            (Began (known self.old.seat).number t ∷ []) self.new }
+    {
+        self.order.clear();
+        self.levels.clear();
+        map.begin(&mut self.seat);
+    }
+
+    /// Takes a stripe, unless it is held, and answers the place of its part.
+    fn hold(&mut self, map: &StripedMap, stripe: usize) -> Result<usize, Stop>
+        requires map { IsOf self.old.seat map.now }
+        requires open { IsAt Opened (known self.old.seat) }
+        requires stripe { stripe < stripes_of map.now }
+        ensures map { IsOf self.new.seat map.now }
+        ensures open { IsAt Opened (known self.new.seat) }
+        ensures moves { Moves map.now self.old [] self.new }
+        ensures held { IfOk result (λ place. slice_get (stripes_in self.new.held.items) place
+            ≡ Some stripe) }
+        ensures order { self.new.order ≡ self.old.order }
+        ensures miss { IfErr result (IsMiss (known self.new.seat)) }
+    {
+        if let Some(place) = place_of(&self.held, stripe) {
+            return Ok(place);
+        }
+        if self.held.reserve(1).is_err() {
+            return Err(Stop::Refused(Refusal::NoMemory));
+        }
+        match map.take(&mut self.seat, stripe) {
+            Taken::Granted(part) => {
+                let place = self.held.len();
+                self.held.push_reserved(Held { stripe, part });
+                Ok(place)
+            }
+            Taken::Denied(holder) => Err(Stop::Busy { holder }),
+        }
+    }
+
+    /// Does an operation on the part at a place, and notes it.
+    fn apply(
+        &mut self,
+        map: &StripedMap,
+        alloc: Global,
+        place: usize,
+        op: Op,
+    ) -> Result<Reply, Refusal>
+        requires map { IsOf self.old.seat map.now }
+        requires open { IsAt Opened (known self.old.seat) }
+        requires place { slice_get (stripes_in self.old.held.items) place
+            ≡ Some (stripe_of (stripes_of map.now) (key_of op)) }
+        requires room { may_change op ≡ true → vec_len self.old.order < vec_capacity self.old.order }
+        ensures map { IsOf self.new.seat map.now }
+        ensures open { IsAt Opened (known self.new.seat) }
+        ensures done { IfOk result (λ reply. Moves map.now self.old
+            (Asked (known self.old.seat).number op ∷ Did (known self.old.seat).number reply ∷ [])
+            self.new) }
+        ensures refused { IfErr result (IsRefused op) }
+        ensures unchanged { OnErr result (self.new ≡ self.old) }
+    {
+        let stripes = map.stripes() as u64;
+        let reply = self.held[place]
+            .part
+            .apply(alloc, under(op, op.key() / stripes))?;
+        map.add(&mut self.seat, map.quiet(), Addition::Note(op, reply));
+        if op.changes(reply) {
+            self.order.push_reserved(place);
+        }
+        Ok(reply)
+    }
+
+    /// Does an operation.
+    #[tactic(auto, using(crate::proofs::Ends::moved_did, crate::proofs::Ends::moved_busy, crate::proofs::Hands::short_of))]
+    pub(crate) fn operate(&mut self, map: &StripedMap, alloc: Global, op: Op) -> Result<Reply, Stop>
+        requires map { IsOf self.old.seat map.now }
+        requires open { IsAt Opened (known self.old.seat) }
+        ensures map { IsOf self.new.seat map.now }
+        ensures ok { IfOk result (λ reply. IsAt Opened (known self.new.seat)
+            × Moves map.now self.old (Asked (known self.old.seat).number op
+            ∷ Did (known self.old.seat).number reply ∷ []) self.new) }
+        ensures err { IfErr result (IsStopped map.now self.old op self.new) }
+    {
+        if op.may_change() && self.order.reserve(1).is_err() {
+            return Err(Stop::Refused(Refusal::NoMemory));
+        }
+        let stripe = (op.key() % map.stripes() as u64) as usize;
+        match self.hold(map, stripe) {
+            Ok(place) => match self.apply(map, alloc, place, op) {
+                Ok(reply) => Ok(reply),
+                Err(refusal) => Err(Stop::Refused(refusal)),
+            },
+            Err(Stop::Busy { holder }) => {
+                self.leave(map, Addition::Yield(op, holder));
+                Err(Stop::Busy { holder })
+            }
+            Err(Stop::Refused(refusal)) => Err(Stop::Refused(refusal)),
+        }
+    }
+
+    /// Sets a savepoint, and answers its level.
+    pub(crate) fn save(&mut self, map: &StripedMap) -> Result<u64, Refusal>
+        requires map { IsOf self.old.seat map.now }
+        requires open { IsAt Opened (known self.old.seat) }
+        ensures map { IsOf self.new.seat map.now }
+        ensures open { IsAt Opened (known self.new.seat) }
+        ensures ok { IfOk result (λ level. (level + 1 ≡ length (seat_of (known self.new.seat)).kept)
+            × Moves map.now self.old (Saved (known self.old.seat).number ∷ []) self.new) }
+        ensures refused { IfErr result (λ refusal. refusal ≡ NoMemory) }
+        ensures unchanged { OnErr result (self.new.seat ≡ self.old.seat) }
+    {
+        if self.levels.reserve(1).is_err() {
+            return Err(Refusal::NoMemory);
+        }
+        map.add(&mut self.seat, map.quiet(), Addition::Save);
+        self.levels.push_reserved(self.order.len());
+        Ok(self.levels.len() as u64)
+    }
+
+    /// How many savepoints there are.
+    pub(crate) fn levels(&self) -> u64
+        ensures { result + 1 ≡ length (seat_of (known self.now.seat)).kept }
+    {
+        self.levels.len() as u64
+    }
+
+    /// Takes back the changes since a level's savepoint; level 0 is the transaction's beginning.
+    pub(crate) fn back(&mut self, map: &StripedMap, level: usize)
+        requires map { IsOf self.old.seat map.now }
+        requires open { IsAt Opened (known self.old.seat) }
+        requires level { level < length (seat_of (known self.old.seat)).kept }
+        ensures map { IsOf self.new.seat map.now }
+        ensures open { IsAt Opened (known self.new.seat) }
+        ensures moves { Moves map.now self.old
+            (Leave (known self.old.seat).number (Some level) ∷ undoing (known self.old.seat).number
+            (above level (known self.old.seat)) (Returned (known self.old.seat).number level))
+            self.new }
+    {
+        let mark = mark_of(&self.levels, level);
+        let count = self.order.len() - mark;
+        take_back(
+            map.stripes(),
+            &self.seat,
+            &mut self.held,
+            &mut self.order,
+            mark,
+        );
+        map.add(
+            &mut self.seat,
+            map.quiet(),
+            Addition::Back(level as u64, count),
+        );
+        self.levels.truncate(level);
+    }
+
+    /// Commits the transaction, gives the stripes back, and answers the commit's place.
+    pub(crate) fn commit(&mut self, map: &StripedMap) -> u64
+        requires map { IsOf self.old.seat map.now }
+        requires open { IsAt Opened (known self.old.seat) }
+        ensures map { IsOf self.new.seat map.now }
+        ensures closed { IsAt Closed (known self.new.seat) }
+        ensures idle { (known self.new.seat).held ≡ [] }
+        ensures committed { (place : ℕ) × (result ≡ place % 2 ^ 64)
+            × Moves map.now self.old (Committed (known self.old.seat).number place ∷ [])
+            self.new }
+    {
+        let place = map.commit(&mut self.seat);
+        self.order.clear();
+        self.levels.clear();
+        give_all(map, &mut self.seat, &mut self.held);
+        place
+    }
+
+    /// Takes all changes of the transaction back, ends it, and gives the stripes back.
+    pub(crate) fn leave(&mut self, map: &StripedMap, what: Addition)
+        requires map { IsOf self.old.seat map.now }
+        requires open { IsAt Opened (known self.old.seat) }
+        requires may { IsEnd (known self.old.seat) what }
+        ensures map { IsOf self.new.seat map.now }
+        ensures closed { IsAt Closed (known self.new.seat) }
+        ensures idle { (known self.new.seat).held ≡ [] }
+        ensures moves { Moves map.now self.old (entries_of (known self.old.seat) what) self.new }
+    {
+        take_back(
+            map.stripes(),
+            &self.seat,
+            &mut self.held,
+            &mut self.order,
+            0,
+        );
+        map.add(&mut self.seat, map.quiet(), what);
+        self.order.clear();
+        self.levels.clear();
+        give_all(map, &mut self.seat, &mut self.held);
+    }
+}
+
+impl Hand {
+    /// The seat of a hand that holds no stripe.
+    pub(crate) fn into_seat(self) -> MapSeat
+        requires idle { (known self.seat).held ≡ [] }
+        ensures { result ≡ self.seat }
+    {
+        let Hand {
+            seat,
+            held: _,
+            order: _,
+            levels: _,
+        } = self;
+        seat
+    }
+}
+
+impl Drop for Hand {
+    fn drop(self)
+        requires idle { (known self.seat).held ≡ [] }
+    {
+        let Hand {
+            seat: _,
+            held: _,
+            order: _,
+            levels: _,
+        } = self;
+    }
+}
