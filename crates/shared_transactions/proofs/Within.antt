@@ -1,5 +1,5 @@
 -- How a call within a transaction, and an abort, leave a token.
-use Rattle.std.proofs.Common.{◌≡◌, ◌≢◌, ℕ, zero, suc, ◌==◌, ◌⊎◌, cond, if◌then◌else◌, nat_lt, slice_index, ◌&&◌, Bool, true, false, List, [], ◌∷◌, ◌++◌, append_assoc, is_some, Option, Some, None, refl, sym, ap, subst, ◌∙◌, inl, inr}
+use Rattle.std.proofs.Common.{◌≡◌, ℕ, zero, suc, ◌==◌, ◌⊎◌, cond, if◌then◌else◌, slice_index, ◌&&◌, Bool, true, false, List, [], ◌∷◌, ◌++◌, append_assoc, is_some, Option, Some, None, refl, sym, ap, subst, ◌∙◌, inl, inr}
 use Rattle.std.specs.List.{filter, fold}
 use Rattle.std.specs.Option.{option_and_then, option_or}
 use Rattle.std.proofs.lemmas.Bool.{false≢true}
@@ -7,15 +7,14 @@ use Rattle.std.proofs.lemmas.List.{append-nil}
 use Rattle.std.proofs.lemmas.List.Elements.{filter-append}
 use Rattle.std.proofs.lemmas.List.Sums.{fold-append}
 use Rattle.txn_trace.specs.History.{is_commit}
-use Rattle.txn_trace.specs.declared.answer.Answer.{Answer}
 use Rattle.txn_trace.specs.declared.answer.Answer.TheVariants as answers
 use Rattle.txn_trace.specs.declared.entry.Entry.{Entry}
 use Rattle.txn_trace.specs.declared.entry.Entry.TheVariants as entries
 use Rattle.txn_trace.specs.declared.refusal.Refusal.{Refusal}
-use Rattle.txn_trace.specs.declared.refusal.Refusal.TheVariants.{OutOfStep, NotOpen, Leaving}
+use Rattle.txn_trace.specs.declared.refusal.Refusal.TheVariants.{OutOfStep}
 use Rattle.txn_trace.specs.declared.seat.Phase.{Phase}
 use Rattle.txn_trace.specs.declared.seat.Phase.TheVariants.{Closed, Opened, Waiting, LeavingTo, LeavingToEnd}
-use Rattle.txn_trace.specs.Shape.{Seat, seat_after, row, closed_seat, changes}
+use Rattle.txn_trace.specs.Shape.{Seat, seat_after, row, closed_seat}
 use Rattle.txn_trace.specs.Seats.{is_closed, refusal_in}
 use Rattle.txn_drive.specs.declared.call.Call.{Call}
 use Rattle.txn_drive.specs.declared.call.Call.TheVariants as calls
@@ -23,7 +22,7 @@ use Rattle.txn_drive.specs.declared.«end».End.{End}
 use Rattle.txn_drive.specs.declared.«end».End.TheVariants as ends
 use Rattle.txn_drive.specs.Drives.{first_step}
 use Rattle.txn_drive.specs.Made.{undone_by, IsMade}
-use Rattle.locked_map.specs.Calls.{Ended, Ran, FoundNone, FellOut, Failed, WasRefused, refused_by, refused_at, refused_help}
+use Rattle.locked_map.specs.Calls.{Ended, Ran, FellOut, Failed, WasRefused, refused_by, refused_at}
 use Rattle.locked_map.specs.Holds.{CommitNothing}
 use Rattle.locked_map.specs.Tokens.{Token, IsSameCaller}
 use Rattle.locked_map.specs.Noted.{began_by, last_txn}
@@ -33,7 +32,7 @@ use Rattle.std.specs.Borrow.{MutBor}
 use Rattle.locked_map.specs.declared.stop.Stop.{Stop}
 use Rattle.locked_map.specs.declared.stop.Stop.TheVariants as stops
 use Rattle.locked_map.specs.Calls.{Stopped, Passed, LeavesBy}
-use Rattle.std.specs.Prelude.{Result, Ok, Err}
+use Rattle.std.specs.Prelude.{Result, Err}
 
 undone_quiet : (c k : ℕ) → CommitNothing (undone_by c k)
 undone_quiet c zero = refl
