@@ -13,8 +13,8 @@ use txn_trace::{Entry, Phase, Reply};
 /// and how many transactions began and committed.
 ///
 /// It is the judge of the rule of shape: it says which entry may come next, and is fed the entries
-/// that do. A contract sees which it was fed: `HaveEntered h callers`, which says too that they have
-/// the right shape.
+/// that do. A contract sees which it was fed: `HaveEntered h callers`, which says too that they
+/// have the right shape.
 #[derive(Drop)]
 pub struct Callers {
     /// How many transactions began.

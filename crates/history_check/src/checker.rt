@@ -102,8 +102,8 @@ impl Checker {
         }
     }
 
-    /// The callers as the entries so far make them, as long as none is bad: of each the phase, which
-    /// says what may come next.
+    /// The callers as the entries so far make them, as long as none is bad: of each the phase,
+    /// which says what may come next.
     ///
     /// # Cost
     ///

@@ -20,8 +20,8 @@
 //! at one time.
 //!
 //! The rule of shape is judged by `Callers`, on which `serial_check`, the judge by the order of
-//! commits, stands too; the rules of replies and locks by the map and its stripes. Both judges share
-//! the verdict and what is proved of the first bad entry (`FirstBad`).
+//! commits, stands too; the rules of replies and locks by the map and its stripes. Both judges
+//! share the verdict and what is proved of the first bad entry (`FirstBad`).
 //!
 //! Proved: `check`, `check_packed`, and a `Checker` that was fed the same entries, say what the
 //! definition `verdict` of `txn_trace` says, and they say legal exactly where `IsLegal` holds. An

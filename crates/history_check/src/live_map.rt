@@ -93,7 +93,8 @@ impl LiveMap {
     /// An operation is asked for, if no other caller holds the stripe of its key.
     fn ask(&mut self, caller: u64, op: Op) -> bool
         requires { caller < 64 }
-        ensures { (callers : Callers) → Follows (Entry.Asked caller op) callers self.old result self.new }
+        ensures { (callers : Callers) →
+            Follows (Entry.Asked caller op) callers self.old result self.new }
     {
         let stripe = op.key() % self.stripes;
         match self.locks.lock(caller as usize, stripe as usize) {

@@ -63,11 +63,13 @@ impl Checker {
     /// For a Did or an Undone time in proportion to the logarithm of the number of keys that its
     /// transaction asked for; for a Committed, for each of them, to the logarithm of the number of
     /// keys in the map; for an Aborted to the number that it asked for. Else constant time. Takes
-    /// memory for a key that the transaction asks for the first time, for a change, for a savepoint,
-    /// and at a Committed for new keys. After the first bad entry constant time, and no memory.
+    /// memory for a key that the transaction asks for the first time, for a change, for a
+    /// savepoint, and at a Committed for new keys. After the first bad entry constant time, and no
+    /// memory.
     pub fn feed(&mut self, entry: &Entry) -> Result<(), AllocError>
         requires { caller_of entry.now < 64 }
-        ensures ok { OnOk result ((h : List Entry) → IsFed h self.old → IsFed (h ++ entry.now ∷ []) self.new) }
+        ensures ok { OnOk result ((h : List Entry) →
+            IsFed h self.old → IsFed (h ++ entry.now ∷ []) self.new) }
         ensures err { OnErr result ((h : List Entry) → IsFed h self.old → IsFed h self.new) }
     {
         if self.bad.is_some() {
@@ -81,9 +83,9 @@ impl Checker {
         Ok(())
     }
 
-    /// What it says of the entries so far: the verdict on the history that they are. `Illegal` names
-    /// the first bad entry, and the rule that it breaks: `Shape`, or `Replies`, for which the entry
-    /// is the Committed of a transaction with a wrong reply.
+    /// What it says of the entries so far: the verdict on the history that they are. `Illegal`
+    /// names the first bad entry, and the rule that it breaks: `Shape`, or `Replies`, for which the
+    /// entry is the Committed of a transaction with a wrong reply.
     ///
     /// # Cost
     ///
@@ -100,8 +102,8 @@ impl Checker {
         }
     }
 
-    /// The callers as the entries so far make them, as long as none is bad: of each the phase, which
-    /// says what may come next.
+    /// The callers as the entries so far make them, as long as none is bad: of each the phase,
+    /// which says what may come next.
     ///
     /// # Cost
     ///

@@ -22,8 +22,9 @@ use txn_trace::{Entry, PackedEntry};
 ///
 /// # Cost
 ///
-/// That of a `Checker` that is fed the entries: memory in proportion to the committed map and to the
-/// different keys, standing changes and savepoints of the transactions that are open at one time.
+/// That of a `Checker` that is fed the entries: memory in proportion to the committed map and to
+/// the different keys, standing changes and savepoints of the transactions that are open at one
+/// time.
 pub fn check(alloc: Global, entries: &[Entry]) -> Result<Verdict, AllocError>
     requires { All (λ entry. caller_of entry < 64) entries.now }
     ensures { IfOk result (IsVerdictOn entries.now) }
