@@ -32,7 +32,7 @@ returns-then-count-eq0-clause-err g c =
 
 pub returns-in_err-take_in-clause-err : goal.returns-in_err-take_in-clause-err
 returns-in_err-take_in-clause-err g c =
-    let p = err_from_is_err_and c.from_residual-in_err-take_in.result c.from_residual-in_err-take_in.ensures.1 in
+    let p = err_from_is_err_and c.from_residual.result c.from_residual.ensures.1 in
     rw (p.1, p.2, c.in_err-take_in.ensures.err) (λ basis t. tt)
 
 pub returns-in_err-verdict-clause-err : goal.returns-in_err-verdict-clause-err

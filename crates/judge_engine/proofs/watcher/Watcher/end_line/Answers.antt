@@ -1,4 +1,4 @@
-use Rattle.std.proofs.Common.{◌≡◌, ◌+◌, ◌++◌, ◌∙◌, sym, ap}
+use Rattle.std.proofs.Common.{◌≡◌, ◌+◌, [], ◌∷◌, ◌++◌, ◌∙◌, sym, ap}
 use Rattle.entry_lines.specs.EntryLine.{entry_on}
 use Rattle.judge_engine.specs.LineReads.{those}
 use Rattle.judge_engine.proofs.LineLemmas.{stands_read, stands_wrong}
@@ -28,5 +28,5 @@ returns-clause-line c = λ basis bytes t.
     record {
       entries = t.entries ++ those r.0;
       fed = r.2;
-      place = line_done _ (t.entries ++ those r.0) c.clear.new.self.items w.number c.in_ok-next.next w.refused c.clear.ensures.items next (sym c.is_some.ensures ∙ c.if-is_some.false) read;
+      place = line_done (bytes ++ (c.args.piece.now ++ 10 ∷ [])) (t.entries ++ those r.0) c.clear.new.self.items w.number c.in_ok-next.next w.refused c.clear.ensures.items next (sym c.is_some.ensures ∙ c.if-is_some.false) read;
     }
