@@ -93,7 +93,7 @@ backwards : (old new : State) (c : ℕ) (base : Map) (n changes : ℕ) (steps : 
 backwards old new c base n zero steps others stands moves = (old, stands, moves)
 backwards old new c base n (suc changes) steps others stands moves =
     let (between, there, (s1, seek, (s2, act, rest))) = backwards old new c base n changes (Seek c ∷ Act c ∷ steps) (answers.Placed ∷ answers.Undone ∷ others) stands moves in
-    (s2, one_back between s1 s2 c base n there seek act, rest)
+    (s2, one_back between s1 s2 c base n there seek.move act.move, rest)
 
 -- Where a Returned has the right shape, just the changes of its level stand.
 reached_at : (c n m : ℕ) (h : List Entry) (seat : Seat) → seat_after (own c h) ≡ Some seat → seat.phase ≡ LeavingTo n → IsShaped (h ++ entry.Returned c m ∷ []) → (n ≡ m) × (slice_index seat.kept n ≡ seat.standing)
@@ -126,14 +126,14 @@ past s c rest free =
 returns : (old new : State) (c : ℕ) (base : Map) (n m : ℕ) → IsShaped new.history → IsAt c base Opened old → Returns old c n (answers.Returned m) new → IsAt c base Opened new
 returns old new c base n m shaped stands (same, left, leave, (changes, moves)) =
     let level = first_none (nat_le (length (seat_in old.history c).kept) n) refusals.NoSuchLevel None
-    (past old c (cond (nat_le (length (seat_in old.history c).kept) n) (Some refusals.NoSuchLevel) None) leave.allowed.0) in
+    (past old c (cond (nat_le (length (seat_in old.history c).kept) n) (Some refusals.NoSuchLevel) None) leave.move.allowed.0) in
     let within : n < length stands.seat.kept = leb-false (length stands.seat.kept) n (subst (λ (seat : Seat). nat_le (length seat.kept) n ≡ false) (phase_in c base Opened old stands) level.0) in
-    let gone = to_state c base (LeavingTo n) _ left leave.state (left_to_now old.limits c base old.history n stands within) in
+    let gone = to_state c base (LeavingTo n) _ left leave.move.state (left_to_now old.limits c base old.history n stands within) in
     let (between, there, (s1, act, last)) = backwards left new c base n changes (Act c ∷ []) (answers.Returned m ∷ []) gone moves in
-    let whole : IsShaped (between.history ++ entry.Returned c m ∷ []) = subst IsShaped (ap (λ (s : State). s.history) (last ∙ act.state)) shaped in
+    let whole : IsShaped (between.history ++ entry.Returned c m ∷ []) = subst IsShaped (ap (λ (s : State). s.history) (last ∙ act.move.state)) shaped in
     let at = reached_at c n m between.history there.seat there.seat_is there.phase_is whole in
     let back = returned_now between.limits c base between.history n there at.1 in
-    to_state c base Opened _ new (last ∙ act.state) (subst (λ k. Stands (holder_by between.words) between.limits c base Opened (between.history ++ entry.Returned c k ∷ [])) at.0 back)
+    to_state c base Opened _ new (last ∙ act.move.state) (subst (λ k. Stands (holder_by between.words) between.limits c base Opened (between.history ++ entry.Returned c k ∷ [])) at.0 back)
 
 pub returned : (old new : State) (c n m : ℕ) → IsShaped new.history → Returns old c n (answers.Returned m) new → GoesOn c old new
 returned old new c n m shaped (same, left, leave, ends) = record {
@@ -143,10 +143,10 @@ returned old new c n m shaped (same, left, leave, ends) = record {
   where
     went : (base : Map) → CanAbort c base old → CanAbort c base new
     went base (inl stands) = inl (returns old new c base n m shaped stands (same, left, leave, ends))
-    went base (inr stands) = absurd (leaves_on old c base _ stands leave.allowed.0)
+    went base (inr stands) = absurd (leaves_on old c base _ stands leave.move.allowed.0)
 
 pub no_other_return : (old new : State) (c n : ℕ) (answer : Answer) → ((m : ℕ) → answer ≡ answers.Returned m → ⊥) → ((refusal : Refusal) → answer ≡ answers.Refused refusal → ⊥) → Returns old c n answer new → ⊥
 no_other_return old new c n (answers.Refused refusal) not_returned not_refused move = not_refused refusal refl
 no_other_return old new c n (answers.Returned m) not_returned not_refused moves = not_returned m refl
 no_other_return old new c n answers.Leaving not_returned not_refused none = none
-no_other_return old new c n _ not_returned not_refused move = absurd move.allowed.1
+no_other_return old new c n _ not_returned not_refused event = absurd event.move.allowed.1

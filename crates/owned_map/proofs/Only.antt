@@ -96,8 +96,8 @@ committed c p old new move = (
 
 all_moved : (c : ℕ) (old new : State) (steps : List Step) (given : List Answer) → AllByRecursion (IsBy c) steps → Moves old steps given new → IsBeside c old new
 all_moved c old new [] [] by is = same c old new (ap (λ (s : State). s.history) is)
-all_moved c old new (step ∷ steps) (answer ∷ given) by (between, move, rest) =
-    after c old between new (moved c old between step answer by.0 move) (all_moved c between new steps given by.1 rest)
+all_moved c old new (step ∷ steps) (answer ∷ given) by (between, event, rest) =
+    after c old between new (moved c old between step answer by.0 event.move) (all_moved c between new steps given by.1 rest)
 all_moved c old new [] (answer ∷ given) by none = absurd none
 all_moved c old new (step ∷ steps) [] by none = absurd none
 
@@ -118,11 +118,11 @@ undoing_by c (suc changes) steps by = undoing_by c changes (Seek c ∷ Act c ∷
 pub operated : (c : ℕ) (old new : State) (op : Op) (answer : Answer) → Operates old c op answer new → IsBeside c old new
 operated c old new op (answers.Done reply) moves = all_moved c old new (Ask c op ∷ Seek c ∷ Act c ∷ []) (answers.Asked ∷ answers.Placed ∷ answers.Done reply ∷ []) (ask_by c op, (seek_by c, (act_by c, tt))) moves
 operated c old new op answers.Asked none = absurd none
-operated c old new op answer move = moved c old new (Ask c op) answer (ask_by c op) move
+operated c old new op answer event = moved c old new (Ask c op) answer (ask_by c op) event.move
 
 left : (c : ℕ) (old new : State) (b : Bool) → Leaves b old c new → IsBeside c old new
 left c old new true is = same c old new (ap (λ (s : State). s.history) is)
-left c old new false move = moved c old new (Abort c) answers.Leaving (record { whose = refl; quiet = refl }) move
+left c old new false event = moved c old new (Abort c) answers.Leaving (record { whose = refl; quiet = refl }) event.move
 
 ended : (c : ℕ) (old new : State) (answer : Answer) → Ends old c answer new → IsBeside c old new
 ended c old new answer (changes, moves) =
@@ -132,13 +132,13 @@ pub aborted : (c : ℕ) (old new : State) (answer : Answer) → Aborts old c ans
 aborted c old new answers.Aborted (between, leaves, ends) =
     after c old between new (left c old between (is_at_end (seat_in old.history c).phase) leaves) (ended c between new answers.Aborted ends)
 aborted c old new answers.Leaving none = absurd none
-aborted c old new answer refused = moved c old new (Abort c) answer (record { whose = refl; quiet = refl }) refused.1
+aborted c old new answer refused = moved c old new (Abort c) answer (record { whose = refl; quiet = refl }) refused.1.move
 
 pub returned : (c n : ℕ) (old new : State) (answer : Answer) → Returns old c n answer new → IsBeside c old new
-returned c n old new (answers.Returned m) (reached, between, move, ends) =
-    after c old between new (moved c old between (Back c n) answers.Leaving (record { whose = refl; quiet = refl }) move) (ended c between new (answers.Returned m) ends)
+returned c n old new (answers.Returned m) (reached, between, event, ends) =
+    after c old between new (moved c old between (Back c n) answers.Leaving (record { whose = refl; quiet = refl }) event.move) (ended c between new (answers.Returned m) ends)
 returned c n old new answers.Leaving none = absurd none
-returned c n old new answer refused = moved c old new (Back c n) answer (record { whose = refl; quiet = refl }) refused
+returned c n old new answer event = moved c old new (Back c n) answer (record { whose = refl; quiet = refl }) event.move
 
 -- A step of a helper or of the table adds no entry.
 pub grown : (old new : State) (step : Step) (answer : Answer) → is_grown step ≡ true → Move old step answer new → new.words ≡ old.words → IsGrown old new

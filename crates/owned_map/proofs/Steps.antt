@@ -22,7 +22,7 @@ use Rattle.txn_trace.specs.Legal.{IsLegal}
 use Rattle.boost_core.specs.State.{State, holder_by, seat_in}
 use Rattle.boost_core.specs.Refusals.{refusal_of, is_closed, is_leaving, is_waiting, has_job, has_stamp_for}
 use Rattle.boost_core.specs.Answers.{IsReply, is_at_end}
-use Rattle.boost_core.specs.Machine.{Move, Moves}
+use Rattle.boost_core.specs.Machine.{Move, Event, Moves}
 use Rattle.boost_core.specs.Plain.{Operates, Aborts, Ends, Leaves, undoing, undone}
 use Rattle.owned_map.specs.Within.{taken_back, Stands, IsAt, CanAbort, IsIdle, GoesOn, HasDone, IsTakenBack, IsCommitted}
 use Rattle.owned_map.proofs.Histories.{seat_there, began_now, asked_now, busy_now, did_now, left_now, undone_now, aborted_now, committed_now}
@@ -88,14 +88,14 @@ record Waits (old between : State) (c : ℕ) (base : Map) (op : Op) : Type 0 whe
   pub stands : IsAt c base (Waiting op) between
   pub same : now between.history ≡ now old.history
 
-waits : (old between next : State) (c : ℕ) (base : Map) (op : Op) → IsAt c base Opened old → Move old (Ask c op) answers.Asked between → Move between (Seek c) answers.Placed next → Waits old next c base op
+waits : (old between next : State) (c : ℕ) (base : Map) (op : Op) → IsAt c base Opened old → Event old (Ask c op) answers.Asked between → Event between (Seek c) answers.Placed next → Waits old next c base op
 waits old between next c base op stands ask seek =
-    let locked = (and_parts (has_stamp_for old op) _ ask.allowed.1).1 in
+    let locked = (and_parts (has_stamp_for old op) _ ask.move.allowed.1).1 in
     let asked = asked_now old.limits c base old.history op stands locked in
-    let waiting = to_state c base (Waiting op) _ between ask.state asked.0 in
+    let waiting = to_state c base (Waiting op) _ between ask.move.state asked.0 in
     record {
-      stands = to_state c base (Waiting op) _ next seek.state (unmoved c base (Waiting op) between waiting);
-      same = ap now_of seek.state ∙ ap now (append-nil between.history) ∙ ap now_of ask.state ∙ asked.1;
+      stands = to_state c base (Waiting op) _ next seek.move.state (unmoved c base (Waiting op) between waiting);
+      same = ap now_of seek.move.state ∙ ap now (append-nil between.history) ∙ ap now_of ask.move.state ∙ asked.1;
     }
 
 -- The reply is that of the map.
@@ -108,12 +108,12 @@ does : (old new : State) (c : ℕ) (base : Map) (op : Op) (x : Option ℕ) → I
     → IsAt c base Opened new × HasDone op x old new
 does old new c base op x stands (s1, ask, (s2, seek, (s3, did, last))) =
     let w = waits old s1 s2 c base op stands ask seek in
-    let right = replied s2 c base op x w.stands did.allowed.1 in
+    let right = replied s2 c base op x w.stands did.move.allowed.1 in
     let done = did_now s2.limits c base s2.history op x w.stands right in (
-      to_state c base Opened s3 new last (to_state c base Opened _ s3 did.state done.0),
+      to_state c base Opened s3 new last (to_state c base Opened _ s3 did.move.state done.0),
       record {
         replied = right ∙ ap (λ m. reply_of m op) w.same;
-        changed = ap now_of last ∙ ap now_of did.state ∙ done.1 ∙ ap (λ m. map.after m op) w.same;
+        changed = ap now_of last ∙ ap now_of did.move.state ∙ done.1 ∙ ap (λ m. map.after m op) w.same;
       },
     )
 
@@ -163,27 +163,27 @@ leaves_on s c base rest stands free =
 -- An operation leaves a transaction that can still be taken back.
 went : (old new : State) (c : ℕ) (base : Map) (op : Op) (answer : Answer) → CanAbort c base old → Operates old c op answer new → CanAbort c base new
 went old new c base op (answers.Done x) (inl stands) moves = inl (does old new c base op x stands moves).0
-went old new c base op (answers.Done x) (inr stands) (s1, ask, rest) = absurd (leaves_on old c base _ stands ask.allowed.0)
-went old new c base op (answers.Refused refusal) (inl stands) move = inl (to_state c base Opened _ new move.state stands)
-went old new c base op (answers.Refused refusal) (inr stands) move = inr (to_state c base LeavingToEnd _ new move.state stands)
-went old new c base op (answers.Busy x) (inl stands) move =
-    let locked = (and_parts (old.words || has_stamp_for old op) _ move.allowed.1).1 in
-    inr (to_state c base LeavingToEnd _ new move.state (busy_now old.limits c base old.history op x stands locked).0)
-went old new c base op (answers.Busy x) (inr stands) move = absurd (leaves_on old c base _ stands move.allowed.0)
+went old new c base op (answers.Done x) (inr stands) (s1, ask, rest) = absurd (leaves_on old c base _ stands ask.move.allowed.0)
+went old new c base op (answers.Refused refusal) (inl stands) event = inl (to_state c base Opened _ new event.move.state stands)
+went old new c base op (answers.Refused refusal) (inr stands) event = inr (to_state c base LeavingToEnd _ new event.move.state stands)
+went old new c base op (answers.Busy x) (inl stands) event =
+    let locked = (and_parts (old.words || has_stamp_for old op) _ event.move.allowed.1).1 in
+    inr (to_state c base LeavingToEnd _ new event.move.state (busy_now old.limits c base old.history op x stands locked).0)
+went old new c base op (answers.Busy x) (inr stands) event = absurd (leaves_on old c base _ stands event.move.allowed.0)
 went old new c base op answers.Asked can none = absurd none
-went old new c base op _ can move = absurd move.allowed.1
+went old new c base op _ can event = absurd event.move.allowed.1
 
 pub operated : (old new : State) (c : ℕ) (op : Op) (answer : Answer) → Operates old c op answer new → GoesOn c old new
 operated old new c op answer operates =
     record { back = λ base can. went old new c base op answer can operates; beside = only.operated c old new op answer operates }
 
 pub done : (old new : State) (c : ℕ) (op : Op) (x : Option ℕ) → IsLegal (holder_by old.words) old.limits.stripes old.history → Operates old c op (answers.Done x) new → HasDone op x old new
-done old new c op x legal (s1, ask, rest) = (does old new c (based c old) op x (ready old c _ legal ask.allowed.0) (s1, ask, rest)).1
+done old new c op x legal (s1, ask, rest) = (does old new c (based c old) op x (ready old c _ legal ask.move.allowed.0) (s1, ask, rest)).1
 
 pub busy : (old new : State) (c : ℕ) (op : Op) (x : ℕ) → IsLegal (holder_by old.words) old.limits.stripes old.history → Operates old c op (answers.Busy x) new → now new.history ≡ now old.history
-busy old new c op x legal move =
-    let locked = (and_parts (old.words || has_stamp_for old op) _ move.allowed.1).1 in
-    ap now_of move.state ∙ (busy_now old.limits c (based c old) old.history op x (ready old c _ legal move.allowed.0) locked).1
+busy old new c op x legal event =
+    let locked = (and_parts (old.words || has_stamp_for old op) _ event.move.allowed.1).1 in
+    ap now_of event.move.state ∙ (busy_now old.limits c (based c old) old.history op x (ready old c _ legal event.move.allowed.0) locked).1
 
 -- A call that is refused.
 pub refused : (old new : State) (c : ℕ) (step : Step) (refusal : Refusal) → Move old step (answers.Refused refusal) new → GoesOn c old new
@@ -202,7 +202,7 @@ no_other old new c op (answers.Done x) not_done not_busy not_refused move = not_
 no_other old new c op (answers.Busy x) not_done not_busy not_refused move = not_busy x refl
 no_other old new c op (answers.Refused refusal) not_done not_busy not_refused move = not_refused refusal refl
 no_other old new c op answers.Asked not_done not_busy not_refused none = none
-no_other old new c op _ not_done not_busy not_refused move = absurd move.allowed.1
+no_other old new c op _ not_done not_busy not_refused event = absurd event.move.allowed.1
 
 -- A commit leaves the map, and then there is no transaction.
 pub commits : (old new : State) (c p : ℕ) → IsLegal (holder_by old.words) old.limits.stripes old.history → Move old (Commit c) (answers.Committed p) new → IsCommitted c p old new
@@ -236,16 +236,16 @@ backwards : (old new : State) (c : ℕ) (base : Map) (changes : ℕ) (steps : Li
 backwards old new c base zero steps others stands moves = (old, stands, moves)
 backwards old new c base (suc changes) steps others stands moves =
     let (between, there, (s1, seek, (s2, act, rest))) = backwards old new c base changes (Seek c ∷ Act c ∷ steps) (answers.Placed ∷ answers.Undone ∷ others) stands moves in
-    (s2, one_back between s1 s2 c base there seek act, rest)
+    (s2, one_back between s1 s2 c base there seek.move act.move, rest)
 
 ends : (old new : State) (c : ℕ) (base : Map) → IsAt c base LeavingToEnd old → Ends old c answers.Aborted new → (now new.history ≡ base) × IsIdle c new
 ends old new c base stands (changes, moves) =
     let (between, there, (s1, act, last)) = backwards old new c base changes (Act c ∷ []) (answers.Aborted ∷ []) stands moves in
-    let free = (and_parts (not (has_job (seat_in between.history c))) _ act.allowed.1).0 in
+    let free = (and_parts (not (has_job (seat_in between.history c))) _ act.move.allowed.1).0 in
     let rests : not (has_job there.seat) ≡ true = subst (λ (seat : Seat). not (has_job seat) ≡ true) (phase_in c base LeavingToEnd between there) free in
     let none : not (nat_lt 0 there.seat.standing) ≡ true = subst (λ q. not (has_job (record (there.seat) { phase = q })) ≡ true) there.phase_is rests in
     let over = aborted_now between.limits c base between.history there (no_more there.seat.standing none) in
-    (ap now_of last ∙ ap now_of act.state ∙ over.0, idle_after c _ new (last ∙ act.state) over.1)
+    (ap now_of last ∙ ap now_of act.move.state ∙ over.0, idle_after c _ new (last ∙ act.move.state) over.1)
   where
     no_more : (n : ℕ) → not (nat_lt 0 n) ≡ true → n ≡ 0
     no_more zero is = refl
@@ -254,8 +254,8 @@ ends old new c base stands (changes, moves) =
 -- A caller with such a transaction aborts, and the map is as it was before.
 aborts_all : (old new : State) (c : ℕ) (base : Map) → CanAbort c base old → Aborts old c answers.Aborted new → (now new.history ≡ base) × IsIdle c new
 aborts_all old new c base (inl stands) (left, leaves, ended) =
-    let leave : Move old (Abort c) answers.Leaving left = subst (λ b. Leaves b old c left) (phase_of old c base Opened stands is_at_end) leaves in
-    ends left new c base (to_state c base LeavingToEnd _ left leave.state (left_now old.limits c base old.history stands)) ended
+    let leave : Event old (Abort c) answers.Leaving left = subst (λ b. Leaves b old c left) (phase_of old c base Opened stands is_at_end) leaves in
+    ends left new c base (to_state c base LeavingToEnd _ left leave.move.state (left_now old.limits c base old.history stands)) ended
 aborts_all old new c base (inr stands) (left, leaves, ended) =
     let same : left ≡ old = subst (λ b. Leaves b old c left) (phase_of old c base LeavingToEnd stands is_at_end) leaves in
     ends left new c base (to_state c base LeavingToEnd old left same stands) ended
@@ -263,7 +263,7 @@ aborts_all old new c base (inr stands) (left, leaves, ended) =
 -- Such a caller's abort is not refused.
 never_refused : (old new : State) (c : ℕ) (base : Map) (refusal : Refusal) → CanAbort c base old → Aborts old c (answers.Refused refusal) new → ⊥
 never_refused old new c base refusal (inr stands) (on, move) = false≢true (sym on ∙ phase_of old c base LeavingToEnd stands is_at_end)
-never_refused old new c base refusal (inl stands) (on, move) = never move.allowed
+never_refused old new c base refusal (inl stands) (on, event) = never event.move.allowed
   where
     free : refusal_of old (Abort c) ≡ None
     free =
@@ -279,7 +279,7 @@ aborts : (old new : State) (c : ℕ) (base : Map) (answer : Answer) → CanAbort
 aborts old new c base answers.Aborted can aborted = aborts_all old new c base can aborted
 aborts old new c base answers.Leaving can aborted = absurd aborted
 aborts old new c base (answers.Refused refusal) can aborted = absurd (never_refused old new c base refusal can aborted)
-aborts old new c base _ can aborted = absurd aborted.1.allowed.1
+aborts old new c base _ can aborted = absurd aborted.1.move.allowed.1
 
 pub taken_back_by : (old new : State) (c : ℕ) (answer : Answer) → Aborts old c answer new → IsTakenBack c old new
 taken_back_by old new c answer aborted =
