@@ -1,6 +1,6 @@
 use Rattle.std.proofs.Common.{ℕ, [], ◌∷◌, Result, Ok, Err, OnErr, subst, sym, ap, ◌∙◌}
 use Rattle.txn_trace.specs.declared.entry.Entry.TheVariants.{Committed}
-use Rattle.striped_map.specs.Callers.{number, IsStep, IsSince, IsWithin, IsRun}
+use Rattle.striped_map.specs.Callers.{number, IsStep, IsSince, IsWithin}
 use Rattle.striped_map.proofs.Within.{since_then, since_began}
 use Rattle.striped_map.proofs.caller.Caller.attempt.Goals as goal
 
