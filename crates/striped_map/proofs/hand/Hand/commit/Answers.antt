@@ -38,8 +38,7 @@ returns-clause-idle c = ap (λ (v : View). v.held) c.give_all.ensures.idle
 pub returns-clause-committed : goal.returns-clause-committed
 returns-clause-committed c = let p = c.commit-place.ensures.committed in let w = known c.commit-place.new.seat in let me = c.args.self.now in let n = c.args.map.now.table.shared.table_id.slots in let v = known me.seat in
     let s : IsSound n v me.held.items me.order.items me.levels.items = subst (λ z. IsSound z.slots v me.held.items me.order.items me.levels.items) c.requires.map me.sound in
-    let at = c.requires.open in
-    (
+    let at = c.requires.open in (
       p.0,
       p.1,
       moved_idle _ _ _ w _ _ p.2 c.give_all.ensures.idle,
