@@ -1,5 +1,5 @@
 -- What each step leaves of the parts that a caller holds.
-use Rattle.std.proofs.Common.{◌≡◌, ◌≢◌, ℕ, zero, suc, ◌+◌, ◌-◌, ◌*◌, ◌/◌, ◌%◌, ◌<◌, ◌≤◌, ◌==◌, ◌⊎◌, Bool, true, false, cond, List, [], ◌∷◌, ◌++◌, length, get_or, set, map, reverse, take, drop, Option, None, Some, slice_get, sym, refl, ◌∙◌, ap, subst, inl, inr, ⊎_elim, arith, eq-eqb, ne_eqb, append-nil, append_assoc}
+use Rattle.std.proofs.Common.{◌≡◌, ◌≢◌, ℕ, zero, suc, ◌+◌, ◌*◌, ◌/◌, ◌%◌, ◌<◌, ◌⊎◌, Bool, true, false, cond, List, [], ◌∷◌, ◌++◌, length, get_or, set, map, reverse, take, drop, Option, None, Some, slice_get, sym, refl, ◌∙◌, ap, subst, inl, inr, ⊎_elim, arith, eq-eqb, ne_eqb, append-nil, append_assoc}
 use mathlib.Core.Logic.{dite}
 use native.Mathlib.Decide.{ℕ_discrete}
 use Rattle.std.specs.Option.{option_eq}
@@ -13,22 +13,20 @@ use Rattle.txn_trace.specs.declared.op.Op.{Op}
 use Rattle.txn_trace.specs.declared.op.Op.TheVariants.{Put, Take, Get, PutIf}
 use Rattle.txn_trace.specs.declared.refusal.Refusal.{Refusal}
 use Rattle.txn_trace.specs.declared.refusal.Refusal.TheVariants.{NoMemory, StampsUsedUp}
-use Rattle.txn_trace.specs.Map.{Map, get, insert, remove, after, key_of}
+use Rattle.txn_trace.specs.Map.{Map, get, insert, after, key_of}
 use Rattle.txn_trace.specs.Now.{now, set_at}
 use Rattle.txn_trace.specs.Locks.{stripe_of}
 use Rattle.txn_trace.specs.Legal.{IsLegal}
-use Rattle.txn_trace.specs.Log.{log_after, log_of}
-use Rattle.txn_trace.specs.Shape.{Seat, changes, own, seat_after}
+use Rattle.txn_trace.specs.Shape.{changes, own}
 use Rattle.txn_trace.proofs.Acting.{get-after_other}
 use Rattle.txn_trace.proofs.Maps.{get-insert-here, get-remove-here}
 use Rattle.txn_trace.proofs.Table.{get-set_at}
 use Rattle.stripe_part.specs.PartAt.{PartAt}
-use Rattle.stripe_part.specs.Calls.{Does, IsRefused, TakesBack, noted}
+use Rattle.stripe_part.specs.Calls.{Does, IsRefused, TakesBack}
 use Rattle.striped_map.specs.declared.view.View.{View}
 use Rattle.striped_map.specs.declared.held.Held.{Held}
-use Rattle.striped_map.specs.Rule.{times, Holds, Fits, IsSettled}
-use Rattle.striped_map.specs.Steps.{Extends, TakesIn, removed, lost, gained, seat_of, undone}
-use Rattle.striped_map.specs.Additions.{due}
+use Rattle.striped_map.specs.Rule.{times, Holds, Fits}
+use Rattle.striped_map.specs.Steps.{Extends, TakesIn, removed, lost, undone}
 use Rattle.striped_map.specs.Handling.{IsShort, under}
 use Rattle.striped_map.specs.Sound.{stripes_in, log_in, AreHeld, AreLogged}
 use Rattle.striped_map.proofs.Lands.{own-append, own-none}

@@ -2,7 +2,7 @@
 use Rattle.std.proofs.Common.{is_some, ◌≡◌, ◌≢◌, ℕ, ◌+◌, ◌-◌, ◌<◌, ◌==◌, ◌⊎◌, Bool, true, false, cond, List, [], ◌∷◌, ◌++◌, Option, Some, None, refl, sym, ap, subst, ◌∙◌, inl, inr, ⊎_elim, arith, append_assoc, append-nil, eqb-true, eq-eqb, ne_eqb, length, length-append, slice_index, take, mod-lt}
 use Rattle.std.specs.Option.{option_eq}
 use Rattle.std.specs.Prelude.{nat_eq, not, ◌&&◌}
-use Rattle.std.specs.List.{filter, AllByRecursion}
+use Rattle.std.specs.List.{AllByRecursion}
 use Rattle.std.proofs.lemmas.Bool.{and_from, or_left}
 use Rattle.std.proofs.lemmas.List.Folds.{list_any-append}
 use Rattle.std.proofs.lemmas.List.Elements.{filter-append}
@@ -16,7 +16,7 @@ use Rattle.txn_trace.specs.Map.{Map, get, key_of, reply_of, after}
 use Rattle.txn_trace.specs.Now.{now, set_at}
 use Rattle.txn_trace.specs.Locks.{stripe_of, holder_of, has_begun, is_locked}
 use Rattle.txn_trace.specs.Serial.{serial}
-use Rattle.txn_trace.specs.Shape.{Seat, closed_seat, changes, row, seat_after, own, how_many}
+use Rattle.txn_trace.specs.Shape.{Seat, changes, row, seat_after, own, how_many}
 use Rattle.txn_trace.specs.Legal.{IsLegal, runs, is_running}
 use Rattle.txn_trace.specs.Log.{log_after, log_of}
 use Rattle.txn_trace.proofs.Pushes.{how_many-push}

@@ -13,6 +13,7 @@ ghost use Rattle.txn_trace.specs.Owed.{may_change};
 ghost use Rattle.stripe_part.specs.Calls.{IsRefused};
 ghost use Rattle.striped_map.specs.Additions.{above, due, entries_of};
 ghost use Rattle.striped_map.specs.Handling.{IsEnd, IsMiss, idle};
+ghost use Rattle.striped_map.specs.Lone.{RunsAlone};
 ghost use Rattle.striped_map.specs.Rule.{Holds};
 ghost use Rattle.striped_map.specs.Seats.{IsOf, known, stripes_of};
 ghost use Rattle.striped_map.specs.Sound.{AreHeld, AreLogged, IsSound, stripes_in};
@@ -303,7 +304,7 @@ impl Hand {
         ensures idle { (known self.new.seat).held ≡ [] }
         ensures committed { (place : ℕ) × (result ≡ place % 2 ^ 64)
             × Moves map.now self.old (Committed (known self.old.seat).number place ∷ [])
-            self.new }
+            self.new × RunsAlone (known self.old.seat).number place (known self.new.seat).seen }
     {
         let place = map.commit(&mut self.seat);
         self.order.clear();

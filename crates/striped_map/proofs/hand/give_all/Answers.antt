@@ -1,4 +1,4 @@
-use Rattle.std.proofs.Common.{◌≡◌, ℕ, ◌/◌, List, [], ◌∷◌, ◌++◌, reverse, rules, sym, refl, ap, subst, ◌∙◌}
+use Rattle.std.proofs.Common.{◌≡◌, ◌/◌, List, [], reverse, rules, sym, ap, subst, ◌∙◌}
 use Rattle.txn_trace.specs.declared.seat.Phase.TheVariants.{Closed}
 use Rattle.txn_trace.specs.Map.{Map, get}
 use Rattle.txn_trace.specs.Now.{now}

@@ -1,13 +1,11 @@
 use Rattle.std.specs.Prelude.{vec_len}
-use Rattle.std.proofs.Common.{◌≡◌, ◌≢◌, ℕ, suc, ◌+◌, ◌-◌, ◌/◌, ◌<◌, ◌≤◌, List, [], ◌∷◌, ◌++◌, Option, Some, slice_get, set, take, drop, length, sym, refl, ap, subst, ◌∙◌, arith}
+use Rattle.std.proofs.Common.{◌≡◌, ℕ, suc, ◌-◌, ◌/◌, ◌<◌, List, [], ◌∷◌, ◌++◌, Some, slice_get, length, sym, refl, subst, ◌∙◌, arith}
 use Rattle.txn_trace.specs.Locks.{stripe_of}
-use Rattle.txn_trace.specs.Map.{Map}
 use Rattle.txn_trace.specs.Now.{now, set_at}
 use Rattle.striped_map.specs.declared.held.Held.{Held}
 use Rattle.striped_map.specs.Additions.{due}
 use Rattle.striped_map.specs.Seats.{known}
-use Rattle.striped_map.specs.Sound.{AreHeld, AreLogged, stripes_in, log_in}
-use Rattle.striped_map.specs.Steps.{undone}
+use Rattle.striped_map.specs.Sound.{AreHeld, AreLogged, log_in}
 use Rattle.striped_map.proofs.Hands.{Job, newest, newest_log, part_at, place_in, read_at, stripe_at, some_same, parts_back, logged_back, back_step, back_done}
 use Rattle.striped_map.proofs.hand.take_back.Goals as goal
 

@@ -1,6 +1,6 @@
 use Rattle.std.proofs.Common.{ℕ, [], ◌∷◌, Result, Ok, Err, OnErr, subst, sym, ap, ◌∙◌}
 use Rattle.txn_trace.specs.declared.entry.Entry.TheVariants.{Committed}
-use Rattle.striped_map.specs.Callers.{number, IsStep, IsSince, IsWithin, IsRun}
+use Rattle.striped_map.specs.Callers.{number, IsStep, IsSince, IsWithin}
 use Rattle.striped_map.proofs.Within.{since_then, since_began}
 use Rattle.striped_map.proofs.caller.Caller.attempt.Goals as goal
 
@@ -14,8 +14,7 @@ returns-in_ok-place-in-Ok-clause-ok g c = λ a since.
     let step = c.in_ok-begin.ensures.ok in
     let u = c.work-outcome.new.arg2 in
     let within : IsWithin c.begin.new.self u.me.now = subst (λ b. IsWithin b u.me.now) (ap (λ s. s.value) keeps.1 ∙ c.of-before.ensures) u.within in
-    let done = c.in_ok-place-in-Ok.ensures.ok in
-    (
+    let done = c.in_ok-place-in-Ok.ensures.ok in (
       c.args.self.now,
       _,
       _,

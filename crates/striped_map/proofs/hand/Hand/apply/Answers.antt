@@ -1,7 +1,7 @@
-use Rattle.std.proofs.Common.{◌≡◌, ℕ, ◌+◌, ◌/◌, ◌<◌, Bool, true, false, cond, List, [], ◌∷◌, ◌++◌, Option, Some, slice_get, set, length, sym, ap, subst, ◌∙◌, arith}
+use Rattle.std.proofs.Common.{◌≡◌, ℕ, ◌/◌, Bool, true, false, cond, List, [], ◌∷◌, ◌++◌, Some, slice_get, set, sym, ap, subst, ◌∙◌}
 use Rattle.txn_trace.specs.declared.op.Op.{Op}
 use Rattle.txn_trace.specs.Locks.{stripe_of}
-use Rattle.txn_trace.specs.Map.{key_of, after}
+use Rattle.txn_trace.specs.Map.{key_of}
 use Rattle.txn_trace.specs.Now.{now}
 use Rattle.txn_trace.specs.Shape.{changes}
 use Rattle.stripe_part.specs.Calls.{Does}
@@ -9,7 +9,7 @@ use Rattle.striped_map.specs.declared.held.Held.{Held}
 use Rattle.striped_map.specs.Additions.{due}
 use Rattle.striped_map.specs.Handling.{under}
 use Rattle.striped_map.specs.Seats.{known}
-use Rattle.striped_map.specs.Sound.{IsSound, stripes_in}
+use Rattle.striped_map.specs.Sound.{IsSound}
 use Rattle.striped_map.specs.Steps.{noting, seat_of}
 use Rattle.striped_map.proofs.Hands.{part_at, place_in, read_at, stripe_at, holds_at, some_same, reply_right, parts_noted, logged_noted}
 use Rattle.striped_map.proofs.Lands.{may_note}

@@ -1,8 +1,7 @@
 use Rattle.std.specs.Prelude.{vec_len}
-use Rattle.std.proofs.Common.{◌≡◌, ℕ, ◌+◌, ◌-◌, ◌<◌, ◌≤◌, List, [], ◌∷◌, Some, take, drop, length, get_or, slice_index, refl, sym, ap, subst, ◌∙◌, arith}
+use Rattle.std.proofs.Common.{◌≡◌, ℕ, ◌+◌, ◌-◌, List, ◌∷◌, Some, take, drop, length, slice_index, sym, ap, subst, ◌∙◌, arith}
 use Rattle.std.proofs.lemmas.List.{take-append-drop, length-drop}
 use Rattle.txn_trace.specs.declared.entry.Entry.TheVariants.{Leave, Returned}
-use Rattle.txn_trace.specs.declared.seat.Phase.TheVariants.{Opened}
 use Rattle.txn_trace.specs.Now.{now}
 use Rattle.striped_map.specs.Additions.{due}
 use Rattle.striped_map.specs.Seats.{known}
@@ -10,7 +9,7 @@ use Rattle.striped_map.specs.Sound.{AreHeld, AreLogged, IsSound}
 use Rattle.striped_map.specs.Steps.{AddsIn, returning, seat_of, undone, undoing}
 use Rattle.striped_map.proofs.Ends.{moved}
 use Rattle.striped_map.proofs.Lands.{may_return}
-use Rattle.striped_map.proofs.Sounds.{sound_added, at_added, level_within, order_length, take_first}
+use Rattle.striped_map.proofs.Sounds.{sound_added, level_within, order_length, take_first}
 use Rattle.striped_map.proofs.hand.Hand.back.Goals as goal
 
 pub mark_of-mark-requires : goal.mark_of-mark-requires

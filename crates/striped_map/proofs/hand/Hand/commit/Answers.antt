@@ -1,10 +1,12 @@
-use Rattle.std.proofs.Common.{◌≡◌, ℕ, List, [], ◌∷◌, refl, sym, ap, subst, ◌∙◌}
+use Rattle.std.proofs.Common.{refl, sym, ap, subst}
 use Rattle.txn_trace.specs.declared.seat.Phase.TheVariants.{Closed}
 use Rattle.txn_trace.specs.Now.{now}
 use Rattle.striped_map.specs.declared.view.View.{View}
 use Rattle.striped_map.specs.Seats.{known}
 use Rattle.striped_map.specs.Sound.{IsSound}
-use Rattle.striped_map.specs.Steps.{at_end}
+use Rattle.striped_map.specs.Lone.{RunsAlone}
+use Rattle.striped_map.specs.Steps.{at_end, seat_of}
+use Rattle.striped_map.proofs.Alone.{commits_alone}
 use Rattle.striped_map.proofs.Ends.{moved_idle}
 use Rattle.striped_map.proofs.Hands.{parts_on}
 use Rattle.striped_map.proofs.Sounds.{sound_ended, sound_lists, at_added, at_idle}
@@ -34,5 +36,11 @@ pub returns-clause-idle : goal.returns-clause-idle
 returns-clause-idle c = ap (λ (v : View). v.held) c.give_all.ensures.idle
 
 pub returns-clause-committed : goal.returns-clause-committed
-returns-clause-committed c = let p = c.commit-place.ensures.committed in let w = known c.commit-place.new.seat in
-    (p.0, p.1, moved_idle _ _ _ w _ _ p.2 c.give_all.ensures.idle)
+returns-clause-committed c = let p = c.commit-place.ensures.committed in let w = known c.commit-place.new.seat in let me = c.args.self.now in let n = c.args.map.now.table.shared.table_id.slots in let v = known me.seat in
+    let s : IsSound n v me.held.items me.order.items me.levels.items = subst (λ z. IsSound z.slots v me.held.items me.order.items me.levels.items) c.requires.map me.sound in
+    let at = c.requires.open in (
+      p.0,
+      p.1,
+      moved_idle _ _ _ w _ _ p.2 c.give_all.ensures.idle,
+      subst (RunsAlone v.number p.0) (sym (ap (λ (x : View). x.seen) c.give_all.ensures.idle)) (commits_alone n v.number p.0 v.seen w.seen (seat_of v) s.legal at.seat_is at.phase_is p.2.goes),
+    )

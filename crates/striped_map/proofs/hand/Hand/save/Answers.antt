@@ -1,5 +1,4 @@
-use Rattle.std.proofs.Common.{◌≡◌, ℕ, ◌+◌, List, [], ◌∷◌, ◌++◌, length, sym, ap, subst, ◌∙◌, arith}
-use Rattle.txn_trace.specs.Now.{now}
+use Rattle.std.proofs.Common.{◌≡◌, ℕ, List, [], ◌∷◌, ◌++◌, sym, ap, subst, ◌∙◌, arith}
 use Rattle.striped_map.specs.Additions.{due}
 use Rattle.striped_map.specs.Seats.{known}
 use Rattle.striped_map.specs.Sound.{IsSound}

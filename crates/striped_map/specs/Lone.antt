@@ -1,0 +1,21 @@
+-- What a commit says of its transaction.
+use Rattle.std.specs.Prelude.{◌≡◌, ℕ, ◌+◌, List, [], ◌∷◌, ◌++◌, IsSome}
+use mathlib.Core.List.{IsPrefix}
+use Rattle.txn_trace.specs.declared.entry.Entry.{Entry}
+use Rattle.txn_trace.specs.declared.entry.Entry.TheVariants.{Began, Committed}
+use Rattle.txn_trace.specs.Alone.{alone}
+use Rattle.txn_trace.specs.History.{is_commit, of}
+use Rattle.txn_trace.specs.Serial.{serial}
+use Rattle.txn_trace.specs.Shape.{how_many}
+
+-- A transaction of the caller commits at this place in the history: the place is one more than the
+-- number of commits before it, and the transaction has the replies of running alone on the map that
+-- these commits leave.
+pub record RunsAlone (c place : ℕ) (log : List Entry) : Type 0 where
+  pub txn : ℕ
+  pub inner : List Entry
+  pub whole : of txn log ≡ Began c txn ∷ inner ++ Committed c place ∷ []
+  pub before : List Entry
+  pub there : IsPrefix (before ++ Committed c place ∷ []) log
+  pub number : place ≡ how_many is_commit before + 1
+  pub replied : IsSome (alone (serial before) (Began c txn ∷ inner ++ Committed c place ∷ []))
