@@ -36,7 +36,7 @@
 //! after every call but `boostmap_free`. The judge's verdict is that of `history_check` on the
 //! entries that it was fed, which are those that C's numbers say.
 //!
-//! A crossing costs some 45 instructions and takes no memory.
+//! A crossing takes no memory: `boostmap_count`, with its caller's loop, is 24 instructions.
 #![tactic(auto)]
 
 mod c_entry;
