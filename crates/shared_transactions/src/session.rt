@@ -5,8 +5,7 @@
 //! method. A `run` that starts threads gets no proof from the toolchain: what it sends to a thread
 //! rests on the bounds of the method. A caller with threads names the ledger itself, as `visits`.
 ghost use Rattle.std.specs.Prelude.{◌≡◌, IfOk, map};
-ghost use Rattle.std.specs.List.{range_with_len};
-ghost use Rattle.locked_map.specs.Tokens.{new_ticket};
+ghost use Rattle.locked_map.specs.Tokens.{AreTickets};
 
 use locked_map::{Caller, NoSide, Pass, SharedMap};
 use std::alloc::{AllocError, Global};
@@ -31,8 +30,7 @@ pub trait Session<R> {
         passes: Vec<Pass<L>>,
     ) -> Self::Output
         requires parts { shared.limits.callers ≡ L.parts }
-        requires passes { passes.items
-            ≡ map (new_ticket shared.limits) (range_with_len 0 shared.limits.callers) }
+        requires passes { AreTickets shared.limits passes.items }
         ensures { promises self result };
 }
 

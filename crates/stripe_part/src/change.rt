@@ -1,4 +1,5 @@
-//! What is done to a table and the jobs of its open transaction.
+//! What is done to a table and the jobs of its open transaction. These are functions of the two
+//! fields, and not methods of `LoggedTable`, since its invariant does not hold between their steps.
 ghost use Rattle.std.specs.Prelude.{◌≡◌, ◌≢◌, ℕ, ◌<◌, Option, Some, List, [], ◌∷◌, ◌++◌, true, option_to_list, IfOk, IfErr, OnOk, OnErr, vec_capacity, vec_len};
 ghost use Rattle.txn_trace.specs.Owed.{may_change};
 ghost use Rattle.map_ops.specs.TableAt.{IsClean, nodes_of};
@@ -46,7 +47,7 @@ fn unput_key(job: &MapJob) -> Option<u64> {
     }
 }
 
-/// Does an operation, and keeps its job.
+/// Does an operation, and adds its job as the newest, if it is a change.
 pub(crate) fn apply(table: &mut Table, jobs: &mut Vec<MapJob>, op: Op) -> Result<Reply, Refusal>
     requires { IsSound table.old jobs.old.items }
     ensures ok { IfOk result (Does (part_of table.old jobs.old.items)
@@ -65,7 +66,7 @@ pub(crate) fn apply(table: &mut Table, jobs: &mut Vec<MapJob>, op: Op) -> Result
     Ok(reply)
 }
 
-/// Takes the newest change back.
+/// Runs the newest job, and unlinks the node that it has marked, if it took its key out.
 pub(crate) fn take_back(table: &mut Table, jobs: &mut Vec<MapJob>)
     requires sound { IsSound table.old jobs.old.items }
     requires some { log_of jobs.old.items ≢ [] }
@@ -83,7 +84,7 @@ pub(crate) fn take_back(table: &mut Table, jobs: &mut Vec<MapJob>)
     tidy(table, unput);
 }
 
-/// Lets the jobs go, so that their changes stay.
+/// Lets all jobs go, with their spares, so that their changes stay.
 pub(crate) fn settle(table: &mut Table, jobs: &mut Vec<MapJob>)
     requires { IsSound table.old jobs.old.items }
     ensures nodes { nodes_of table.new ≡ nodes_of table.old }

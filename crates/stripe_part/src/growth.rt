@@ -1,4 +1,6 @@
-//! Growth.
+//! Growth within a put: the table doubles if it has more than two keys a bucket, and the bucket of
+//! the key is initialised. Each step that is refused, for memory or otherwise, ends growth for this
+//! put and leaves the table sound, so no answer of these functions is looked at by their caller.
 ghost use Rattle.std.specs.Prelude.{◌≡◌};
 ghost use Rattle.map_ops.specs.TableAt.{IsClean};
 ghost use Rattle.stripe_part.specs.Stays.{Stays};
@@ -8,7 +10,8 @@ use map_ops::{InitSeek, Key, Table};
 use split_key::bucket_of;
 use txn_trace::Refusal;
 
-/// Initialises a bucket whose parent is initialised.
+/// Initialises a bucket whose parent is initialised: its dummy is sought, linked and stored, by
+/// helper 0. Nothing comes in between, so the cursor fits.
 fn init(table: &mut Table, bucket: u32) -> Result<(), Refusal>
     ensures { Stays table.old table.new }
 {
@@ -33,7 +36,7 @@ fn init_from_oldest(table: &mut Table, bucket: u32)
     }
 }
 
-/// Doubles the table where it is due, and initialises the bucket of a key.
+/// Doubles the table if it is due, and initialises the bucket of a key.
 pub(crate) fn grow(table: &mut Table, key: u64)
     ensures stays { Stays table.old table.new }
     ensures clean { IsClean table.new }

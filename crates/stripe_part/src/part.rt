@@ -1,4 +1,5 @@
-//! The part.
+//! The public type: a box with the table and its log, made at the first change. Until then a part
+//! is empty, and the calls answer as on the empty map.
 ghost use Rattle.std.specs.Prelude.{◌≡◌, ◌≢◌, ℕ, [], ◌∷◌, List, Option, length, IfOk, IfErr, OnErr};
 ghost use Rattle.txn_trace.specs.Map.{count_of};
 ghost use Rattle.txn_trace.specs.Ordered.{ordered};
@@ -11,6 +12,14 @@ use std::marker::Model;
 use txn_trace::{Op, Refusal, Reply};
 
 /// The table of one stripe, with the changes of the open transaction that can be taken back.
+///
+/// A contract sees a `PartAt`: the content, a finite map, and the log, newest first, of each change
+/// its key and the value before it.
+///
+/// # Cost
+///
+/// An empty part takes no memory. It takes some at the first change: one box for the table and the
+/// log, and what the table takes.
 #[derive(Drop)]
 pub struct Part {
     inner: Option<Box<LoggedTable>>,
@@ -27,7 +36,7 @@ impl Model for Part {
     ghost view = { λ p. unwrap_or (option_map (λ b. b.value) p.inner) nothing };
 }
 
-/// A logged table in a box.
+/// An empty table with an empty log, in a box, or `NoMemory`.
 fn boxed(alloc: Global) -> Result<Box<LoggedTable>, Refusal>
     ensures ok { IfOk result (λ made. made.value ≡ nothing) }
     ensures err { IfErr result (λ refusal. refusal ≡ Refusal.NoMemory) }
@@ -39,14 +48,30 @@ fn boxed(alloc: Global) -> Result<Box<LoggedTable>, Refusal>
 }
 
 impl Part {
-    /// An empty part.
+    /// An empty part, with no change to take back.
+    ///
+    /// # Cost
+    ///
+    /// Constant time; takes no memory.
     pub fn new() -> Part
         ensures { result ≡ nothing }
     {
         Part { inner: None }
     }
 
-    /// Does an operation.
+    /// Does an operation: the reply and the content that it leaves are those of a plain map. If it
+    /// is a change, the log has it in front.
+    ///
+    /// # Errors
+    ///
+    /// `NoMemory` if memory is refused, and `StampsUsedUp` if the table has given 2^64 - 2 stamps;
+    /// never for a get. Each leaves content and log unchanged.
+    ///
+    /// # Cost
+    ///
+    /// Amortized constant time, since the table grows within a put up to 4,096 buckets; beyond two
+    /// keys in each of these time in proportion to the keys of a bucket. May take memory, a get
+    /// none.
     pub fn apply(&mut self, alloc: Global, op: Op) -> Result<Reply, Refusal>
         ensures ok { IfOk result (Does self.old self.new op) }
         ensures err { IfErr result (IsRefused op) }
@@ -64,7 +89,12 @@ impl Part {
         Ok(reply)
     }
 
-    /// Takes the newest change back.
+    /// Takes the newest change back: its key has the value before it, and all other keys what they
+    /// have now. The log has the older changes. Wants a change in the log (`changes`).
+    ///
+    /// # Cost
+    ///
+    /// That of a seek for the key, as `apply`; takes no memory.
     pub fn take_back(&mut self)
         requires { self.old.log ≢ [] }
         ensures { (key : ℕ) (before : Option ℕ) (older : List (ℕ × Option ℕ))
@@ -76,7 +106,11 @@ impl Part {
         }
     }
 
-    /// Settles the changes: they stay.
+    /// Keeps all changes and empties the log: they can be taken back no more.
+    ///
+    /// # Cost
+    ///
+    /// Constant time for each change; takes no memory.
     pub fn settle(&mut self)
         ensures content { self.new.content ≡ self.old.content }
         ensures log { self.new.log ≡ [] }
@@ -86,7 +120,7 @@ impl Part {
         }
     }
 
-    /// How many changes can be taken back.
+    /// How many changes can be taken back. Constant time.
     pub fn changes(&self) -> usize
         ensures { result ≡ length self.now.log }
     {
@@ -96,7 +130,7 @@ impl Part {
         }
     }
 
-    /// How many keys there are.
+    /// How many keys there are. Constant time.
     pub fn len(&self) -> u64
         ensures { result ≡ count_of self.now.content }
     {
@@ -106,7 +140,15 @@ impl Part {
         }
     }
 
-    /// The keys with their values.
+    /// The keys with their values, each once, in the order of their split keys.
+    ///
+    /// # Errors
+    ///
+    /// `AllocError` if memory is refused.
+    ///
+    /// # Cost
+    ///
+    /// Time and memory in proportion to the keys and the buckets.
     pub fn pairs(&self, alloc: Global) -> Result<Vec<(u64, u64)>, AllocError>
         ensures { IfOk result (λ pairs. pairs.items ≡ ordered self.now.content) }
     {

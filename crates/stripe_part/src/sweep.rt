@@ -1,4 +1,5 @@
-//! No marked node stays.
+//! Unlinking of marked nodes at once, so that none stays from one call to the next. The sweep at the
+//! end of each call finds nothing, in constant time, and is what proves that nothing is left.
 ghost use Rattle.std.specs.Prelude.{◌≡◌, Option};
 ghost use Rattle.map_ops.specs.TableAt.{IsClean};
 ghost use Rattle.stripe_part.specs.Stays.{Stays};
@@ -19,7 +20,8 @@ pub(crate) fn sweep_all(table: &mut Table)
     }
 }
 
-/// Unlinks the marked nodes. If the marked one is this key's, a seek for the key finds it.
+/// Unlinks the marked nodes. If a key is given, it is the one that was taken out, and a seek for it
+/// unlinks its node.
 pub(crate) fn tidy(table: &mut Table, key: Option<u64>)
     ensures stays { Stays table.old table.new }
     ensures clean { IsClean table.new }
