@@ -8,7 +8,7 @@ pub(crate) enum Addition {
     Note(Op, Reply),
     /// A savepoint.
     Save,
-    /// The return to a level, for which so many changes were taken back.
+    /// The return to a level, and how many changes were taken back for it.
     Back(u64, usize),
     /// The end of the transaction, for which all changes were taken back.
     Abort,

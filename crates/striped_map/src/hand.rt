@@ -28,7 +28,7 @@ use std::alloc::Global;
 use txn_trace::{Op, Refusal, Reply};
 
 /// A seat with the parts that it has taken, and what there is to take back. It may be let go only
-/// where it holds no stripe.
+/// if it holds no stripe.
 pub(crate) struct Hand {
     pub(crate) seat: MapSeat,
     held: Vec<Held>,
@@ -73,7 +73,7 @@ fn under(op: Op, key: u64) -> Op
     }
 }
 
-/// Takes changes back, the newest first, in the parts, down to so many. It takes no memory.
+/// Takes changes back in the parts, the newest first, until `mark` are left. It takes no memory.
 fn take_back(
     stripes: usize,
     seat: &MapSeat,

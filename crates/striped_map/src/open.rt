@@ -17,13 +17,13 @@ pub const MOST: usize = 4096;
 ///
 /// # Errors
 ///
-/// `Limit` where there are no stripes, or more than 4,096 stripes or callers; `NoMemory` where
+/// `Limit` if there are no stripes, or more than 4,096 stripes or callers; `NoMemory` if
 /// memory is refused.
 ///
 /// # Cost
 ///
-/// Time and memory in proportion to the stripes and the callers: 88 bytes a stripe, before it has
-/// keys.
+/// Time and memory in proportion to the stripes and the callers. A part takes memory with its first
+/// change.
 pub fn open_map(
     alloc: Global,
     stripes: usize,

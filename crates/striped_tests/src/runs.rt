@@ -68,21 +68,19 @@ fn open(alloc: Global, callers: usize) -> Result<(Host, Vec<Caller>), Fail> {
 /// Answers how many rows were right before the first that was wrong.
 fn rows_right(alloc: Global, rows: &[(usize, Ask, Told)]) -> Result<usize, Fail> {
     let (_host, mut callers) = open(alloc, 2)?;
-    let mut right = 0;
-    for (place, what, told) in rows {
+    for (right, (place, what, told)) in rows.iter().enumerate() {
         let Some(caller) = callers.get_mut(*place) else {
             return Ok(right);
         };
-        let answer = match answer(caller, *what) {
-            Ok(answer) => answer,
+        let answered = match answer(caller, *what) {
+            Ok(answered) => answered,
             Err(stop) => Told::Stopped(stop),
         };
-        if answer != *told {
+        if answered != *told {
             return Ok(right);
         }
-        right += 1;
     }
-    Ok(right)
+    Ok(rows.len())
 }
 
 /// A refusal.
