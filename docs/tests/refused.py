@@ -58,10 +58,10 @@ program_tests engines::failing::mix_without_memory
 program_tests engines::failing::run_without_memory
 program_tests commands::refused_allocations
 """
-# Tests that ask for no more bytes at once than this, and for so many once: what a list takes for
-# its counts of marked nodes is the largest that a small core wants.
+# Tests that ask for no more bytes at once than this, and for so many once: the list's counts of
+# marked nodes, 4,096 of 8 bytes, are the largest that a small core wants.
 LARGEST = """
-core_tests cores::nine_undone_newest_first 33280
+core_tests cores::nine_undone_newest_first 32768
 """
 # What an assertion says of a call that was refused memory.
 OF_MEMORY = re.compile("AllocError|AllocFailed|NoMemory")
