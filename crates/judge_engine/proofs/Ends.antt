@@ -1,0 +1,67 @@
+-- How reading ends, and what is written then.
+use Rattle.std.proofs.Common.{◌≡◌, ℕ, List, [], ◌++◌, Option, Some, None, Result, Ok, Err, take, refl}
+use Rattle.std.specs.Prelude.{IfOk, IfErr, MatchResult, IfSome}
+use Rattle.std.specs.Io.KnownBytes.{Consumes, IsAtEnd, Keeps}
+use Rattle.history_check.specs.declared.verdict.Verdict.{Verdict}
+use Rattle.judge_engine.specs.declared.basis.Basis.{Basis}
+use Rattle.judge_engine.specs.declared.fault.Fault.{Fault}
+use Rattle.judge_engine.specs.declared.fault.Fault.TheVariants.{Input, Line, NoMemory, Read, Write}
+use Rattle.entry_lines.specs.Lines.{history_of_lines}
+use Rattle.judge_engine.specs.Files.{FailsToCheck, IsUnjudgedFile, max_read, OfFile}
+use Rattle.judge_engine.specs.Outputs.{FailsToWrite, Leaves}
+use Rattle.judge_engine.specs.Watching.{FailsToWatch, IsJudgedLines, IsRefusedLine, IsUnjudged, Watches}
+use Rattle.judge_engine.proofs.Known.{OfAll-early, OfAll-read}
+
+-- ---- results
+
+pub ok_each : {A B : Type 0} (r : Result A B) (W : Basis → Type 0) (P : Basis → A → Type 0) (Q : Basis → B → Type 0) → ((basis : Basis) → W basis → MatchResult r (P basis) (Q basis)) → IfOk r (λ x. (basis : Basis) → W basis → P basis x)
+ok_each (Ok x) W P Q f = f
+ok_each (Err e) W P Q f = tt
+
+pub err_each : {A B : Type 0} (r : Result A B) (W : Basis → Type 0) (P : Basis → A → Type 0) (Q : Basis → B → Type 0) → ((basis : Basis) → W basis → MatchResult r (P basis) (Q basis)) → IfErr r (λ e. (basis : Basis) → W basis → Q basis e)
+err_each (Ok x) W P Q f = tt
+err_each (Err e) W P Q f = f
+
+pub err_more : {A B : Type 0} (r : Result A B) (P Q : B → Type 0) → ((e : B) → P e → Q e) → IfErr r P → IfErr r Q
+err_more (Ok x) P Q f h = tt
+err_more (Err e) P Q f h = f e h
+
+-- ---- reading
+
+failed_at_end : (basis : Basis) (a b : Option (List ℕ)) (bytes : List ℕ) (fault : Fault) → Consumes a b bytes → IsAtEnd b → IsUnjudged basis bytes fault → FailsToWatch basis a fault
+failed_at_end basis a b bytes (Line number fault) p end h = OfAll-read (λ bs. IsRefusedLine basis (history_of_lines bs) number fault) a b bytes p end h
+failed_at_end basis a b bytes NoMemory p end h = tt
+failed_at_end basis a b bytes Read p end h = tt
+failed_at_end basis a b bytes (Input fault) p end h = h
+failed_at_end basis a b bytes Write p end h = h
+
+pub ended : (basis : Basis) (a b : Option (List ℕ)) (bytes : List ℕ) (r : Result Verdict Fault) → Consumes a b bytes → IsAtEnd b → MatchResult r (IsJudgedLines basis bytes) (IsUnjudged basis bytes) → MatchResult r (Watches basis a) (FailsToWatch basis a)
+ended basis a b bytes (Ok outcome) p end h = OfAll-read (λ bs. IsJudgedLines basis bs outcome) a b bytes p end h
+ended basis a b bytes (Err fault) p end h = failed_at_end basis a b bytes fault p end h
+
+pub failed_early : (basis : Basis) (a b : Option (List ℕ)) (bytes : List ℕ) (fault : Fault) → Consumes a b bytes → ((more : List ℕ) → IsUnjudged basis (bytes ++ more) fault) → FailsToWatch basis a fault
+failed_early basis a b bytes (Line number fault) p h = OfAll-early (λ bs. IsRefusedLine basis (history_of_lines bs) number fault) a b bytes p h
+failed_early basis a b bytes NoMemory p h = tt
+failed_early basis a b bytes Read p h = tt
+failed_early basis a b bytes (Input fault) p h = h []
+failed_early basis a b bytes Write p h = h []
+
+-- ---- what is written at a fault
+
+keeps_all : (a : Option (List ℕ)) → Keeps a a
+keeps_all None = tt
+keeps_all (Some xs) = refl
+
+pub leaves_watch : (P : Verdict → Type 0) (basis : Basis) (remaining old : Option (List ℕ)) (fault : Fault) → FailsToWatch basis remaining fault → Leaves P (FailsToWatch basis remaining) old old fault
+leaves_watch P basis remaining old (Line number fault) h = (keeps_all old, h)
+leaves_watch P basis remaining old NoMemory h = keeps_all old
+leaves_watch P basis remaining old Read h = keeps_all old
+leaves_watch P basis remaining old (Input fault) h = absurd h
+leaves_watch P basis remaining old Write h = absurd h
+
+pub leaves_check : (P : Verdict → Type 0) (remaining old : Option (List ℕ)) (bytes : List ℕ) (fault : Fault) → IfSome remaining (λ all. bytes ≡ take max_read all) → IsUnjudgedFile bytes fault → Leaves P (FailsToCheck remaining) old old fault
+leaves_check P remaining old bytes (Input fault) known h = (keeps_all old, (bytes, known, h))
+leaves_check P remaining old bytes NoMemory known h = keeps_all old
+leaves_check P remaining old bytes Read known h = keeps_all old
+leaves_check P remaining old bytes (Line number fault) known h = absurd h
+leaves_check P remaining old bytes Write known h = absurd h

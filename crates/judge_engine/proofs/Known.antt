@@ -1,0 +1,32 @@
+-- What is known of the bytes of a reader.
+use Rattle.std.proofs.Common.{◌≡◌, ℕ, List, [], ◌++◌, take, Option, Some, None, refl, sym, ap, subst, ◌∙◌, append_assoc, append-nil}
+use Rattle.std.specs.Prelude.{IfSome, option_map}
+use Rattle.std.specs.Io.KnownBytes.{Consumes, IsAtEnd}
+
+pub first_of : (known : Option (List ℕ)) (n : ℕ) (bytes : List ℕ) → IfSome (option_map (take n) known) (λ some. bytes ≡ some) → IfSome known (λ all. bytes ≡ take n all)
+first_of None n bytes h = tt
+first_of (Some all) n bytes h = h
+
+pub Consumes-none : (a : Option (List ℕ)) → Consumes a a []
+Consumes-none None = tt
+Consumes-none (Some us) = refl
+
+pub Consumes-more : (a b c : Option (List ℕ)) (xs ys : List ℕ) → Consumes a b xs → Consumes b c ys → Consumes a c (xs ++ ys)
+Consumes-more None b c xs ys p q = tt
+Consumes-more (Some us) None c xs ys p q = absurd p
+Consumes-more (Some us) (Some vs) None xs ys p q = absurd q
+Consumes-more (Some us) (Some vs) (Some ws) xs ys p q = p ∙ ap (λ (s : List ℕ). xs ++ s) q ∙ sym (append_assoc xs ys ws)
+
+-- What holds whatever comes after what was read holds of all.
+pub OfAll-early : (P : List ℕ → Type 0) (a b : Option (List ℕ)) (xs : List ℕ) → Consumes a b xs → ((more : List ℕ) → P (xs ++ more)) → (bytes : List ℕ) × IfSome a (λ all. bytes ≡ all) × P bytes
+OfAll-early P None b xs p h = (xs ++ [], tt, h [])
+OfAll-early P (Some us) None xs p h = absurd p
+OfAll-early P (Some us) (Some vs) xs p h = (us, refl, subst P (sym p) (h vs))
+
+-- All was read.
+pub OfAll-read : (P : List ℕ → Type 0) (a b : Option (List ℕ)) (xs : List ℕ) → Consumes a b xs → IsAtEnd b → P xs → (bytes : List ℕ) × IfSome a (λ all. bytes ≡ all) × P bytes
+OfAll-read P None b xs p end h = (xs, tt, h)
+OfAll-read P (Some us) None xs p end h = absurd p
+OfAll-read P (Some us) (Some vs) xs p end h =
+    let same : us ≡ xs = p ∙ ap (λ (s : List ℕ). xs ++ s) end ∙ append-nil xs in
+    (us, refl, subst P (sym same) h)

@@ -1,0 +1,7 @@
+pub mod Ends
+pub mod Feeding
+pub mod Histories
+pub mod Known
+pub mod LineLemmas
+pub mod Settled
+pub mod Taking

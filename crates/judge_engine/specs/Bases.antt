@@ -1,0 +1,35 @@
+-- By which rules a history is judged.
+use Rattle.std.specs.Prelude.{ℕ, ◌<◌, List}
+use Rattle.txn_trace.specs.declared.entry.Entry.{Entry}
+use Rattle.txn_trace.specs.Legal.{IsLegal}
+use Rattle.history_check.specs.declared.verdict.Verdict.{Verdict}
+use Rattle.history_check.specs.Fed as locks
+use Rattle.history_check.specs.Verdicts as locks_verdicts
+use Rattle.serial_check.specs.Fed as commits
+use Rattle.serial_check.specs.Verdicts as commits_verdicts
+use Rattle.serial_check.specs.Serializable.{IsSerializable}
+use Rattle.judge_engine.specs.declared.basis.Basis.{Basis}
+use Rattle.judge_engine.specs.declared.basis.Basis.TheVariants.{Locks, Commits}
+use Rattle.judge_engine.specs.declared.judge.Judge.{Judge}
+use Rattle.judge_engine.specs.declared.judge.Judge.TheVariants as judges
+
+-- There is a stripe, where there are stripes.
+abbrev pub HasStripes : Basis → Type 0
+HasStripes (Locks stripes holder) = 0 < stripes
+HasStripes Commits = Unit {0}
+
+-- The history is legal by locks, or serializable in the order of its commits.
+abbrev pub IsLegalBy : Basis → List Entry → Type 0
+IsLegalBy (Locks stripes holder) h = IsLegal holder stripes h
+IsLegalBy Commits h = IsSerializable h
+
+-- The verdict on a history: the one of the definitions, which says legal exactly where it is.
+abbrev pub IsVerdictBy : Basis → List Entry → Verdict → Type 0
+IsVerdictBy (Locks stripes holder) h outcome = locks_verdicts.IsVerdictOn holder stripes h outcome
+IsVerdictBy Commits h outcome = commits_verdicts.IsVerdictOn h outcome
+
+-- The judge was fed these entries, in this order, and judges by these rules.
+abbrev pub IsFedBy : Basis → List Entry → Judge → Type 0
+IsFedBy (Locks stripes holder) h (judges.Locks checker) = locks.IsFed holder stripes h checker
+IsFedBy Commits h (judges.Commits checker) = commits.IsFed h checker
+IsFedBy basis h judge = ⊥

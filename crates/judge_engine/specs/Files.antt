@@ -1,0 +1,61 @@
+-- What is said of a history file.
+use Rattle.std.specs.Prelude.{◌≡◌, ℕ, Bool, true, false, nat_le, List, take, Option, Ok, Err, IfSome, if◌then◌else◌}
+use Rattle.txn_trace.specs.declared.entry.Entry.{Entry}
+use Rattle.txn_trace.specs.declared.holder.Holder.{Holder}
+use Rattle.txn_trace.specs.declared.holder.Holder.TheVariants.{Now, Begun}
+use Rattle.txn_files.specs.HistoryFile.{history_of}
+use Rattle.history_check.specs.declared.verdict.Verdict.{Verdict}
+use Rattle.judge_engine.specs.declared.basis.Basis.{Basis}
+use Rattle.judge_engine.specs.declared.basis.Basis.TheVariants.{Locks, Commits}
+use Rattle.judge_engine.specs.declared.fault.Fault.{Fault}
+use Rattle.judge_engine.specs.declared.fault.Fault.TheVariants.{Input, Line, NoMemory, Read, Write}
+use Rattle.judge_engine.specs.Bases.{IsVerdictBy}
+
+-- Whom a Busy may name in a history file of this version: in versions 1 and 2 a caller that holds
+-- the stripe, after them one that has begun a transaction.
+abbrev pub holder_in : ℕ → Holder
+holder_in version = if nat_le version 2 then Now else Begun
+
+-- By which rules a history file is judged.
+abbrev pub basis_of : Bool → ℕ → ℕ → Basis
+basis_of true stripes version = Commits
+basis_of false stripes version = Locks stripes (holder_in version)
+
+-- The verdict on the history that the bytes are: in the order of its commits, or by the locks of
+-- the file's stripes.
+pub record IsJudgedFile (by_commits : Bool) (bytes : List ℕ) (outcome : Verdict) : Type 0 where
+  pub stripes : ℕ
+  pub history : List Entry
+  pub version : ℕ
+  pub file : history_of bytes ≡ Ok (stripes, history, version)
+  pub verdict : IsVerdictBy (basis_of by_commits stripes version) history outcome
+
+-- Why there is no verdict on bytes as a file: they are refused, memory was, or a read failed.
+abbrev pub IsUnjudgedFile : List ℕ → Fault → Type 0
+IsUnjudgedFile bytes (Input fault) = history_of bytes ≡ Err fault
+IsUnjudgedFile bytes NoMemory = Unit {0}
+IsUnjudgedFile bytes Read = Unit {0}
+IsUnjudgedFile bytes (Line number fault) = ⊥
+IsUnjudgedFile bytes Write = ⊥
+
+-- One byte more than a file may have.
+abbrev pub max_read : ℕ
+max_read = 16777217
+
+-- So of the bytes that a reader had left, or of the first of them, one more than a file may have.
+abbrev pub OfFile : Option (List ℕ) → (List ℕ → Type 0) → Type 0
+OfFile remaining P = (bytes : List ℕ) × IfSome remaining (λ all. bytes ≡ take max_read all) × P bytes
+
+-- The verdict on the history file that a reader had left.
+abbrev pub Checks : Bool → Option (List ℕ) → Verdict → Type 0
+Checks by_commits remaining outcome =
+    OfFile remaining (λ bytes. IsJudgedFile by_commits bytes outcome)
+
+-- Why there is no verdict on the history file that a reader had left.
+abbrev pub FailsToCheck : Option (List ℕ) → Fault → Type 0
+FailsToCheck remaining (Input fault) =
+    OfFile remaining (λ bytes. IsUnjudgedFile bytes (Input fault))
+FailsToCheck remaining NoMemory = Unit {0}
+FailsToCheck remaining Read = Unit {0}
+FailsToCheck remaining (Line number fault) = ⊥
+FailsToCheck remaining Write = ⊥

@@ -1,0 +1,20 @@
+-- What reading a line does to a judge.
+use Rattle.std.specs.Prelude.{◌≡◌, List, [], ◌∷◌, ◌++◌, Option, Some, None, Result, Ok, Err}
+use Rattle.txn_trace.specs.declared.entry.Entry.{Entry}
+use Rattle.piece_files.specs.declared.file_fault.FileFault.{FileFault}
+use Rattle.judge_engine.specs.declared.basis.Basis.{Basis}
+use Rattle.judge_engine.specs.declared.judge.Judge.{Judge}
+use Rattle.judge_engine.specs.Bases.{IsFedBy}
+
+-- The entries of a line: one, or none where it is blank.
+abbrev pub those : Option Entry → List Entry
+those None = []
+those (Some entry) = entry ∷ []
+
+-- The judge, which was fed these entries, was fed those of the line too; or the line is refused
+-- with this fault, and it was fed no more.
+abbrev pub ReadsLine : Basis → List Entry → Result (Option Entry) FileFault → Option FileFault
+    → Judge → Type 0
+ReadsLine basis h line None judge =
+    (found : Option Entry) × (line ≡ Ok found) × IsFedBy basis (h ++ those found) judge
+ReadsLine basis h line (Some fault) judge = (line ≡ Err fault) × IsFedBy basis h judge

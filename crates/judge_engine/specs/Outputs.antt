@@ -1,0 +1,43 @@
+-- What is written of a verdict.
+use Rattle.std.specs.Prelude.{◌≡◌, ℕ, Bool, true, false, List, [], ◌∷◌, ◌++◌, Option}
+use Rattle.std.specs.Io.KnownBytes.{Appends, Keeps}
+use Rattle.history_check.specs.declared.verdict.Verdict.{Verdict}
+use Rattle.history_check.specs.declared.verdict.Verdict.TheVariants.{Legal, Illegal}
+use Rattle.history_check.specs.Verdicts.{verdict_words}
+use Rattle.judge_engine.specs.declared.fault.Fault.{Fault}
+use Rattle.judge_engine.specs.declared.fault.Fault.TheVariants.{Input, Line, NoMemory, Read, Write}
+
+-- The line of a verdict.
+abbrev pub verdict_line : Verdict → List ℕ
+verdict_line outcome = verdict_words outcome ++ 10 ∷ []
+
+-- Whether a verdict is that the history is legal.
+abbrev pub says_legal : Verdict → Bool
+says_legal (Legal commits running) = true
+says_legal (Illegal entry rule) = false
+
+-- What was written where a verdict was not: nothing for want of memory. Of a write that failed
+-- nothing is said.
+abbrev pub FailsToWrite : Option (List ℕ) → Option (List ℕ) → Fault → Type 0
+FailsToWrite old new Write = Unit {0}
+FailsToWrite old new NoMemory = Keeps old new
+FailsToWrite old new Read = ⊥
+FailsToWrite old new (Input fault) = ⊥
+FailsToWrite old new (Line number fault) = ⊥
+
+-- The line of such a verdict was written, and this is whether it says legal.
+abbrev pub WritesLine : (Verdict → Type 0) → Bool → Option (List ℕ) → Option (List ℕ) → Type 0
+WritesLine IsRight legal old new =
+    (outcome : Verdict) × IsRight outcome × (legal ≡ says_legal outcome)
+    × Appends old new (verdict_line outcome)
+
+-- What was written at a fault: nothing, and the fault is such a one. Where a write failed there is
+-- such a verdict.
+abbrev pub Leaves : (Verdict → Type 0) → (Fault → Type 0) → Option (List ℕ) → Option (List ℕ)
+    → Fault → Type 0
+Leaves IsRight IsWrong old new Write =
+    (outcome : Verdict) × IsRight outcome
+Leaves IsRight IsWrong old new (Input fault) = Keeps old new × IsWrong (Input fault)
+Leaves IsRight IsWrong old new (Line number fault) = Keeps old new × IsWrong (Line number fault)
+Leaves IsRight IsWrong old new NoMemory = Keeps old new
+Leaves IsRight IsWrong old new Read = Keeps old new

@@ -1,0 +1,29 @@
+-- What a watcher makes of the bytes that it took in.
+use Rattle.std.specs.Prelude.{◌≡◌, ℕ, List, ◌++◌, Option, Some, None}
+use Rattle.txn_trace.specs.declared.entry.Entry.{Entry}
+use Rattle.piece_files.specs.declared.file_fault.FileFault.{FileFault}
+use Rattle.entry_lines.specs.Lines.{history_from, history_of_lines, lines_of}
+use Rattle.judge_engine.specs.declared.basis.Basis.{Basis}
+use Rattle.judge_engine.specs.declared.watcher.Watcher.{Watcher}
+use Rattle.judge_engine.specs.Bases.{IsFedBy}
+use Rattle.judge_engine.specs.Breaks.{IsUnbroken}
+
+-- Entries before those that lines are.
+abbrev pub ahead : List Entry → List Entry × Option (ℕ × FileFault)
+    → List Entry × Option (ℕ × FileFault)
+ahead h more = (h ++ more.0, more.1)
+
+-- After the bytes the entries are these, and of the line of this number this part has come; or a
+-- line was refused so. It holds whatever bytes come after.
+abbrev pub StandsAt : List ℕ → List Entry → List ℕ → ℕ → Option (ℕ × FileFault) → Type 0
+StandsAt bytes h part number None =
+    IsUnbroken part × ((more : List ℕ) → history_of_lines (bytes ++ more)
+    ≡ ahead h (history_from number (lines_of (part ++ more))))
+StandsAt bytes h part number (Some refused) =
+    (more : List ℕ) → history_of_lines (bytes ++ more) ≡ (h, Some refused)
+
+-- The watcher took in these bytes, and judges by these rules.
+pub record TookIn (basis : Basis) (bytes : List ℕ) (watcher : Watcher) : Type 0 where
+  pub entries : List Entry
+  pub fed : IsFedBy basis entries watcher.judge
+  pub place : StandsAt bytes entries watcher.part.items watcher.number watcher.refused

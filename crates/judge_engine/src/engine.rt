@@ -1,0 +1,89 @@
+ghost use Rattle.std.specs.Prelude.{IfOk, IfErr};
+ghost use Rattle.judge_engine.specs.Bases.{HasStripes};
+ghost use Rattle.judge_engine.specs.Files.{Checks, FailsToCheck};
+ghost use Rattle.judge_engine.specs.Outputs.{Leaves, WritesLine};
+ghost use Rattle.judge_engine.specs.Watching.{FailsToWatch, Watches};
+
+use crate::basis::Basis;
+use crate::fault::Fault;
+use crate::file::judge_file;
+use crate::output::write_verdict;
+use crate::reading::{read_file, watch_lines};
+use std::alloc::Global;
+use std::io::{Read, Write};
+
+/// Reads entries, one a line, judges each as it comes, and writes the verdict as one line that ends
+/// with a line feed, and nothing else: `legal C commits O open` at the end of the input, or
+/// `illegal entry I rule R` at the first bad entry. The answer is whether the history is legal.
+///
+/// A line is the array that an entry is in a history file of the newest version. Blank lines are
+/// passed over, and a last line without its line feed is read as a line. There may be any number of
+/// lines. Nothing is read after the bytes in which the first bad entry comes, and no call of the
+/// reader or the writer is made again after it failed.
+///
+/// # Errors
+///
+/// At each of them but `Write` nothing is written.
+///
+/// - `Line` for the first line that is refused, where no entry before it is bad: it has more than
+///   1,000 bytes, is no entry, or a caller is above 63.
+/// - `Read` where a read fails.
+/// - `NoMemory` where memory is refused.
+/// - `Write` where a write fails or takes nothing: a proper beginning of the line is written.
+///
+/// # Cost
+///
+/// That of the checker for each entry, and time in proportion to the bytes; memory for the checker,
+/// and 64 kB.
+pub fn watch<R: Read, W: Write>(
+    alloc: Global,
+    basis: Basis,
+    input: &mut R,
+    output: &mut W,
+) -> Result<bool, Fault>
+    requires { HasStripes basis }
+    ensures judges { IfOk result (λ legal. WritesLine (Watches basis (R.remaining input.old)) legal
+        (W.contents output.old) (W.contents output.new)) }
+    ensures fault { IfErr result (Leaves (Watches basis (R.remaining input.old))
+        (FailsToWatch basis (R.remaining input.old))
+        (W.contents output.old) (W.contents output.new)) }
+{
+    let verdict = watch_lines(alloc, basis, input)?;
+    write_verdict(alloc, verdict, output)
+}
+
+/// Reads a history file to its end, judges the history, and writes the verdict as `watch` does: in
+/// the order of commits, or by the locks of the file's stripes. The answer is whether the history
+/// is legal.
+///
+/// At most 16,777,217 bytes are read, and no call of the reader or the writer is made again after
+/// it failed.
+///
+/// # Errors
+///
+/// At each of them but `Write` nothing is written.
+///
+/// - `Read` where a read fails.
+/// - `Input` where the file is refused.
+/// - `NoMemory` where memory is refused.
+/// - `Write` where a write fails or takes nothing: a proper beginning of the line is written.
+///
+/// # Cost
+///
+/// That of the checker for each entry, and time and memory in proportion to the file.
+pub fn check<R: Read + Drop, W: Write>(
+    alloc: Global,
+    by_commits: bool,
+    input: R,
+    output: &mut W,
+) -> Result<bool, Fault>
+    ensures judges { IfOk result (λ legal. WritesLine (Checks by_commits (R.remaining input)) legal
+        (W.contents output.old) (W.contents output.new)) }
+    ensures fault { IfErr result (Leaves (Checks by_commits (R.remaining input))
+        (FailsToCheck (R.remaining input))
+        (W.contents output.old) (W.contents output.new)) }
+{
+    let bytes = read_file(alloc, input)?;
+    let verdict = judge_file(alloc, by_commits, bytes)?;
+    write_verdict(alloc, verdict, output)
+}

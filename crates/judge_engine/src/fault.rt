@@ -1,0 +1,77 @@
+ghost use Rattle.std.specs.Prelude.{◌≡◌};
+ghost use Rattle.judge_engine.specs.Faults.{status_of, message_of, of_file};
+ghost use Rattle.judge_engine.specs.declared.fault.Fault.TheVariants as faults;
+
+use piece_files::FileFault;
+use std::alloc::AllocError;
+use std::fmt;
+
+/// Why there is no verdict. It is printed as one line without its line feed.
+#[derive(Clone, Copy, Debug, PartialEq, Eq)]
+pub enum Fault {
+    /// A history file was refused.
+    Input(FileFault),
+    /// The line of this number, counted from 1, was refused.
+    Line(u64, FileFault),
+    /// Memory was refused.
+    NoMemory,
+    /// A read failed, or the file could not be opened.
+    Read,
+    /// A write failed, or took nothing of the bytes that there were.
+    Write,
+}
+
+impl fmt::Display for Fault {
+    ghost use Rattle.std.specs.Prelude.{Some};
+
+    ghost output = { λ fault. Some (message_of fault) };
+
+    fn fmt<W: fmt::Write>(&self, f: &mut fmt::Formatter<W>) -> fmt::Result {
+        match *self {
+            Fault::Input(fault) => write!(f, "refused {fault}"),
+            Fault::Line(number, fault) => write!(f, "refused {fault} line {number}"),
+            Fault::NoMemory => f.write_str("no memory"),
+            Fault::Read => f.write_str("read failed"),
+            Fault::Write => f.write_str("write failed"),
+        }
+    }
+}
+
+impl std::error::Error for Fault {}
+
+impl Fault {
+    /// The exit status of the program: 3 for `Input` and `Line`, 4 for every other.
+    ///
+    /// # Cost
+    ///
+    /// Constant time; takes no memory.
+    pub fn status(self) -> u8
+        ensures { result ≡ status_of self }
+    {
+        match self {
+            Fault::Input(_) | Fault::Line(..) => 3,
+            Fault::NoMemory | Fault::Read | Fault::Write => 4,
+        }
+    }
+}
+
+impl From<AllocError> for Fault {
+    ghost from_gives = { λ _ fault. fault ≡ faults.NoMemory };
+
+    fn from(_error: AllocError) -> Fault {
+        Fault::NoMemory
+    }
+}
+
+impl From<FileFault> for Fault {
+    ghost from_gives = { λ file_fault fault. fault ≡ of_file file_fault };
+
+    fn from(fault: FileFault) -> Fault {
+        match fault {
+            FileFault::NoMemory => Fault::NoMemory,
+            FileFault::NotJson | FileFault::Member | FileFault::Piece(..) | FileFault::Limit => {
+                Fault::Input(fault)
+            }
+        }
+    }
+}

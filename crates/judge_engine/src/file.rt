@@ -1,0 +1,81 @@
+//! A history file.
+ghost use Rattle.std.specs.Prelude.{◌≡◌, ◌<◌, IfOk, IfErr};
+ghost use Rattle.std.specs.List.{All};
+ghost use Rattle.txn_trace.specs.History.{caller_of};
+ghost use Rattle.piece_files.specs.Faults.{Gives};
+ghost use Rattle.txn_files.specs.HistoryFile.{history_of};
+ghost use Rattle.judge_engine.specs.declared.basis.Basis.TheVariants as bases;
+ghost use Rattle.judge_engine.specs.Bases.{IsVerdictBy};
+ghost use Rattle.judge_engine.specs.Files.{holder_in, IsJudgedFile, IsUnjudgedFile};
+
+use crate::fault::Fault;
+use history_check::Verdict;
+use std::alloc::{AllocError, Global};
+use txn_files::{FileFault, read_packed_history};
+use txn_trace::{Holder, PackedEntry};
+
+/// The last version of history files in which a Busy names a caller that holds the stripe.
+const LAST_OF_NOW: u64 = 2;
+
+/// Whom a Busy may name in a history file of this version. Constant time.
+fn holder_in(version: u64) -> Holder
+    ensures { result ≡ holder_in version }
+{
+    match version <= LAST_OF_NOW {
+        true => Holder::Now,
+        false => Holder::Begun,
+    }
+}
+
+/// The stripes, the entries and the version of the history file that bytes are. The bytes are
+/// dropped.
+fn history_in(alloc: Global, bytes: Vec<u8>) -> Result<(u32, Vec<PackedEntry>, u64), FileFault>
+    ensures { Gives (λ file. (file.0, file.1.items, file.2)) result (history_of bytes.items) }
+{
+    read_packed_history(alloc, &bytes)
+}
+
+/// The verdict on entries in the order of their commits.
+fn in_order_of_commits(alloc: Global, entries: &[PackedEntry]) -> Result<Verdict, AllocError>
+    requires { All (λ entry. caller_of entry < 64) entries.now }
+    ensures { IfOk result (IsVerdictBy bases.Commits entries.now) }
+{
+    serial_check::check_packed(alloc, entries)
+}
+
+/// The verdict on entries by locks.
+fn by_locks(
+    alloc: Global,
+    entries: &[PackedEntry],
+    stripes: u64,
+    holder: Holder,
+) -> Result<Verdict, AllocError>
+    requires stripes { 0 < stripes }
+    requires callers { All (λ entry. caller_of entry < 64) entries.now }
+    ensures { IfOk result (IsVerdictBy (bases.Locks stripes holder) entries.now) }
+{
+    history_check::check_packed(alloc, entries, stripes, holder)
+}
+
+/// The verdict on the history file that bytes are: in the order of commits, or by the locks of the
+/// file.
+///
+/// # Errors
+///
+/// `Input` where the bytes are no history file; `NoMemory` where memory is refused.
+///
+/// # Cost
+///
+/// That of the checker for each entry, and time and memory in proportion to the bytes.
+pub(crate) fn judge_file(alloc: Global, by_commits: bool, bytes: Vec<u8>) -> Result<Verdict, Fault>
+    ensures ok { IfOk result (IsJudgedFile by_commits bytes.items) }
+    ensures err { IfErr result (IsUnjudgedFile bytes.items) }
+{
+    let (stripes, packed, version) = history_in(alloc, bytes)?;
+    let entries = packed.as_slice();
+    let stripes = u64::from(stripes);
+    if by_commits {
+        return Ok(in_order_of_commits(alloc, entries)?);
+    }
+    Ok(by_locks(alloc, entries, stripes, holder_in(version))?)
+}

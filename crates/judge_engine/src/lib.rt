@@ -1,0 +1,15 @@
+//! What the program `judge` does, from a reader's bytes to a writer's.
+#![tactic(auto)]
+
+mod basis;
+mod engine;
+mod fault;
+mod file;
+mod judge;
+mod output;
+mod reading;
+mod watcher;
+
+pub use basis::Basis;
+pub use engine::{check, watch};
+pub use fault::Fault;

@@ -1,0 +1,51 @@
+//! What is written.
+ghost use Rattle.std.specs.Prelude.{◌≡◌, IfErr, IfOk, string_bytes};
+ghost use Rattle.std.specs.Io.KnownBytes.{Appends};
+ghost use Rattle.judge_engine.specs.Outputs.{FailsToWrite, says_legal, verdict_line};
+
+use crate::fault::Fault;
+use history_check::Verdict;
+use std::alloc::{AllocError, Global};
+use std::io::Write;
+
+/// The line of a verdict, of at most 61 bytes.
+fn line_of(alloc: Global, verdict: Verdict) -> Result<String, AllocError>
+    ensures { IfOk result (λ line. string_bytes line ≡ verdict_line verdict) }
+{
+    let mut line = String::new(alloc);
+    writeln!(line, "{verdict}")?;
+    Ok(line)
+}
+
+/// Whether a verdict is that the history is legal. Constant time.
+fn is_legal(verdict: Verdict) -> bool
+    ensures { result ≡ says_legal verdict }
+{
+    matches!(verdict, Verdict::Legal { .. })
+}
+
+/// Writes the line of a verdict, and answers whether it is that the history is legal.
+///
+/// # Errors
+///
+/// `NoMemory` where memory is refused: nothing is written. `Write` where the writer fails or takes
+/// nothing.
+///
+/// # Cost
+///
+/// A call of the writer for each part that it takes, and memory for the line.
+pub(crate) fn write_verdict<W: Write>(
+    alloc: Global,
+    verdict: Verdict,
+    output: &mut W,
+) -> Result<bool, Fault>
+    ensures ok { IfOk result (λ legal. (legal ≡ says_legal verdict)
+        × Appends (W.contents output.old) (W.contents output.new) (verdict_line verdict)) }
+    ensures err { IfErr result (FailsToWrite (W.contents output.old) (W.contents output.new)) }
+{
+    let line = line_of(alloc, verdict)?;
+    match output.write_all(line.as_bytes()) {
+        Ok(()) => Ok(is_legal(verdict)),
+        Err(_) => Err(Fault::Write),
+    }
+}

@@ -1,0 +1,107 @@
+//! A reader that is read to its end, or until there is an answer.
+ghost use Rattle.std.specs.Prelude.{◌≡◌, ◌<◌, [], length, take, IfOk, IfErr, IfSome};
+ghost use Rattle.judge_engine.specs.declared.basis.Basis.{Basis as TheBasis};
+ghost use Rattle.judge_engine.specs.Faults.{IsReadFault};
+ghost use Rattle.judge_engine.specs.Files.{max_read};
+ghost use Rattle.judge_engine.specs.Bases.{HasStripes};
+ghost use Rattle.judge_engine.specs.Watchers.{TookIn};
+ghost use Rattle.judge_engine.specs.Watching.{FailsToWatch, Watches};
+
+use crate::basis::Basis;
+use crate::fault::Fault;
+use crate::watcher::Watcher;
+use history_check::Verdict;
+use std::alloc::{AllocError, Global};
+use std::io::{ErrorKind, Read};
+
+/// How many bytes a read is asked for at most.
+const CHUNK: usize = 65_536;
+
+/// One byte more than a file may have.
+const MAX_READ: u64 = 16_777_217;
+
+/// The bytes that a reader has left, or the first of them, one more than a file may have.
+///
+/// # Errors
+///
+/// `Read` where a read fails; `NoMemory` where memory is refused.
+///
+/// # Cost
+///
+/// Time and memory in proportion to the bytes.
+pub(crate) fn read_file<R: Read + Drop>(alloc: Global, input: R) -> Result<Vec<u8>, Fault>
+    ensures ok { IfOk result (λ bytes.
+        IfSome (R.remaining input) (λ all. bytes.items ≡ take max_read all)) }
+    ensures err { IfErr result IsReadFault }
+{
+    let mut bytes = Vec::new(alloc);
+    match input.take(MAX_READ).read_to_end(&mut bytes) {
+        Ok(_) => Ok(bytes),
+        Err(error) => match error.kind() {
+            ErrorKind::OutOfMemory => Err(Fault::NoMemory),
+            _ => Err(Fault::Read),
+        },
+    }
+}
+
+/// A buffer for reads.
+fn buffer(alloc: Global) -> Result<Vec<u8>, AllocError>
+    ensures { IfOk result (λ buffer. length buffer.items ≡ 65536) }
+{
+    vec![in alloc; 0u8; CHUNK]
+}
+
+/// Hands a watcher, before its first byte, all that a reader gives, until there is a verdict. The
+/// buffer is that of the reads.
+fn read_on<R: Read>(
+    input: &mut R,
+    watcher: &mut Watcher,
+    chunk: &mut [u8],
+) -> Result<Verdict, Fault>
+    requires { 0 < length chunk.old }
+    ensures ok { IfOk result (λ outcome. (basis : TheBasis) → TookIn basis [] watcher.old →
+        Watches basis (R.remaining input.old) outcome) }
+    ensures err { IfErr result (λ fault. (basis : TheBasis) → TookIn basis [] watcher.old →
+        FailsToWatch basis (R.remaining input.old) fault) }
+{
+    'reads: for _ in 0..u64::MAX {
+        let Ok(count) = input.read(chunk) else {
+            return Err(Fault::Read);
+        };
+        if count == 0 {
+            return watcher.end();
+        }
+        watcher.take_in(&chunk[..count])?;
+        if let Some(verdict) = watcher.verdict_so_far()? {
+            return Ok(verdict);
+        }
+    }
+    Err(Fault::Read)
+}
+
+/// The verdict on the entries that the lines of a reader are, at the first bad one or at the end of
+/// the input.
+///
+/// # Errors
+///
+/// - `Line` for the first line that is refused, where no entry before it is bad.
+/// - `Read` where a read fails, after which the reader is not called again.
+/// - `NoMemory` where memory is refused.
+///
+/// # Cost
+///
+/// That of the judge for each entry, and time in proportion to the bytes; memory for the judge, and
+/// 64 kB.
+pub(crate) fn watch_lines<R: Read>(
+    alloc: Global,
+    basis: Basis,
+    input: &mut R,
+) -> Result<Verdict, Fault>
+    requires { HasStripes basis }
+    ensures ok { IfOk result (Watches basis (R.remaining input.old)) }
+    ensures err { IfErr result (FailsToWatch basis (R.remaining input.old)) }
+{
+    let mut watcher = Watcher::new(alloc, basis)?;
+    let mut place = buffer(alloc)?;
+    read_on(input, &mut watcher, place.as_mut_slice())
+}

@@ -1,0 +1,190 @@
+//! Entries that come as lines, in parts of any length: what is kept between two parts.
+ghost use Rattle.std.specs.Prelude.{◌≡◌, ◌++◌, [], ◌∷◌, ℕ, List, Option, Some, None, Ok, IfOk, IfErr, OnOk, IfSome, MatchResult};
+ghost use Rattle.std.specs.List.{position};
+ghost use Rattle.txn_trace.specs.declared.entry.Entry.{Entry};
+ghost use Rattle.entry_lines.specs.EntryLine.{entry_on};
+ghost use Rattle.judge_engine.specs.declared.basis.Basis.{Basis};
+ghost use Rattle.judge_engine.specs.declared.fault.Fault.TheVariants as faults;
+ghost use Rattle.judge_engine.specs.Bases.{HasStripes, IsFedBy};
+ghost use Rattle.judge_engine.specs.LineReads.{ReadsLine};
+ghost use Rattle.judge_engine.specs.Breaks.{is_break, IsUnbroken};
+ghost use Rattle.judge_engine.specs.Watching.{IsJudgedLines, IsUnjudged};
+
+use crate::basis::Basis;
+use crate::fault::Fault;
+use crate::judge::Judge;
+use entry_lines::{Scratch, entry_on};
+use history_check::Verdict;
+use piece_files::FileFault;
+use std::alloc::{AllocError, Global};
+
+/// How many bytes a line may have.
+const MAX_LINE: usize = 1000;
+
+/// The index of the first line feed.
+fn first_break(bytes: &[u8]) -> Option<usize>
+    ensures { result ≡ position is_break bytes.now }
+{
+    bytes.iter().position(|byte| *byte == b'\n')
+}
+
+/// Feeds the judge the entry that a line is, or answers with the line's fault.
+fn read_line(
+    judge: &mut Judge,
+    scratch: &mut Scratch<Global>,
+    line: &[u8],
+) -> Result<Option<FileFault>, Fault>
+    ensures ok { IfOk result (λ fault. (basis : Basis) (h : List Entry) → IsFedBy basis h judge.old →
+        ReadsLine basis h (entry_on line.now) fault judge.new) }
+    ensures err { IfErr result (λ fault. fault ≡ faults.NoMemory) }
+{
+    match entry_on(line, scratch) {
+        Ok(Some(entry)) => {
+            judge.feed(&entry)?;
+            Ok(None)
+        }
+        Ok(None) => Ok(None),
+        Err(FileFault::NoMemory) => Err(Fault::NoMemory),
+        Err(fault) => Ok(Some(fault)),
+    }
+}
+
+/// What is kept of lines that come in parts of any length: the judge of the entries so far, the
+/// part of a line that has come, and the first line that was refused, after which nothing is taken
+/// in any more.
+#[derive(Drop)]
+pub(crate) struct Watcher {
+    judge: Judge,
+    scratch: Scratch<Global>,
+    part: Vec<u8>,
+    number: u64,
+    refused: Option<(u64, FileFault)>,
+}
+
+impl Watcher {
+    ghost use Rattle.judge_engine.specs.Watchers.{TookIn};
+
+    /// A watcher before the first byte.
+    pub(crate) fn new(alloc: Global, basis: Basis) -> Result<Watcher, AllocError>
+        requires { HasStripes basis }
+        ensures { IfOk result (TookIn basis []) }
+    {
+        Ok(Watcher {
+            judge: Judge::new(alloc, basis)?,
+            scratch: Scratch::new(alloc),
+            part: Vec::new(alloc),
+            number: 1,
+            refused: None,
+        })
+    }
+
+    /// Takes in bytes of the present line.
+    fn hold(&mut self, piece: &[u8]) -> Result<(), Fault>
+        requires { IsUnbroken piece.now }
+        ensures ok { OnOk result ((basis : Basis) (bytes : List ℕ) → TookIn basis bytes self.old →
+            TookIn basis (bytes ++ piece.now) self.new) }
+        ensures err { IfErr result (λ fault. fault ≡ faults.NoMemory) }
+    {
+        if self.refused.is_some() {
+            return Ok(());
+        }
+        if self.part.len().saturating_add(piece.len()) > MAX_LINE {
+            self.refused = Some((self.number, FileFault::Limit));
+            return Ok(());
+        }
+        self.part.extend_from_slice(piece)?;
+        Ok(())
+    }
+
+    /// Takes in the rest of the present line, and its line feed.
+    fn end_line(&mut self, piece: &[u8]) -> Result<(), Fault>
+        requires { IsUnbroken piece.now }
+        ensures line { OnOk result ((basis : Basis) (bytes : List ℕ) → TookIn basis bytes self.old →
+            TookIn basis (bytes ++ (piece.now ++ 10 ∷ [])) self.new) }
+        ensures empty { OnOk result (self.new.refused ≡ None → self.new.part.items ≡ []) }
+        ensures err { IfErr result (λ fault. fault ≡ faults.NoMemory) }
+    {
+        if self.refused.is_some() {
+            return Ok(());
+        }
+        let next = self.number.checked_add(1).ok_or(AllocError)?;
+        self.part.extend_from_slice(piece)?;
+        let refused = read_line(&mut self.judge, &mut self.scratch, &self.part)?;
+        self.part.clear();
+        if let Some(fault) = refused {
+            self.refused = Some((self.number, fault));
+            return Ok(());
+        }
+        self.number = next;
+        Ok(())
+    }
+
+    /// Takes in bytes.
+    ///
+    /// # Errors
+    ///
+    /// `NoMemory` where memory is refused. Then it is of no use any more.
+    ///
+    /// # Cost
+    ///
+    /// That of the judge for each entry, and time in proportion to the bytes; memory for the judge
+    /// and for one line.
+    pub(crate) fn take_in(&mut self, chunk: &[u8]) -> Result<(), Fault>
+        ensures ok { OnOk result ((basis : Basis) (bytes : List ℕ) → TookIn basis bytes self.old →
+            TookIn basis (bytes ++ chunk.now) self.new) }
+        ensures err { IfErr result (λ fault. fault ≡ faults.NoMemory) }
+    {
+        let mut rest = chunk;
+        'lines: while let Some(at) = first_break(rest) {
+            self.end_line(&rest[..at])?;
+            rest = &rest[at + 1..];
+        }
+        self.hold(rest)
+    }
+
+    /// The verdict so far, where no further byte can change it: an entry is bad. None where no
+    /// entry is bad, and no line is refused.
+    ///
+    /// # Errors
+    ///
+    /// `Line` where no entry is bad, and a line is refused.
+    ///
+    /// # Cost
+    ///
+    /// Constant time; takes no memory.
+    pub(crate) fn verdict_so_far(&self) -> Result<Option<Verdict>, Fault>
+        ensures settled { (basis : Basis) (bytes more : List ℕ) → TookIn basis bytes self.now →
+            MatchResult result
+            (λ found. IfSome found (IsJudgedLines basis (bytes ++ more)))
+            (IsUnjudged basis (bytes ++ more)) }
+        ensures open { result ≡ Ok None → self.now.refused ≡ None }
+    {
+        let verdict = self.judge.verdict();
+        match (verdict, self.refused) {
+            (Verdict::Illegal { .. }, _) => Ok(Some(verdict)),
+            (Verdict::Legal { .. }, Some((number, fault))) => Err(Fault::Line(number, fault)),
+            (Verdict::Legal { .. }, None) => Ok(None),
+        }
+    }
+
+    /// The verdict where no further byte comes. A last line without its line feed is read as a
+    /// line.
+    ///
+    /// # Errors
+    ///
+    /// `Line` where no entry is bad, and a line is refused; `NoMemory` where memory is refused.
+    ///
+    /// # Cost
+    ///
+    /// That of a line.
+    pub(crate) fn end(&mut self) -> Result<Verdict, Fault>
+        ensures { (basis : Basis) (bytes : List ℕ) → TookIn basis bytes self.old →
+            MatchResult result (IsJudgedLines basis bytes) (IsUnjudged basis bytes) }
+    {
+        self.end_line(&[])?;
+        match self.verdict_so_far()? {
+            Some(verdict) => Ok(verdict),
+            None => Ok(self.judge.verdict()),
+        }
+    }
+}
