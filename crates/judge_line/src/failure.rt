@@ -1,0 +1,78 @@
+ghost use Rattle.std.specs.Prelude.{◌≡◌};
+ghost use Rattle.judge_line.specs.Failures.{message_of, status_of};
+ghost use Rattle.judge_line.specs.declared.failure.Failure.TheVariants as failures;
+
+use judge_engine::Fault;
+use std::alloc::AllocError;
+use std::fmt;
+
+/// What is printed of words that are none of the program's, and of a call for help.
+pub(crate) const USAGE: &str = "usage: judge check [--serializable] FILE
+       judge watch [--serializable | --stripes N]
+
+  check FILE  says whether the history of a file is legal, or which entry breaks which rule
+  watch       says so of the entries that standard input has, one a line, as each comes
+
+  --serializable  judges by the order of commits, and not by locks
+  --stripes N     how many locks the keys are shared out to: 1 to 4096, and 4096 if it is not given
+
+FILE is the path of a history file; - is standard input.
+
+Exit status: 0 all is well, 1 the history is illegal, 2 a usage error, 3 the file or a line is refused,
+4 no memory, a failed read or write. From 3 on one line on standard error says which.
+
+Example: judge check examples/checked.json";
+
+/// Why a call has no verdict.
+#[derive(Clone, Copy, Debug, PartialEq, Eq)]
+pub enum Failure {
+    /// The words of the call are none that the program has.
+    Usage,
+    /// There is no verdict, for a fault of the input, of memory or of an output.
+    Fault(Fault),
+}
+
+impl Failure {
+    /// The exit status of the program: 2 for `Usage`, else that of the fault. Constant time.
+    pub fn status(self) -> u8
+        ensures { result ≡ status_of self }
+    {
+        match self {
+            Failure::Usage => 2,
+            Failure::Fault(fault) => fault.status(),
+        }
+    }
+}
+
+impl fmt::Display for Failure {
+    ghost use Rattle.std.specs.Prelude.{Some};
+
+    ghost output = { λ failure. Some (message_of failure) };
+
+    fn fmt<W: fmt::Write>(&self, f: &mut fmt::Formatter<W>) -> fmt::Result {
+        match *self {
+            Failure::Usage => f.write_str(USAGE),
+            Failure::Fault(fault) => write!(f, "{fault}"),
+        }
+    }
+}
+
+impl std::error::Error for Failure {}
+
+impl From<Fault> for Failure {
+    ghost from_gives = { λ fault failure. failure ≡ failures.Fault fault };
+
+    fn from(fault: Fault) -> Failure {
+        Failure::Fault(fault)
+    }
+}
+
+impl From<AllocError> for Failure {
+    ghost use Rattle.judge_engine.specs.declared.fault.Fault.TheVariants as faults;
+
+    ghost from_gives = { λ _ failure. failure ≡ failures.Fault faults.NoMemory };
+
+    fn from(_error: AllocError) -> Failure {
+        Failure::Fault(Fault::NoMemory)
+    }
+}

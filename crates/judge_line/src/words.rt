@@ -1,0 +1,157 @@
+//! Which call the words of a command line are.
+ghost use Rattle.std.specs.Prelude.{◌<◌, IfOk, IfSome};
+ghost use Rattle.judge_engine.specs.Bases.{HasStripes};
+ghost use Rattle.judge_line.specs.Runs.{IsReady};
+
+use crate::failure::Failure;
+use clap::error::ErrorKind;
+use clap::{Arg, ArgAction, ArgMatches, Command};
+use judge_engine::{Basis, Fault};
+use std::alloc::{AllocError, Global};
+use txn_trace::Holder;
+
+/// What the words of a call ask for.
+#[derive(Clone, Copy, Debug, PartialEq, Eq)]
+pub enum Call<'a> {
+    /// To judge the history of a file.
+    Check {
+        /// Whether it is judged by the order of commits.
+        by_commits: bool,
+        /// The file's name.
+        file: &'a str,
+    },
+    /// To show the usage.
+    Help,
+    /// To show the version.
+    Version,
+    /// To judge the entries that standard input has.
+    Watch {
+        /// By which rules.
+        basis: Basis,
+    },
+}
+
+/// The most locks that keys may be shared out to, and how many they are if it is not said.
+const MAX_STRIPES: u64 = 4096;
+
+/// The flag that asks for a judgement by the order of commits.
+fn commits_flag<'a>(alloc: Global) -> Arg<'a> {
+    Arg::new(alloc, "serializable")
+        .long("serializable")
+        .action(ArgAction::SetTrue)
+}
+
+/// The command `check`, over a file.
+fn check_command<'a>(alloc: Global) -> Result<Command<'a>, AllocError> {
+    let file = Arg::new(alloc, "FILE")
+        .required(true)
+        .action(ArgAction::Set);
+    let command = Command::new(alloc, "check").arg(commits_flag(alloc))?;
+    command.arg(file)
+}
+
+/// The command `watch`.
+fn watch_command<'a>(alloc: Global) -> Result<Command<'a>, AllocError> {
+    let stripes = Arg::new(alloc, "stripes")
+        .long("stripes")
+        .action(ArgAction::Set);
+    let command = Command::new(alloc, "watch").arg(commits_flag(alloc))?;
+    command.arg(stripes)
+}
+
+/// The command line of the program.
+fn command<'a>(alloc: Global) -> Result<Command<'a>, AllocError> {
+    Command::new(alloc, "judge")
+        .version("1.0.0")
+        .subcommand_required(true)
+        .subcommand(check_command(alloc)?)?
+        .subcommand(watch_command(alloc)?)
+}
+
+/// Whether what was found of a flag says that it is set.
+fn is_set(found: Option<&str>) -> bool {
+    match found {
+        Some(word) => word == "true",
+        None => false,
+    }
+}
+
+/// How many locks there are, by the word that says so: 1 to 4,096.
+fn stripes_in(word: &str) -> Option<u64>
+    ensures { IfSome result (λ stripes. 0 < stripes) }
+{
+    match word.parse::<u64>() {
+        Ok(stripes) if 1 <= stripes && stripes <= MAX_STRIPES => Some(stripes),
+        _ => None,
+    }
+}
+
+/// By which rules entries are judged, by the flag and the word for the number of locks.
+fn basis_in(by_commits: bool, stripes: Option<&str>) -> Option<Basis>
+    ensures { IfSome result HasStripes }
+{
+    match (by_commits, stripes) {
+        (true, None) => Some(Basis::Commits),
+        (true, Some(_)) => None,
+        (false, None) => Some(Basis::Locks {
+            stripes: MAX_STRIPES,
+            holder: Holder::Begun,
+        }),
+        (false, Some(word)) => {
+            let stripes = stripes_in(word)?;
+            Some(Basis::Locks {
+                stripes,
+                holder: Holder::Begun,
+            })
+        }
+    }
+}
+
+/// The call of the command of this name, by what was found of its arguments.
+fn call_named<'a>(name: &str, found: &ArgMatches<'a>) -> Option<Call<'a>>
+    ensures { IfSome result IsReady }
+{
+    let by_commits = is_set(found.get_str("serializable"));
+    match name {
+        "check" => {
+            let file = found.get_str("FILE")?;
+            Some(Call::Check { by_commits, file })
+        }
+        "watch" => {
+            let basis = basis_in(by_commits, found.get_str("stripes"))?;
+            Some(Call::Watch { basis })
+        }
+        _ => None,
+    }
+}
+
+/// What the words ask for, of which the first is the program's name, by the rules of `clap`.
+///
+/// # Errors
+///
+/// - `Usage` for words that are no call of the program.
+/// - `NoMemory` where memory is refused.
+///
+/// # Cost
+///
+/// Time and memory in proportion to the words.
+pub fn call_in<'a>(alloc: Global, words: &'a [String]) -> Result<Call<'a>, Failure>
+    ensures { IfOk result IsReady }
+{
+    let command = command(alloc)?;
+    let matches = match command.try_get_matches_from(words) {
+        Ok(matches) => matches,
+        Err(error) => {
+            return match error.kind() {
+                ErrorKind::OutOfMemory => Err(Failure::Fault(Fault::NoMemory)),
+                ErrorKind::DisplayHelp => Ok(Call::Help),
+                ErrorKind::DisplayVersion => Ok(Call::Version),
+                _ => Err(Failure::Usage),
+            };
+        }
+    };
+    let Some((name, found)) = matches.subcommand() else {
+        return Err(Failure::Usage);
+    };
+    call_named(name, found).ok_or(Failure::Usage)
+}
