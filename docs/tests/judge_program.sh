@@ -55,8 +55,8 @@ help_and_version() {
 }
 
 files() {
-  wants 0 'legal 1 commits 0 open' '' check examples/checked.json
-  wants 0 'legal 1 commits 0 open' '' check --serializable examples/checked.json
+  wants 0 'legal 2 commits 0 open' '' check examples/checked.json
+  wants 0 'legal 2 commits 0 open' '' check --serializable examples/checked.json
   wants 1 'illegal entry 125 rule 1' '' check docs/judge/example.json
   wants 0 'legal 4 commits 4 open' '' check --serializable docs/judge/example.json
   wants 3 '' 'refused 21' check examples/first_commit.json
@@ -150,9 +150,14 @@ limits() {
 many() {
   (
     ulimit -v 100000
-    awk 'BEGIN { for (t = 1; t <= 300000; t++) printf "[\"began\",%d,%d]\n[\"asked\",%d,\"put\",%d,%d]\n" \
-      "[\"did\",%d,%s]\n[\"committed\",%d,%d]\n", t % 64, t, t % 64, t % 1000, t, t % 64, \
-      t > 1000 ? t - 1000 : "null", t % 64, t }' |
+    awk 'BEGIN {
+      for (t = 1; t <= 300000; t++) {
+        c = t % 64
+        before = t > 1000 ? t - 1000 : "null"
+        printf "[\"began\",%d,%d]\n[\"asked\",%d,\"put\",%d,%d]\n", c, t, c, t % 1000, t
+        printf "[\"did\",%d,%s]\n[\"committed\",%d,%d]\n", c, before, c, t
+      }
+    }' |
       "$program" watch "$@" >"$work/out" 2>"$work/err"
     echo $? >"$work/status"
   )
