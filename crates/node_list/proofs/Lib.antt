@@ -13,3 +13,4 @@ pub mod SpareSteps
 pub mod StampLemmas
 pub mod TallyLemmas
 pub mod TallySteps
+pub mod MarkLemmas

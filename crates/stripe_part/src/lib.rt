@@ -21,8 +21,8 @@
 //! change: an empty part takes no memory, and a part is one word with its tag. True of each such
 //! pair: each job is due on the map that the newer ones leave, each owns its spare, which is no
 //! other's, and no node is marked, since the holder unlinks each node that he marks at once, by a
-//! seek for its key. A part with its first key takes about 36 KB: 33 KB are the table's counts of
-//! marked nodes, which it does not need, and 2 KB the row of its segments.
+//! seek for its key. So the table needs no counts of marked nodes, and a part with its first key
+//! takes about 3 KB, of which 2 KB are the row of its segments.
 //!
 //! **Growth.** A put doubles a table of more than two keys a bucket, and initialises the bucket of
 //! its key, after its ancestors (Shalev and Shavit, "Split-Ordered Lists: Lock-Free Extensible Hash

@@ -42,7 +42,7 @@ impl LoggedTable {
     pub(crate) fn new(alloc: Global) -> Result<LoggedTable, AllocError>
         ensures { IfOk result (λ made. made ≡ nothing) }
     {
-        let table = Table::new(alloc, Self::LARGEST, 1)?;
+        let table = Table::new_uncounted(alloc, Self::LARGEST, 1)?;
         Ok(LoggedTable {
             table,
             jobs: Vec::new(alloc),

@@ -1,5 +1,6 @@
-//! Unlinking of marked nodes at once, so that none stays from one call to the next. The sweep at the
-//! end of each call finds nothing, in constant time, and is what proves that nothing is left.
+//! Unlinking of marked nodes at once, so that none stays from one call to the next: only then can a
+//! table do without counts of them. The sweep at the end of each call finds nothing, in constant
+//! time, and is what proves that nothing is left.
 ghost use Rattle.std.specs.Prelude.{◌≡◌, Option};
 ghost use Rattle.map_ops.specs.TableAt.{IsClean};
 ghost use Rattle.stripe_part.specs.Stays.{Stays};
