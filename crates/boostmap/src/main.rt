@@ -1,8 +1,9 @@
 //! The program `boostmap`. What it does with its words, its file and its outputs, and the status
-//! that it ends with, is all decided by `command_line::run`; nothing is decided here.
+//! that it ends with, is all decided by `boostmap_program::run`; nothing is decided here.
 #![tactic(auto)]
 
-use command_line::{Host, run};
+use boostmap_program::run;
+use command_line::Host;
 use std::io;
 use std::process::ExitCode;
 

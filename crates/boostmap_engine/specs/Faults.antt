@@ -1,7 +1,5 @@
 -- The faults of the program.
 use Rattle.std.specs.Prelude.{ℕ, List, ◌++◌, codes}
-use Rattle.txn_trace.specs.declared.refusal.Refusal.{Refusal}
-use Rattle.txn_trace.specs.declared.refusal.Refusal.TheVariants as refusals
 use Rattle.txn_files.specs.Faults.{words_of}
 use Rattle.txn_files.specs.FileFault.{FileFault}
 use Rattle.txn_files.specs.FileFault.TheVariants as files
@@ -36,12 +34,6 @@ of_file files.NotJson = Input files.NotJson
 of_file files.Member = Input files.Member
 of_file (files.Piece part i) = Input (files.Piece part i)
 of_file files.Limit = Input files.Limit
-
--- The fault of a run in threads that was refused as a whole.
-abbrev pub of_run : Refusal → Fault
-of_run refusals.NoMemory = NoMemory
-of_run refusals.NoThread = NoThread
-of_run refusal = OutOfStep
 
 -- What reading may fail with.
 abbrev pub IsReadFault : Fault → Type 0

@@ -1,11 +1,10 @@
-//! The four commands over a reader and a writer. Each reads its whole input, makes its whole text,
+//! Three commands over a reader and a writer. Each reads its whole input, makes its whole text,
 //! and only then writes: so a fault before the writing leaves the output unchanged.
 ghost use Rattle.std.specs.Prelude.{OnOk, IfOk, IfErr};
 ghost use Rattle.boostmap_engine.specs.Written.{Writes, Leaves};
 ghost use Rattle.boostmap_engine.specs.Report.{IsReportOf, IsNoStepFile};
 ghost use Rattle.boostmap_engine.specs.Judgement.{IsJudgement, IsJudgementOf, IsNoHistoryFile};
 ghost use Rattle.boostmap_engine.specs.Mixture.{IsMixtureOf, IsNoScriptFile};
-ghost use Rattle.boostmap_engine.specs.Threaded.{IsThreadedOf, LeavesThreaded};
 
 use crate::fault::Fault;
 use crate::input::read_input;
@@ -13,11 +12,8 @@ use crate::judgement::{is_legal, judge, line_of};
 use crate::mixture::mixture;
 use crate::output::write_text;
 use crate::report::report;
-use crate::threaded::run_in_threads;
 use std::alloc::Global;
 use std::io::{Read, Write};
-use std::sync::Wait;
-use std::thread::Threads;
 
 /// Reads a step file to its end, runs its steps one after the other on a new core, and writes the
 /// report: the answers, one a line, then `size S count C` with the numbers of buckets and of keys,
@@ -123,45 +119,5 @@ pub fn mix<R: Read, W: Write>(
 {
     let bytes = read_input(alloc, input)?;
     let history = mixture(alloc, seed, bytes)?;
-    write_text(output, history.as_bytes())
-}
-
-/// Reads a script file to its end, runs its scripts on one map, each worker in a thread of its own,
-/// and writes the history as one line of compact JSON, which ends with a line feed, and nothing
-/// else. The order between workers is open, so two runs of a file may write different histories;
-/// each is legal.
-///
-/// At most 16,777,217 bytes are read, and no call of the reader or the writer is made again after
-/// it failed.
-///
-/// # Errors
-///
-/// At each of them but `Write` nothing is written.
-///
-/// - `Read` where a read fails.
-/// - `Input` where the file is refused.
-/// - `NoMemory` where memory is refused outside a call. A call that is refused memory ends its
-///   script as refused.
-/// - `NoThread` where a thread could not be started; the workers that were started finish.
-/// - `OutOfStep` where the history is not what the workers saw.
-/// - `Write` where a write fails or takes nothing: a proper beginning of the line is written.
-///
-/// # Cost
-///
-/// What the calls cost, and time in proportion to the file and, for each worker, to the history;
-/// memory in proportion to the file and the history, besides what the calls take.
-pub fn run<T: Threads + Wait + Sync, R: Read, W: Write>(
-    rt: &T,
-    alloc: Global,
-    input: &mut R,
-    output: &mut W,
-) -> Result<(), Fault>
-    ensures runs { OnOk result (Writes IsThreadedOf (R.remaining input.old)
-        (W.contents output.old) (W.contents output.new)) }
-    ensures fault { IfErr result (LeavesThreaded (R.remaining input.old)
-        (W.contents output.old) (W.contents output.new)) }
-{
-    let bytes = read_input(alloc, input)?;
-    let history = run_in_threads(rt, alloc, bytes)?;
     write_text(output, history.as_bytes())
 }

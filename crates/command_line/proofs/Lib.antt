@@ -1,6 +1,5 @@
 pub mod Asking
 pub mod Building
 pub mod Calls
-pub mod Running
 pub mod Seeds
 pub mod Worked

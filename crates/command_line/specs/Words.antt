@@ -25,6 +25,13 @@ asked_of (Run file) = (codes "run", None, file.now)
 asked_of (Mix seed file) = (codes "mix", Some seed, file.now)
 asked_of (Check file) = (codes "check", None, file.now)
 
+-- The name of a call's file.
+abbrev pub file_of : Call → List ℕ
+file_of (Replay file) = file.now
+file_of (Run file) = file.now
+file_of (Mix seed file) = file.now
+file_of (Check file) = file.now
+
 -- The command line: `replay FILE`, `run FILE`, `mix --seed N FILE` and `check FILE`, each as one
 -- of `clap`'s applications, whose own rules say how words are read.
 abbrev pub file_word : Rule

@@ -1,23 +1,16 @@
-//! The command line of `boostmap`: from the words of a call to the status that the program ends
-//! with.
+//! The command line of `boostmap`, and the system that a call meets.
 //!
-//! `boostmap replay FILE` runs the steps of a file on a transactional map and prints what came of
-//! it; `boostmap run FILE` runs the scripts of a file, each worker in a thread of its own, and
-//! prints the history; `boostmap mix --seed N FILE` does so with the workers' turns mixed as the
-//! seed says; `boostmap check FILE` says whether the recorded history of a file is legal.
+//! `call_in` says which call the words ask for: `replay FILE`, `run FILE`, `mix --seed N FILE` or
+//! `check FILE`, by the rules of `clap`, or that they are no call (`asked`, `specs/Words.antt`).
+//! `System` is what the program asks of the system that it runs on, words and files; `Host` is the
+//! system behind a runtime.
 //!
-//! `run` does all that the program does, over any system that gives words and opens files, and over
-//! any two writers. What it promises (`specs/Runs.antt`): the engine of the command that the words
-//! ask for ran on the file that they name; standard output holds what that engine wrote and nothing
-//! else; standard error holds the line of the fault, where there is one, and nothing else; and the
-//! status is that of what came of it. What the words ask for is `asked` (`specs/Words.antt`), by
-//! the rules of `clap`.
+//! It stands apart from the program (`boostmap_program`), which runs the engine of the call: words
+//! need none of the proofs about maps and threads.
 #![tactic(auto)]
 
-mod program;
 mod system;
 mod words;
 
-pub use program::{Ending, run};
 pub use system::{Host, System};
-pub use words::Call;
+pub use words::{Call, call_in};

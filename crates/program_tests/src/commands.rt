@@ -2,7 +2,7 @@
 
 use crate::devices::{Desk, Ended, Narrow, compare_ended};
 use boostmap_engine::mix;
-use command_line::{Ending, run};
+use boostmap_program::{Ending, run};
 use std::alloc::Global;
 use std::io::ErrorKind;
 use std::process::Abort;

@@ -8,7 +8,8 @@ mod replays;
 mod runs;
 
 use crate::devices::{Ended, Narrow, compare_ended, filled};
-use boostmap_engine::{Fault, check, mix, replay, run};
+use boostmap_engine::{Fault, check, mix, replay};
+use boostmap_program::threaded::run;
 use std::alloc::Global;
 use std::io::{Read, Write};
 use std::process::Abort;

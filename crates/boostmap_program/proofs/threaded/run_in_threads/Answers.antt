@@ -1,8 +1,8 @@
 use Rattle.std.proofs.Common.{◌≤◌, string_bytes, map, subst, sym, ◌∙◌, ap}
 use Rattle.txn_files.specs.HistoryText.{text_of_history}
 use Rattle.thread_runs.specs.Runs.{told_of}
-use Rattle.boostmap_engine.proofs.Threading.{few_tries, threaded_is}
-use Rattle.boostmap_engine.proofs.threaded.run_in_threads.Goals as goal
+use Rattle.boostmap_program.proofs.Threading.{few_tries, threaded_is}
+use Rattle.boostmap_program.proofs.threaded.run_in_threads.Goals as goal
 
 pub run_scripts-requires-clause-tries : goal.run_scripts-requires-clause-tries
 run_scripts-requires-clause-tries g c κs within =

@@ -3,12 +3,12 @@
 ghost use Rattle.std.specs.Prelude.{◌≡◌, Bool, Result};
 ghost use Rattle.boostmap_engine.specs.declared.fault.Fault.{Fault};
 ghost use Rattle.std.specs.IoError.{error_kind};
-ghost use Rattle.command_line.specs.Runs.{Does, Runs, Tells, memory_or, status_after};
+ghost use Rattle.boostmap_program.specs.Runs.{Does, Runs, Tells, memory_or, status_after};
 
-use crate::system::System;
-use crate::words::{Call, call_in};
+use crate::threaded;
 use boostmap_engine as engine;
 use boostmap_engine::Fault;
+use command_line::{Call, System, call_in};
 use std::alloc::Global;
 use std::io;
 use std::io::{Read, Write};
@@ -52,7 +52,7 @@ fn run_engine<T: Threads + Wait + Sync, R: Read, W: Write>(
             Ok(true)
         }
         Call::Run { .. } => {
-            engine::run(rt, alloc, input, output)?;
+            threaded::run(rt, alloc, input, output)?;
             Ok(true)
         }
         Call::Mix { seed, .. } => {

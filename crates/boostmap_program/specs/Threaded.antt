@@ -2,6 +2,8 @@
 use Rattle.std.specs.Prelude.{◌≡◌, ℕ, List, Option, Ok}
 use Rattle.std.specs.Io.KnownBytes.{Keeps}
 use Rattle.txn_trace.specs.declared.entry.Entry.{Entry}
+use Rattle.txn_trace.specs.declared.refusal.Refusal.{Refusal}
+use Rattle.txn_trace.specs.declared.refusal.Refusal.TheVariants as refusals
 use Rattle.txn_trace.specs.Work.{Work}
 use Rattle.txn_files.specs.HistoryText.{text_of_history}
 use Rattle.txn_files.specs.ScriptFile.{scripts_of}
@@ -39,3 +41,9 @@ LeavesThreaded remaining old new faults.NoThread = Keeps old new
 LeavesThreaded remaining old new faults.OutOfStep = Keeps old new
 LeavesThreaded remaining old new fault =
     Leaves IsThreadedOf IsNoScriptFile remaining old new fault
+
+-- The fault of a run in threads that was refused as a whole.
+abbrev pub of_run : Refusal → Fault
+of_run refusals.NoMemory = faults.NoMemory
+of_run refusals.NoThread = faults.NoThread
+of_run refusal = faults.OutOfStep

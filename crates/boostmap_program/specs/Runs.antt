@@ -9,23 +9,15 @@ use Rattle.boostmap_engine.specs.Faults.{status_of, message_of}
 use Rattle.boostmap_engine.specs.Written.{Writes, Leaves}
 use Rattle.boostmap_engine.specs.Report.{line, IsReportOf, IsNoStepFile}
 use Rattle.boostmap_engine.specs.Mixture.{IsMixtureOf, IsNoScriptFile}
-use Rattle.boostmap_engine.specs.Threaded.{IsThreadedOf, LeavesThreaded}
+use Rattle.boostmap_program.specs.Threaded.{IsThreadedOf, LeavesThreaded}
 use Rattle.boostmap_engine.specs.Judgement.{IsJudgement, IsJudgementOf, IsNoHistoryFile}
 use Rattle.command_line.specs.declared.words.Call.{Call}
 use Rattle.command_line.specs.declared.words.Call.TheVariants.{Replay, Run, Mix, Check}
-use Rattle.clap.specs.Words.{Text}
-use Rattle.command_line.specs.Words.{asked, asked_of}
+use Rattle.command_line.specs.Words.{asked, asked_of, file_of}
 
 -- What a run comes to: whether all is well, or a fault.
 abbrev pub Outcome : Type 0
 Outcome = Result Bool Fault
-
--- The name of a call's file.
-abbrev pub file_of : Call → List ℕ
-file_of (Replay file) = file.now
-file_of (Run file) = file.now
-file_of (Mix seed file) = file.now
-file_of (Check file) = file.now
 
 -- What standard output gets where the command of a call runs on a file of these bytes.
 abbrev pub Does : Call → Option (List ℕ) → Option (List ℕ) → Option (List ℕ) → Outcome → Type 0
@@ -43,7 +35,7 @@ Does (Check file) bytes old new (Err fault) =
 
 -- No command ran: the words are no call, their file was not opened, or memory was refused. What is
 -- said of the words holds where they are known.
-abbrev pub RunsNone : Option (List Text) → Option (List ℕ) → Option (List ℕ) → Outcome → Type 0
+abbrev pub RunsNone : Option (List (List ℕ)) → Option (List ℕ) → Option (List ℕ) → Outcome → Type 0
 RunsNone spoken old new (Err faults.Usage) =
     Keeps old new × IfSome spoken (λ words. asked words ≡ None)
 RunsNone spoken old new (Err faults.Read) =
@@ -56,14 +48,14 @@ RunsNone spoken old new (Err faults.OutOfStep) = ⊥
 RunsNone spoken old new (Ok well) = ⊥
 
 -- A command ran on the bytes of its own file: the one that the words ask for.
-pub record RunsOne (spoken : Option (List Text)) (bytes_of : List ℕ → Option (List ℕ))
+pub record RunsOne (spoken : Option (List (List ℕ))) (bytes_of : List ℕ → Option (List ℕ))
     (old new : Option (List ℕ)) (outcome : Outcome) : Type 0 where
   pub call : Call
   pub spells : IfSome spoken (λ words. asked words ≡ Some (asked_of call))
   pub does : Does call (bytes_of (file_of call)) old new outcome
 
 -- What a run comes to, by its words and the files' bytes, where they are known.
-abbrev pub Runs : Option (List Text) → (List ℕ → Option (List ℕ)) → Option (List ℕ)
+abbrev pub Runs : Option (List (List ℕ)) → (List ℕ → Option (List ℕ)) → Option (List ℕ)
     → Option (List ℕ) → Outcome → Type 0
 Runs spoken bytes_of old new outcome =
     RunsOne spoken bytes_of old new outcome ⊎ RunsNone spoken old new outcome

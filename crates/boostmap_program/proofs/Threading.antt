@@ -15,7 +15,7 @@ use Rattle.txn_files.specs.ScriptFile.{scripts_of, script_file, work_from, are_s
 use Rattle.txn_files.specs.StepFile.{sizes_at}
 use Rattle.thread_runs.specs.Accounts.{Outcome}
 use Rattle.thread_runs.specs.Runs.{HasRunScripts}
-use Rattle.boostmap_engine.specs.Threaded.{IsThreadedOf}
+use Rattle.boostmap_program.specs.Threaded.{IsThreadedOf}
 
 -- What a run has come to, where it was given the parts of a file's work.
 pub threaded_is : (bytes : List ℕ) (work : Work) (limits : Sizes) (workers tries stripes : ℕ) (scripts : List (List Action)) (outcomes : List Outcome) (trace : List Entry) (text whole : List ℕ) → scripts_of bytes ≡ Ok work

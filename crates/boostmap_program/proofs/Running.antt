@@ -4,25 +4,24 @@ use Rattle.std.specs.Prelude.{IfSome, is_some}
 use Rattle.std.specs.Result.{IsErrAnd}
 use Rattle.std.specs.declared.io.ErrorKind.{ErrorKind}
 use Rattle.std.specs.declared.io.ErrorKind.TheVariants.{OutOfMemory}
-use Rattle.clap.specs.Words.{Text}
 use Rattle.std.specs.Io.KnownBytes.{Keeps}
 use Rattle.txn_files.specs.FileFault.{FileFault}
 use Rattle.boostmap_engine.specs.declared.fault.Fault.{Fault}
 use Rattle.boostmap_engine.specs.declared.fault.Fault.TheVariants as faults
 use Rattle.boostmap_engine.specs.Written.{Writes, Leaves}
 use Rattle.boostmap_engine.specs.Mixture.{IsNoScriptFile}
-use Rattle.boostmap_engine.specs.Threaded.{IsThreadedOf, LeavesThreaded}
+use Rattle.boostmap_program.specs.Threaded.{IsThreadedOf, LeavesThreaded}
 use Rattle.command_line.specs.declared.words.Call.{Call}
 use Rattle.command_line.specs.declared.words.Call.TheVariants.{Replay, Run, Mix, Check}
-use Rattle.command_line.specs.Words.{asked, asked_of}
-use Rattle.command_line.specs.Runs.{Outcome, Does, Runs, RunsNone, file_of, memory_or}
+use Rattle.command_line.specs.Words.{asked, asked_of, file_of}
+use Rattle.boostmap_program.specs.Runs.{Outcome, Does, Runs, RunsNone, memory_or}
 
 Keeps-same : (known : Option (List ℕ)) → Keeps known known
 Keeps-same None = tt
 Keeps-same (Some xs) = refl
 
 -- What holds of the words holds of the words that are known.
-of_known : (spoken : Option (List Text)) (words : List Text) (P : List Text → Type 0) → IfSome spoken (λ known. words ≡ known) → P words → IfSome spoken P
+of_known : (spoken : Option (List (List ℕ))) (words : List (List ℕ)) (P : List (List ℕ) → Type 0) → IfSome spoken (λ known. words ≡ known) → P words → IfSome spoken P
 of_known None words P same holds = tt
 of_known (Some known) words P same holds = subst P same holds
 
@@ -31,25 +30,25 @@ memory_or_is : (kind : ErrorKind) (other : Fault) → (memory_or kind other ≡ 
 memory_or_is OutOfMemory other = inl refl
 memory_or_is kind other = inr refl
 
-runs_none : (spoken : Option (List Text)) (bytes_of : List ℕ → Option (List ℕ)) (known : Option (List ℕ)) (fault other : Fault) → RunsNone spoken known known (Err other)
+runs_none : (spoken : Option (List (List ℕ))) (bytes_of : List ℕ → Option (List ℕ)) (known : Option (List ℕ)) (fault other : Fault) → RunsNone spoken known known (Err other)
     → (fault ≡ faults.NoMemory) ⊎ (fault ≡ other) → Runs spoken bytes_of known known (Err fault)
 runs_none spoken bytes_of known fault other none (inl memory) = rw memory (inr (Keeps-same known))
 runs_none spoken bytes_of known fault other none (inr same) = rw same (inr none)
 
-pub no_words : (spoken : Option (List Text)) (bytes_of : List ℕ → Option (List ℕ)) (known : Option (List ℕ)) (kind : ErrorKind) → IfSome spoken (λ words. kind ≡ OutOfMemory)
+pub no_words : (spoken : Option (List (List ℕ))) (bytes_of : List ℕ → Option (List ℕ)) (known : Option (List ℕ)) (kind : ErrorKind) → IfSome spoken (λ words. kind ≡ OutOfMemory)
     → Runs spoken bytes_of known known (Err (memory_or kind faults.Usage))
 no_words None bytes_of known kind is = runs_none None bytes_of known _ faults.Usage (Keeps-same known, tt) (memory_or_is kind faults.Usage)
 no_words (Some words) bytes_of known kind is =
     subst (λ k. Runs (Some words) bytes_of known known (Err (memory_or k faults.Usage))) (sym is) (inr (Keeps-same known))
 
-pub no_call : (spoken : Option (List Text)) (words : List Text) (bytes_of : List ℕ → Option (List ℕ)) (known : Option (List ℕ)) (outcome : Outcome) (fault : Fault) → IfSome spoken (λ known. words ≡ known)
+pub no_call : (spoken : Option (List (List ℕ))) (words : List (List ℕ)) (bytes_of : List ℕ → Option (List ℕ)) (known : Option (List ℕ)) (outcome : Outcome) (fault : Fault) → IfSome spoken (λ known. words ≡ known)
     → (fault ≡ faults.NoMemory) ⊎ ((fault ≡ faults.Usage) × (asked words ≡ None)) → IsErrAnd outcome (λ e. e ≡ fault) → Runs spoken bytes_of known known outcome
 no_call spoken words bytes_of known (Ok well) fault same which err = absurd err
 no_call spoken words bytes_of known (Err e) fault same (inl memory) err = rw (err, memory) (inr (Keeps-same known))
 no_call spoken words bytes_of known (Err e) fault same (inr (usage, none)) err =
     rw (err, usage) (inr (Keeps-same known, of_known spoken words (λ given. asked given ≡ None) same none))
 
-pub not_opened : (spoken : Option (List Text)) (words : List Text) (call : Call) (bytes_of : List ℕ → Option (List ℕ)) (known : Option (List ℕ)) (kind : ErrorKind) → IfSome spoken (λ known. words ≡ known)
+pub not_opened : (spoken : Option (List (List ℕ))) (words : List (List ℕ)) (call : Call) (bytes_of : List ℕ → Option (List ℕ)) (known : Option (List ℕ)) (kind : ErrorKind) → IfSome spoken (λ known. words ≡ known)
     → asked words ≡ Some (asked_of call) → Runs spoken bytes_of known known (Err (memory_or kind faults.Read))
 not_opened spoken words call bytes_of known kind same spelled =
     runs_none spoken bytes_of known _ faults.Read (Keeps-same known, of_known spoken words (λ given. is_some (asked given) ≡ true) same (ap is_some spelled))
@@ -93,7 +92,7 @@ does-known call None bytes old new outcome same h = does-unknown call bytes old 
 does-known call (Some xs) bytes old new outcome same h = subst (λ (read : Option (List ℕ)). Does call read old new outcome) same h
 
 -- What a command does with an open file, it does with the bytes that the file of that name is known to have.
-pub runs_call : (spoken : Option (List Text)) (words : List Text) (bytes_of : List ℕ → Option (List ℕ)) (call : Call) (name : List ℕ) (bytes old new : Option (List ℕ)) (outcome : Outcome)
+pub runs_call : (spoken : Option (List (List ℕ))) (words : List (List ℕ)) (bytes_of : List ℕ → Option (List ℕ)) (call : Call) (name : List ℕ) (bytes old new : Option (List ℕ)) (outcome : Outcome)
     → IfSome spoken (λ known. words ≡ known) → asked words ≡ Some (asked_of call) → name ≡ file_of call → IfSome (bytes_of name) (λ xs. bytes ≡ Some xs) → Does call bytes old new outcome
     → Runs spoken bytes_of old new outcome
 runs_call spoken words bytes_of call name bytes old new outcome same spelled named known does = inl (record {

@@ -1,8 +1,8 @@
 use Rattle.std.proofs.Common.{map, string_bytes, sym, ap, ◌∙◌}
 use Rattle.std.specs.IoError.{error_kind}
 use Rattle.command_line.specs.Words.{asked}
-use Rattle.command_line.proofs.Running.{no_words, no_call, not_opened, runs_call}
-use Rattle.command_line.proofs.program.run_words.Goals as goal
+use Rattle.boostmap_program.proofs.Running.{no_words, no_call, not_opened, runs_call}
+use Rattle.boostmap_program.proofs.program.run_words.Goals as goal
 
 pub returns-in-Err : goal.returns-in-Err
 returns-in-Err g c = rw c.memory_or.ensures (no_words (g.S.System.spoken c.args.system.now) _ _ (error_kind c.in-Err.error) c.in-Err.ensures.err)

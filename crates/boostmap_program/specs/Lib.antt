@@ -1,0 +1,2 @@
+pub mod Threaded
+pub mod Runs

@@ -1,0 +1,113 @@
+//! The engine of `run`: each worker of a script file runs its scripts in a thread of its own, and
+//! the history is printed. It stands apart from the other engines, since it alone starts threads
+//! and waits: so they do not wait for the proofs of the map of threads.
+ghost use Rattle.std.specs.Prelude.{◌≡◌, OnOk, IfOk, IfErr, string_bytes};
+ghost use Rattle.boostmap_engine.specs.Written.{Writes};
+ghost use Rattle.boostmap_program.specs.Threaded.{HasNoneThreaded, IsThreadedOf, LeavesThreaded, of_run};
+
+use boostmap_engine::{Fault, read_input, scripts_in, write_text};
+use std::alloc::Global;
+use std::io::{Read, Write};
+use std::sync::Wait;
+use std::thread::Threads;
+use thread_runs::{Open, run_scripts};
+use txn_files::history_text;
+use txn_trace::Refusal;
+
+/// The version of a history file of a run.
+const VERSION: u64 = 3;
+
+/// The text of a history of the scripts that the bytes are, each worker in a thread of its own,
+/// with its line feed. The history has version 3, whatever version its script file has: a Busy
+/// entry names a caller that has begun a transaction, and may have ended it.
+///
+/// # Errors
+///
+/// `Input` where the bytes are no script file; `NoMemory` where memory is refused outside a call;
+/// `NoThread` where a thread could not be started; `OutOfStep` where the history is not what the
+/// workers saw.
+///
+/// # Cost
+///
+/// What the calls cost, and time in proportion to the bytes and, for each worker, to the history;
+/// memory in proportion to the bytes and the text, besides what the calls take.
+fn run_in_threads<R: Threads + Wait + Sync>(
+    rt: &R,
+    alloc: Global,
+    bytes: Vec<u8>,
+) -> Result<String, Fault>
+    ensures ok { IfOk result (λ text. IsThreadedOf bytes.items (string_bytes text)) }
+    ensures err { IfErr result (HasNoneThreaded bytes.items) }
+{
+    let work = scripts_in(alloc, bytes)?;
+    let limits = work.limits();
+    let workers = limits.callers() as usize;
+    let ran = match run_scripts(
+        rt,
+        alloc,
+        limits,
+        work.scripts(),
+        workers,
+        work.tries(),
+        &Open,
+    ) {
+        Ok(ran) => ran,
+        Err(refusal) => return Err(fault_of(refusal)),
+    };
+    drop(work);
+    drop(ran.outcomes);
+    let mut text = history_text(alloc, VERSION, limits.stripes(), &ran.trace)?;
+    text.push_str("\n")?;
+    Ok(text)
+}
+
+/// The fault of a run that was refused as a whole.
+fn fault_of(refusal: Refusal) -> Fault
+    ensures { result ≡ of_run refusal }
+{
+    match refusal {
+        Refusal::NoMemory => Fault::NoMemory,
+        Refusal::NoThread => Fault::NoThread,
+        _ => Fault::OutOfStep,
+    }
+}
+
+/// Reads a script file to its end, runs its scripts on one map, each worker in a thread of its own,
+/// and writes the history as one line of compact JSON, which ends with a line feed, and nothing
+/// else. The order between workers is open, so two runs of a file may write different histories;
+/// each is legal.
+///
+/// At most 16,777,217 bytes are read, and no call of the reader or the writer is made again after
+/// it failed.
+///
+/// # Errors
+///
+/// At each of them but `Write` nothing is written.
+///
+/// - `Read` where a read fails.
+/// - `Input` where the file is refused.
+/// - `NoMemory` where memory is refused outside a call. A call that is refused memory ends its
+///   script as refused.
+/// - `NoThread` where a thread could not be started; the workers that were started finish.
+/// - `OutOfStep` where the history is not what the workers saw.
+/// - `Write` where a write fails or takes nothing: a proper beginning of the line is written.
+///
+/// # Cost
+///
+/// What the calls cost, and time in proportion to the file and, for each worker, to the history;
+/// memory in proportion to the file and the history, besides what the calls take.
+pub fn run<T: Threads + Wait + Sync, R: Read, W: Write>(
+    rt: &T,
+    alloc: Global,
+    input: &mut R,
+    output: &mut W,
+) -> Result<(), Fault>
+    ensures runs { OnOk result (Writes IsThreadedOf (R.remaining input.old)
+        (W.contents output.old) (W.contents output.new)) }
+    ensures fault { IfErr result (LeavesThreaded (R.remaining input.old)
+        (W.contents output.old) (W.contents output.new)) }
+{
+    let bytes = read_input(alloc, input)?;
+    let history = run_in_threads(rt, alloc, bytes)?;
+    write_text(output, history.as_bytes())
+}
