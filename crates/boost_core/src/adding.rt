@@ -1,4 +1,5 @@
-//! What a step adds to the history.
+//! The end of every step: its entry is added to the caller's seat and to the history, in room that
+//! was reserved before. It stands apart, since this is the one place where a history grows.
 ghost use Rattle.std.specs.Prelude.{◌≡◌, ◌-◌, ◌+◌, ◌++◌, option_to_list, vec_len, vec_capacity, length};
 ghost use Rattle.txn_trace.specs.Owed.{owed_in};
 ghost use Rattle.boost_core.specs.Adding.{CanAdd, Enters};

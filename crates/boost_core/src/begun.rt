@@ -1,4 +1,5 @@
-//! Which callers have begun a transaction.
+//! Which callers have begun a transaction, a flag a caller: a word may name only one of these as a
+//! stripe's holder.
 ghost use Rattle.std.specs.Prelude.{◌≡◌, false, replicate, IfOk};
 ghost use Rattle.boost_core.specs.Begun.{begun_with};
 

@@ -1,4 +1,5 @@
-//! The steps of the table and of its helpers.
+//! The steps that are no caller's: sweeps, the three steps of a bucket's initialisation, and
+//! doubling. Each is one call of the table, whose outcome is named as an answer. They add no entry.
 ghost use Rattle.std.specs.Prelude.{◌≡◌, ◌≤◌, true};
 ghost use Rattle.map_ops.specs.TableAt.{table_changes, Follows};
 ghost use Rattle.boost_core.specs.Serves.{is_served, Serves, doubled, linked, sought, stored, swept};

@@ -1,4 +1,6 @@
-//! Claims to stripes.
+//! By what an operation claims its stripe: the core's own lock, a right in hand, or a word that
+//! names a holder. The kinds stand in one enum, so that an ask is one step whoever keeps the
+//! stripes.
 ghost use Rattle.std.specs.Prelude.{◌≡◌};
 
 use txn_trace::Step;

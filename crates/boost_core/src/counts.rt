@@ -1,4 +1,5 @@
-//! Counts.
+//! How many transactions have begun and how many have committed: what numbers the next ones. Both
+//! are functions of the history, by the core's invariant.
 ghost use Rattle.std.specs.Prelude.{◌≡◌};
 
 use txn_trace::Answer;

@@ -1,4 +1,5 @@
-//! The history of a core that is needed no longer.
+//! The history of a core that is no longer needed, handed out without a copy. A core with a `Drop`
+//! is taken apart here and nowhere else.
 ghost use Rattle.std.specs.Prelude.{◌≡◌, ◌<◌};
 ghost use Rattle.std.specs.List.{All};
 ghost use Rattle.txn_trace.specs.History.{caller_of};

@@ -1,4 +1,6 @@
-//! The core.
+//! The core: its fields, its invariant, and the one way that every step takes. A step is tested for
+//! a refusal, room is reserved, the session or the table does it, and its entry is added at the
+//! end. The steps themselves stand in `operations.rt`, `transactions.rt` and `buckets.rt`.
 ghost use Rattle.std.specs.Prelude.{◌≡◌, ℕ, ◌<◌, true, false, is_some, Some, IfOk, IfErr, OnErr, length};
 ghost use Rattle.std.specs.List.{All};
 ghost use Rattle.txn_trace.specs.Map.{count_of};

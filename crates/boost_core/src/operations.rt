@@ -1,4 +1,5 @@
-//! The steps by which a caller works on the map.
+//! The steps by which a caller works on the map: ask, seek and act. All memory that an operation
+//! and its inverse need is reserved by the ask; a seek and an act take none.
 ghost use Rattle.std.specs.Prelude.{◌≡◌, ◌+◌, ◌<◌, ◌≤◌, ◌++◌, ◌⊎◌, true, false, None, Ok, length, not, ◌&&◌, ◌||◌, is_some, option_to_list, IfOk, IfErr, OnOk, OnErr};
 ghost use Rattle.map_ops.specs.Changes.{OwnsIf, GivesBack};
 ghost use Rattle.map_ops.specs.TableAt.{table_changes};

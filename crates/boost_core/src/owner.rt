@@ -1,4 +1,5 @@
-//! Owners of cursors.
+//! Whose cursor was placed last. No code reads it: contracts name the cursor by it, and a ghost
+//! field cannot hold a value.
 ghost use Rattle.std.specs.Prelude.{◌≡◌};
 ghost use Rattle.boost_core.specs.Answers.{placed_by};
 ghost use Rattle.boost_core.specs.Placed.{placed_then};

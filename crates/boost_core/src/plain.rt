@@ -1,4 +1,6 @@
-//! The plain calls: several steps of one caller, with none of another between.
+//! The plain calls: `put`, `put_if`, `take`, `get`, `help`, `back` and `abort`, each a row of steps
+//! of one caller with no other step between, so `again` is never answered. They stand apart from
+//! `step`, which serves whoever takes steps of several callers in turn.
 ghost use Rattle.std.specs.Prelude.{◌≡◌, true, false, nat_le};
 ghost use Rattle.boost_core.specs.Plain.{outcome_of};
 

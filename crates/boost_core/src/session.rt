@@ -1,4 +1,6 @@
-//! A caller's side of the core.
+//! A caller's side of the core: seat, waiting operation, cursor and log. A cursor belongs to the
+//! operation that waits or to the newest change, so one place serves both. The steps on it stand in
+//! `operations.rt` and `transactions.rt`.
 ghost use Rattle.std.specs.Prelude.{◌≡◌, ◌+◌, ◌≤◌, ◌<◌, true, None, is_some, length};
 
 use crate::claim::Claim;

@@ -1,4 +1,4 @@
-//! All callers' sides.
+//! All callers' sides, made at once: a core never takes memory for a caller later.
 ghost use Rattle.std.specs.Prelude.{◌≡◌, IfOk, length};
 ghost use Rattle.std.specs.List.{All};
 ghost use Rattle.boost_core.specs.Sessions.{IsIdle};

@@ -1,4 +1,5 @@
-//! The steps by which a caller parts and ends its transaction.
+//! The steps that part and end a transaction: savepoints, and what commit and leaving do to the log
+//! and to the operation that waits. None takes memory but `save`.
 ghost use Rattle.std.specs.Prelude.{◌≡◌, None};
 
 use crate::session::Session;

@@ -1,4 +1,6 @@
-//! The core of stripes that are words.
+//! A core whose stripes are atomic words that others keep: an operation is asked for with the right
+//! to its stripe, or with the word that names its holder. It stands apart from `step`, which locks
+//! stripes by itself.
 ghost use Rattle.std.specs.Prelude.{◌≡◌, ◌≢◌, ◌-◌, true, IfOk, IfErr};
 ghost use Rattle.txn_trace.specs.Map.{key_of};
 ghost use Rattle.txn_trace.specs.Locks.{has_begun, stripe_of};

@@ -1,4 +1,4 @@
-//! An entry by the elements of its array.
+//! An entry by the elements of its array, in the form of the newest version of history files.
 ghost use Rattle.std.specs.Prelude.{◌≡◌, map, option_map};
 ghost use Rattle.piece_files.specs.Plain.{data_of};
 ghost use Rattle.txn_files.specs.Entries.{busy_of, entry_named, entry_of, transaction_entry};

@@ -1,4 +1,5 @@
-//! The entry that a line is.
+//! The entry that a line is, none if it is blank, or its first fault. A line is judged by itself,
+//! so a stream of lines needs no memory but for one.
 ghost use Rattle.std.specs.Prelude.{◌≡◌, ◌<◌, List, true, Some, None, Err, MatchResult, IfOk, IfSome, option_and_then};
 ghost use Rattle.std.specs.List.{list_all};
 ghost use Rattle.serde_json.specs.Data.{Data};

@@ -1,4 +1,4 @@
-//! A history as lines.
+//! A history as lines, one an entry: what a store that records itself writes.
 ghost use Rattle.std.specs.Prelude.{◌≡◌, [], ◌∷◌, ◌++◌, decimal, OnOk, IfOk, string_bytes};
 ghost use Rattle.std.specs.List.{join_with_byte};
 ghost use Rattle.txn_files.specs.HistoryText.{array_text, comma, optional_text, quoted};

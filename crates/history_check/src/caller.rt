@@ -1,4 +1,5 @@
-//! What a caller's entries so far make of it.
+//! What a caller's entries so far make of it: its seat, whether it has begun, and the value before
+//! each of its standing changes. Going back drops the newest of these.
 ghost use Rattle.std.specs.Prelude.{◌≡◌, ◌<◌, [], true, false, reverse, slice_get, vec_len, vec_capacity, is_some, OnOk};
 ghost use Rattle.txn_trace.specs.History.{is_began};
 ghost use Rattle.txn_trace.specs.Shape.{closed_seat, row};

@@ -1,4 +1,6 @@
-//! The callers of a history: the judge of shape, which both judges of replies stand on.
+//! The callers of a history: the judge of the rule of shape, on which both judges of replies stand.
+//! It keeps each caller's seat and how many transactions began and committed; an entry takes
+//! constant time.
 ghost use Rattle.std.specs.Prelude.{◌≡◌, ℕ, ◌+◌, ◌<◌, ◌==◌, ◌++◌, [], ◌∷◌, List, length, true, slice_get, IfOk, OnOk, vec_len};
 ghost use Rattle.txn_trace.specs.History.{caller_of, is_began, is_commit};
 ghost use Rattle.txn_trace.specs.Shape.{how_many, is_numbered, is_shaped};

@@ -1,4 +1,5 @@
-//! A checker that is fed the entries of a history one after another.
+//! A checker that is fed the entries of a history one after another. Once an entry breaks a rule,
+//! the verdict stays, whatever is fed after it.
 ghost use Rattle.std.specs.Prelude.{◌≡◌, ℕ, ◌<◌, ◌++◌, [], ◌∷◌, List, IfOk, OnOk, OnErr};
 ghost use Rattle.txn_trace.specs.History.{caller_of};
 ghost use Rattle.txn_trace.specs.declared.holder.Holder.{Holder};

@@ -1,4 +1,5 @@
-//! The check of a whole history.
+//! The check of a whole history in memory: a checker, fed with every entry. Packed entries are
+//! unpacked one at a time.
 ghost use Rattle.std.specs.Prelude.{◌<◌, IfOk};
 ghost use Rattle.std.specs.List.{All};
 ghost use Rattle.txn_trace.specs.History.{caller_of};

@@ -1,4 +1,5 @@
-//! The map as it is now and who holds its stripes: the judge of replies and of locks.
+//! The judge of replies and of locks: the map as it is now, and who holds its stripes. Apart from
+//! the judge of shape, since serializable histories need that one and not this.
 ghost use Rattle.std.specs.Prelude.{◌≡◌, ℕ, ◌<◌, ◌++◌, [], ◌∷◌, List, length, true, IfOk, OnOk, OnErr};
 ghost use Rattle.txn_trace.specs.History.{caller_of};
 ghost use Rattle.txn_trace.specs.Legal.{IsLegal};

@@ -1,4 +1,5 @@
-//! The map as it is now: an operation, and the taking back of one.
+//! The map as it is now, as a sorted map: an operation, and the taking back of one. Time in
+//! proportion to the logarithm of the map.
 ghost use Rattle.std.specs.Prelude.{OnOk, OnErr};
 ghost use Rattle.txn_trace.specs.Map.{Map, after};
 ghost use Rattle.txn_trace.specs.Now.{set_at};

@@ -1,4 +1,4 @@
-//! The verdict on a history, and the rules that an entry may break, with their texts.
+//! The verdict on a history and the rule that an entry breaks, with the texts that `check` prints.
 ghost use Rattle.std.specs.Prelude.{◌≡◌};
 ghost use Rattle.history_check.specs.Verdicts.{number_of};
 

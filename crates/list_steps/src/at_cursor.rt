@@ -1,4 +1,5 @@
-//! What is done where a cursor stands: the test and the step in one call.
+//! The test and the step in one call, for a caller that does one thing at a cursor. If the cursor
+//! does not fit, nothing changes and a spare is handed back.
 ghost use Rattle.std.specs.Prelude.{◌≡◌, ◌<◌, ◌-◌, ◌^◌, is_ok, IsOk, IfOk, IfErr, OnOk, OnErr};
 ghost use Rattle.node_list.specs.Nodes.{IsOut, filled};
 ghost use Rattle.node_list.specs.Follow.{Follows};

@@ -1,4 +1,6 @@
-//! Cursors, and the test whether one fits.
+//! Cursors: two neighbours by place and stamp, the sort key sought, and the test whether a cursor
+//! still fits. A stamp never comes back, so a place that was used again is not taken for the old
+//! node.
 ghost use Rattle.std.specs.Prelude.{◌≡◌, Some, true, ◌==◌, ◌&&◌, not};
 ghost use Rattle.node_list.specs.Nodes.{IsLinked, next_of, node_of};
 ghost use Rattle.node_list.specs.Sound.{IsSound};

@@ -1,4 +1,5 @@
-//! The seek of a place.
+//! The seek: a walk from a node to the place of a sort key, which unlinks the marked nodes that it
+//! passes. The only loop over the list but for the sweep.
 ghost use Rattle.std.specs.Prelude.{◌≡◌, ◌-◌, length, true};
 ghost use Rattle.node_list.specs.Nodes.{changes_after};
 ghost use Rattle.node_list.specs.Follow.{Follows};

@@ -1,4 +1,5 @@
-//! The test of a cursor, and what is done by its answer.
+//! The test of a cursor, and what is done by its answer: link, mark, swap. They stand apart from
+//! the test, so that a caller that has looked does not look again.
 ghost use Rattle.std.specs.Prelude.{◌≡◌, ◌<◌, ◌-◌, ◌^◌, is_ok, IsOk, IfOk};
 ghost use Rattle.node_list.specs.Nodes.{IsLinked, IsOut, IsRegularAt, filled, place_of};
 ghost use Rattle.node_list.specs.Order.{IsVacant};

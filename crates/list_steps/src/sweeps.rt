@@ -1,4 +1,5 @@
-//! The sweep of marked nodes.
+//! The sweep: unlinks the first marked node, found by the counts of regions, or says that none is
+//! marked. It takes no memory.
 ghost use Rattle.std.specs.Prelude.{◌≡◌, ◌↔◌, false};
 ghost use Rattle.std.specs.List.{AllByRecursion};
 ghost use Rattle.node_list.specs.Follow.{Follows};

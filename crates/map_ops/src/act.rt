@@ -1,4 +1,5 @@
-//! What is answered at a cursor.
+//! What `act` and `undo` answer: that it is done, or that the cursor no longer fits, with what was
+//! handed in. Both are enums, so that nothing that owns a spare can be lost at `again`.
 use crate::job::MapJob;
 use crate::pending::Pending;
 use txn_trace::Reply;

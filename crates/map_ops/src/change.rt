@@ -1,4 +1,6 @@
-//! What is done to the list of a table. Each contract holds of the table with any buckets.
+//! What an operation or an inverse does to the list of a table. Each contract holds of the table
+//! with any buckets, since none of these touches them: so the proofs need not speak of buckets at
+//! all.
 ghost use Rattle.std.specs.Prelude.{◌≡◌, ◌≤◌, Option, Some, None, is_ok, nat_eq, IfOk, IfErr, OnErr};
 ghost use Rattle.std.specs.Option.{option_eq};
 ghost use Rattle.node_list.specs.Follow.{Follows};

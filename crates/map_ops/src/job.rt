@@ -1,4 +1,5 @@
-//! Jobs.
+//! The inverses of changes: take out, write back, put back. A job that puts a key back owns the
+//! node for it, so that going back never takes memory.
 ghost use Rattle.std.specs.Prelude.{◌≡◌};
 
 use node_list::Unfilled;

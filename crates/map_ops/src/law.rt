@@ -1,4 +1,5 @@
-//! Laws of the table.
+//! Laws of the table, as contracts of functions that do nothing when they run: a change followed by
+//! its inverse, and two inverses of different keys in either order.
 
 ghost use Rattle.std.specs.Prelude.{◌≡◌, ◌≢◌, ℕ, Option, None};
 ghost use Rattle.txn_trace.specs.declared.op.Op.{Op};

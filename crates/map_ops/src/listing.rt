@@ -1,4 +1,5 @@
-//! The keys and values of a list.
+//! The pairs of a list, in its order, and the sorted map of these: what a report prints and what
+//! tests compare. Time and memory in proportion to the nodes.
 ghost use Rattle.std.specs.Prelude.{◌≡◌, ◌++◌, IfOk, OnOk};
 ghost use Rattle.std.specs.BTreeMap.{IsFromIterResult};
 ghost use Rattle.std.specs.Ordering.{nat_cmp};

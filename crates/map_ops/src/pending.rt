@@ -1,4 +1,5 @@
-//! Operations that are prepared.
+//! An operation that has what it needs. It stands apart from `Op` (`txn_trace`), since all but a
+//! get own a spare node from here on, until they are done or withdrawn.
 ghost use Rattle.std.specs.Prelude.{◌≡◌, is_some};
 
 use node_list::Unfilled;

@@ -1,4 +1,4 @@
-//! Refusals of calls on buckets, as steps name them.
+//! The refusals of calls on buckets, as steps name them: `bucket_table` knows no `txn_trace`.
 ghost use Rattle.std.specs.Prelude.{◌≡◌};
 ghost use Rattle.map_ops.specs.Buckets.{answer_for, refusal_for};
 

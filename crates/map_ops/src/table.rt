@@ -1,4 +1,6 @@
-//! The table.
+//! The table: list and buckets in one value, and every call on them. Invariant: the list is sound,
+//! and each stored bucket names its linked dummy and has a stored parent. What is done to the list
+//! alone stands in `change.rt`.
 ghost use Rattle.std.specs.Prelude.{◌≡◌, ◌≢◌, ℕ, ◌<◌, ◌≤◌, ◌-◌, ◌^◌, ◌↔◌, Ok, Err, Some, length, IfOk, IfErr, OnErr};
 ghost use Rattle.std.specs.List.{slice_get};
 ghost use Rattle.std.specs.BTreeMap.{get as value_at};

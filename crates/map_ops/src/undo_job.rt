@@ -1,4 +1,5 @@
-//! Jobs in an undo log.
+//! A job of the table as a job of an undo log, whose world is the table: it joins the two crates
+//! that know nothing of each other.
 use crate::job::MapJob;
 use crate::table::Table;
 use undo_log::UndoJob;

@@ -1,4 +1,5 @@
-//! A file as a whole: its numbers and its pieces, by the names of its members.
+//! A file as a whole: its numbers and its pieces, by the names of its members. The order in which
+//! faults count is decided here and nowhere else.
 
 ghost use Rattle.std.specs.Prelude.{◌≡◌, ◌∷◌, ◌≤◌, List, length, take, map, true, Option, Some, Result, Ok, Err, MatchResult};
 ghost use Rattle.std.specs.Str.{IsUtf8};

@@ -1,4 +1,5 @@
-//! Values that are passed over: they are tested to be JSON, and nothing of them is kept.
+//! Values that are passed over: they are tested to be JSON, and nothing of them is kept, at any
+//! depth that the reader allows.
 
 ghost use Rattle.std.specs.Prelude.{◌≡◌, ◌∷◌, ◌<◌, ◌≤◌, length, Some, None, OnOk, OnErr};
 ghost use Rattle.json.specs.Reads.{token_of};

@@ -1,4 +1,5 @@
-//! The pieces of an array, read one after the other: one loop for all kinds of pieces.
+//! The pieces of an array, read one after the other: one loop for all kinds of pieces. Past the
+//! limit pieces are counted and not kept.
 
 ghost use Rattle.std.specs.Prelude.{◌≡◌, ℕ, ◌+◌, ◌^◌, ◌∷◌, ◌<◌, ◌≤◌, List, length, Bool, true, Option, Some, None, Err, MatchResult, IfOk, OnOk, option_and_then};
 ghost use Rattle.json.specs.Token.{Token as SpecToken};

@@ -1,4 +1,5 @@
-//! Plain values, of which elements are kept: null, a text, or a whole number below 2^64.
+//! Plain values, of which elements are kept: null, a text, or a whole number below 2^64. An element
+//! takes no memory.
 
 ghost use Rattle.std.specs.Prelude.{◌≡◌, ◌∷◌, ◌<◌, ◌≤◌, List, length, Some, None, option_map, IfOk, OnOk, OnErr};
 ghost use Rattle.json.specs.Reads.{token_of};

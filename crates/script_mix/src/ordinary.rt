@@ -1,4 +1,4 @@
-//! An ordinary core.
+//! A core whose stripes are its own, as a type: a worker's turn may then ask without a claim.
 ghost use Rattle.std.specs.Prelude.{◌≡◌, false, IfOk};
 ghost use Rattle.boost_core.specs.Machine.{start};
 

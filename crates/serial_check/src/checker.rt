@@ -1,4 +1,5 @@
-//! A checker that is fed the entries of a history one after another.
+//! A checker that is fed the entries of a history one after another, and judges replies at each
+//! commit. Once an entry breaks a rule, the verdict stays.
 ghost use Rattle.std.specs.Prelude.{◌≡◌, ℕ, ◌<◌, ◌++◌, [], ◌∷◌, List, IfOk, OnOk, OnErr, IfSome, IsNone, Some, true};
 ghost use Rattle.txn_trace.specs.History.{caller_of};
 ghost use Rattle.serial_check.specs.Verdicts.{IsVerdictOn};

@@ -1,4 +1,5 @@
-//! The committed map and the footprints of open transactions: the judge of what commits.
+//! The judge of what commits: the committed map and the footprints of open transactions. A commit
+//! is right if the committed map has what its footprint needs.
 ghost use Rattle.std.specs.Prelude.{◌≡◌, ℕ, ◌<◌, true, [], List, Some, IfOk, OnErr, IfSome, IsNone, vec_len};
 ghost use Rattle.txn_trace.specs.History.{caller_of, is_open};
 ghost use Rattle.txn_trace.specs.declared.entry.Entry.{Entry};

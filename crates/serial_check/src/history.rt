@@ -1,4 +1,4 @@
-//! The check of a whole history.
+//! The check of a whole history in memory, by the order of its commits.
 ghost use Rattle.std.specs.Prelude.{◌<◌, IfOk};
 ghost use Rattle.std.specs.List.{All};
 ghost use Rattle.txn_trace.specs.History.{caller_of};

@@ -1,4 +1,5 @@
-//! What a checker keeps of the history that it was fed.
+//! What a checker keeps of the history that it was fed: callers, committed map and footprints. Its
+//! view is the history; no list of the entries is kept.
 ghost use Rattle.std.specs.Prelude.{◌<◌, [], IfOk, OnErr};
 ghost use Rattle.txn_trace.specs.History.{caller_of};
 

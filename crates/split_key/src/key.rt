@@ -1,4 +1,5 @@
-//! Keys: any number of 64 bits, or one of the lower half, which files of version 1 are held to.
+//! Keys: any number of 64 bits, or one of the lower half, to which files of version 1 are held. A
+//! key is a type of its own, so that no place of a node is taken for one.
 ghost use Rattle.std.specs.Prelude.{◌≡◌, ℕ, ◌<◌, ◌≤◌, ◌^◌, MatchResult};
 ghost use Rattle.split_key.specs.Text.{bad_key_text};
 

@@ -1,4 +1,5 @@
-//! Sort keys: where nodes stand in the order of the list.
+//! Sort keys: where nodes stand in the order of the list, by split key and then by key. `is_before`
+//! is the only comparison of places in the repository.
 ghost use Rattle.std.specs.Prelude.{◌≡◌, ◌≢◌, ℕ};
 ghost use Rattle.split_key.specs.Sort.{IsBefore, dummy_at, is_before, regular_at};
 

@@ -1,3 +1,5 @@
+//! What a caller asks a drive for, one variant a call of the map: an operation, begin, save, back,
+//! commit, abort or help. The first step of a call is a function of it.
 ghost use Rattle.std.specs.Prelude.{◌≡◌};
 ghost use Rattle.txn_drive.specs.Drives.{first_phase, first_step};
 

@@ -1,3 +1,6 @@
+//! A call in progress: its phase, the turn that comes next, and what an answer makes of it. It
+//! stands apart from whatever takes the steps, so that a core, a lock and a test drive calls by one
+//! machine. Every call of a drive takes constant time and no memory.
 ghost use Rattle.std.specs.Prelude.{◌≡◌, [], ◌++◌, Some, IfSome};
 ghost use Rattle.txn_trace.specs.declared.step.Step.{Step};
 ghost use Rattle.txn_drive.specs.Drives.{new_drive, sized_of, turn_of, told_of, step_of, IsTurnOf, end_of, end_first, end_last, end_helped};

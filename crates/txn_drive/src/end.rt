@@ -1,3 +1,5 @@
+//! How a call ends: answered, busy, helped or refused. It stands apart since callers, workers and
+//! the map of threads all speak of ends.
 use txn_trace::{Answer, Refusal};
 
 /// How a call ended.

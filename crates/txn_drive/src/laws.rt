@@ -1,4 +1,4 @@
-//! Laws of drives.
+//! Laws of drives: theorems about `specs/` as contracts of functions that do nothing when they run.
 
 ghost use Rattle.std.specs.Prelude.{◌≡◌, ◌≢◌, ℕ, ◌^◌, ◌<◌, ◌≤◌};
 ghost use Rattle.split_key.specs.Split.{parent_of, IsAncestor};

@@ -1,3 +1,6 @@
+//! How far a call is, and the next phase after an answer, one function a phase
+//! (`specs/Drives.antt`). A phase holds all that a call remembers between two steps: its work, its
+//! helper's way, and how many `again` came in a row.
 ghost use Rattle.std.specs.Prelude.{◌≡◌};
 ghost use Rattle.txn_drive.specs.Drives.{one_more, towards, heading, told_first, told_seek, told_act, told_double, told_init_seek, told_link, told_store, refused_help, undone_more, told_in};
 

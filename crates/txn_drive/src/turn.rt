@@ -1,3 +1,6 @@
+//! What a drive wants next: one step, a seek with its act, or nothing more. A turn of two steps
+//! comes after eight `again` in a row; its second step is taken only if the first was answered
+//! `placed`.
 ghost use Rattle.std.specs.Prelude.{◌≡◌};
 ghost use Rattle.txn_drive.specs.Drives.{paired};
 ghost use Rattle.txn_drive.specs.Turns.{HasTaken, MayTake};

@@ -1,3 +1,5 @@
+//! The buckets that a helper initialises on its way to a key's bucket, each after its parent. The
+//! way is its last bucket and its target: the next one is found by the bits of the target.
 ghost use Rattle.std.specs.Prelude.{◌≡◌};
 ghost use Rattle.split_key.specs.Split.{parent_of};
 ghost use Rattle.txn_drive.specs.Ways.{child_towards};

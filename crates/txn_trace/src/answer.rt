@@ -1,4 +1,5 @@
-//! What steps are answered, and the text of an answer.
+//! What steps are answered, and the text of an answer as a report prints it. An answer says all
+//! that the history's entry of the step needs besides the step.
 ghost use Rattle.std.specs.Prelude.{◌≡◌, ◌++◌, IfOk, string_bytes};
 ghost use Rattle.txn_trace.specs.Text.{rest_text, text_of};
 

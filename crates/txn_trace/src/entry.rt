@@ -1,4 +1,5 @@
-//! The lines of a history.
+//! The entries of a history, one a line of a history file. The meaning of a row of them is in
+//! `specs/`.
 ghost use Rattle.std.specs.Prelude.{◌≡◌};
 ghost use Rattle.txn_trace.specs.History.{caller_of};
 

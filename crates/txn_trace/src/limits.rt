@@ -1,4 +1,5 @@
-//! The limits of a map: its callers, stripes and buckets.
+//! The limits of a map: its callers, stripes and buckets, and whether keys of the upper half are
+//! taken. They are in range by the type, so no call tests them again.
 ghost use Rattle.std.specs.Prelude.{◌≡◌, true, IsTrue};
 ghost use Rattle.txn_trace.specs.Sizes.{Sizes, are_limits, is_bad_key, limits_of};
 

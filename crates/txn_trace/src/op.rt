@@ -1,4 +1,4 @@
-//! The operations on one key, and what they answer.
+//! The operations on one key, and what they answer: each replies the value that the key had before.
 ghost use Rattle.std.specs.Prelude.{◌≡◌};
 ghost use Rattle.txn_trace.specs.Map.{key_of};
 ghost use Rattle.txn_trace.specs.Shape.{changes};

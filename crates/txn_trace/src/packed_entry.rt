@@ -1,4 +1,5 @@
-//! An entry of a history in less memory.
+//! An entry of a history in 48 bytes for 64, whose model is the entry: so a list of packed entries
+//! is a history as well.
 ghost use Rattle.std.specs.Prelude.{◌≡◌};
 ghost use Rattle.txn_trace.specs.Packed.{packed_op, packed_entry};
 

@@ -1,4 +1,5 @@
-//! Why a call is refused, by number.
+//! Why a call is refused, by number and by a sentence. The numbers are those of the files and of
+//! C's statuses.
 ghost use Rattle.std.specs.Prelude.{◌≡◌};
 ghost use Rattle.txn_trace.specs.Refusals.{number_of, words_of};
 ghost use Rattle.txn_trace.specs.Sentences.{sentence_of};

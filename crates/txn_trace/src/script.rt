@@ -1,4 +1,4 @@
-//! What workers are given to do.
+//! What workers are given to do: scripts, which are rows of actions, with the limits and the tries.
 ghost use Rattle.std.specs.Prelude.{◌≡◌};
 
 use crate::action::Action;

@@ -1,4 +1,5 @@
 //! The steps of callers, of helpers and of the table, and the entries that they add to a history.
+//! Which entry that is depends on step and answer alone.
 ghost use Rattle.std.specs.Prelude.{◌≡◌, option_to_list};
 ghost use Rattle.txn_trace.specs.Entries.{entries_of};
 ghost use Rattle.txn_trace.specs.Owed.{reserved};

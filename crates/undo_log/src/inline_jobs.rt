@@ -1,3 +1,5 @@
+//! The store of a caller's jobs: a small vector, of which the first few stand in the value itself.
+//! Invariant: each place in use holds a job; `None` fills only the inline places that are not used.
 use crate::job::UndoJob;
 use crate::store::JobStore;
 use smallvec::SmallVec;

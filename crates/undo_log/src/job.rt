@@ -1,3 +1,5 @@
+//! The trait of an inverse: what it names of the world before and after its change, and the law
+//! that `run` keeps. It stands apart, since the log knows jobs by this law alone.
 /// The inverse of one change, which is run at most once.
 ///
 /// Its law is the contract of `run`: on a world that shows what the job names as after the change,

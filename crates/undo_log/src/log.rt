@@ -1,3 +1,5 @@
+//! The log of a transaction: its jobs, oldest first, and how many of them each savepoint keeps. One
+//! log serves both kinds of job store. Only `reserve_one`, `save` and `save_room` take memory.
 ghost use Rattle.std.specs.Prelude.{◌≡◌, ◌+◌, ◌-◌, ◌<◌, ◌≤◌, ◌↔◌, [], ◌∷◌, ◌++◌, length, take, IsTrue, IsOk, IsSome, IfOk, OnOk, OnErr, option_to_list, option_copied};
 ghost use Rattle.undo_log.specs.UndoLog.{kept_at, newest_above};
 

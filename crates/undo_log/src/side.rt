@@ -1,3 +1,5 @@
+//! A value of the caller's own beside a transaction, and the job that takes one change of it back.
+//! The library sees four words of the value, and what each job says of them.
 use crate::job::UndoJob;
 
 /// A value of the caller's own, kept beside a transaction, whose changes can be taken back, each by

@@ -1,3 +1,5 @@
+//! A side value with the log of its changes. Invariant: run newest first, the jobs give the value
+//! the words that it had at each level; so no words are stored.
 ghost use Rattle.std.specs.Prelude.{◌≡◌, ◌+◌, ◌<◌, ◌≤◌, [], ◌∷◌, ◌++◌, length, take, slice_get, IsOk, IfOk, IfErr, OnOk, OnErr};
 
 use crate::job::UndoJob;

@@ -1,3 +1,6 @@
+//! Where a log keeps its jobs: the trait, and a `Vec` as a store. The other store is
+//! `inline_jobs.rt`. A store says how many jobs take no memory (`inline`) and how much room is
+//! there (`room_of`).
 use crate::job::UndoJob;
 use std::alloc::{AllocError, Global};
 
