@@ -1,11 +1,12 @@
 //! An operation as elements in JSON: how it is read, and how it is written.
 
-ghost use Rattle.std.specs.Prelude.{◌≡◌, ◌++◌, map, option_map, OnOk, string_bytes};
+ghost use Rattle.std.specs.Prelude.{◌≡◌, ◌++◌, ◌∷◌, decimal, map, option_map, OnOk, string_bytes};
 ghost use Rattle.std.specs.List.{join_with_byte};
 ghost use Rattle.piece_files.specs.Plain.{data_of};
 ghost use Rattle.txn_files.specs.HistoryText.{comma};
 ghost use Rattle.txn_files.specs.Operations.{is_old_op, op_at, op_of, put_if_at, elements_of_op};
 
+use itoa::Buffer;
 use piece_files::{Plain, leading_optional_in, number_in, word_in};
 use std::alloc::AllocError;
 use txn_trace::Op;
@@ -71,6 +72,31 @@ pub fn is_old_op(op: Op) -> bool
     !matches!(op, Op::PutIf(..))
 }
 
+/// Adds the decimal digits of a number, made on the stack: `write!` would go through a formatter.
+pub(crate) fn put_number(text: &mut String, number: u64) -> Result<(), AllocError>
+    ensures { OnOk result (string_bytes text.new ≡ string_bytes text.old ++ decimal number) }
+{
+    text.push_str(Buffer::new().format(number))
+}
+
+/// Adds a comma and a number.
+fn put_next(text: &mut String, number: u64) -> Result<(), AllocError>
+    ensures { OnOk result (string_bytes text.new
+        ≡ string_bytes text.old ++ comma ∷ decimal number) }
+{
+    text.push_str(",")?;
+    put_number(text, number)
+}
+
+/// Adds a text and a number.
+fn put_named(text: &mut String, name: &str, number: u64) -> Result<(), AllocError>
+    ensures { OnOk result (string_bytes text.new
+        ≡ string_bytes text.old ++ (name.now ++ decimal number)) }
+{
+    text.push_str(name)?;
+    put_number(text, number)
+}
+
 /// Adds the elements of an operation, with a comma between each two.
 ///
 /// # Errors
@@ -85,12 +111,21 @@ pub fn put_op(text: &mut String, op: Op) -> Result<(), AllocError>
         ≡ string_bytes text.old ++ join_with_byte comma (elements_of_op op)) }
 {
     match op {
-        Op::Put(key, value) => write!(text, "\"put\",{key},{value}"),
-        Op::Take(key) => write!(text, "\"take\",{key}"),
-        Op::Get(key) => write!(text, "\"get\",{key}"),
-        Op::PutIf(key, None, value) => write!(text, "\"put_if\",{key},null,{value}"),
+        Op::Put(key, value) => {
+            put_named(text, "\"put\",", key)?;
+            put_next(text, value)
+        }
+        Op::Take(key) => put_named(text, "\"take\",", key),
+        Op::Get(key) => put_named(text, "\"get\",", key),
+        Op::PutIf(key, None, value) => {
+            put_named(text, "\"put_if\",", key)?;
+            text.push_str(",null")?;
+            put_next(text, value)
+        }
         Op::PutIf(key, Some(expected), value) => {
-            write!(text, "\"put_if\",{key},{expected},{value}")
+            put_named(text, "\"put_if\",", key)?;
+            put_next(text, expected)?;
+            put_next(text, value)
         }
     }
 }

@@ -1,20 +1,32 @@
 //! Histories as compact JSON: each entry as an array, and the object around them. The text is a
 //! function of the entries, `text_of_history`. Time and memory in proportion to the text.
-ghost use Rattle.std.specs.Prelude.{◌≡◌, [], ◌∷◌, ◌++◌, decimal, map, OnOk, IfOk, string_bytes};
+ghost use Rattle.std.specs.Prelude.{◌≡◌, [], ◌∷◌, ◌++◌, codes, decimal, map, OnOk, IfOk, string_bytes};
 ghost use Rattle.std.specs.List.{flat_map, join_with_byte};
 ghost use Rattle.txn_files.specs.HistoryText.{array_text, comma, entry_text, optional_text, quoted, text_of_history};
 ghost use Rattle.txn_trace.specs.declared.entry.Entry.TheVariants as entries;
 
-use crate::operation::put_op;
+use crate::operation::{put_number, put_op};
 use std::alloc::{AllocError, Global};
 use txn_trace::{Entry, Op};
+
+/// Adds the head of an array: its bracket, a name and a caller.
+fn put_head(text: &mut String, name: &str, caller: u64) -> Result<(), AllocError>
+    ensures { OnOk result (string_bytes text.new ≡ string_bytes text.old
+        ++ (codes "[" ++ (quoted name.now ++ comma ∷ decimal caller))) }
+{
+    text.push_str("[\"")?;
+    text.push_str(name)?;
+    text.push_str("\",")?;
+    put_number(text, caller)
+}
 
 /// Adds an array of a name and a caller.
 fn put_short(text: &mut String, name: &str, caller: u64) -> Result<(), AllocError>
     ensures { OnOk result (string_bytes text.new
         ≡ string_bytes text.old ++ array_text (quoted name.now ∷ decimal caller ∷ [])) }
 {
-    write!(text, "[\"{name}\",{caller}]")
+    put_head(text, name, caller)?;
+    text.push_str("]")
 }
 
 /// Adds an array of a name, a caller and a number.
@@ -22,7 +34,10 @@ fn put_numbered(text: &mut String, name: &str, caller: u64, number: u64) -> Resu
     ensures { OnOk result (string_bytes text.new ≡ string_bytes text.old
         ++ array_text (quoted name.now ∷ decimal caller ∷ decimal number ∷ [])) }
 {
-    write!(text, "[\"{name}\",{caller},{number}]")
+    put_head(text, name, caller)?;
+    text.push_str(",")?;
+    put_number(text, number)?;
+    text.push_str("]")
 }
 
 /// Adds an array of a name, a caller, and a number or null.
@@ -37,7 +52,10 @@ fn put_optional(
 {
     match number {
         Some(number) => put_numbered(text, name, caller, number),
-        None => write!(text, "[\"{name}\",{caller},null]"),
+        None => {
+            put_head(text, name, caller)?;
+            text.push_str(",null]")
+        }
     }
 }
 
@@ -46,7 +64,8 @@ fn put_asked(text: &mut String, caller: u64, op: Op) -> Result<(), AllocError>
     ensures { OnOk result (string_bytes text.new
         ≡ string_bytes text.old ++ entry_text (entries.Asked caller op)) }
 {
-    write!(text, "[\"asked\",{caller},")?;
+    put_head(text, "asked", caller)?;
+    text.push_str(",")?;
     put_op(text, op)?;
     text.push_str("]")
 }
