@@ -1,2 +1,3 @@
 pub mod CoreWords
 pub mod CheckerWords
+pub mod MemberWords

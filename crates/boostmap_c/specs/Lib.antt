@@ -4,3 +4,6 @@ pub mod Calls
 pub mod Entries
 pub mod Judges
 pub mod Contents
+pub mod Stops
+pub mod Striped
+pub mod Members
