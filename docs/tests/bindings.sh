@@ -38,6 +38,7 @@ has() {
 within() { timeout 600 "$@"; }
 
 prints_the_example() { within "$@" | cmp - bindings/examples/stdout; }
+prints_the_threads() { within "$@" | cmp - bindings/examples/threads.stdout; }
 
 use=(-Ibindings/tests "-I$work/usr/include" "-L$work/usr/lib")
 strict=(-O2 -Wall -Wextra -Wpedantic -Werror)
@@ -65,6 +66,9 @@ in_c() {
   c_test no_memory c11 -Wl,--wrap=malloc -Wl,--wrap=realloc -Wl,--wrap=free
   try 'compile transfer.c' cc -std=c99 "${strict[@]}" "${use[@]}" bindings/examples/transfer.c -o "$work/transfer" -lboostmap
   try 'example in C' prints_the_example "$work/transfer"
+  try 'compile threads.c, the example' cc -std=c99 "${strict[@]}" "${use[@]}" bindings/examples/threads.c \
+    -o "$work/threads_example" -lboostmap -pthread
+  try 'example of threads in C' prints_the_threads "$work/threads_example"
 }
 
 in_c_again() {
