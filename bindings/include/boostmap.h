@@ -116,7 +116,7 @@ enum {
     BOOSTMAP_NO_SUCH_HELPER = 28,  /* as 18, of boostmap_help */
     BOOSTMAP_NO_MEMORY = 30,       /* memory was refused; never by commit and abort */
     BOOSTMAP_STAMPS_USED_UP = 32,  /* 2^64 - 2 nodes were made */
-    BOOSTMAP_LIMIT = 38            /* a limit, the stripes or the holder are out of range */
+    BOOSTMAP_LIMIT = 38            /* a limit, the stripes or the rule are out of range */
 };
 
 /* A status in words. */
@@ -303,12 +303,17 @@ typedef struct boostmap_verdict {
     uint64_t rule;     /* and the rule: 1 replies, 2 locks, 3 shape */
 } boostmap_verdict;
 
-/* Whom a BUSY entry may name: a caller that holds the stripe at that moment, or, for stores that
- * note the entry later, one that has begun a transaction before. */
-enum { BOOSTMAP_HOLDER_NOW = 0, BOOSTMAP_HOLDER_BEGUN = 1 };
+/* The rule. By locks: a BUSY entry may name a caller that holds the stripe at that moment, or, for
+ * stores that note the entry later, one that has begun a transaction before. By the order of commits,
+ * for stores whose readers share locks or read snapshots: each transaction that commits has the
+ * replies of running alone on what the commits before it left; stripes, and the replies of others, are
+ * not judged. Then the bad entry is a COMMITTED whose transaction had a wrong reply (rule 1), or is out
+ * of the order of a transaction (3). */
+enum { BOOSTMAP_HOLDER_NOW = 0, BOOSTMAP_HOLDER_BEGUN = 1, BOOSTMAP_BY_COMMITS = 2 };
 
-/* Begins to judge the history of a map with this many stripes.    0; 4; 38; 30 */
-boostmap_status boostmap_judge_new(boostmap_judge *judge, uint64_t stripes, uint32_t holder);
+/* Begins to judge the history of a map with this many stripes (by commits: any number).
+ * 0; 4; 38; 30 */
+boostmap_status boostmap_judge_new(boostmap_judge *judge, uint64_t stripes, uint32_t rule);
 
 /* The next entry. It was not fed unless the answer is 0; after 30 it may be fed again. After the
  * first entry that breaks a rule no further one changes the verdict.    0; 3; 8; 30 */

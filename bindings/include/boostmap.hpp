@@ -277,9 +277,9 @@ template <class Job> auto caller::transact(std::uint64_t tries, Job &&job) {
 // The judge of histories, fed entry by entry. An entry is built by the functions below.
 class judge {
 public:
-    // The holder that a BUSY entry may name: BOOSTMAP_HOLDER_NOW or BOOSTMAP_HOLDER_BEGUN.
-    explicit judge(std::uint64_t stripes, std::uint32_t holder = BOOSTMAP_HOLDER_NOW) {
-        told(boostmap_judge_new(&handle_, stripes, holder), 0);
+    // The rule: BOOSTMAP_HOLDER_NOW, BOOSTMAP_HOLDER_BEGUN or BOOSTMAP_BY_COMMITS.
+    explicit judge(std::uint64_t stripes, std::uint32_t rule = BOOSTMAP_HOLDER_NOW) {
+        told(boostmap_judge_new(&handle_, stripes, rule), 0);
     }
     judge(judge &&other) noexcept { std::swap(handle_, other.handle_); }
     judge &operator=(judge &&other) noexcept {

@@ -348,13 +348,15 @@ one; if not, the index of the first bad entry, from 0, and its rule: "replies", 
 
 class Judge(_Owned):
     """The judge of the history of a map with this many stripes. A busy entry may name a caller that holds the stripe
-    at that moment, or, by `begun=True`, one that has begun a transaction before."""
+    at that moment, or, by `begun=True`, one that has begun a transaction before. By `by_commits=True` it judges by
+    the order of commits, for stores whose readers share locks or read snapshots; stripes are not judged then."""
 
     _free = "judge_free"
 
-    def __init__(self, stripes=64, begun=False):
+    def __init__(self, stripes=64, begun=False, by_commits=False):
         super().__init__()
-        _told(_library.boostmap_judge_new(self._handle, _number(stripes), int(begun)), _U64(0))
+        rule = 2 if by_commits else int(begun)
+        _told(_library.boostmap_judge_new(self._handle, _number(stripes), rule), _U64(0))
 
     def feed(self, entry):
         """Feeds the next entry; what raises has fed nothing."""

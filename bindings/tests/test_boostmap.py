@@ -180,6 +180,19 @@ class Judges(unittest.TestCase):
         with self.assertRaises(Refused):
             Judge(stripes=0)
 
+    def test_readers_of_one_key_are_serializable(self):
+        entries = [
+            Entry("began", 0, number=1), Entry("began", 1, number=2), Entry("asked", 0, "get", key=3), Entry("did", 0),
+            Entry("asked", 1, "get", key=3), Entry("did", 1), Entry("committed", 0, number=1),
+            Entry("committed", 1, number=2),
+        ]
+        with Judge(stripes=8) as by_locks, Judge(by_commits=True) as by_commits:
+            for entry in entries:
+                by_locks.feed(entry)
+                by_commits.feed(entry)
+            self.assertEqual(by_locks.verdict(), Verdict(False, None, None, 4, "locks"))
+            self.assertEqual(by_commits.verdict(), Verdict(True, 2, 0, None, None))
+
 
 if __name__ == "__main__":
     unittest.main()

@@ -89,6 +89,9 @@ pub enum Holder {
     Begun = 1,
 }
 
+/// The number of the rule of commits.
+const BY_COMMITS: u32 = 2;
+
 /// The rule that an entry breaks.
 #[derive(Clone, Copy, Debug, PartialEq, Eq)]
 pub enum Rule {
@@ -124,20 +127,35 @@ pub enum Verdict {
 /// ```
 pub struct Judge(Handle);
 
-// SAFETY: `sends_judge` of the archive proves `Send` of what the handle owns, and `&mut self` puts the
+// SAFETY: `sends_referee` of the archive proves `Send` of what the handle owns, and `&mut self` puts the
 // calls one after another.
 unsafe impl Send for Judge {}
 
 impl Judge {
-    /// Begins to judge the history of a map with this many stripes.
+    /// Begins to judge the history of a map with this many stripes, by locks.
     ///
     /// # Errors
     ///
     /// `Limit` without stripes; `NoMemory`.
     pub fn new(stripes: u64, holder: Holder) -> Result<Judge> {
+        Judge::by_rule(stripes, holder as u32)
+    }
+
+    /// Begins to judge a history by the order of its commits, for stores whose readers share locks or
+    /// read snapshots: each transaction that commits has the replies of running alone on what the
+    /// commits before it left.
+    ///
+    /// # Errors
+    ///
+    /// `NoMemory`.
+    pub fn by_commits() -> Result<Judge> {
+        Judge::by_rule(0, BY_COMMITS)
+    }
+
+    fn by_rule(stripes: u64, rule: u32) -> Result<Judge> {
         let mut judge = Judge(Handle::EMPTY);
         // SAFETY: the handle is all zeros and uniquely borrowed.
-        match unsafe { sys::boostmap_judge_new(&mut judge.0, stripes, holder as u32) } {
+        match unsafe { sys::boostmap_judge_new(&mut judge.0, stripes, rule) } {
             sys::DONE => Ok(judge),
             status => Err(Error::from_status(status, 0)),
         }

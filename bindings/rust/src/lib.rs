@@ -24,7 +24,7 @@
 //! and no call of the archive asks for more than its types. The archive is proved; this crate, with
 //! its declarations of the archive's calls, is only tested. A map, a caller and a judge may change
 //! threads, since what their handles own is `Send` (proved: `sends_core`, `sends_member`,
-//! `sends_judge`), and a map may be shared behind a `Mutex`.
+//! `sends_referee`), and a map may be shared behind a `Mutex`.
 
 use std::error;
 use std::fmt;

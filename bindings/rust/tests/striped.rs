@@ -127,3 +127,25 @@ fn the_judge_names_the_first_bad_entry() -> Result<(), Error> {
     assert!(matches!(Judge::new(0, Holder::Begun), Err(Error::Limit)));
     Ok(())
 }
+
+#[test]
+fn readers_of_one_key_are_serializable() -> Result<(), Error> {
+    let get = Operation::Get { key: 3 };
+    let (mut by_locks, mut by_commits) = (Judge::new(8, Holder::Now)?, Judge::by_commits()?);
+    for entry in [
+        Entry::Began(0, 1),
+        Entry::Began(1, 2),
+        Entry::Asked(0, get),
+        Entry::Did(0, None),
+        Entry::Asked(1, get),
+        Entry::Did(1, None),
+        Entry::Committed(0, 1),
+        Entry::Committed(1, 2),
+    ] {
+        by_locks.feed(entry)?;
+        by_commits.feed(entry)?;
+    }
+    assert_eq!(by_locks.verdict(), Verdict::Illegal { entry: 4, rule: Rule::Locks });
+    assert_eq!(by_commits.verdict(), Verdict::Legal { commits: 2, running: 0 });
+    Ok(())
+}

@@ -2,6 +2,7 @@ pub mod Held
 pub mod Replies
 pub mod Calls
 pub mod Entries
+pub mod Referees
 pub mod Judges
 pub mod Contents
 pub mod Stops

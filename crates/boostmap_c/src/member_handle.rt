@@ -2,6 +2,7 @@
 //! as `handle` does with a map.
 ghost use Rattle.std.specs.Prelude.{◌≡◌, Some, None, IfSome, IsNone, true, is_some};
 
+use crate::handle::sends;
 use crate::member::Member;
 use crate::member_pointer::MemberPointer;
 use owned_pointer::OwnedPointer;
@@ -55,13 +56,6 @@ pub(crate) fn put_in(handle: &mut CallerHandle, member: Box<Member, Global>)
         tag: LIVE,
         held: MemberPointer::erase(OwnedPointer::from_box(member)),
     };
-}
-
-/// What may go to another thread.
-fn sends<T: Send>(value: T) -> T
-    ensures { result ≡ value }
-{
-    value
 }
 
 /// A member may go to another thread, and so may a handle that owns one.
