@@ -1,7 +1,7 @@
 /* BOOSTMAP(3)
  *
  * NAME
- *     boostmap - a transactional map from 64-bit keys to 64-bit values, and a judge of histories
+ *     boostmap - transactional maps from 64-bit keys to 64-bit values, and a judge of histories
  *
  * SYNOPSIS
  *     #include <boostmap.h>            cc program.c $(pkg-config --cflags --libs boostmap)
@@ -16,12 +16,25 @@
  *     boostmap_commit(&map, 0, &word);                           word is 1: the first commit
  *     boostmap_free(&map);
  *
+ *     boostmap_caller mine = BOOSTMAP_INIT, yours = BOOSTMAP_INIT;   a map for two threads
+ *     boostmap_striped_open(&mine, 2, 64, &word);                2 callers, 64 stripes
+ *     boostmap_striped_join(&mine, &yours, &word);               `yours` goes to the other thread
+ *     boostmap_striped_begin(&mine);
+ *     boostmap_striped_put(&mine, 7, 70, &word);                 BOOSTMAP_BUSY if the other has it
+ *     boostmap_striped_commit(&mine, &word);
+ *     boostmap_striped_free(&mine);
+ *
  * DESCRIPTION
  *     A map has 1 to 64 callers, by number. Each may have one transaction open; the calls of
  *     several callers may come in any order. Keys belong to stripes. An operation takes the stripe
  *     of its key, and its transaction keeps it to the end, so committed transactions have the
  *     replies of running one after another, in the order of their commits. A caller that finds a
  *     stripe held by another is told so (BOOSTMAP_BUSY), never waits, and can only abort.
+ *
+ *     A striped map is the same for threads: each of its 1 to 4096 callers is a handle of its own,
+ *     a `boostmap_caller`, and callers run side by side with no lock. It grows by itself and keeps
+ *     no history, so it may run for ever. A caller that finds a stripe held is told so, and its
+ *     transaction is over: aborted already, with all its changes taken back.
  *
  *     Every call returns a status. Most take a `word`: BOOSTMAP_DONE and BOOSTMAP_BUSY write it,
  *     no other status does.
@@ -30,12 +43,14 @@
  *     A `boostmap` is memory of the program's, 16 bytes, all zeros at first (BOOSTMAP_INIT).
  *     boostmap_new gives it a map, boostmap_free frees that and makes it all zeros again. It may be
  *     moved by copying its bytes, if only the copy is used from then on. Never read or write the
- *     fields. The same holds of a `boostmap_judge`.
+ *     fields. The same holds of a `boostmap_caller` and a `boostmap_judge`. A striped map goes with
+ *     the last of its callers; a caller that is freed in a transaction aborts it.
  *
  * THREADS
  *     One call at a time on one handle. Any thread may make the next call, if a mutex, a thread's
- *     start or join, or a seq_cst atomic puts it after the last one. Different handles share
- *     nothing. No call waits, starts a thread, or calls back.
+ *     start or join, or a seq_cst atomic puts it after the last one. Different handles may be in
+ *     calls at the same time, callers of one striped map too. No call waits, takes a lock, starts a
+ *     thread, or calls back.
  *
  * WHAT IS PROVED, AND WHAT ONLY RUNS
  *     The archive is proved: each call, made as the next section says, is free of undefined
@@ -44,7 +59,7 @@
  *
  * WHAT THE PROGRAM OWES (a break is undefined behaviour)
  *     1. A handle is all zeros or as these calls left it.            garbage is mostly answered 3
- *     2. `map`, `judge` and `word` are not null and do not overlap.  null crashes; boostmap_checked.h
+ *     2. Pointers are not null, and those of a call do not overlap.  null crashes; boostmap_checked.h
  *                                                                    answers it
  *     3. One call at a time on one handle, ordered as above.         two at once corrupt the map;
  *                                                                    boostmap_checked.h answers it
@@ -83,15 +98,17 @@ typedef uint32_t boostmap_status;
 enum {
     BOOSTMAP_DONE = 0,   /* done; *word is the value, transaction, level or commit number */
     BOOSTMAP_ABSENT = 1, /* done, at a key without a value */
-    BOOSTMAP_BUSY = 2,   /* caller *word holds the key's stripe: this transaction can only abort */
+    BOOSTMAP_BUSY = 2,   /* caller *word holds the key's stripe: this transaction can only abort, or,
+                            of a striped map, is aborted */
     BOOSTMAP_EMPTY = 3,  /* the handle is empty; nothing was done */
-    BOOSTMAP_FULL = 4,   /* the handle has a map, or a judge, already; nothing was done */
+    BOOSTMAP_FULL = 4,   /* the handle is in use already; nothing was done */
     BOOSTMAP_NULL = 5,   /* only by boostmap_checked.h: a null pointer */
     BOOSTMAP_IN_CALL = 6, /* only by boostmap_checked.h: the handle is in another call */
     BOOSTMAP_SHORT = 7,  /* boostmap_read: the array is too short; *word is the number of places that it needs */
     BOOSTMAP_NO_ENTRY = 8, /* boostmap_judge_feed: the numbers say no entry of a caller below 64 */
     /* 16 + the number of a refusal: map and transaction are unchanged */
-    BOOSTMAP_NO_SUCH_CALLER = 18,  /* the caller's number is not below the number of callers */
+    BOOSTMAP_NO_SUCH_CALLER = 18,  /* the caller's number is not below the number of callers; of
+                                      boostmap_striped_join: no caller waits */
     BOOSTMAP_NOT_OPEN = 19,        /* the caller has no transaction */
     BOOSTMAP_ALREADY_OPEN = 20,    /* the caller has a transaction already */
     BOOSTMAP_LEAVING = 22,         /* after BOOSTMAP_BUSY: the transaction can only abort */
@@ -99,7 +116,7 @@ enum {
     BOOSTMAP_NO_SUCH_HELPER = 28,  /* as 18, of boostmap_help */
     BOOSTMAP_NO_MEMORY = 30,       /* memory was refused; never by commit and abort */
     BOOSTMAP_STAMPS_USED_UP = 32,  /* 2^64 - 2 nodes were made */
-    BOOSTMAP_LIMIT = 38            /* a limit, the stripes or the holder are out of range */
+    BOOSTMAP_LIMIT = 38            /* a limit, the stripes or the rule are out of range */
 };
 
 /* A status in words. */
@@ -182,6 +199,55 @@ boostmap_status boostmap_save(boostmap *map, uint64_t caller, uint64_t *word);
  * stripes stay held; *word: the level.    0; 3; 18; 19; 22; 25; 30 */
 boostmap_status boostmap_back(boostmap *map, uint64_t caller, uint64_t level, uint64_t *word);
 
+/* ---- the striped map ----------------------------------------------------------------------------
+ *
+ * One handle is one caller. Its calls need no lock: give each thread a caller of its own. A caller
+ * may go to another thread between two calls, in a transaction too. */
+
+/* A handle of a caller: all zeros, or a caller of a striped map. The fields are not the program's. */
+typedef struct boostmap_caller {
+    uint64_t tag;
+    void *held;
+} boostmap_caller;
+
+/* Opens a map with no keys, for 1 to 4096 callers and stripes, and gives its first caller; *word: the
+ * caller's number, which is the number of callers. The others wait beside it.    0; 4; 38; 30 */
+boostmap_status boostmap_striped_open(boostmap_caller *first, uint64_t callers, uint64_t stripes, uint64_t *word);
+
+/* Gives the next caller that waits beside `first` a handle of its own; *word: its number, counted
+ * down to 1. Both handles are in the call.    0; 3: `first` is empty; 4: `next` is in use; 18: nobody
+ * waits; 30 */
+boostmap_status boostmap_striped_join(boostmap_caller *first, boostmap_caller *next, uint64_t *word);
+
+/* Gives the caller up, and whoever still waits beside it; a transaction that is open is aborted.
+ * 0; 3 */
+boostmap_status boostmap_striped_free(boostmap_caller *caller);
+
+/* Begins a transaction.    0; 3; 20 */
+boostmap_status boostmap_striped_begin(boostmap_caller *caller);
+
+/* Commits; *word: the place in the order of commits, from 1, modulo 2^64.    0; 3; 19 */
+boostmap_status boostmap_striped_commit(boostmap_caller *caller, uint64_t *word);
+
+/* Aborts: takes every change back, and gives the stripes back.    0; 3; 19 */
+boostmap_status boostmap_striped_abort(boostmap_caller *caller);
+
+/* Operations; *word: the value that the key had. Each may answer 0; 1; 2, after which the transaction
+ * is over, and aborted; 3; 19; 30, and all but get also 32. */
+boostmap_status boostmap_striped_get(boostmap_caller *caller, uint64_t key, uint64_t *word);
+boostmap_status boostmap_striped_take(boostmap_caller *caller, uint64_t key, uint64_t *word);
+boostmap_status boostmap_striped_put(boostmap_caller *caller, uint64_t key, uint64_t value, uint64_t *word);
+boostmap_status boostmap_striped_put_if_absent(boostmap_caller *caller, uint64_t key, uint64_t value, uint64_t *word);
+boostmap_status boostmap_striped_put_if_equal(boostmap_caller *caller, uint64_t key, uint64_t expected, uint64_t value,
+                                              uint64_t *word);
+
+/* Sets a savepoint; *word: its level, from 1.    0; 3; 19; 30 */
+boostmap_status boostmap_striped_save(boostmap_caller *caller, uint64_t *word);
+
+/* Takes back every change since the level was set; 0 is the beginning. The level stays set, later
+ * ones are dropped, the stripes stay held.    0; 3; 19; 25 */
+boostmap_status boostmap_striped_back(boostmap_caller *caller, uint64_t level);
+
 /* ---- the judge of histories ---------------------------------------------------------------------
  *
  * A history is a list of entries, oldest first, of this map or of your own store. It is legal if
@@ -237,12 +303,17 @@ typedef struct boostmap_verdict {
     uint64_t rule;     /* and the rule: 1 replies, 2 locks, 3 shape */
 } boostmap_verdict;
 
-/* Whom a BUSY entry may name: a caller that holds the stripe at that moment, or, for stores that
- * note the entry later, one that has begun a transaction before. */
-enum { BOOSTMAP_HOLDER_NOW = 0, BOOSTMAP_HOLDER_BEGUN = 1 };
+/* The rule. By locks: a BUSY entry may name a caller that holds the stripe at that moment, or, for
+ * stores that note the entry later, one that has begun a transaction before. By the order of commits,
+ * for stores whose readers share locks or read snapshots: each transaction that commits has the
+ * replies of running alone on what the commits before it left; stripes, and the replies of others, are
+ * not judged. Then the bad entry is a COMMITTED whose transaction had a wrong reply (rule 1), or is out
+ * of the order of a transaction (3). */
+enum { BOOSTMAP_HOLDER_NOW = 0, BOOSTMAP_HOLDER_BEGUN = 1, BOOSTMAP_BY_COMMITS = 2 };
 
-/* Begins to judge the history of a map with this many stripes.    0; 4; 38; 30 */
-boostmap_status boostmap_judge_new(boostmap_judge *judge, uint64_t stripes, uint32_t holder);
+/* Begins to judge the history of a map with this many stripes (by commits: any number).
+ * 0; 4; 38; 30 */
+boostmap_status boostmap_judge_new(boostmap_judge *judge, uint64_t stripes, uint32_t rule);
 
 /* The next entry. It was not fed unless the answer is 0; after 30 it may be fed again. After the
  * first entry that breaks a rule no further one changes the verdict.    0; 3; 8; 30 */

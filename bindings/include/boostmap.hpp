@@ -1,5 +1,5 @@
-// boostmap for C++17: the handle as a value that is moved and never copied, transactions that abort
-// in their destructor, and `transact` with a lambda. Proved by nothing; it adds no state of its own.
+// boostmap for C++17: handles as values that are moved and never copied, transactions that abort in
+// their destructor, and `transact` with a lambda. Proved by nothing; it adds no state of its own.
 //
 //     boostmap_cpp::map accounts(2, 64, 1024);
 //     accounts.transact(0, [](auto &t) {
@@ -7,7 +7,10 @@
 //         t.put(2, *t.get(2) + 5);
 //     });                                  commits; an exception aborts
 //
-// Threads: as boostmap.h says, one call at a time on one map.
+//     auto callers = boostmap_cpp::open_striped(4, 64);      one for each of four threads
+//     callers[0].transact(100, [](auto &t) { t.put(1, 10); });   tries again if busy, 100 times
+//
+// Threads: as boostmap.h says, one call at a time on one map, one caller or one judge.
 #ifndef BOOSTMAP_HPP
 #define BOOSTMAP_HPP
 
@@ -16,19 +19,21 @@
 #include <optional>
 #include <stdexcept>
 #include <string>
+#include <thread>
 #include <type_traits>
 #include <utility>
+#include <vector>
 
 namespace boostmap_cpp {
 
 // What a call throws that is not done.
 struct error : std::runtime_error {
     boostmap_status status;
-    explicit error(boostmap_status s)
-        : std::runtime_error("boostmap: status " + std::to_string(s)), status(s) {}
+    explicit error(boostmap_status s) : std::runtime_error(boostmap_text(s)), status(s) {}
 };
 
-// Another caller holds the key's stripe: the transaction can only abort.
+// Another caller holds the key's stripe: the transaction can only abort, or, of a striped map, is
+// aborted.
 struct busy : error {
     std::uint64_t holder;
     explicit busy(std::uint64_t caller) : error(BOOSTMAP_BUSY), holder(caller) {}
@@ -36,6 +41,16 @@ struct busy : error {
 
 // A value that a key has or had, or none.
 using value = std::optional<std::uint64_t>;
+
+// What a call answers: a value, none, or an exception.
+inline value told(boostmap_status status, std::uint64_t word) {
+    switch (status) {
+    case BOOSTMAP_DONE: return word;
+    case BOOSTMAP_ABSENT: return std::nullopt;
+    case BOOSTMAP_BUSY: throw busy(word);
+    default: throw error(status);
+    }
+}
 
 class transaction;
 
@@ -69,15 +84,6 @@ public:
 private:
     friend class transaction;
     boostmap handle_ = BOOSTMAP_INIT;
-
-    static value told(boostmap_status status, std::uint64_t word) {
-        switch (status) {
-        case BOOSTMAP_DONE: return word;
-        case BOOSTMAP_ABSENT: return std::nullopt;
-        case BOOSTMAP_BUSY: throw busy(word);
-        default: throw error(status);
-        }
-    }
 };
 
 // An open transaction of one caller. It must not outlive its map, nor the map's being moved.
@@ -121,13 +127,13 @@ private:
     transaction(map *owner, std::uint64_t caller) : map_(owner), caller_(caller) {
         std::uint64_t word = 0;
         boostmap_status status = boostmap_begin(&owner->handle_, caller, &word);
-        number_ = *map::told(status, word);
+        number_ = *told(status, word);
     }
     template <class Call, class... Words> value call(Call function, Words... words) {
         if (!map_) throw error(BOOSTMAP_NOT_OPEN);
         std::uint64_t word = 0;
         boostmap_status status = function(&map_->handle_, caller_, words..., &word);
-        return map::told(status, word);
+        return told(status, word);
     }
 
     map *map_;
@@ -148,6 +154,203 @@ template <class Job> auto map::transact(std::uint64_t caller, Job &&job) {
         return result;
     }
 }
+
+class caller_transaction;
+
+// A caller of a striped map: a thread's own. Callers of one map may be in calls at the same time.
+class caller {
+public:
+    caller(caller &&other) noexcept : number_(other.number_) { std::swap(handle_, other.handle_); }
+    caller &operator=(caller &&other) noexcept {
+        std::swap(handle_, other.handle_);
+        std::swap(number_, other.number_);
+        return *this;
+    }
+    caller(const caller &) = delete;
+    caller &operator=(const caller &) = delete;
+    ~caller() { boostmap_striped_free(&handle_); }
+
+    std::uint64_t number() const { return number_; }
+
+    // Begins a transaction, which aborts when it is destroyed uncommitted.
+    caller_transaction begin();
+
+    // Runs a job in a transaction: commits, or aborts if the job throws. If a stripe was busy it
+    // begins anew, at most `tries` times more. Gives what the job gives.
+    template <class Job> auto transact(std::uint64_t tries, Job &&job);
+
+private:
+    friend class caller_transaction;
+    friend std::vector<caller> open_striped(std::uint64_t callers, std::uint64_t stripes);
+    caller() = default;
+    boostmap_caller handle_ = BOOSTMAP_INIT;
+    std::uint64_t number_ = 0;
+};
+
+// Opens a striped map with no keys, for 1 to 4096 callers and stripes, and gives its callers.
+inline std::vector<caller> open_striped(std::uint64_t callers, std::uint64_t stripes) {
+    std::vector<caller> all;
+    caller first;
+    told(boostmap_striped_open(&first.handle_, callers, stripes, &first.number_), 0);
+    all.reserve(callers);
+    for (std::uint64_t i = 1; i < callers; i++) {
+        caller next;
+        told(boostmap_striped_join(&first.handle_, &next.handle_, &next.number_), 0);
+        all.push_back(std::move(next));
+    }
+    all.push_back(std::move(first));
+    return all;
+}
+
+// An open transaction of a caller. It must not outlive its caller, nor the caller's being moved. Once
+// a call was busy it is over.
+class caller_transaction {
+public:
+    caller_transaction(caller_transaction &&other) noexcept : caller_(std::exchange(other.caller_, nullptr)) {}
+    caller_transaction &operator=(caller_transaction &&) = delete;
+    caller_transaction(const caller_transaction &) = delete;
+    caller_transaction &operator=(const caller_transaction &) = delete;
+    ~caller_transaction() {
+        if (caller_) boostmap_striped_abort(&caller_->handle_);
+    }
+
+    value get(std::uint64_t key) { return call(boostmap_striped_get, key); }
+    value take(std::uint64_t key) { return call(boostmap_striped_take, key); }
+    value put(std::uint64_t key, std::uint64_t to) { return call(boostmap_striped_put, key, to); }
+    value put_if_absent(std::uint64_t key, std::uint64_t to) { return call(boostmap_striped_put_if_absent, key, to); }
+    value put_if_equal(std::uint64_t key, std::uint64_t expected, std::uint64_t to) {
+        return call(boostmap_striped_put_if_equal, key, expected, to);
+    }
+    std::uint64_t save() { return *call(boostmap_striped_save); }
+    void back(std::uint64_t level) { told(boostmap_striped_back(handle(), level), 0); }
+
+    // Commits, and gives the place in the order of commits. The transaction is over then.
+    std::uint64_t commit() {
+        std::uint64_t place = *call(boostmap_striped_commit);
+        caller_ = nullptr;
+        return place;
+    }
+    void abort() {
+        told(boostmap_striped_abort(handle()), 0);
+        caller_ = nullptr;
+    }
+
+private:
+    friend class caller;
+    explicit caller_transaction(caller *owner) : caller_(owner) { told(boostmap_striped_begin(&owner->handle_), 0); }
+    boostmap_caller *handle() {
+        if (!caller_) throw error(BOOSTMAP_NOT_OPEN);
+        return &caller_->handle_;
+    }
+    template <class Call, class... Words> value call(Call function, Words... words) {
+        std::uint64_t word = 0;
+        boostmap_status status = function(handle(), words..., &word);
+        if (status == BOOSTMAP_BUSY) caller_ = nullptr;
+        return told(status, word);
+    }
+
+    caller *caller_;
+};
+
+inline caller_transaction caller::begin() { return caller_transaction(this); }
+
+template <class Job> auto caller::transact(std::uint64_t tries, Job &&job) {
+    for (;; tries--) {
+        try {
+            caller_transaction open = begin();
+            if constexpr (std::is_void_v<decltype(job(open))>) {
+                job(open);
+                open.commit();
+                return;
+            } else {
+                auto result = job(open);
+                open.commit();
+                return result;
+            }
+        } catch (const busy &) {
+            if (tries == 0) throw;
+        }
+        std::this_thread::yield();
+    }
+}
+
+// The judge of histories, fed entry by entry. An entry is built by the functions below.
+class judge {
+public:
+    // The rule: BOOSTMAP_HOLDER_NOW, BOOSTMAP_HOLDER_BEGUN or BOOSTMAP_BY_COMMITS.
+    explicit judge(std::uint64_t stripes, std::uint32_t rule = BOOSTMAP_HOLDER_NOW) {
+        told(boostmap_judge_new(&handle_, stripes, rule), 0);
+    }
+    judge(judge &&other) noexcept { std::swap(handle_, other.handle_); }
+    judge &operator=(judge &&other) noexcept {
+        std::swap(handle_, other.handle_);
+        return *this;
+    }
+    judge(const judge &) = delete;
+    judge &operator=(const judge &) = delete;
+    ~judge() { boostmap_judge_free(&handle_); }
+
+    void feed(const boostmap_entry &entry) { told(boostmap_judge_feed(&handle_, &entry), 0); }
+
+    boostmap_verdict verdict() {
+        boostmap_verdict verdict = {};
+        told(boostmap_judge_verdict(&handle_, &verdict), 0);
+        return verdict;
+    }
+
+private:
+    boostmap_judge handle_ = BOOSTMAP_INIT;
+};
+
+// The entries of a history, as boostmap.h has them.
+namespace entry {
+inline boostmap_entry of(std::uint32_t kind, std::uint64_t caller, std::uint64_t number = 0) {
+    boostmap_entry entry = {};
+    entry.kind = kind;
+    entry.caller = caller;
+    entry.number = number;
+    return entry;
+}
+inline boostmap_entry began(std::uint64_t caller, std::uint64_t transaction) {
+    return of(BOOSTMAP_BEGAN, caller, transaction);
+}
+inline boostmap_entry asked(std::uint64_t caller, std::uint32_t operation, std::uint64_t key, std::uint64_t to = 0,
+                            value expected = std::nullopt) {
+    boostmap_entry entry = of(BOOSTMAP_ASKED, caller);
+    entry.operation = operation;
+    entry.key = key;
+    entry.value = to;
+    entry.expected = expected.value_or(0);
+    entry.has = expected.has_value();
+    return entry;
+}
+inline boostmap_entry did(std::uint64_t caller, value reply) {
+    boostmap_entry entry = of(BOOSTMAP_DID, caller);
+    entry.value = reply.value_or(0);
+    entry.has = reply.has_value();
+    return entry;
+}
+inline boostmap_entry saved(std::uint64_t caller) { return of(BOOSTMAP_SAVED, caller); }
+// Without a level the caller aborts.
+inline boostmap_entry leave(std::uint64_t caller, value level = std::nullopt) {
+    boostmap_entry entry = of(BOOSTMAP_LEAVE, caller, level.value_or(0));
+    entry.has = level.has_value();
+    return entry;
+}
+inline boostmap_entry undone(std::uint64_t caller) { return of(BOOSTMAP_UNDONE, caller); }
+inline boostmap_entry returned(std::uint64_t caller, std::uint64_t level) { return of(BOOSTMAP_RETURNED, caller, level); }
+inline boostmap_entry committed(std::uint64_t caller, std::uint64_t place) {
+    return of(BOOSTMAP_COMMITTED, caller, place);
+}
+// The operation's stripe is found in the hands of `holder`.
+inline boostmap_entry found_busy(const boostmap_entry &asked, std::uint64_t holder) {
+    boostmap_entry entry = asked;
+    entry.kind = BOOSTMAP_FOUND_BUSY;
+    entry.number = holder;
+    return entry;
+}
+inline boostmap_entry aborted(std::uint64_t caller) { return of(BOOSTMAP_ABORTED, caller); }
+} // namespace entry
 
 } // namespace boostmap_cpp
 #endif

@@ -6,6 +6,8 @@
  *
  *     boostmap_door map = BOOSTMAP_DOOR_INIT;
  *     boostmap_checked_new(&map, 2, 64, 1024);
+ *     boostmap_caller_door caller = BOOSTMAP_DOOR_INIT;
+ *     boostmap_checked_striped_open(&caller, 2, 64, 0);
  */
 #ifndef BOOSTMAP_CHECKED_H
 #define BOOSTMAP_CHECKED_H
@@ -72,6 +74,41 @@ BOOSTMAP_CHECKED_WORD(save, (boostmap_door *door, uint64_t caller, uint64_t *wor
                       boostmap_save(&door->map, caller, word))
 BOOSTMAP_CHECKED_WORD(back, (boostmap_door *door, uint64_t caller, uint64_t level, uint64_t *word),
                       boostmap_back(&door->map, caller, level, word))
+
+/* A caller of a striped map behind a door of its own. */
+typedef struct boostmap_caller_door {
+    boostmap_caller caller;
+    atomic_uint is_in_call;
+} boostmap_caller_door;
+
+BOOSTMAP_CHECKED_WORD(striped_open, (boostmap_caller_door *door, uint64_t callers, uint64_t stripes, uint64_t *word),
+                      boostmap_striped_open(&door->caller, callers, stripes, word))
+BOOSTMAP_CHECKED(striped_free, (boostmap_caller_door *door), boostmap_striped_free(&door->caller))
+BOOSTMAP_CHECKED(striped_begin, (boostmap_caller_door *door), boostmap_striped_begin(&door->caller))
+BOOSTMAP_CHECKED(striped_abort, (boostmap_caller_door *door), boostmap_striped_abort(&door->caller))
+BOOSTMAP_CHECKED(striped_back, (boostmap_caller_door *door, uint64_t level), boostmap_striped_back(&door->caller, level))
+BOOSTMAP_CHECKED_WORD(striped_commit, (boostmap_caller_door *door, uint64_t *word),
+                      boostmap_striped_commit(&door->caller, word))
+BOOSTMAP_CHECKED_WORD(striped_get, (boostmap_caller_door *door, uint64_t key, uint64_t *word),
+                      boostmap_striped_get(&door->caller, key, word))
+BOOSTMAP_CHECKED_WORD(striped_take, (boostmap_caller_door *door, uint64_t key, uint64_t *word),
+                      boostmap_striped_take(&door->caller, key, word))
+BOOSTMAP_CHECKED_WORD(striped_put, (boostmap_caller_door *door, uint64_t key, uint64_t value, uint64_t *word),
+                      boostmap_striped_put(&door->caller, key, value, word))
+BOOSTMAP_CHECKED_WORD(striped_put_if_absent,
+                      (boostmap_caller_door *door, uint64_t key, uint64_t value, uint64_t *word),
+                      boostmap_striped_put_if_absent(&door->caller, key, value, word))
+BOOSTMAP_CHECKED_WORD(striped_put_if_equal,
+                      (boostmap_caller_door *door, uint64_t key, uint64_t expected, uint64_t value, uint64_t *word),
+                      boostmap_striped_put_if_equal(&door->caller, key, expected, value, word))
+BOOSTMAP_CHECKED_WORD(striped_save, (boostmap_caller_door *door, uint64_t *word),
+                      boostmap_striped_save(&door->caller, word))
+
+/* The inner half of a join, behind the second door. */
+BOOSTMAP_CHECKED_WORD(striped_joined_to, (boostmap_caller_door *door, boostmap_caller *first, uint64_t *word),
+                      boostmap_striped_join(first, &door->caller, word))
+BOOSTMAP_CHECKED(striped_join, (boostmap_caller_door *door, boostmap_caller_door *next, uint64_t *word),
+                 boostmap_checked_striped_joined_to(next, &door->caller, word))
 
 #undef BOOSTMAP_CHECKED
 #undef BOOSTMAP_CHECKED_WORD

@@ -1,4 +1,4 @@
-"""boostmap: a transactional map from 64-bit keys to 64-bit values, over a proved library.
+"""boostmap: transactional maps from 64-bit keys to 64-bit values, over a proved library.
 
     from boostmap import Map
 
@@ -7,15 +7,26 @@
         t.put(1, 100)
         t.put(2, t.get(2) or 0)
 
+A striped map is for threads: each has a caller of its own, and callers run side by side.
+
+    callers = boostmap.open_striped(callers=4, stripes=64)
+    with callers[0].transaction() as t:      # Busy if another caller has the key's stripe
+        t.put(1, 100)
+
 The library is libboostmap.so, beside this file or where BOOSTMAP_SO names it; `install.sh` of the
-repository makes it. It is proved; this module is only tested. Threads may share a map: each call
-holds its lock, and the interpreter's is released meanwhile.
+repository makes it. It is proved; this module is only tested. Threads may share a map, a caller or a
+judge: each call holds its lock, and the interpreter's is released meanwhile.
 """
+import collections
 import ctypes
 import os
 import threading
+import time
 
-__all__ = ["Map", "Transaction", "Error", "Busy", "Refused"]
+__all__ = [
+    "Map", "Transaction", "Caller", "CallerTransaction", "open_striped", "Judge", "Entry", "Verdict",
+    "Error", "Busy", "Refused",
+]
 
 _U64 = ctypes.c_uint64
 
@@ -28,6 +39,15 @@ class _Pair(ctypes.Structure):
     _fields_ = [("key", _U64), ("value", _U64)]
 
 
+class _Entry(ctypes.Structure):
+    _fields_ = [("kind", ctypes.c_uint32), ("operation", ctypes.c_uint32)] + [
+        (name, _U64) for name in ("caller", "key", "value", "expected", "number", "has")]
+
+
+class _Verdict(ctypes.Structure):
+    _fields_ = [(name, _U64) for name in ("is_legal", "commits", "running", "entry", "rule")]
+
+
 _HANDLE, _WORD = ctypes.POINTER(_Handle), ctypes.POINTER(_U64)
 
 # The calls of boostmap.h: how many numbers stand between the handle and the word, and whether there
@@ -36,10 +56,16 @@ _CALLS = {
     "new": (3, False), "free": (0, False), "count": (0, True), "help": (2, False),
     "begin": (1, True), "commit": (1, True), "abort": (1, True), "save": (1, True), "back": (2, True),
     "get": (2, True), "take": (2, True), "put": (3, True), "put_if_absent": (3, True), "put_if_equal": (4, True),
+    "striped_open": (2, True), "striped_free": (0, False), "striped_begin": (0, False),
+    "striped_commit": (0, True), "striped_abort": (0, False), "striped_save": (0, True), "striped_back": (1, False),
+    "striped_get": (1, True), "striped_take": (1, True), "striped_put": (2, True),
+    "striped_put_if_absent": (2, True), "striped_put_if_equal": (3, True),
+    "judge_free": (0, False),
 }
 
 _REASONS = {
-    3: "the map is closed", 18: "there is no such caller", 19: "the caller has no transaction",
+    3: "the handle is closed", 8: "the numbers say no entry", 18: "there is no such caller",
+    19: "the caller has no transaction",
     20: "the caller has a transaction already", 22: "the transaction can only abort",
     25: "there is no such level", 28: "there is no such caller", 30: "memory was refused",
     32: "no stamp is left", 38: "a limit is out of range",
@@ -54,7 +80,12 @@ def _load():
         call.argtypes = [_HANDLE] + [_U64] * numbers + ([_WORD] if has_word else [])
         call.restype = ctypes.c_uint32
     library.boostmap_read.argtypes = [_HANDLE, ctypes.POINTER(_Pair), ctypes.c_size_t, _WORD]
-    library.boostmap_read.restype = ctypes.c_uint32
+    library.boostmap_striped_join.argtypes = [_HANDLE, _HANDLE, _WORD]
+    library.boostmap_judge_new.argtypes = [_HANDLE, _U64, ctypes.c_uint32]
+    library.boostmap_judge_feed.argtypes = [_HANDLE, ctypes.POINTER(_Entry)]
+    library.boostmap_judge_verdict.argtypes = [_HANDLE, ctypes.POINTER(_Verdict)]
+    for name in ("read", "striped_join", "judge_new", "judge_feed", "judge_verdict"):
+        getattr(library, "boostmap_" + name).restype = ctypes.c_uint32
     return library
 
 
@@ -66,7 +97,8 @@ class Error(Exception):
 
 
 class Busy(Error):
-    """Another caller, `holder`, holds the key's stripe: the transaction can only abort."""
+    """Another caller, `holder`, holds the key's stripe: the transaction can only abort, or, of a striped map, is
+    aborted."""
 
     def __init__(self, holder):
         super().__init__(f"caller {holder} holds the key's stripe")
@@ -81,28 +113,58 @@ class Refused(Error):
         self.status = status
 
 
+def _told(status, word):
+    if status == 0:
+        return word.value
+    if status == 1:
+        return None
+    raise Busy(word.value) if status == 2 else Refused(status)
+
+
 def _number(value):
     if not 0 <= value < 1 << 64:
         raise OverflowError(f"{value} is no 64-bit number")
     return value
 
 
-class Map:
-    """A map for 1 to 64 callers, 1 to 4096 stripes, and at most `buckets`, a power of two to 65536."""
+class _Owned:
+    """A handle with its lock, which each call holds."""
 
-    def __init__(self, callers=1, stripes=64, buckets=1024):
+    _free = None
+
+    def __init__(self):
         self._handle, self._lock = _Handle(0, None), threading.Lock()
-        self._call("new", callers, stripes, buckets)
 
     def _call(self, name, *numbers):
         call, numbers, word = getattr(_library, "boostmap_" + name), [_number(n) for n in numbers], _U64(0)
         with self._lock:
             status = call(self._handle, *numbers, *([word] if _CALLS[name][1] else []))
-        if status == 0:
-            return word.value
-        if status == 1:
-            return None
-        raise Busy(word.value) if status == 2 else Refused(status)
+        return _told(status, word)
+
+    def close(self):
+        """Frees it; a transaction that is open is gone."""
+        with self._lock:
+            getattr(_library, "boostmap_" + self._free)(self._handle)
+
+    def __enter__(self):
+        return self
+
+    def __exit__(self, *raised):
+        self.close()
+
+    def __del__(self):
+        if hasattr(self, "_lock"):
+            self.close()
+
+
+class Map(_Owned):
+    """A map for 1 to 64 callers, 1 to 4096 stripes, and at most `buckets`, a power of two to 65536."""
+
+    _free = "free"
+
+    def __init__(self, callers=1, stripes=64, buckets=1024):
+        super().__init__()
+        self._call("new", callers, stripes, buckets)
 
     def __len__(self):
         return self._call("count")
@@ -127,21 +189,6 @@ class Map:
     def transaction(self, caller=0):
         """A transaction of a caller, which begins at `with`, commits at its end, and aborts at an exception."""
         return Transaction(self, caller)
-
-    def close(self):
-        """Frees the map; whatever is open is gone."""
-        with self._lock:
-            _library.boostmap_free(self._handle)
-
-    def __enter__(self):
-        return self
-
-    def __exit__(self, *raised):
-        self.close()
-
-    def __del__(self):
-        if hasattr(self, "_lock"):
-            self.close()
 
 
 class Transaction:
@@ -184,3 +231,146 @@ class Transaction:
 
     def back(self, level=0):
         self._map._call("back", self._caller, level)
+
+
+def open_striped(callers=1, stripes=64):
+    """Opens a striped map with no keys, for 1 to 4096 callers and stripes, and gives its callers, by their numbers
+    from 1. The map goes with the last of them."""
+    first = Caller()
+    first.number = first._call("striped_open", callers, stripes)
+    others = []
+    for _ in range(1, callers):
+        other, word = Caller(), _U64(0)
+        with first._lock:
+            other.number = _told(_library.boostmap_striped_join(first._handle, other._handle, word), word)
+        others.append(other)
+    return others[::-1] + [first]
+
+
+class Caller(_Owned):
+    """A caller of a striped map, by `open_striped`: one for each thread. Closed in a transaction, it aborts it."""
+
+    _free = "striped_free"
+    number = None
+
+    def transaction(self):
+        """A transaction, which begins at `with`, commits at its end, and aborts at an exception."""
+        return CallerTransaction(self)
+
+    def transact(self, job, tries=100):
+        """Runs a job, which is given the transaction, and commits; where a stripe was busy it begins anew, at most
+        `tries` times more. Gives what the job gives."""
+        while True:
+            try:
+                with self.transaction() as t:
+                    return job(t)
+            except Busy:
+                if tries == 0:
+                    raise
+                tries -= 1
+                time.sleep(0)
+
+
+class CallerTransaction:
+    """A caller's transaction. A key without a value has None. After Busy it is over: each call is refused."""
+
+    def __init__(self, of):
+        self._caller, self.commit_number, self._is_open = of, None, False
+
+    def __enter__(self):
+        self._caller._call("striped_begin")
+        self._is_open = True
+        return self
+
+    def __exit__(self, kind, raised, trace):
+        if kind is None:
+            self.commit_number = self._call("striped_commit")
+        elif self._is_open:
+            self._call("striped_abort")
+        self._is_open = False
+
+    def _call(self, name, *numbers):
+        if not self._is_open:
+            raise Refused(19)
+        try:
+            return self._caller._call(name, *numbers)
+        except Busy:
+            self._is_open = False
+            raise
+
+    def get(self, key):
+        return self._call("striped_get", key)
+
+    def take(self, key):
+        return self._call("striped_take", key)
+
+    def put(self, key, value):
+        return self._call("striped_put", key, value)
+
+    def put_if(self, key, expected, value):
+        """Puts the value if the key has the expected one, or None; gives what the key had."""
+        if expected is None:
+            return self._call("striped_put_if_absent", key, value)
+        return self._call("striped_put_if_equal", key, expected, value)
+
+    def save(self):
+        return self._call("striped_save")
+
+    def back(self, level=0):
+        self._call("striped_back", level)
+
+
+_KINDS = {
+    "began": 1, "asked": 2, "did": 3, "saved": 4, "leave": 5, "undone": 6, "returned": 7, "committed": 8, "busy": 9,
+    "aborted": 10,
+}
+_OPERATIONS = {"put": 1, "put_if": 2, "take": 3, "get": 4}
+
+
+class Entry(collections.namedtuple("Entry", "kind caller operation key value expected number")):
+    """An entry of a history: its kind, one of began, asked, did, saved, leave, undone, returned, committed, busy and
+    aborted; its caller, below 64; and what its kind has: an operation (put, put_if, take or get), a key, a value or
+    reply, an expected value, a number (the transaction, level, place or holder). What is not there is None."""
+
+    def __new__(cls, kind, caller, operation=None, key=None, value=None, expected=None, number=None):
+        return super().__new__(cls, kind, caller, operation, key, value, expected, number)
+
+    def _to_c(self):
+        there = {"did": self.value, "leave": self.number}.get(self.kind, self.expected)
+        numbers = [_number(n or 0) for n in (self.caller, self.key, self.value, self.expected, self.number)]
+        return _Entry(_KINDS[self.kind], _OPERATIONS.get(self.operation, 0), *numbers, there is not None)
+
+
+Verdict = collections.namedtuple("Verdict", "is_legal commits running entry rule")
+Verdict.__doc__ = """What the judge says: if legal, how many transactions are committed and how many callers are in
+one; if not, the index of the first bad entry, from 0, and its rule: "replies", "locks" or "shape"."""
+
+
+class Judge(_Owned):
+    """The judge of the history of a map with this many stripes. A busy entry may name a caller that holds the stripe
+    at that moment, or, by `begun=True`, one that has begun a transaction before. By `by_commits=True` it judges by
+    the order of commits, for stores whose readers share locks or read snapshots; stripes are not judged then."""
+
+    _free = "judge_free"
+
+    def __init__(self, stripes=64, begun=False, by_commits=False):
+        super().__init__()
+        rule = 2 if by_commits else int(begun)
+        _told(_library.boostmap_judge_new(self._handle, _number(stripes), rule), _U64(0))
+
+    def feed(self, entry):
+        """Feeds the next entry; what raises has fed nothing."""
+        entry = entry._to_c()
+        with self._lock:
+            status = _library.boostmap_judge_feed(self._handle, entry)
+        _told(status, _U64(0))
+
+    def verdict(self):
+        """The verdict on the entries so far."""
+        verdict = _Verdict()
+        with self._lock:
+            status = _library.boostmap_judge_verdict(self._handle, verdict)
+        _told(status, _U64(0))
+        if verdict.is_legal:
+            return Verdict(True, verdict.commits, verdict.running, None, None)
+        return Verdict(False, None, None, verdict.entry, ("replies", "locks", "shape")[verdict.rule - 1])

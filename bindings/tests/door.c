@@ -18,6 +18,40 @@ static void *counts(void *arg) {
     return arg;
 }
 
+/* Three threads at the door of one caller: each call is done, or answered that the caller is in one. */
+static boostmap_caller_door caller = BOOSTMAP_DOOR_INIT;
+
+static void *adds(void *arg) {
+    uint64_t w;
+    for (int i = 0; i < CALLS; i++) {
+        boostmap_status status = boostmap_checked_striped_get(&caller, 1, &w);
+        if (status == BOOSTMAP_IN_CALL) in_call++;
+        else if (status != BOOSTMAP_DONE || w != 10) other++;
+    }
+    return arg;
+}
+
+static void at_a_caller(void) {
+    uint64_t w;
+    pthread_t threads[THREADS];
+    boostmap_caller_door next = BOOSTMAP_DOOR_INIT;
+    CHECK(boostmap_checked_striped_get(0, 1, &w) == BOOSTMAP_NULL);
+    CHECK(boostmap_checked_striped_begin(&caller) == BOOSTMAP_EMPTY);
+    CHECK(boostmap_checked_striped_open(&caller, 2, 16, &w) == BOOSTMAP_DONE && w == 2);
+    CHECK(boostmap_checked_striped_join(&caller, 0, &w) == BOOSTMAP_NULL);
+    CHECK(boostmap_checked_striped_join(&caller, &caller, &w) == BOOSTMAP_IN_CALL);
+    CHECK(boostmap_checked_striped_join(&caller, &next, &w) == BOOSTMAP_DONE && w == 1);
+    CHECK(boostmap_checked_striped_begin(&caller) == BOOSTMAP_DONE);
+    CHECK(boostmap_checked_striped_put(&caller, 1, 10, 0) == BOOSTMAP_ABSENT);
+    CHECK(boostmap_checked_striped_begin(&next) == BOOSTMAP_DONE);
+    CHECK(boostmap_checked_striped_take(&next, 1, &w) == BOOSTMAP_BUSY && w == 2);
+    for (int i = 0; i < THREADS; i++) CHECK(!pthread_create(&threads[i], 0, adds, 0));
+    for (int i = 0; i < THREADS; i++) CHECK(!pthread_join(threads[i], 0));
+    CHECK(boostmap_checked_striped_commit(&caller, &w) == BOOSTMAP_DONE && w == 1);
+    CHECK(boostmap_checked_striped_free(&caller) == BOOSTMAP_DONE);
+    CHECK(boostmap_checked_striped_free(&next) == BOOSTMAP_DONE);
+}
+
 int main(void) {
     uint64_t w;
     pthread_t threads[THREADS];
@@ -29,7 +63,8 @@ int main(void) {
     CHECK(boostmap_checked_commit(&map, 0, &w) == BOOSTMAP_DONE && w == 1);
     for (int i = 0; i < THREADS; i++) CHECK(!pthread_create(&threads[i], 0, counts, 0));
     for (int i = 0; i < THREADS; i++) CHECK(!pthread_join(threads[i], 0));
-    CHECK(other == 0);
     CHECK(boostmap_checked_free(&map) == BOOSTMAP_DONE);
+    at_a_caller();
+    CHECK(other == 0);
     return 0;
 }

@@ -22,10 +22,12 @@ static boostmap_entry busy(uint64_t c, uint64_t key, uint64_t holder) {
 }
 static boostmap_entry of_kind(uint32_t kind, uint64_t c) { return (boostmap_entry){.kind = kind, .caller = c}; }
 
+static uint32_t rule = BOOSTMAP_HOLDER_NOW;
+
 static boostmap_verdict judged(const boostmap_entry *entries, size_t count) {
     boostmap_judge judge = BOOSTMAP_INIT;
     boostmap_verdict verdict;
-    CHECK(boostmap_judge_new(&judge, STRIPES, BOOSTMAP_HOLDER_NOW) == BOOSTMAP_DONE);
+    CHECK(boostmap_judge_new(&judge, STRIPES, rule) == BOOSTMAP_DONE);
     for (size_t i = 0; i < count; i++) CHECK(boostmap_judge_feed(&judge, &entries[i]) == BOOSTMAP_DONE);
     CHECK(boostmap_judge_verdict(&judge, &verdict) == BOOSTMAP_DONE);
     CHECK(boostmap_judge_free(&judge) == BOOSTMAP_DONE);
@@ -51,7 +53,9 @@ static void statuses(void) {
     CHECK(!memcmp(&verdict, &untouched, sizeof verdict));
     CHECK(boostmap_judge_free(&judge) == BOOSTMAP_EMPTY);
     CHECK(boostmap_judge_new(&judge, 0, 0) == BOOSTMAP_LIMIT);
-    CHECK(boostmap_judge_new(&judge, STRIPES, 2) == BOOSTMAP_LIMIT);
+    CHECK(boostmap_judge_new(&judge, STRIPES, 3) == BOOSTMAP_LIMIT);
+    CHECK(boostmap_judge_new(&judge, 0, BOOSTMAP_BY_COMMITS) == BOOSTMAP_DONE);
+    CHECK(boostmap_judge_free(&judge) == BOOSTMAP_DONE);
     CHECK(boostmap_judge_new(&judge, STRIPES, BOOSTMAP_HOLDER_BEGUN) == BOOSTMAP_DONE);
     CHECK(boostmap_judge_new(&judge, STRIPES, 0) == BOOSTMAP_FULL);
     CHECK(boostmap_judge_feed(&judge, &none) == BOOSTMAP_NO_ENTRY);
@@ -80,12 +84,26 @@ static void by_hand(void) {
     breaks(JUDGED(began(0, 1), committed(0, 2), began(0, 2)), 1, 3);
 }
 
-/* Each caller in turn puts a number at its own key: five entries a transaction, a million in all. */
-static void a_million(void) {
+/* By the order of commits: two may read what one may not change, and a stale reply is found at its
+ * commit. */
+static void by_commits(void) {
+    rule = BOOSTMAP_BY_COMMITS;
+    is_legal(JUDGED(began(0, 1), began(1, 2), asked(0, BOOSTMAP_GET, 3, 0), asked(1, BOOSTMAP_GET, 3, 0), did(0, 0, 0),
+                    did(1, 0, 0), committed(1, 1), committed(0, 2)), 2, 0);
+    breaks(JUDGED(began(0, 1), began(1, 2), asked(0, BOOSTMAP_GET, 3, 0), did(0, 0, 0), asked(1, BOOSTMAP_PUT, 3, 30),
+                  did(1, 0, 0), committed(1, 1), asked(0, BOOSTMAP_PUT, 4, 40), did(0, 0, 0), committed(0, 2)), 9, 1);
+    is_legal(JUDGED(began(0, 1), asked(0, BOOSTMAP_GET, 3, 0), did(0, 1, 99), of_kind(BOOSTMAP_LEAVE, 0),
+                    of_kind(BOOSTMAP_ABORTED, 0)), 0, 0);
+    breaks(JUDGED(began(0, 1), committed(0, 2)), 1, 3);
+    rule = BOOSTMAP_HOLDER_NOW;
+}
+
+/* Each caller in turn puts a number at its own key: four entries a transaction, a million in all. */
+static void a_million(uint32_t by_rule) {
     enum { TRANSACTIONS = 250000 };
     boostmap_judge judge = BOOSTMAP_INIT;
     boostmap_verdict verdict;
-    CHECK(boostmap_judge_new(&judge, STRIPES, BOOSTMAP_HOLDER_NOW) == BOOSTMAP_DONE);
+    CHECK(boostmap_judge_new(&judge, STRIPES, by_rule) == BOOSTMAP_DONE);
     for (uint64_t t = 0; t < TRANSACTIONS; t++) {
         uint64_t c = t % 64;
         boostmap_entry entries[] = {began(c, t + 1), asked(c, BOOSTMAP_PUT, c, t), did(c, t >= 64, t - 64), committed(c, t + 1)};
@@ -99,6 +117,8 @@ static void a_million(void) {
 int main(void) {
     statuses();
     by_hand();
-    a_million();
+    by_commits();
+    a_million(BOOSTMAP_HOLDER_NOW);
+    a_million(BOOSTMAP_BY_COMMITS);
     return 0;
 }

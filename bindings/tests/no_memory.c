@@ -65,17 +65,54 @@ static void round_trip(void) {
     CHECK(boostmap_free(&m) == BOOSTMAP_DONE);
 }
 
-int main(void) {
-    long nth = 0;
+/* The same of a striped map, with two callers. */
+static void striped_round_trip(void) {
+    boostmap_caller first = BOOSTMAP_INIT, next = BOOSTMAP_INIT;
+    boostmap_status status;
+    uint64_t w;
+    AGAIN(boostmap_striped_open(&first, 2, 16, &w));
+    CHECK(status == BOOSTMAP_DONE && w == 2);
+    AGAIN(boostmap_striped_join(&first, &next, &w));
+    CHECK(status == BOOSTMAP_DONE && w == 1);
+    for (uint64_t t = 0; t < TRANSACTIONS; t++) {
+        boostmap_caller *c = t % 4 < 2 ? &first : &next;
+        CHECK(boostmap_striped_begin(c) == BOOSTMAP_DONE);
+        for (uint64_t k = 0; k < KEYS; k++) {
+            AGAIN(boostmap_striped_put(c, KEYS * t + k, t, &w));
+            CHECK(status == BOOSTMAP_ABSENT);
+            AGAIN(boostmap_striped_get(c, KEYS * t + k, &w));
+            CHECK(status == BOOSTMAP_DONE && w == t);
+        }
+        AGAIN(boostmap_striped_save(c, &w));
+        CHECK(status == BOOSTMAP_DONE && w == 1);
+        AGAIN(boostmap_striped_take(c, KEYS * t, &w));
+        CHECK(status == BOOSTMAP_DONE && w == t);
+        CHECK(boostmap_striped_back(c, 1) == BOOSTMAP_DONE);
+        if (t % 2) CHECK(boostmap_striped_abort(c) == BOOSTMAP_DONE);
+        else CHECK(boostmap_striped_commit(c, &w) == BOOSTMAP_DONE && w == t / 2 + 1);
+    }
+    CHECK(boostmap_striped_free(&first) == BOOSTMAP_DONE);
+    CHECK(boostmap_striped_free(&next) == BOOSTMAP_DONE);
+}
+
+/* A put of a striped map goes on where memory is refused to the growth of its table. */
+static void each_refused(const char *name, void (*round)(void), int may_grow) {
+    long nth = 0, answered = 0;
     do {
         long live_before = live;
         before_refusal = nth++;
         refusals = 0;
-        round_trip();
-        CHECK(refusals == (before_refusal < 0));
+        round();
+        CHECK(may_grow ? refusals <= (before_refusal < 0) : refusals == (before_refusal < 0));
         CHECK(live == live_before);
+        answered += refusals;
     } while (before_refusal < 0);
-    printf("no_memory: each of %ld allocations refused in turn\n", nth - 1);
-    CHECK(nth > 10);
+    printf("no_memory: of %s each of %ld allocations refused in turn, %ld told\n", name, nth - 1, answered);
+    CHECK(nth > 10 && 2 * answered > nth);
+}
+
+int main(void) {
+    each_refused("a map", round_trip, 0);
+    each_refused("a striped map", striped_round_trip, 1);
     return 0;
 }

@@ -1,7 +1,7 @@
 import threading
 import unittest
 
-from boostmap import Busy, Map, Refused
+from boostmap import Busy, Entry, Judge, Map, Refused, Verdict, open_striped
 
 
 class Calls(unittest.TestCase):
@@ -88,6 +88,110 @@ class Calls(unittest.TestCase):
             thread.join()
         with m.transaction() as t:
             self.assertEqual(sum(t.get(key) for key in range(keys)), 100 * keys)
+
+
+class Callers(unittest.TestCase):
+    def test_a_transaction_commits(self):
+        one, other = open_striped(callers=2, stripes=16)
+        self.assertEqual((one.number, other.number), (1, 2))
+        with one.transaction() as t:
+            self.assertIsNone(t.put(1, 10))
+            level = t.save()
+            self.assertEqual(t.take(1), 10)
+            t.back(level)
+            self.assertEqual(t.put_if(1, None, 11), 10)
+            self.assertEqual(t.put_if(1, 10, 2**64 - 1), 10)
+        self.assertEqual(t.commit_number, 1)
+        with self.assertRaises(KeyError):
+            with one.transaction() as t:
+                t.put(2, 20)
+                raise KeyError
+        self.assertEqual(other.transact(lambda t: (t.get(1), t.get(2))), (2**64 - 1, None))
+
+    def test_busy_ends_the_transaction(self):
+        one, other = open_striped(callers=2, stripes=16)
+        holds = one.transaction().__enter__()
+        holds.put(5, 50)
+        runs = []
+        with self.assertRaises(Busy) as busy:
+            other.transact(lambda t: runs.append(t.put(6, 60)) or t.get(5 + 16), tries=3)
+        self.assertEqual((busy.exception.holder, len(runs)), (1, 4))
+        with self.assertRaises(Refused) as refused:
+            with other.transaction() as t:
+                with self.assertRaises(Busy):
+                    t.get(5)
+        self.assertEqual(refused.exception.status, 19)
+        one.close()
+        self.assertEqual(other.transact(lambda t: (t.get(5), t.get(6))), (None, None))
+        rows = [(38, lambda: open_striped(0)), (38, lambda: open_striped(1, 4097)), (3, one.transaction().__enter__)]
+        for status, misuse in rows:
+            with self.assertRaises(Refused) as refused:
+                misuse()
+            self.assertEqual(refused.exception.status, status)
+
+    def test_threads_keep_the_sum(self):
+        keys, rounds = 16, 1000
+        callers = open_striped(callers=4, stripes=8)
+        callers[0].transact(lambda t: [t.put(key, 100) for key in range(keys)])
+
+        def transfers(caller):
+            for i in range(rounds):
+                one, other = (i * 7 + caller.number) % keys, (i * 11 + 3 * caller.number + 1) % keys
+
+                def moves(t):
+                    has = t.get(one)
+                    t.put(one, max(has - 1, 0))
+                    t.put(other, t.get(other) + min(has, 1))
+
+                caller.transact(moves, tries=10**6)
+
+        threads = [threading.Thread(target=transfers, args=(caller,)) for caller in callers]
+        for thread in threads:
+            thread.start()
+        for thread in threads:
+            thread.join()
+        self.assertEqual(callers[0].transact(lambda t: sum(t.get(key) for key in range(keys))), 100 * keys)
+
+
+class Judges(unittest.TestCase):
+    def test_verdicts(self):
+        entries = [
+            Entry("began", 0, number=1), Entry("asked", 0, "put_if", key=3, value=30), Entry("did", 0),
+            Entry("began", 1, number=2), Entry("busy", 1, "get", key=11, number=0), Entry("aborted", 1),
+            Entry("saved", 0), Entry("asked", 0, "take", key=3), Entry("did", 0, value=30),
+            Entry("leave", 0, number=1), Entry("undone", 0), Entry("returned", 0, number=1),
+            Entry("asked", 0, "put_if", key=3, value=31, expected=30), Entry("did", 0, value=30),
+            Entry("leave", 0), Entry("undone", 0), Entry("undone", 0), Entry("aborted", 0),
+            Entry("began", 1, number=3), Entry("committed", 1, number=1),
+        ]
+        with Judge(stripes=8) as judge:
+            for entry in entries:
+                judge.feed(entry)
+            self.assertEqual(judge.verdict(), Verdict(True, 1, 0, None, None))
+            with self.assertRaises(Refused) as refused:
+                judge.feed(Entry("saved", 64))
+            self.assertEqual(refused.exception.status, 8)
+            judge.feed(Entry("began", 0, number=4))
+            judge.feed(Entry("asked", 0, "put", key=3, value=1))
+            judge.feed(Entry("did", 0, value=7))
+            self.assertEqual(judge.verdict(), Verdict(False, None, None, 22, "replies"))
+        with self.assertRaises(Refused):
+            judge.verdict()
+        with self.assertRaises(Refused):
+            Judge(stripes=0)
+
+    def test_readers_of_one_key_are_serializable(self):
+        entries = [
+            Entry("began", 0, number=1), Entry("began", 1, number=2), Entry("asked", 0, "get", key=3), Entry("did", 0),
+            Entry("asked", 1, "get", key=3), Entry("did", 1), Entry("committed", 0, number=1),
+            Entry("committed", 1, number=2),
+        ]
+        with Judge(stripes=8) as by_locks, Judge(by_commits=True) as by_commits:
+            for entry in entries:
+                by_locks.feed(entry)
+                by_commits.feed(entry)
+            self.assertEqual(by_locks.verdict(), Verdict(False, None, None, 4, "locks"))
+            self.assertEqual(by_commits.verdict(), Verdict(True, 2, 0, None, None))
 
 
 if __name__ == "__main__":

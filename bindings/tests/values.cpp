@@ -1,8 +1,11 @@
 // The C++ values: moved maps, transactions that abort in their destructor, `transact`, exceptions.
 #include "boostmap.hpp"
 #include "check.h"
+#include <thread>
 
+namespace entry = boostmap_cpp::entry;
 using boostmap_cpp::busy;
+using boostmap_cpp::judge;
 using boostmap_cpp::error;
 using boostmap_cpp::map;
 
@@ -15,7 +18,7 @@ template <class Job> static boostmap_status thrown(Job job) {
     return BOOSTMAP_DONE;
 }
 
-int main() {
+static void of_one_owner() {
     map first(2, 16, 64);
     first.transact(0, [](auto &t) {
         CHECK(!t.put(1, 10));
@@ -49,4 +52,93 @@ int main() {
     first = std::move(second);
     CHECK(first.count() == 1);
     first.help(1, 1);
+}
+
+static void of_callers() {
+    auto callers = boostmap_cpp::open_striped(2, 16);
+    auto &one = callers[0], &two = callers[1];
+    CHECK(callers.size() == 2 && one.number() == 1 && two.number() == 2);
+    one.transact(0, [](auto &t) {
+        CHECK(!t.put(1, 10));
+        std::uint64_t level = t.save();
+        CHECK(t.take(1) == 10u);
+        t.back(level);
+        CHECK(t.put_if_absent(1, 12) == 10u && t.put_if_equal(1, 10, 12) == 10u);
+    });
+    {
+        auto left_open = one.begin();
+        left_open.put(1, 99);
+    }
+    CHECK(two.transact(0, [](auto &t) { return *t.get(1); }) == 12);
+    auto holds = one.begin();
+    holds.get(1);
+    int runs = 0;
+    try {
+        two.transact(3, [&](auto &t) {
+            runs++;
+            t.put(2, 20);
+            t.get(1);
+        });
+        CHECK(false);
+    } catch (const busy &e) {
+        CHECK(e.holder == 1 && runs == 4);
+    }
+    auto other = two.begin();
+    CHECK(thrown([&] { other.get(1 + 16); }) == BOOSTMAP_BUSY);
+    CHECK(thrown([&] { other.get(2); }) == BOOSTMAP_NOT_OPEN);
+    CHECK(holds.commit() == 3);
+    CHECK(thrown([&] { two.transact(0, [](auto &t) { t.put(3, 30); throw error(99); }); }) == 99);
+    CHECK(two.transact(0, [](auto &t) { return t.get(2) || t.get(3); }) == false);
+    auto moved = std::move(one);
+    CHECK(thrown([&] { one.begin(); }) == BOOSTMAP_EMPTY);
+    CHECK(moved.begin().commit() == 5);
+    CHECK(thrown([] { boostmap_cpp::open_striped(0, 16); }) == BOOSTMAP_LIMIT);
+}
+
+// Four threads add up, each by its own caller; whoever is busy tries again.
+static void of_threads() {
+    enum { THREADS = 4, ROUNDS = 5000 };
+    auto callers = boostmap_cpp::open_striped(THREADS, 8);
+    std::vector<std::thread> threads;
+    for (auto &caller : callers)
+        threads.emplace_back([&caller] {
+            for (int i = 0; i < ROUNDS; i++)
+                caller.transact(UINT64_MAX, [](auto &t) { t.put(7, t.get(7).value_or(0) + 1); });
+        });
+    for (auto &thread : threads) thread.join();
+    CHECK(callers[0].transact(0, [](auto &t) { return *t.get(7); }) == THREADS * ROUNDS);
+}
+
+static void of_judges() {
+    judge first(8);
+    auto put = entry::asked(0, BOOSTMAP_PUT, 3, 30);
+    for (const auto &e : {entry::began(0, 1), put, entry::did(0, std::nullopt), entry::saved(0), entry::leave(0, 1),
+                          entry::returned(0, 1), entry::began(1, 2), entry::found_busy(entry::asked(1, BOOSTMAP_GET, 11), 0),
+                          entry::aborted(1), entry::committed(0, 1)})
+        first.feed(e);
+    judge moved(std::move(first));
+    boostmap_verdict verdict = moved.verdict();
+    CHECK(verdict.is_legal && verdict.commits == 1 && verdict.running == 0);
+    moved.feed(entry::undone(0));
+    CHECK(!moved.verdict().is_legal && moved.verdict().entry == 10 && moved.verdict().rule == 3);
+    CHECK(thrown([&] { first.verdict(); }) == BOOSTMAP_EMPTY);
+    CHECK(thrown([&] { moved.feed(entry::of(11, 0)); }) == BOOSTMAP_NO_ENTRY);
+    CHECK(thrown([] { judge(0); }) == BOOSTMAP_LIMIT);
+    // Two readers of one key: against the rule of locks, and serializable.
+    judge by_locks(8), by_commits(0, BOOSTMAP_BY_COMMITS);
+    auto get = [](std::uint64_t caller) { return entry::asked(caller, BOOSTMAP_GET, 3); };
+    for (const auto &e : {entry::began(0, 1), entry::began(1, 2), get(0), entry::did(0, std::nullopt), get(1),
+                          entry::did(1, std::nullopt), entry::committed(0, 1), entry::committed(1, 2)}) {
+        by_locks.feed(e);
+        by_commits.feed(e);
+    }
+    CHECK(!by_locks.verdict().is_legal && by_locks.verdict().entry == 4 && by_locks.verdict().rule == 2);
+    CHECK(by_commits.verdict().is_legal && by_commits.verdict().commits == 2);
+}
+
+int main() {
+    of_one_owner();
+    of_callers();
+    of_threads();
+    of_judges();
 }

@@ -1,14 +1,15 @@
 #!/usr/bin/env bash
 # Builds and runs the library for C, C++, Rust and Python from outside: installs it below a folder that goes at the end,
 # then each language's tests and its example, against bindings/examples/stdout. It needs rt and cc; c++, cargo, python3,
-# valgrind and a compiler with ThreadSanitizer if they are there: what is missing is named as not run. Nothing is fetched.
-# Where the archive is not built, `rt lib` proves and builds it first. Takes a minute besides.
-# The last line is 'bindings: N passed, M failed', and the status is 1 where M is not 0.
+# valgrind and a compiler with ThreadSanitizer if they are there. Nothing is fetched. Where the archive is not built,
+# `rt lib` proves and builds it first. Takes two minutes besides.
+# The last line is 'bindings: N passed, M failed', with '; not run: ..' and what was not, for want of what, where
+# anything is missing. The status is 1 where M is not 0.
 set -uo pipefail
 cd "$(dirname "${BASH_SOURCE[0]}")/../.." || exit 1
 work=$(mktemp -d)
 trap 'rm -rf "$work"' EXIT
-passed=0 failed=0
+passed=0 failed=0 missing=
 
 # Runs a test, by its name; what it wrote is shown only if it fails.
 try() {
@@ -23,10 +24,13 @@ try() {
   fi
 }
 
-# Whether a command is there; if not, what is not run is named.
+# What is not run is named in the last line.
+not_run() { missing+="${missing:+, }$2 (no $1)"; }
+
+# Whether a command is there; if not, what is not run for want of it.
 has() {
   command -v "$1" >/dev/null && return
-  echo "bindings: not run, since there is no $1: $2"
+  not_run "$1" "$2"
   false
 }
 
@@ -34,6 +38,7 @@ has() {
 within() { timeout 600 "$@"; }
 
 prints_the_example() { within "$@" | cmp - bindings/examples/stdout; }
+prints_the_threads() { within "$@" | cmp - bindings/examples/threads.stdout; }
 
 use=(-Ibindings/tests "-I$work/usr/include" "-L$work/usr/lib")
 strict=(-O2 -Wall -Wextra -Wpedantic -Werror)
@@ -52,35 +57,47 @@ in_c() {
   c_test judge c99
   c_test recorded c99
   c_test threads c11 -D_GNU_SOURCE -pthread
+  c_test striped c99
+  c_test striped_threads c11 -D_GNU_SOURCE -pthread
+  try 'striped_threads with 16' within "$work/striped_threads" 16
+  c_test striped_recorded c11 -pthread
+  try 'striped_recorded with 16' within "$work/striped_recorded" 16
   c_test door c11 -pthread
   c_test no_memory c11 -Wl,--wrap=malloc -Wl,--wrap=realloc -Wl,--wrap=free
   try 'compile transfer.c' cc -std=c99 "${strict[@]}" "${use[@]}" bindings/examples/transfer.c -o "$work/transfer" -lboostmap
   try 'example in C' prints_the_example "$work/transfer"
+  try 'compile threads.c, the example' cc -std=c99 "${strict[@]}" "${use[@]}" bindings/examples/threads.c \
+    -o "$work/threads_example" -lboostmap -pthread
+  try 'example of threads in C' prints_the_threads "$work/threads_example"
 }
 
 in_c_again() {
-  local name
-  if has valgrind 'the tests in C under valgrind'; then
-    for name in statuses read no_memory threads; do
-      try "$name under valgrind" within valgrind -q --error-exitcode=9 --leak-check=full "$work/$name"
+  local name checked=(within valgrind -q --error-exitcode=9 --leak-check=full)
+  if has valgrind 'the tests in C under it'; then
+    for name in statuses read no_memory threads striped; do
+      try "$name under valgrind" "${checked[@]}" "$work/$name"
+    done
+    for name in 4 16; do
+      try "striped_threads with $name under valgrind" "${checked[@]}" --fair-sched=yes "$work/striped_threads" "$name" 1000
     done
   fi
   echo 'int main(void) { return 0; }' >"$work/empty.c"
   if cc -fsanitize=thread "$work/empty.c" -o "$work/empty" 2>/dev/null && "$work/empty" 2>/dev/null; then
-    for name in threads door; do
+    for name in threads door striped_threads striped_recorded; do
       try "compile $name.c with ThreadSanitizer" cc -std=c11 -D_GNU_SOURCE -O1 -g -fsanitize=thread -pthread "${use[@]}" \
         "bindings/tests/$name.c" -o "$work/$name.tsan" -lboostmap
       try "$name with ThreadSanitizer" within "$work/$name.tsan"
     done
+    try 'striped_threads with 16 and ThreadSanitizer' within "$work/striped_threads.tsan" 16
   else
-    echo 'bindings: not run, since cc has no ThreadSanitizer: the threads in C with it'
+    not_run ThreadSanitizer 'the threads in C with it'
   fi
 }
 
 in_cpp() {
-  try 'compile values.cpp' c++ -std=c++17 "${strict[@]}" "${use[@]}" bindings/tests/values.cpp -o "$work/values" -lboostmap
+  try 'compile values.cpp' c++ -std=c++17 "${strict[@]}" "${use[@]}" bindings/tests/values.cpp -o "$work/values" -lboostmap -pthread
   try 'values in C++' within "$work/values"
-  try 'compile transfer.cpp' c++ -std=c++17 "${strict[@]}" "${use[@]}" bindings/examples/transfer.cpp -o "$work/transfer" -lboostmap
+  try 'compile transfer.cpp' c++ -std=c++17 "${strict[@]}" "${use[@]}" bindings/examples/transfer.cpp -o "$work/transfer" -lboostmap -pthread
   try 'example in C++' prints_the_example "$work/transfer"
 }
 
@@ -106,5 +123,5 @@ fi
 if has c++ 'everything in C++'; then in_cpp; fi
 if has cargo 'everything in Rust'; then in_rust; fi
 if has python3 'everything in Python'; then in_python; fi
-echo "bindings: $passed passed, $failed failed"
+echo "bindings: $passed passed, $failed failed${missing:+; not run: $missing}"
 [ "$failed" = 0 ]

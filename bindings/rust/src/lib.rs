@@ -1,5 +1,5 @@
-//! A transactional map from `u64` to `u64` for 1 to 64 callers, over the proved static library
-//! `boostmap_c`.
+//! Transactional maps from `u64` to `u64` over the proved static library `boostmap_c`: one with one
+//! owner ([`Map`]), one for threads ([`open_striped`]), and the judge of their histories ([`Judge`]).
 //!
 //! ```
 //! use boostmap::Map;
@@ -20,14 +20,20 @@
 //! # Ok::<(), boostmap::Error>(())
 //! ```
 //!
-//! Safe: `&mut self` is the rule "one call at a time on a handle", `Drop` frees the map, and no call
-//! of the archive asks for more than its types. The archive is proved; this crate, with its
-//! declarations of the archive's calls, is only tested. A map may change threads, since a handle
-//! that owns a core is `Send` (proved: `sends_core`), and be shared behind a `Mutex`.
+//! Safe: `&mut self` is the rule "one call at a time on a handle", `Drop` frees what a handle owns,
+//! and no call of the archive asks for more than its types. The archive is proved; this crate, with
+//! its declarations of the archive's calls, is only tested. A map, a caller and a judge may change
+//! threads, since what their handles own is `Send` (proved: `sends_core`, `sends_member`,
+//! `sends_referee`), and a map may be shared behind a `Mutex`.
 
 use std::error;
-use std::ffi::c_void;
 use std::fmt;
+
+mod caller;
+mod judge;
+
+pub use caller::{open_striped, Caller, CallerTransaction};
+pub use judge::{Entry, Holder, Judge, Operation, Rule, Verdict};
 
 mod sys {
     use std::ffi::c_void;
@@ -38,11 +44,39 @@ mod sys {
         pub held: *mut c_void,
     }
 
+    impl Handle {
+        /// A handle that owns nothing.
+        pub const EMPTY: Handle = Handle { tag: 0, held: std::ptr::null_mut() };
+    }
+
     #[repr(C)]
     #[derive(Clone, Copy)]
     pub struct Pair {
         pub key: u64,
         pub value: u64,
+    }
+
+    #[repr(C)]
+    #[derive(Clone, Copy, Default)]
+    pub struct Entry {
+        pub kind: u32,
+        pub operation: u32,
+        pub caller: u64,
+        pub key: u64,
+        pub value: u64,
+        pub expected: u64,
+        pub number: u64,
+        pub has: u64,
+    }
+
+    #[repr(C)]
+    #[derive(Clone, Copy, Default)]
+    pub struct Verdict {
+        pub is_legal: u64,
+        pub commits: u64,
+        pub running: u64,
+        pub entry: u64,
+        pub rule: u64,
     }
 
     pub const DONE: u32 = 0;
@@ -72,15 +106,41 @@ mod sys {
         ) -> u32;
         pub fn boostmap_save(map: *mut Handle, caller: u64, word: *mut u64) -> u32;
         pub fn boostmap_back(map: *mut Handle, caller: u64, level: u64, word: *mut u64) -> u32;
+
+        pub fn boostmap_striped_open(first: *mut Handle, callers: u64, stripes: u64, word: *mut u64) -> u32;
+        pub fn boostmap_striped_join(first: *mut Handle, next: *mut Handle, word: *mut u64) -> u32;
+        pub fn boostmap_striped_free(caller: *mut Handle) -> u32;
+        pub fn boostmap_striped_begin(caller: *mut Handle) -> u32;
+        pub fn boostmap_striped_commit(caller: *mut Handle, word: *mut u64) -> u32;
+        pub fn boostmap_striped_abort(caller: *mut Handle) -> u32;
+        pub fn boostmap_striped_get(caller: *mut Handle, key: u64, word: *mut u64) -> u32;
+        pub fn boostmap_striped_take(caller: *mut Handle, key: u64, word: *mut u64) -> u32;
+        pub fn boostmap_striped_put(caller: *mut Handle, key: u64, value: u64, word: *mut u64) -> u32;
+        pub fn boostmap_striped_put_if_absent(caller: *mut Handle, key: u64, value: u64, word: *mut u64) -> u32;
+        pub fn boostmap_striped_put_if_equal(
+            caller: *mut Handle,
+            key: u64,
+            expected: u64,
+            value: u64,
+            word: *mut u64,
+        ) -> u32;
+        pub fn boostmap_striped_save(caller: *mut Handle, word: *mut u64) -> u32;
+        pub fn boostmap_striped_back(caller: *mut Handle, level: u64) -> u32;
+
+        pub fn boostmap_judge_new(judge: *mut Handle, stripes: u64, holder: u32) -> u32;
+        pub fn boostmap_judge_feed(judge: *mut Handle, entry: *const Entry) -> u32;
+        pub fn boostmap_judge_verdict(judge: *mut Handle, verdict: *mut Verdict) -> u32;
+        pub fn boostmap_judge_free(judge: *mut Handle) -> u32;
     }
 }
 
 /// Why a call was not done.
 #[derive(Clone, Copy, Debug, PartialEq, Eq)]
 pub enum Error {
-    /// Another caller, of this number, holds the key's stripe: the transaction can only abort.
+    /// Another caller, of this number, holds the key's stripe: the transaction can only abort, or, of
+    /// a striped map, is aborted.
     Busy(u64),
-    /// The caller's number is not below the number of callers.
+    /// The caller's number is out of range.
     NoSuchCaller,
     /// The caller has no transaction.
     NotOpen,
@@ -96,6 +156,8 @@ pub enum Error {
     StampsUsedUp,
     /// A limit is out of range.
     Limit,
+    /// An entry is of a caller that is not below 64.
+    NoEntry,
     /// A status that no call of this crate can be answered.
     Other(u32),
 }
@@ -112,6 +174,7 @@ impl Error {
             30 => Error::NoMemory,
             32 => Error::StampsUsedUp,
             38 => Error::Limit,
+            8 => Error::NoEntry,
             other => Error::Other(other),
         }
     }
@@ -129,6 +192,7 @@ impl fmt::Display for Error {
             Error::NoMemory => f.write_str("memory was refused"),
             Error::StampsUsedUp => f.write_str("no stamp is left"),
             Error::Limit => f.write_str("a limit is out of range"),
+            Error::NoEntry => f.write_str("the entry's caller is not below 64"),
             Error::Other(status) => write!(f, "status {status}"),
         }
     }
@@ -154,7 +218,7 @@ impl Map {
     ///
     /// `Limit` and `NoMemory`.
     pub fn new(callers: u64, stripes: u64, buckets: u64) -> Result<Map> {
-        let mut map = Map(sys::Handle { tag: 0, held: std::ptr::null_mut::<c_void>() });
+        let mut map = Map(sys::Handle::EMPTY);
         // SAFETY: the handle is all zeros and uniquely borrowed.
         match unsafe { sys::boostmap_new(&mut map.0, callers, stripes, buckets) } {
             sys::DONE => Ok(map),
@@ -267,12 +331,17 @@ impl Map {
     // Each job is one call of the archive. SAFETY of them all: the handle is live from `new` to
     // `drop`, and both pointers are unique borrows.
     fn call(&mut self, job: impl FnOnce(*mut sys::Handle, *mut u64) -> u32) -> Result<Option<u64>> {
-        let mut word = 0;
-        match job(&mut self.0, &mut word) {
-            sys::DONE => Ok(Some(word)),
-            sys::ABSENT => Ok(None),
-            status => Err(Error::from_status(status, word)),
-        }
+        answer(&mut self.0, job)
+    }
+}
+
+// Makes a call with a word, and tells its answer.
+fn answer(handle: &mut sys::Handle, job: impl FnOnce(*mut sys::Handle, *mut u64) -> u32) -> Result<Option<u64>> {
+    let mut word = 0;
+    match job(handle, &mut word) {
+        sys::DONE => Ok(Some(word)),
+        sys::ABSENT => Ok(None),
+        status => Err(Error::from_status(status, word)),
     }
 }
 

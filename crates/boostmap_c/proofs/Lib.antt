@@ -1,2 +1,4 @@
 pub mod CoreWords
-pub mod CheckerWords
+pub mod RefereeWords
+pub mod MemberWords
+pub mod Referees

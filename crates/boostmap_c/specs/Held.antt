@@ -1,9 +1,11 @@
--- What a handle owns: a core or a checker on the heap, or nothing.
+-- What a handle owns: a core, a referee or a member on the heap, or nothing.
 use Rattle.std.specs.Prelude.{Bool, false, not, Option, Some, None}
 use Rattle.boost_core.specs.State.{State}
 use Rattle.boost_core.specs.contracts.machine.Core.{the_row}
-use Rattle.history_check.specs.declared.checker.Checker.{Checker}
-use Rattle.history_check.specs.contracts.checker.Checker.{the_row as checker_row}
+use Rattle.boostmap_c.specs.declared.referee.Referee.{Referee}
+use Rattle.boostmap_c.specs.contracts.referee.Referee.{the_row as referee_row}
+use Rattle.boostmap_c.specs.declared.member.Member.{Member}
+use Rattle.boostmap_c.specs.contracts.member.Member.{the_row as member_row}
 use Rattle.owned_pointer.specs.Blocks.{owns_block}
 use base.Fml.{Fml, ftrue}
 use denote.RawPtr.{Ptr}
@@ -18,7 +20,12 @@ abbrev pub takes_stripes : Option State → Bool
 takes_stripes None = false
 takes_stripes (Some core) = not core.words
 
--- The block at the pointer with this checker in it; without a checker nothing.
-abbrev pub owns_checker : Ptr → Option Checker → Fml
-owns_checker p None = ftrue
-owns_checker p (Some checker) = owns_block checker_row p checker
+-- The block at the pointer with this referee in it; without a referee nothing.
+abbrev pub owns_referee : Ptr → Option Referee → Fml
+owns_referee p None = ftrue
+owns_referee p (Some referee) = owns_block referee_row p referee
+
+-- The block at the pointer with this member in it; without a member nothing.
+abbrev pub owns_member : Ptr → Option Member → Fml
+owns_member p None = ftrue
+owns_member p (Some member) = owns_block member_row p member

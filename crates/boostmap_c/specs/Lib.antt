@@ -2,5 +2,9 @@ pub mod Held
 pub mod Replies
 pub mod Calls
 pub mod Entries
+pub mod Referees
 pub mod Judges
 pub mod Contents
+pub mod Stops
+pub mod Striped
+pub mod Members

@@ -62,7 +62,7 @@ pub(crate) fn close(handle: &mut Handle, core: Box<Core, Global>)
 }
 
 /// What may go to another thread.
-fn sends<T: Send>(value: T) -> T
+pub(crate) fn sends<T: Send>(value: T) -> T
     ensures { result ≡ value }
 {
     value

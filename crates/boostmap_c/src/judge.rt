@@ -1,12 +1,15 @@
-//! The judge of histories for C: `history_check`'s checker behind a handle of its own, fed entry by
-//! entry, and the check of entries that lie in memory.
+//! The judge of histories for C: a checker, of `history_check` or of `serial_check`, behind a handle of
+//! its own, fed entry by entry.
 ghost use Rattle.std.specs.Prelude.{◌≡◌, ◌<◌, Some, None, IfSome, IsNone, true, is_some};
-ghost use Rattle.boostmap_c.specs.Judges.{Begins, Feeds, Frees, Tells, holder_for, verdict_of};
+ghost use Rattle.boostmap_c.specs.Judges.{Begins, Feeds, Frees, Tells, verdict_of, way_for};
+ghost use Rattle.boostmap_c.specs.Referees.{has_stripes};
 
 use crate::c_entry::CEntry;
-use crate::checker_pointer::CheckerPointer;
+use crate::handle::sends;
+use crate::referee::{Referee, Way};
+use crate::referee_pointer::RefereePointer;
 use crate::status::{DONE, EMPTY, FULL, NO_ENTRY, refused};
-use history_check::{Checker, Verdict};
+use history_check::Verdict;
 use owned_pointer::OwnedPointer;
 use std::alloc::Global;
 use std::mem;
@@ -20,9 +23,9 @@ const LIVE: u64 = 0x6567_6475_6a5f_6d62;
 #[derive(Drop)]
 pub struct Judge {
     tag: u64,
-    pub(crate) held: CheckerPointer,
-    ghost live: { tag ≡ 0x6567_6475_6a5f_6d62 → is_some held.checker ≡ true },
-    ghost dead: { is_some held.checker ≡ true → tag ≡ 0x6567_6475_6a5f_6d62 },
+    pub(crate) held: RefereePointer,
+    ghost live: { tag ≡ 0x6567_6475_6a5f_6d62 → is_some held.referee ≡ true },
+    ghost dead: { is_some held.referee ≡ true → tag ≡ 0x6567_6475_6a5f_6d62 },
 }
 
 /// What a judge says of the entries so far.
@@ -44,21 +47,21 @@ pub struct CVerdict {
 impl Judge {
     /// Whether it has a checker.
     fn is_live(&self) -> bool
-        ensures { result ≡ is_some self.now.held.checker }
+        ensures { result ≡ is_some self.now.held.referee }
     {
         self.tag == LIVE
     }
 }
 
 /// Takes the checker out of a handle, if it has one; the handle is all zeros then.
-fn open(alloc: Global, handle: &mut Judge) -> Option<Box<Checker, Global>>
-    ensures some { IfSome result (λ checker. handle.old.held.checker ≡ Some checker.value) }
-    ensures none { IsNone result → handle.old.held.checker ≡ None }
-    ensures zeros { handle.new.held.checker ≡ None }
+fn open(alloc: Global, handle: &mut Judge) -> Option<Box<Referee, Global>>
+    ensures some { IfSome result (λ referee. handle.old.held.referee ≡ Some referee.value) }
+    ensures none { IsNone result → handle.old.held.referee ≡ None }
+    ensures zeros { handle.new.held.referee ≡ None }
 {
     let zeros = Judge {
         tag: 0,
-        held: CheckerPointer::null(),
+        held: RefereePointer::null(),
     };
     let Judge { tag, held } = mem::replace(handle, zeros);
     if tag != LIVE {
@@ -68,28 +71,31 @@ fn open(alloc: Global, handle: &mut Judge) -> Option<Box<Checker, Global>>
 }
 
 /// Puts a checker into a handle.
-fn close(handle: &mut Judge, checker: Box<Checker, Global>)
-    ensures { handle.new.held.checker ≡ Some checker.value }
+fn close(handle: &mut Judge, referee: Box<Referee, Global>)
+    ensures { handle.new.held.referee ≡ Some referee.value }
 {
     *handle = Judge {
         tag: LIVE,
-        held: CheckerPointer::erase(OwnedPointer::from_box(checker)),
+        held: RefereePointer::erase(OwnedPointer::from_box(referee)),
     };
 }
 
-/// Whom a Busy entry may name, by number, if there is such a holder, and a stripe to hold.
-fn holder_for(stripes: u64, number: u32) -> Option<Holder>
-    ensures value { result ≡ holder_for stripes number }
-    ensures stripes { IfSome result (λ _. 0 < stripes) }
+/// The rule of a number, for a map with so many stripes, if there is one.
+fn way_for(stripes: u64, number: u32) -> Option<Way>
+    ensures value { result ≡ way_for stripes number }
+    ensures stripes { IfSome result (λ way. has_stripes way stripes) }
 {
+    if number == 2 {
+        return Some(Way::ByCommits);
+    }
     if stripes == 0 {
         return None;
     }
     if number == 0 {
-        return Some(Holder::Now);
+        return Some(Way::ByLocks(Holder::Now));
     }
     if number == 1 {
-        return Some(Holder::Begun);
+        return Some(Way::ByLocks(Holder::Begun));
     }
     None
 }
@@ -116,13 +122,14 @@ fn verdict_of(verdict: Verdict) -> CVerdict
     }
 }
 
-/// Begins to judge the history of a map with this number of stripes. A Busy entry may name a caller
-/// that holds the stripe now (0), or one that has begun a transaction before (1).
+/// Begins to judge the history of a map with this number of stripes, by a rule: by locks, where a Busy
+/// entry may name a caller that holds the stripe now (0), or one that has begun a transaction before
+/// (1); or by the order of commits (2), which takes no notice of stripes.
 ///
 /// # Errors
 ///
-/// The handle is unchanged: 4 if it has a checker, 38 (`Limit`) if there are no stripes or no such
-/// holder, 30 (`NoMemory`) if memory is refused.
+/// The handle is unchanged: 4 if it has a checker, 38 (`Limit`) if there is no such rule, or it is by
+/// locks and there are no stripes, 30 (`NoMemory`) if memory is refused.
 ///
 /// # Cost
 ///
@@ -132,23 +139,23 @@ pub extern "C" fn boostmap_judge_new(
     alloc: Global,
     judge: &mut Judge,
     stripes: u64,
-    holder: u32,
+    rule: u32,
 ) -> u32
-    ensures { Begins judge.old.held.checker stripes holder result judge.new.held.checker }
+    ensures { Begins judge.old.held.referee stripes rule result judge.new.held.referee }
 {
     if judge.is_live() {
         return FULL;
     }
-    let Some(holder) = holder_for(stripes, holder) else {
+    let Some(way) = way_for(stripes, rule) else {
         return refused(Refusal::Limit);
     };
-    let Ok(checker) = Checker::new(alloc, stripes, holder) else {
+    let Ok(referee) = Referee::new(alloc, stripes, way) else {
         return refused(Refusal::NoMemory);
     };
-    let Ok(checker) = Box::new(alloc, checker) else {
+    let Ok(referee) = Box::new(alloc, referee) else {
         return refused(Refusal::NoMemory);
     };
-    close(judge, checker);
+    close(judge, referee);
     DONE
 }
 
@@ -162,22 +169,22 @@ pub extern "C" fn boostmap_judge_new(
 ///
 /// # Cost
 ///
-/// That of `history_check::Checker::feed`.
+/// That of the `feed` of `history_check::Checker` or `serial_check::Checker`.
 #[unsafe(no_mangle)]
 pub extern "C" fn boostmap_judge_feed(alloc: Global, judge: &mut Judge, entry: &CEntry) -> u32
-    ensures { Feeds judge.old.held.checker entry.now result judge.new.held.checker }
+    ensures { Feeds judge.old.held.referee entry.now result judge.new.held.referee }
 {
-    let Some(mut checker) = open(alloc, judge) else {
+    let Some(mut referee) = open(alloc, judge) else {
         return EMPTY;
     };
     let status = match entry.judged() {
         None => NO_ENTRY,
-        Some(entry) => match checker.feed(&entry) {
+        Some(entry) => match referee.feed(&entry) {
             Ok(()) => DONE,
             Err(_) => refused(Refusal::NoMemory),
         },
     };
-    close(judge, checker);
+    close(judge, referee);
     status
 }
 
@@ -196,13 +203,13 @@ pub extern "C" fn boostmap_judge_verdict(
     judge: &mut Judge,
     verdict: &mut CVerdict,
 ) -> u32
-    ensures { Tells judge.old.held.checker result verdict.old verdict.new judge.new.held.checker }
+    ensures { Tells judge.old.held.referee result verdict.old verdict.new judge.new.held.referee }
 {
-    let Some(checker) = open(alloc, judge) else {
+    let Some(referee) = open(alloc, judge) else {
         return EMPTY;
     };
-    *verdict = verdict_of(checker.verdict());
-    close(judge, checker);
+    *verdict = verdict_of(referee.verdict());
+    close(judge, referee);
     DONE
 }
 
@@ -217,10 +224,17 @@ pub extern "C" fn boostmap_judge_verdict(
 /// Time in proportion to the stripes, the keys and the changes that stand; takes no memory.
 #[unsafe(no_mangle)]
 pub extern "C" fn boostmap_judge_free(alloc: Global, judge: &mut Judge) -> u32
-    ensures { Frees judge.old.held.checker result judge.new.held.checker }
+    ensures { Frees judge.old.held.referee result judge.new.held.referee }
 {
     match open(alloc, judge) {
-        Some(_checker) => DONE,
+        Some(_referee) => DONE,
         None => EMPTY,
     }
+}
+
+/// A referee may go to another thread, and so may a handle that owns one.
+pub(crate) fn sends_referee(referee: Referee) -> Referee
+    ensures { result ≡ referee }
+{
+    sends(referee)
 }

@@ -15,11 +15,11 @@ use denote.Steps.{nothing}
 use denote.Triple.Walked.{Stays, walk_of}
 use Rattle.std.proofs.raw_atomic.Walks.{proved_at, leaves}
 use Rattle.owned_pointer.proofs.Words.{word}
-use Rattle.boostmap_c.proofs.CheckerWords.{makes_checker}
-use Rattle.boostmap_c.specs.contracts.checker_pointer.CheckerPointer.null.{ended, clauses}
-use Rattle.boostmap_c.specs.contracts.checker_pointer.CheckerPointer.null.Key.{name as #self}
-use Rattle.boostmap_c.proofs.checker_pointer.CheckerPointer.null.Statement.{statement}
-use Rattle.boostmap_c.proofs.checker_pointer.CheckerPointer.null.Code as code
+use Rattle.boostmap_c.proofs.RefereeWords.{makes_referee}
+use Rattle.boostmap_c.specs.contracts.referee_pointer.RefereePointer.null.{ended, clauses}
+use Rattle.boostmap_c.specs.contracts.referee_pointer.RefereePointer.null.Key.{name as #self}
+use Rattle.boostmap_c.proofs.referee_pointer.RefereePointer.null.Statement.{statement}
+use Rattle.boostmap_c.proofs.referee_pointer.RefereePointer.null.Code as code
 
 pub null_spec : {M : Type 1} → statement M
 null_spec 𝓤 𝓛 𝓜 𝓡 wired =
@@ -31,5 +31,5 @@ null_spec 𝓤 𝓛 𝓜 𝓡 wired =
     enter ! 𝓣.C 𝓣.Λ fn [] Post $ alloc_all ! (λ l. pass_all ! refl tt $
     sets ! (agg ! (and_then ! (lit ! tt) (no_more !))) refl (tt, (record { fits = lit< tt }, tt)) $
     -- [nothing; the pointer; what is ensured]
-    nothing ! $ makes_checker ! null_ptr None $ use0 𝓛 (raw (fact 𝓤 (None ≡ None))) (fact_i 𝓤 (None ≡ None) (emp 𝓤) refl) $ nothing ! $ nothing ! $
-    returns ! (look_at ! 0 refl) $ free_all ! refl $ keep ! (0 ∷ 1 ∷ 3 ∷ 2 ∷ []) $ by ! (leaves 𝓛 ended hs c z (word null_ptr) (record { at = null_ptr; checker = None }) tt tt)))
+    nothing ! $ makes_referee ! null_ptr None $ use0 𝓛 (raw (fact 𝓤 (None ≡ None))) (fact_i 𝓤 (None ≡ None) (emp 𝓤) refl) $ nothing ! $ nothing ! $
+    returns ! (look_at ! 0 refl) $ free_all ! refl $ keep ! (0 ∷ 1 ∷ 3 ∷ 2 ∷ []) $ by ! (leaves 𝓛 ended hs c z (word null_ptr) (record { at = null_ptr; referee = None }) tt tt)))

@@ -1,0 +1,50 @@
+/* Four threads move money between two accounts of one striped map, each with a caller of its own. */
+#include <boostmap.h>
+#include <inttypes.h>
+#include <pthread.h>
+#include <stdio.h>
+
+enum { THREADS = 4, ROUNDS = 1000 };
+
+/* One move from account 1 to account 2. A caller that finds another in its way is aborted already. */
+static boostmap_status moves(boostmap_caller *c) {
+    uint64_t one, two, had;
+    boostmap_status status = boostmap_striped_begin(c);
+    if (status != BOOSTMAP_DONE) return status;
+    if ((status = boostmap_striped_get(c, 1, &one)) == BOOSTMAP_DONE &&
+        (status = boostmap_striped_get(c, 2, &two)) == BOOSTMAP_DONE &&
+        (status = boostmap_striped_put(c, 1, one - 1, &had)) == BOOSTMAP_DONE &&
+        (status = boostmap_striped_put(c, 2, two + 1, &had)) == BOOSTMAP_DONE)
+        return boostmap_striped_commit(c, &had);
+    boostmap_striped_abort(c);
+    return status;
+}
+
+static void *runs(void *caller) {
+    for (int done = 0; done < ROUNDS;)
+        if (moves(caller) == BOOSTMAP_DONE) done++;
+    return 0;
+}
+
+int main(void) {
+    boostmap_caller callers[THREADS] = {BOOSTMAP_INIT};
+    pthread_t threads[THREADS];
+    uint64_t word, one = 0, two = 0;
+    if (boostmap_striped_open(&callers[0], THREADS, 64, &word) != BOOSTMAP_DONE) return 1;
+    for (int i = 1; i < THREADS; i++)
+        if (boostmap_striped_join(&callers[0], &callers[i], &word) != BOOSTMAP_DONE) return 1;
+    boostmap_striped_begin(&callers[0]);
+    boostmap_striped_put(&callers[0], 1, 5000, &word);
+    boostmap_striped_put(&callers[0], 2, 0, &word);
+    boostmap_striped_commit(&callers[0], &word);
+    for (int i = 0; i < THREADS; i++)
+        if (pthread_create(&threads[i], 0, runs, &callers[i])) return 1;
+    for (int i = 0; i < THREADS; i++) pthread_join(threads[i], 0);
+    boostmap_striped_begin(&callers[0]);
+    boostmap_striped_get(&callers[0], 1, &one);
+    boostmap_striped_get(&callers[0], 2, &two);
+    boostmap_striped_commit(&callers[0], &word);
+    printf("1 has %" PRIu64 ", 2 has %" PRIu64 ", after %" PRIu64 " commits\n", one, two, word);
+    for (int i = 0; i < THREADS; i++) boostmap_striped_free(&callers[i]);
+    return 0;
+}

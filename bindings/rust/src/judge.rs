@@ -1,0 +1,200 @@
+//! The judge of histories, fed entry by entry.
+use crate::sys::{self, Handle};
+use crate::{Error, Result};
+
+/// An operation that a transaction asks for.
+#[derive(Clone, Copy, Debug, PartialEq, Eq)]
+pub enum Operation {
+    /// Puts a value at a key.
+    Put { key: u64, value: u64 },
+    /// Puts a value at a key that has the expected one, or none.
+    PutIf { key: u64, expected: Option<u64>, value: u64 },
+    /// Takes a key out.
+    Take { key: u64 },
+    /// Gets the value at a key.
+    Get { key: u64 },
+}
+
+/// An entry of a history, of this map or of your own store. Each names its caller, below 64, first.
+#[derive(Clone, Copy, Debug, PartialEq, Eq)]
+pub enum Entry {
+    /// A transaction began, with its number, counted from 1 over all callers.
+    Began(u64, u64),
+    /// An operation was asked for: the key's stripe is the caller's now.
+    Asked(u64, Operation),
+    /// The reply of the operation that was asked for.
+    Did(u64, Option<u64>),
+    /// A savepoint was set, of the caller's next level.
+    Saved(u64),
+    /// The caller goes back to a level, or, without one, aborts.
+    Leave(u64, Option<u64>),
+    /// The newest change that stood is taken back.
+    Undone(u64),
+    /// The caller is back at the level.
+    Returned(u64, u64),
+    /// The transaction committed, with its place in the order of commits, from 1.
+    Committed(u64, u64),
+    /// Another caller, named last, holds the key's stripe; the transaction aborts.
+    Busy(u64, Operation, u64),
+    /// All changes are taken back.
+    Aborted(u64),
+}
+
+impl Entry {
+    fn to_c(self) -> sys::Entry {
+        let of = |kind, caller| sys::Entry { kind, caller, ..sys::Entry::default() };
+        match self {
+            Entry::Began(caller, number) => sys::Entry { number, ..of(1, caller) },
+            Entry::Asked(caller, operation) => operation.to_c(of(2, caller)),
+            Entry::Did(caller, reply) => {
+                sys::Entry { value: reply.unwrap_or(0), has: reply.is_some().into(), ..of(3, caller) }
+            }
+            Entry::Saved(caller) => of(4, caller),
+            Entry::Leave(caller, level) => {
+                sys::Entry { number: level.unwrap_or(0), has: level.is_some().into(), ..of(5, caller) }
+            }
+            Entry::Undone(caller) => of(6, caller),
+            Entry::Returned(caller, number) => sys::Entry { number, ..of(7, caller) },
+            Entry::Committed(caller, number) => sys::Entry { number, ..of(8, caller) },
+            Entry::Busy(caller, operation, number) => sys::Entry { number, ..operation.to_c(of(9, caller)) },
+            Entry::Aborted(caller) => of(10, caller),
+        }
+    }
+}
+
+impl Operation {
+    fn to_c(self, of: sys::Entry) -> sys::Entry {
+        match self {
+            Operation::Put { key, value } => sys::Entry { operation: 1, key, value, ..of },
+            Operation::PutIf { key, expected, value } => sys::Entry {
+                operation: 2,
+                key,
+                value,
+                expected: expected.unwrap_or(0),
+                has: expected.is_some().into(),
+                ..of
+            },
+            Operation::Take { key } => sys::Entry { operation: 3, key, ..of },
+            Operation::Get { key } => sys::Entry { operation: 4, key, ..of },
+        }
+    }
+}
+
+/// Whom a `Busy` entry may name.
+#[derive(Clone, Copy, Debug, PartialEq, Eq)]
+pub enum Holder {
+    /// A caller that holds the stripe at that moment.
+    Now = 0,
+    /// A caller that has begun a transaction before, for stores that note the entry later.
+    Begun = 1,
+}
+
+/// The number of the rule of commits.
+const BY_COMMITS: u32 = 2;
+
+/// The rule that an entry breaks.
+#[derive(Clone, Copy, Debug, PartialEq, Eq)]
+pub enum Rule {
+    /// A reply is not that of running alone after the commits before.
+    Replies,
+    /// A stripe is in two hands.
+    Locks,
+    /// A caller's entries do not follow the order of a transaction.
+    Shape,
+}
+
+/// What the judge says of the entries so far.
+#[derive(Clone, Copy, Debug, PartialEq, Eq)]
+pub enum Verdict {
+    /// No entry breaks a rule: so many transactions are committed, and callers are in one.
+    Legal { commits: u64, running: u64 },
+    /// The first entry that breaks a rule, counted from 0.
+    Illegal { entry: u64, rule: Rule },
+}
+
+/// The judge of a history.
+///
+/// ```
+/// use boostmap::{Entry, Holder, Judge, Operation, Verdict};
+///
+/// let mut judge = Judge::new(8, Holder::Now)?;
+/// judge.feed(Entry::Began(0, 1))?;
+/// judge.feed(Entry::Asked(0, Operation::Get { key: 3 }))?;
+/// judge.feed(Entry::Did(0, None))?;
+/// judge.feed(Entry::Committed(0, 1))?;
+/// assert_eq!(judge.verdict(), Verdict::Legal { commits: 1, running: 0 });
+/// # Ok::<(), boostmap::Error>(())
+/// ```
+pub struct Judge(Handle);
+
+// SAFETY: `sends_referee` of the archive proves `Send` of what the handle owns, and `&mut self` puts the
+// calls one after another.
+unsafe impl Send for Judge {}
+
+impl Judge {
+    /// Begins to judge the history of a map with this many stripes, by locks.
+    ///
+    /// # Errors
+    ///
+    /// `Limit` without stripes; `NoMemory`.
+    pub fn new(stripes: u64, holder: Holder) -> Result<Judge> {
+        Judge::by_rule(stripes, holder as u32)
+    }
+
+    /// Begins to judge a history by the order of its commits, for stores whose readers share locks or
+    /// read snapshots: each transaction that commits has the replies of running alone on what the
+    /// commits before it left.
+    ///
+    /// # Errors
+    ///
+    /// `NoMemory`.
+    pub fn by_commits() -> Result<Judge> {
+        Judge::by_rule(0, BY_COMMITS)
+    }
+
+    fn by_rule(stripes: u64, rule: u32) -> Result<Judge> {
+        let mut judge = Judge(Handle::EMPTY);
+        // SAFETY: the handle is all zeros and uniquely borrowed.
+        match unsafe { sys::boostmap_judge_new(&mut judge.0, stripes, rule) } {
+            sys::DONE => Ok(judge),
+            status => Err(Error::from_status(status, 0)),
+        }
+    }
+
+    /// Feeds the next entry. After the first that breaks a rule no further one changes the verdict.
+    ///
+    /// # Errors
+    ///
+    /// Nothing was fed: `NoEntry` of a caller that is not below 64; `NoMemory`, after which the entry
+    /// may be fed again.
+    pub fn feed(&mut self, entry: Entry) -> Result<()> {
+        // SAFETY: the handle is live, and both pointers are borrows.
+        match unsafe { sys::boostmap_judge_feed(&mut self.0, &entry.to_c()) } {
+            sys::DONE => Ok(()),
+            status => Err(Error::from_status(status, 0)),
+        }
+    }
+
+    /// The verdict on the entries so far.
+    pub fn verdict(&mut self) -> Verdict {
+        let mut told = sys::Verdict::default();
+        // SAFETY: the handle is live, and both pointers are unique borrows.
+        unsafe { sys::boostmap_judge_verdict(&mut self.0, &mut told) };
+        if told.is_legal == 1 {
+            return Verdict::Legal { commits: told.commits, running: told.running };
+        }
+        let rule = match told.rule {
+            1 => Rule::Replies,
+            2 => Rule::Locks,
+            _ => Rule::Shape,
+        };
+        Verdict::Illegal { entry: told.entry, rule }
+    }
+}
+
+impl Drop for Judge {
+    fn drop(&mut self) {
+        // SAFETY: dropped once; a handle of all zeros is answered and left.
+        unsafe { sys::boostmap_judge_free(&mut self.0) };
+    }
+}

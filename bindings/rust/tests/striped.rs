@@ -1,0 +1,151 @@
+use boostmap::{open_striped, Caller, Entry, Error, Holder, Judge, Operation, Rule, Verdict};
+use std::mem;
+use std::sync::mpsc;
+use std::thread;
+
+fn two() -> Result<(Caller, Caller), Error> {
+    let mut all = open_striped(2, 16)?;
+    let second = all.pop().unwrap();
+    Ok((all.pop().unwrap(), second))
+}
+
+#[test]
+fn a_transaction_commits_or_leaves_nothing() -> Result<(), Error> {
+    let (mut one, mut other) = two()?;
+    assert_eq!((one.number(), other.number()), (1, 2));
+    one.transact(0, |t| {
+        assert_eq!(t.put(1, 10)?, None);
+        let level = t.save()?;
+        assert_eq!(t.take(1)?, Some(10));
+        t.back(level)?;
+        assert_eq!(t.back(2), Err(Error::NoSuchLevel));
+        assert_eq!(t.put_if(1, None, 11)?, Some(10));
+        assert_eq!(t.put_if(1, Some(10), 12)?, Some(10));
+        Ok(())
+    })?;
+    let failed = one.transact(0, |t| t.put(2, 20).and(Err::<(), _>(Error::Limit)));
+    assert_eq!(failed, Err(Error::Limit));
+    one.begin()?.put(2, 20)?;
+    assert_eq!(other.transact(0, |t| Ok((t.get(1)?, t.get(2)?)))?, (Some(12), None));
+    assert_eq!(other.begin()?.commit()?, 3);
+    Ok(())
+}
+
+#[test]
+fn busy_ends_the_transaction() -> Result<(), Error> {
+    let (mut one, mut other) = two()?;
+    let mut holds = one.begin()?;
+    holds.put(5, 50)?;
+    let mut runs = 0;
+    let busy = other.transact(3, |t| {
+        runs += 1;
+        t.put(6, 60)?;
+        t.get(5 + 16)
+    });
+    assert_eq!((busy, runs), (Err(Error::Busy(1)), 4));
+    let mut t = other.begin()?;
+    assert_eq!(t.get(5), Err(Error::Busy(1)));
+    assert_eq!(t.get(6), Err(Error::NotOpen));
+    assert_eq!(t.commit(), Err(Error::NotOpen));
+    mem::forget(holds);
+    drop(one);
+    assert_eq!(other.transact(0, |t| Ok((t.get(5)?, t.get(6)?)))?, (None, None));
+    assert!(matches!(open_striped(0, 1), Err(Error::Limit)));
+    assert!(matches!(open_striped(1, 4097), Err(Error::Limit)));
+    Ok(())
+}
+
+#[test]
+fn a_caller_may_change_threads() -> Result<(), Error> {
+    let (mut one, mut other) = two()?;
+    let (sender, receiver) = mpsc::channel::<Caller>();
+    let thread = thread::spawn(move || {
+        let mut caller = receiver.recv().unwrap();
+        caller.transact(0, |t| t.put(1, 10)).unwrap();
+    });
+    one.transact(0, |t| t.put(1, 1))?;
+    sender.send(one).unwrap();
+    thread.join().unwrap();
+    assert_eq!(other.transact(0, |t| t.get(1))?, Some(10));
+    Ok(())
+}
+
+#[test]
+fn threads_keep_the_sum() -> Result<(), Error> {
+    const KEYS: u64 = 16;
+    let mut callers = open_striped(4, 8)?;
+    callers[0].transact(0, |t| (0..KEYS).try_for_each(|key| t.put(key, 100).map(drop)))?;
+    thread::scope(|scope| {
+        for caller in &mut callers {
+            scope.spawn(move || {
+                let me = caller.number();
+                for i in 0..5000 {
+                    let (from, to) = ((i * 7 + me) % KEYS, (i * 11 + 3 * me + 1) % KEYS);
+                    caller
+                        .transact(u64::MAX, |t| {
+                            let has = t.get(from)?.unwrap_or(0);
+                            t.put(from, has.saturating_sub(1))?;
+                            let had = t.get(to)?.unwrap_or(0);
+                            t.put(to, had + has.min(1))
+                        })
+                        .unwrap();
+                }
+            });
+        }
+    });
+    let sum = callers[0].transact(0, |t| (0..KEYS).try_fold(0, |sum, key| Ok(sum + t.get(key)?.unwrap_or(0))));
+    assert_eq!(sum, Ok(100 * KEYS));
+    Ok(())
+}
+
+#[test]
+fn the_judge_names_the_first_bad_entry() -> Result<(), Error> {
+    let put = Operation::PutIf { key: 3, expected: None, value: 30 };
+    let entries = [
+        Entry::Began(0, 1),
+        Entry::Asked(0, put),
+        Entry::Did(0, None),
+        Entry::Began(1, 2),
+        Entry::Busy(1, Operation::Get { key: 3 }, 0),
+        Entry::Aborted(1),
+        Entry::Saved(0),
+        Entry::Asked(0, Operation::Take { key: 3 }),
+        Entry::Did(0, Some(30)),
+        Entry::Leave(0, Some(1)),
+        Entry::Undone(0),
+        Entry::Returned(0, 1),
+        Entry::Committed(0, 1),
+    ];
+    let mut judge = Judge::new(8, Holder::Now)?;
+    entries.iter().try_for_each(|entry| judge.feed(*entry))?;
+    assert_eq!(judge.verdict(), Verdict::Legal { commits: 1, running: 0 });
+    assert_eq!(judge.feed(Entry::Saved(64)), Err(Error::NoEntry));
+    judge.feed(Entry::Began(0, 3))?;
+    judge.feed(Entry::Asked(0, Operation::Put { key: 3, value: 31 }))?;
+    judge.feed(Entry::Did(0, Some(31)))?;
+    assert_eq!(judge.verdict(), Verdict::Illegal { entry: 15, rule: Rule::Replies });
+    assert!(matches!(Judge::new(0, Holder::Begun), Err(Error::Limit)));
+    Ok(())
+}
+
+#[test]
+fn readers_of_one_key_are_serializable() -> Result<(), Error> {
+    let get = Operation::Get { key: 3 };
+    let (mut by_locks, mut by_commits) = (Judge::new(8, Holder::Now)?, Judge::by_commits()?);
+    for entry in [
+        Entry::Began(0, 1),
+        Entry::Began(1, 2),
+        Entry::Asked(0, get),
+        Entry::Did(0, None),
+        Entry::Asked(1, get),
+        Entry::Did(1, None),
+        Entry::Committed(0, 1),
+        Entry::Committed(1, 2),
+    ] {
+        by_locks.feed(entry)?;
+        by_commits.feed(entry)?;
+    }
+    assert_eq!(by_locks.verdict(), Verdict::Illegal { entry: 4, rule: Rule::Locks });
+    assert_eq!(by_commits.verdict(), Verdict::Legal { commits: 2, running: 0 });
+    Ok(())
+}

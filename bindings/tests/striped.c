@@ -1,0 +1,136 @@
+/* Each status of each call of a striped map, once: what it answers, what it writes, what it leaves. */
+#include "boostmap.h"
+#include "check.h"
+
+enum { UNTOUCHED = 77 };
+
+/* One status, and the word after it, which was UNTOUCHED before. */
+#define ANSWERS(call, status, after) \
+    do {                             \
+        w = UNTOUCHED;               \
+        CHECK((call) == (status));   \
+        CHECK(w == (after));         \
+    } while (0)
+#define IS(call, status) CHECK((call) == (status))
+
+/* No call but open and join does anything on an empty handle. */
+static void an_empty_handle(boostmap_caller *c) {
+    boostmap_caller next = BOOSTMAP_INIT;
+    uint64_t w;
+    IS(boostmap_striped_free(c), BOOSTMAP_EMPTY);
+    IS(boostmap_striped_begin(c), BOOSTMAP_EMPTY);
+    IS(boostmap_striped_abort(c), BOOSTMAP_EMPTY);
+    IS(boostmap_striped_back(c, 0), BOOSTMAP_EMPTY);
+    ANSWERS(boostmap_striped_join(c, &next, &w), BOOSTMAP_EMPTY, UNTOUCHED);
+    ANSWERS(boostmap_striped_commit(c, &w), BOOSTMAP_EMPTY, UNTOUCHED);
+    ANSWERS(boostmap_striped_get(c, 1, &w), BOOSTMAP_EMPTY, UNTOUCHED);
+    ANSWERS(boostmap_striped_take(c, 1, &w), BOOSTMAP_EMPTY, UNTOUCHED);
+    ANSWERS(boostmap_striped_put(c, 1, 2, &w), BOOSTMAP_EMPTY, UNTOUCHED);
+    ANSWERS(boostmap_striped_put_if_absent(c, 1, 2, &w), BOOSTMAP_EMPTY, UNTOUCHED);
+    ANSWERS(boostmap_striped_put_if_equal(c, 1, 2, 3, &w), BOOSTMAP_EMPTY, UNTOUCHED);
+    ANSWERS(boostmap_striped_save(c, &w), BOOSTMAP_EMPTY, UNTOUCHED);
+    CHECK(c->tag == 0 && c->held == 0 && next.tag == 0 && next.held == 0);
+}
+
+/* Each number just out of range, and the largest and least that are in it. */
+static void limits(void) {
+    static const struct { uint64_t callers, stripes; boostmap_status status; } rows[] = {
+        {0, 16, BOOSTMAP_LIMIT}, {4097, 16, BOOSTMAP_LIMIT},       {1, 0, BOOSTMAP_LIMIT}, {1, 4097, BOOSTMAP_LIMIT},
+        {1, 1, BOOSTMAP_DONE},   {UINT64_MAX, 1, BOOSTMAP_LIMIT},  {4096, 4096, BOOSTMAP_DONE},
+    };
+    uint64_t w;
+    for (size_t i = 0; i < sizeof rows / sizeof *rows; i++) {
+        boostmap_caller c = BOOSTMAP_INIT;
+        boostmap_status status = rows[i].status;
+        ANSWERS(boostmap_striped_open(&c, rows[i].callers, rows[i].stripes, &w), status, status ? UNTOUCHED : rows[i].callers);
+        IS(boostmap_striped_free(&c), status ? BOOSTMAP_EMPTY : BOOSTMAP_DONE);
+    }
+}
+
+static void joining(boostmap_caller c[3]) {
+    uint64_t w;
+    boostmap_caller fourth = BOOSTMAP_INIT;
+    ANSWERS(boostmap_striped_open(&c[0], 3, 16, &w), BOOSTMAP_DONE, 3);
+    ANSWERS(boostmap_striped_open(&c[0], 1, 1, &w), BOOSTMAP_FULL, UNTOUCHED);
+    ANSWERS(boostmap_striped_join(&c[0], &c[1], &w), BOOSTMAP_DONE, 2);
+    ANSWERS(boostmap_striped_join(&c[0], &c[1], &w), BOOSTMAP_FULL, UNTOUCHED);
+    ANSWERS(boostmap_striped_join(&c[1], &c[2], &w), BOOSTMAP_NO_SUCH_CALLER, UNTOUCHED);
+    ANSWERS(boostmap_striped_join(&c[0], &c[2], &w), BOOSTMAP_DONE, 1);
+    ANSWERS(boostmap_striped_join(&c[0], &fourth, &w), BOOSTMAP_NO_SUCH_CALLER, UNTOUCHED);
+    CHECK(fourth.tag == 0 && fourth.held == 0);
+}
+
+static void order(boostmap_caller *c) {
+    uint64_t w;
+    IS(boostmap_striped_abort(c), BOOSTMAP_NOT_OPEN);
+    IS(boostmap_striped_back(c, 0), BOOSTMAP_NOT_OPEN);
+    ANSWERS(boostmap_striped_commit(c, &w), BOOSTMAP_NOT_OPEN, UNTOUCHED);
+    ANSWERS(boostmap_striped_put(c, 5, 50, &w), BOOSTMAP_NOT_OPEN, UNTOUCHED);
+    ANSWERS(boostmap_striped_save(c, &w), BOOSTMAP_NOT_OPEN, UNTOUCHED);
+    IS(boostmap_striped_begin(c), BOOSTMAP_DONE);
+    IS(boostmap_striped_begin(c), BOOSTMAP_ALREADY_OPEN);
+}
+
+static void operations(boostmap_caller *c) {
+    uint64_t w;
+    ANSWERS(boostmap_striped_get(c, 5, &w), BOOSTMAP_ABSENT, UNTOUCHED);
+    ANSWERS(boostmap_striped_put(c, 5, 50, &w), BOOSTMAP_ABSENT, UNTOUCHED);
+    ANSWERS(boostmap_striped_put_if_absent(c, 5, 51, &w), BOOSTMAP_DONE, 50);
+    ANSWERS(boostmap_striped_put_if_equal(c, 5, 49, 53, &w), BOOSTMAP_DONE, 50);
+    ANSWERS(boostmap_striped_put_if_equal(c, 5, 50, 52, &w), BOOSTMAP_DONE, 50);
+    ANSWERS(boostmap_striped_get(c, 5, &w), BOOSTMAP_DONE, 52);
+    ANSWERS(boostmap_striped_save(c, &w), BOOSTMAP_DONE, 1);
+    ANSWERS(boostmap_striped_take(c, 5, &w), BOOSTMAP_DONE, 52);
+    ANSWERS(boostmap_striped_save(c, &w), BOOSTMAP_DONE, 2);
+    ANSWERS(boostmap_striped_put_if_absent(c, 5, UINT64_MAX, &w), BOOSTMAP_ABSENT, UNTOUCHED);
+    IS(boostmap_striped_back(c, 3), BOOSTMAP_NO_SUCH_LEVEL);
+    IS(boostmap_striped_back(c, 1), BOOSTMAP_DONE);
+    IS(boostmap_striped_back(c, 2), BOOSTMAP_NO_SUCH_LEVEL);
+    ANSWERS(boostmap_striped_get(c, 5, &w), BOOSTMAP_DONE, 52);
+}
+
+/* Caller 3 has key 5 in a transaction; caller 2 finds it, and so does caller 1. */
+static void two_callers(boostmap_caller *three, boostmap_caller *two, boostmap_caller *one) {
+    uint64_t w;
+    IS(boostmap_striped_begin(two), BOOSTMAP_DONE);
+    ANSWERS(boostmap_striped_put(two, 6, 60, &w), BOOSTMAP_ABSENT, UNTOUCHED);
+    ANSWERS(boostmap_striped_get(two, 5, &w), BOOSTMAP_BUSY, 3);
+    IS(boostmap_striped_abort(two), BOOSTMAP_NOT_OPEN);
+    ANSWERS(boostmap_striped_get(two, 6, &w), BOOSTMAP_NOT_OPEN, UNTOUCHED);
+    IS(boostmap_striped_begin(one), BOOSTMAP_DONE);
+    ANSWERS(boostmap_striped_get(one, 6, &w), BOOSTMAP_ABSENT, UNTOUCHED);
+    ANSWERS(boostmap_striped_put(one, 5 + 16, 1, &w), BOOSTMAP_BUSY, 3);
+    ANSWERS(boostmap_striped_commit(three, &w), BOOSTMAP_DONE, 1);
+    IS(boostmap_striped_begin(two), BOOSTMAP_DONE);
+    ANSWERS(boostmap_striped_take(two, 5, &w), BOOSTMAP_DONE, 52);
+    IS(boostmap_striped_abort(two), BOOSTMAP_DONE);
+    IS(boostmap_striped_begin(one), BOOSTMAP_DONE);
+    ANSWERS(boostmap_striped_get(one, 5, &w), BOOSTMAP_DONE, 52);
+    ANSWERS(boostmap_striped_commit(one, &w), BOOSTMAP_DONE, 2);
+}
+
+/* A caller that is freed in a transaction aborts it; the map stays for the others. */
+static void freeing(boostmap_caller c[3]) {
+    uint64_t w;
+    IS(boostmap_striped_begin(&c[0]), BOOSTMAP_DONE);
+    ANSWERS(boostmap_striped_put(&c[0], 5, 99, &w), BOOSTMAP_DONE, 52);
+    IS(boostmap_striped_free(&c[0]), BOOSTMAP_DONE);
+    an_empty_handle(&c[0]);
+    IS(boostmap_striped_begin(&c[1]), BOOSTMAP_DONE);
+    ANSWERS(boostmap_striped_get(&c[1], 5, &w), BOOSTMAP_DONE, 52);
+    ANSWERS(boostmap_striped_commit(&c[1], &w), BOOSTMAP_DONE, 3);
+    IS(boostmap_striped_free(&c[1]), BOOSTMAP_DONE);
+    IS(boostmap_striped_free(&c[2]), BOOSTMAP_DONE);
+}
+
+int main(void) {
+    boostmap_caller c[3] = {BOOSTMAP_INIT, BOOSTMAP_INIT, BOOSTMAP_INIT};
+    an_empty_handle(&c[0]);
+    limits();
+    joining(c);
+    order(&c[0]);
+    operations(&c[0]);
+    two_callers(&c[0], &c[1], &c[2]);
+    freeing(c);
+    return 0;
+}

@@ -1,0 +1,100 @@
+-- What the calls on a striped map do to a handle, by the member that it owns before and after: an
+-- empty handle is told so, and stays empty.
+use Rattle.std.specs.Prelude.{◌≡◌, ℕ, ◌+◌, ◌<◌, ◌&&◌, nat_le, Bool, true, [], ◌∷◌, ◌++◌, length, Option, Some, None, Result, Ok, Err, if◌then◌else◌}
+use Rattle.std.specs.List.{HoldsAt}
+use Rattle.txn_trace.specs.declared.refusal.Refusal.TheVariants.{NoMemory, NoSuchCaller, Limit}
+use Rattle.striped_map.specs.declared.caller.Caller.{Caller}
+use Rattle.striped_map.specs.declared.map.StripedMap.{StripedMap}
+use Rattle.striped_map.specs.declared.stop.Stop.{Stop}
+use Rattle.striped_map.specs.Callers.{IsNew}
+use Rattle.boostmap_c.specs.declared.member.Member.{Member}
+use Rattle.boostmap_c.specs.Replies.{done, empty, full, refused}
+use Rattle.boostmap_c.specs.Stops.{status_of_reply, word_of_reply, status_of_number, word_of_number, status_of_end}
+
+-- The member's caller makes a call that answers a value or none, and C is told the answer; the
+-- callers that wait still wait.
+abbrev pub Replies : (Caller → Result (Option ℕ) Stop → Caller → Type 0) → Option Member → ℕ → ℕ
+    → ℕ → Option Member → Type 0
+Replies Calls (Some old) status before after (Some new) =
+    (answer : Result (Option ℕ) Stop) × Calls old.caller answer new.caller
+    × (new.waiting ≡ old.waiting)
+    × (status ≡ status_of_reply answer) × (after ≡ word_of_reply before answer)
+Replies Calls None status before after None = (status ≡ empty) × (after ≡ before)
+Replies Calls old status before after new = ⊥
+
+-- The same, for a call that answers a number.
+abbrev pub Numbers : (Caller → Result ℕ Stop → Caller → Type 0) → Option Member → ℕ → ℕ → ℕ
+    → Option Member → Type 0
+Numbers Calls (Some old) status before after (Some new) =
+    (answer : Result ℕ Stop) × Calls old.caller answer new.caller × (new.waiting ≡ old.waiting)
+    × (status ≡ status_of_number answer) × (after ≡ word_of_number before answer)
+Numbers Calls None status before after None = (status ≡ empty) × (after ≡ before)
+Numbers Calls old status before after new = ⊥
+
+-- The same, for a call that answers nothing.
+abbrev pub Ends : (Caller → Result Unit Stop → Caller → Type 0) → Option Member → ℕ
+    → Option Member → Type 0
+Ends Calls (Some old) status (Some new) =
+    (answer : Result Unit Stop) × Calls old.caller answer new.caller
+    × (new.waiting ≡ old.waiting) × (status ≡ status_of_end answer)
+Ends Calls None status None = status ≡ empty
+Ends Calls old status new = ⊥
+
+-- Whether a map can have so many callers and stripes.
+abbrev pub are_limits : ℕ → ℕ → Bool
+are_limits callers stripes =
+    (nat_le 1 callers && nat_le callers 4096) && (nat_le 1 stripes && nat_le stripes 4096)
+
+-- The first member of a map: its callers have done nothing, the member's has the last number, and
+-- the others wait, by their numbers from 1.
+pub record IsFirst (callers stripes : ℕ) (m : Member) : Type 0 where
+  pub map : StripedMap
+  pub caller : IsNew map stripes callers m.caller
+  pub count : length m.waiting.items + 1 ≡ callers
+  pub waiting : (place : ℕ) → place + 1 < callers
+      → HoldsAt (IsNew map stripes (place + 1)) m.waiting.items place
+
+-- A map, by its first member; or none, where its limits or memory are refused.
+abbrev pub OpensAt : ℕ → ℕ → ℕ → ℕ → ℕ → Option Member → Type 0
+OpensAt callers stripes status before after (Some new) =
+    (are_limits callers stripes ≡ true) × (status ≡ done) × (after ≡ callers)
+    × IsFirst callers stripes new
+OpensAt callers stripes status before after None =
+    (status ≡ refused (if are_limits callers stripes then NoMemory else Limit))
+    × (after ≡ before)
+
+-- An empty handle gets the first member of a map; a handle with a member keeps it.
+abbrev pub Opens : Option Member → ℕ → ℕ → ℕ → ℕ → ℕ → Option Member → Type 0
+Opens None callers stripes status before after new =
+    OpensAt callers stripes status before after new
+Opens (Some old) callers stripes status before after new =
+    (status ≡ full) × (after ≡ before) × (new ≡ Some old)
+
+-- The same member, with the same callers that wait.
+abbrev pub IsSame : Member → Member → Type 0
+IsSame old new = (new.caller ≡ old.caller) × (new.waiting.items ≡ old.waiting.items)
+
+-- The last caller that waits gets a member of its own, for whom nobody waits; or none does, since
+-- nobody waits or memory is refused.
+abbrev pub JoinsOf : Member → ℕ → ℕ → ℕ → Member → Option Member → Type 0
+JoinsOf old status before after new (Some made) =
+    (new.caller ≡ old.caller) × (old.waiting.items ≡ new.waiting.items ++ made.caller ∷ [])
+    × (made.waiting.items ≡ []) × (status ≡ done) × (after ≡ length old.waiting.items)
+JoinsOf old status before after new None =
+    IsSame old new × (after ≡ before)
+    × (status ≡ refused (if nat_le 1 (length old.waiting.items) then NoMemory else NoSuchCaller))
+
+-- The same for two handles, of which the second must be empty.
+abbrev pub Joins : Option Member → Option Member → ℕ → ℕ → ℕ → Option Member → Option Member
+    → Type 0
+Joins (Some old) None status before after (Some new) made = JoinsOf old status before after new made
+Joins None None status before after new made =
+    (status ≡ empty) × (after ≡ before) × (new ≡ None) × (made ≡ None)
+Joins first (Some next) status before after new made =
+    (status ≡ full) × (after ≡ before) × (new ≡ first) × (made ≡ Some next)
+Joins (Some old) None status before after None made = ⊥
+
+-- The handle has no member any more.
+abbrev pub Leaves : Option Member → ℕ → Option Member → Type 0
+Leaves (Some old) status new = (status ≡ done) × (new ≡ None)
+Leaves None status new = (status ≡ empty) × (new ≡ None)

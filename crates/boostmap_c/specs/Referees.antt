@@ -1,0 +1,46 @@
+-- What a referee was fed, by its rule, and what its verdict says.
+use Rattle.std.specs.Prelude.{ℕ, ◌<◌, ◌++◌, [], ◌∷◌, List}
+use Rattle.txn_trace.specs.declared.entry.Entry.{Entry}
+use Rattle.history_check.specs.declared.verdict.Verdict.{Verdict}
+use Rattle.history_check.specs.Fed as by_locks
+use Rattle.history_check.specs.Verdicts as on_locks
+use Rattle.serial_check.specs.Fed as by_commits
+use Rattle.serial_check.specs.Verdicts as on_commits
+use Rattle.boostmap_c.specs.declared.referee.Way.{Way}
+use Rattle.boostmap_c.specs.declared.referee.Way.TheVariants.{ByLocks, ByCommits}
+use Rattle.boostmap_c.specs.declared.referee.Referee.{Referee}
+use Rattle.boostmap_c.specs.declared.referee.Referee.TheVariants.{Locks, Commits}
+
+-- By locks there is a stripe to hold.
+abbrev pub has_stripes : Way → ℕ → Type 0
+has_stripes (ByLocks holder) stripes = 0 < stripes
+has_stripes ByCommits stripes = Unit {0}
+
+-- It judges by this rule, and was fed these entries, of a map with so many stripes.
+abbrev pub IsFedBy : Way → ℕ → List Entry → Referee → Type 0
+IsFedBy (ByLocks holder) stripes h (Locks checker) = by_locks.IsFed holder stripes h checker
+IsFedBy ByCommits stripes h (Commits checker) = by_commits.IsFed h checker
+IsFedBy way stripes h referee = ⊥
+
+-- The verdict of the rule's definition on these entries.
+abbrev pub IsVerdictBy : Way → ℕ → List Entry → Verdict → Type 0
+IsVerdictBy (ByLocks holder) stripes h outcome = on_locks.IsVerdictOn holder stripes h outcome
+IsVerdictBy ByCommits stripes h outcome = on_commits.IsVerdictOn h outcome
+
+-- Whatever the referee was fed, it is fed this entry besides.
+abbrev pub TakesIn : Entry → Referee → Referee → Type 0
+TakesIn entry old new =
+    (way : Way) (stripes : ℕ) (h : List Entry)
+    → IsFedBy way stripes h old → IsFedBy way stripes (h ++ entry ∷ []) new
+
+-- Whatever the referee was fed, it is fed no more.
+abbrev pub Stays : Referee → Referee → Type 0
+Stays old new =
+    (way : Way) (stripes : ℕ) (h : List Entry)
+    → IsFedBy way stripes h old → IsFedBy way stripes h new
+
+-- The verdict is the one on whatever the referee was fed.
+abbrev pub IsVerdictOf : Referee → Verdict → Type 0
+IsVerdictOf referee outcome =
+    (way : Way) (stripes : ℕ) (h : List Entry)
+    → IsFedBy way stripes h referee → IsVerdictBy way stripes h outcome

@@ -1,0 +1,39 @@
+-- What C is told of the answers of a striped map: a status, and for some a word.
+use Rattle.std.specs.Prelude.{ℕ, Option, Some, None, Result, Ok, Err}
+use Rattle.striped_map.specs.declared.stop.Stop.{Stop}
+use Rattle.striped_map.specs.declared.stop.Stop.TheVariants.{Busy, Refused}
+use Rattle.boostmap_c.specs.Replies.{done, absent, busy, refused}
+
+-- Why a call was not done.
+abbrev pub status_of_stop : Stop → ℕ
+status_of_stop (Busy holder) = busy
+status_of_stop (Refused refusal) = refused refusal
+
+abbrev pub word_of_stop : ℕ → Stop → ℕ
+word_of_stop before (Busy holder) = holder
+word_of_stop before (Refused refusal) = before
+
+-- A value or none.
+abbrev pub status_of_reply : Result (Option ℕ) Stop → ℕ
+status_of_reply (Ok None) = absent
+status_of_reply (Ok (Some value)) = done
+status_of_reply (Err stop) = status_of_stop stop
+
+abbrev pub word_of_reply : ℕ → Result (Option ℕ) Stop → ℕ
+word_of_reply before (Ok None) = before
+word_of_reply before (Ok (Some value)) = value
+word_of_reply before (Err stop) = word_of_stop before stop
+
+-- A number.
+abbrev pub status_of_number : Result ℕ Stop → ℕ
+status_of_number (Ok number) = done
+status_of_number (Err stop) = status_of_stop stop
+
+abbrev pub word_of_number : ℕ → Result ℕ Stop → ℕ
+word_of_number before (Ok number) = number
+word_of_number before (Err stop) = word_of_stop before stop
+
+-- Nothing.
+abbrev pub status_of_end : Result Unit Stop → ℕ
+status_of_end (Ok nothing) = done
+status_of_end (Err stop) = status_of_stop stop

@@ -1,0 +1,54 @@
+-- What each call of a caller of a striped map does, by its answer, in the words of the map's own
+-- contracts: the history that the caller has seen goes on by entries of others, and then by just
+-- these.
+use Rattle.std.specs.Prelude.{◌≡◌, ℕ, ◌<◌, ◌≤◌, ◌%◌, ◌^◌, [], ◌∷◌, true, false, Option, Some, None, Result, Ok, Err, if◌then◌else◌}
+use Rattle.txn_trace.specs.declared.entry.Entry.TheVariants.{Began, Asked, Did, Saved, Leave, Returned, Committed, Aborted}
+use Rattle.txn_trace.specs.declared.op.Op.{Op}
+use Rattle.txn_trace.specs.declared.refusal.Refusal.TheVariants.{NoMemory, NotOpen, AlreadyOpen, NoSuchLevel}
+use Rattle.striped_map.specs.declared.caller.Caller.{Caller}
+use Rattle.striped_map.specs.declared.stop.Stop.{Stop}
+use Rattle.striped_map.specs.declared.stop.Stop.TheVariants.{Refused}
+use Rattle.striped_map.specs.Callers.{number, seen, levels, changes, changes_above, IsStep, IsStopped}
+use Rattle.striped_map.specs.Lone.{RunsAlone}
+use Rattle.striped_map.specs.Steps.{undoing}
+
+-- A transaction has begun; or there was one already.
+abbrev pub Begins : Caller → Result Unit Stop → Caller → Type 0
+Begins a (Ok nothing) b = (a.is_open ≡ false) × (b.is_open ≡ true)
+    × (txn : ℕ) × IsStep a (Began (number a) txn ∷ []) b
+Begins a (Err stop) b = (stop ≡ Refused AlreadyOpen) × (a.is_open ≡ true) × (b ≡ a)
+
+-- The operation has its reply; or it was stopped.
+abbrev pub Operates : Op → Caller → Result (Option ℕ) Stop → Caller → Type 0
+Operates op a (Ok reply) b = (a.is_open ≡ true) × (b.is_open ≡ true)
+    × IsStep a (Asked (number a) op ∷ Did (number a) reply ∷ []) b
+Operates op a (Err stop) b = IsStopped a op b stop
+
+-- There is a savepoint more, of this level; or the transaction is unchanged.
+abbrev pub Saves : Caller → Result ℕ Stop → Caller → Type 0
+Saves a (Ok level) b = (a.is_open ≡ true) × (b.is_open ≡ true) × (level ≡ levels b)
+    × IsStep a (Saved (number a) ∷ []) b
+Saves a (Err stop) b = (stop ≡ Refused (if a.is_open then NoMemory else NotOpen))
+    × (b.is_open ≡ a.is_open) × IsStep a [] b
+
+-- The changes above the level are taken back; or there is no such level.
+abbrev pub Returns : ℕ → Caller → Result Unit Stop → Caller → Type 0
+Returns level a (Ok nothing) b = (a.is_open ≡ true) × (b.is_open ≡ true) × (level ≤ levels a)
+    × IsStep a (Leave (number a) (Some level)
+    ∷ undoing (number a) (changes_above level a) (Returned (number a) level)) b
+Returns level a (Err stop) b = (stop ≡ Refused (if a.is_open then NoSuchLevel else NotOpen))
+    × (a.is_open ≡ true → levels a < level) × (b ≡ a)
+
+-- The transaction is committed at a place, which is found modulo 2^64, and has the replies of running
+-- alone after the commits before it; or there is none.
+abbrev pub Commits : Caller → Result ℕ Stop → Caller → Type 0
+Commits a (Ok found) b = (a.is_open ≡ true) × (b.is_open ≡ false)
+    × (place : ℕ) × (found ≡ place % 2 ^ 64) × IsStep a (Committed (number a) place ∷ []) b
+    × RunsAlone (number a) place (seen b)
+Commits a (Err stop) b = (stop ≡ Refused NotOpen) × (a.is_open ≡ false) × (b ≡ a)
+
+-- All changes are taken back, and the transaction is over; or there is none.
+abbrev pub Aborts : Caller → Result Unit Stop → Caller → Type 0
+Aborts a (Ok nothing) b = (a.is_open ≡ true) × (b.is_open ≡ false)
+    × IsStep a (Leave (number a) None ∷ undoing (number a) (changes a) (Aborted (number a))) b
+Aborts a (Err stop) b = (stop ≡ Refused NotOpen) × (a.is_open ≡ false) × (b ≡ a)

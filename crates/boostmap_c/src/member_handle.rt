@@ -1,0 +1,66 @@
+//! The handle of a striped map's caller, and how a call takes the member out of it and puts it back,
+//! as `handle` does with a map.
+ghost use Rattle.std.specs.Prelude.{◌≡◌, Some, None, IfSome, IsNone, true, is_some};
+
+use crate::handle::sends;
+use crate::member::Member;
+use crate::member_pointer::MemberPointer;
+use owned_pointer::OwnedPointer;
+use std::alloc::Global;
+use std::mem;
+
+/// The tag of a handle with a member: the bytes of "bmcaller".
+const LIVE: u64 = 0x7265_6c6c_6163_6d62;
+
+/// What C keeps: all zeros, or a caller of a striped map.
+#[repr(C)]
+#[derive(Drop)]
+pub struct CallerHandle {
+    tag: u64,
+    pub(crate) held: MemberPointer,
+    ghost live: { tag ≡ 0x7265_6c6c_6163_6d62 → is_some held.member ≡ true },
+    ghost dead: { is_some held.member ≡ true → tag ≡ 0x7265_6c6c_6163_6d62 },
+}
+
+impl CallerHandle {
+    /// Whether it has a member.
+    pub(crate) fn is_live(&self) -> bool
+        ensures { result ≡ is_some self.now.held.member }
+    {
+        self.tag == LIVE
+    }
+}
+
+/// Takes the member out of a handle, if it has one; the handle is all zeros then.
+pub(crate) fn take_out(alloc: Global, handle: &mut CallerHandle) -> Option<Box<Member, Global>>
+    ensures some { IfSome result (λ member. handle.old.held.member ≡ Some member.value) }
+    ensures none { IsNone result → handle.old.held.member ≡ None }
+    ensures zeros { handle.new.held.member ≡ None }
+{
+    let zeros = CallerHandle {
+        tag: 0,
+        held: MemberPointer::null(),
+    };
+    let CallerHandle { tag, held } = mem::replace(handle, zeros);
+    if tag != LIVE {
+        return None;
+    }
+    Some(held.restore().into_box(alloc))
+}
+
+/// Puts a member into a handle.
+pub(crate) fn put_in(handle: &mut CallerHandle, member: Box<Member, Global>)
+    ensures { handle.new.held.member ≡ Some member.value }
+{
+    *handle = CallerHandle {
+        tag: LIVE,
+        held: MemberPointer::erase(OwnedPointer::from_box(member)),
+    };
+}
+
+/// A member may go to another thread, and so may a handle that owns one.
+pub(crate) fn sends_member(member: Member) -> Member
+    ensures { result ≡ member }
+{
+    sends(member)
+}

@@ -1,0 +1,55 @@
+//! The owning half of the handle of a striped map's caller, as `core_pointer` is that of a map's.
+ghost use Rattle.std.specs.Prelude.{◌≡◌, Option, Some, None, IsSome};
+ghost use Rattle.std.specs.Coded.{coded_option};
+ghost use Rattle.boostmap_c.specs.contracts.member.Member.{the_row};
+ghost use Rattle.boostmap_c.specs.declared.member.Member.{Member};
+
+use crate::member::Member;
+use owned_pointer::OwnedPointer;
+use std::marker::Model;
+use std::ptr;
+
+/// A member on the heap, or none.
+#[repr(C)]
+#[derive(Drop)]
+pub struct MemberPointer {
+    at: *mut (),
+    pub(crate) ghost member: { Option Member } by { coded_option the_row.coded },
+}
+
+impl Model for MemberPointer {
+    ghost use Rattle.boostmap_c.specs.Held.{owns_member};
+    ghost use Rattle.boostmap_c.specs.declared.member.Member.{Member};
+
+    ghost also_owns = { λ p. owns_member p.at p.member };
+}
+
+impl MemberPointer {
+    /// A pointer to no member.
+    pub(crate) fn null() -> MemberPointer
+        ensures { result.member ≡ None }
+    {
+        MemberPointer {
+            at: ptr::null_mut(),
+        }
+    }
+
+    /// The pointer with its type erased.
+    pub(crate) fn erase(member: OwnedPointer<Member>) -> MemberPointer
+        ensures { result.member ≡ Some member.value }
+    {
+        let OwnedPointer { at } = member;
+        MemberPointer { at: at as *mut () }
+    }
+
+    /// The pointer with its type again.
+    pub(crate) fn restore(self) -> OwnedPointer<Member>
+        requires { IsSome self.member }
+        ensures { self.member ≡ Some result.value }
+    {
+        let MemberPointer { at } = self;
+        OwnedPointer {
+            at: at as *mut Member,
+        }
+    }
+}

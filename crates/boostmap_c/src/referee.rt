@@ -1,0 +1,63 @@
+//! A checker of either rule, as the handle of a judge owns it. It stands apart because the pointer of a
+//! handle names one type.
+ghost use Rattle.std.specs.Prelude.{◌≡◌, ◌<◌, [], IfOk, OnOk, OnErr};
+ghost use Rattle.txn_trace.specs.History.{caller_of};
+ghost use Rattle.boostmap_c.specs.Referees.{IsFedBy, IsVerdictOf, Stays, TakesIn, has_stripes};
+
+use history_check::{Checker as LockChecker, Verdict};
+use serial_check::Checker as CommitChecker;
+use std::alloc::{AllocError, Global};
+use txn_trace::{Entry, Holder};
+
+/// The rule that a judge judges by.
+#[derive(Clone, Copy)]
+pub enum Way {
+    /// By locks: a Busy entry may name such a holder.
+    ByLocks(Holder),
+    /// By the order of commits.
+    ByCommits,
+}
+
+/// A checker, by its rule.
+#[derive(Drop)]
+pub enum Referee {
+    Locks(LockChecker),
+    Commits(CommitChecker),
+}
+
+impl Referee {
+    /// A checker before the first entry.
+    pub(crate) fn new(alloc: Global, stripes: u64, way: Way) -> Result<Referee, AllocError>
+        requires { has_stripes way stripes }
+        ensures { IfOk result (IsFedBy way stripes []) }
+    {
+        Ok(match way {
+            Way::ByLocks(holder) => Referee::Locks(LockChecker::new(alloc, stripes, holder)?),
+            Way::ByCommits => Referee::Commits(CommitChecker::new(alloc)?),
+        })
+    }
+
+    /// Feeds it the next entry.
+    #[tactic(auto, using(crate::proofs::Referees::locks_taken, crate::proofs::Referees::locks_stay, crate::proofs::Referees::commits_taken, crate::proofs::Referees::commits_stay))]
+    pub(crate) fn feed(&mut self, entry: &Entry) -> Result<(), AllocError>
+        requires { caller_of entry.now < 64 }
+        ensures ok { OnOk result (TakesIn entry.now self.old self.new) }
+        ensures err { OnErr result (Stays self.old self.new) }
+    {
+        match self {
+            Referee::Locks(checker) => checker.feed(entry),
+            Referee::Commits(checker) => checker.feed(entry),
+        }
+    }
+
+    /// What it says of the entries so far.
+    #[tactic(auto, using(crate::proofs::Referees::locks_say, crate::proofs::Referees::commits_say))]
+    pub(crate) fn verdict(&self) -> Verdict
+        ensures { IsVerdictOf self.now result }
+    {
+        match self {
+            Referee::Locks(checker) => checker.verdict(),
+            Referee::Commits(checker) => checker.verdict(),
+        }
+    }
+}

@@ -1,0 +1,55 @@
+//! The owning half of a judge's handle, as `core_pointer` is that of a map's.
+ghost use Rattle.std.specs.Prelude.{◌≡◌, Option, Some, None, IsSome};
+ghost use Rattle.std.specs.Coded.{coded_option};
+ghost use Rattle.boostmap_c.specs.contracts.referee.Referee.{the_row};
+ghost use Rattle.boostmap_c.specs.declared.referee.Referee.{Referee};
+
+use crate::referee::Referee;
+use owned_pointer::OwnedPointer;
+use std::marker::Model;
+use std::ptr;
+
+/// A referee on the heap, or none.
+#[repr(C)]
+#[derive(Drop)]
+pub struct RefereePointer {
+    at: *mut (),
+    pub(crate) ghost referee: { Option Referee } by { coded_option the_row.coded },
+}
+
+impl Model for RefereePointer {
+    ghost use Rattle.boostmap_c.specs.Held.{owns_referee};
+    ghost use Rattle.boostmap_c.specs.declared.referee.Referee.{Referee};
+
+    ghost also_owns = { λ p. owns_referee p.at p.referee };
+}
+
+impl RefereePointer {
+    /// A pointer to no referee.
+    pub(crate) fn null() -> RefereePointer
+        ensures { result.referee ≡ None }
+    {
+        RefereePointer {
+            at: ptr::null_mut(),
+        }
+    }
+
+    /// The pointer with its type erased.
+    pub(crate) fn erase(referee: OwnedPointer<Referee>) -> RefereePointer
+        ensures { result.referee ≡ Some referee.value }
+    {
+        let OwnedPointer { at } = referee;
+        RefereePointer { at: at as *mut () }
+    }
+
+    /// The pointer with its type again.
+    pub(crate) fn restore(self) -> OwnedPointer<Referee>
+        requires { IsSome self.referee }
+        ensures { self.referee ≡ Some result.value }
+    {
+        let RefereePointer { at } = self;
+        OwnedPointer {
+            at: at as *mut Referee,
+        }
+    }
+}

@@ -1,0 +1,163 @@
+//! The life of a striped map for C: it is opened with its callers, each of which gets a handle of its
+//! own, and goes with the last of them.
+ghost use Rattle.std.specs.Prelude.{◌≡◌, ◌++◌, [], ◌∷◌, IfOk, IfErr, OnOk, OnErr, true, length, nat_le, if◌then◌else◌};
+ghost use Rattle.txn_trace.specs.declared.refusal.Refusal.TheVariants.{NoMemory, NoSuchCaller, Limit};
+ghost use Rattle.boostmap_c.specs.Members.{IsFirst, IsSame, Joins, Leaves, Opens, are_limits};
+
+use crate::member::Member;
+use crate::member_handle::{CallerHandle, put_in, take_out};
+use crate::status::{DONE, EMPTY, FULL, refused};
+use std::alloc::Global;
+use striped_map::{MOST, open_map};
+use txn_trace::Refusal;
+
+/// Whether a map can have so many callers and stripes.
+fn are_limits(callers: u64, stripes: u64) -> bool
+    ensures { result ≡ are_limits callers stripes }
+{
+    (1 <= callers && callers <= MOST as u64) && (1 <= stripes && stripes <= MOST as u64)
+}
+
+/// Opens a map, and gives its first member.
+fn first_member(alloc: Global, callers: u64, stripes: u64) -> Result<Box<Member, Global>, Refusal>
+    ensures limits { OnOk result (are_limits callers stripes ≡ true) }
+    ensures ok { IfOk result (λ member. IsFirst callers stripes member.value) }
+    ensures err { IfErr result (λ refusal. refusal
+        ≡ (if are_limits callers stripes then NoMemory else Limit)) }
+{
+    if !are_limits(callers, stripes) {
+        return Err(Refusal::Limit);
+    }
+    let Ok((_host, mut waiting)) = open_map(alloc, stripes as usize, callers as usize) else {
+        return Err(Refusal::NoMemory);
+    };
+    let Some(caller) = waiting.pop() else {
+        unreachable!()
+    };
+    let Ok(member) = Box::new(alloc, Member { caller, waiting }) else {
+        return Err(Refusal::NoMemory);
+    };
+    Ok(member)
+}
+
+/// Takes out the last caller that waits, as a member of its own.
+fn next_member(alloc: Global, first: &mut Member) -> Result<Box<Member, Global>, Refusal>
+    ensures caller { first.new.caller ≡ first.old.caller }
+    ensures ok { IfOk result (λ member. (first.old.waiting.items
+        ≡ first.new.waiting.items ++ member.value.caller ∷ []) × (member.value.waiting.items ≡ [])) }
+    ensures err { IfErr result (λ refusal. refusal
+        ≡ (if nat_le 1 (length first.old.waiting.items) then NoMemory else NoSuchCaller)) }
+    ensures unchanged { OnErr result (first.new.waiting.items ≡ first.old.waiting.items) }
+{
+    let Some(caller) = first.waiting.pop() else {
+        return Err(Refusal::NoSuchCaller);
+    };
+    let next = Member {
+        caller,
+        waiting: Vec::new(alloc),
+    };
+    match Box::new(alloc, next) {
+        Ok(member) => Ok(member),
+        Err(failed) => {
+            first.waiting.push_reserved(failed.value.caller);
+            Err(Refusal::NoMemory)
+        }
+    }
+}
+
+/// Opens a striped map with no keys, and gives its first caller; the word is that caller's number,
+/// which is the number of callers. The others wait, and get their handles by `boostmap_striped_join`.
+///
+/// # Errors
+///
+/// The handle is unchanged: 4 if it has a caller, 38 (`Limit`) if there are not 1 to 4,096 callers
+/// and stripes, 30 (`NoMemory`) if memory is refused.
+///
+/// # Cost
+///
+/// Time and memory in proportion to the callers and the stripes.
+#[unsafe(no_mangle)]
+pub extern "C" fn boostmap_striped_open(
+    alloc: Global,
+    caller: &mut CallerHandle,
+    callers: u64,
+    stripes: u64,
+    word: &mut u64,
+) -> u32
+    ensures { Opens caller.old.held.member callers stripes result word.old word.new
+        caller.new.held.member }
+{
+    if caller.is_live() {
+        return FULL;
+    }
+    match first_member(alloc, callers, stripes) {
+        Ok(member) => {
+            put_in(caller, member);
+            *word = callers;
+            DONE
+        }
+        Err(refusal) => refused(refusal),
+    }
+}
+
+/// Gives a handle to the next caller that waits; the word is its number, one less than the last one's
+/// that was given. Only the first caller of a map has callers that wait.
+///
+/// # Errors
+///
+/// Both handles are unchanged: 4 if the second has a caller, 3 if the first has none, 18
+/// (`NoSuchCaller`) if nobody waits, 30 (`NoMemory`) if memory is refused.
+///
+/// # Cost
+///
+/// Constant time and memory.
+#[unsafe(no_mangle)]
+pub extern "C" fn boostmap_striped_join(
+    alloc: Global,
+    first: &mut CallerHandle,
+    next: &mut CallerHandle,
+    word: &mut u64,
+) -> u32
+    ensures { Joins first.old.held.member next.old.held.member result word.old word.new
+        first.new.held.member next.new.held.member }
+{
+    if next.is_live() {
+        return FULL;
+    }
+    let Some(mut member) = take_out(alloc, first) else {
+        return EMPTY;
+    };
+    let number = member.waiting.len() as u64;
+    let made = next_member(alloc, &mut member);
+    put_in(first, member);
+    match made {
+        Ok(member) => {
+            put_in(next, member);
+            *word = number;
+            DONE
+        }
+        Err(refusal) => refused(refusal),
+    }
+}
+
+/// Gives the caller up: a transaction that is open is aborted, and its stripes are given back. The
+/// handle is all zeros then. Callers that wait for this one go with it; the map goes with its last
+/// caller.
+///
+/// # Errors
+///
+/// 3 if the handle has no caller.
+///
+/// # Cost
+///
+/// That of an abort; of the last caller, time in proportion to the stripes and the keys. Takes no
+/// memory.
+#[unsafe(no_mangle)]
+pub extern "C" fn boostmap_striped_free(alloc: Global, caller: &mut CallerHandle) -> u32
+    ensures { Leaves caller.old.held.member result caller.new.held.member }
+{
+    match take_out(alloc, caller) {
+        Some(_member) => DONE,
+        None => EMPTY,
+    }
+}

@@ -1,0 +1,279 @@
+//! The calls of a striped map's caller. Each goes straight to the map: it takes no lock and never
+//! waits, so callers of one map may be in calls at the same time, each with its own handle.
+ghost use Rattle.std.specs.Prelude.{Some, None};
+ghost use Rattle.boostmap_c.specs.Members.{Ends, Numbers, Replies};
+ghost use Rattle.boostmap_c.specs.Striped.{Aborts, Begins, Commits, Operates, Returns, Saves};
+
+use crate::member_handle::{CallerHandle, put_in, take_out};
+use crate::status::EMPTY;
+use crate::stops::{tell_end, tell_number, tell_reply};
+use std::alloc::Global;
+use txn_trace::Op;
+
+/// Begins a transaction.
+///
+/// # Errors
+///
+/// 3 if the handle has no caller, 20 (`AlreadyOpen`) if the caller is in a transaction, which goes on.
+///
+/// # Cost
+///
+/// Constant time; takes no memory.
+#[unsafe(no_mangle)]
+pub extern "C" fn boostmap_striped_begin(alloc: Global, caller: &mut CallerHandle) -> u32
+    ensures { Ends Begins caller.old.held.member result caller.new.held.member }
+{
+    let Some(mut member) = take_out(alloc, caller) else {
+        return EMPTY;
+    };
+    let answer = member.caller.begin();
+    put_in(caller, member);
+    tell_end(answer)
+}
+
+/// Gets the value at a key, which is the word.
+///
+/// # Errors
+///
+/// 3 if the handle has no caller; 2 if another caller held the key's stripe: then the transaction is
+/// aborted, with all its changes taken back, and the word is the holder. A refusal leaves the
+/// transaction unchanged: 19 (`NotOpen`), 30 (`NoMemory`).
+///
+/// # Cost
+///
+/// That of `striped_map::Caller::get`.
+#[unsafe(no_mangle)]
+pub extern "C" fn boostmap_striped_get(
+    alloc: Global,
+    caller: &mut CallerHandle,
+    key: u64,
+    word: &mut u64,
+) -> u32
+    ensures { Replies (Operates (Op.Get key)) caller.old.held.member result word.old word.new
+        caller.new.held.member }
+{
+    let Some(mut member) = take_out(alloc, caller) else {
+        return EMPTY;
+    };
+    let answer = member.caller.get(key);
+    put_in(caller, member);
+    tell_reply(answer, word)
+}
+
+/// Puts a value at a key; the word is the value before.
+///
+/// # Errors
+///
+/// 3 if the handle has no caller; 2 if another caller held the key's stripe: then the transaction is
+/// aborted, with all its changes taken back, and the word is the holder. A refusal leaves the
+/// transaction unchanged: 19 (`NotOpen`), 30 (`NoMemory`), 32 (`StampsUsedUp`).
+///
+/// # Cost
+///
+/// That of `striped_map::Caller::put`.
+#[unsafe(no_mangle)]
+pub extern "C" fn boostmap_striped_put(
+    alloc: Global,
+    caller: &mut CallerHandle,
+    key: u64,
+    value: u64,
+    word: &mut u64,
+) -> u32
+    ensures { Replies (Operates (Op.Put key value)) caller.old.held.member result word.old word.new
+        caller.new.held.member }
+{
+    let Some(mut member) = take_out(alloc, caller) else {
+        return EMPTY;
+    };
+    let answer = member.caller.put(key, value);
+    put_in(caller, member);
+    tell_reply(answer, word)
+}
+
+/// Takes a key out; the word is the value that it had.
+///
+/// # Errors
+///
+/// 3 if the handle has no caller; 2 if another caller held the key's stripe: then the transaction is
+/// aborted, with all its changes taken back, and the word is the holder. A refusal leaves the
+/// transaction unchanged: 19 (`NotOpen`), 30 (`NoMemory`), 32 (`StampsUsedUp`).
+///
+/// # Cost
+///
+/// That of `striped_map::Caller::take`.
+#[unsafe(no_mangle)]
+pub extern "C" fn boostmap_striped_take(
+    alloc: Global,
+    caller: &mut CallerHandle,
+    key: u64,
+    word: &mut u64,
+) -> u32
+    ensures { Replies (Operates (Op.Take key)) caller.old.held.member result word.old word.new
+        caller.new.held.member }
+{
+    let Some(mut member) = take_out(alloc, caller) else {
+        return EMPTY;
+    };
+    let answer = member.caller.take(key);
+    put_in(caller, member);
+    tell_reply(answer, word)
+}
+
+/// Puts a value at a key that has none. The word is the value that the key has: if one is written,
+/// nothing was put.
+///
+/// # Errors
+///
+/// 3 if the handle has no caller; 2 if another caller held the key's stripe: then the transaction is
+/// aborted, with all its changes taken back, and the word is the holder. A refusal leaves the
+/// transaction unchanged: 19 (`NotOpen`), 30 (`NoMemory`), 32 (`StampsUsedUp`).
+///
+/// # Cost
+///
+/// That of `striped_map::Caller::put_if`.
+#[unsafe(no_mangle)]
+pub extern "C" fn boostmap_striped_put_if_absent(
+    alloc: Global,
+    caller: &mut CallerHandle,
+    key: u64,
+    value: u64,
+    word: &mut u64,
+) -> u32
+    ensures { Replies (Operates (Op.PutIf key None value)) caller.old.held.member result word.old word.new
+        caller.new.held.member }
+{
+    let Some(mut member) = take_out(alloc, caller) else {
+        return EMPTY;
+    };
+    let answer = member.caller.put_if(key, None, value);
+    put_in(caller, member);
+    tell_reply(answer, word)
+}
+
+/// Puts a value at a key that has the expected one. The word is the value before: if it is another
+/// one, or none is written, nothing was put.
+///
+/// # Errors
+///
+/// 3 if the handle has no caller; 2 if another caller held the key's stripe: then the transaction is
+/// aborted, with all its changes taken back, and the word is the holder. A refusal leaves the
+/// transaction unchanged: 19 (`NotOpen`), 30 (`NoMemory`), 32 (`StampsUsedUp`).
+///
+/// # Cost
+///
+/// That of `striped_map::Caller::put_if`.
+#[unsafe(no_mangle)]
+pub extern "C" fn boostmap_striped_put_if_equal(
+    alloc: Global,
+    caller: &mut CallerHandle,
+    key: u64,
+    expected: u64,
+    value: u64,
+    word: &mut u64,
+) -> u32
+    ensures { Replies (Operates (Op.PutIf key (Some expected) value)) caller.old.held.member result word.old word.new
+        caller.new.held.member }
+{
+    let Some(mut member) = take_out(alloc, caller) else {
+        return EMPTY;
+    };
+    let answer = member.caller.put_if(key, Some(expected), value);
+    put_in(caller, member);
+    tell_reply(answer, word)
+}
+
+/// Sets a savepoint; the word is its level, counted from 1.
+///
+/// # Errors
+///
+/// 3 if the handle has no caller. A refusal leaves the transaction unchanged: 19 (`NotOpen`), 30
+/// (`NoMemory`).
+///
+/// # Cost
+///
+/// That of `striped_map::Caller::save`.
+#[unsafe(no_mangle)]
+pub extern "C" fn boostmap_striped_save(
+    alloc: Global,
+    caller: &mut CallerHandle,
+    word: &mut u64,
+) -> u32
+    ensures { Numbers Saves caller.old.held.member result word.old word.new caller.new.held.member }
+{
+    let Some(mut member) = take_out(alloc, caller) else {
+        return EMPTY;
+    };
+    let answer = member.caller.save();
+    put_in(caller, member);
+    tell_number(answer, word)
+}
+
+/// Takes back every change since a level was set, newest first; 0 is the beginning. The level stays
+/// set, later ones are dropped, and stripes stay held.
+///
+/// # Errors
+///
+/// 3 if the handle has no caller. A refusal leaves the transaction unchanged: 19 (`NotOpen`), 25
+/// (`NoSuchLevel`).
+///
+/// # Cost
+///
+/// A step for each change that is taken back; takes no memory.
+#[unsafe(no_mangle)]
+pub extern "C" fn boostmap_striped_back(alloc: Global, caller: &mut CallerHandle, level: u64) -> u32
+    ensures { Ends (Returns level) caller.old.held.member result caller.new.held.member }
+{
+    let Some(mut member) = take_out(alloc, caller) else {
+        return EMPTY;
+    };
+    let answer = member.caller.back(level);
+    put_in(caller, member);
+    tell_end(answer)
+}
+
+/// Commits; the word is the transaction's place in the order of commits, counted from 1, modulo 2^64.
+///
+/// # Errors
+///
+/// 3 if the handle has no caller, 19 (`NotOpen`) if the caller has no transaction.
+///
+/// # Cost
+///
+/// A step for each change and each stripe; takes no memory.
+#[unsafe(no_mangle)]
+pub extern "C" fn boostmap_striped_commit(
+    alloc: Global,
+    caller: &mut CallerHandle,
+    word: &mut u64,
+) -> u32
+    ensures { Numbers Commits caller.old.held.member result word.old word.new
+        caller.new.held.member }
+{
+    let Some(mut member) = take_out(alloc, caller) else {
+        return EMPTY;
+    };
+    let answer = member.caller.commit();
+    put_in(caller, member);
+    tell_number(answer, word)
+}
+
+/// Aborts: takes back every change, newest first, and gives all stripes back.
+///
+/// # Errors
+///
+/// 3 if the handle has no caller, 19 (`NotOpen`) if the caller has no transaction.
+///
+/// # Cost
+///
+/// A step for each change and each stripe; takes no memory.
+#[unsafe(no_mangle)]
+pub extern "C" fn boostmap_striped_abort(alloc: Global, caller: &mut CallerHandle) -> u32
+    ensures { Ends Aborts caller.old.held.member result caller.new.held.member }
+{
+    let Some(mut member) = take_out(alloc, caller) else {
+        return EMPTY;
+    };
+    let answer = member.caller.abort();
+    put_in(caller, member);
+    tell_end(answer)
+}
