@@ -4,17 +4,17 @@ ghost use Rattle.std.specs.Prelude.{◌≡◌, ℕ, ◌-◌, ◌*◌, ◌<◌, �
 ghost use Rattle.bucket_table.specs.Segments.{LacksSegment, Puts};
 
 use crate::fill::vec_of;
-use node_list::NodeRef;
+use node_list::{NodeRef, PackedRef};
 use std::alloc::{AllocError, Global};
 use std::marker::Model;
 
 /// How many entries a segment has.
 const WIDTH: usize = 64;
 
-/// The entries of 64 buckets in a row.
+/// The entries of 64 buckets in a row, of 4 bytes each.
 #[derive(Drop)]
 struct Segment {
-    entries: Vec<Option<NodeRef>>,
+    entries: Vec<PackedRef>,
 }
 
 impl Model for Segment {
@@ -34,8 +34,8 @@ impl Segment {
         requires { place < 64 }
         ensures { IfOk result (λ segment. Puts None (Some segment) place dummy) }
     {
-        let mut entries = vec_of(alloc, 64, None)?;
-        entries[place] = Some(dummy);
+        let mut entries = vec_of(alloc, 64, PackedRef::none())?;
+        entries[place] = PackedRef::of(dummy);
         Ok(Segment { entries })
     }
 
@@ -43,7 +43,10 @@ impl Segment {
     fn get(&self, place: usize) -> Option<NodeRef>
         ensures { result ≡ slice_index_or self.now place None }
     {
-        self.entries.get(place).copied().flatten()
+        match self.entries.get(place) {
+            Some(entry) => entry.node(),
+            None => None,
+        }
     }
 
     /// Stores a dummy at a place.
@@ -51,7 +54,7 @@ impl Segment {
         requires { place < 64 }
         ensures { Puts (Some self.old) (Some self.new) place dummy }
     {
-        self.entries[place] = Some(dummy);
+        self.entries[place] = PackedRef::of(dummy);
     }
 }
 

@@ -1,3 +1,4 @@
 pub mod Locks
 pub mod Chains
+pub mod Packed
 pub mod Rights

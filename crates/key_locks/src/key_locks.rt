@@ -2,6 +2,7 @@ ghost use Rattle.std.specs.Prelude.{◌≡◌, ℕ, ◌<◌, List, Option, None,
 ghost use Rattle.key_locks.specs.Chains.{AreChained};
 
 use crate::lock_answer::LockAnswer;
+use crate::packed::{Holder, Link};
 use std::alloc::{AllocError, Global};
 use std::marker::Model;
 
@@ -13,11 +14,11 @@ pub const CALLERS: usize = 64;
 #[derive(Drop)]
 pub struct KeyLocks {
     // The caller that holds the stripe.
-    holders: Vec<Option<usize>>,
+    holders: Vec<Holder>,
     // Of a stripe that is held: the one that its holder took before it.
-    older: Vec<Option<usize>>,
+    older: Vec<Link>,
     // The stripe that the caller took last.
-    newest: Vec<Option<usize>>,
+    newest: Vec<Link>,
 }
 
 impl Model for KeyLocks {
@@ -29,14 +30,24 @@ impl Model for KeyLocks {
         AreChained locks.holders.items locks.older.items locks.newest.items };
 }
 
-fn nones(alloc: Global, count: usize) -> Result<Vec<Option<usize>>, AllocError>
-    ensures { IfOk result (λ places. places.items ≡ replicate count None) }
+fn free_stripes(alloc: Global, count: usize) -> Result<Vec<Holder>, AllocError>
+    ensures { IfOk result (λ holders. holders.items ≡ replicate count None) }
 {
-    let mut places = Vec::with_capacity(alloc, count)?;
+    let mut holders = Vec::with_capacity(alloc, count)?;
     for _ in 0..count {
-        places.push(None)?;
+        holders.push(Holder::none())?;
     }
-    Ok(places)
+    Ok(holders)
+}
+
+fn no_links(alloc: Global, count: usize) -> Result<Vec<Link>, AllocError>
+    ensures { IfOk result (λ links. links.items ≡ replicate count None) }
+{
+    let mut links = Vec::with_capacity(alloc, count)?;
+    for _ in 0..count {
+        links.push(Link::none())?;
+    }
+    Ok(links)
 }
 
 impl KeyLocks {
@@ -55,9 +66,9 @@ impl KeyLocks {
     pub fn new(alloc: Global, stripes: usize) -> Result<KeyLocks, AllocError>
         ensures { IfOk result (λ locks. locks ≡ replicate stripes None) }
     {
-        let holders = nones(alloc, stripes)?;
-        let older = nones(alloc, stripes)?;
-        let newest = nones(alloc, CALLERS)?;
+        let holders = free_stripes(alloc, stripes)?;
+        let older = no_links(alloc, stripes)?;
+        let newest = no_links(alloc, CALLERS)?;
         Ok(KeyLocks {
             holders,
             older,
@@ -77,13 +88,13 @@ impl KeyLocks {
         requires stripe { stripe < length self.old }
         ensures { Locks caller stripe self.old result self.new }
     {
-        match self.holders[stripe] {
+        match self.holders[stripe].caller() {
             Some(holder) if holder == caller => LockAnswer::Granted,
             Some(holder) => LockAnswer::Busy(holder),
             None => {
-                self.holders[stripe] = Some(caller);
+                self.holders[stripe] = Holder::of(caller);
                 self.older[stripe] = self.newest[caller];
-                self.newest[caller] = Some(stripe);
+                self.newest[caller] = Link::to(stripe);
                 LockAnswer::Granted
             }
         }
@@ -100,8 +111,8 @@ impl KeyLocks {
         if caller >= self.newest.len() {
             return;
         }
-        while let Some(stripe) = self.newest[caller] {
-            self.holders[stripe] = None;
+        while let Some(stripe) = self.newest[caller].stripe() {
+            self.holders[stripe] = Holder::none();
             self.newest[caller] = self.older[stripe];
         }
     }

@@ -31,6 +31,7 @@
 
 mod key_locks;
 mod lock_answer;
+mod packed;
 mod stripe_right;
 
 pub use key_locks::{CALLERS, KeyLocks};

@@ -2,6 +2,7 @@ pub mod Follow
 pub mod Layout
 pub mod Nodes
 pub mod Order
+pub mod Packed
 pub mod Seen
 pub mod Slots
 pub mod Sound

@@ -21,10 +21,12 @@
 mod list;
 mod marks;
 mod node;
+mod packed_ref;
 mod slots;
 mod spare;
 mod tally;
 
 pub use list::NodeList;
 pub use node::{Kind, Node, NodeRef};
+pub use packed_ref::PackedRef;
 pub use spare::{Spare, SpareFault, Unfilled};

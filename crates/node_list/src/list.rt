@@ -147,7 +147,7 @@ impl NodeList {
     /// # Errors
     ///
     /// `Worn` exactly where the last stamp was 2^64 - 2; then `NoMemory` where memory is refused,
-    /// or all of 2^32 places are in use. Either leaves the list as it was.
+    /// or all of 2^32 - 1 places are in use. Either leaves the list as it was.
     ///
     /// # Cost
     ///
@@ -170,6 +170,9 @@ impl NodeList {
         let Ok(place) = u32::try_from(self.slab.vacant_key()) else {
             return Err(SpareFault::NoMemory);
         };
+        if place == u32::MAX {
+            return Err(SpareFault::NoMemory);
+        }
         match self.slab.insert(Slot::out(&node)).ok() {
             Some(_) => {
                 self.last = stamp;

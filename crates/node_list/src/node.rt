@@ -1,5 +1,5 @@
 //! Nodes, and what names them.
-ghost use Rattle.std.specs.Prelude.{◌≡◌, if◌then◌else◌, None, true, false};
+ghost use Rattle.std.specs.Prelude.{◌≡◌, ◌-◌, ◌^◌, ◌<◌, if◌then◌else◌, None, true, false};
 ghost use Rattle.node_list.specs.Nodes.{is_regular};
 ghost use Rattle.node_list.specs.declared.node.Kind.TheVariants.{Dummy};
 
@@ -28,27 +28,38 @@ impl Kind {
 }
 
 /// The place of a node. It names that node until the node is unlinked; whether it is the same node
-/// later is told by the stamp. A place is below 2^32, so that it takes half a word of each node.
+/// later is told by the stamp. A place is below 2^32 - 1, so that it takes half a word of each node,
+/// and one number of 32 bits is left to stand for none.
 #[derive(Clone, Copy, Debug, PartialEq, Eq)]
 pub struct NodeRef {
     place: u32,
 }
 
 impl Model for NodeRef {
-    ghost use Rattle.std.specs.Prelude.{ℕ};
+    ghost use Rattle.std.specs.Prelude.{ℕ, ◌-◌, ◌^◌, ◌<◌};
 
     ghost Value = { ℕ };
 
     ghost view = { λ r. r.place };
+
+    ghost invariant = { λ r. r.place < 2 ^ 32 - 1 };
 
     ghost inverse = { λ place. record { place = place } };
 }
 
 impl NodeRef {
     pub(crate) fn new(place: u32) -> Self
+        requires { place < 2 ^ 32 - 1 }
         ensures { result ≡ place }
     {
         NodeRef { place }
+    }
+
+    pub(crate) fn number(self) -> u32
+        ensures value { result ≡ self }
+        ensures below { result < 2 ^ 32 - 1 }
+    {
+        self.place
     }
 
     pub(crate) fn place(self) -> usize

@@ -12,7 +12,8 @@ invariant_of-self c =
     let are = c.self.invariant in
     let within : c.args.stripe < length holders = rw c.self.view_is c.requires.stripe in
     let caller_within : c.args.caller < length newest = omega (arith, are.callers) in
-    let free : get_or holders c.args.stripe None ≡ None = sym (get_or_read holders c.args.stripe _ within c.index.ensures None) ∙ c.in-None.is in
+    let free : get_or holders c.args.stripe None ≡ None = sym (get_or_read holders c.args.stripe _ within c.index.ensures None) ∙ sym c.caller.ensures ∙ c.in-None.is in
     let last = get_or_read newest c.args.caller _ caller_within c.index-in-None.ensures None in
-    subst (λ next. AreChained (set holders c.args.stripe (Some c.args.caller)) (set older c.args.stripe next) (set newest c.args.caller (Some c.args.stripe))) (sym last)
-    (AreChained-taken holders older newest c.args.caller c.args.stripe are c.requires.caller within free)
+    rw (c.of.ensures, c.to.ensures)
+    (subst (λ next. AreChained (set holders c.args.stripe (Some c.args.caller)) (set older c.args.stripe next) (set newest c.args.caller (Some c.args.stripe))) (sym last)
+    (AreChained-taken holders older newest c.args.caller c.args.stripe are c.requires.caller within free))

@@ -1,0 +1,59 @@
+//! A node's place or none, in half the memory of an option.
+ghost use Rattle.std.specs.Prelude.{◌≡◌, Some, None};
+
+use crate::node::NodeRef;
+use std::marker::Model;
+use std::mem::size_of;
+
+/// A node or none, in 4 bytes, where an `Option<NodeRef>` takes 8: who keeps many of them may keep
+/// them so. No node has the greatest place of 32 bits, which stands for none.
+///
+/// A contract sees it as the option that it is.
+#[derive(Clone, Copy)]
+pub struct PackedRef {
+    place: u32,
+}
+
+const _: () = prove!(size_of::<PackedRef>() == 4);
+
+impl Model for PackedRef {
+    ghost use Rattle.std.specs.Prelude.{ℕ, Option};
+    ghost use Rattle.node_list.specs.Packed.{packed, packed_unpacked, unpacked};
+
+    ghost Value = { Option ℕ };
+
+    ghost view = { λ r. unpacked r.place };
+
+    ghost inverse = { λ place. record { place = packed place } };
+
+    ghost inverse_ok = { λ r _ i. record { place = packed_unpacked r.place i } };
+}
+
+impl PackedRef {
+    /// No node. Constant time.
+    pub fn none() -> PackedRef
+        ensures { result ≡ None }
+    {
+        PackedRef { place: u32::MAX }
+    }
+
+    /// This node. Constant time.
+    pub fn of(node: NodeRef) -> PackedRef
+        ensures { result ≡ Some node }
+    {
+        PackedRef {
+            place: node.number(),
+        }
+    }
+
+    /// The node, if there is one. Constant time.
+    pub fn node(self) -> Option<NodeRef>
+        ensures { result ≡ self }
+    {
+        if self.place == u32::MAX {
+            None
+        } else {
+            Some(NodeRef::new(self.place))
+        }
+    }
+}
