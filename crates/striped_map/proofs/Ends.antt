@@ -1,18 +1,22 @@
 -- What a hand has added by a step.
-use Rattle.std.proofs.Common.{◌≡◌, ◌≢◌, ℕ, zero, suc, ◌-◌, List, [], ◌∷◌, get_or, Option, sym, refl, ap, subst, ◌∙◌, arith}
+use Rattle.std.proofs.Common.{◌≡◌, ◌≢◌, ℕ, zero, suc, ◌+◌, ◌-◌, ◌<◌, List, [], ◌∷◌, get_or, Option, sym, refl, ap, subst, ◌∙◌, arith}
 use Rattle.txn_trace.specs.declared.entry.Entry.{Entry}
 use Rattle.txn_trace.specs.declared.entry.Entry.TheVariants.{Asked, Did, Busy, Aborted}
+use Rattle.txn_trace.specs.declared.holder.Holder.TheVariants.{Begun}
 use Rattle.txn_trace.specs.declared.op.Op.{Op}
+use Rattle.txn_trace.specs.Legal.{IsLegal}
+use Rattle.stripe_part.specs.PartAt.{PartAt}
 use Rattle.striped_map.specs.declared.hand.Hand.{Hand}
 use Rattle.striped_map.specs.declared.map.StripedMap.{StripedMap}
 use Rattle.striped_map.specs.declared.view.View.{View}
 use Rattle.striped_map.specs.Handling.{idle}
 use Rattle.striped_map.specs.Hands.{Moves}
-use Rattle.striped_map.specs.Seats.{known, stripes_of}
-use Rattle.striped_map.specs.Steps.{Standing, Extends, AddsIn, undoing}
+use Rattle.striped_map.specs.Rule.{times, Holds}
+use Rattle.striped_map.specs.Seats.{IsOf, known, stripes_of}
+use Rattle.striped_map.specs.Steps.{Standing, Extends, AddsIn, TakesIn, FindsIn, undoing}
 use Rattle.striped_map.specs.Additions.{due, entries_of}
 use Rattle.striped_map.specs.declared.addition.Addition.TheVariants.{Yield}
-use Rattle.striped_map.proofs.Hands.{extends_then, own_same}
+use Rattle.striped_map.proofs.Hands.{extends_then, extends_none, own_same}
 use Rattle.striped_map.proofs.Sounds.{due_same}
 
 pub moved : (map : StripedMap) (a b : Hand) (es : List Entry) (left : Standing) → AddsIn (stripes_of map) (known a.seat) es left (known b.seat) → Moves map a es b
@@ -52,3 +56,17 @@ moved_none map a b x c same = record {
   number_is = ap (λ z. (known z).number) same ∙ x.number_is;
   goes = subst (Extends (stripes_of map) (known a.seat).number (known a.seat).seen []) (sym (ap (λ z. (known z).seen) same)) x.goes;
 }
+
+-- Nothing was added, and nothing seen.
+pub moved_still : (map : StripedMap) (a : Hand) → IsOf a.seat map → Moves map a [] a
+moved_still map a of = record { number_is = refl; goes = extends_none (stripes_of map) (known a.seat).number (known a.seat).seen (subst (λ z. IsLegal Begun z.slots (known a.seat).seen) of a.sound.legal) }
+
+pub moved_on : (map : StripedMap) (a b c : Hand) → Moves map a [] b → Moves map b [] c → Moves map a [] c
+moved_on map a b c x y = moved_then map a b c (λ k. []) x y
+
+-- What was held is held after a stripe was taken, and after the history went on.
+pub holds_taken : (n k : ℕ) (v w : View) (part : PartAt) → TakesIn n k v part w → (other : ℕ) → Holds v other → Holds w other
+holds_taken n k v w part t other hold = subst (λ (u : View). Holds u other) (sym t.view_is) (let h : 0 < times other v.held = hold in let more : 0 < times other (k ∷ v.held) = omega arith in more)
+
+pub holds_found : (n holder : ℕ) (v w : View) → FindsIn n v holder w → (other : ℕ) → Holds v other → Holds w other
+holds_found n holder v w f other hold = subst (λ (u : View). Holds u other) (sym f.sees.view_is) hold

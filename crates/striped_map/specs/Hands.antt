@@ -1,8 +1,9 @@
 -- What the calls of a hand leave.
-use Rattle.std.specs.Prelude.{◌≡◌, List, [], ◌∷◌}
+use Rattle.std.specs.Prelude.{◌≡◌, ℕ, List, [], ◌∷◌}
 use Rattle.txn_trace.specs.declared.entry.Entry.{Entry}
 use Rattle.txn_trace.specs.declared.entry.Entry.TheVariants.{Busy as BusyEntry, Aborted}
 use Rattle.txn_trace.specs.declared.op.Op.{Op}
+use Rattle.txn_trace.specs.declared.op.Op.TheVariants.{Get}
 use Rattle.txn_trace.specs.declared.seat.Phase.TheVariants.{Closed, Opened}
 use Rattle.striped_map.specs.Handling.{IsShort}
 use Rattle.striped_map.specs.declared.hand.Hand.{Hand}
@@ -28,3 +29,7 @@ IsStopped map a op b (Busy holder) = IsAt Closed (known b.seat) × ((known b.sea
     ∷ undoing (known a.seat).number (due (known a.seat)) (Aborted (known a.seat).number)) b
 IsStopped map a op b (Refused refusal) =
     IsShort op refusal × IsAt Opened (known b.seat) × Moves map a [] b
+
+-- A call that takes every stripe was not done: it stopped as a look at some key does.
+abbrev pub IsCut : StripedMap → Hand → Hand → Stop → Type 0
+IsCut map a b stop = (key : ℕ) × IsStopped map a (Get key) b stop

@@ -6,7 +6,7 @@ ghost use Rattle.std.specs.Prelude.{◌≡◌, ◌≢◌, ℕ, ◌+◌, ◌-◌,
 ghost use Rattle.txn_trace.specs.declared.entry.Entry.TheVariants.{Began, Asked, Did, Saved, Leave, Returned, Committed};
 ghost use Rattle.txn_trace.specs.declared.seat.Phase.TheVariants.{Closed, Opened};
 ghost use Rattle.txn_trace.specs.Locks.{stripe_of};
-ghost use Rattle.txn_trace.specs.Map.{key_of};
+ghost use Rattle.txn_trace.specs.Map.{count_of, key_of};
 ghost use Rattle.txn_trace.specs.declared.refusal.Refusal.TheVariants.{NoMemory};
 ghost use Rattle.txn_trace.specs.Now.{now};
 ghost use Rattle.txn_trace.specs.Owed.{may_change};
@@ -20,6 +20,7 @@ ghost use Rattle.striped_map.specs.Sound.{AreHeld, AreLogged, IsSound, stripes_i
 ghost use Rattle.striped_map.specs.Steps.{IsAt, seat_of, undone, undoing};
 
 use crate::addition::Addition;
+use crate::contents;
 use crate::held::Held;
 use crate::map::{StripedMap, Taken};
 use crate::seat::MapSeat;
@@ -119,7 +120,7 @@ fn give_all(map: &StripedMap, seat: &mut MapSeat, held: &mut Vec<Held>)
 }
 
 impl Hand {
-    ghost use Rattle.striped_map.specs.Hands.{IsStopped, Moves};
+    ghost use Rattle.striped_map.specs.Hands.{IsCut, IsStopped, Moves};
 
     /// A hand that holds nothing, of a seat that has seen nothing.
     pub(crate) fn new(alloc: Global, seat: MapSeat) -> Hand
@@ -152,6 +153,7 @@ impl Hand {
     }
 
     /// Takes a stripe, unless it is held, and answers the place of its part.
+    #[tactic(auto, using(crate::proofs::Ends::holds_taken, crate::proofs::Ends::holds_found))]
     fn hold(&mut self, map: &StripedMap, stripe: usize) -> Result<usize, Stop>
         requires map { IsOf self.old.seat map.now }
         requires open { IsAt Opened (known self.old.seat) }
@@ -161,6 +163,8 @@ impl Hand {
         ensures moves { Moves map.now self.old [] self.new }
         ensures held { IfOk result (λ place. slice_get (stripes_in self.new.held.items) place
             ≡ Some stripe) }
+        ensures keeps { (other : ℕ) → Holds (known self.old.seat) other
+            → Holds (known self.new.seat) other }
         ensures order { self.new.order ≡ self.old.order }
         ensures miss { IfErr result (IsMiss (known self.new.seat)) }
     {
@@ -178,6 +182,69 @@ impl Hand {
             }
             Taken::Denied(holder) => Err(Stop::Busy { holder }),
         }
+    }
+
+    /// Takes all stripes that are not held. A busy one ends the transaction as a look at a key of
+    /// it does.
+    #[tactic(auto, using(crate::proofs::Ends::moved_still, crate::proofs::Ends::moved_on, crate::proofs::Ends::moved_busy))]
+    fn hold_all(&mut self, map: &StripedMap) -> Result<(), Stop>
+        requires map { IsOf self.old.seat map.now }
+        requires open { IsAt Opened (known self.old.seat) }
+        ensures map { IsOf self.new.seat map.now }
+        ensures ok { OnOk result (IsAt Opened (known self.new.seat)
+            × Moves map.now self.old [] self.new) }
+        ensures all { OnOk result ((stripe : ℕ) → stripe < stripes_of map.now
+            → Holds (known self.new.seat) stripe) }
+        ensures err { IfErr result (IsCut map.now self.old self.new) }
+    {
+        for stripe in 0..map.stripes() {
+            match self.hold(map, stripe) {
+                Ok(_) => {}
+                Err(Stop::Busy { holder }) => {
+                    self.leave(map, Addition::Yield(Op::Get(stripe as u64), holder));
+                    return Err(Stop::Busy { holder });
+                }
+                Err(Stop::Refused(refusal)) => return Err(Stop::Refused(refusal)),
+            }
+        }
+        Ok(())
+    }
+
+    /// Takes all stripes, and answers how many pairs the map has.
+    pub(crate) fn len(&mut self, map: &StripedMap) -> Result<u64, Stop>
+        requires map { IsOf self.old.seat map.now }
+        requires open { IsAt Opened (known self.old.seat) }
+        ensures map { IsOf self.new.seat map.now }
+        ensures ok { IfOk result (λ count. IsAt Opened (known self.new.seat)
+            × Moves map.now self.old [] self.new
+            × (count ≡ count_of (now (known self.new.seat).seen))) }
+        ensures err { IfErr result (IsCut map.now self.old self.new) }
+    {
+        self.hold_all(map)?;
+        let Some(count) = contents::count_of(&self.held) else {
+            return Err(Stop::Refused(Refusal::NoMemory));
+        };
+        Ok(count)
+    }
+
+    /// Takes all stripes, and answers the pairs of the map, rising by key.
+    pub(crate) fn pairs(&mut self, map: &StripedMap, alloc: Global) -> Result<Vec<(u64, u64)>, Stop>
+        requires map { IsOf self.old.seat map.now }
+        requires open { IsAt Opened (known self.old.seat) }
+        ensures map { IsOf self.new.seat map.now }
+        ensures ok { IfOk result (λ pairs. IsAt Opened (known self.new.seat)
+            × Moves map.now self.old [] self.new
+            × (pairs.items ≡ (now (known self.new.seat).seen).rows)) }
+        ensures err { IfErr result (IsCut map.now self.old self.new) }
+    {
+        self.hold_all(map)?;
+        let Ok(mut pairs) = contents::pairs_of(alloc, map.stripes() as u64, &self.held) else {
+            return Err(Stop::Refused(Refusal::NoMemory));
+        };
+        let Ok(()) = pairs.sort() else {
+            return Err(Stop::Refused(Refusal::NoMemory));
+        };
+        Ok(pairs)
     }
 
     /// Does an operation on the part at a place, and notes it.
