@@ -9,6 +9,8 @@
 #[cfg(test)]
 mod devices;
 #[cfg(test)]
+mod gate_tests;
+#[cfg(test)]
 mod lock_tests;
 #[cfg(test)]
 mod map_tests;

@@ -1,0 +1,170 @@
+//! The calls of a gate, all of them and in their order, against tables made by hand: no contract
+//! counts the calls of a caller's own type.
+use crate::run_tests::{await_flag, put, run, scripts_of};
+use std::alloc::{AllocError, Global};
+use std::process::Abort;
+use std::sync::atomic::{AtomicBool, Ordering};
+use std::sync::{Mutex, Wait};
+use std::test::Fail;
+use std::thread::Threads;
+use std::time::Clock;
+use thread_runs::Gate;
+use txn_trace::{Action, Op, Refusal, Script};
+
+/// A call of a gate.
+#[derive(Clone, Copy, Debug, PartialEq, Eq)]
+enum Heard {
+    /// A worker is about to do an action of a script.
+    Before(usize, usize, usize),
+    /// A script has its outcome.
+    Done(usize),
+    /// A worker has let go of the lock.
+    Freed(usize),
+}
+
+impl Heard {
+    /// The worker whose call this is, of so many workers.
+    fn worker(self, workers: usize) -> usize {
+        match self {
+            Heard::Before(worker, _, _) | Heard::Freed(worker) => worker,
+            Heard::Done(script) if workers > 0 => script % workers,
+            Heard::Done(_) => 0,
+        }
+    }
+}
+
+/// A gate that notes its calls. Worker 1 waits before its first action until script 0 is done.
+#[derive(Drop)]
+struct Listener<'a, R: Wait + Abort + Clock + Sync> {
+    rt: &'a R,
+    heard: Mutex<Vec<Heard>>,
+    is_done: AtomicBool,
+}
+
+impl<R: Wait + Abort + Clock + Sync> Gate for Listener<'_, R> {
+    fn before(&self, worker: usize, script: usize, action: usize) {
+        let call = Heard::Before(worker, script, action);
+        let noted = self.heard.lock(self.rt).push(call);
+        assert!(self.rt; noted.is_ok(), "memory");
+        if worker == 1 && action == 0 {
+            await_flag(self.rt, &self.is_done);
+        }
+    }
+
+    fn done(&self, script: usize) {
+        let noted = self.heard.lock(self.rt).push(Heard::Done(script));
+        assert!(self.rt; noted.is_ok(), "memory");
+        if script == 0 {
+            self.is_done.store(true, Ordering::SeqCst);
+        }
+    }
+
+    fn freed(&self, worker: usize) {
+        let noted = self.heard.lock(self.rt).push(Heard::Freed(worker));
+        assert!(self.rt; noted.is_ok(), "memory");
+    }
+}
+
+/// The calls that a gate hears in a run on so many workers.
+fn heard_of<R: Threads + Wait + Abort + Clock + Sync>(
+    rt: &R,
+    alloc: Global,
+    scripts: &[Script],
+    workers: u64,
+) -> Result<Vec<Heard>, Refusal> {
+    let listener = Listener {
+        rt,
+        heard: Mutex::new(Vec::new(alloc)),
+        is_done: AtomicBool::new(false),
+    };
+    run(rt, alloc, scripts, workers, 8, 0, &listener)?;
+    Ok(listener.heard.into_inner())
+}
+
+/// The calls of one worker.
+fn own(
+    alloc: Global,
+    heard: &[Heard],
+    worker: usize,
+    workers: usize,
+) -> Result<Vec<Heard>, AllocError> {
+    let mut own = Vec::new(alloc);
+    for &call in heard {
+        if call.worker(workers) == worker {
+            own.push(call)?;
+        }
+    }
+    Ok(own)
+}
+
+/// Whether just these calls were heard, each so often in a row.
+fn is_heard(heard: &[Heard], wanted: &[(Heard, usize)]) -> bool {
+    let mut rest = heard;
+    for &(call, times) in wanted {
+        for _ in 0..times {
+            let Some((first, more)) = rest.split_first() else {
+                return false;
+            };
+            if *first != call {
+                return false;
+            }
+            rest = more;
+        }
+    }
+    rest.is_empty()
+}
+
+/// A begin and a commit are one hold each, an operation three; an abort is three, and two for the
+/// change that it takes back.
+#[test]
+fn one_worker_is_heard(rt: HostRuntime) -> Result<(), Fail> {
+    let first = [put(1, 10), Action::Op(Op::Get(9))];
+    let second = [Action::Op(Op::Take(1)), Action::Abort];
+    let lists = [first.as_slice(), second.as_slice()];
+    let scripts = scripts_of(rt.alloc(), lists.as_slice())?;
+    let heard = heard_of(&rt, rt.alloc(), scripts.as_slice(), 1)?;
+    let wanted = [
+        (Heard::Freed(0), 1),
+        (Heard::Before(0, 0, 0), 1),
+        (Heard::Freed(0), 3),
+        (Heard::Before(0, 0, 1), 1),
+        (Heard::Freed(0), 3),
+        (Heard::Before(0, 0, 2), 1),
+        (Heard::Freed(0), 1),
+        (Heard::Done(0), 1),
+        (Heard::Freed(0), 1),
+        (Heard::Before(0, 1, 0), 1),
+        (Heard::Freed(0), 3),
+        (Heard::Before(0, 1, 1), 1),
+        (Heard::Freed(0), 5),
+        (Heard::Done(1), 1),
+    ];
+    assert!(&rt; is_heard(heard.as_slice(), wanted.as_slice()));
+    Ok(())
+}
+
+/// Of two workers, one after the other, each has its own calls.
+#[test]
+fn two_workers_are_heard(rt: HostRuntime) -> Result<(), Fail> {
+    let first = [put(1, 10)];
+    let second = [put(2, 20)];
+    let lists = [first.as_slice(), second.as_slice()];
+    let scripts = scripts_of(rt.alloc(), lists.as_slice())?;
+    let heard = heard_of(&rt, rt.alloc(), scripts.as_slice(), 2)?;
+    for worker in 0..2 {
+        let wanted = [
+            (Heard::Freed(worker), 1),
+            (Heard::Before(worker, worker, 0), 1),
+            (Heard::Freed(worker), 3),
+            (Heard::Before(worker, worker, 1), 1),
+            (Heard::Freed(worker), 1),
+            (Heard::Done(worker), 1),
+        ];
+        let own = own(rt.alloc(), heard.as_slice(), worker, 2)?;
+        assert!(&rt;
+            is_heard(own.as_slice(), wanted.as_slice()),
+            "worker {worker}"
+        );
+    }
+    Ok(())
+}
