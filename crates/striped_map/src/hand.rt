@@ -17,7 +17,7 @@ ghost use Rattle.striped_map.specs.Lone.{RunsAlone};
 ghost use Rattle.striped_map.specs.Rule.{Holds};
 ghost use Rattle.striped_map.specs.Seats.{IsOf, known, stripes_of};
 ghost use Rattle.striped_map.specs.Sound.{AreHeld, AreLogged, IsSound, stripes_in};
-ghost use Rattle.striped_map.specs.Steps.{IsAt, seat_of, undone, undoing};
+ghost use Rattle.striped_map.specs.Steps.{HasAll, IsAt, SeesIn, seat_of, taken_in, undone, undoing};
 
 use crate::addition::Addition;
 use crate::contents;
@@ -120,13 +120,12 @@ fn give_all(map: &StripedMap, seat: &mut MapSeat, held: &mut Vec<Held>)
 }
 
 impl Hand {
-    ghost use Rattle.striped_map.specs.Hands.{IsCut, IsStopped, Moves};
+    ghost use Rattle.striped_map.specs.Hands.{AreLeft, IsCut, IsStopped, IsUnread, Moves};
 
     /// A hand that holds nothing, of a seat that has seen nothing.
     pub(crate) fn new(alloc: Global, seat: MapSeat) -> Hand
         requires seen { (known seat).seen ≡ [] }
         requires held { (known seat).held ≡ [] }
-        requires retired { (known seat).retired ≡ [] }
         ensures { result.seat ≡ seat }
     {
         Hand {
@@ -235,6 +234,8 @@ impl Hand {
         ensures ok { IfOk result (λ pairs. IsAt Opened (known self.new.seat)
             × Moves map.now self.old [] self.new
             × (pairs.items ≡ (now (known self.new.seat).seen).rows)) }
+        ensures all { OnOk result ((stripe : ℕ) → stripe < stripes_of map.now
+            → Holds (known self.new.seat) stripe) }
         ensures err { IfErr result (IsCut map.now self.old self.new) }
     {
         self.hold_all(map)?;
@@ -245,6 +246,57 @@ impl Hand {
             return Err(Stop::Refused(Refusal::NoMemory));
         };
         Ok(pairs)
+    }
+
+    /// Looks at the history, which has all entries of the seats that were taken in.
+    pub(crate) fn gather(&mut self, map: &StripedMap)
+        requires map { IsOf self.old.seat map.now }
+        ensures map { IsOf self.new.seat map.now }
+        ensures sees { SeesIn (stripes_of map.now) (known self.old.seat) (known self.new.seat) }
+        ensures all { HasAll (known self.old.seat) (known self.new.seat).seen }
+    {
+        map.gather(&mut self.seat);
+    }
+
+    /// Takes in another seat that holds nothing, and which acts no more.
+    pub(crate) fn take_in(&mut self, map: &StripedMap, other: MapSeat)
+        requires map { IsOf self.old.seat map.now }
+        requires other { IsOf other map.now }
+        requires first { (known self.old.seat).number ≡ 0 }
+        requires idle { (known other).held ≡ [] }
+        requires plain { (known other).retired ≡ [] }
+        ensures map { IsOf self.new.seat map.now }
+        ensures taken { known self.new.seat ≡ taken_in (known self.old.seat) (known other) }
+    {
+        map.take_in(&mut self.seat, other);
+    }
+
+    /// Answers the pairs of the map in a transaction of its own, which it takes back.
+    pub(crate) fn read(&mut self, map: &StripedMap, alloc: Global) -> Result<Vec<(u64, u64)>, Stop>
+        requires map { IsOf self.old.seat map.now }
+        requires closed { IsAt Closed (known self.old.seat) }
+        requires idle { (known self.old.seat).held ≡ [] }
+        ensures map { IsOf self.new.seat map.now }
+        ensures closed { IsAt Closed (known self.new.seat) }
+        ensures idle { (known self.new.seat).held ≡ [] }
+        ensures number { (known self.new.seat).number ≡ (known self.old.seat).number }
+        ensures retired { (known self.new.seat).retired ≡ (known self.old.seat).retired }
+        ensures ok { IfOk result (λ pairs. AreLeft map.now self.old self.new pairs.items) }
+        ensures err { IfErr result (IsUnread map.now self.old self.new) }
+    {
+        self.begin(map);
+        match self.pairs(map, alloc) {
+            Ok(pairs) => {
+                self.gather(map);
+                self.leave(map, Addition::Abort);
+                Ok(pairs)
+            }
+            Err(Stop::Busy { holder }) => Err(Stop::Busy { holder }),
+            Err(Stop::Refused(refusal)) => {
+                self.leave(map, Addition::Abort);
+                Err(Stop::Refused(refusal))
+            }
+        }
     }
 
     /// Does an operation on the part at a place, and notes it.

@@ -52,5 +52,5 @@ pub fn open_map(
         let seat = map.seat(&mut first, place + 1);
         all.push_reserved(Caller::new(alloc, owned, seat));
     }
-    Ok((Host::new(map, first), all))
+    Ok((Host::new(alloc, map, first), all))
 }
