@@ -1,6 +1,6 @@
 -- What the calls on a striped map do to a handle, by the member that it owns before and after: an
 -- empty handle is told so, and stays empty.
-use Rattle.std.specs.Prelude.{◌≡◌, ℕ, ◌+◌, ◌<◌, ◌&&◌, nat_le, Bool, true, [], ◌∷◌, ◌++◌, length, Option, Some, None, Result, Ok, Err, if◌then◌else◌}
+use Rattle.std.specs.Prelude.{◌≡◌, ℕ, ◌+◌, ◌<◌, ◌&&◌, nat_le, Bool, true, [], ◌∷◌, ◌++◌, length, Option, Some, None, Result, if◌then◌else◌}
 use Rattle.std.specs.List.{HoldsAt}
 use Rattle.txn_trace.specs.declared.refusal.Refusal.TheVariants.{NoMemory, NoSuchCaller, Limit}
 use Rattle.striped_map.specs.declared.caller.Caller.{Caller}
