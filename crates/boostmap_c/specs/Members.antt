@@ -74,8 +74,8 @@ Opens (Some old) callers stripes status before after new =
 abbrev pub IsSame : Member → Member → Type 0
 IsSame old new = (new.caller ≡ old.caller) × (new.waiting.items ≡ old.waiting.items)
 
--- The last caller that waits gets a member of its own, for whom nobody waits; or none does, since
--- nobody waits or memory is refused.
+-- The last caller that waits gets a member of its own, beside which nobody waits, and the word is how
+-- many waited: by `IsFirst` its number. Or none does, since nobody waits or memory is refused.
 abbrev pub JoinsOf : Member → ℕ → ℕ → ℕ → Member → Option Member → Type 0
 JoinsOf old status before after new (Some made) =
     (new.caller ≡ old.caller) × (old.waiting.items ≡ new.waiting.items ++ made.caller ∷ [])
