@@ -37,7 +37,7 @@
  *     transaction is over: aborted already, with all its changes taken back.
  *
  *     Every call returns a status. Most take a `word`: BOOSTMAP_DONE and BOOSTMAP_BUSY write it,
- *     no other status does.
+ *     and no other status does unless its call says so.
  *
  * OWNERSHIP
  *     A `boostmap` is memory of the program's, 16 bytes, all zeros at first (BOOSTMAP_INIT).
@@ -64,7 +64,8 @@
  *     3. One call at a time on one handle, ordered as above.         two at once corrupt the map;
  *                                                                    boostmap_checked.h answers it
  *     4. A copy of a handle is not used after the other was freed.   use after free
- *     5. An array has as many elements as its count says.            reads or writes beyond it
+ *     5. An array has as many elements as its count says, and is     reads or writes beyond it
+ *        not null, for no element either.
  *     6. No call from a signal handler, or from the forked child of a process with threads.
  *     7. malloc, realloc and free come from one allocator and align to 16, as any C library's.
  *
@@ -318,6 +319,11 @@ boostmap_status boostmap_judge_new(boostmap_judge *judge, uint64_t stripes, uint
 /* The next entry. It was not fed unless the answer is 0; after 30 it may be fed again. After the
  * first entry that breaks a rule no further one changes the verdict.    0; 3; 8; 30 */
 boostmap_status boostmap_judge_feed(boostmap_judge *judge, const boostmap_entry *entry);
+
+/* The entries of an array, in their order, up to the first that is not fed; *word: how many were fed.
+ * 0; 3, which writes no word; 8 and 30, of the entry with the index *word */
+boostmap_status boostmap_judge_feed_all(boostmap_judge *judge, const boostmap_entry *entries, size_t count,
+                                        uint64_t *word);
 
 /* The verdict on the entries so far.    0; 3 */
 boostmap_status boostmap_judge_verdict(boostmap_judge *judge, boostmap_verdict *verdict);

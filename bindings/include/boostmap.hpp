@@ -292,6 +292,13 @@ public:
 
     void feed(const boostmap_entry &entry) { told(boostmap_judge_feed(&handle_, &entry), 0); }
 
+    // Feeds entries that lie in memory; what throws has fed those before.
+    void feed(const std::vector<boostmap_entry> &entries) {
+        std::uint64_t count = 0;
+        if (entries.empty()) return;
+        told(boostmap_judge_feed_all(&handle_, entries.data(), entries.size(), &count), 0);
+    }
+
     boostmap_verdict verdict() {
         boostmap_verdict verdict = {};
         told(boostmap_judge_verdict(&handle_, &verdict), 0);

@@ -83,8 +83,9 @@ def _load():
     library.boostmap_striped_join.argtypes = [_HANDLE, _HANDLE, _WORD]
     library.boostmap_judge_new.argtypes = [_HANDLE, _U64, ctypes.c_uint32]
     library.boostmap_judge_feed.argtypes = [_HANDLE, ctypes.POINTER(_Entry)]
+    library.boostmap_judge_feed_all.argtypes = [_HANDLE, ctypes.POINTER(_Entry), ctypes.c_size_t, _WORD]
     library.boostmap_judge_verdict.argtypes = [_HANDLE, ctypes.POINTER(_Verdict)]
-    for name in ("read", "striped_join", "judge_new", "judge_feed", "judge_verdict"):
+    for name in ("read", "striped_join", "judge_new", "judge_feed", "judge_feed_all", "judge_verdict"):
         getattr(library, "boostmap_" + name).restype = ctypes.c_uint32
     return library
 
@@ -364,6 +365,14 @@ class Judge(_Owned):
         with self._lock:
             status = _library.boostmap_judge_feed(self._handle, entry)
         _told(status, _U64(0))
+
+    def feed_all(self, entries):
+        """Feeds entries in their order; where one raises, those before it are fed."""
+        entries, word = [entry._to_c() for entry in entries], _U64(0)
+        array = (_Entry * max(len(entries), 1))(*entries)
+        with self._lock:
+            status = _library.boostmap_judge_feed_all(self._handle, array, len(entries), word)
+        _told(status, word)
 
     def verdict(self):
         """The verdict on the entries so far."""

@@ -27,8 +27,9 @@ static uint32_t rule = BOOSTMAP_HOLDER_NOW;
 static boostmap_verdict judged(const boostmap_entry *entries, size_t count) {
     boostmap_judge judge = BOOSTMAP_INIT;
     boostmap_verdict verdict;
+    uint64_t fed;
     CHECK(boostmap_judge_new(&judge, STRIPES, rule) == BOOSTMAP_DONE);
-    for (size_t i = 0; i < count; i++) CHECK(boostmap_judge_feed(&judge, &entries[i]) == BOOSTMAP_DONE);
+    CHECK(boostmap_judge_feed_all(&judge, entries, count, &fed) == BOOSTMAP_DONE && fed == count);
     CHECK(boostmap_judge_verdict(&judge, &verdict) == BOOSTMAP_DONE);
     CHECK(boostmap_judge_free(&judge) == BOOSTMAP_DONE);
     return verdict;
@@ -48,7 +49,9 @@ static void statuses(void) {
     boostmap_entry first = began(0, 1), none = of_kind(11, 0), no_operation = asked(0, 5, 1, 1), far = began(64, 1);
     memset(&untouched, 77, sizeof untouched);
     verdict = untouched;
+    uint64_t word = 77;
     CHECK(boostmap_judge_feed(&judge, &first) == BOOSTMAP_EMPTY);
+    CHECK(boostmap_judge_feed_all(&judge, &first, 1, &word) == BOOSTMAP_EMPTY && word == 77);
     CHECK(boostmap_judge_verdict(&judge, &verdict) == BOOSTMAP_EMPTY);
     CHECK(!memcmp(&verdict, &untouched, sizeof verdict));
     CHECK(boostmap_judge_free(&judge) == BOOSTMAP_EMPTY);
@@ -64,13 +67,20 @@ static void statuses(void) {
     CHECK(boostmap_judge_feed(&judge, &first) == BOOSTMAP_DONE);
     CHECK(boostmap_judge_verdict(&judge, &verdict) == BOOSTMAP_DONE);
     is_legal(verdict, 0, 1);
+    boostmap_entry array[] = {asked(0, BOOSTMAP_GET, 1, 0), did(0, 0, 0), none, committed(0, 1)};
+    CHECK(boostmap_judge_feed_all(&judge, array, 4, &word) == BOOSTMAP_NO_ENTRY && word == 2);
+    CHECK(boostmap_judge_feed_all(&judge, array + 3, 1, &word) == BOOSTMAP_DONE && word == 1);
+    CHECK(boostmap_judge_feed_all(&judge, array, 0, &word) == BOOSTMAP_DONE && word == 0);
+    CHECK(boostmap_judge_verdict(&judge, &verdict) == BOOSTMAP_DONE);
+    is_legal(verdict, 1, 0);
     CHECK(boostmap_judge_free(&judge) == BOOSTMAP_DONE);
     CHECK(boostmap_judge_free(&judge) == BOOSTMAP_EMPTY);
 }
 
 /* By hand: the rules of docs/JUDGE.md, each kept and broken. */
 static void by_hand(void) {
-    is_legal(judged(0, 0), 0, 0);
+    boostmap_entry none = began(0, 1);
+    is_legal(judged(&none, 0), 0, 0);
     is_legal(JUDGED(began(0, 1), asked(0, BOOSTMAP_PUT, 3, 30), did(0, 0, 0), committed(0, 1), began(1, 2),
                     asked(1, BOOSTMAP_TAKE, 3, 0), did(1, 1, 30), committed(1, 2)), 2, 0);
     is_legal(JUDGED(began(0, 1), asked(0, BOOSTMAP_GET, 3, 0), did(0, 0, 0), began(1, 2), busy(1, 3 + STRIPES, 0),

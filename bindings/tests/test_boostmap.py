@@ -187,11 +187,14 @@ class Judges(unittest.TestCase):
             Entry("committed", 1, number=2),
         ]
         with Judge(stripes=8) as by_locks, Judge(by_commits=True) as by_commits:
-            for entry in entries:
-                by_locks.feed(entry)
-                by_commits.feed(entry)
+            by_locks.feed_all(entries)
+            by_commits.feed_all(entries)
+            by_commits.feed_all([])
+            with self.assertRaises(Refused) as refused:
+                by_commits.feed_all([Entry("began", 0, number=3), Entry("saved", 64)])
+            self.assertEqual(refused.exception.status, 8)
             self.assertEqual(by_locks.verdict(), Verdict(False, None, None, 4, "locks"))
-            self.assertEqual(by_commits.verdict(), Verdict(True, 2, 0, None, None))
+            self.assertEqual(by_commits.verdict(), Verdict(True, 2, 1, None, None))
 
 
 if __name__ == "__main__":

@@ -127,11 +127,11 @@ static void of_judges() {
     // Two readers of one key: against the rule of locks, and serializable.
     judge by_locks(8), by_commits(0, BOOSTMAP_BY_COMMITS);
     auto get = [](std::uint64_t caller) { return entry::asked(caller, BOOSTMAP_GET, 3); };
-    for (const auto &e : {entry::began(0, 1), entry::began(1, 2), get(0), entry::did(0, std::nullopt), get(1),
-                          entry::did(1, std::nullopt), entry::committed(0, 1), entry::committed(1, 2)}) {
-        by_locks.feed(e);
-        by_commits.feed(e);
-    }
+    const std::vector<boostmap_entry> entries = {
+        entry::began(0, 1), entry::began(1, 2), get(0), entry::did(0, std::nullopt), get(1),
+        entry::did(1, std::nullopt), entry::committed(0, 1), entry::committed(1, 2)};
+    by_locks.feed(entries);
+    by_commits.feed(entries);
     CHECK(!by_locks.verdict().is_legal && by_locks.verdict().entry == 4 && by_locks.verdict().rule == 2);
     CHECK(by_commits.verdict().is_legal && by_commits.verdict().commits == 2);
 }

@@ -2,6 +2,7 @@
 // docs/speed/c.sh. Usage: c_map WHICH KEYS TRANSACTIONS [THREADS], where WHICH is
 //   map, twin          one caller, over the map of one owner, and over a map without stripes
 //   striped, stripes   each thread a caller, over the striped map, and over a map and a mutex a stripe
+//   bench              one caller of 1,024 stripes, with the draws of `bench striped 1 KEYS TRANSACTIONS`
 //   crossing, refusal  calls that do next to nothing: of boostmap_count, and of a begin that is refused
 // A transaction is four operations, half of them puts, a quarter takes and a quarter gets, and every
 // tenth aborts; one that finds a stripe held aborts and is run again. Threads have keys of their own,
@@ -94,13 +95,13 @@ class striped {
     boostmap_caller caller_ = BOOSTMAP_INIT;
 
 public:
-    static std::vector<std::unique_ptr<striped>> open(word threads) {
+    static std::vector<std::unique_ptr<striped>> open(word threads, word stripes = STRIPES) {
         std::vector<std::unique_ptr<striped>> all;
         word w;
         for (word i = 0; i < threads; i++) {
             all.push_back(std::make_unique<striped>());
             all[0]->ok(i ? boostmap_striped_join(&all[0]->caller_, &all[i]->caller_, &w)
-                         : boostmap_striped_open(&all[0]->caller_, threads, STRIPES, &w));
+                         : boostmap_striped_open(&all[0]->caller_, threads, stripes, &w));
         }
         return all;
     }
@@ -283,6 +284,33 @@ template <class Map> static void in_threads(word keys, word count, word threads)
     print(began, count / threads * threads, sum);
 }
 
+// The transactions that the program `bench` makes inside Rattle, by the same draws.
+static void as_bench(word keys, word count) {
+    auto callers = striped::open(1, 1024);
+    striped &map = *callers[0];
+    word seed = 0, sum = 0;
+    for (word key = 0; key < keys; key++) {
+        if (key % 3 == 0) continue;
+        map.begin();
+        map.put(key, key);
+        map.commit();
+    }
+    double began = nanoseconds();
+    for (word t = 0; t < count; t++) {
+        word key[4], kind[4];
+        for (int i = 0; i < 4; i++) {
+            key[i] = drawn(seed) % keys;
+            kind[i] = drawn(seed) % 4;
+        }
+        map.begin();
+        for (int i = 0; i < 4; i++)
+            sum += kind[i] < 2 ? map.put(key[i], key[i] + 1) : kind[i] == 2 ? map.take(key[i]) : map.get(key[i]);
+        if (t % 10 == 9) map.abort();
+        else map.commit();
+    }
+    print(began, count, sum);
+}
+
 // A call that does next to nothing: what a crossing costs.
 static void crossing(word count) {
     library map;
@@ -309,6 +337,7 @@ int main(int argc, char **argv) {
     else if (!std::strcmp(argv[1], "twin")) transactions<twin>(keys, count);
     else if (!std::strcmp(argv[1], "striped")) in_threads<striped>(keys, count, threads);
     else if (!std::strcmp(argv[1], "stripes")) in_threads<stripes>(keys, count, threads);
+    else if (!std::strcmp(argv[1], "bench")) as_bench(keys, count);
     else if (!std::strcmp(argv[1], "crossing")) crossing(count);
     else refusal(count);
 }

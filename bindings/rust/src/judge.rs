@@ -175,6 +175,22 @@ impl Judge {
         }
     }
 
+    /// Feeds entries in their order, up to the first that is not fed.
+    ///
+    /// # Errors
+    ///
+    /// Those of `feed`; the entries before that one are fed.
+    pub fn feed_all(&mut self, entries: &[Entry]) -> Result<()> {
+        let entries: Vec<sys::Entry> = entries.iter().map(|entry| entry.to_c()).collect();
+        let mut fed = 0;
+        // SAFETY: the handle is live, the array has as many entries as its length says, and the word is
+        // a unique borrow.
+        match unsafe { sys::boostmap_judge_feed_all(&mut self.0, entries.as_ptr(), entries.len(), &mut fed) } {
+            sys::DONE => Ok(()),
+            status => Err(Error::from_status(status, 0)),
+        }
+    }
+
     /// The verdict on the entries so far.
     pub fn verdict(&mut self) -> Verdict {
         let mut told = sys::Verdict::default();

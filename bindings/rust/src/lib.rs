@@ -129,6 +129,7 @@ mod sys {
 
         pub fn boostmap_judge_new(judge: *mut Handle, stripes: u64, holder: u32) -> u32;
         pub fn boostmap_judge_feed(judge: *mut Handle, entry: *const Entry) -> u32;
+        pub fn boostmap_judge_feed_all(judge: *mut Handle, entries: *const Entry, count: usize, word: *mut u64) -> u32;
         pub fn boostmap_judge_verdict(judge: *mut Handle, verdict: *mut Verdict) -> u32;
         pub fn boostmap_judge_free(judge: *mut Handle) -> u32;
     }

@@ -132,7 +132,7 @@ fn the_judge_names_the_first_bad_entry() -> Result<(), Error> {
 fn readers_of_one_key_are_serializable() -> Result<(), Error> {
     let get = Operation::Get { key: 3 };
     let (mut by_locks, mut by_commits) = (Judge::new(8, Holder::Now)?, Judge::by_commits()?);
-    for entry in [
+    let entries = [
         Entry::Began(0, 1),
         Entry::Began(1, 2),
         Entry::Asked(0, get),
@@ -141,11 +141,12 @@ fn readers_of_one_key_are_serializable() -> Result<(), Error> {
         Entry::Did(1, None),
         Entry::Committed(0, 1),
         Entry::Committed(1, 2),
-    ] {
-        by_locks.feed(entry)?;
-        by_commits.feed(entry)?;
-    }
+    ];
+    by_locks.feed_all(&entries)?;
+    by_commits.feed_all(&entries)?;
+    by_commits.feed_all(&[])?;
+    assert_eq!(by_commits.feed_all(&[Entry::Began(0, 3), Entry::Saved(64), Entry::Saved(1)]), Err(Error::NoEntry));
     assert_eq!(by_locks.verdict(), Verdict::Illegal { entry: 4, rule: Rule::Locks });
-    assert_eq!(by_commits.verdict(), Verdict::Legal { commits: 2, running: 0 });
+    assert_eq!(by_commits.verdict(), Verdict::Legal { commits: 2, running: 1 });
     Ok(())
 }

@@ -1,7 +1,6 @@
 -- What a call does to a judge, by the referee that its handle owns before and after.
-use Rattle.std.specs.Prelude.{◌≡◌, ℕ, zero, suc, nat_eq, ◌++◌, [], ◌∷◌, List, Option, Some, None, if◌then◌else◌}
+use Rattle.std.specs.Prelude.{◌≡◌, ℕ, zero, suc, nat_eq, [], ◌∷◌, List, length, take, slice_get, Option, Some, None, if◌then◌else◌}
 use Rattle.txn_trace.specs.declared.entry.Entry.{Entry}
-use Rattle.txn_trace.specs.declared.holder.Holder.{Holder}
 use Rattle.txn_trace.specs.declared.holder.Holder.TheVariants.{Now, Begun}
 use Rattle.txn_trace.specs.declared.refusal.Refusal.TheVariants.{Limit, NoMemory}
 use Rattle.history_check.specs.declared.verdict.Verdict.{Verdict}
@@ -60,6 +59,25 @@ abbrev pub Feeds : Option Referee → CEntry → ℕ → Option Referee → Type
 Feeds (Some old) e status (Some new) = FeedsEntry (judged_entry e) old status new
 Feeds None e status None = status ≡ empty
 Feeds old e status new = ⊥
+
+-- All these entries are fed, one after the other.
+abbrev pub FedAll : List CEntry → Referee → Referee → Type 0
+FedAll [] old new = new ≡ old
+FedAll (e ∷ entries) old new =
+    (between : Referee) × FeedsEntry (judged_entry e) old done between × FedAll entries between new
+
+-- All entries are fed, or those before the first that is not.
+abbrev pub FedFront : List CEntry → Referee → ℕ → ℕ → Referee → Type 0
+FedFront entries old zero count new = (count ≡ length entries) × FedAll entries old new
+FedFront entries old (suc status) count new =
+    (entry : CEntry) × (slice_get entries count ≡ Some entry)
+    × (between : Referee) × FedAll (take count entries) old between
+    × FeedsEntry (judged_entry entry) between (suc status) new
+
+abbrev pub FeedsAll : Option Referee → List CEntry → ℕ → ℕ → ℕ → Option Referee → Type 0
+FeedsAll (Some old) entries status before after (Some new) = FedFront entries old status after new
+FeedsAll None entries status before after None = (status ≡ empty) × (after ≡ before)
+FeedsAll old entries status before after new = ⊥
 
 -- The verdict is the one on whatever the referee was fed.
 abbrev pub Tells : Option Referee → ℕ → CVerdict → CVerdict → Option Referee → Type 0

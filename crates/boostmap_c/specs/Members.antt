@@ -1,6 +1,6 @@
 -- What the calls on a striped map do to a handle, by the member that it owns before and after: an
 -- empty handle is told so, and stays empty.
-use Rattle.std.specs.Prelude.{◌≡◌, ℕ, ◌+◌, ◌<◌, ◌&&◌, nat_le, Bool, true, [], ◌∷◌, ◌++◌, length, Option, Some, None, Result, Ok, Err, if◌then◌else◌}
+use Rattle.std.specs.Prelude.{◌≡◌, ℕ, ◌+◌, ◌<◌, ◌&&◌, nat_le, Bool, true, [], ◌∷◌, ◌++◌, length, Option, Some, None, Result, if◌then◌else◌}
 use Rattle.std.specs.List.{HoldsAt}
 use Rattle.txn_trace.specs.declared.refusal.Refusal.TheVariants.{NoMemory, NoSuchCaller, Limit}
 use Rattle.striped_map.specs.declared.caller.Caller.{Caller}
@@ -74,8 +74,8 @@ Opens (Some old) callers stripes status before after new =
 abbrev pub IsSame : Member → Member → Type 0
 IsSame old new = (new.caller ≡ old.caller) × (new.waiting.items ≡ old.waiting.items)
 
--- The last caller that waits gets a member of its own, for whom nobody waits; or none does, since
--- nobody waits or memory is refused.
+-- The last caller that waits gets a member of its own, beside which nobody waits, and the word is how
+-- many waited: by `IsFirst` its number. Or none does, since nobody waits or memory is refused.
 abbrev pub JoinsOf : Member → ℕ → ℕ → ℕ → Member → Option Member → Type 0
 JoinsOf old status before after new (Some made) =
     (new.caller ≡ old.caller) × (old.waiting.items ≡ new.waiting.items ++ made.caller ∷ [])

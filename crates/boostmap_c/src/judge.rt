@@ -1,7 +1,8 @@
 //! The judge of histories for C: a checker, of `history_check` or of `serial_check`, behind a handle of
 //! its own, fed entry by entry.
 ghost use Rattle.std.specs.Prelude.{◌≡◌, ◌<◌, Some, None, IfSome, IsNone, true, is_some};
-ghost use Rattle.boostmap_c.specs.Judges.{Begins, Feeds, Frees, Tells, verdict_of, way_for};
+ghost use Rattle.boostmap_c.specs.Judges.{Begins, FedFront, Feeds, FeedsAll, FeedsEntry, Frees, Tells, verdict_of, way_for};
+ghost use Rattle.boostmap_c.specs.Entries.{judged_entry};
 ghost use Rattle.boostmap_c.specs.Referees.{has_stripes};
 
 use crate::c_entry::CEntry;
@@ -122,6 +123,32 @@ fn verdict_of(verdict: Verdict) -> CVerdict
     }
 }
 
+/// Feeds an entry of C's, if it is any.
+fn feed_entry(referee: &mut Referee, entry: &CEntry) -> u32
+    ensures { FeedsEntry (judged_entry entry.now) referee.old result referee.new }
+{
+    match entry.judged() {
+        None => NO_ENTRY,
+        Some(entry) => match referee.feed(&entry) {
+            Ok(()) => DONE,
+            Err(_) => refused(Refusal::NoMemory),
+        },
+    }
+}
+
+/// Feeds entries up to the first that is not fed, and tells how many, and the status.
+fn feed_front(referee: &mut Referee, entries: &[CEntry]) -> (usize, u32)
+    ensures { FedFront entries.now referee.old result.1 result.0 referee.new }
+{
+    'feeds: for i in 0..entries.len() {
+        let status = feed_entry(referee, &entries[i]);
+        if status != DONE {
+            return (i, status);
+        }
+    }
+    (entries.len(), DONE)
+}
+
 /// Begins to judge the history of a map with this number of stripes, by a rule: by locks, where a Busy
 /// entry may name a caller that holds the stripe now (0), or one that has begun a transaction before
 /// (1); or by the order of commits (2), which takes no notice of stripes.
@@ -177,14 +204,38 @@ pub extern "C" fn boostmap_judge_feed(alloc: Global, judge: &mut Judge, entry: &
     let Some(mut referee) = open(alloc, judge) else {
         return EMPTY;
     };
-    let status = match entry.judged() {
-        None => NO_ENTRY,
-        Some(entry) => match referee.feed(&entry) {
-            Ok(()) => DONE,
-            Err(_) => refused(Refusal::NoMemory),
-        },
-    };
+    let status = feed_entry(&mut referee, entry);
     close(judge, referee);
+    status
+}
+
+/// Feeds the judge the entries of an array in their order, up to the first that is not fed; the word is
+/// how many were fed.
+///
+/// # Errors
+///
+/// Those of `boostmap_judge_feed`, of the entry whose index is the word; of an empty handle no word is
+/// written.
+///
+/// # Cost
+///
+/// That of `boostmap_judge_feed` for each entry.
+#[unsafe(no_mangle)]
+pub extern "C" fn boostmap_judge_feed_all(
+    alloc: Global,
+    judge: &mut Judge,
+    entries: &[CEntry],
+    word: &mut u64,
+) -> u32
+    ensures { FeedsAll judge.old.held.referee entries.now result word.old word.new
+        judge.new.held.referee }
+{
+    let Some(mut referee) = open(alloc, judge) else {
+        return EMPTY;
+    };
+    let (count, status) = feed_front(&mut referee, entries);
+    close(judge, referee);
+    *word = count as u64;
     status
 }
 
