@@ -1,0 +1,5 @@
+pub mod Parts
+pub mod Strides
+pub mod Following
+pub mod Starting
+pub mod Running
