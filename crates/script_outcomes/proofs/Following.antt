@@ -1,5 +1,5 @@
 -- The outcomes so far and a worker's way, after the first entries of a history.
-use Rattle.std.proofs.Common.{◌≡◌, ◌≢◌, ℕ, Option, zero, suc, ◌+◌, ◌%◌, ◌<◌, ◌≤◌, ◌×◌, ◌⊎◌, ◌==◌, ◌&&◌, Bool, true, false, cond, List, [], ◌∷◌, ◌++◌, length, take, drop, get_or, set, Some, None, refl, sym, ap, subst, ◌∙◌, inl, inr, arith}
+use Rattle.std.proofs.Common.{◌≡◌, ◌≢◌, ℕ, Option, zero, suc, ◌+◌, ◌%◌, ◌<◌, ◌≤◌, ◌⊎◌, ◌==◌, ◌&&◌, Bool, true, false, cond, List, [], ◌∷◌, ◌++◌, length, take, drop, get_or, set, Some, None, refl, sym, ap, subst, ◌∙◌, inl, inr, arith}
 use Rattle.std.specs.Prelude.{slice_get}
 use Rattle.std.specs.List.{fold}
 use Rattle.std.proofs.lemmas.Bool.{cases_lt, cases_order, cases_Bool, eqb-true, eq-eqb, false≢true}
@@ -67,7 +67,8 @@ known_on w scripts h c next turn fed next' turn' fed' os os' agree a b d known =
   ordered = λ n m o later less mn mm tn tm. known.ordered n m o later less mn mm (sym (agree n mn) ∙ tn) (sym (agree m mm) ∙ tm);
 }
 
-the_one : {X : Type 0} → X → Option X → X
+-- The element that there is.
+abbrev pub the_one : {X : Type 0} → X → Option X → X
 the_one d None = d
 the_one d (Some x) = x
 
@@ -239,7 +240,7 @@ module _ (w : ℕ) (scripts : List (List Action)) (h : List Entry) (c fed : ℕ)
           turn = on.turn_mine ∙ f.turn;
           order = on.order;
           known = known_written w scripts h c old.next old.turn fed new.next new.turn os os' number (Aborted fed) counts.counted within on.next on.turn (from, refl)
-              (λ script is. record { at = at ∙ ap (λ x. Some x) ends; did = subst (AbortsItself script) part_is (did script is.there) }) (counts.after, omega arith) f.known;
+              (λ script is. record { at = at ∙ ap (λ x. Some x) ends; did = subst (AbortsItself script) part_is (did script is.there) }) (counts.passed, omega arith) f.known;
           counted = λ play. let before = f.counted play in (
             quiet_play quiet same before.0,
             counted_on os os' before.1 (kept number (Aborted fed) counts.counted low) (λ place is. absurd (no_commit quiet place is)),
@@ -270,7 +271,7 @@ module _ (w : ℕ) (scripts : List (List Action)) (h : List Entry) (c fed : ℕ)
           turn = on.turn_mine ∙ f.turn;
           order = on.order;
           known = known_written w scripts h c old.next old.turn fed new.next new.turn os os' number (Committed place fed) counts.counted within on.next on.turn (first.from, refl)
-              (λ script is. record { at = at ∙ ap (λ x. Some x) ends; plays = subst (IsPlayed script) part_is (first.plays script is.there) }) (counts.after, omega arith) f.known;
+              (λ script is. record { at = at ∙ ap (λ x. Some x) ends; plays = subst (IsPlayed script) part_is (first.plays script is.there) }) (counts.passed, omega arith) f.known;
           counted = λ play.
               let before = f.counted play in
               let here = commit_play place ends before.0 in

@@ -3,3 +3,5 @@ pub mod Strides
 pub mod Following
 pub mod Starting
 pub mod Running
+pub mod Searching
+pub mod Counting

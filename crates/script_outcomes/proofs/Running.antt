@@ -1,7 +1,8 @@
 -- One entry more of a history.
-use Rattle.std.proofs.Common.{◌≡◌, ◌≢◌, ℕ, zero, suc, ◌+◌, ◌%◌, ◌<◌, ◌≤◌, ◌×◌, ◌⊎◌, ◌==◌, Bool, true, false, List, [], ◌∷◌, length, set, Some, None, Option, refl, sym, ap, subst, ◌∙◌, inl, inr, arith, length-set}
+use Rattle.std.proofs.Common.{◌≡◌, ◌≢◌, ℕ, zero, suc, ◌+◌, ◌%◌, ◌<◌, ◌≤◌, ◌⊎◌, ◌==◌, Bool, true, false, List, [], ◌∷◌, ◌++◌, length, take, drop, set, Some, None, Option, refl, sym, ap, subst, ◌∙◌, inl, inr, arith, length-set}
 use Rattle.std.specs.Prelude.{slice_get}
 use Rattle.std.proofs.lemmas.Bool.{cases_order, eqb-true, cases_Bool}
+use Rattle.std.proofs.lemmas.List.{take_all, drop_all, append-nil}
 use Rattle.std.proofs.lemmas.Option.{slice_get_within}
 use Rattle.txn_trace.specs.declared.action.Action.{Action}
 use Rattle.txn_trace.specs.declared.entry.Entry.{Entry}
@@ -10,7 +11,7 @@ use Rattle.txn_trace.specs.History.{caller_of}
 use Rattle.script_outcomes.specs.declared.outcome.Outcome.{Outcome}
 use Rattle.script_outcomes.specs.declared.way.Way.{Way}
 use Rattle.script_outcomes.specs.Ways.{CountsAt, Counts, Goes, MayCount}
-use Rattle.script_outcomes.proofs.Following.{Follows, AllFollow, own_follows, other_follows, get-set_same, get-set_other}
+use Rattle.script_outcomes.proofs.Following.{Follows, AllFollow, own_follows, other_follows, get-set_same, get-set_other, the_one}
 
 apart : (n m : ℕ) → n ≢ m → (n == m) ≡ false
 apart n m not = elim (cases_Bool (n == m)) [ inl is ↦ absurd (not (eqb-true n m is)) | inr is ↦ is ]
@@ -30,7 +31,11 @@ writes_own w scripts e entry part old new os os' next turn counts = inl counts.1
 
 module _ (w : ℕ) (scripts : List (List Action)) (h : List Entry) (fed : ℕ) (e : Entry) (at : slice_get h fed ≡ Some e) (os : List Outcome) (ways : List Way) (all : AllFollow w scripts h fed os ways) where
   pub may_count : (way : Way) → slice_get ways (caller_of e) ≡ Some way → MayCount w scripts way os
-  may_count way there = let f = all.each (caller_of e) way there in record { one_each = all.one_each; order = f.order; mine = f.next ∙ sym f.turn }
+  may_count way there =
+      let f = all.each (caller_of e) way there in
+      let inside = slice_get_within ways (caller_of e) way there in
+      let size = all.size in
+      record { some = omega arith; one_each = all.one_each; order = f.order; mine = f.next ∙ sym f.turn }
 
   -- The entry is of no worker.
   pub all_skip : length ways ≤ caller_of e → AllFollow w scripts h (fed + 1) os ways
@@ -64,10 +69,6 @@ module _ (w : ℕ) (scripts : List (List Action)) (h : List Entry) (fed : ℕ) (
       own : WritesOwn w scripts e os os'
       own = writes_own w scripts e fed new.part.items old new os os' f.next f.turn goes.counts
 
-      the_one : Way → Option Way → Way
-      the_one d None = d
-      the_one d (Some x) = x
-
       at_it : (way : Way) → slice_get ways' (caller_of e) ≡ Some way → new ≡ way
       at_it way got =
           ap (the_one new) (sym (get-set_same ways (caller_of e) new (slice_get_within ways (caller_of e) old there)) ∙ ap (λ ws. slice_get ws (caller_of e)) (sym is) ∙ got)
@@ -82,3 +83,17 @@ module _ (w : ℕ) (scripts : List (List Action)) (h : List Entry) (fed : ℕ) (
             | inl same ↦ ap (λ ys. slice_get ys n) same
             | inr wrote ↦ ap (λ ys. slice_get ys n) wrote.3 ∙ get-set_other os wrote.0 n wrote.1 (λ same. not (sym mine ∙ ap (λ k. k % w) same ∙ wrote.2))
           ]
+
+-- The same under equal names.
+pub may_same : (w w' : ℕ) (ss ss' : List (List Action)) (way : Way) (os os' : List Outcome) → w' ≡ w → ss' ≡ ss → os' ≡ os → MayCount w ss way os → MayCount w' ss' way os'
+may_same w w' ss ss' way os os' a b d may =
+    subst (λ k. MayCount k ss' way os') (sym a) (subst (λ k. MayCount w k way os') (sym b) (subst (MayCount w ss way) (sym d) may))
+
+pub goes_same : (w w' : ℕ) (ss ss' : List (List Action)) (e : Entry) (k : ℕ) (old new : Way) (os os' now : List Outcome) → w' ≡ w → ss' ≡ ss → os' ≡ os → Goes w' ss' e k old new os' now → Goes w ss e k old new os now
+goes_same w w' ss ss' e k old new os os' now a b d goes =
+    subst (λ x. Goes x ss e k old new os now) a (subst (λ x. Goes w' x e k old new os now) b (subst (λ x. Goes w' ss' e k old new x now) d goes))
+
+-- A slice of a whole list was written.
+pub whole_written : (os now : List Outcome) (len : ℕ) → length now ≡ length os → len ≡ length os → take len (now ++ drop (length now) os) ≡ now
+whole_written os now len same is =
+    ap (λ more. take len (now ++ more)) (drop_all (length now) os (omega (arith, same))) ∙ ap (take len) (append-nil now) ∙ take_all len now (omega (arith, same, is))

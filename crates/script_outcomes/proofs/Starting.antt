@@ -1,5 +1,5 @@
 -- Before the first entry.
-use Rattle.std.proofs.Common.{◌≡◌, ◌≢◌, ℕ, zero, suc, ◌+◌, ◌%◌, ◌<◌, ◌≤◌, ◌×◌, ◌⊎◌, List, [], ◌∷◌, ◌++◌, length, take, drop, Some, None, Option, refl, sym, ap, subst, ◌∙◌, inl, inr, arith}
+use Rattle.std.proofs.Common.{◌≡◌, ◌≢◌, ℕ, zero, suc, ◌+◌, ◌%◌, ◌<◌, ◌≤◌, ◌⊎◌, List, [], ◌∷◌, ◌++◌, length, take, drop, Some, None, Option, refl, sym, ap, subst, ◌∙◌, inl, inr, arith}
 use Rattle.std.specs.Prelude.{slice_get}
 use Rattle.std.proofs.Math.Nat.{mod-eq_of_lt, mod-le}
 use Rattle.std.proofs.lemmas.List.{length_push, take_all, drop_all}
@@ -11,15 +11,11 @@ use Rattle.script_outcomes.specs.declared.outcome.Outcome.TheVariants.{Committed
 use Rattle.script_outcomes.specs.declared.way.Way.{Way}
 use Rattle.script_outcomes.specs.Outcomes.{HasCome, AreInOrder, PlayInOrder, AreCounted, AreOutcomesOf, AreOutcomes, committed_by, committed_from}
 use Rattle.script_outcomes.specs.Ways.{AreFresh, AreNone}
-use Rattle.script_outcomes.proofs.Following.{IsPast, Known, Follows, AllFollow}
+use Rattle.script_outcomes.proofs.Following.{IsPast, Known, Follows, AllFollow, the_one}
 
 -- The last element of a list with one more, and those before.
 pub read_push : {X : Type 0} (xs : List X) (x y : X) (n : ℕ) → slice_get (xs ++ x ∷ []) n ≡ Some y → ((n ≡ length xs) × (y ≡ x)) ⊎ (slice_get xs n ≡ Some y)
 read_push [] x y zero there = inl (refl, sym (ap (the_one x) there))
-  where
-    the_one : {X : Type 0} → X → Option X → X
-    the_one d None = d
-    the_one d (Some z) = z
 read_push [] x y (suc n) there = absurd (cc (there))
 read_push (z ∷ xs) x y zero there = inr there
 read_push (z ∷ xs) x y (suc n) there = elim (read_push xs x y n there) [ inl hit ↦ inl (ap suc hit.0, hit.1) | inr old ↦ inr old ]

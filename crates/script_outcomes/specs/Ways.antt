@@ -57,6 +57,7 @@ pub record IsFirstLeft (workers : ℕ) (scripts : List (List Action)) (part : Li
 -- There are workers, an outcome for each script, and `next` is no later than `turn`, of one worker.
 pub record MayCount (workers : ℕ) (scripts : List (List Action)) (way : Way)
     (outcomes : List Outcome) : Type 0 where
+  pub some : 0 < workers
   pub one_each : length outcomes ≡ length scripts
   pub order : way.next ≤ way.turn
   pub mine : way.next % workers ≡ way.turn % workers
@@ -70,11 +71,11 @@ pub record GoesOn (workers : ℕ) (old new : Way) : Type 0 where
   pub turn_mine : new.turn % workers ≡ old.turn % workers
 
 -- The transaction is counted for this script, after which the worker goes on.
-pub record Counts (scripts : List (List Action)) (outcome : Outcome) (number after : ℕ)
+pub record Counts (scripts : List (List Action)) (outcome : Outcome) (number low : ℕ)
     (outcomes outcomes' : List Outcome) : Type 0 where
   pub within : number < length scripts
   pub counted : outcomes' ≡ slice_set outcomes number outcome
-  pub after : number < after
+  pub passed : number < low
 
 -- A commit is counted for the first script from `next` on that the transaction plays; or no script
 -- from there on is played.

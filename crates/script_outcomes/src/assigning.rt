@@ -69,9 +69,11 @@ pub fn outcomes(
     let mut outcomes = none_yet(alloc, work.scripts.len())?;
     for (index, packed) in entries.iter().enumerate() {
         let entry = packed.entry();
-        if let Some(way) = ways.get_mut(entry.caller() as usize) {
-            way.take_in(&work, entry, index as u64, &mut outcomes)?;
+        let caller = entry.caller() as usize;
+        if ways.len() <= caller {
+            continue;
         }
+        ways[caller].take_in(&work, entry, index as u64, &mut outcomes)?;
     }
     Ok(outcomes)
 }

@@ -1,6 +1,6 @@
 //! A worker's way through its scripts, as the entries of its caller tell it. Apart from the run over
 //! a history, which has one way a worker: here only one worker's entries come.
-ghost use Rattle.std.specs.Prelude.{◌≡◌, ℕ, ◌+◌, ◌%◌, ◌^◌, ◌<◌, ◌≤◌, [], OnOk, length};
+ghost use Rattle.std.specs.Prelude.{◌≡◌, ◌⊎◌, ℕ, ◌+◌, ◌%◌, ◌^◌, ◌<◌, ◌≤◌, [], OnOk, length};
 ghost use Rattle.script_outcomes.specs.Outcomes.{grown};
 ghost use Rattle.script_outcomes.specs.Ways.{IsFirstPlayed, IsFirstLeft, MayCount, Commits, Aborts, Goes};
 
@@ -100,6 +100,20 @@ impl Way {
         (number, false)
     }
 
+    /// Goes on to this script, since those before it are over.
+    fn go_on(&mut self, number: usize)
+        ensures part { self.new.part.items ≡ self.old.part.items }
+        ensures next { self.new.next ≡ number }
+        ensures turn { ((self.old.turn < number) × (self.new.turn ≡ number))
+            ⊎ ((number ≤ self.old.turn) × (self.new.turn ≡ self.old.turn)) }
+    {
+        self.next = number;
+        if self.turn < number {
+            self.turn = number;
+            self.busy = 0;
+        }
+    }
+
     /// The transaction has committed: it is counted for the first script that it plays.
     fn commit(&mut self, work: &Work<'_>, place: u64, entry: u64, outcomes: &mut [Outcome])
         requires may { MayCount work.now.workers work.now.scripts.now self.old outcomes.old }
@@ -107,14 +121,11 @@ impl Way {
             outcomes.old outcomes.new }
     {
         let number = self.first_played(work);
-        self.next = number;
         if number < work.scripts.len() {
             outcomes[number] = Outcome::Committed { place, entry };
-            self.next = number + work.workers;
-        }
-        if self.turn < self.next {
-            self.turn = self.next;
-            self.busy = 0;
+            self.go_on(number + work.workers);
+        } else {
+            self.go_on(number);
         }
     }
 
@@ -126,12 +137,13 @@ impl Way {
             outcomes.old outcomes.new }
     {
         let (number, reached) = self.first_left(work);
-        self.turn = number;
         self.busy = 0;
-        if number < work.scripts.len() {
-            if reached {
-                outcomes[number] = Outcome::Aborted { entry };
-            }
+        if work.scripts.len() <= number {
+            self.turn = number;
+        } else if reached {
+            outcomes[number] = Outcome::Aborted { entry };
+            self.turn = number + work.workers;
+        } else {
             self.turn = number + work.workers;
         }
     }
@@ -175,15 +187,22 @@ impl Way {
     {
         self.grow(entry)?;
         match entry {
-            Entry::Committed(_, place) => self.commit(work, place, index, outcomes),
+            Entry::Committed(_, place) => {
+                self.commit(work, place, index, outcomes);
+                Ok(())
+            }
             Entry::Aborted(_) => {
                 if self.has_left() {
                     self.leave(work, index, outcomes);
+                    return Ok(());
                 }
+                Ok(())
             }
-            Entry::Busy(..) => self.give_way(work),
-            _ => {}
+            Entry::Busy(..) => {
+                self.give_way(work);
+                Ok(())
+            }
+            _ => Ok(()),
         }
-        Ok(())
     }
 }
