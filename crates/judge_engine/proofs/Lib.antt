@@ -5,3 +5,4 @@ pub mod Known
 pub mod LineLemmas
 pub mod Settled
 pub mod Taking
+pub mod Telling

@@ -3,6 +3,7 @@ pub mod Breaks
 pub mod Faults
 pub mod Files
 pub mod LineReads
+pub mod Outcomes
 pub mod Outputs
 pub mod Watching
 pub mod Watchers

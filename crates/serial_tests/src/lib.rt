@@ -8,4 +8,6 @@
 #[cfg(test)]
 mod histories;
 #[cfg(test)]
+mod scripts;
+#[cfg(test)]
 mod texts;

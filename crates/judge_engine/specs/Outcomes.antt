@@ -1,0 +1,160 @@
+-- What is said of the scripts of a script file in a history file.
+use Rattle.std.specs.Prelude.{◌≡◌, ◌↔◌, ℕ, ◌%◌, Bool, true, false, List, [], ◌∷◌, ◌++◌, length, Option, Some, Ok, Err, slice_get, codes, decimal}
+use Prim.Native.Nat.{suc}
+use Rattle.std.specs.List.{filter}
+use Rattle.std.specs.Io.KnownBytes.{Appends, Keeps}
+use Rattle.txn_trace.specs.declared.action.Action.{Action}
+use Rattle.txn_trace.specs.declared.action.Action.TheVariants.{Abort}
+use Rattle.txn_trace.specs.declared.entry.Entry.{Entry}
+use Rattle.txn_trace.specs.Work.{Work}
+use Rattle.txn_files.specs.HistoryFile.{history_of}
+use Rattle.txn_files.specs.ScriptFile.{scripts_of}
+use Rattle.script_outcomes.specs.declared.outcome.Outcome.{Outcome}
+use Rattle.script_outcomes.specs.declared.outcome.Outcome.TheVariants as outcomes
+use Rattle.script_outcomes.specs.Outcomes.{AreOutcomes}
+use Rattle.script_outcomes.specs.Texts.{outcome_words}
+use Rattle.judge_engine.specs.declared.outcomes.Kind.{Kind}
+use Rattle.judge_engine.specs.declared.outcomes.Kind.TheVariants as kinds
+use Rattle.judge_engine.specs.declared.outcomes.OutcomesFault.{OutcomesFault}
+use Rattle.judge_engine.specs.declared.outcomes.OutcomesFault.TheVariants.{Scripts, History, ScriptsRead, HistoryRead, NoMemory, Write}
+use Rattle.piece_files.specs.Faults.{words_of}
+use Rattle.piece_files.specs.declared.file_fault.FileFault.{FileFault}
+use Rattle.piece_files.specs.declared.file_fault.FileFault.TheVariants as files
+use Rattle.judge_engine.specs.Files.{OfFile}
+
+-- The exit status.
+abbrev pub outcomes_status : OutcomesFault → ℕ
+outcomes_status (Scripts fault) = 3
+outcomes_status (History fault) = 3
+outcomes_status ScriptsRead = 4
+outcomes_status HistoryRead = 4
+outcomes_status NoMemory = 4
+outcomes_status Write = 4
+
+-- What is printed of a fault.
+abbrev pub outcomes_message : OutcomesFault → List ℕ
+outcomes_message (Scripts fault) = codes "scripts refused " ++ words_of fault
+outcomes_message (History fault) = codes "history refused " ++ words_of fault
+outcomes_message ScriptsRead = codes "scripts read failed"
+outcomes_message HistoryRead = codes "history read failed"
+outcomes_message NoMemory = codes "no memory"
+outcomes_message Write = codes "write failed"
+
+-- A fault of a script file, where want of memory is none of the file's.
+abbrev pub of_scripts : FileFault → OutcomesFault
+of_scripts files.NoMemory = NoMemory
+of_scripts files.NotJson = Scripts files.NotJson
+of_scripts files.Member = Scripts files.Member
+of_scripts (files.Piece part i) = Scripts (files.Piece part i)
+of_scripts files.Limit = Scripts files.Limit
+
+-- The same of a history file.
+abbrev pub of_history : FileFault → OutcomesFault
+of_history files.NoMemory = NoMemory
+of_history files.NotJson = History files.NotJson
+of_history files.Member = History files.Member
+of_history (files.Piece part i) = History (files.Piece part i)
+of_history files.Limit = History files.Limit
+
+-- Whether an outcome is of a kind.
+abbrev pub is_kind : Kind → Outcome → Bool
+is_kind kinds.Committed (outcomes.Committed place entry) = true
+is_kind kinds.Aborted (outcomes.Aborted entry) = true
+is_kind kinds.GivenUp outcomes.GivenUp = true
+is_kind kind outcome = false
+
+-- How many outcomes are of a kind.
+abbrev pub how_many : Kind → List Outcome → ℕ
+how_many kind os = length (filter (is_kind kind) os)
+
+-- The line of a script's outcome.
+abbrev pub outcome_line : ℕ → ℕ → Outcome → List ℕ
+outcome_line workers n outcome =
+    codes "script " ++ (decimal n ++ (codes " worker " ++ (decimal (n % workers)
+    ++ (codes " " ++ (outcome_words outcome ++ 10 ∷ [])))))
+
+-- The lines of the scripts from this number on.
+abbrev pub lines_from : ℕ → ℕ → List Outcome → List ℕ
+lines_from workers n [] = []
+lines_from workers n (outcome ∷ more) =
+    outcome_line workers n outcome ++ lines_from workers (suc n) more
+
+-- The last line, which counts them.
+abbrev pub counts_line : List Outcome → List ℕ
+counts_line os =
+    decimal (how_many kinds.Committed os) ++ (codes " committed "
+    ++ (decimal (how_many kinds.Aborted os) ++ (codes " aborted "
+    ++ (decimal (how_many kinds.GivenUp os) ++ (codes " given up" ++ 10 ∷ [])))))
+
+-- All lines.
+abbrev pub outcomes_text : ℕ → List Outcome → List ℕ
+outcomes_text workers os = lines_from workers 0 os ++ counts_line os
+
+-- Whether a script has an abort.
+abbrev pub has_abort : List Action → Bool
+has_abort [] = false
+has_abort (Abort ∷ script) = true
+has_abort (action ∷ script) = has_abort script
+
+-- Each script that is given up has an abort.
+abbrev pub IsWell : List (List Action) → List Outcome → Type 0
+IsWell scripts os = (n : ℕ) (script : List Action) → slice_get scripts n ≡ Some script
+    → slice_get os n ≡ Some outcomes.GivenUp → has_abort script ≡ true
+
+-- The text of the outcomes of a script file's scripts in a history file's history; and it is well
+-- exactly where each script that is given up has an abort.
+pub record IsReport (scripts history text : List ℕ) (well : Bool) : Type 0 where
+  pub work : Work
+  pub stripes : ℕ
+  pub entries : List Entry
+  pub version : ℕ
+  pub found : List Outcome
+  pub scripts_are : scripts_of scripts ≡ Ok work
+  pub history_is : history_of history ≡ Ok (stripes, entries, version)
+  pub outcomes : AreOutcomes work.sizes.callers work.scripts entries found
+  pub text_is : text ≡ outcomes_text work.sizes.callers found
+  pub well_is : (well ≡ true) ↔ IsWell work.scripts found
+
+-- The same of the files that two readers had left.
+abbrev pub Tells : Option (List ℕ) → Option (List ℕ) → List ℕ → Bool → Type 0
+Tells scripts history text well =
+    OfFile scripts (λ left. OfFile history (λ right. IsReport left right text well))
+
+-- The entries are those of the history file that the bytes are.
+abbrev pub HistoryOf : List Entry → List ℕ → Type 0
+HistoryOf entries bytes =
+    (stripes : ℕ) × (version : ℕ) × (history_of bytes ≡ Ok (stripes, entries, version))
+
+-- Why there are no scripts in the file that a reader had left.
+abbrev pub FailsForScripts : Option (List ℕ) → OutcomesFault → Type 0
+FailsForScripts left (Scripts fault) = OfFile left (λ bytes. scripts_of bytes ≡ Err fault)
+FailsForScripts left ScriptsRead = Unit {0}
+FailsForScripts left NoMemory = Unit {0}
+FailsForScripts left fault = ⊥
+
+-- Why there is no history in the file that a reader had left.
+abbrev pub FailsForHistory : Option (List ℕ) → OutcomesFault → Type 0
+FailsForHistory left (History fault) = OfFile left (λ bytes. history_of bytes ≡ Err fault)
+FailsForHistory left HistoryRead = Unit {0}
+FailsForHistory left NoMemory = Unit {0}
+FailsForHistory left fault = ⊥
+
+-- The text was written, and nothing else.
+abbrev pub WritesOutcomes : Option (List ℕ) → Option (List ℕ) → Option (List ℕ)
+    → Option (List ℕ) → Bool → Type 0
+WritesOutcomes scripts history old new well =
+    (text : List ℕ) × Tells scripts history text well × Appends old new text
+
+-- What was written at a fault: nothing, and the fault is one of a file or want of memory. Where a
+-- write failed there is such a text.
+abbrev pub LeavesOutcomes : Option (List ℕ) → Option (List ℕ) → Option (List ℕ)
+    → Option (List ℕ) → OutcomesFault → Type 0
+LeavesOutcomes scripts history old new (Scripts fault) =
+    Keeps old new × FailsForScripts scripts (Scripts fault)
+LeavesOutcomes scripts history old new (History fault) =
+    Keeps old new × FailsForHistory history (History fault)
+LeavesOutcomes scripts history old new ScriptsRead = Keeps old new
+LeavesOutcomes scripts history old new HistoryRead = Keeps old new
+LeavesOutcomes scripts history old new NoMemory = Keeps old new
+LeavesOutcomes scripts history old new Write =
+    (text : List ℕ) × (well : Bool) × Tells scripts history text well

@@ -1,0 +1,4 @@
+pub mod Matches
+pub mod Outcomes
+pub mod Texts
+pub mod Ways

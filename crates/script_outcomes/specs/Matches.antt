@@ -1,0 +1,33 @@
+-- Which script the entries of a transaction are those of, where changes taken back are left out.
+use Rattle.std.specs.Prelude.{◌≡◌, ℕ, Some, None, List, [], ◌∷◌}
+use Rattle.txn_trace.specs.declared.action.Action.{Action}
+use Rattle.txn_trace.specs.declared.action.Action.TheVariants as actions
+use Rattle.txn_trace.specs.declared.entry.Entry.{Entry}
+use Rattle.txn_trace.specs.declared.entry.Entry.TheVariants.{Began, Asked, Did, Saved, Leave, Returned, Aborted}
+
+-- The entries are those of an action, in order, and then the rest. An abort is not done so: it ends
+-- its transaction.
+abbrev pub Does : Action → List Entry → List Entry → Type 0
+Does (actions.Op op) (Asked c asked ∷ Did d reply ∷ es) rest = (asked ≡ op) × (es ≡ rest)
+Does actions.Save (Saved c ∷ es) rest = es ≡ rest
+Does (actions.Back n) (Leave c (Some level) ∷ Returned d reached ∷ es) rest =
+    (level ≡ n) × (reached ≡ n) × (es ≡ rest)
+Does (actions.Help k) es rest = es ≡ rest
+Does _ _ _ = ⊥
+
+-- The entries are those of the actions before an abort, in order, and then those of the abort.
+abbrev pub ReachAbort : List Action → List Entry → Type 0
+ReachAbort (actions.Op op ∷ script) (Asked c asked ∷ Did d reply ∷ es) =
+    (asked ≡ op) × ReachAbort script es
+ReachAbort (actions.Save ∷ script) (Saved c ∷ es) = ReachAbort script es
+ReachAbort (actions.Back n ∷ script) (Leave c (Some level) ∷ Returned d reached ∷ es) =
+    (level ≡ n) × (reached ≡ n) × ReachAbort script es
+ReachAbort (actions.Help k ∷ script) es = ReachAbort script es
+ReachAbort (actions.Abort ∷ script) (Leave c None ∷ Aborted d ∷ []) = Unit {0}
+ReachAbort _ _ = ⊥
+
+-- The entries are Began, those of the script's actions before its first abort, and those of the
+-- abort.
+abbrev pub AbortsItself : List Action → List Entry → Type 0
+AbortsItself script (Began c t ∷ es) = ReachAbort script es
+AbortsItself script _ = ⊥

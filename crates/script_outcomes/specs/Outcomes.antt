@@ -1,0 +1,97 @@
+-- What became of each script in a history.
+use Rattle.std.specs.Prelude.{◌≡◌, ℕ, ◌+◌, ◌%◌, ◌<◌, ◌≤◌, ◌==◌, Bool, Option, Some, List, [], ◌∷◌, ◌++◌, length, take, slice_get, if◌then◌else◌}
+use Prim.Native.Nat.{suc}
+use Rattle.std.specs.List.{fold}
+use Rattle.txn_trace.specs.declared.action.Action.{Action}
+use Rattle.txn_trace.specs.declared.entry.Entry.{Entry}
+use Rattle.txn_trace.specs.declared.entry.Entry.TheVariants as entries
+use Rattle.txn_trace.specs.History.{caller_of, is_began, is_commit}
+use Rattle.txn_trace.specs.Shape.{own}
+use Rattle.txn_trace.specs.Plays.{is_undone, IsPlayed, IsScriptOf}
+use Rattle.script_outcomes.specs.declared.outcome.Outcome.{Outcome}
+use Rattle.script_outcomes.specs.declared.outcome.Outcome.TheVariants.{Committed, Aborted, GivenUp}
+use Rattle.script_outcomes.specs.Matches.{AbortsItself}
+
+-- The entries of a caller's transaction after one entry more of the caller: Began begins it anew,
+-- and an entry that takes a change back is left out.
+abbrev pub grown : List Entry → Entry → List Entry
+grown part e = if is_began e then e ∷ [] else if is_undone e then part else part ++ e ∷ []
+
+-- A caller's entries from its last Began on, but those that take changes back.
+abbrev pub last_of : ℕ → List Entry → List Entry
+last_of c h = fold grown [] (own c h)
+
+-- The entry of this index commits a transaction of the caller, at this place, that plays the
+-- script.
+pub record Commits (c : ℕ) (script : List Action) (place entry : ℕ) (h : List Entry) : Type 0 where
+  pub at : slice_get h entry ≡ Some (entries.Committed c place)
+  pub plays : IsPlayed script (last_of c (take (entry + 1) h))
+
+-- The entry of this index ends a transaction of the caller that did the script's actions up to its
+-- abort, and no more.
+pub record Aborts (c : ℕ) (script : List Action) (entry : ℕ) (h : List Entry) : Type 0 where
+  pub at : slice_get h entry ≡ Some (entries.Aborted c)
+  pub did : AbortsItself script (last_of c (take (entry + 1) h))
+
+-- What an outcome says of the history.
+abbrev pub HasCome : ℕ → List Action → List Entry → Outcome → Type 0
+HasCome c script h (Committed place entry) = Commits c script place entry h
+HasCome c script h (Aborted entry) = Aborts c script entry h
+HasCome c script h GivenUp = Unit {0}
+
+-- Two commits, or two aborts, of an earlier and a later script stand in this order.
+abbrev pub AreInOrder : Outcome → Outcome → Type 0
+AreInOrder (Committed place entry) (Committed later_place later) = entry < later
+AreInOrder (Aborted entry) (Aborted later) = entry < later
+AreInOrder outcome other = Unit {0}
+
+-- The caller's transactions that commit, each as its entries, where those of the first one so far
+-- are these.
+abbrev pub committed_from : ℕ → List Entry → List Entry → List (List Entry)
+committed_from c part [] = []
+committed_from c part (e ∷ h) =
+    if caller_of e == c
+    then (if is_commit e
+    then grown part e ∷ committed_from c (grown part e) h
+    else committed_from c (grown part e) h)
+    else committed_from c part h
+
+-- The caller's transactions that commit, in order.
+abbrev pub committed_by : ℕ → List Entry → List (List Entry)
+committed_by c h = committed_from c [] h
+
+-- Each of these transactions plays one of the caller's scripts, with rising numbers from `low` on.
+abbrev pub PlayInOrder : ℕ → List (List Action) → ℕ → ℕ → List (List Entry) → Type 0
+PlayInOrder callers scripts c low [] = Unit {0}
+PlayInOrder callers scripts c low (part ∷ parts) =
+    (n : ℕ) × (script : List Action) × (low ≤ n) × IsScriptOf callers scripts c n script
+    × IsPlayed script part × PlayInOrder callers scripts c (suc n) parts
+
+-- Each of the caller's commits among the first entries is that of a script of the caller's.
+abbrev pub AreCounted : ℕ → ℕ → ℕ → List Entry → List Outcome → Type 0
+AreCounted callers c fed h outcomes =
+    (entry place : ℕ) → entry < fed → slice_get h entry ≡ Some (entries.Committed c place)
+    → (n : ℕ) × (n % callers ≡ c) × (slice_get outcomes n ≡ Some (Committed place entry))
+
+-- The outcomes of a caller's scripts in a history. What each says is so; commits stand in the order
+-- of the scripts, and so do aborts, so that each transaction is counted for one script at most; and
+-- where the caller's transactions that commit play scripts of its own in order, in whatever way,
+-- each of them is counted.
+pub record AreOutcomesOf (callers : ℕ) (scripts : List (List Action)) (h : List Entry)
+    (outcomes : List Outcome) (c : ℕ) : Type 0 where
+  pub each : (n : ℕ) (script : List Action) (outcome : Outcome)
+      → IsScriptOf callers scripts c n script → slice_get outcomes n ≡ Some outcome
+      → HasCome c script h outcome
+  pub ordered : (n m : ℕ) (script other : List Action) (outcome later : Outcome) → n < m
+      → IsScriptOf callers scripts c n script → IsScriptOf callers scripts c m other
+      → slice_get outcomes n ≡ Some outcome → slice_get outcomes m ≡ Some later
+      → AreInOrder outcome later
+  pub all : PlayInOrder callers scripts c 0 (committed_by c h)
+      → AreCounted callers c (length h) h outcomes
+
+-- What became of each script in a history, where every `callers`-th script is a caller's, beginning
+-- with that of the caller's own number.
+pub record AreOutcomes (callers : ℕ) (scripts : List (List Action)) (h : List Entry)
+    (outcomes : List Outcome) : Type 0 where
+  pub one_each : length outcomes ≡ length scripts
+  pub of : (c : ℕ) → c < callers → AreOutcomesOf callers scripts h outcomes c

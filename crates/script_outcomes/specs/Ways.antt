@@ -1,0 +1,141 @@
+-- Where a worker is on its way through its scripts.
+use Rattle.std.specs.Prelude.{◌≡◌, ◌⊎◌, ℕ, ◌+◌, ◌%◌, ◌<◌, ◌≤◌, Bool, true, Some, None, List, [], ◌∷◌, length, slice_get, slice_set}
+use Rattle.txn_trace.specs.declared.action.Action.{Action}
+use Rattle.txn_trace.specs.declared.entry.Entry.{Entry}
+use Rattle.txn_trace.specs.declared.entry.Entry.TheVariants as entries
+use Rattle.txn_trace.specs.declared.entry.Entry.TheVariants.{Began, Leave}
+use Rattle.txn_trace.specs.Plays.{IsPlayed}
+use Rattle.script_outcomes.specs.declared.matching.Fit.{Fit}
+use Rattle.script_outcomes.specs.declared.matching.Fit.TheVariants.{Itself, Refused, Other}
+use Rattle.script_outcomes.specs.declared.outcome.Outcome.{Outcome}
+use Rattle.script_outcomes.specs.declared.outcome.Outcome.TheVariants.{Committed, Aborted, GivenUp}
+use Rattle.script_outcomes.specs.declared.way.Way.{Way}
+use Rattle.script_outcomes.specs.Matches.{AbortsItself}
+use Rattle.script_outcomes.specs.Outcomes.{grown}
+
+-- The entries are Began and then the rest.
+abbrev pub HasBegun : List Entry → List Entry → Type 0
+HasBegun (Began c t ∷ es) rest = es ≡ rest
+HasBegun es rest = ⊥
+
+-- The one entry is a Committed.
+abbrev pub IsLoneCommit : List Entry → Type 0
+IsLoneCommit (entries.Committed c p ∷ []) = Unit {0}
+IsLoneCommit es = ⊥
+
+-- The entries are those of an abort.
+abbrev pub IsLeft : List Entry → Type 0
+IsLeft (Leave c None ∷ entries.Aborted d ∷ []) = Unit {0}
+IsLeft es = ⊥
+
+-- A comparison says that a transaction aborts itself only where this holds.
+abbrev pub SaysItself : Fit → Type 0 → Type 0
+SaysItself Itself P = P
+SaysItself Refused P = Unit {0}
+SaysItself Other P = Unit {0}
+
+-- The number is one of the numbers that are `workers` apart, from `low` on; it is the first at
+-- which there is a script that the transaction plays, or past all scripts.
+pub record IsFirstPlayed (workers : ℕ) (scripts : List (List Action)) (part : List Entry)
+    (low number : ℕ) : Type 0 where
+  pub from : low ≤ number
+  pub mine : number % workers ≡ low % workers
+  pub passed : (n : ℕ) (script : List Action) → low ≤ n → n < number → n % workers ≡ low % workers
+      → slice_get scripts n ≡ Some script → IsPlayed script part → ⊥
+  pub plays : (script : List Action) → slice_get scripts number ≡ Some script
+      → IsPlayed script part
+
+-- The number is one of the numbers that are `workers` apart, from `low` on; and where the
+-- transaction has reached an abort, it is that of the script there.
+pub record IsFirstLeft (workers : ℕ) (scripts : List (List Action)) (part : List Entry)
+    (low number : ℕ) (reached : Bool) : Type 0 where
+  pub from : low ≤ number
+  pub mine : number % workers ≡ low % workers
+  pub reaches : (script : List Action) → reached ≡ true → slice_get scripts number ≡ Some script
+      → AbortsItself script part
+
+-- There are workers, an outcome for each script, and `next` is no later than `turn`, of one worker.
+pub record MayCount (workers : ℕ) (scripts : List (List Action)) (way : Way)
+    (outcomes : List Outcome) : Type 0 where
+  pub some : 0 < workers
+  pub one_each : length outcomes ≡ length scripts
+  pub order : way.next ≤ way.turn
+  pub mine : way.next % workers ≡ way.turn % workers
+
+-- The worker goes on: no script comes back, and its numbers stay those of the worker.
+pub record GoesOn (workers : ℕ) (old new : Way) : Type 0 where
+  pub next : old.next ≤ new.next
+  pub turn : old.turn ≤ new.turn
+  pub order : new.next ≤ new.turn
+  pub next_mine : new.next % workers ≡ old.next % workers
+  pub turn_mine : new.turn % workers ≡ old.turn % workers
+
+-- The transaction is counted for this script, after which the worker goes on.
+pub record Counts (scripts : List (List Action)) (outcome : Outcome) (number low : ℕ)
+    (outcomes outcomes' : List Outcome) : Type 0 where
+  pub within : number < length scripts
+  pub counted : outcomes' ≡ slice_set outcomes number outcome
+  pub passed : number < low
+
+-- A commit is counted for the first script from `next` on that the transaction plays; or no script
+-- from there on is played.
+pub record Commits (workers : ℕ) (scripts : List (List Action)) (place entry : ℕ) (old new : Way)
+    (outcomes outcomes' : List Outcome) : Type 0 where
+  pub part : new.part.items ≡ old.part.items
+  pub on : GoesOn workers old new
+  pub number : ℕ
+  pub first : IsFirstPlayed workers scripts old.part.items old.next number
+  pub counts : (Counts scripts (Committed place entry) number new.next outcomes outcomes'
+      × (new.next ≡ number + workers))
+      ⊎ ((length scripts ≤ number) × (outcomes' ≡ outcomes))
+
+-- An abort is counted for a script from `turn` on of which the transaction reached the abort, or
+-- for none.
+pub record Aborts (workers : ℕ) (scripts : List (List Action)) (entry : ℕ) (old new : Way)
+    (outcomes outcomes' : List Outcome) : Type 0 where
+  pub part : new.part.items ≡ old.part.items
+  pub on : GoesOn workers old new
+  pub next : new.next ≡ old.next
+  pub number : ℕ
+  pub from : old.turn ≤ number
+  pub mine : number % workers ≡ old.turn % workers
+  pub counts : (Counts scripts (Aborted entry) number new.turn outcomes outcomes'
+      × ((script : List Action) → slice_get scripts number ≡ Some script
+      → AbortsItself script old.part.items))
+      ⊎ (outcomes' ≡ outcomes)
+
+-- What an entry of this index makes of the outcomes, after which the transaction is this part.
+abbrev pub CountsAt : ℕ → List (List Action) → Entry → ℕ → List Entry → Way → Way
+    → List Outcome → List Outcome → Type 0
+CountsAt workers scripts (entries.Committed c place) entry part old new outcomes outcomes' =
+    (number : ℕ) × IsFirstPlayed workers scripts part old.next number
+    × ((Counts scripts (Committed place entry) number new.next outcomes outcomes'
+    × (new.next ≡ number + workers))
+    ⊎ ((length scripts ≤ number) × (outcomes' ≡ outcomes)))
+CountsAt workers scripts (entries.Aborted c) entry part old new outcomes outcomes' =
+    (new.next ≡ old.next)
+    × (((number : ℕ) × (old.turn ≤ number) × (number % workers ≡ old.turn % workers)
+    × Counts scripts (Aborted entry) number new.turn outcomes outcomes'
+    × ((script : List Action) → slice_get scripts number ≡ Some script
+    → AbortsItself script part))
+    ⊎ (outcomes' ≡ outcomes))
+CountsAt workers scripts e entry part old new outcomes outcomes' =
+    (new.next ≡ old.next) × (outcomes' ≡ outcomes)
+
+-- The worker has taken in an entry of this index.
+pub record Goes (workers : ℕ) (scripts : List (List Action)) (e : Entry) (entry : ℕ)
+    (old new : Way) (outcomes outcomes' : List Outcome) : Type 0 where
+  pub part : new.part.items ≡ grown old.part.items e
+  pub on : GoesOn workers old new
+  pub counts : CountsAt workers scripts e entry new.part.items old new outcomes outcomes'
+
+-- The ways of so many workers before the first entry.
+pub record AreFresh (workers : ℕ) (ways : List Way) : Type 0 where
+  pub size : length ways ≡ workers
+  pub each : (c : ℕ) (way : Way) → slice_get ways c ≡ Some way
+      → (way.part.items ≡ []) × (way.next ≡ c) × (way.turn ≡ c)
+
+-- So many outcomes, each of a script that is given up.
+pub record AreNone (scripts : ℕ) (outcomes : List Outcome) : Type 0 where
+  pub size : length outcomes ≡ scripts
+  pub each : (n : ℕ) (outcome : Outcome) → slice_get outcomes n ≡ Some outcome → outcome ≡ GivenUp

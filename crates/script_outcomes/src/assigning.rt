@@ -1,0 +1,79 @@
+//! The outcomes of scripts in a history.
+ghost use Rattle.std.specs.Prelude.{◌≡◌, ℕ, ◌<◌, List, IfOk, length};
+ghost use Rattle.script_outcomes.specs.Outcomes.{AreOutcomes};
+ghost use Rattle.script_outcomes.specs.Ways.{AreFresh, AreNone};
+
+use crate::outcome::Outcome;
+use crate::way::{Way, Work};
+use std::alloc::{AllocError, Global};
+use txn_trace::{PackedEntry, Scripts};
+
+/// The ways of so many workers before the first entry.
+fn new_ways(alloc: Global, workers: usize) -> Result<Vec<Way>, AllocError>
+    ensures { IfOk result (λ ways. AreFresh workers ways.items) }
+{
+    let mut ways = Vec::new(alloc);
+    for worker in 0..workers {
+        ways.push(Way::new(alloc, worker))?;
+    }
+    Ok(ways)
+}
+
+/// The outcomes of so many scripts of which no transaction is known yet.
+fn none_yet(alloc: Global, scripts: usize) -> Result<Vec<Outcome>, AllocError>
+    ensures { IfOk result (λ outcomes. AreNone scripts outcomes.items) }
+{
+    let mut outcomes = Vec::new(alloc);
+    for _index in 0..scripts {
+        outcomes.push(Outcome::GivenUp)?;
+    }
+    Ok(outcomes)
+}
+
+/// What became of each script in a history, in the order of the scripts. Script `i` belongs to the
+/// worker `i` modulo the callers of the scripts' limits, and worker `w` is caller `w` of the
+/// history.
+///
+/// A committed transaction of a caller is counted for the first script of the caller's, after those
+/// counted before, that it plays. An abort is counted for a script of which the transaction did the
+/// actions up to the script's own abort; which one of several such it is follows the attempts that
+/// the history shows. So each transaction is counted for one script at most, commits in the order
+/// of the scripts, and aborts too. If the caller's commits play scripts of its own in order, in
+/// whatever way, each of them is counted: no script that is given up hides a commit.
+///
+/// The history is not judged.
+///
+/// # Errors
+///
+/// `AllocError` if memory is refused.
+///
+/// # Cost
+///
+/// Time in proportion to the entries and to the actions of all scripts; memory for an outcome a
+/// script, and for the entries of each caller's last transaction.
+pub fn outcomes(
+    alloc: Global,
+    scripts: &Scripts,
+    entries: &[PackedEntry],
+) -> Result<Vec<Outcome>, AllocError>
+    ensures { IfOk result (λ outcomes. AreOutcomes scripts.now.sizes.callers scripts.now.scripts
+        entries.now outcomes.items) }
+{
+    let workers = scripts.limits().callers() as usize;
+    let work = Work {
+        scripts: scripts.scripts(),
+        workers,
+        tries: scripts.tries(),
+    };
+    let mut ways = new_ways(alloc, workers)?;
+    let mut outcomes = none_yet(alloc, work.scripts.len())?;
+    for (index, packed) in entries.iter().enumerate() {
+        let entry = packed.entry();
+        let caller = entry.caller() as usize;
+        if ways.len() <= caller {
+            continue;
+        }
+        ways[caller].take_in(&work, entry, index as u64, &mut outcomes)?;
+    }
+    Ok(outcomes)
+}

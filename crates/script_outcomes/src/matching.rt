@@ -1,0 +1,115 @@
+//! Whether the entries of a transaction are those of a script. Apart from the workers' ways since
+//! one script and one transaction are compared here. A comparison takes a step for each entry that
+//! agrees, and no memory.
+ghost use Rattle.std.specs.Prelude.{◌≡◌, true, false, IfSome, IsNone, List};
+ghost use Rattle.txn_trace.specs.declared.entry.Entry.{Entry as AnEntry};
+ghost use Rattle.txn_trace.specs.Plays.{IsPlayed};
+ghost use Rattle.script_outcomes.specs.Matches.{AbortsItself, Does};
+ghost use Rattle.script_outcomes.specs.Ways.{HasBegun, IsLoneCommit, IsLeft, SaysItself};
+
+use txn_trace::{Action, Entry};
+
+/// How a transaction that was aborted stands to a script.
+#[derive(Clone, Copy, Debug, PartialEq, Eq)]
+pub(crate) enum Fit {
+    /// It did the actions up to the script's own abort.
+    Itself,
+    /// It did some actions, and the next one was refused.
+    Refused,
+    /// It did something else.
+    Other,
+}
+
+/// The entries after those of an action, with which they begin. Constant time.
+fn after<'a>(action: Action, entries: &'a [Entry]) -> Option<&'a [Entry]>
+    ensures does { IfSome result (λ rest. Does action entries.now rest.now) }
+    ensures other { IsNone result → (rest : List AnEntry) → Does action entries.now rest → ⊥ }
+{
+    match action {
+        Action::Op(op) => match entries {
+            [Entry::Asked(_, asked), Entry::Did(..), rest @ ..] if *asked == op => Some(rest),
+            _ => None,
+        },
+        Action::Save => match entries {
+            [Entry::Saved(_), rest @ ..] => Some(rest),
+            _ => None,
+        },
+        Action::Back(to) => match entries {
+            [
+                Entry::Leave(_, Some(level)),
+                Entry::Returned(_, reached),
+                rest @ ..,
+            ] if *level == to && *reached == to => { Some(rest) }
+            _ => None,
+        },
+        Action::Help(_) => Some(entries),
+        Action::Abort => None,
+    }
+}
+
+/// The entries after the Began with which they begin. Constant time.
+fn after_began(entries: &[Entry]) -> Option<&[Entry]>
+    ensures begun { IfSome result (λ rest. HasBegun entries.now rest.now) }
+    ensures other { IsNone result → (rest : List AnEntry) → HasBegun entries.now rest → ⊥ }
+{
+    match entries {
+        [Entry::Began(..), rest @ ..] => Some(rest),
+        _ => None,
+    }
+}
+
+/// Whether a Committed is the one entry. Constant time.
+fn is_commit(entries: &[Entry]) -> bool
+    ensures yes { result ≡ true → IsLoneCommit entries.now }
+    ensures no { result ≡ false → IsLoneCommit entries.now → ⊥ }
+{
+    matches!(entries, [Entry::Committed(..)])
+}
+
+/// Whether the entries are those of an abort. Constant time.
+fn is_abort(entries: &[Entry]) -> bool
+    ensures { result ≡ true → IsLeft entries.now }
+{
+    matches!(entries, [Entry::Leave(_, None), Entry::Aborted(_)])
+}
+
+/// Whether a transaction with these entries plays the script.
+pub(crate) fn plays(script: &[Action], part: &[Entry]) -> bool
+    ensures yes { result ≡ true → IsPlayed script.now part.now }
+    ensures no { result ≡ false → IsPlayed script.now part.now → ⊥ }
+{
+    let Some(entries) = after_began(part) else {
+        return false;
+    };
+    let mut rest = entries;
+    for action in script {
+        let Some(more) = after(*action, rest) else {
+            return false;
+        };
+        rest = more;
+    }
+    is_commit(rest)
+}
+
+/// How a transaction with these entries stands to the script.
+pub(crate) fn compare(script: &[Action], part: &[Entry]) -> Fit
+    ensures { SaysItself result (AbortsItself script.now part.now) }
+{
+    let Some(entries) = after_began(part) else {
+        return Fit::Other;
+    };
+    let mut rest = entries;
+    for action in script {
+        let is_left = is_abort(rest);
+        match (*action, after(*action, rest)) {
+            (Action::Abort, _) => return if is_left { Fit::Itself } else { Fit::Other },
+            (_, Some(more)) => rest = more,
+            (_, None) => return if is_left { Fit::Refused } else { Fit::Other },
+        }
+    }
+    if is_abort(rest) {
+        Fit::Refused
+    } else {
+        Fit::Other
+    }
+}

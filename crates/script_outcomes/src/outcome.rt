@@ -1,0 +1,38 @@
+//! What became of a script, and its text.
+
+use std::fmt;
+
+/// What became of a script in a history. It is printed as `committed 3 entry 17`, as
+/// `aborted entry 20`, or as `given up`.
+#[derive(Clone, Copy, Debug, PartialEq, Eq)]
+pub enum Outcome {
+    /// A transaction that plays it is committed.
+    Committed {
+        /// The number of the commit, which its entry says.
+        place: u64,
+        /// The index of the Committed entry, from 0.
+        entry: u64,
+    },
+    /// A transaction did its actions up to its own abort.
+    Aborted {
+        /// The index of the Aborted entry, from 0.
+        entry: u64,
+    },
+    /// No transaction is counted for it.
+    GivenUp,
+}
+
+impl fmt::Display for Outcome {
+    ghost use Rattle.std.specs.Prelude.{Some};
+    ghost use Rattle.script_outcomes.specs.Texts.{outcome_words};
+
+    ghost output = { λ outcome. Some (outcome_words outcome) };
+
+    fn fmt<W: fmt::Write>(&self, f: &mut fmt::Formatter<W>) -> fmt::Result {
+        match *self {
+            Outcome::Committed { place, entry } => write!(f, "committed {place} entry {entry}"),
+            Outcome::Aborted { entry } => write!(f, "aborted entry {entry}"),
+            Outcome::GivenUp => f.write_str("given up"),
+        }
+    }
+}

@@ -1,0 +1,208 @@
+//! A worker's way through its scripts, as the entries of its caller tell it. Apart from the run over
+//! a history, which has one way a worker: here only one worker's entries come.
+ghost use Rattle.std.specs.Prelude.{◌≡◌, ◌⊎◌, ℕ, ◌+◌, ◌%◌, ◌^◌, ◌<◌, ◌≤◌, [], OnOk, length};
+ghost use Rattle.script_outcomes.specs.Outcomes.{grown};
+ghost use Rattle.script_outcomes.specs.Ways.{IsFirstPlayed, IsFirstLeft, MayCount, Commits, Aborts, Goes};
+
+use crate::matching::{Fit, compare, plays};
+use crate::outcome::Outcome;
+use std::alloc::{AllocError, Global};
+use txn_trace::{Entry, Script};
+
+/// Scripts, of which script `i` belongs to worker `i` modulo the workers; and how often each is
+/// tried again.
+#[derive(Drop)]
+pub(crate) struct Work<'a> {
+    pub(crate) scripts: &'a [Script],
+    pub(crate) workers: usize,
+    pub(crate) tries: u64,
+    ghost some: { 0 < workers },
+    ghost few: { length scripts.now + workers < 2 ^ 64 },
+}
+
+/// A worker's way through its scripts.
+#[derive(Drop)]
+pub(crate) struct Way {
+    /// The entries of its transaction, but those that take changes back.
+    pub(crate) part: Vec<Entry>,
+    /// Its first script after those that are committed.
+    pub(crate) next: usize,
+    /// Its first script that may still be tried: `next` or a later one.
+    pub(crate) turn: usize,
+    /// How many attempts at that script found a stripe held.
+    pub(crate) busy: u64,
+}
+
+impl Way {
+    /// The way of a worker before its first entry.
+    pub(crate) fn new(alloc: Global, worker: usize) -> Way
+        ensures part { result.part.items ≡ [] }
+        ensures next { result.next ≡ worker }
+        ensures turn { result.turn ≡ worker }
+    {
+        Way {
+            part: Vec::new(alloc),
+            next: worker,
+            turn: worker,
+            busy: 0,
+        }
+    }
+
+    /// Adds an entry to the transaction.
+    fn grow(&mut self, entry: Entry) -> Result<(), AllocError>
+        ensures part { OnOk result (self.new.part.items ≡ grown self.old.part.items entry) }
+        ensures next { self.new.next ≡ self.old.next }
+        ensures turn { self.new.turn ≡ self.old.turn }
+    {
+        match entry {
+            Entry::Undone(_) => {}
+            Entry::Began(..) => {
+                self.part.clear();
+                self.part.push(entry)?;
+            }
+            _ => self.part.push(entry)?,
+        }
+        Ok(())
+    }
+
+    /// The worker's first script from `next` on that the transaction plays, or the first number of
+    /// the worker's past the scripts.
+    fn first_played(&self, work: &Work<'_>) -> usize
+        requires { 0 < work.now.workers }
+        ensures { IsFirstPlayed work.now.workers work.now.scripts.now self.now.part.items
+            self.now.next result }
+    {
+        let mut number = self.next;
+        while number < work.scripts.len() {
+            if plays(work.scripts[number].actions(), &self.part) {
+                return number;
+            }
+            number += work.workers;
+        }
+        number
+    }
+
+    /// The worker's first script from `turn` on at which the transaction was an attempt, or the
+    /// first number of the worker's past the scripts; and whether it reached the script's abort.
+    fn first_left(&self, work: &Work<'_>) -> (usize, bool)
+        requires { 0 < work.now.workers }
+        ensures { IsFirstLeft work.now.workers work.now.scripts.now self.now.part.items
+            self.now.turn result.0 result.1 }
+    {
+        let mut number = self.turn;
+        while number < work.scripts.len() {
+            match compare(work.scripts[number].actions(), &self.part) {
+                Fit::Itself => return (number, true),
+                Fit::Refused => return (number, false),
+                Fit::Other => number += work.workers,
+            }
+        }
+        (number, false)
+    }
+
+    /// Goes on to this script, since those before it are over.
+    fn go_on(&mut self, number: usize)
+        ensures part { self.new.part.items ≡ self.old.part.items }
+        ensures next { self.new.next ≡ number }
+        ensures turn { ((self.old.turn < number) × (self.new.turn ≡ number))
+            ⊎ ((number ≤ self.old.turn) × (self.new.turn ≡ self.old.turn)) }
+    {
+        self.next = number;
+        if self.turn < number {
+            self.turn = number;
+            self.busy = 0;
+        }
+    }
+
+    /// The transaction has committed: it is counted for the first script that it plays.
+    fn commit(&mut self, work: &Work<'_>, place: u64, entry: u64, outcomes: &mut [Outcome])
+        requires may { MayCount work.now.workers work.now.scripts.now self.old outcomes.old }
+        ensures { Commits work.now.workers work.now.scripts.now place entry self.old self.new
+            outcomes.old outcomes.new }
+    {
+        let number = self.first_played(work);
+        if number < work.scripts.len() {
+            outcomes[number] = Outcome::Committed { place, entry };
+            self.go_on(number + work.workers);
+        } else {
+            self.go_on(number);
+        }
+    }
+
+    /// The transaction has left to its end: the first script that it was an attempt at is over, and
+    /// the transaction is counted for it where it reached the script's abort.
+    fn leave(&mut self, work: &Work<'_>, entry: u64, outcomes: &mut [Outcome])
+        requires may { MayCount work.now.workers work.now.scripts.now self.old outcomes.old }
+        ensures { Aborts work.now.workers work.now.scripts.now entry self.old self.new
+            outcomes.old outcomes.new }
+    {
+        let (number, reached) = self.first_left(work);
+        self.busy = 0;
+        if work.scripts.len() <= number {
+            self.turn = number;
+        } else if reached {
+            outcomes[number] = Outcome::Aborted { entry };
+            self.turn = number + work.workers;
+        } else {
+            self.turn = number + work.workers;
+        }
+    }
+
+    /// An attempt found a stripe held: the script is over where it was tried often enough.
+    fn give_way(&mut self, work: &Work<'_>)
+        requires { 0 < work.now.workers }
+        ensures part { self.new.part.items ≡ self.old.part.items }
+        ensures next { self.new.next ≡ self.old.next }
+        ensures turn { self.old.turn ≤ self.new.turn }
+        ensures mine { self.new.turn % work.now.workers ≡ self.old.turn % work.now.workers }
+    {
+        if self.busy < work.tries {
+            self.busy += 1;
+        } else if self.turn < work.scripts.len() {
+            self.turn += work.workers;
+            self.busy = 0;
+        }
+    }
+
+    /// Whether the transaction was aborted after it had left to its end, and not since it found a
+    /// stripe held.
+    fn has_left(&self) -> bool {
+        matches!(
+            self.part.as_slice(),
+            [.., Entry::Leave(_, None), Entry::Aborted(_)]
+        )
+    }
+
+    /// Takes in the next entry of the worker's caller, of this index in the history.
+    pub(crate) fn take_in(
+        &mut self,
+        work: &Work<'_>,
+        entry: Entry,
+        index: u64,
+        outcomes: &mut [Outcome],
+    ) -> Result<(), AllocError>
+        requires may { MayCount work.now.workers work.now.scripts.now self.old outcomes.old }
+        ensures { OnOk result (Goes work.now.workers work.now.scripts.now entry index
+            self.old self.new outcomes.old outcomes.new) }
+    {
+        self.grow(entry)?;
+        match entry {
+            Entry::Committed(_, place) => {
+                self.commit(work, place, index, outcomes);
+                Ok(())
+            }
+            Entry::Aborted(_) => {
+                if self.has_left() {
+                    self.leave(work, index, outcomes);
+                    return Ok(());
+                }
+                Ok(())
+            }
+            Entry::Busy(..) => {
+                self.give_way(work);
+                Ok(())
+            }
+            _ => Ok(()),
+        }
+    }
+}

@@ -1,0 +1,134 @@
+//! What became of scripts: files of scripts and of histories, with the outcome of each script by
+//! hand.
+
+use script_outcomes::{Outcome, outcomes};
+use std::alloc::{AllocError, Global};
+use std::test::Fail;
+use txn_files::{read_packed_history, read_scripts};
+
+/// A script file, a history file, and the outcomes, one a line.
+type Row = (&'static str, &'static str, &'static str);
+
+/// Two workers meet: the second finds the stripe held, and is tried again.
+const MEET: Row = (
+    r#"{"version":1,"workers":2,"stripes":8,"buckets":8,"tries":3,
+        "scripts":[[["put",1,10]],[["put",1,11]]]}"#,
+    r#"{"version":3,"stripes":8,"entries":[["began",0,1],["asked",0,"put",1,10],["began",1,2],
+        ["busy",1,"put",1,11,0],["aborted",1],["did",0,null],["committed",0,1],["began",1,3],
+        ["asked",1,"put",1,11],["did",1,10],["committed",1,2]]}"#,
+    "committed 1 entry 6, committed 2 entry 10",
+);
+
+/// The same with no tries: the second worker goes on with its next script, and the first worker's
+/// next script is not begun.
+const USED_UP: Row = (
+    r#"{"version":1,"workers":2,"stripes":8,"buckets":8,"tries":0,
+        "scripts":[[["put",1,10]],[["put",1,11]],[["get",2]],[["get",5]]]}"#,
+    r#"{"version":3,"stripes":8,"entries":[["began",0,1],["asked",0,"put",1,10],["began",1,2],
+        ["busy",1,"put",1,11,0],["aborted",1],["began",1,3],["asked",1,"get",5],["did",1,null],
+        ["committed",1,1],["did",0,null],["committed",0,2]]}"#,
+    "committed 2 entry 10, given up, given up, committed 1 entry 8",
+);
+
+/// A script whose tries are used up, before one of the same worker that aborts at once.
+const USED_UP_BEFORE_AN_ABORT: Row = (
+    r#"{"version":1,"workers":2,"stripes":8,"buckets":8,"tries":1,
+        "scripts":[[["put",1,1],["put",2,2]],[["put",1,9]],[["abort"]]]}"#,
+    r#"{"version":3,"stripes":8,"entries":[["began",1,1],["asked",1,"put",1,9],["did",1,null],
+        ["began",0,2],["busy",0,"put",1,1,1],["aborted",0],["began",0,3],["busy",0,"put",1,1,1],
+        ["aborted",0],["began",0,4],["leave",0,null],["aborted",0],["committed",1,1]]}"#,
+    "given up, committed 1 entry 12, aborted entry 11",
+);
+
+/// A savepoint, an abort after help, and a script without actions.
+const SAVEPOINT: Row = (
+    r#"{"version":1,"workers":1,"stripes":8,"buckets":8,"tries":3,"scripts":[
+        [["put",1,10],["put",2,20],["save"],["take",1],["get",9],["back",1],["get",1]],
+        [["put",1,11],["help",3],["abort"],["get",7]],[]]}"#,
+    r#"{"version":1,"stripes":8,"entries":[["began",0,1],["asked",0,"put",1,10],["did",0,null],
+        ["asked",0,"put",2,20],["did",0,null],["saved",0],["asked",0,"take",1],["did",0,10],
+        ["asked",0,"get",9],["did",0,null],["leave",0,1],["undone",0],["returned",0,1],
+        ["asked",0,"get",1],["did",0,10],["committed",0,1],["began",0,2],["asked",0,"put",1,11],
+        ["did",0,10],["leave",0,null],["undone",0],["aborted",0],["began",0,3],["committed",0,2]]}"#,
+    "committed 1 entry 15, aborted entry 21, committed 2 entry 23",
+);
+
+/// A script that is refused has the entries of an abort, and the next one aborts itself.
+const REFUSED: Row = (
+    r#"{"version":1,"workers":1,"stripes":8,"buckets":8,"tries":3,
+        "scripts":[[["put",1,1],["back",7]],[["put",1,1],["abort"]]]}"#,
+    r#"{"version":1,"stripes":8,"entries":[["began",0,1],["asked",0,"put",1,1],["did",0,null],
+        ["leave",0,null],["undone",0],["aborted",0],["began",0,2],["asked",0,"put",1,1],
+        ["did",0,null],["leave",0,null],["undone",0],["aborted",0]]}"#,
+    "given up, aborted entry 11",
+);
+
+/// Two scripts of one worker are alike, and one transaction plays both: the first has it.
+const ALIKE: Row = (
+    r#"{"version":2,"workers":1,"stripes":8,"buckets":8,"tries":3,
+        "scripts":[[["put_if",1,null,5]],[["put_if",1,null,5]],[["put_if",1,5,6]]]}"#,
+    r#"{"version":2,"stripes":8,"entries":[["began",0,1],["asked",0,"put_if",1,null,5],
+        ["did",0,null],["committed",0,1],["began",0,2],["asked",0,"put_if",1,5,6],["did",0,5],
+        ["committed",0,2]]}"#,
+    "committed 1 entry 3, given up, committed 2 entry 7",
+);
+
+/// A transaction of the other caller's, one of no worker, and one of another value.
+const OF_OTHERS: Row = (
+    r#"{"version":1,"workers":2,"stripes":8,"buckets":8,"tries":3,
+        "scripts":[[["put",1,10]],[["put",2,20]]]}"#,
+    r#"{"version":1,"stripes":8,"entries":[["began",1,1],["asked",1,"put",1,10],["did",1,null],
+        ["committed",1,1],["began",2,2],["asked",2,"put",1,10],["did",2,10],["committed",2,2],
+        ["began",0,3],["asked",0,"put",1,11],["did",0,10],["committed",0,3]]}"#,
+    "given up, given up",
+);
+
+/// A history that ends in a transaction.
+const OPEN: Row = (
+    r#"{"version":1,"workers":1,"stripes":8,"buckets":8,"tries":3,"scripts":[[["put",1,10]],[]]}"#,
+    r#"{"version":1,"stripes":8,"entries":[["began",0,1],["asked",0,"put",1,10],["did",0,null]]}"#,
+    "given up, given up",
+);
+
+/// The outcomes as text.
+fn text_of(alloc: Global, found: &[Outcome]) -> Result<String, AllocError> {
+    let mut text = String::new(alloc);
+    for outcome in found {
+        if !text.is_empty() {
+            text.push_str(", ")?;
+        }
+        write!(text, "{outcome}")?;
+    }
+    Ok(text)
+}
+
+/// The outcomes of a row as text, unless a file or memory is refused.
+fn told(alloc: Global, row: &Row) -> Option<String> {
+    let (scripts, history, _) = *row;
+    let work = read_scripts(alloc, scripts.as_bytes()).ok()?;
+    let (_, entries, _) = read_packed_history(alloc, history.as_bytes()).ok()?;
+    let found = outcomes(alloc, &work, &entries).ok()?;
+    text_of(alloc, &found).ok()
+}
+
+#[test]
+fn have_their_outcomes(rt: HostRuntime) -> Result<(), Fail> {
+    let alloc = rt.alloc();
+    for row in [
+        MEET,
+        USED_UP,
+        USED_UP_BEFORE_AN_ABORT,
+        SAVEPOINT,
+        REFUSED,
+        ALIKE,
+        OF_OTHERS,
+        OPEN,
+    ] {
+        let text = match told(alloc, &row) {
+            Some(text) => text,
+            None => told(alloc, &row).ok_or("no outcomes")?,
+        };
+        assert_eq!(rt; text.as_str(), row.2);
+    }
+    Ok(())
+}
