@@ -6,10 +6,11 @@ mod engine;
 mod fault;
 mod file;
 mod judge;
+mod lines;
 mod output;
 mod reading;
 mod watcher;
 
 pub use basis::Basis;
-pub use engine::{check, watch};
+pub use engine::{check, watch, why};
 pub use fault::Fault;
