@@ -1,11 +1,12 @@
 #!/usr/bin/env bash
-# Tries what docs/JUDGE.md shows: the verdict on the stored history and both filters word for word, that
-# the store without a bug is judged legal, and that each bug is found within some runs. It needs
-# python3 and the built program, whose path may be its one word. It takes a minute or two, ends with a
-# line 'judge: N passed, M failed', and with status 1 where M is not 0.
+# Tries what docs/JUDGE.md shows: the lines of `judge why` on the stored history word for word, that the
+# store without a bug is judged legal, and that each bug is found within some runs. It needs python3 and
+# the built programs, boostmap and judge, whose paths may be its two words. It takes a minute or two,
+# ends with a line 'judge: N passed, M failed', and with status 1 where M is not 0.
 set -uo pipefail
 cd "$(dirname "${BASH_SOURCE[0]}")/../.." || exit 1
 program=${1:-crates/boostmap/out/boostmap}
+judge=${2:-crates/judge/out/judge}
 passed=0 failed=0
 
 # result NAME STATUS: counts a test that passed where the status is 0.
@@ -39,10 +40,7 @@ verdict() {
   docs/judge/store.py "$@" | "$program" check /dev/stdin
 }
 
-as_shown './boostmap check docs/judge/example.json' "$program" check docs/judge/example.json
-as_shown 'docs/judge/transaction.py docs/judge/example.json 125' \
-  docs/judge/transaction.py docs/judge/example.json 125
-as_shown 'docs/judge/key.py docs/judge/example.json 125' docs/judge/key.py docs/judge/example.json 125
+as_shown './judge why docs/judge/example.json' "$judge" why docs/judge/example.json
 for seed in 1 2 3 4 5; do
   verdict --last --seed "$seed" >/dev/null
   result "the store without a bug, seed $seed" $?

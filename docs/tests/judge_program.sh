@@ -80,24 +80,29 @@ both() {
 }
 
 verdicts() {
-  printf '%s\n' '["began",0,1]' '["began",1,2]' '["asked",0,"get",1]' '["did",0,null]' \
-    '["asked",1,"get",1]' '["did",1,null]' '["committed",0,1]' '["committed",1,2]' >"$work/lines"
-  both 'two that read a key side by side' '1 illegal entry 4 rule 2' '0 legal 2 commits 0 open'
-  printf '%s\n' '["began",0,1]' '["asked",0,"get",1]' '["did",0,7]' '["leave",0,null]' '["aborted",0]' \
-    >"$work/lines"
-  both 'a wrong reply, aborted' '1 illegal entry 2 rule 1' '0 legal 0 commits 0 open'
-  printf '%s\n' '["began",0,1]' '["asked",0,"get",1]' '["did",0,7]' '["committed",0,1]' >"$work/lines"
-  both 'a wrong reply, committed' '1 illegal entry 2 rule 1' '1 illegal entry 3 rule 1'
-  printf '%s\n' '["began",0,1]' '["began",1,2]' '["asked",0,"get",1]' '["did",0,null]' \
-    '["asked",1,"put",1,5]' '["did",1,null]' '["committed",1,1]' '["committed",0,2]' >"$work/lines"
-  both 'a reader that commits after the writer' '1 illegal entry 4 rule 2' '1 illegal entry 7 rule 1'
-  printf '%s\n' '["began",0,1]' '["began",1,2]' '["asked",0,"put",1,5]' '["did",0,null]' \
-    '["asked",1,"get",1]' '["did",1,5]' '["committed",0,1]' '["committed",1,2]' >"$work/lines"
-  both 'a reader of what commits first' '1 illegal entry 4 rule 2' '0 legal 2 commits 0 open'
-  printf '%s\n' '["began",0,2]' >"$work/lines"
-  both 'a wrong number' '1 illegal entry 0 rule 3' '1 illegal entry 0 rule 3'
-  printf '%s\n' '["began",0,1]' '["asked",0,"put",1,5]' >"$work/lines"
-  both 'a history that ends in a transaction' '0 legal 0 commits 1 open' '0 legal 0 commits 1 open'
+  local what entries by_locks by_commits rows=0
+  while IFS=$'\t' read -r what entries by_locks by_commits; do
+    python3 -c 'import json, sys
+for entry in json.loads(sys.argv[1]): print(json.dumps(entry))' "$entries" >"$work/lines"
+    both "$what" "$by_locks" "$by_commits"
+    rows=$((rows + 1))
+  done < <(rows_of 'The two judges')
+  echo "$rows" >"$work/out"
+  : >"$work/err"
+  echo 0 >"$work/status"
+  judge 'rows of the table of docs/FORMATS.md' 0 7 ''
+}
+
+# The rows of the first table below a heading of docs/FORMATS.md: what a row is, its entries as an
+# array, and each verdict after its status.
+rows_of() {
+  python3 -c 'import re, sys
+rows = open("docs/FORMATS.md").read().split("### " + sys.argv[1] + "\n", 1)[1].split("|---|", 1)[1]
+for row in rows.split("\n\n", 1)[0].split("\n")[1:]:
+    cells = [cell.strip() for cell in row.strip("|").split("|")]
+    entries = re.findall(r"`([^`]*)`", cells[0])
+    verdicts = [("0 " if "legal" == v.strip("`").split()[0] else "1 ") + v.strip("`") for v in cells[1:]]
+    print(cells[0].rsplit(": ", 1)[1], "[" + ",".join(entries) + "]", *verdicts, sep="\t")' "$1"
 }
 
 input() {
@@ -123,6 +128,234 @@ input() {
   printf '["began",0,2]\nno\n' | watches 1 'illegal entry 0 rule 3' '' 'a bad entry before a line that is none'
   printf '["beg\\u0061n",0,1]\n' | watches 0 'legal 0 commits 1 open' '' 'an escape'
   printf '["began",63,1]\n' | watches 0 'legal 0 commits 1 open' '' 'the last caller'
+}
+
+# explains STATUS OUT ERR WHAT VERSION WORD..: why, of a history of this version, whose entries are
+# lines of standard input, with 8 locks.
+explains() {
+  local status=$1 out=$2 err=$3 what=$4 version=$5
+  shift 5
+  python3 -c 'import json, sys
+entries = [json.loads(line) for line in sys.stdin]
+json.dump({"version": int(sys.argv[1]), "stripes": 8, "entries": entries}, open(sys.argv[2], "w"))' \
+    "$version" "$work/history.json"
+  run why "$@" "$work/history.json"
+  judge "why $*: $what" "$status" "$out" "$err"
+}
+
+# The line of each reason, by hand.
+reasons() {
+  local put='["began",0,1]
+["asked",0,"put",1,10]
+["did",0,null]'
+  explains 0 'legal 0 commits 1 open' '' 'a legal history' 1 <<<"$put"
+  explains 1 'illegal entry 6 rule 1
+the entry:
+  6 ["did",1,99]
+the reply that was due: 10
+key 1 was last changed at entry 2 by transaction 1 of caller 0: committed
+entries on key 1 since entry 3, where caller 0 committed its value:
+  5 ["asked",1,"get",1]
+entries of transaction 2 of caller 1:
+  4 ["began",1,2]
+  5 ["asked",1,"get",1]' '' 'a reply of what was never committed' 1 <<<"$put"'
+["committed",0,1]
+["began",1,2]
+["asked",1,"get",1]
+["did",1,99]'
+  explains 1 'illegal entry 4 rule 1
+the entry:
+  4 ["did",0,null]
+the reply that was due: 10
+key 1 was last changed at entry 2 by transaction 1 of caller 0: open
+entries on key 1, whose value no commit has changed:
+  1 ["asked",0,"put",1,10]
+  2 ["did",0,null]
+  3 ["asked",0,"get",1]
+entries of transaction 1 of caller 0:
+  0 ["began",0,1]
+  1 ["asked",0,"put",1,10]
+  2 ["did",0,null]
+  3 ["asked",0,"get",1]' '' 'a change of its own that is not seen' 1 <<<"$put"'
+["asked",0,"get",1]
+["did",0,null]'
+  explains 1 'illegal entry 8 rule 1
+the entry:
+  8 ["did",1,10]
+the reply that was due: none
+key 1 was last changed at entry 2 by transaction 1 of caller 0: undone
+entries on key 1, whose value no commit has changed:
+  1 ["asked",0,"put",1,10]
+  2 ["did",0,null]
+  4 ["undone",0]
+  7 ["asked",1,"get",1]
+entries of transaction 2 of caller 1:
+  6 ["began",1,2]
+  7 ["asked",1,"get",1]' '' 'a change that was taken back' 1 <<<"$put"'
+["leave",0,null]
+["undone",0]
+["aborted",0]
+["began",1,2]
+["asked",1,"get",1]
+["did",1,10]'
+  explains 1 'illegal entry 2 rule 1
+the entry:
+  2 ["did",0,7]
+the reply that was due: none
+key 1 was never changed
+entries on key 1, whose value no commit has changed:
+  1 ["asked",0,"get",1]
+entries of transaction 1 of caller 0:
+  0 ["began",0,1]
+  1 ["asked",0,"get",1]' '' 'a key that nobody changed' 1 <<<'["began",0,1]
+["asked",0,"get",1]
+["did",0,7]'
+  explains 1 'illegal entry 4 rule 2
+the entry:
+  4 ["asked",1,"get",9]
+lock 1 is held by transaction 1 of caller 0 since entry 1' '' 'a lock that is held' 1 <<<"$put"'
+["began",1,2]
+["asked",1,"get",9]'
+  explains 1 'illegal entry 1 rule 2
+the entry:
+  1 ["busy",0,"get",9,1]
+lock 1 is free
+busy must name the holder, and not caller 1' '' 'a lock that is free' 1 <<<'["began",0,1]
+["busy",0,"get",9,1]'
+  explains 1 'illegal entry 1 rule 2
+the entry:
+  1 ["busy",0,"get",9,1]
+lock 1 is free
+caller 1 has begun no transaction' '' 'a caller that has begun nothing' 3 <<<'["began",0,1]
+["busy",0,"get",9,1]'
+  explains 1 'illegal entry 1 rule 2
+the entry:
+  1 ["busy",0,"get",9,0]
+lock 1 is free
+busy must name another caller' '' 'a caller that is busy over itself' 3 <<<'["began",0,1]
+["busy",0,"get",9,0]'
+}
+
+# What may stand in place of an entry, in each phase.
+shapes() {
+  explains 1 'illegal entry 0 rule 3
+the entry:
+  0 ["began",0,2]
+what may stand there: ["began",0,1]
+entries of caller 0:' '' 'a wrong number' 1 <<<'["began",0,2]'
+  explains 1 'illegal entry 1 rule 3
+the entry:
+  1 ["committed",0,2]
+what may stand there: asked, busy, saved, leave or ["committed",0,1]
+entries of transaction 1 of caller 0:
+  0 ["began",0,1]' '' 'a wrong place' 1 <<<'["began",0,1]
+["committed",0,2]'
+  explains 1 'illegal entry 2 rule 3
+the entry:
+  2 ["saved",0]
+what may stand there: did or ["leave",0,null]
+entries of transaction 1 of caller 0:
+  0 ["began",0,1]
+  1 ["asked",0,"get",1]' '' 'an operation without its reply' 1 <<<'["began",0,1]
+["asked",0,"get",1]
+["saved",0]'
+  explains 1 'illegal entry 4 rule 3
+the entry:
+  4 ["aborted",0]
+what may stand there: ["undone",0]
+entries of transaction 1 of caller 0:
+  0 ["began",0,1]
+  1 ["asked",0,"put",1,10]
+  2 ["did",0,null]
+  3 ["leave",0,null]' '' 'a change that is not taken back' 1 <<<'["began",0,1]
+["asked",0,"put",1,10]
+["did",0,null]
+["leave",0,null]
+["aborted",0]'
+  explains 1 'illegal entry 2 rule 3
+the entry:
+  2 ["undone",0]
+what may stand there: ["aborted",0]
+entries of transaction 1 of caller 0:
+  0 ["began",0,1]
+  1 ["leave",0,null]' '' 'nothing to take back' 1 --serializable <<<'["began",0,1]
+["leave",0,null]
+["undone",0]'
+  explains 1 'illegal entry 2 rule 3
+the entry:
+  2 ["undone",0]
+what may stand there: undone for each change above level 0, then ["returned",0,0]
+entries of transaction 1 of caller 0:
+  0 ["began",0,1]
+  1 ["leave",0,0]' '' 'nothing to take back above a level' 1 <<<'["began",0,1]
+["leave",0,0]
+["undone",0]'
+}
+
+# What leads to a transaction that may not commit.
+commits() {
+  explains 1 'illegal entry 7 rule 1
+the entry:
+  7 ["committed",0,2]
+the first reply at key 1 was none; the reply that was due: 5
+key 1 was last changed at entry 5 by transaction 2 of caller 1: committed
+entries on key 1 since entry 6, where caller 1 committed its value:
+entries of transaction 1 of caller 0:
+  0 ["began",0,1]
+  2 ["asked",0,"get",1]
+  3 ["did",0,null]' '' 'a reader that commits after the writer' 1 --serializable <<<'["began",0,1]
+["began",1,2]
+["asked",0,"get",1]
+["did",0,null]
+["asked",1,"put",1,5]
+["did",1,null]
+["committed",1,1]
+["committed",0,2]'
+  explains 1 'illegal entry 5 rule 1
+the entry:
+  5 ["committed",0,1]
+no map gives the transaction all of its replies
+entries of transaction 1 of caller 0:
+  0 ["began",0,1]
+  1 ["asked",0,"get",1]
+  2 ["did",0,null]
+  3 ["asked",0,"get",1]
+  4 ["did",0,5]' '' 'two replies that differ' 1 --serializable <<<'["began",0,1]
+["asked",0,"get",1]
+["did",0,null]
+["asked",0,"get",1]
+["did",0,5]
+["committed",0,1]'
+}
+
+# The lines of a file that is refused.
+refusals() {
+  local members entry limits of
+  members='$: no object, or $.version, $.stripes or $.entries is missing, or is no whole number,
+no whole number and no array, each without sign, fraction or exponent'
+  entry='no array of an entry: ["began",C,T], ["asked",C,OP], ["did",C,REPLY], ["saved",C],
+["leave",C,LEVEL], ["undone",C], ["returned",C,N], ["committed",C,P], ["busy",C,OP,HOLDER] or
+["aborted",C], where REPLY and LEVEL are a number or null and OP is "put",K,V or "take",K or
+"get",K or, from version 2 on, "put_if",K,E,V, with E a number or null'
+  limits='$: more than 16777216 bytes; or $.version is not 1 to 3, $.stripes is not 1 to 4096,
+$.entries has more than 1000000 elements, or a caller or a holder in it is above 63'
+  wants 3 '$: no JSON, or nested more than 127 deep' 'refused 20' why README.md
+  wants 3 "$members" 'refused 21' why examples/first_commit.json
+  explains 3 "\$.entries[1]: $entry" 'refused 21 entry 1' 'an entry that is none' 1 <<<'["began",0,1]
+["commited",0,1]'
+  explains 3 "$limits" 'refused 22' 'a caller out of range' 1 <<<'["began",64,1]'
+  explains 3 "$limits" 'refused 22' 'a version out of range' 4 <<<'["began",0,1]'
+  wants 4 '' 'read failed' why examples/missing.json
+  wants 2 '' "$usage" why
+  wants 2 '' "$usage" why --stripes 8 examples/checked.json
+  wants 0 'legal 2 commits 0 open' '' why examples/checked.json
+  wants 0 'legal 4 commits 4 open' '' why --serializable docs/judge/example.json
+  for of in examples/checked.json docs/judge/example.json README.md; do
+    "$program" why "$of" >/dev/full 2>"$work/err"
+    echo $? >"$work/status"
+    : >"$work/out"
+    judge "why $of to a full device" 4 '' 'write failed'
+  done
 }
 
 # A line of this many bytes, which is an entry.
@@ -218,9 +451,16 @@ real_stores() {
     found='not found'
     for seed in 1 2 3 4; do
       # shellcheck disable=SC2086
-      docs/judge/sqlite.py $words --seed $seed --lines 2>/dev/null |
-        "$program" watch --serializable >"$work/out" 2>"$work/err"
-      [ "${PIPESTATUS[1]}" != 1 ] || found=found
+      docs/judge/sqlite.py $words --seed $seed >"$work/sqlite.json" 2>/dev/null
+      lines_of "$work/sqlite.json" 2>/dev/null |
+        "$program" watch --serializable >"$work/verdict" 2>"$work/err"
+      # What leads to the bug stands after the same verdict.
+      run why --serializable "$work/sqlite.json"
+      if ! head -n 1 "$work/out" | cmp -s - "$work/verdict"; then
+        found='two verdicts'
+      elif grep -q '^the first reply at key\|^no map gives' "$work/out"; then
+        [ "$found" != 'not found' ] || found=found
+      fi
     done
     echo "$found" >"$work/out"
     echo 0 >"$work/status"
@@ -232,6 +472,10 @@ usage_errors
 help_and_version
 files
 verdicts
+reasons
+shapes
+commits
+refusals
 input
 limits
 many

@@ -1,5 +1,5 @@
 -- How reading ends, and what is written then.
-use Rattle.std.proofs.Common.{◌≡◌, ℕ, List, [], ◌++◌, Option, Some, None, Result, Ok, Err, take, refl}
+use Rattle.std.proofs.Common.{◌≡◌, ℕ, List, [], ◌++◌, Option, Some, None, Result, Ok, Err, take, refl, sym, subst, ◌⊎◌, inl, inr}
 use Rattle.std.specs.Prelude.{IfOk, IfErr, MatchResult, IfSome}
 use Rattle.std.specs.Io.KnownBytes.{Consumes, IsAtEnd, Keeps}
 use Rattle.history_check.specs.declared.verdict.Verdict.{Verdict}
@@ -7,7 +7,7 @@ use Rattle.judge_engine.specs.declared.basis.Basis.{Basis}
 use Rattle.judge_engine.specs.declared.fault.Fault.{Fault}
 use Rattle.judge_engine.specs.declared.fault.Fault.TheVariants.{Input, Line, NoMemory, Read, Write}
 use Rattle.entry_lines.specs.Lines.{history_of_lines}
-use Rattle.judge_engine.specs.Files.{FailsToCheck, IsUnjudgedFile, max_read, OfFile}
+use Rattle.judge_engine.specs.Files.{FailsToCheck, FailsToExplain, IsUnjudgedFile, max_read, OfFile}
 use Rattle.judge_engine.specs.Outputs.{FailsToWrite, Leaves}
 use Rattle.judge_engine.specs.Watching.{FailsToWatch, IsJudgedLines, IsRefusedLine, IsUnjudged, Watches}
 use Rattle.judge_engine.proofs.Known.{OfAll-early, OfAll-read}
@@ -65,3 +65,15 @@ leaves_check P remaining old bytes NoMemory known h = keeps_all old
 leaves_check P remaining old bytes Read known h = keeps_all old
 leaves_check P remaining old bytes (Line number fault) known h = absurd h
 leaves_check P remaining old bytes Write known h = absurd h
+
+pub fails_to_explain : (remaining : Option (List ℕ)) (bytes : List ℕ) (fault : Fault) → IfSome remaining (λ all. bytes ≡ take max_read all) → IsUnjudgedFile bytes fault → FailsToExplain remaining fault
+fails_to_explain remaining bytes (Input fault) known h = (bytes, known, h)
+fails_to_explain remaining bytes NoMemory known h = tt
+fails_to_explain remaining bytes Read known h = tt
+fails_to_explain remaining bytes (Line number fault) known h = absurd h
+fails_to_explain remaining bytes Write known h = absurd h
+
+-- The fault that is told is the same, or that of a write.
+pub told_fault : (remaining : Option (List ℕ)) (fault told : Fault) → (told ≡ fault) ⊎ (told ≡ Write) → FailsToExplain remaining fault → FailsToExplain remaining told
+told_fault remaining fault told (inl is) h = subst (FailsToExplain remaining) (sym is) h
+told_fault remaining fault told (inr is) h = subst (FailsToExplain remaining) (sym is) tt

@@ -31,6 +31,13 @@ WritesLine IsRight legal old new =
     (outcome : Verdict) × IsRight outcome × (legal ≡ says_legal outcome)
     × Appends old new (verdict_line outcome)
 
+-- The line of such a verdict was written and further lines after it, and this is whether it says
+-- legal.
+abbrev pub WritesLines : (Verdict → Type 0) → Bool → Option (List ℕ) → Option (List ℕ) → Type 0
+WritesLines IsRight legal old new =
+    (outcome : Verdict) × (lines : List ℕ) × IsRight outcome × (legal ≡ says_legal outcome)
+    × Appends old new (verdict_line outcome ++ lines)
+
 -- What was written at a fault: nothing, and the fault is such a one. Where a write failed there is
 -- such a verdict.
 abbrev pub Leaves : (Verdict → Type 0) → (Fault → Type 0) → Option (List ℕ) → Option (List ℕ)

@@ -1,13 +1,13 @@
 ghost use Rattle.std.specs.Prelude.{IfOk, IfErr};
 ghost use Rattle.judge_engine.specs.Bases.{HasStripes};
-ghost use Rattle.judge_engine.specs.Files.{Checks, FailsToCheck};
-ghost use Rattle.judge_engine.specs.Outputs.{Leaves, WritesLine};
+ghost use Rattle.judge_engine.specs.Files.{Checks, FailsToCheck, FailsToExplain};
+ghost use Rattle.judge_engine.specs.Outputs.{Leaves, WritesLine, WritesLines};
 ghost use Rattle.judge_engine.specs.Watching.{FailsToWatch, Watches};
 
 use crate::basis::Basis;
 use crate::fault::Fault;
-use crate::file::judge_file;
-use crate::output::write_verdict;
+use crate::file::{explain_file, judge_file};
+use crate::output::{tell, write_explained, write_verdict};
 use crate::reading::{read_file, watch_lines};
 use std::alloc::Global;
 use std::io::{Read, Write};
@@ -86,4 +86,37 @@ pub fn check<R: Read + Drop, W: Write>(
     let bytes = read_file(alloc, input)?;
     let verdict = judge_file(alloc, by_commits, bytes)?;
     write_verdict(alloc, verdict, output)
+}
+
+/// Judges a history file as `check` does, and writes after the verdict's line, if it is illegal,
+/// lines that lead to the bad entry. The answer is whether the history is legal.
+///
+/// Of a file that is refused it writes the JSON path of the fault, and what is wrong there.
+///
+/// # Errors
+///
+/// - `Read` where a read fails.
+/// - `Input` where the file is refused.
+/// - `NoMemory` where memory is refused.
+/// - `Write` where a write fails or takes nothing.
+///
+/// # Cost
+///
+/// That of the checker for each entry, some times over, and time and memory in proportion to the
+/// file.
+pub fn why<R: Read + Drop, W: Write>(
+    alloc: Global,
+    by_commits: bool,
+    input: R,
+    output: &mut W,
+) -> Result<bool, Fault>
+    ensures judges { IfOk result (λ legal. WritesLines (Checks by_commits (R.remaining input)) legal
+        (W.contents output.old) (W.contents output.new)) }
+    ensures fault { IfErr result (FailsToExplain (R.remaining input)) }
+{
+    let bytes = read_file(alloc, input)?;
+    match explain_file(alloc, by_commits, bytes) {
+        Ok((verdict, lines)) => write_explained(alloc, verdict, lines.as_str(), output),
+        Err(fault) => Err(tell(fault, output)),
+    }
 }

@@ -9,6 +9,7 @@ ghost use Rattle.judge_engine.specs.Bases.{IsVerdictBy};
 ghost use Rattle.judge_engine.specs.Files.{holder_in, IsJudgedFile, IsUnjudgedFile};
 
 use crate::fault::Fault;
+use crate::lines::{lines_by_commits, lines_by_locks};
 use history_check::Verdict;
 use std::alloc::{AllocError, Global};
 use txn_files::{FileFault, read_packed_history};
@@ -78,4 +79,37 @@ pub(crate) fn judge_file(alloc: Global, by_commits: bool, bytes: Vec<u8>) -> Res
         return Ok(in_order_of_commits(alloc, entries)?);
     }
     Ok(by_locks(alloc, entries, stripes, holder_in(version))?)
+}
+
+/// The verdict on the history file that bytes are, and the lines that lead to the bad entry, of
+/// which there are none for a verdict of legal.
+///
+/// # Errors
+///
+/// `Input` where the bytes are no history file; `NoMemory` where memory is refused.
+///
+/// # Cost
+///
+/// That of the checker for each entry, some times over, and time and memory in proportion to the
+/// bytes.
+pub(crate) fn explain_file(
+    alloc: Global,
+    by_commits: bool,
+    bytes: Vec<u8>,
+) -> Result<(Verdict, String), Fault>
+    ensures ok { IfOk result (λ found. IsJudgedFile by_commits bytes.items found.0) }
+    ensures err { IfErr result (IsUnjudgedFile bytes.items) }
+{
+    let (stripes, packed, version) = history_in(alloc, bytes)?;
+    let entries = packed.as_slice();
+    let stripes = u64::from(stripes);
+    if by_commits {
+        let verdict = in_order_of_commits(alloc, entries)?;
+        let lines = lines_by_commits(alloc, entries, verdict)?;
+        return Ok((verdict, lines));
+    }
+    let holder = holder_in(version);
+    let verdict = by_locks(alloc, entries, stripes, holder)?;
+    let lines = lines_by_locks(alloc, entries, verdict, stripes, holder)?;
+    Ok((verdict, lines))
 }

@@ -9,9 +9,11 @@ use std::fmt;
 /// What is printed of words that are none of the program's, and of a call for help.
 pub(crate) const USAGE: &str = "usage: judge check [--serializable] FILE
        judge watch [--serializable | --stripes N]
+       judge why [--serializable] FILE
 
   check FILE  says whether the history of a file is legal, or which entry breaks which rule
   watch       says so of the entries that standard input has, one a line, as each comes
+  why FILE    says what check says, and what leads to the entry, or to the fault of the file
 
   --serializable  judges by the order of commits, and not by locks
   --stripes N     how many locks the keys are shared out to: 1 to 4096, and 4096 if it is not given

@@ -6,7 +6,7 @@ ghost use Rattle.judge_line.specs.Runs.{IsReady, Tells, status_after};
 use crate::failure::{Failure, USAGE};
 use crate::system::System;
 use crate::words::{Call, call_in};
-use judge_engine::{Fault, check, watch};
+use judge_engine::{Fault, check, watch, why};
 use std::alloc::Global;
 use std::io;
 use std::io::{Read, Write};
@@ -70,6 +70,10 @@ fn answer<S: System, W: Write>(
         Call::Watch { basis } => {
             let mut source = open(system, STANDARD)?;
             Ok(watch(alloc, basis, &mut source, output)?)
+        }
+        Call::Why { by_commits, file } => {
+            let source = open(system, file)?;
+            Ok(why(alloc, by_commits, source, output)?)
         }
     }
 }

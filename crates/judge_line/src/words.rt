@@ -29,6 +29,13 @@ pub enum Call<'a> {
         /// By which rules.
         basis: Basis,
     },
+    /// To judge the history of a file, and to say what leads to its bad entry.
+    Why {
+        /// Whether it is judged by the order of commits.
+        by_commits: bool,
+        /// The file's name.
+        file: &'a str,
+    },
 }
 
 /// The most locks that keys may be shared out to, and how many they are if it is not said.
@@ -41,12 +48,12 @@ fn commits_flag<'a>(alloc: Global) -> Arg<'a> {
         .action(ArgAction::SetTrue)
 }
 
-/// The command `check`, over a file.
-fn check_command<'a>(alloc: Global) -> Result<Command<'a>, AllocError> {
+/// A command of this name over a history file: `check` or `why`.
+fn command_on_history<'a>(alloc: Global, name: &'a str) -> Result<Command<'a>, AllocError> {
     let file = Arg::new(alloc, "FILE")
         .required(true)
         .action(ArgAction::Set);
-    let command = Command::new(alloc, "check").arg(commits_flag(alloc))?;
+    let command = Command::new(alloc, name).arg(commits_flag(alloc))?;
     command.arg(file)
 }
 
@@ -64,8 +71,9 @@ fn command<'a>(alloc: Global) -> Result<Command<'a>, AllocError> {
     Command::new(alloc, "judge")
         .version("1.0.0")
         .subcommand_required(true)
-        .subcommand(check_command(alloc)?)?
-        .subcommand(watch_command(alloc)?)
+        .subcommand(command_on_history(alloc, "check")?)?
+        .subcommand(watch_command(alloc)?)?
+        .subcommand(command_on_history(alloc, "why")?)
 }
 
 /// Whether what was found of a flag says that it is set.
@@ -120,6 +128,10 @@ fn call_named<'a>(name: &str, found: &ArgMatches<'a>) -> Option<Call<'a>>
         "watch" => {
             let basis = basis_in(by_commits, found.get_str("stripes"))?;
             Some(Call::Watch { basis })
+        }
+        "why" => {
+            let file = found.get_str("FILE")?;
+            Some(Call::Why { by_commits, file })
         }
         _ => None,
     }

@@ -1,0 +1,3 @@
+pub mod Noted
+pub mod Fronts
+pub mod Steps

@@ -1,0 +1,78 @@
+-- Changes of a key, and what becomes of them.
+use Rattle.std.specs.Prelude.{ℕ, ◌+◌, ◌-◌, ◌==◌, Bool, false, ◌&&◌, Option, Some, None, List, [], ◌∷◌, length, drop, if◌then◌else◌}
+use Rattle.txn_trace.specs.declared.op.Op.{Op}
+use Rattle.txn_trace.specs.declared.entry.Entry.{Entry}
+use Rattle.txn_trace.specs.declared.entry.Entry.TheVariants as entries
+use Rattle.txn_trace.specs.History.{caller_of}
+use Rattle.txn_trace.specs.Map.{key_of}
+use Rattle.txn_trace.specs.Shape.{changes}
+use Rattle.bad_entry.specs.declared.change.Change.{Change}
+use Rattle.bad_entry.specs.declared.change.Fate.{Fate}
+use Rattle.bad_entry.specs.declared.change.Fate.TheVariants.{Open, Committed, Undone}
+use Rattle.bad_entry.specs.Desks.{txn_in, waiting_in}
+use Rattle.bad_entry.specs.Places.{last_of}
+
+-- Whether a reply to an operation, if one waits, makes a change of the key.
+abbrev pub changes_key : ℕ → Option Op → Option ℕ → Bool
+changes_key k None r = false
+changes_key k (Some op) r = (key_of op == k) && changes op r
+
+-- The change of the key that an entry at this index makes after g, if it makes one.
+abbrev pub change_at : ℕ → ℕ → List Entry → Entry → Option Change
+change_at k i g (entries.Did c r) =
+    if changes_key k (waiting_in g c) r
+    then Some (record { did = i; caller = c; txn = txn_in g c })
+    else None
+change_at k i g _ = None
+
+-- The last change of the key, be it taken back or not.
+abbrev pub last_change : ℕ → List Entry → Option Change
+last_change k h = last_of (λ g e. change_at k (length g) g e) h
+
+-- Whether a reply to an operation, if one waits, makes a change.
+abbrev pub is_change : Option Op → Option ℕ → Bool
+is_change None r = false
+is_change (Some op) r = changes op r
+
+-- What an entry decides of a change: a commit lets it stand, an abort leaves nothing of it, and an
+-- Undone takes back the newest change that stands.
+abbrev pub decided_by : ℕ → Entry → Option Fate
+decided_by above (entries.Committed c p) = Some Committed
+decided_by above (entries.Aborted c) = Some Undone
+decided_by above (entries.Undone c) = if above == 0 then Some Undone else None
+decided_by above _ = None
+
+-- The same for an entry of any caller: one of another caller decides nothing.
+abbrev pub decided : ℕ → ℕ → Entry → Option Fate
+decided c above e = if caller_of e == c then decided_by above e else None
+
+-- The operation that waits after an entry of the caller, and how many newer changes stand.
+abbrev pub waiting_by : Option Op → Entry → Option Op
+waiting_by waiting (entries.Asked c op) = Some op
+waiting_by waiting (entries.Did c r) = None
+waiting_by waiting _ = waiting
+
+abbrev pub above_by : Option Op → ℕ → Entry → ℕ
+above_by waiting above (entries.Did c r) = if is_change waiting r then above + 1 else above
+above_by waiting above (entries.Undone c) = above - 1
+above_by waiting above _ = above
+
+-- The same after an entry of any caller.
+abbrev pub waiting_after : ℕ → Option Op → Entry → Option Op
+waiting_after c waiting e = if caller_of e == c then waiting_by waiting e else waiting
+
+abbrev pub above_after : ℕ → Option Op → ℕ → Entry → ℕ
+above_after c waiting above e = if caller_of e == c then above_by waiting above e else above
+
+-- What becomes of a change of a caller by the entries after it, where the caller waits with this
+-- operation, and so many newer changes of it stand above the change.
+abbrev pub fate_from : ℕ → Option Op → ℕ → List Entry → Fate
+fate_from c waiting above [] = Open
+fate_from c waiting above (e ∷ es) = elim (decided c above e) [
+  | Some fate ↦ fate
+  | None ↦ fate_from c (waiting_after c waiting e) (above_after c waiting above e) es
+]
+
+-- What became of a change of the history.
+abbrev pub fate_of : List Entry → Change → Fate
+fate_of h change = fate_from change.caller None 0 (drop (change.did + 1) h)

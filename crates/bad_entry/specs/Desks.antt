@@ -1,0 +1,29 @@
+-- What each caller is at.
+use Rattle.std.specs.Prelude.{◌≡◌, ℕ, Option, List, slice_get}
+use Rattle.std.specs.Option.{IfSome}
+use Rattle.std.specs.List.{fold}
+use Rattle.txn_trace.specs.declared.entry.Entry.{Entry}
+use Rattle.txn_trace.specs.declared.op.Op.{Op}
+use Rattle.txn_trace.specs.History.{txn_after}
+use Rattle.txn_trace.specs.Log.{log_after}
+use Rattle.txn_trace.specs.Shape.{own}
+use Rattle.serial_check.specs.Serializable.{txn_in as the_txn_in}
+use Rattle.bad_entry.specs.declared.desks.Desk.{Desk}
+use Rattle.bad_entry.specs.declared.desks.Desks.{Desks}
+
+-- The transaction that a caller began last.
+abbrev pub txn_in : List Entry → ℕ → Option ℕ
+txn_in h c = the_txn_in h c
+
+-- The operation that a caller waits with for its reply.
+abbrev pub waiting_in : List Entry → ℕ → Option Op
+waiting_in h c = (log_after (own c h)).pending
+
+-- The desk of a caller is what its entries make it.
+pub record IsAt (h : List Entry) (c : ℕ) (desk : Desk) : Type 0 where
+  pub waiting : desk.waiting ≡ waiting_in h c
+  pub txn : desk.txn ≡ txn_in h c
+
+-- So is each of them.
+pub record HaveNoted (h : List Entry) (desks : Desks) : Type 0 where
+  pub each : (c : ℕ) → IfSome (slice_get desks.table.items c) (IsAt h c)

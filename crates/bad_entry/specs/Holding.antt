@@ -1,0 +1,38 @@
+-- Who holds a stripe, and since when.
+use Rattle.std.specs.Prelude.{◌≡◌, ℕ, ◌==◌, ◌&&◌, Option, Some, None, List, length, nat_eq, if◌then◌else◌}
+use Rattle.std.specs.Option.{option_eq}
+use Rattle.txn_trace.specs.declared.entry.Entry.{Entry}
+use Rattle.txn_trace.specs.declared.entry.Entry.TheVariants.{Asked, Committed, Aborted}
+use Rattle.txn_trace.specs.History.{caller_of}
+use Rattle.txn_trace.specs.Locks.{asks_in, holder_of, stripe_of}
+use Rattle.txn_trace.specs.Map.{key_of}
+use Rattle.bad_entry.specs.declared.held.Held.{Held}
+use Rattle.bad_entry.specs.Desks.{txn_in}
+use Rattle.bad_entry.specs.Places.{first_of}
+
+-- The holder of a stripe after one more entry, by the holder before it: an Asked takes its stripe,
+-- and the end of a transaction gives its caller's back.
+abbrev pub next_holder : ℕ → ℕ → Option ℕ → Entry → Option ℕ
+next_holder stripes s held (Asked c op) =
+    if stripe_of stripes (key_of op) == s then Some c else held
+next_holder stripes s held (Committed c p) =
+    if option_eq nat_eq held (Some c) then None else held
+next_holder stripes s held (Aborted c) = if option_eq nat_eq held (Some c) then None else held
+next_holder stripes s held e = held
+
+-- The index of an entry, if it asks for a key of the stripe, and its transaction is the wanted one.
+abbrev pub asked_in : Option ℕ → Option ℕ → ℕ → ℕ → ℕ → Entry → Option ℕ
+asked_in txn wanted stripes s i e =
+    if asks_in stripes s e && option_eq nat_eq txn wanted then Some i else None
+
+-- The first entry by which a transaction asked for a key of the stripe: since then it holds it.
+abbrev pub held_since : Option ℕ → ℕ → ℕ → List Entry → Option ℕ
+held_since txn stripes s h =
+    first_of (λ g e. asked_in (txn_in g (caller_of e)) txn stripes s (length g) e) h
+
+-- The stripe is free, or this caller holds it, in this transaction, since this entry.
+abbrev pub IsHeld : ℕ → ℕ → List Entry → Option Held → Type 0
+IsHeld stripes s h None = holder_of stripes s h ≡ None
+IsHeld stripes s h (Some held) =
+    (holder_of stripes s h ≡ Some held.caller) × (held.txn ≡ txn_in h held.caller)
+    × (held.since ≡ held_since held.txn stripes s h)

@@ -1,0 +1,25 @@
+-- The first and the last of what a history has.
+use Rattle.std.specs.Prelude.{Option, None, List, [], ◌∷◌, ◌++◌}
+use Rattle.std.specs.Option.{option_or}
+use Rattle.txn_trace.specs.declared.entry.Entry.{Entry}
+
+-- Of the entries h that come after g, the last of which a test says something, and what it says:
+-- the test has the entries before.
+abbrev pub last_from : {X : Type 0} → (List Entry → Entry → Option X) → List Entry → List Entry
+    → Option X → Option X
+last_from test g [] last = last
+last_from test g (e ∷ h) last = last_from test (g ++ e ∷ []) h (option_or (test g e) last)
+
+-- The last of a history.
+abbrev pub last_of : {X : Type 0} → (List Entry → Entry → Option X) → List Entry → Option X
+last_of test h = last_from test [] h None
+
+-- Of the entries h that come after g, the first of which a test says something, and what it says.
+abbrev pub first_from : {X : Type 0} → (List Entry → Entry → Option X) → List Entry → List Entry
+    → Option X
+first_from test g [] = None
+first_from test g (e ∷ h) = option_or (test g e) (first_from test (g ++ e ∷ []) h)
+
+-- The first of a history.
+abbrev pub first_of : {X : Type 0} → (List Entry → Entry → Option X) → List Entry → Option X
+first_of test h = first_from test [] h

@@ -1,0 +1,78 @@
+-- What the reason of a verdict says of the history before the bad entry.
+use Rattle.std.specs.Prelude.{◌≡◌, ℕ, true, Option, Some, None, List, slice_get}
+use Rattle.txn_trace.specs.declared.op.Op.{Op}
+use Rattle.txn_trace.specs.declared.entry.Entry.{Entry}
+use Rattle.txn_trace.specs.declared.entry.Entry.TheVariants as entries
+use Rattle.txn_trace.specs.History.{caller_of, is_commit, is_open}
+use Rattle.txn_trace.specs.Locks.{stripe_of}
+use Rattle.txn_trace.specs.Log.{log_of}
+use Rattle.txn_trace.specs.Map.{key_of, reply_of}
+use Rattle.txn_trace.specs.Now.{now}
+use Rattle.txn_trace.specs.Shape.{how_many}
+use Rattle.history_check.specs.Callers.{IsIn}
+use Rattle.history_check.specs.declared.verdict.Rule.{Rule}
+use Rattle.history_check.specs.declared.verdict.Rule.TheVariants as rules
+use Rattle.serial_check.specs.Commits.{FitsOrTorn, IsMisread}
+use Rattle.serial_check.specs.declared.commits.Misread.{Misread}
+use Rattle.bad_entry.specs.declared.change.Change.{Change}
+use Rattle.bad_entry.specs.declared.change.Fate.{Fate}
+use Rattle.bad_entry.specs.declared.reason.Reason.{Reason}
+use Rattle.bad_entry.specs.declared.reason.Reason.TheVariants as reasons
+use Rattle.bad_entry.specs.Changes.{fate_of, last_change}
+use Rattle.bad_entry.specs.Commits.{last_commit}
+use Rattle.bad_entry.specs.Desks.{txn_in, waiting_in}
+use Rattle.bad_entry.specs.Holding.{IsHeld}
+
+-- It is the last change of the key, with what became of it.
+abbrev pub IsLast : ℕ → List Entry → Option (Change × Fate) → Type 0
+IsLast k h None = last_change k h ≡ None
+IsLast k h (Some last) = (last_change k h ≡ Some last.0) × (last.1 ≡ fate_of h last.0)
+
+-- The caller waits with this operation, this reply is due to it by the map now, and this is the
+-- last change of its key; or it waits with none.
+abbrev pub IsReplyReason : List Entry → ℕ → Reason → Type 0
+IsReplyReason h c (reasons.Reply op due last) =
+    (waiting_in h c ≡ Some op) × (due ≡ reply_of (now h) op) × IsLast (key_of op) h last
+IsReplyReason h c reasons.Nothing = waiting_in h c ≡ None
+IsReplyReason h c _ = ⊥
+
+-- It is the stripe of the operation's key, and who holds it.
+abbrev pub IsLockReason : ℕ → Op → List Entry → Reason → Type 0
+IsLockReason stripes op h (reasons.Lock stripe holder) =
+    (stripe ≡ stripe_of stripes (key_of op)) × IsHeld stripes stripe h holder
+IsLockReason stripes op h _ = ⊥
+
+-- The caller is in this phase, this is its newest change that stands, and so many transactions
+-- committed.
+abbrev pub IsShapeReason : List Entry → ℕ → Reason → Type 0
+IsShapeReason h c (reasons.Shape phase newest began committed) =
+    IsIn h c phase × (newest ≡ slice_get (log_of c h) 0) × (committed ≡ how_many is_commit h)
+IsShapeReason h c _ = ⊥
+
+-- By locks: what leads to an entry that breaks the rule.
+abbrev pub IsReasonByLocks : Rule → ℕ → List Entry → Entry → Reason → Type 0
+IsReasonByLocks rules.Replies stripes h (entries.Did c r) reason = IsReplyReason h c reason
+IsReasonByLocks rules.Replies stripes h e reason = Unit {0}
+IsReasonByLocks rules.Locks stripes h (entries.Asked c op) reason = IsLockReason stripes op h reason
+IsReasonByLocks rules.Locks stripes h (entries.Busy c op x) reason =
+    IsLockReason stripes op h reason
+IsReasonByLocks rules.Locks stripes h e reason = Unit {0}
+IsReasonByLocks rules.Shape stripes h e reason = IsShapeReason h (caller_of e) reason
+
+-- The open transaction of the caller read what is not committed, and this is the last commit that
+-- changed what the key has; or its replies fit the committed map, or no map at all.
+abbrev pub IsCommitReason : List Entry → ℕ → Reason → Type 0
+IsCommitReason h c (reasons.Misread key read due commit) =
+    ((t : ℕ) → txn_in h c ≡ Some t → is_open t h ≡ true
+    → IsMisread h t (record { key = key; read = read; due = due }))
+    × (commit ≡ last_commit key h)
+IsCommitReason h c reasons.Torn =
+    (t : ℕ) → txn_in h c ≡ Some t → is_open t h ≡ true → FitsOrTorn h t
+IsCommitReason h c _ = ⊥
+
+-- By the order of commits: what leads to an entry that breaks the rule.
+abbrev pub IsReasonByCommits : Rule → List Entry → Entry → Reason → Type 0
+IsReasonByCommits rules.Replies h (entries.Committed c p) reason = IsCommitReason h c reason
+IsReasonByCommits rules.Replies h e reason = Unit {0}
+IsReasonByCommits rules.Locks h e reason = Unit {0}
+IsReasonByCommits rules.Shape h e reason = IsShapeReason h (caller_of e) reason

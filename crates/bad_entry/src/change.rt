@@ -1,0 +1,167 @@
+//! Who last changed a key, and what became of that.
+ghost use Rattle.std.specs.Prelude.{◌≡◌, ◌+◌, ◌<◌, ◌≤◌, ◌^◌, List, Option, None, IfOk};
+ghost use Rattle.std.specs.List.{All};
+ghost use Rattle.txn_trace.specs.History.{caller_of};
+ghost use Rattle.txn_trace.specs.declared.entry.Entry.{Entry};
+ghost use Rattle.bad_entry.specs.Desks.{HaveNoted};
+ghost use Rattle.bad_entry.specs.Changes.{above_after, change_at, decided, fate_from, fate_of};
+ghost use Rattle.bad_entry.specs.Changes.{is_change, last_change, waiting_after};
+
+use crate::desks::Desks;
+use std::alloc::{AllocError, Global};
+use txn_trace::{Entry, Op, PackedEntry, Reply};
+
+/// A change of a key.
+#[derive(Clone, Copy, Debug, PartialEq, Eq)]
+pub struct Change {
+    /// The index of its Did, from 0.
+    pub did: u64,
+    /// The caller that made it.
+    pub caller: u64,
+    /// The transaction that it belongs to.
+    pub txn: Option<u64>,
+}
+
+/// What became of a change by the end of a history.
+#[derive(Clone, Copy, Debug, PartialEq, Eq)]
+pub enum Fate {
+    /// It stands, and its transaction is open.
+    Open,
+    /// It stood when its transaction committed.
+    Committed,
+    /// It was taken back.
+    Undone,
+}
+
+/// The change that an entry, at this index, makes of a key, if it makes one.
+fn change_at(desks: &Desks, key: u64, index: u64, entry: Entry) -> Option<Change>
+    requires { caller_of entry < 64 }
+    ensures { (h : List Entry) → HaveNoted h desks.now → result ≡ change_at key index h entry }
+{
+    let Entry::Did(caller, reply) = entry else {
+        return None;
+    };
+    let desk = desks.at(caller);
+    match desk.waiting {
+        Some(op) if op.key() == key && op.changes(reply) => Some(Change {
+            did: index,
+            caller,
+            txn: desk.txn,
+        }),
+        _ => None,
+    }
+}
+
+/// The last change of a key in a history, whose callers are below 64, also one that was taken back.
+///
+/// # Errors
+///
+/// `AllocError` if memory is refused.
+///
+/// # Cost
+///
+/// Constant time an entry; memory for 64 callers.
+pub fn last_change(
+    alloc: Global,
+    entries: &[PackedEntry],
+    key: u64,
+) -> Result<Option<Change>, AllocError>
+    requires { All (λ entry. caller_of entry < 64) entries.now }
+    ensures { IfOk result (λ found. found ≡ last_change key entries.now) }
+{
+    let mut desks = Desks::new(alloc)?;
+    let mut last = None;
+    for (index, packed) in entries.iter().enumerate() {
+        let entry = packed.entry();
+        last = change_at(&desks, key, index as u64, entry).or(last);
+        desks.enter(entry);
+    }
+    Ok(last)
+}
+
+/// Whether a reply to the operation that waits is a change.
+fn is_change(waiting: Option<Op>, reply: Reply) -> bool
+    ensures { result ≡ is_change waiting reply }
+{
+    match waiting {
+        Some(op) => op.changes(reply),
+        None => false,
+    }
+}
+
+/// What an entry decides of a change of this caller, above which so many newer ones stand.
+fn decided(caller: u64, above: u64, entry: Entry) -> Option<Fate>
+    ensures { result ≡ decided caller above entry }
+{
+    if entry.caller() != caller {
+        return None;
+    }
+    match entry {
+        Entry::Committed(..) => Some(Fate::Committed),
+        Entry::Aborted(_) => Some(Fate::Undone),
+        Entry::Undone(_) if above == 0 => Some(Fate::Undone),
+        _ => None,
+    }
+}
+
+/// The operation that this caller waits with after an entry.
+fn waiting_after(caller: u64, waiting: Option<Op>, entry: Entry) -> Option<Op>
+    ensures { result ≡ waiting_after caller waiting entry }
+{
+    if entry.caller() != caller {
+        return waiting;
+    }
+    match entry {
+        Entry::Asked(_, op) => Some(op),
+        Entry::Did(..) => None,
+        _ => waiting,
+    }
+}
+
+/// How many newer changes of this caller stand above a change after an entry.
+fn above_after(caller: u64, waiting: Option<Op>, above: u64, entry: Entry) -> u64
+    requires { above < 2 ^ 63 }
+    ensures above { result ≡ above_after caller waiting above entry }
+    ensures few { result ≤ above + 1 }
+{
+    if entry.caller() != caller {
+        return above;
+    }
+    match entry {
+        Entry::Did(_, reply) if is_change(waiting, reply) => above + 1,
+        Entry::Undone(_) => above.saturating_sub(1),
+        _ => above,
+    }
+}
+
+/// What became of a change, by the entries after its Did.
+fn fate_in(after: &[PackedEntry], caller: u64) -> Fate
+    ensures { result ≡ fate_from caller None 0 after.now }
+{
+    let mut waiting = None;
+    let mut above: u64 = 0;
+    for packed in after {
+        let entry = packed.entry();
+        if let Some(fate) = decided(caller, above, entry) {
+            return fate;
+        }
+        above = above_after(caller, waiting, above, entry);
+        waiting = waiting_after(caller, waiting, entry);
+    }
+    Fate::Open
+}
+
+/// What became of a change of a history by its end.
+///
+/// # Cost
+///
+/// A step for each entry after the change; takes no memory.
+pub fn fate_of(entries: &[PackedEntry], change: Change) -> Fate
+    ensures { result ≡ fate_of entries.now change }
+{
+    let did = change.did as usize;
+    if did >= entries.len() {
+        return Fate::Open;
+    }
+    fate_in(&entries[did + 1..], change.caller)
+}

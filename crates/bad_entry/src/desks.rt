@@ -1,0 +1,87 @@
+//! What each caller of a history is at: the operation that it waits with, and its transaction.
+//!
+//! It follows any entries, legal or not. Constant time an entry.
+ghost use Rattle.std.specs.Prelude.{◌≡◌, ℕ, ◌<◌, ◌++◌, [], ◌∷◌, List, Option, None, IfOk, vec_len};
+ghost use Rattle.txn_trace.specs.History.{caller_of, txn_after};
+ghost use Rattle.txn_trace.specs.Log.{Log, log_step};
+ghost use Rattle.txn_trace.specs.declared.entry.Entry.{Entry};
+
+use std::alloc::{AllocError, Global};
+use txn_trace::{Entry, Op};
+
+/// How many callers there are.
+const CALLERS: usize = 64;
+
+/// What a caller is at.
+#[derive(Clone, Copy, Debug, PartialEq, Eq)]
+pub(crate) struct Desk {
+    /// The operation that waits for its reply.
+    pub(crate) waiting: Option<Op>,
+    /// The transaction that the caller began last.
+    pub(crate) txn: Option<u64>,
+}
+
+impl Desk {
+    /// Goes on by an entry of its caller.
+    pub(crate) fn enter(&mut self, entry: Entry)
+        ensures waiting { (log : Log) → log.pending ≡ self.old.waiting →
+            (log_step log entry).pending ≡ self.new.waiting }
+        ensures txn { (before : ℕ → Option ℕ) → before (caller_of entry) ≡ self.old.txn →
+            txn_after before entry (caller_of entry) ≡ self.new.txn }
+    {
+        match entry {
+            Entry::Began(_, txn) => {
+                self.waiting = None;
+                self.txn = Some(txn);
+            }
+            Entry::Asked(_, op) => self.waiting = Some(op),
+            Entry::Did(..) | Entry::Committed(..) | Entry::Aborted(_) => self.waiting = None,
+            _ => {}
+        }
+    }
+}
+
+/// What each of 64 callers is at.
+#[derive(Drop)]
+pub(crate) struct Desks {
+    table: Vec<Desk>,
+    ghost all: { vec_len table ≡ 64 },
+}
+
+impl Desks {
+    ghost use Rattle.txn_trace.specs.declared.op.Op.{Op};
+    ghost use Rattle.bad_entry.specs.Desks.{HaveNoted, txn_in, waiting_in};
+
+    /// The desks before the first entry.
+    pub(crate) fn new(alloc: Global) -> Result<Desks, AllocError>
+        ensures { IfOk result (HaveNoted []) }
+    {
+        let mut table = Vec::with_capacity(alloc, CALLERS)?;
+        for _ in 0..CALLERS {
+            table.push(Desk {
+                waiting: None,
+                txn: None,
+            })?;
+        }
+        Ok(Desks { table })
+    }
+
+    /// What a caller is at.
+    pub(crate) fn at(&self, caller: u64) -> Desk
+        requires { caller < 64 }
+        ensures waiting { (h : List Entry) → HaveNoted h self.now →
+            result.waiting ≡ waiting_in h caller }
+        ensures txn { (h : List Entry) → HaveNoted h self.now → result.txn ≡ txn_in h caller }
+    {
+        self.table[caller as usize]
+    }
+
+    /// Goes on by an entry.
+    pub(crate) fn enter(&mut self, entry: Entry)
+        requires { caller_of entry < 64 }
+        ensures { (h : List Entry) → HaveNoted h self.old → HaveNoted (h ++ entry ∷ []) self.new }
+    {
+        let caller = entry.caller();
+        self.table[caller as usize].enter(entry);
+    }
+}

@@ -1,0 +1,115 @@
+//! What a key has: the reply that an operation on it is due.
+ghost use Rattle.std.specs.Prelude.{◌≡◌, ℕ, ◌<◌, List, IfOk};
+ghost use Rattle.std.specs.List.{All};
+ghost use Rattle.txn_trace.specs.History.{caller_of};
+ghost use Rattle.txn_trace.specs.Legal.{IsLegal};
+ghost use Rattle.txn_trace.specs.Map.{get};
+ghost use Rattle.txn_trace.specs.Now.{now};
+ghost use Rattle.txn_trace.specs.declared.holder.Holder.{Holder};
+ghost use Rattle.history_check.specs.Fed as locks;
+ghost use Rattle.serial_check.specs.Fed as commits;
+ghost use Rattle.serial_check.specs.Serializable.{IsSerializable};
+ghost use Rattle.bad_entry.specs.Commits.{last_commit, settled};
+
+use std::alloc::{AllocError, Global};
+use txn_trace::{Entry, Holder, PackedEntry, Reply};
+
+/// A checker by locks that was fed these entries.
+pub(crate) fn fed_by_locks(
+    alloc: Global,
+    entries: &[PackedEntry],
+    stripes: u64,
+    holder: Holder,
+) -> Result<history_check::Checker, AllocError>
+    requires stripes { 0 < stripes }
+    requires callers { All (λ entry. caller_of entry < 64) entries.now }
+    ensures { IfOk result (locks.IsFed holder stripes entries.now) }
+{
+    let mut checker = history_check::Checker::new(alloc, stripes, holder)?;
+    for entry in entries {
+        checker.feed(&entry.entry())?;
+    }
+    Ok(checker)
+}
+
+/// A checker by the order of commits that was fed these entries.
+pub(crate) fn fed_by_commits(
+    alloc: Global,
+    entries: &[PackedEntry],
+) -> Result<serial_check::Checker, AllocError>
+    requires { All (λ entry. caller_of entry < 64) entries.now }
+    ensures { IfOk result (commits.IsFed entries.now) }
+{
+    let mut checker = serial_check::Checker::new(alloc)?;
+    for entry in entries {
+        checker.feed(&entry.entry())?;
+    }
+    Ok(checker)
+}
+
+/// The value of a key after a legal history, in the map with what open transactions changed: the
+/// reply that an operation on it is due.
+///
+/// # Errors
+///
+/// `AllocError` if memory is refused.
+///
+/// # Cost
+///
+/// That of `history_check`'s checker for each entry.
+pub fn value_now(
+    alloc: Global,
+    entries: &[PackedEntry],
+    stripes: u64,
+    holder: Holder,
+    key: u64,
+) -> Result<Reply, AllocError>
+    requires stripes { 0 < stripes }
+    requires callers { All (λ entry. caller_of entry < 64) entries.now }
+    ensures { IfOk result (λ value. IsLegal holder stripes entries.now →
+        value ≡ get (now entries.now) key) }
+{
+    let checker = fed_by_locks(alloc, entries, stripes, holder)?;
+    Ok(checker.value(key))
+}
+
+/// The last commit of a serializable history that changed what a key has in the map of the
+/// committed transactions: the index of its Committed, and its caller.
+///
+/// # Errors
+///
+/// `AllocError` if memory is refused.
+///
+/// # Cost
+///
+/// That of `serial_check`'s checker for each entry, and two looks at the key.
+pub fn last_commit(
+    alloc: Global,
+    entries: &[PackedEntry],
+    key: u64,
+) -> Result<Option<(u64, u64)>, AllocError>
+    requires { All (λ entry. caller_of entry < 64) entries.now }
+    ensures { IfOk result (λ found. IsSerializable entries.now →
+        found ≡ last_commit key entries.now) }
+{
+    let mut checker = serial_check::Checker::new(alloc)?;
+    let mut last = None;
+    for (index, packed) in entries.iter().enumerate() {
+        let entry = packed.entry();
+        let before = checker.value(key);
+        checker.feed(&entry)?;
+        last = settled(index as u64, entry, before, checker.value(key)).or(last);
+    }
+    Ok(last)
+}
+
+/// The commit that an entry is, at this index, if a key has this before it and that after it, which
+/// differ.
+fn settled(index: u64, entry: Entry, before: Reply, after: Reply) -> Option<(u64, u64)>
+    ensures { result ≡ settled index entry before after }
+{
+    match entry {
+        Entry::Committed(caller, _) if before != after => Some((index, caller)),
+        _ => None,
+    }
+}

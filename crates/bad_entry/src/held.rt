@@ -1,0 +1,145 @@
+//! Who holds a stripe, and since which entry.
+ghost use Rattle.std.specs.Prelude.{◌≡◌, ℕ, ◌<◌, List, Option, None, IfOk};
+ghost use Rattle.std.specs.List.{All, fold};
+ghost use Rattle.txn_trace.specs.History.{caller_of, txn_after};
+ghost use Rattle.txn_trace.specs.Legal.{IsLegal};
+ghost use Rattle.txn_trace.specs.declared.holder.Holder.{Holder};
+ghost use Rattle.bad_entry.specs.Desks.{txn_in};
+ghost use Rattle.bad_entry.specs.Holding.{IsHeld, asked_in, held_since, next_holder};
+
+use crate::desks::Desks;
+use std::alloc::{AllocError, Global};
+use txn_trace::{Entry, PackedEntry};
+
+/// Who holds a stripe.
+#[derive(Clone, Copy, Debug, PartialEq, Eq)]
+pub struct Held {
+    /// The caller that holds it.
+    pub caller: u64,
+    /// The transaction that the caller is in.
+    pub txn: Option<u64>,
+    /// The index of the Asked by which that transaction took it.
+    pub since: Option<u64>,
+}
+
+/// The holder of a stripe after one more entry.
+fn next_holder(held: Option<u64>, stripes: u64, stripe: u64, entry: Entry) -> Option<u64>
+    requires { 0 < stripes }
+    ensures { result ≡ next_holder stripes stripe held entry }
+{
+    match entry {
+        Entry::Asked(caller, op) if op.key() % stripes == stripe => Some(caller),
+        Entry::Committed(caller, _) if held == Some(caller) => None,
+        Entry::Aborted(caller) if held == Some(caller) => None,
+        _ => held,
+    }
+}
+
+/// The holder of a stripe after a legal history.
+fn holder_in(entries: &[PackedEntry], stripes: u64, stripe: u64) -> Option<u64>
+    requires { 0 < stripes }
+    ensures { result ≡ fold (next_holder stripes stripe) None entries.now }
+{
+    let mut held = None;
+    for packed in entries {
+        held = next_holder(held, stripes, stripe, packed.entry());
+    }
+    held
+}
+
+/// Whether an entry of this transaction asks for a key of the stripe, at this index: the index.
+fn asked_in(
+    txn: Option<u64>,
+    wanted: Option<u64>,
+    stripes: u64,
+    stripe: u64,
+    index: u64,
+    entry: Entry,
+) -> Option<u64>
+    requires { 0 < stripes }
+    ensures { result ≡ asked_in txn wanted stripes stripe index entry }
+{
+    match entry {
+        Entry::Asked(_, op) if op.key() % stripes == stripe && txn == wanted => Some(index),
+        _ => None,
+    }
+}
+
+/// The transaction of a caller after one more entry.
+fn next_txn(txn: Option<u64>, caller: u64, entry: Entry) -> Option<u64>
+    ensures { (before : ℕ → Option ℕ) → txn ≡ before caller →
+        result ≡ txn_after before entry caller }
+{
+    match entry {
+        Entry::Began(beginner, number) if beginner == caller => Some(number),
+        _ => txn,
+    }
+}
+
+/// The transaction that a caller began last in a history.
+///
+/// # Cost
+///
+/// Constant time an entry; takes no memory.
+pub fn txn_of(entries: &[PackedEntry], caller: u64) -> Option<u64>
+    ensures { result ≡ txn_in entries.now caller }
+{
+    let mut txn = None;
+    for packed in entries {
+        txn = next_txn(txn, caller, packed.entry());
+    }
+    txn
+}
+
+/// The index of the first Asked of a transaction for a key of a stripe.
+fn held_since(
+    alloc: Global,
+    entries: &[PackedEntry],
+    txn: Option<u64>,
+    stripes: u64,
+    stripe: u64,
+) -> Result<Option<u64>, AllocError>
+    requires stripes { 0 < stripes }
+    requires callers { All (λ entry. caller_of entry < 64) entries.now }
+    ensures { IfOk result (λ found. found ≡ held_since txn stripes stripe entries.now) }
+{
+    let mut desks = Desks::new(alloc)?;
+    for (index, packed) in entries.iter().enumerate() {
+        let entry = packed.entry();
+        let txn_now = desks.at(entry.caller()).txn;
+        let found = asked_in(txn_now, txn, stripes, stripe, index as u64, entry);
+        if found.is_some() {
+            return Ok(found);
+        }
+        desks.enter(entry);
+    }
+    Ok(None)
+}
+
+/// Who holds a stripe after a legal history, and since which entry.
+///
+/// # Errors
+///
+/// `AllocError` if memory is refused.
+///
+/// # Cost
+///
+/// Constant time an entry; memory for 64 callers.
+pub fn held_by(
+    alloc: Global,
+    entries: &[PackedEntry],
+    stripes: u64,
+    stripe: u64,
+) -> Result<Option<Held>, AllocError>
+    requires stripes { 0 < stripes }
+    requires callers { All (λ entry. caller_of entry < 64) entries.now }
+    ensures { IfOk result (λ found. (holder : Holder) → IsLegal holder stripes entries.now →
+        IsHeld stripes stripe entries.now found) }
+{
+    let Some(caller) = holder_in(entries, stripes, stripe) else {
+        return Ok(None);
+    };
+    let txn = txn_of(entries, caller);
+    let since = held_since(alloc, entries, txn, stripes, stripe)?;
+    Ok(Some(Held { caller, txn, since }))
+}

@@ -1,0 +1,25 @@
+//! What leads to a bad entry of a recorded history: the reasons of a verdict of illegal.
+//!
+//! `history_check` and `serial_check` say which entry of a history is the first that breaks a rule.
+//! This crate says of that entry what a person wants to know next, by the definitions of a history:
+//! the reply that was due, who last changed the key and what became of that change, who holds a
+//! lock and since which entry, or what may stand there instead.
+//!
+//! Each question is answered by a pass of its own over the entries before the bad one, so an answer
+//! takes time in proportion to the history; nothing is kept between two questions.
+//!
+//! Proved: each answer is the one of the definitions. The due reply is that of the map now or of
+//! the committed map, the holder of a lock is `holder_of`, and the last change of a key, its fate,
+//! and the entry since which a lock is held are those of `specs/`.
+#![tactic(auto)]
+
+mod change;
+mod desks;
+mod due;
+mod held;
+mod reason;
+
+pub use change::{Change, Fate, fate_of, last_change};
+pub use due::{last_commit, value_now};
+pub use held::{Held, held_by, txn_of};
+pub use reason::{Reason, by_commits, by_locks};

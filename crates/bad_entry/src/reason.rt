@@ -1,0 +1,254 @@
+//! The reason of a verdict of illegal: what leads to the bad entry, by the rule that it breaks.
+ghost use Rattle.std.specs.Prelude.{◌≡◌, ℕ, ◌<◌, ◌%◌, List, Option, IfOk};
+ghost use Rattle.std.specs.List.{All};
+ghost use Rattle.txn_trace.specs.History.{caller_of};
+ghost use Rattle.txn_trace.specs.Legal.{IsLegal};
+ghost use Rattle.txn_trace.specs.Shape.{how_many};
+ghost use Rattle.txn_trace.specs.declared.entry.Entry.{Entry};
+ghost use Rattle.txn_trace.specs.declared.holder.Holder.{Holder};
+ghost use Rattle.txn_trace.specs.declared.op.Op.{Op};
+ghost use Rattle.history_check.specs.Callers.{HaveEntered};
+ghost use Rattle.serial_check.specs.Serializable.{IsSerializable};
+ghost use Rattle.bad_entry.specs.Desks.{waiting_in};
+ghost use Rattle.bad_entry.specs.Reasons.{IsLast, IsLockReason, IsReplyReason, IsReasonByCommits, IsCommitReason};
+ghost use Rattle.bad_entry.specs.Reasons.{IsReasonByLocks, IsShapeReason};
+
+use crate::change::{Change, Fate, fate_of, last_change};
+use crate::desks::Desks;
+use crate::due::{fed_by_commits, fed_by_locks, last_commit, value_now};
+use crate::held::{Held, held_by, txn_of};
+use history_check::{Callers, Rule};
+use std::alloc::{AllocError, Global};
+use txn_trace::{Entry, Holder, Op, PackedEntry, Phase, Reply};
+
+/// What leads to a bad entry.
+#[derive(Clone, Copy, Debug, PartialEq, Eq)]
+pub enum Reason {
+    /// By locks: the reply is not that of the map as it is now.
+    Reply {
+        /// The operation that the caller waits with.
+        op: Op,
+        /// The reply that was due.
+        due: Reply,
+        /// The last change of the key, and what became of it.
+        last: Option<(Change, Fate)>,
+    },
+    /// By the order of commits: the transaction that commits read at a key what the committed map
+    /// has not.
+    Misread {
+        /// The key.
+        key: u64,
+        /// The first reply that the transaction got there.
+        read: Reply,
+        /// What the committed map has there: the reply that was due.
+        due: Reply,
+        /// The last commit that changed what the committed map has there: the index of its
+        /// Committed, and its caller.
+        commit: Option<(u64, u64)>,
+    },
+    /// By the order of commits: the replies of the transaction that commits contradict one another,
+    /// whatever the map.
+    Torn,
+    /// The lock of a key is held, or is not held by the caller that is named.
+    Lock {
+        /// The stripe of the key.
+        stripe: u64,
+        /// Who holds it, if anyone does.
+        holder: Option<Held>,
+    },
+    /// The entry does not follow on its caller's entries, or has not the next number.
+    Shape {
+        /// The caller's phase, which says what may stand there instead.
+        phase: Phase,
+        /// The newest change of the caller that stands: its key and the value before it.
+        newest: Option<(u64, Reply)>,
+        /// How many transactions began.
+        began: u64,
+        /// How many committed.
+        committed: u64,
+    },
+    /// There is nothing to say: entries of this kind do not break this rule.
+    Nothing,
+}
+
+/// The last change of a key, and what became of it.
+fn last_in(
+    alloc: Global,
+    entries: &[PackedEntry],
+    key: u64,
+) -> Result<Option<(Change, Fate)>, AllocError>
+    requires { All (λ entry. caller_of entry < 64) entries.now }
+    ensures { IfOk result (IsLast key entries.now) }
+{
+    match last_change(alloc, entries, key)? {
+        Some(change) => Ok(Some((change, fate_of(entries, change)))),
+        None => Ok(None),
+    }
+}
+
+/// The operation that a caller waits with after a history.
+fn waiting_in(alloc: Global, entries: &[PackedEntry], caller: u64) -> Result<Option<Op>, AllocError>
+    requires caller { caller < 64 }
+    requires callers { All (λ entry. caller_of entry < 64) entries.now }
+    ensures { IfOk result (λ op. op ≡ waiting_in entries.now caller) }
+{
+    let mut desks = Desks::new(alloc)?;
+    for packed in entries {
+        desks.enter(packed.entry());
+    }
+    Ok(desks.at(caller).waiting)
+}
+
+/// What leads to a wrong reply, by locks.
+fn reply_reason(
+    alloc: Global,
+    entries: &[PackedEntry],
+    stripes: u64,
+    holder: Holder,
+    caller: u64,
+) -> Result<Reason, AllocError>
+    requires stripes { 0 < stripes }
+    requires caller { caller < 64 }
+    requires callers { All (λ entry. caller_of entry < 64) entries.now }
+    ensures { IfOk result (λ reason. IsLegal holder stripes entries.now →
+        IsReplyReason entries.now caller reason) }
+{
+    let Some(op) = waiting_in(alloc, entries, caller)? else {
+        return Ok(Reason::Nothing);
+    };
+    let due = value_now(alloc, entries, stripes, holder, op.key())?;
+    let last = last_in(alloc, entries, op.key())?;
+    Ok(Reason::Reply { op, due, last })
+}
+
+/// What leads to a lock that is held, or is not.
+fn lock_reason(
+    alloc: Global,
+    entries: &[PackedEntry],
+    stripes: u64,
+    op: Op,
+) -> Result<Reason, AllocError>
+    requires stripes { 0 < stripes }
+    requires callers { All (λ entry. caller_of entry < 64) entries.now }
+    ensures { IfOk result (λ reason. (holder : Holder) → IsLegal holder stripes entries.now →
+        IsLockReason stripes op entries.now reason) }
+{
+    let stripe = op.key() % stripes;
+    let holder = held_by(alloc, entries, stripes, stripe)?;
+    Ok(Reason::Lock { stripe, holder })
+}
+
+/// How many transactions began in a history.
+fn began_in(entries: &[PackedEntry]) -> u64 {
+    entries
+        .iter()
+        .filter(|packed| matches!(packed.entry(), Entry::Began(..)))
+        .count() as u64
+}
+
+/// What may stand in place of an entry of the caller.
+fn shape_reason(callers: &Callers, began: u64, caller: u64) -> Reason
+    requires { caller < 64 }
+    ensures { (h : List Entry) → HaveEntered h callers.now → IsShapeReason h caller result }
+{
+    Reason::Shape {
+        phase: callers.phase(caller),
+        newest: callers.newest_change(caller),
+        began,
+        committed: callers.committed(),
+    }
+}
+
+/// What leads to an entry that breaks this rule after a legal history, by locks.
+///
+/// # Errors
+///
+/// `AllocError` if memory is refused.
+///
+/// # Cost
+///
+/// That of `history_check`'s checker for each entry, a few times.
+pub fn by_locks(
+    alloc: Global,
+    entries: &[PackedEntry],
+    bad: &Entry,
+    rule: Rule,
+    stripes: u64,
+    holder: Holder,
+) -> Result<Reason, AllocError>
+    requires stripes { 0 < stripes }
+    requires caller { caller_of bad.now < 64 }
+    requires callers { All (λ entry. caller_of entry < 64) entries.now }
+    ensures { IfOk result (λ reason. IsLegal holder stripes entries.now →
+        IsReasonByLocks rule stripes entries.now bad.now reason) }
+{
+    match rule {
+        Rule::Replies => match *bad {
+            Entry::Did(caller, _) => reply_reason(alloc, entries, stripes, holder, caller),
+            _ => Ok(Reason::Nothing),
+        },
+        Rule::Locks => match *bad {
+            Entry::Asked(_, op) => lock_reason(alloc, entries, stripes, op),
+            Entry::Busy(_, op, _) => lock_reason(alloc, entries, stripes, op),
+            _ => Ok(Reason::Nothing),
+        },
+        Rule::Shape => {
+            let checker = fed_by_locks(alloc, entries, stripes, holder)?;
+            Ok(shape_reason(checker.callers(), began_in(entries), bad.caller()))
+        }
+    }
+}
+
+/// What leads to a transaction that may not commit.
+fn commit_reason(alloc: Global, entries: &[PackedEntry], caller: u64) -> Result<Reason, AllocError>
+    requires caller { caller < 64 }
+    requires callers { All (λ entry. caller_of entry < 64) entries.now }
+    ensures { IfOk result (λ reason. IsSerializable entries.now →
+        IsCommitReason entries.now caller reason) }
+{
+    let checker = fed_by_commits(alloc, entries)?;
+    let Some(miss) = checker.misread(caller) else {
+        return Ok(Reason::Torn);
+    };
+    let commit = last_commit(alloc, entries, miss.key)?;
+    Ok(Reason::Misread {
+        key: miss.key,
+        read: miss.read,
+        due: miss.due,
+        commit,
+    })
+}
+
+/// What leads to an entry that breaks this rule after a serializable history, by the order of
+/// commits.
+///
+/// # Errors
+///
+/// `AllocError` if memory is refused.
+///
+/// # Cost
+///
+/// That of `serial_check`'s checker for each entry, twice.
+pub fn by_commits(
+    alloc: Global,
+    entries: &[PackedEntry],
+    bad: &Entry,
+    rule: Rule,
+) -> Result<Reason, AllocError>
+    requires caller { caller_of bad.now < 64 }
+    requires callers { All (λ entry. caller_of entry < 64) entries.now }
+    ensures { IfOk result (λ reason. IsSerializable entries.now →
+        IsReasonByCommits rule entries.now bad.now reason) }
+{
+    match rule {
+        Rule::Replies => match *bad {
+            Entry::Committed(caller, _) => commit_reason(alloc, entries, caller),
+            _ => Ok(Reason::Nothing),
+        },
+        Rule::Locks => Ok(Reason::Nothing),
+        Rule::Shape => {
+            let checker = fed_by_commits(alloc, entries)?;
+            Ok(shape_reason(checker.callers(), began_in(entries), bad.caller()))
+        }
+    }
+}

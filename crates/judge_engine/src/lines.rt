@@ -1,0 +1,351 @@
+//! The lines that lead to a bad entry: each part of a reason in words.
+//!
+//! The wording is tested and not proved. What the words say is the reason of `bad_entry`.
+ghost use Rattle.std.specs.Prelude.{◌<◌, IfSome};
+ghost use Rattle.std.specs.List.{All};
+ghost use Rattle.txn_trace.specs.History.{caller_of};
+
+use bad_entry::{Change, Fate, Held, Reason, fate_of, last_change, last_commit, txn_of};
+use entry_lines::history_lines;
+use history_check::{Callers, Rule, Verdict};
+use std::alloc::{AllocError, Global};
+use std::fmt;
+use txn_trace::{Entry, Holder, PackedEntry, Phase, Reply};
+
+/// A value, or none.
+#[derive(Clone, Copy)]
+struct OrNone(Reply);
+
+impl fmt::Display for OrNone {
+    fn fmt<W: fmt::Write>(&self, f: &mut fmt::Formatter<W>) -> fmt::Result {
+        match self.0 {
+            Some(value) => write!(f, "{value}"),
+            None => f.write_str("none"),
+        }
+    }
+}
+
+/// The transaction of a caller.
+#[derive(Clone, Copy)]
+struct TxnOf(Option<u64>, u64);
+
+impl fmt::Display for TxnOf {
+    fn fmt<W: fmt::Write>(&self, f: &mut fmt::Formatter<W>) -> fmt::Result {
+        match self.0 {
+            Some(txn) => write!(f, "transaction {txn} of caller {}", self.1),
+            None => write!(f, "caller {}", self.1),
+        }
+    }
+}
+
+/// What became of a change, in a word.
+fn word_of(fate: Fate) -> &'static str {
+    match fate {
+        Fate::Open => "open",
+        Fate::Committed => "committed",
+        Fate::Undone => "undone",
+    }
+}
+
+/// Adds the line of an entry after its index.
+fn put_entry(
+    alloc: Global,
+    text: &mut String,
+    index: usize,
+    entry: Entry,
+) -> Result<(), AllocError> {
+    let line = history_lines(alloc, &[entry])?;
+    write!(text, "  {index} {line}")
+}
+
+/// Whether an entry asks for a key, answers that, or takes a change of the key back.
+fn is_on(callers: &Callers, entry: Entry, key: u64) -> bool
+    requires { caller_of entry < 64 }
+{
+    match entry {
+        Entry::Asked(_, op) | Entry::Busy(_, op, _) => op.key() == key,
+        Entry::Did(caller, _) => match callers.phase(caller) {
+            Phase::Waiting(op) => op.key() == key,
+            _ => false,
+        },
+        Entry::Undone(caller) => match callers.newest_change(caller) {
+            Some((changed, _)) => changed == key,
+            None => false,
+        },
+        _ => false,
+    }
+}
+
+/// Adds the entries on a key from an index on.
+fn put_entries_on(
+    alloc: Global,
+    text: &mut String,
+    entries: &[PackedEntry],
+    key: u64,
+    from: u64,
+) -> Result<(), AllocError>
+    requires { All (λ entry. caller_of entry < 64) entries.now }
+{
+    let mut callers = Callers::new(alloc)?;
+    for (index, packed) in entries.iter().enumerate() {
+        let entry = packed.entry();
+        if from <= index as u64 && is_on(&callers, entry, key) {
+            put_entry(alloc, text, index, entry)?;
+        }
+        callers.reserve(&entry)?;
+        callers.enter(entry);
+    }
+    Ok(())
+}
+
+/// Adds the entries on a key since the last commit that changed what it has.
+fn put_since_commit(
+    alloc: Global,
+    text: &mut String,
+    entries: &[PackedEntry],
+    key: u64,
+    commit: Option<(u64, u64)>,
+) -> Result<(), AllocError>
+    requires { All (λ entry. caller_of entry < 64) entries.now }
+{
+    match commit {
+        Some((index, caller)) => {
+            writeln!(
+                text,
+                "entries on key {key} since entry {index}, where caller {caller} committed its value:",
+            )?;
+            put_entries_on(alloc, text, entries, key, index)
+        }
+        None => {
+            writeln!(
+                text,
+                "entries on key {key}, whose value no commit has changed:",
+            )?;
+            put_entries_on(alloc, text, entries, key, 0)
+        }
+    }
+}
+
+/// Adds the entries of a caller's transaction.
+fn put_transaction(
+    alloc: Global,
+    text: &mut String,
+    entries: &[PackedEntry],
+    caller: u64,
+) -> Result<(), AllocError> {
+    let txn = txn_of(entries, caller);
+    writeln!(text, "entries of {}:", TxnOf(txn, caller))?;
+    let mut is_in = false;
+    for (index, packed) in entries.iter().enumerate() {
+        let entry = packed.entry();
+        if entry.caller() == caller {
+            if let Entry::Began(_, number) = entry {
+                is_in = Some(number) == txn;
+            }
+            if is_in {
+                put_entry(alloc, text, index, entry)?;
+            }
+        }
+    }
+    Ok(())
+}
+
+/// Adds who changed a key last.
+fn put_last(text: &mut String, key: u64, last: Option<(Change, Fate)>) -> Result<(), AllocError> {
+    match last {
+        Some((change, fate)) => writeln!(
+            text,
+            "key {key} was last changed at entry {} by {}: {}",
+            change.did,
+            TxnOf(change.txn, change.caller),
+            word_of(fate),
+        ),
+        None => writeln!(text, "key {key} was never changed"),
+    }
+}
+
+/// The last change of a key, and what became of it.
+fn last_in(
+    alloc: Global,
+    entries: &[PackedEntry],
+    key: u64,
+) -> Result<Option<(Change, Fate)>, AllocError>
+    requires { All (λ entry. caller_of entry < 64) entries.now }
+{
+    match last_change(alloc, entries, key)? {
+        Some(change) => Ok(Some((change, fate_of(entries, change)))),
+        None => Ok(None),
+    }
+}
+
+/// Adds who holds a lock.
+fn put_holder(text: &mut String, stripe: u64, holder: Option<Held>) -> Result<(), AllocError> {
+    match holder {
+        Some(held) => writeln!(
+            text,
+            "lock {stripe} is held by {} since entry {}",
+            TxnOf(held.txn, held.caller),
+            OrNone(held.since),
+        ),
+        None => writeln!(text, "lock {stripe} is free"),
+    }
+}
+
+/// Adds what may stand in place of an entry of a caller in this phase.
+fn put_shape(
+    text: &mut String,
+    caller: u64,
+    phase: Phase,
+    newest: Option<(u64, Reply)>,
+    began: u64,
+    committed: u64,
+) -> Result<(), AllocError> {
+    let place = committed.saturating_add(1);
+    match phase {
+        Phase::Closed => {
+            let number = began.saturating_add(1);
+            writeln!(text, "what may stand there: [\"began\",{caller},{number}]")
+        }
+        Phase::Opened => writeln!(
+            text,
+            "what may stand there: asked, busy, saved, leave or [\"committed\",{caller},{place}]",
+        ),
+        Phase::Waiting(_) => writeln!(
+            text,
+            "what may stand there: did or [\"leave\",{caller},null]",
+        ),
+        Phase::LeavingTo(level) => writeln!(
+            text,
+            "what may stand there: undone for each change above level {level}, then [\"returned\",{caller},{level}]",
+        ),
+        Phase::LeavingToEnd => match newest {
+            Some(_) => writeln!(text, "what may stand there: [\"undone\",{caller}]"),
+            None => writeln!(text, "what may stand there: [\"aborted\",{caller}]"),
+        },
+    }
+}
+
+/// Adds what a Busy must name.
+fn put_named(text: &mut String, entry: Entry, holder: Holder) -> Result<(), AllocError> {
+    let Entry::Busy(caller, _, named) = entry else {
+        return Ok(());
+    };
+    if named == caller {
+        return writeln!(text, "busy must name another caller");
+    }
+    match holder {
+        Holder::Now => writeln!(text, "busy must name the holder, and not caller {named}"),
+        Holder::Begun => writeln!(text, "caller {named} has begun no transaction"),
+    }
+}
+
+/// Adds the lines of a reason.
+fn put_reason(
+    alloc: Global,
+    text: &mut String,
+    entries: &[PackedEntry],
+    bad: Entry,
+    reason: Reason,
+) -> Result<(), AllocError>
+    requires { All (λ entry. caller_of entry < 64) entries.now }
+{
+    let caller = bad.caller();
+    match reason {
+        Reason::Reply { op, due, last } => {
+            writeln!(text, "the reply that was due: {}", OrNone(due))?;
+            put_last(text, op.key(), last)?;
+            let commit = last_commit(alloc, entries, op.key())?;
+            put_since_commit(alloc, text, entries, op.key(), commit)?;
+            put_transaction(alloc, text, entries, caller)
+        }
+        Reason::Misread {
+            key,
+            read,
+            due,
+            commit,
+        } => {
+            let (read, due) = (OrNone(read), OrNone(due));
+            writeln!(
+                text,
+                "the first reply at key {key} was {read}; the reply that was due: {due}"
+            )?;
+            put_last(text, key, last_in(alloc, entries, key)?)?;
+            put_since_commit(alloc, text, entries, key, commit)?;
+            put_transaction(alloc, text, entries, caller)
+        }
+        Reason::Torn => {
+            writeln!(text, "no map gives the transaction all of its replies")?;
+            put_transaction(alloc, text, entries, caller)
+        }
+        Reason::Lock { stripe, holder } => put_holder(text, stripe, holder),
+        Reason::Shape {
+            phase,
+            newest,
+            began,
+            committed,
+        } => {
+            put_shape(text, caller, phase, newest, began, committed)?;
+            put_transaction(alloc, text, entries, caller)
+        }
+        Reason::Nothing => Ok(()),
+    }
+}
+
+/// The lines that lead to the bad entry of a verdict by locks; none for a verdict of legal.
+pub(crate) fn lines_by_locks(
+    alloc: Global,
+    entries: &[PackedEntry],
+    verdict: Verdict,
+    stripes: u64,
+    holder: Holder,
+) -> Result<String, AllocError>
+    requires stripes { 0 < stripes }
+    requires callers { All (λ entry. caller_of entry < 64) entries.now }
+{
+    let mut text = String::new(alloc);
+    if let Some((index, rule)) = bad_in(verdict, entries.len()) {
+        let before = &entries[..index];
+        let bad = entries[index].entry();
+        text.push_str("the entry:\n")?;
+        put_entry(alloc, &mut text, index, bad)?;
+        let reason = bad_entry::by_locks(alloc, before, &bad, rule, stripes, holder)?;
+        put_reason(alloc, &mut text, before, bad, reason)?;
+        if let Rule::Locks = rule {
+            put_named(&mut text, bad, holder)?;
+        }
+    }
+    Ok(text)
+}
+
+/// The lines that lead to the bad entry of a verdict by the order of commits; none for a verdict of
+/// legal.
+pub(crate) fn lines_by_commits(
+    alloc: Global,
+    entries: &[PackedEntry],
+    verdict: Verdict,
+) -> Result<String, AllocError>
+    requires { All (λ entry. caller_of entry < 64) entries.now }
+{
+    let mut text = String::new(alloc);
+    if let Some((index, rule)) = bad_in(verdict, entries.len()) {
+        let before = &entries[..index];
+        let bad = entries[index].entry();
+        text.push_str("the entry:\n")?;
+        put_entry(alloc, &mut text, index, bad)?;
+        let reason = bad_entry::by_commits(alloc, before, &bad, rule)?;
+        put_reason(alloc, &mut text, before, bad, reason)?;
+    }
+    Ok(text)
+}
+
+/// The index of the bad entry, which is below the number of entries, and its rule.
+fn bad_in(verdict: Verdict, count: usize) -> Option<(usize, Rule)>
+    ensures { IfSome result (λ bad. bad.0 < count) }
+{
+    match verdict {
+        Verdict::Illegal { entry, rule } if (entry as usize) < count => {
+            Some((entry as usize, rule))
+        }
+        _ => None,
+    }
+}
