@@ -1,5 +1,5 @@
 -- What a hand has added by a step.
-use Rattle.std.proofs.Common.{◌≡◌, ◌≢◌, ℕ, zero, suc, ◌+◌, ◌-◌, ◌<◌, List, [], ◌∷◌, get_or, Option, sym, refl, ap, subst, ◌∙◌, arith}
+use Rattle.std.proofs.Common.{◌≡◌, ◌≢◌, ℕ, zero, suc, ◌-◌, ◌<◌, List, [], ◌∷◌, get_or, Option, sym, refl, ap, subst, ◌∙◌, arith}
 use Rattle.txn_trace.specs.declared.entry.Entry.{Entry}
 use Rattle.txn_trace.specs.declared.entry.Entry.TheVariants.{Asked, Did, Busy, Aborted}
 use Rattle.txn_trace.specs.declared.holder.Holder.TheVariants.{Begun}
