@@ -1,11 +1,11 @@
 -- The pairs of the parts of all stripes are the pairs of the map.
-use Rattle.std.proofs.Common.{◌≡◌, ◌≢◌, ℕ, zero, suc, ◌+◌, ◌*◌, ◌/◌, ◌%◌, ◌<◌, ◌≤◌, ◌==◌, ◌⊎◌, Bool, true, false, cond, T, List, [], ◌∷◌, ◌++◌, length, map, filter, flat_map, sum_by, get_or, reverse, Option, None, Some, slice_get, sym, refl, ◌∙◌, ap, subst, inl, inr, ⊎_elim, arith, eq-eqb, ne_eqb, IsPermutation, IsSorted, is_lt, is_eq, is_some, fold, nat_cmp, Ordering, Less, Equal, Greater, append-nil, le_of_eq, lt_of_not-le, mod-lt}
+use Rattle.std.proofs.Common.{◌≡◌, ◌≢◌, ℕ, zero, suc, ◌+◌, ◌*◌, ◌/◌, ◌%◌, ◌<◌, ◌≤◌, ◌==◌, ◌⊎◌, Bool, true, false, cond, T, List, [], ◌∷◌, ◌++◌, length, map, filter, flat_map, sum_by, get_or, reverse, None, Some, slice_get, sym, refl, ◌∙◌, ap, subst, inl, inr, ⊎_elim, arith, eq-eqb, ne_eqb, IsPermutation, IsSorted, is_lt, is_eq, is_some, fold, nat_cmp, Ordering, Less, Equal, Greater, append-nil, le_of_eq, lt_of_not-le, mod-lt}
 use mathlib.Core.Logic.{dite}
 use native.Mathlib.Decide.{ℕ_discrete}
 use Rattle.std.specs.List.Sorted.{IsNonDecreasingBy}
 use Rattle.std.specs.FinMap.{nat_cmp-IsAntisymmetric}
-use Rattle.std.specs.FinMap.Entries.{by_order, find, put, is_sorted, below_all, is_sorted-put, same_entries}
-use Rattle.std.specs.Ordering.{eq_by_cmp, ordering_then, MatchOrdering}
+use Rattle.std.specs.FinMap.Entries.{by_order, find, put, is_sorted, below_all, same_entries}
+use Rattle.std.specs.Ordering.{ordering_then, MatchOrdering}
 use Rattle.std.specs.Cmp.{nat_cmp_total, nat_cmp_is, ranks, unsigned_tied}
 use Rattle.std.proofs.Math.Nat.{mul-le-mul_right}
 use Rattle.std.proofs.lemmas.Bool.{false≢true}
@@ -16,7 +16,7 @@ use Rattle.std.proofs.lemmas.List.Sums.{sum_by-cons}
 use Rattle.txn_trace.specs.Locks.{stripe_of}
 use Rattle.txn_trace.specs.Map.{Map, get}
 use Rattle.txn_trace.specs.Ordered.{split_cmp, ordered}
-use Rattle.txn_trace.proofs.Order.{pair_parts, pair_both, split_cmp_total, value_at, value_at-put, length-ordered}
+use Rattle.txn_trace.proofs.Order.{pair_parts, pair_both, value_at, value_at-put, length-ordered}
 use Rattle.striped_map.specs.declared.held.Held.{Held}
 use Rattle.striped_map.specs.declared.view.View.{View}
 use Rattle.striped_map.specs.Rule.{times, Holds, Fits}

@@ -11,7 +11,7 @@ use Rattle.striped_map.specs.Handling.{IsShort}
 use Rattle.striped_map.specs.declared.hand.Hand.{Hand}
 use Rattle.striped_map.specs.declared.map.StripedMap.{StripedMap}
 use Rattle.striped_map.specs.Seats.{known, stripes_of}
-use Rattle.striped_map.specs.Steps.{Extends, HasAll, IsAt, undoing}
+use Rattle.striped_map.specs.Steps.{Extends, HasAll, HasNoOther, IsAt, undoing}
 use Rattle.striped_map.specs.Additions.{due}
 use Rattle.striped_map.specs.declared.stop.Stop.{Stop}
 use Rattle.striped_map.specs.declared.stop.Stop.TheVariants.{Busy, Refused}
@@ -20,6 +20,7 @@ use Rattle.striped_map.specs.declared.stop.Stop.TheVariants.{Busy, Refused}
 pub record Moves (map : StripedMap) (a : Hand) (es : List Entry) (b : Hand) : Type 0 where
   pub number_is : (known b.seat).number ≡ (known a.seat).number
   pub retired_is : (known b.seat).retired ≡ (known a.seat).retired
+  pub made_is : (known b.seat).made ≡ (known a.seat).made
   pub goes : Extends (stripes_of map) (known a.seat).number (known a.seat).seen es
       (known b.seat).seen
 
@@ -39,7 +40,8 @@ IsCut map a b stop = (key : ℕ) × IsStopped map a (Get key) b stop
 
 -- In a transaction that was begun for it, and which adds nothing else before, the hand has seen one
 -- legal history (of `left`) which has of each caller that was taken in just the entries that its
--- calls added; the pairs are the map of that history; and the hand has seen it since.
+-- calls added, and none of others than the seats that were made; the pairs are the map of that
+-- history; and the hand has seen it since.
 pub record AreLeft (map : StripedMap) (a c : Hand) (pairs : List (ℕ × ℕ)) : Type 0 where
   pub txn : ℕ
   pub during : Hand
@@ -47,6 +49,7 @@ pub record AreLeft (map : StripedMap) (a c : Hand) (pairs : List (ℕ × ℕ)) :
   pub left : Hand
   pub goes : Moves map during [] left
   pub all : HasAll (known a.seat) (known left.seat).seen
+  pub others : HasNoOther (known a.seat) (known left.seat).seen
   pub pairs_are : pairs ≡ (now (known left.seat).seen).rows
   pub seen : (later : List Entry) × ((known c.seat).seen ≡ (known left.seat).seen ++ later)
 

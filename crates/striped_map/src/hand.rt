@@ -17,7 +17,7 @@ ghost use Rattle.striped_map.specs.Lone.{RunsAlone};
 ghost use Rattle.striped_map.specs.Rule.{Holds};
 ghost use Rattle.striped_map.specs.Seats.{IsOf, known, stripes_of};
 ghost use Rattle.striped_map.specs.Sound.{AreHeld, AreLogged, IsSound, stripes_in};
-ghost use Rattle.striped_map.specs.Steps.{HasAll, IsAt, SeesIn, seat_of, taken_in, undone, undoing};
+ghost use Rattle.striped_map.specs.Steps.{HasAll, HasNoOther, IsAt, SeesIn, seat_of, taken_in, undone, undoing};
 
 use crate::addition::Addition;
 use crate::contents;
@@ -254,6 +254,8 @@ impl Hand {
         ensures map { IsOf self.new.seat map.now }
         ensures sees { SeesIn (stripes_of map.now) (known self.old.seat) (known self.new.seat) }
         ensures all { HasAll (known self.old.seat) (known self.new.seat).seen }
+        ensures others { (known self.old.seat).number ≡ 0
+            → HasNoOther (known self.old.seat) (known self.new.seat).seen }
     {
         map.gather(&mut self.seat);
     }
@@ -276,11 +278,13 @@ impl Hand {
         requires map { IsOf self.old.seat map.now }
         requires closed { IsAt Closed (known self.old.seat) }
         requires idle { (known self.old.seat).held ≡ [] }
+        requires first { (known self.old.seat).number ≡ 0 }
         ensures map { IsOf self.new.seat map.now }
         ensures closed { IsAt Closed (known self.new.seat) }
         ensures idle { (known self.new.seat).held ≡ [] }
         ensures number { (known self.new.seat).number ≡ (known self.old.seat).number }
         ensures retired { (known self.new.seat).retired ≡ (known self.old.seat).retired }
+        ensures made { (known self.new.seat).made ≡ (known self.old.seat).made }
         ensures ok { IfOk result (λ pairs. AreLeft map.now self.old self.new pairs.items) }
         ensures err { IfErr result (IsUnread map.now self.old self.new) }
     {

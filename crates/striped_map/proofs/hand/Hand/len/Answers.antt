@@ -1,4 +1,4 @@
-use Rattle.std.proofs.Common.{◌≡◌, ℕ, ◌<◌, IsPermutation, ap, subst, ◌∙◌}
+use Rattle.std.proofs.Common.{◌<◌, IsPermutation, subst, ◌∙◌}
 use Rattle.txn_trace.specs.Now.{now}
 use Rattle.striped_map.specs.Contents.{pairs_in}
 use Rattle.striped_map.specs.Seats.{known}

@@ -1,11 +1,10 @@
-use Rattle.std.proofs.Common.{◌≡◌, ℕ, List, ◌++◌, Some, slice_get, sym, ap, subst, ◌∙◌, append_assoc, mod-lt}
+use Rattle.std.proofs.Common.{◌≡◌, ℕ, ◌≤◌, List, Some, slice_get, sym, ap, subst, ◌∙◌, append_assoc, mod-lt}
 use Rattle.txn_trace.specs.declared.entry.Entry.{Entry}
 use Rattle.txn_trace.specs.Locks.{stripe_of}
 use Rattle.txn_trace.specs.Map.{Map}
 use Rattle.txn_trace.specs.Now.{now}
 use Rattle.txn_trace.specs.Shape.{own}
 use Rattle.txn_trace.proofs.Maps.{same_map}
-use Rattle.striped_map.specs.declared.view.View.{View}
 use Rattle.striped_map.specs.Hands.{IsCut}
 use Rattle.striped_map.specs.Seats.{known}
 use Rattle.striped_map.proofs.Ends.{moved_seen, moved_on}
@@ -24,6 +23,7 @@ returns-in-Ok-clause-ok c = let map = c.args.map.now in let n = map.table.shared
       left = c.gather.new.self;
       goes = moved_on map c.begin.new.self c.pairs.new.self c.gather.new.self done.1 (moved_seen map c.pairs.new.self c.gather.new.self sees);
       all = subst (λ (rs : List (ℕ × List Entry)). (j : ℕ) (r : ℕ × List Entry) → slice_get rs j ≡ Some r → own r.0 w.seen ≡ r.1) retired c.gather.ensures.all;
+      others = λ k low. c.gather.ensures.others (done.1.number_is ∙ begun.1.number_is ∙ c.requires.first) k (subst (λ (x : ℕ). x ≤ k) (sym (done.1.made_is ∙ begun.1.made_is)) low);
       pairs_are = done.2 ∙ ap (λ (m : Map). m.rows) (sym same);
       seen = (_, ended.goes.goes ∙ append_assoc w.seen ended.goes.between _);
     }

@@ -1,1 +1,0 @@
-use Rattle.striped_map.proofs.Wholes.{all_rows}
