@@ -15,3 +15,4 @@ pub mod Refusing
 pub mod Calling
 pub mod Driving
 pub mod Trying
+pub mod Helped

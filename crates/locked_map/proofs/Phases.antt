@@ -1,8 +1,7 @@
 -- A drive that is told an answer fits its caller's seat, where the step's entries have rows.
-use Rattle.std.proofs.Common.{◌≡◌, ℕ, ◌+◌, ◌-◌, ◌<◌, ◌≤◌, ◌==◌, ◌&&◌, ◌^◌, ◌%◌, nat_lt, Bool, true, false, cond, if◌then◌else◌, List, [], ◌∷◌, ◌++◌, take, slice_index, length, is_some, Option, Some, None, refl, sym, ap, subst, ◌∙◌, arith}
+use Rattle.std.proofs.Common.{◌≡◌, ℕ, ◌+◌, ◌-◌, ◌≤◌, ◌==◌, ◌&&◌, ◌^◌, ◌%◌, nat_lt, Bool, true, false, cond, if◌then◌else◌, List, [], take, slice_index, length, Option, Some, None, refl, sym, ap, subst, ◌∙◌, arith}
 use Rattle.std.specs.List.{fold}
 use Rattle.std.specs.Option.{option_and_then}
-use Rattle.txn_trace.specs.declared.op.Op.{Op}
 use Rattle.txn_trace.specs.declared.answer.Answer.{Answer}
 use Rattle.txn_trace.specs.declared.answer.Answer.TheVariants as answers
 use Rattle.txn_trace.specs.declared.entry.Entry.{Entry}
@@ -14,16 +13,16 @@ use Rattle.txn_trace.specs.declared.step.Step.TheVariants.{Act}
 use Rattle.txn_trace.specs.Entries.{entries_of}
 use Rattle.txn_trace.specs.declared.seat.Phase.{Phase as Standing}
 use Rattle.txn_trace.specs.declared.seat.Phase.TheVariants as seats
-use Rattle.txn_trace.specs.Shape.{Seat, closed_seat, changes, row, seat_after}
+use Rattle.txn_trace.specs.Shape.{Seat, closed_seat, row}
 use Rattle.txn_drive.specs.declared.call.Call.{Call}
 use Rattle.txn_drive.specs.declared.call.Call.TheVariants as calls
 use Rattle.txn_drive.specs.declared.phase.Phase.{Phase}
-use Rattle.txn_drive.specs.declared.phase.Phase.TheVariants.{Fresh, Seeking, Acting, Doubling, Initialising, Linking, Storing, First, Last, Lost, Helped, Refused}
+use Rattle.txn_drive.specs.declared.phase.Phase.TheVariants.{Fresh, Seeking, Acting, Doubling, Initialising, Linking, Storing, Last, Helped, Refused}
 use Rattle.txn_drive.specs.declared.phase.Work.{Work}
 use Rattle.txn_drive.specs.declared.phase.Work.TheVariants.{Operation, Busy, Leaving}
 use Rattle.txn_drive.specs.declared.way.Way.{Way}
 use Rattle.txn_drive.specs.Ways.{child_towards}
-use Rattle.txn_drive.specs.Drives.{first_step, step_in, told_first, told_seek, counted, undone_more, told_act, towards, heading, refused_help, told_help, told_double, told_init_seek, told_link, told_store, told_in, one_more}
+use Rattle.txn_drive.specs.Drives.{first_step, step_in, told_first, told_seek, counted, undone_more, told_act, towards, heading, refused_help, told_help, told_double, told_init_seek, told_link, told_store, told_in}
 use Rattle.txn_drive.specs.Made.{undone_in}
 use Rattle.locked_map.specs.Suits.{work_phase, Fits, undone_of}
 

@@ -1,14 +1,12 @@
 -- What a try of a stripe's word makes of the claims.
-use Rattle.std.proofs.Common.{◌≡◌, ℕ, zero, suc, ◌+◌, ◌<◌, ◌⊎◌, inl, inr, List, Option, Some, arith}
+use Rattle.std.proofs.Common.{ℕ, zero, suc, ◌<◌, ◌⊎◌, inl, inr, Option, Some, arith}
 use Rattle.atomic_table.specs.Seated.{TableId}
 use Rattle.key_words.specs.declared.rights.Rights.{Rights}
 use Rattle.key_words.specs.declared.taken.Tried.{Tried}
 use Rattle.key_words.specs.declared.taken.Tried.TheVariants.{Mine, Another}
-use Rattle.key_words.specs.declared.view.View.{View}
 use Rattle.key_words.specs.Kept as kept
-use Rattle.key_words.specs.Rule.{Holds, times}
+use Rattle.key_words.specs.Rule.{times}
 use Rattle.key_words.specs.Seats.{known}
-use Rattle.key_words.specs.Steps.{gained, with_note}
 use Rattle.locked_map.specs.Claims.{Claimed, InHand, WasFree, WasHeld, Tries, Trial, trial, trial_of}
 
 held_or_not : (n : ℕ) → (0 < n) ⊎ (0 < n → ⊥)

@@ -1,6 +1,7 @@
 pub mod Calls
 pub mod Claims
 pub mod Closes
+pub mod Helps
 pub mod Holds
 pub mod Noted
 pub mod Sides

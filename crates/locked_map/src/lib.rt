@@ -21,6 +21,7 @@
 //!   entries in it are its `seen`, and there are no others, since a ledger counts them. The ledger
 //!   is `std`'s `sync::ledger`: the lock's value, `Booked`, holds the book, each token a share. Its
 //!   name `L` is the first parameter of each type, and is picked as `sync::ledger` says.
+//! - `laws::helped` says what the holds of a call for help come to: its key's bucket.
 //!
 //! No clause speaks of time: not that a call returns, nor that two threads ran at once.
 //!
@@ -49,6 +50,7 @@ mod claims;
 mod close;
 mod closed;
 mod ends;
+pub mod laws;
 mod no_side;
 mod pass;
 mod receipt;

@@ -1,4 +1,4 @@
-use Rattle.std.proofs.Common.{◌≡◌, sym, subst, ◌∙◌}
+use Rattle.std.proofs.Common.{sym, subst, ◌∙◌}
 use Rattle.txn_trace.specs.declared.step.Step.TheVariants.{Ask}
 use Rattle.boost_core.specs.Words.{Goes}
 use Rattle.locked_map.specs.Claims.{claim_in}

@@ -1,0 +1,24 @@
+-- The bucket that a call for help is on its way to.
+use Rattle.std.specs.Prelude.{ℕ, ◌≡◌, ◌%◌}
+use Rattle.txn_drive.specs.declared.call.Call.TheVariants as calls
+use Rattle.txn_drive.specs.declared.drive.Drive.{Drive}
+use Rattle.txn_drive.specs.declared.phase.Phase.{Phase}
+use Rattle.txn_drive.specs.declared.phase.Phase.TheVariants.{Doubling, Initialising, Linking, Storing}
+
+abbrev pub IsDoubling : Phase → Type 0
+IsDoubling (Doubling seen) = Unit {0}
+IsDoubling phase = ⊥
+
+-- A drive helps with this key, and is to double the table first.
+abbrev pub Begins : ℕ → Drive → Type 0
+Begins key d = (d.call ≡ calls.Help key) × IsDoubling d.phase
+
+abbrev pub IsTo : ℕ → Phase → Type 0
+IsTo bucket (Initialising way again) = way.target ≡ bucket
+IsTo bucket (Linking way again) = way.target ≡ bucket
+IsTo bucket (Storing way) = way.target ≡ bucket
+IsTo bucket phase = ⊥
+
+-- A drive helps with this key, and is on its way to the bucket that the key has at this size.
+abbrev pub Heads : ℕ → ℕ → Drive → Type 0
+Heads key size d = (d.call ≡ calls.Help key) × IsTo (key % size) d.phase
