@@ -73,9 +73,10 @@ made m c txn place from to sum moved es apart worked some =
     at : (moved : Bool) → HasDone c from to sum moved worked.had worked.has es → Makes from to sum moved m (map_after m (Began c txn ∷ es ++ end))
     at false (cannot, es_are) =
         let whole : List Entry → List Entry = λ l. Began c txn ∷ l ++ end in
-        let (had_is, has_is, goes) = read m c txn from to worked.had worked.has end (subst (λ l. IsSome (alone m (whole l))) es_are some) in
-        (ap (λ l. map_after m (whole l)) es_are ∙ ap (last_map m) goes,
-        subst (λ o. CannotMove sum (unwrap_or o 0) (balance m to)) had_is (subst (λ o. CannotMove sum (unwrap_or worked.had 0) (unwrap_or o 0)) has_is cannot))
+        let (had_is, has_is, goes) = read m c txn from to worked.had worked.has end (subst (λ l. IsSome (alone m (whole l))) es_are some) in (
+          ap (λ l. map_after m (whole l)) es_are ∙ ap (last_map m) goes,
+          subst (λ o. CannotMove sum (unwrap_or o 0) (balance m to)) had_is (subst (λ o. CannotMove sum (unwrap_or worked.had 0) (unwrap_or o 0)) has_is cannot),
+        )
     at true (enough, one, two, es_are) =
         let whole : List Entry → List Entry = λ l. Began c txn ∷ l ++ end in
         let less : ℕ = unwrap_or worked.had 0 - sum in

@@ -5,7 +5,7 @@
 //! leaves it unchanged; whatever other callers do in their threads meanwhile.
 #![tactic(auto)]
 
-ghost use Rattle.std.specs.Prelude.{◌≡◌, ◌≢◌, ◌×◌, List, false, IfOk, OnErr};
+ghost use Rattle.std.specs.Prelude.{◌≡◌, ◌≢◌, List, false, IfOk, OnErr};
 ghost use Rattle.txn_trace.specs.declared.entry.Entry.{Entry};
 ghost use Rattle.striped_map.specs.Callers.{number, IsSince};
 ghost use Rattle.accounts.specs.Transfers.{HasAdded, HasTransferred, HasWorked};
@@ -25,13 +25,7 @@ use striped_map::{Caller, Stop, Transaction};
 /// # Cost
 ///
 /// A begin, two `get`s, two `put`s and a commit, and an abort for each try that fails.
-pub fn transfer(
-    caller: &mut Caller,
-    tries: u64,
-    from: u64,
-    to: u64,
-    sum: u64,
-) -> Result<bool, Stop>
+pub fn transfer(caller: &mut Caller, tries: u64, from: u64, to: u64, sum: u64) -> Result<bool, Stop>
     requires apart { from ≢ to }
     ensures closed { caller.old.is_open ≡ false → caller.new.is_open ≡ false }
     ensures ok { IfOk result (λ moved. HasTransferred from to sum moved caller.old caller.new) }
