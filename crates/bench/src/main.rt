@@ -1,16 +1,18 @@
 //! Times the nodes and cursors of the split-ordered list, as a table of 65,536 buckets uses them,
-//! the table itself beside other maps, the core, the shared map, and the stripes as atomic words.
+//! the table itself beside other maps, the core, the shared map, the striped map, and the stripes as
+//! atomic words.
 //!
 //! Each phase writes one line on standard error: what it did, how many operations, how long, and
 //! the sum of what they answered, by which another program that does the same can be compared; the
 //! words write how many takes were granted. Nothing is written on standard output.
 //!
-//! The first argument is `nodes`, `maps`, `core`, `shared` or `words`, for that part alone, or
-//! `all`, as if there were none. The second is how many keys there are, of the words how many takes
-//! each thread has; without one there are few. The third is of `core` alone a step file, whose
-//! steps the core then takes in place of puts at few keys, of `shared` alone a script file, whose
-//! scripts are run in place of puts at few keys, and of `words` alone how many threads there are,
-//! up to 64; without one there are two.
+//! The first argument is `nodes`, `maps`, `core`, `shared`, `words` or `striped`, for that part
+//! alone, or `all`, as if there were none. The second is how many keys there are, of the words how
+//! many takes each thread has; without one there are few. The third is of `core` alone a step file,
+//! whose steps the core then takes in place of puts at few keys, of `shared` alone a script file,
+//! whose scripts are run in place of puts at few keys, and of `words` alone how many threads there
+//! are, up to 64; without one there are two. After `striped` come how many threads, keys,
+//! transactions a thread and stripes there are, as many of these as one likes.
 #![tactic(auto)]
 
 mod any_map;
@@ -22,6 +24,7 @@ mod node_phases;
 mod node_table;
 mod shared_runs;
 mod stopwatch;
+mod striped;
 mod words;
 
 use anyhow::{Context, Result, ensure};
@@ -30,6 +33,7 @@ use map_phases::time_maps;
 use node_phases::time_nodes;
 use shared_runs::{time_put_scripts, time_script_file};
 use std::env;
+use striped::{STRIPES, time_striped};
 use words::time_words;
 
 /// How many keys, mixed operations and takes there are if no argument says how many.
@@ -38,16 +42,34 @@ const FEW: u64 = 10_000;
 /// How many mixed operations there are if one says how many keys.
 const MANY: u64 = 1_000_000;
 
-/// How many threads take and give, if no argument says how many.
+/// How many threads take and give, or run transactions, if no argument says how many.
 const THREADS: u64 = 2;
+
+/// How many keys the transactions have, if no argument says how many.
+const KEYS: u64 = 1000;
 
 fn main(rt: HostRuntime) -> Result<()> {
     let mut arguments = env::args(&rt)?.skip(1);
     let word = arguments.next();
     let part = word.as_ref().map_or("all", |word| word.as_str());
-    let is_part = matches!(part, "all" | "nodes" | "maps" | "core" | "shared" | "words");
+    let is_part = matches!(
+        part,
+        "all" | "nodes" | "maps" | "core" | "shared" | "words" | "striped"
+    );
     ensure!(is_part, "no such part: {part}");
     let wanted = |name: &str| part == name || part == "all";
+    if wanted("striped") {
+        let mut numbers = [THREADS, KEYS, FEW, STRIPES];
+        if part == "striped" {
+            for number in &mut numbers {
+                if let Some(text) = arguments.next() {
+                    *number = text.parse::<u64>().context("how many")?;
+                }
+            }
+        }
+        let [threads, keys, transactions, stripes] = numbers;
+        time_striped(&rt, threads, keys, transactions, stripes)?;
+    }
     let (count, operations) = match arguments.next() {
         Some(text) => (text.parse::<u64>().context("how many")?, MANY),
         None => (FEW, FEW),

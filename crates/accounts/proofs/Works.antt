@@ -1,0 +1,93 @@
+-- What the entries of a transfer leave when they run alone.
+use Rattle.std.proofs.Common.{◌≡◌, ◌≢◌, ℕ, ◌+◌, ◌-◌, ◌≤◌, ◌==◌, Bool, true, false, cond, List, [], ◌∷◌, ◌++◌, Option, Some, None, IsSome, refl, sym, ap, subst, ◌∙◌, unwrap_or, omega, arith}
+use Rattle.std.specs.Prelude.{nat_eq}
+use Rattle.std.specs.Option.{option_eq, option_and_then}
+use Rattle.std.specs.List.{fold}
+use Rattle.std.proofs.lemmas.Bool.{false≢true, eq-eqb, ne_eqb}
+use Rattle.txn_trace.specs.declared.entry.Entry.{Entry}
+use Rattle.txn_trace.specs.declared.entry.Entry.TheVariants.{Began, Asked, Did, Committed}
+use Rattle.txn_trace.specs.declared.op.Op.{Op}
+use Rattle.txn_trace.specs.declared.op.Op.TheVariants.{Put, Get}
+use Rattle.txn_trace.specs.Map.{Map, get, insert, reply_of}
+use Rattle.txn_trace.specs.Alone.{Run, act, act_did, alone, last_map, map_after, with_op, start}
+use Rattle.txn_trace.proofs.Maps.{get-insert, get-insert-here}
+use Rattle.txn_trace.proofs.Now.{same_option}
+use Rattle.accounts.specs.Transfers.{balance, IsTransfer, Makes, CannotMove, HasDone, HasWorked, reading, writing}
+
+-- A run goes on by entries.
+abbrev going : Option Run → List Entry → Option Run
+going run es = fold (λ o e. option_and_then (λ r. act r e) o) run es
+
+nothing_goes : (es : List Entry) → IsSome (going None es) → ⊥
+nothing_goes [] some = false≢true some
+nothing_goes (e ∷ es) some = nothing_goes es some
+
+-- The run after an operation.
+abbrev did : Run → Op → Run
+did run op = record (with_op (record run { pending = Some op }) op) { pending = None }
+
+tested : (b : Bool) (run : Run) (es : List Entry) → IsSome (going (cond b (Some run) None) es) → (b ≡ true) × (going (cond b (Some run) None) es ≡ going (Some run) es)
+tested true run es some = (refl, refl)
+tested false run es some = absurd (nothing_goes es some)
+
+-- An operation in a run that is defined had the reply of the last map.
+replied : (run : Run) (c : ℕ) (op : Op) (reply : Option ℕ) (es : List Entry) → IsSome (going (Some run) (Asked c op ∷ Did c reply ∷ es))
+    → (reply ≡ reply_of run.last op) × (going (Some run) (Asked c op ∷ Did c reply ∷ es) ≡ going (Some (did run op)) es)
+replied run c op reply es some =
+    let (is, goes) = tested (option_eq nat_eq reply (reply_of run.last op)) (did run op) es some in
+    (same_option reply (reply_of run.last op) is, goes)
+
+get_other : (m : Map) (k v q : ℕ) → q ≢ k → get (insert m k v) q ≡ get m q
+get_other m k v q other = get-insert m k v q ∙ ap (λ b. cond b (Some v) (get m q)) (ne_eqb q k other)
+
+transferred : (from to sum less more : ℕ) (old : Map) → from ≢ to → less + sum ≡ balance old from → more ≡ balance old to + sum
+    → IsTransfer from to sum old (insert (insert old from less) to more)
+transferred from to sum less more old apart had has =
+    let last = insert (insert old from less) to more in
+    let at_from : balance last from ≡ less =
+    ap (λ o. unwrap_or o 0) (get_other (insert old from less) to more from apart ∙ get-insert-here old from less) in
+    let at_to : balance last to ≡ more = ap (λ o. unwrap_or o 0) (get-insert-here (insert old from less) to more) in
+    record {
+      both = omega (arith, at_from, at_to, had, has);
+      to_more = at_to ∙ has;
+      others = λ k not_from not_to. get_other (insert old from less) to more k not_to ∙ get_other old from less k not_from;
+    }
+
+-- Both reads were of the map, which they leave.
+read : (m : Map) (c txn from to : ℕ) (had has : Option ℕ) (es : List Entry) → IsSome (alone m (Began c txn ∷ reading c from to had has ++ es))
+    → (had ≡ get m from) × (has ≡ get m to) × (alone m (Began c txn ∷ reading c from to had has ++ es) ≡ going (Some (start m)) es)
+read m c txn from to had has es some =
+    let later : List Entry = Asked c (Get to) ∷ Did c has ∷ es in
+    let (first, goes) = replied (start m) c (Get from) had later some in
+    let (second, on) = replied (start m) c (Get to) has es (subst IsSome goes some) in
+    (first, second, goes ∙ on)
+
+pub made : (m : Map) (c txn place from to sum : ℕ) (moved : Bool) (es : List Entry) → from ≢ to → HasWorked c from to sum moved es
+    → IsSome (alone m (Began c txn ∷ es ++ Committed c place ∷ [])) → Makes from to sum moved m (map_after m (Began c txn ∷ es ++ Committed c place ∷ []))
+made m c txn place from to sum moved es apart worked some =
+    at moved worked.done
+  where
+    end : List Entry
+    end = Committed c place ∷ []
+
+    at : (moved : Bool) → HasDone c from to sum moved worked.had worked.has es → Makes from to sum moved m (map_after m (Began c txn ∷ es ++ end))
+    at false (cannot, es_are) =
+        let whole : List Entry → List Entry = λ l. Began c txn ∷ l ++ end in
+        let (had_is, has_is, goes) = read m c txn from to worked.had worked.has end (subst (λ l. IsSome (alone m (whole l))) es_are some) in (
+          ap (λ l. map_after m (whole l)) es_are ∙ ap (last_map m) goes,
+          subst (λ o. CannotMove sum (unwrap_or o 0) (balance m to)) had_is (subst (λ o. CannotMove sum (unwrap_or worked.had 0) (unwrap_or o 0)) has_is cannot),
+        )
+    at true (enough, one, two, es_are) =
+        let whole : List Entry → List Entry = λ l. Began c txn ∷ l ++ end in
+        let less : ℕ = unwrap_or worked.had 0 - sum in
+        let more : ℕ = unwrap_or worked.has 0 + sum in
+        let last : List Entry = Asked c (Put to more) ∷ Did c two ∷ end in
+        let writes : List Entry = Asked c (Put from less) ∷ Did c one ∷ last in
+        let some_here : IsSome (alone m (whole (reading c from to worked.had worked.has ++ writing c from to less more one two))) = subst (λ l. IsSome (alone m (whole l))) es_are some in
+        let (had_is, has_is, goes) = read m c txn from to worked.had worked.has writes some_here in
+        let (_, goes_on) = replied (start m) c (Put from less) one last (subst IsSome goes some_here) in
+        let (_, goes_to) = replied (did (start m) (Put from less)) c (Put to more) two end (subst IsSome (goes ∙ goes_on) some_here) in
+        let left : map_after m (whole es) ≡ insert (insert m from less) to more = ap (λ l. map_after m (whole l)) es_are ∙ ap (last_map m) (goes ∙ goes_on ∙ goes_to) in
+        let had_has : unwrap_or worked.had 0 ≡ balance m from = ap (λ o. unwrap_or o 0) had_is in
+        let has_has : unwrap_or worked.has 0 ≡ balance m to = ap (λ o. unwrap_or o 0) has_is in
+        subst (IsTransfer from to sum m) (sym left) (transferred from to sum less more m apart (omega (arith, enough, had_has)) (ap (λ k. k + sum) has_has))

@@ -1,0 +1,55 @@
+#!/usr/bin/env bash
+# Runs transactions of four operations on the striped map, and the same drawn transactions in plain Rust: with a mutex a stripe over
+# a HashMap and an undo log, tried and not waited for (`mutexes`), and with one mutex over one HashMap (`one`). Prints millions of
+# transactions a second by the clock, the processor time of one in nanoseconds, and the ratio of plain Rust's processor time to the
+# map's: 1 is as fast, less is slower. Medians of the rounds; all three run in turn, so that a machine whose speed changes is as fast
+# for one as for the other. With one thread all three must answer the same.
+# Usage: docs/speed/striped.sh [TRANSACTIONS [ROUNDS [STRIPES]]]
+source "$(dirname "${BASH_SOURCE[0]}")/common.sh"
+transactions=${1:-300000}
+rounds=${2:-9}
+stripes=${3:-1024}
+build_proved bench striped 2 1000 1000
+rustc -O -o "$work/plain" docs/speed/striped.rs
+
+# One run: the name, threads, keys, transactions a second, nanoseconds of processor time, and the sum of what was answered.
+run_one() {
+  if [ "$1" = striped ]; then
+    "$work/proved" striped "$2" "$3" "$transactions" "$stripes" 2>&1
+  else
+    "$work/plain" "$1" "$2" "$3" "$transactions" "$stripes" 2>&1
+  fi | sed 's/[:,]//g' | awk '{ print $1, $2, $4, $8, $11, $NF }'
+}
+
+for keys in 1000 100000; do
+  for threads in 1 2 4; do
+    for _ in $(seq "$rounds"); do
+      for name in striped mutexes one; do
+        run_one $name $threads $keys
+      done
+    done
+  done
+done >"$work/runs"
+
+# The middle of a column of the runs of a program.
+middle() {
+  awk -v name="$1" -v threads="$2" -v keys="$3" -v column="$4" '
+    $1 == name && $2 == threads && $3 == keys { print $column }' "$work/runs" | sort -n | sed -n "$(((rounds + 1) / 2))p"
+}
+
+printf '%7s %7s  %27s  %27s  %15s\n' keys threads 'millions a second' 'ns of processor time' ratio
+printf '%7s %7s  %9s %8s %8s  %9s %8s %8s  %8s %6s\n' '' '' striped mutexes one striped mutexes one mutexes one
+for keys in 1000 100000; do
+  [ "$(awk -v keys="$keys" '$2 == 1 && $3 == keys { print $6 }' "$work/runs" | sort -u | wc -l)" = 1 ]
+  for threads in 1 2 4; do
+    line=
+    for column in 4 5; do
+      for name in striped mutexes one; do
+        line="$line $(middle $name $threads $keys $column)"
+      done
+    done
+    echo "$keys $threads $line" | awk '{
+      printf "%7d %7d  %9.2f %8.2f %8.2f  %9d %8d %8d  %8.2f %6.2f\n",
+        $1, $2, $3 / 1e6, $4 / 1e6, $5 / 1e6, $6, $7, $8, $7 / $6, $8 / $6 }'
+  done
+done
