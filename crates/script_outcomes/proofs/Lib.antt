@@ -5,3 +5,4 @@ pub mod Starting
 pub mod Running
 pub mod Searching
 pub mod Counting
+pub mod Numbering

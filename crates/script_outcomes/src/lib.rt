@@ -12,6 +12,8 @@
 //! whose transaction did just the script's actions up to its own abort; commits stand in the order
 //! of the scripts, and so do aborts, so that each transaction is counted for one script at most. If
 //! the caller's commits play scripts of its own in order, in whatever way, each of them is counted.
+//! In a history of right shape what is called committed is a committed transaction that plays the
+//! script, by its number (`laws::committed_plays`).
 //! Only tested: that each script of a run that aborts itself is called aborted.
 //!
 //! One pass over the history and one over the scripts: a transaction that has ended is compared with
@@ -19,6 +21,7 @@
 #![tactic(auto)]
 
 mod assigning;
+pub mod laws;
 mod matching;
 mod outcome;
 mod way;
