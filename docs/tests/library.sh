@@ -26,7 +26,7 @@ judge() {
 # What `examples` writes of a caller: the lines between the caller's name and the next heading.
 wanted() {
   awk -v name="$1" '
-    /^(bank|audit|visits|transfers|replay .*)$/ { inside = $0 == name; next }
+    /^(bank|audit|visits|transfers|job queue|replay .*)$/ { inside = $0 == name; next }
     inside { print }' crates/examples/stdout
 }
 
