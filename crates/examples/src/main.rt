@@ -1,6 +1,6 @@
 //! Calls the libraries of callers, has threads move sums between the accounts of one map and take
-//! jobs from another, and runs the files of the folder `examples`. A line with a name, or with the words of a call, comes
-//! before what each prints.
+//! jobs from another, and runs the files of the folder `examples`. A line with a name, or with the
+//! words of a call, comes before what each prints.
 //!
 //! The gate compares all of it with the file `stdout`, which was written by hand, so that what the
 //! documents say of their examples stays true. Nothing is promised of this program.
