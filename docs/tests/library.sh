@@ -2,7 +2,9 @@
 # Tries what docs/LIBRARY.md says: for each row of its first table, the folders that it names and no others are
 # copied, with their lines of crates.txt and the caller's own, and what `examples` does with the caller is run there as
 # a program of its own, with no proof; it must write what `examples` writes of it. Then that each clause that the page
-# shows stands in a caller. Takes two minutes.
+# shows stands in a caller. At last it has docs/library/new.sh lay out a repository, runs its program, and proves it over
+# the work that this repository keeps in out/. Takes two minutes, and one more for that proof where all that it stands on
+# is proved here; else some fifteen.
 # The last line is 'library: N passed, M failed', and the status is 1 where M is not 0.
 set -u
 cd "$(dirname "${BASH_SOURCE[0]}")/../.."
@@ -24,7 +26,7 @@ judge() {
 # What `examples` writes of a caller: the lines between the caller's name and the next heading.
 wanted() {
   awk -v name="$1" '
-    /^(bank|audit|visits|transfers|replay .*)$/ { inside = $0 == name; next }
+    /^(bank|audit|visits|transfers|job queue|replay .*)$/ { inside = $0 == name; next }
     inside { print }' crates/examples/stdout
 }
 
@@ -72,6 +74,19 @@ while read -r clause; do
   grep -qF -- "$clause" "$work/code"
   judge "no such clause: $clause" $?
 done < <(sed -n 's/^    //p' $page)
+
+new=$work/new
+docs/library/new.sh "$new"
+judge "new.sh fails" $?
+(cd "$new/crates/counter" && ${RT:-rt} try) >"$work/log" 2>&1 </dev/null
+head -n 1 "$work/log" | cmp -s - "$new/crates/counter/stdout"
+judge "the new repository's program does not count" $?
+for crate in "$new"/crates/*; do
+  name=${crate##*/}
+  if [ -d "crates/$name/out" ]; then cp -r "crates/$name/out" "$crate/"; fi
+done
+(cd "$new/crates/counter" && ${RT:-rt} check --jobs 1) >"$work/log" 2>&1 </dev/null && grep -q '^logic=proved' "$work/log"
+judge "the new repository's program is not proved" $?
 
 echo "library: $passed passed, $failed failed"
 [ $failed = 0 ]

@@ -1,4 +1,1 @@
-pub mod Histories
-pub mod Only
-pub mod Steps
 pub mod Sums

@@ -1,23 +1,36 @@
 //! Calls `bank`: one transfer that is done, and one that is not.
-use anyhow::{Result, anyhow};
-use bank::transfer;
-use boost_core::Core;
-use std::io::Print;
-use txn_trace::{Limits, Step};
+ghost use Rattle.owned_map.specs.Keeps.{Keeps};
 
-/// Caller 0 opens two accounts and begins anew; caller 1 moves a sum and then one that is too
-/// large. Prints what came of it.
+use anyhow::Result;
+use bank::transfer;
+use owned_map::{OwnedMap, Stop, Transaction};
+use std::io::Print;
+use txn_trace::Limits;
+
+/// Puts what two accounts have at first.
+#[tactic(auto, using(owned_map::proofs::Calls::keeps_stay, owned_map::proofs::Calls::keeps_on))]
+fn open(t: &mut Transaction<'_>) -> Result<(), Stop>
+    ensures { Keeps t.old t.new }
+{
+    t.put(1, 100)?;
+    t.put(2, 50)?;
+    Ok(())
+}
+
+/// Caller 0 opens two accounts; caller 1 moves a sum and then one that is too large. Prints what
+/// came of it.
 pub(crate) fn show<R: Print + AllocGlobal>(rt: &R) -> Result<()> {
-    let limits = Limits::new(2, 8, 8).map_err(|refusal| anyhow!("refused {refusal}"))?;
-    let mut core = Core::new(rt.alloc(), limits).map_err(|refusal| anyhow!("refused {refusal}"))?;
-    core.step(Step::Begin(0));
-    core.put(0, 1, 100);
-    core.put(0, 2, 50);
-    core.step(Step::Commit(0));
-    core.step(Step::Begin(0));
-    println!(rt; "30 moved: {}", transfer(&mut core, 1, 1, 2, 30))?;
-    println!(rt; "80 moved: {}", transfer(&mut core, 1, 1, 2, 80))?;
-    for (account, sum) in core.map(rt.alloc())? {
+    let mut accounts = OwnedMap::new(rt.alloc(), Limits::new(2, 8, 8)?)?;
+    accounts.transact(0, |t: &mut Transaction<'_>| open(t))?;
+    println!(rt;
+        "30 moved: {}",
+        transfer(&mut accounts, 1, 1, 2, 30).is_ok()
+    )?;
+    println!(rt;
+        "80 moved: {}",
+        transfer(&mut accounts, 1, 1, 2, 80).is_ok()
+    )?;
+    for (account, sum) in accounts.core().map(rt.alloc())? {
         println!(rt; "account {account}: {sum}")?;
     }
     Ok(())

@@ -23,7 +23,7 @@ fn say<R: Print + AllocGlobal>(rt: &R, visit: Visit, answer: Answer) -> io::Resu
     match answer {
         Ok(Some(got)) => println!(rt; "put {}, got {got}", visit.value),
         Ok(None) => println!(rt; "put {}, got none", visit.value),
-        Err(refusal) => println!(rt; "refused {}", refusal.number()),
+        Err(stop) => println!(rt; "{stop:?}"),
     }
 }
 

@@ -1,12 +1,13 @@
 //! Four threads move sums between the accounts of one map, and the sum of all accounts stays.
 //!
-//! Each transfer is one transaction: it reads two accounts and writes both. Where another thread
-//! has a key's stripe, the transaction is aborted and begun anew, a few times. Which transfers get
-//! through depends on the threads; that none gets through by half does not.
+//! Each transfer is one transaction: it reads two accounts and writes both. If another thread has a
+//! key's stripe, the transaction is aborted and begun anew, as often as it takes.
 ghost use Rattle.std.specs.Prelude.{◌≡◌};
+ghost use Rattle.shared_transactions.specs.Keeps.{Keeps};
 
 use boost_core::Core;
-use locked_map::{Caller, Closed, NoSide, Pass, SharedMap, Stop};
+use locked_map::{Caller, Closed, NoSide, SharedMap, Stop};
+use shared_transactions::{Retry, Transaction, callers_of, transact};
 use std::alloc::{AllocError, Global};
 use std::io::Print;
 use std::marker::Brand;
@@ -24,20 +25,15 @@ const ACCOUNTS: u64 = 8;
 const OPENING: u64 = 100;
 /// How many transfers each thread makes.
 const TRANSFERS: u64 = 50;
-/// How often a transfer is tried.
-const TRIES: u64 = 100;
 
-/// Puts the opening sum into each account, in one transaction.
-fn open<L: Ledger, R: Wait>(
-    rt: &R,
-    map: &SharedMap<L>,
-    me: &mut Caller<L, NoSide>,
-) -> Result<(), Stop> {
-    map.begin(rt, me)?;
+/// Puts the opening sum into each account.
+#[tactic(auto, using(shared_transactions::proofs::Within::keeps_stay, shared_transactions::proofs::Within::keeps_on))]
+fn open<L: Ledger, R: Wait>(t: &mut Transaction<'_, L, R>) -> Result<(), Stop>
+    ensures { Keeps t.old.me t.new.me }
+{
     for account in 0..ACCOUNTS {
-        map.put(rt, me, account, OPENING)?;
+        t.put(account, OPENING)?;
     }
-    map.commit(rt, me)?;
     Ok(())
 }
 
@@ -62,56 +58,30 @@ impl Transfer {
     }
 
     /// Moves the sum, if the first account has as much.
-    fn try_move<L: Ledger, R: Wait>(
-        self,
-        rt: &R,
-        map: &SharedMap<L>,
-        me: &mut Caller<L, NoSide>,
-    ) -> Result<(), Stop> {
-        let had = map.get(rt, me, self.from)?.unwrap_or(0);
-        let has = map.get(rt, me, self.to)?.unwrap_or(0);
-        match (had.checked_sub(self.sum), has.checked_add(self.sum)) {
-            (Some(less), Some(more)) if self.from != self.to => {
-                map.put(rt, me, self.from, less)?;
-                map.put(rt, me, self.to, more)?;
-            }
-            _ => {}
+    #[tactic(auto, using(shared_transactions::proofs::Within::keeps_stay, shared_transactions::proofs::Within::keeps_on))]
+    fn make<L: Ledger, R: Wait>(self, t: &mut Transaction<'_, L, R>) -> Result<(), Stop>
+        ensures { Keeps t.old.me t.new.me }
+    {
+        let had = t.get(self.from)?.unwrap_or(0);
+        let has = t.get(self.to)?.unwrap_or(0);
+        let (Some(less), Some(more)) = (had.checked_sub(self.sum), has.checked_add(self.sum)) else {
+            return Ok(());
+        };
+        if self.from != self.to {
+            t.put(self.from, less)?;
+            t.put(self.to, more)?;
         }
         Ok(())
     }
-
-    /// Moves the sum in a transaction, which is aborted where a call is refused.
-    fn make<L: Ledger, R: Wait>(
-        self,
-        rt: &R,
-        map: &SharedMap<L>,
-        me: &mut Caller<L, NoSide>,
-    ) -> Result<(), Stop> {
-        map.begin(rt, me)?;
-        match self.try_move(rt, map, me) {
-            Ok(()) => {
-                map.commit(rt, me)?;
-                Ok(())
-            }
-            Err(Stop::Busy { holder }) => Err(Stop::Busy { holder }),
-            Err(Stop::Refused(refusal)) => {
-                map.abort(rt, me)?;
-                Err(Stop::Refused(refusal))
-            }
-        }
-    }
 }
 
-/// What one thread does: its transfers, each tried anew where a stripe was held.
+/// What one thread does: its transfers, each in a transaction.
 fn work<L: Ledger, R: Wait>(rt: &R, map: &SharedMap<L>, me: &mut Caller<L, NoSide>) {
     for round in 0..TRANSFERS {
         let transfer = Transfer::of_round(me.number(), round);
-        for _ in 0..TRIES {
-            match transfer.make(rt, map, me) {
-                Err(Stop::Busy { .. }) => {}
-                _ => break,
-            }
-        }
+        let mut t = Transaction::new(rt, map, me);
+        let make = |t: &mut Transaction<'_, L, R>| transfer.make(t);
+        let _ = transact(&mut t, Retry::FOREVER, make);
     }
 }
 
@@ -122,7 +92,12 @@ fn work_all<L: Ledger + Send + Sync, R: Threads + Wait + Sync>(
     callers: &mut [Caller<L, NoSide>],
 ) -> Result<(), Stop> {
     if let Some(first) = callers.first_mut() {
-        open(rt, map, first)?;
+        let mut t = Transaction::new(rt, map, first);
+        transact(
+            &mut t,
+            Retry::FOREVER,
+            |t: &mut Transaction<'_, L, R>| open(t),
+        )?;
     }
     thread::scope(thread::scope_env(), rt, |scope| {
         for me in callers {
@@ -130,18 +105,6 @@ fn work_all<L: Ledger + Send + Sync, R: Threads + Wait + Sync>(
         }
     });
     Ok(())
-}
-
-/// The callers of the passes.
-fn callers_of<L: Ledger>(
-    alloc: Global,
-    passes: Vec<Pass<L>>,
-) -> Result<Vec<Caller<L, NoSide>>, AllocError> {
-    let mut callers = Vec::new(alloc);
-    for pass in passes {
-        callers.push(pass.caller(alloc, NoSide))?;
-    }
-    Ok(callers)
 }
 
 /// The core after all transfers.
@@ -156,12 +119,9 @@ fn play_all<L: Ledger + Send + Sync, R: Threads + Wait + Sync>(
     requires one_each { blank.parts ≡ limits.callers }
 {
     let (map, passes) = SharedMap::<L>::new(alloc, blank, limits)?;
-    let Ok(mut callers) = callers_of(alloc, passes) else {
-        return Err(Refusal::NoMemory);
-    };
-    match work_all(rt, &map, callers.as_mut_slice()) {
-        Ok(()) | Err(Stop::Busy { .. }) => {}
-        Err(Stop::Refused(refusal)) => return Err(refusal),
+    let mut callers = callers_of(alloc, passes)?;
+    if let Err(Stop::Refused(refusal)) = work_all(rt, &map, callers.as_mut_slice()) {
+        return Err(refusal);
     }
     match map.close(callers) {
         Ok(Closed { core, callers: _ }) => Ok(core),
@@ -178,7 +138,7 @@ fn total(alloc: Global, core: &Core) -> Result<u64, AllocError> {
     Ok(sum)
 }
 
-/// Plays under a ledger of its own, and prints the sum.
+/// Plays, and prints the sum.
 pub(crate) fn show<R: Threads + Wait + Sync + Print + AllocGlobal>(rt: &R) -> io::Result<()> {
     let Ok(limits) = Limits::new(THREADS, 8, 8) else {
         return println!(rt; "limits");
@@ -190,6 +150,6 @@ pub(crate) fn show<R: Threads + Wait + Sync + Print + AllocGlobal>(rt: &R) -> io
             ACCOUNTS * OPENING,
             total(rt.alloc(), &core)?
         ),
-        Err(refusal) => println!(rt; "refused {}", refusal.number()),
+        Err(refusal) => println!(rt; "refused: {}", refusal.text()),
     }
 }

@@ -1,2 +1,3 @@
 pub mod Within
 pub mod Keeps
+pub mod Trimmed

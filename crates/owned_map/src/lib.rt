@@ -40,6 +40,7 @@
 mod owned_map;
 mod stop;
 mod transaction;
+mod trim;
 
 pub use owned_map::OwnedMap;
 pub use stop::Stop;

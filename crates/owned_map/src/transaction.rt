@@ -2,7 +2,8 @@
 //!
 //! It stands apart from the map so that no other call can be made on the map while it is open. Each
 //! operation keeps `Keeps`, by which a work of several operations keeps it too.
-ghost use Rattle.std.specs.Prelude.{◌≡◌, IfOk, OnErr, OnOk};
+ghost use Rattle.std.specs.Prelude.{◌≡◌, is_some, IfOk, OnErr, OnOk};
+ghost use Rattle.txn_trace.specs.Map.{get as value_at};
 ghost use Rattle.txn_trace.specs.Now.{now};
 ghost use Rattle.boost_core.specs.Plain.{Returns};
 ghost use Rattle.owned_map.specs.Within.{HasDone, IsCommitted, IsTakenBack};
@@ -44,6 +45,24 @@ impl Transaction<'_> {
             ≡ now self.old.map.now.core.history) }
     {
         self.operate(Op::Get(key))
+    }
+
+    /// Whether a key is there.
+    ///
+    /// # Errors
+    ///
+    /// Those of `get`.
+    ///
+    /// # Cost
+    ///
+    /// That of `get`.
+    pub fn contains_key(&mut self, key: u64) -> Result<bool, Stop>
+        ensures keeps { Keeps self.old self.new }
+        ensures ok { IfOk result (λ there. there
+            ≡ is_some (value_at (now self.old.map.now.core.history) key)) }
+        ensures same { now self.new.map.now.core.history ≡ now self.old.map.now.core.history }
+    {
+        Ok(self.get(key)?.is_some())
     }
 
     /// Puts a value at a key, and answers the value before. If the key is new, the table grows by a

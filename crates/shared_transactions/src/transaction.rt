@@ -2,7 +2,7 @@
 //!
 //! It stands apart from the token so that no other call can be made with it meanwhile. It has no
 //! state of its own: whether a transaction is open, the token says.
-ghost use Rattle.std.specs.Prelude.{◌≡◌, ◌+◌, ◌++◌, [], ◌∷◌, ℕ, Some, length, true, IfOk, OnErr, OnOk};
+ghost use Rattle.std.specs.Prelude.{◌≡◌, ◌+◌, ◌++◌, [], ◌∷◌, ℕ, Option, Some, is_some, length, true, IfOk, OnErr, OnOk};
 ghost use Rattle.txn_trace.specs.declared.entry.Entry.TheVariants as entries;
 ghost use Rattle.txn_trace.specs.Shape.{Seat, seat_after};
 ghost use Rattle.txn_drive.specs.Made.{undone_by};
@@ -86,7 +86,28 @@ impl<'a, L: Ledger, R: Wait> Transaction<'a, L, R> {
         self.operate(Op::Get(key))
     }
 
-    /// Puts a value at a key, and answers the value before.
+    /// Whether a key is there.
+    ///
+    /// # Errors
+    ///
+    /// Those of `get`.
+    ///
+    /// # Cost
+    ///
+    /// That of the map's `get`.
+    pub fn contains_key(&mut self, key: u64) -> Result<bool, Stop>
+        ensures keeps { Keeps self.old.me self.new.me }
+        ensures ok { IfOk result (λ there. (reply : Option ℕ) × (there ≡ is_some reply)
+            × (self.new.me.now.seen ≡ self.old.me.now.seen
+            ++ entries.Asked self.old.me.now.number (Op.Get key)
+            ∷ entries.Did self.old.me.now.number reply ∷ [])) }
+    {
+        Ok(self.get(key)?.is_some())
+    }
+
+    /// Puts a value at a key, and answers the value before. If the key is new, the table grows by a
+    /// step, if that is due: it is doubled if it is full, and the key's bucket is initialised. If
+    /// memory is refused for that, the table stays smaller and nothing else is changed.
     ///
     /// # Errors
     ///
@@ -94,14 +115,14 @@ impl<'a, L: Ledger, R: Wait> Transaction<'a, L, R> {
     ///
     /// # Cost
     ///
-    /// That of the map's `put`.
+    /// That of the map's `put`, and for a new key of its `help`.
     pub fn put(&mut self, key: u64, value: u64) -> Result<Reply, Stop>
         ensures keeps { Keeps self.old.me self.new.me }
         ensures ok { IfOk result (λ reply. self.new.me.now.seen ≡ self.old.me.now.seen
             ++ entries.Asked self.old.me.now.number (Op.Put key value)
             ∷ entries.Did self.old.me.now.number reply ∷ []) }
     {
-        self.operate(Op::Put(key, value))
+        self.operate_growing(Op::Put(key, value))
     }
 
     /// Takes a key out, and answers its value.
@@ -131,14 +152,14 @@ impl<'a, L: Ledger, R: Wait> Transaction<'a, L, R> {
     ///
     /// # Cost
     ///
-    /// That of the map's `put_if`.
+    /// That of the map's `put_if`, and for a new key of its `help`.
     pub fn put_if(&mut self, key: u64, expected: Option<u64>, value: u64) -> Result<Reply, Stop>
         ensures keeps { Keeps self.old.me self.new.me }
         ensures ok { IfOk result (λ reply. self.new.me.now.seen ≡ self.old.me.now.seen
             ++ entries.Asked self.old.me.now.number (Op.PutIf key expected value)
             ∷ entries.Did self.old.me.now.number reply ∷ []) }
     {
-        self.operate(Op::PutIf(key, expected, value))
+        self.operate_growing(Op::PutIf(key, expected, value))
     }
 
     /// Sets a savepoint, and answers its level, from 1.
@@ -221,6 +242,32 @@ impl<'a, L: Ledger, R: Wait> Transaction<'a, L, R> {
             End::Busy(holder) => Err(Stop::Busy { holder }),
             End::Refused(refusal) => Err(Stop::Refused(refusal)),
             _ => Err(Stop::Refused(Refusal::OutOfStep)),
+        }
+    }
+
+    /// Does an operation, and grows the table where the key is new.
+    fn operate_growing(&mut self, op: Op) -> Result<Reply, Stop>
+        ensures keeps { Keeps self.old.me self.new.me }
+        ensures ok { IfOk result (λ reply. self.new.me.now.seen ≡ self.old.me.now.seen
+            ++ entries.Asked self.old.me.now.number op
+            ∷ entries.Did self.old.me.now.number reply ∷ []) }
+    {
+        let reply = self.operate(op)?;
+        if reply.is_none() {
+            self.grow(op.key())?;
+        }
+        Ok(reply)
+    }
+
+    /// Doubles the table, if it is full, and initialises the bucket of a key. If memory is refused
+    /// for that, or no stamp is left, the table stays smaller.
+    fn grow(&mut self, key: u64) -> Result<(), Stop>
+        ensures keeps { Keeps self.old.me self.new.me }
+        ensures same { OnOk result (self.new.me.now.seen ≡ self.old.me.now.seen) }
+    {
+        match self.call(Call::Help(key)) {
+            End::Refused(Refusal::OutOfStep) => Err(Stop::Refused(Refusal::OutOfStep)),
+            _ => Ok(()),
         }
     }
 

@@ -10,7 +10,14 @@ use Rattle.txn_trace.specs.declared.entry.Entry.{Entry}
 use Rattle.txn_trace.specs.declared.holder.Holder.TheVariants.{Begun}
 use Rattle.txn_trace.specs.declared.entry.Entry.TheVariants.{Asked, Did, Committed}
 use Rattle.txn_trace.specs.declared.op.Op.TheVariants.{Put, Get}
-use Rattle.txn_trace.specs.declared.refusal.Refusal.{Refusal}
+use Rattle.std.proofs.Common.{append_assoc}
+use Rattle.std.specs.Prelude.{Err}
+use Rattle.txn_trace.specs.declared.entry.Entry.TheVariants.{Began}
+use Rattle.locked_map.specs.declared.stop.Stop.{Stop}
+use Rattle.locked_map.specs.Tokens.{IsSameCaller}
+use Rattle.std.specs.Borrow.{MutBor}
+use Rattle.shared_transactions.specs.Keeps.{Keeps}
+use Rattle.shared_transactions.specs.Within.{IsRun}
 use Rattle.txn_trace.specs.Map.{Map, get, insert}
 use Rattle.txn_trace.specs.Alone.{Run, act, alone}
 use Rattle.txn_trace.specs.Serial.{serial}
@@ -21,7 +28,7 @@ use Rattle.txn_trace.proofs.Committing.{has_committed}
 use Rattle.locked_map.specs.Tokens.{Token}
 use Rattle.locked_map.specs.Closes.{IsOwn}
 use Rattle.visits.specs.declared.visit.Visit.{Visit}
-use Rattle.visits.specs.Visits.{visiting, HasVisited, IsAnswered, AreAnswered}
+use Rattle.visits.specs.Visits.{visiting, HasDone, HasVisited, IsAnswered, AreAnswered}
 
 -- A run goes on to its commit only where its reply was right.
 tested : (c place : ℕ) (b : Bool) (run : Run) → IsSome (option_and_then (λ r. act r (Committed c place)) (cond b (Some run) None)) → b ≡ true
@@ -58,11 +65,11 @@ mapped : {A B : Type 0} (f : A → B) (o : Option A) (y : B) → option_map f o 
 mapped f None y is = absurd (cc is)
 mapped f (Some x) y is = (x, refl, cc is)
 
-if_ok : (visit : Visit) (reply : Option ℕ) (answer : Result (Option ℕ) Refusal) {S : Type 0} (me : Token S) → answer ≡ Ok reply → IfOk answer (λ r. HasVisited visit r me) → HasVisited visit reply me
+if_ok : (visit : Visit) (reply : Option ℕ) (answer : Result (Option ℕ) Stop) {S : Type 0} (me : Token S) → answer ≡ Ok reply → IfOk answer (λ r. HasVisited visit r me) → HasVisited visit reply me
 if_ok visit reply answer me is made = subst (λ a. IfOk a (λ r. HasVisited visit r me)) is made
 
 -- So all visitors are answered that have made their visits: `jobs` before and `visited` after.
-pub all_answered : {J V S : Type 0} (visit_of : J → Visit) (me_of : V → Token S) (answer_of : V → Result (Option ℕ) Refusal) (visits : List Visit) (jobs : List J) (visited : List V) (stripes : ℕ) (h : List Entry)
+pub all_answered : {J V S : Type 0} (visit_of : J → Visit) (me_of : V → Token S) (answer_of : V → Result (Option ℕ) Stop) (visits : List Visit) (jobs : List J) (visited : List V) (stripes : ℕ) (h : List Entry)
     → map visit_of jobs ≡ visits → length visited ≡ length jobs
     → ((i : ℕ) (d : V) → i < length jobs → (job : J) × ((x : J) → slice_index_or jobs i x ≡ job) × IfOk (answer_of (slice_index_or visited i d)) (λ reply. HasVisited (visit_of job) reply (me_of (slice_index_or visited i d))))
     → IsLegal Begun stripes h → All (IsOwn h) (map me_of visited) → AreAnswered h visits (map answer_of visited)
@@ -82,3 +89,39 @@ all_answered visit_of me_of answer_of visits jobs visited stripes h visits_are c
       subst (IsOwn h) (get_or-map me_of visited i v (me_of v) within) (own i (me_of v) (subst (λ n. i < n) (sym (length-map visited me_of)) within)) in
       got_at_close visit reply (me_of (slice_index_or visited i v)) stripes h its legal mine;
 }
+
+-- Put, and then got.
+pub has_done : {S E : Type 0} (visit : Visit) (before : Option ℕ) (k m l : MutBor (Token S)) (result : Result (Option ℕ) E)
+    → m.now.seen ≡ k.now.seen ++ Asked k.now.number (Put visit.key visit.value) ∷ Did k.now.number before ∷ [] → Keeps k m
+    → IfOk result (λ reply. l.now.seen ≡ m.now.seen ++ Asked m.now.number (Get visit.key) ∷ Did m.now.number reply ∷ []) → Keeps m l
+    → IfOk result (λ reply. HasDone visit reply k.now l.now)
+has_done visit before k m l (Ok reply) put first got second =
+    let one = first.goes_on.whose in
+    let two = second.goes_on.whose in
+    record {
+      before = before;
+      seen = got ∙ ap (λ n. m.now.seen ++ Asked n (Get visit.key) ∷ Did n reply ∷ []) one.number
+          ∙ ap (λ es. es ++ Asked k.now.number (Get visit.key) ∷ Did k.now.number reply ∷ []) put
+          ∙ append_assoc k.now.seen (Asked k.now.number (Put visit.key visit.value) ∷ Did k.now.number before ∷ []) (Asked k.now.number (Get visit.key) ∷ Did k.now.number reply ∷ []);
+      whose = record { number = two.number ∙ one.number; limits = two.limits ∙ one.limits };
+    }
+has_done visit before k m l (Err e) put first got second = got
+
+-- And all of it in a transaction that committed.
+pub has_visited : {S : Type 0} (visit : Visit) (reply : Option ℕ) (base opened done l : Token S) (txn place : ℕ) → IsRun base opened done l txn place → HasDone visit reply opened done → HasVisited visit reply l
+has_visited visit reply base opened done l txn place run work =
+    let c : ℕ = base.number in
+    let opened_is : opened.number ≡ c = run.began.whose.number in
+    let done_is : done.number ≡ c = work.whose.number ∙ opened_is in
+    let rest : ℕ → List Entry = λ n. Asked n (Put visit.key visit.value) ∷ Did n work.before ∷ Asked n (Get visit.key) ∷ Did n reply ∷ [] in
+    record {
+      earlier = base.seen;
+      txn = txn;
+      before = work.before;
+      place = place;
+      seen = run.committed
+          ∙ ap (λ n. done.seen ++ Committed n place ∷ []) done_is
+          ∙ ap (λ es. es ++ Committed c place ∷ []) (work.seen ∙ ap (λ n. opened.seen ++ rest n) opened_is ∙ ap (λ es. es ++ rest c) run.began.seen ∙ append_assoc base.seen (Began c txn ∷ []) (rest c))
+          ∙ append_assoc base.seen (Began c txn ∷ rest c) (Committed c place ∷ [])
+          ∙ sym (ap (λ n. base.seen ++ visiting n visit txn work.before reply place) (run.whose.number ∙ done_is));
+    }

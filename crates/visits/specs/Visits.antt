@@ -3,9 +3,9 @@ use Rattle.std.specs.Prelude.{ℕ, ◌≡◌, List, [], ◌∷◌, ◌++◌, len
 use Rattle.txn_trace.specs.declared.op.Op.TheVariants.{Put, Get}
 use Rattle.txn_trace.specs.declared.entry.Entry.{Entry}
 use Rattle.txn_trace.specs.declared.entry.Entry.TheVariants.{Began, Asked, Did, Committed}
-use Rattle.txn_trace.specs.declared.refusal.Refusal.{Refusal}
+use Rattle.locked_map.specs.declared.stop.Stop.{Stop}
 use Rattle.txn_trace.specs.History.{of}
-use Rattle.locked_map.specs.Tokens.{Token}
+use Rattle.locked_map.specs.Tokens.{Token, IsSameCaller}
 use Rattle.visits.specs.declared.visit.Visit.{Visit}
 
 -- The entries of a transaction that puts a value at a key, gets the key, and commits.
@@ -13,6 +13,13 @@ abbrev pub visiting : ℕ → Visit → ℕ → Option ℕ → Option ℕ → �
 visiting c visit txn before reply place =
     Began c txn ∷ Asked c (Put visit.key visit.value) ∷ Did c before ∷ Asked c (Get visit.key)
     ∷ Did c reply ∷ Committed c place ∷ []
+
+-- Within a transaction, the caller has put the value and got this reply.
+pub record HasDone {S : Type 0} (visit : Visit) (reply : Option ℕ) (k l : Token S) : Type 0 where
+  pub before : Option ℕ
+  pub seen : l.seen ≡ k.seen ++ Asked k.number (Put visit.key visit.value) ∷ Did k.number before
+      ∷ Asked k.number (Get visit.key) ∷ Did k.number reply ∷ []
+  pub whose : IsSameCaller k l
 
 -- The last that the caller has seen is such a transaction.
 pub record HasVisited {S : Type 0} (visit : Visit) (reply : Option ℕ) (me : Token S) : Type 0 where
@@ -33,7 +40,7 @@ pub record IsAnswered (h : List Entry) (visit : Visit) (reply : Option ℕ) : Ty
 
 -- There is an answer to each visit, in their order, and each that is a reply is so by the history.
 pub record AreAnswered (h : List Entry) (visits : List Visit)
-    (answers : List (Result (Option ℕ) Refusal)) : Type 0 where
+    (answers : List (Result (Option ℕ) Stop)) : Type 0 where
   pub count : length answers ≡ length visits
   pub each : (i : ℕ) (visit : Visit) (reply : Option ℕ) → slice_get visits i ≡ Some visit
       → slice_get answers i ≡ Some (Ok reply) → IsAnswered h visit reply

@@ -1,9 +1,11 @@
 //! What visitors of one map put and get, each in a thread of its own.
 ghost use Rattle.std.specs.Prelude.{◌≡◌, IfOk, map};
-ghost use Rattle.visits.specs.Visits.{AreAnswered, HasVisited};
+ghost use Rattle.shared_transactions.specs.Keeps.{Keeps};
+ghost use Rattle.visits.specs.Visits.{AreAnswered, HasDone, HasVisited};
 
 use boost_core::Core;
 use locked_map::{Caller, Closed, NoSide, Pass, SharedMap, Stop};
+use shared_transactions::{Retry, Transaction, transact};
 use std::alloc::{AllocError, Global};
 use std::sync::Wait;
 use std::sync::ledger::{Blank, Ledger};
@@ -21,31 +23,24 @@ pub struct Visit {
 }
 
 /// What a visitor got, or why it did not get that far.
-pub type Answer = Result<Reply, Refusal>;
+pub type Answer = Result<Reply, Stop>;
 
 impl Visit {
-    /// Puts the value, gets it and commits, and answers what it got.
+    /// Puts the value and gets it, and answers what it got.
     ///
     /// # Errors
     ///
-    /// The first `Stop` of its calls: after `Busy` the transaction is aborted and may be begun
-    /// anew, after `Refused` it is as it was.
-    fn put_and_get<L: Ledger, R: Wait>(
-        self,
-        rt: &R,
-        map: &SharedMap<L>,
-        me: &mut Caller<L, NoSide>,
-    ) -> Result<Reply, Stop>
-        ensures { IfOk result (λ reply. HasVisited self reply me.new) }
+    /// The first `Stop` of its calls.
+    #[tactic(auto, using(shared_transactions::proofs::Within::keeps_stay, shared_transactions::proofs::Within::keeps_on, crate::proofs::Whole::has_done))]
+    fn put_and_get<L: Ledger, R: Wait>(self, t: &mut Transaction<'_, L, R>) -> Result<Reply, Stop>
+        ensures keeps { Keeps t.old.me t.new.me }
+        ensures done { IfOk result (λ reply. HasDone self reply t.old.me.now t.new.me.now) }
     {
-        map.begin(rt, me)?;
-        map.put(rt, me, self.key, self.value)?;
-        let reply = map.get(rt, me, self.key)?;
-        map.commit(rt, me)?;
-        Ok(reply)
+        t.put(self.key, self.value)?;
+        t.get(self.key)
     }
 
-    /// The same, begun anew as long as another visitor holds the key's stripe.
+    /// The same in a transaction, begun anew as long as another visitor holds the key's stripe.
     ///
     /// # Errors
     ///
@@ -58,14 +53,10 @@ impl Visit {
     ) -> Answer
         ensures { IfOk result (λ reply. HasVisited self reply me.new) }
     {
-        for _ in rt.forever() {
-            match self.put_and_get(rt, map, me) {
-                Ok(reply) => return Ok(reply),
-                Err(Stop::Busy { .. }) => thread::yield_now(),
-                Err(Stop::Refused(refusal)) => return Err(refusal),
-            }
-        }
-        unreachable!()
+        let mut open = Transaction::new(rt, map, me);
+        let work = |t: &mut Transaction<'_, L, R>| self.put_and_get(t);
+        let (reply, _) = transact(&mut open, Retry::FOREVER, work)?;
+        Ok(reply)
     }
 }
 

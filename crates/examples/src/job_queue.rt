@@ -1,0 +1,169 @@
+//! A queue of jobs in one map, from which four threads take jobs: a key is a job, its value the
+//! job's state. Each job is done once, and a worker that stops in mid-transaction leaves nothing.
+ghost use Rattle.std.specs.Prelude.{◌≡◌};
+ghost use Rattle.shared_transactions.specs.Keeps.{Keeps};
+
+use boost_core::Core;
+use locked_map::{Caller, Closed, NoSide, SharedMap, Stop};
+use shared_transactions::{Retry, Transaction, callers_of, transact};
+use std::alloc::{AllocError, Global};
+use std::io::Print;
+use std::marker::Brand;
+use std::sync::Wait;
+use std::sync::ledger::{Blank, Ledger};
+use std::thread::Threads;
+use std::{io, thread};
+use txn_trace::{Limits, Refusal};
+
+/// The workers, each in a thread of its own.
+const WORKERS: u64 = 4;
+/// The jobs, by their keys.
+const JOBS: u64 = 12;
+/// The key at which it is counted how often a job was done.
+const DONE: u64 = 100;
+/// The state of a job that waits for a worker.
+const WAITING: u64 = 1;
+/// The state of a job that a worker has claimed.
+const CLAIMED: u64 = 2;
+/// The state of a job that is finished.
+const FINISHED: u64 = 3;
+
+/// Puts all jobs into the queue.
+#[tactic(auto, using(shared_transactions::proofs::Within::keeps_stay, shared_transactions::proofs::Within::keeps_on))]
+fn fill<L: Ledger, R: Wait>(t: &mut Transaction<'_, L, R>) -> Result<(), Stop>
+    ensures { Keeps t.old.me t.new.me }
+{
+    for job in 0..JOBS {
+        t.put(job, WAITING)?;
+    }
+    Ok(())
+}
+
+/// Claims a job, if it waits: answers whether it did.
+fn claim<L: Ledger, R: Wait>(t: &mut Transaction<'_, L, R>, job: u64) -> Result<bool, Stop>
+    ensures { Keeps t.old.me t.new.me }
+{
+    let before = t.put_if(job, Some(WAITING), CLAIMED)?;
+    Ok(before == Some(WAITING))
+}
+
+/// Finishes a job that was claimed, and counts it.
+#[tactic(auto, using(shared_transactions::proofs::Within::keeps_stay, shared_transactions::proofs::Within::keeps_on))]
+fn finish<L: Ledger, R: Wait>(t: &mut Transaction<'_, L, R>, job: u64) -> Result<(), Stop>
+    ensures { Keeps t.old.me t.new.me }
+{
+    t.put(job, FINISHED)?;
+    let count = t.get(DONE)?.unwrap_or(0);
+    t.put(DONE, count.saturating_add(1))?;
+    Ok(())
+}
+
+/// Begins to finish every job at once, and stops in the middle: all of it is taken back.
+fn crash<L: Ledger, R: Wait>(
+    rt: &R,
+    map: &SharedMap<L>,
+    me: &mut Caller<L, NoSide>,
+) -> Result<(), Stop> {
+    let mut t = Transaction::new(rt, map, me);
+    t.begin()?;
+    for job in 0..JOBS {
+        t.put(job, FINISHED)?;
+    }
+    Ok(())
+}
+
+/// Claims each job that waits and finishes it.
+fn work<L: Ledger, R: Wait>(
+    rt: &R,
+    map: &SharedMap<L>,
+    me: &mut Caller<L, NoSide>,
+) -> Result<(), Stop> {
+    for job in 0..JOBS {
+        let mut t = Transaction::new(rt, map, me);
+        let claims = |t: &mut Transaction<'_, L, R>| claim(t, job);
+        let (claimed, _) = transact(&mut t, Retry::FOREVER, claims)?;
+        if claimed {
+            let finishes = |t: &mut Transaction<'_, L, R>| finish(t, job);
+            transact(&mut t, Retry::FOREVER, finishes)?;
+        }
+    }
+    Ok(())
+}
+
+/// The first caller fills the queue; then each works in a thread, the first only after a crash.
+fn work_all<L: Ledger + Send + Sync, R: Threads + Wait + Sync>(
+    rt: &R,
+    map: &SharedMap<L>,
+    callers: &mut [Caller<L, NoSide>],
+) -> Result<(), Stop> {
+    if let Some(first) = callers.first_mut() {
+        let mut t = Transaction::new(rt, map, first);
+        transact(
+            &mut t,
+            Retry::FOREVER,
+            |t: &mut Transaction<'_, L, R>| fill(t),
+        )?;
+        drop(t);
+        crash(rt, map, first)?;
+    }
+    thread::scope(thread::scope_env(), rt, |scope| {
+        for me in callers {
+            let _ = scope.spawn(move || work(rt, map, me));
+        }
+    });
+    Ok(())
+}
+
+/// The core after all jobs.
+fn do_all<L: Ledger + Send + Sync, R: Threads + Wait + Sync>(
+    rt: &R,
+    alloc: Global,
+    blank: Blank,
+    limits: Limits,
+) -> Result<Core, Refusal>
+    requires name { blank.name ≡ L.name }
+    requires parts { blank.parts ≡ L.parts }
+    requires one_each { blank.parts ≡ limits.callers }
+{
+    let (map, passes) = SharedMap::<L>::new(alloc, blank, limits)?;
+    let mut callers = callers_of(alloc, passes)?;
+    if let Err(Stop::Refused(refusal)) = work_all(rt, &map, callers.as_mut_slice()) {
+        return Err(refusal);
+    }
+    match map.close(callers) {
+        Ok(Closed { core, callers: _ }) => Ok(core),
+        Err(_) => Err(Refusal::OutOfStep),
+    }
+}
+
+/// How many jobs are finished, and how often one was.
+fn finished(alloc: Global, core: &Core) -> Result<(u64, u64), AllocError> {
+    let mut jobs = 0u64;
+    let mut count = 0u64;
+    for (key, value) in core.regular_list(alloc)? {
+        if key == DONE {
+            count = value;
+        } else if value == FINISHED {
+            jobs = jobs.saturating_add(1);
+        }
+    }
+    Ok((jobs, count))
+}
+
+/// Does all jobs, and prints how many are finished and how often one was.
+pub(crate) fn show<R: Threads + Wait + Sync + Print + AllocGlobal>(rt: &R) -> io::Result<()> {
+    let Ok(limits) = Limits::new(WORKERS, 8, 8) else {
+        return println!(rt; "limits");
+    };
+    let blank = Blank::new(u64::from(limits.callers()));
+    match do_all::<Brand, R>(rt, rt.alloc(), blank, limits) {
+        Ok(core) => {
+            let (jobs, count) = finished(rt.alloc(), &core)?;
+            println!(rt;
+                "jobs {JOBS}, finished {jobs}, each once: {}",
+                count == jobs
+            )
+        }
+        Err(refusal) => println!(rt; "refused: {}", refusal.text()),
+    }
+}

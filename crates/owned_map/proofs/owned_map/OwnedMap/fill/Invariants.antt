@@ -1,0 +1,6 @@
+use Rattle.std.proofs.Common.{◌≡◌, take}
+use Rattle.owned_map.proofs.Trimming.{HasPut}
+use Rattle.owned_map.proofs.owned_map.OwnedMap.fill.Given as goal
+
+abbrev pub invariant-loop-pair : goal.invariant-loop-pair
+invariant-loop-pair l = HasPut (take l.pair-index l.pairs) l.self.core.history × (l.self.core.limits ≡ l.fn.self.core.limits)

@@ -1,0 +1,26 @@
+use Rattle.std.proofs.Common.{rules, ◌≡◌, sym, ap, subst, ◌∙◌}
+use Rattle.txn_trace.specs.Now.{now}
+use Rattle.txn_trace.specs.Ordered.{ordered}
+use Rattle.boost_core.specs.State.{State}
+use Rattle.owned_map.specs.declared.owned_map.OwnedMap.{OwnedMap}
+use Rattle.owned_map.specs.Trimmed.{IsTrimmed, filling}
+use Rattle.owned_map.proofs.Trimming.{at_rest, some_open}
+use Rattle.owned_map.proofs.owned_map.OwnedMap.trim.Goals as goal
+
+pub returns-then-owed-ne0-clause-cause : goal.returns-then-owed-ne0-clause-cause
+returns-then-owed-ne0-clause-cause c = some_open c.args.self.now.core (λ none. c.if-owed-ne0.true (c.owed.ensures ∙ none))
+
+pub fill-requires-clause-listed : goal.fill-requires-clause-listed
+fill-requires-clause-listed c = (now c.args.self.now.core.history, c.as_slice.ensures.value ∙ c.in_ok-pairs.ensures)
+
+pub returns-clause-trimmed : goal.returns-clause-trimmed
+returns-clause-trimmed c =
+    let listed : c.as_slice.result.now ≡ ordered (now c.args.self.now.core.history) = c.as_slice.ensures.value ∙ c.in_ok-pairs.ensures in
+    let none : c.owed.result ≡ 0 = search rules in
+    let made : IsTrimmed c.args.self.now.core c.fill.new.self.core = record {
+      rest = at_rest c.args.self.now.core (sym c.owed.ensures ∙ none);
+      history = c.in_ok-fill.ensures.ok ∙ ap filling listed;
+      same = c.in_ok-fill.ensures.map (now c.args.self.now.core.history) listed;
+      limits = c.in_ok-fill.ensures.limits ∙ ap (λ (s : State). s.limits) c.in_ok-fresh.ensures.ok ∙ c.limits.ensures;
+    } in
+    subst (λ (m : OwnedMap). IsTrimmed c.args.self.now.core m.core) (sym c.replace.ensures.after) made

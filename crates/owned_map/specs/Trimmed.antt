@@ -1,0 +1,48 @@
+-- A history that was cut off: what the map that goes on begins with.
+use Rattle.std.specs.Prelude.{ℕ, ◌≡◌, ◌<◌, false, List, [], ◌∷◌, ◌++◌, None}
+use Rattle.std.specs.List.{flat_map}
+use Rattle.txn_trace.specs.declared.op.Op.TheVariants.{Put}
+use Rattle.txn_trace.specs.declared.entry.Entry.{Entry}
+use Rattle.txn_trace.specs.declared.entry.Entry.TheVariants.{Began, Asked, Did, Committed}
+use Rattle.txn_trace.specs.declared.refusal.Refusal.{Refusal}
+use Rattle.txn_trace.specs.declared.refusal.Refusal.TheVariants.{AlreadyOpen, NoMemory, StampsUsedUp}
+use Rattle.txn_trace.specs.Map.{Map}
+use Rattle.txn_trace.specs.Now.{now}
+use Rattle.txn_trace.specs.Ordered.{ordered}
+use Rattle.txn_trace.specs.Seats.{is_closed}
+use Rattle.boost_core.specs.State.{State, seat_in}
+use Rattle.owned_map.specs.Within.{IsIdle}
+
+-- Caller 0 puts a pair of a key that is not there.
+abbrev pub put_new : ℕ × ℕ → List Entry
+put_new pair = Asked 0 (Put pair.0 pair.1) ∷ Did 0 None ∷ []
+
+-- One committed transaction, the first, in which caller 0 puts these pairs into a map without keys.
+abbrev pub filling : List (ℕ × ℕ) → List Entry
+filling pairs = (Began 0 1 ∷ flat_map put_new pairs) ++ Committed 0 1 ∷ []
+
+-- No caller has a transaction.
+abbrev pub IsAtRest : State → Type 0
+IsAtRest state = (c : ℕ) → c < state.limits.callers → IsIdle c state
+
+-- The history was cut off where no caller had a transaction: the new one is one transaction, which
+-- puts the pairs of the map, and the map is unchanged.
+pub record IsTrimmed (old new : State) : Type 0 where
+  pub rest : IsAtRest old
+  pub history : new.history ≡ filling (ordered (now old.history))
+  pub same : now new.history ≡ now old.history
+  pub limits : new.limits ≡ old.limits
+
+-- Why a history is not cut off: a caller has a transaction, or memory or stamps are missing.
+abbrev pub IsNotTrimmed : State → Refusal → Type 0
+IsNotTrimmed state AlreadyOpen =
+    (c : ℕ) × (c < state.limits.callers) × (is_closed (seat_in state.history c).phase ≡ false)
+IsNotTrimmed state NoMemory = Unit {0}
+IsNotTrimmed state StampsUsedUp = Unit {0}
+IsNotTrimmed state refusal = ⊥
+
+-- Memory or stamps are missing.
+abbrev pub IsLack : Refusal → Type 0
+IsLack NoMemory = Unit {0}
+IsLack StampsUsedUp = Unit {0}
+IsLack refusal = ⊥

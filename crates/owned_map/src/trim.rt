@@ -1,0 +1,120 @@
+//! Cutting a history off, so that a map can be used without end in bounded memory.
+//!
+//! It stands apart since it makes a second core, which goes on in the place of the first. The new
+//! history begins with one transaction, which puts all pairs.
+ghost use Rattle.std.specs.Prelude.{◌≡◌, ◌+◌, ◌++◌, [], ◌∷◌, None, IfOk, IfErr, OnOk, OnErr};
+ghost use Rattle.txn_trace.specs.declared.entry.Entry.TheVariants as entries;
+ghost use Rattle.txn_trace.specs.History.{is_commit};
+ghost use Rattle.txn_trace.specs.Map.{Map, get, insert};
+ghost use Rattle.txn_trace.specs.Now.{now};
+ghost use Rattle.txn_trace.specs.Ordered.{ordered};
+ghost use Rattle.txn_trace.specs.Shape.{how_many};
+ghost use Rattle.owned_map.specs.Trimmed.{IsLack, IsNotTrimmed, IsTrimmed, filling, put_new as putting};
+
+use crate::owned_map::OwnedMap;
+use boost_core::Core;
+use std::alloc::Global;
+use std::mem;
+use txn_trace::{Answer, Refusal, Step};
+
+impl OwnedMap {
+    /// Cuts the history off: hands out the core so far, whose history is legal, and goes on with a
+    /// new core of the same limits and the same map. The new history begins with one committed
+    /// transaction, in which caller 0 puts the pairs of the map, in the order of the list: so it
+    /// is legal by itself, and the map after its first transaction is the one that the old history
+    /// leaves. Numbers and places of transactions begin anew at 1.
+    ///
+    /// # Errors
+    ///
+    /// Nothing is changed.
+    /// - `AlreadyOpen` if a caller has a transaction.
+    /// - `NoMemory` if memory is refused.
+    /// - `StampsUsedUp` if the map has more keys than there are stamps.
+    ///
+    /// # Cost
+    ///
+    /// A put for each pair. Beside the core that is handed out, memory for a core with the same
+    /// pairs and a history of two entries a pair.
+    pub fn trim(&mut self, alloc: Global) -> Result<Core, Refusal>
+        ensures old { IfOk result (λ core. core ≡ self.old.core) }
+        ensures trimmed { OnOk result (IsTrimmed self.old.core self.new.core) }
+        ensures err { OnErr result (self.new.core ≡ self.old.core) }
+        ensures cause { IfErr result (λ refusal. IsNotTrimmed self.old.core refusal) }
+    {
+        if self.core.owed() != 0 {
+            return Err(Refusal::AlreadyOpen);
+        }
+        let pairs = self.core.regular_list(alloc)?;
+        let mut fresh = OwnedMap::new(alloc, self.core.limits())?;
+        fresh.fill(pairs.as_slice())?;
+        Ok(mem::replace(self, fresh).into_core())
+    }
+
+    /// Puts pairs into a map in which nothing has happened, in one transaction.
+    fn fill(&mut self, pairs: &[(u64, u64)]) -> Result<(), Refusal>
+        requires blank { self.old.core.history ≡ [] }
+        requires listed { (m : Map) × (pairs.now ≡ ordered m) }
+        ensures ok { OnOk result (self.new.core.history ≡ filling pairs.now) }
+        ensures map { OnOk result ((m : Map) → pairs.now ≡ ordered m
+            → now self.new.core.history ≡ m) }
+        ensures limits { self.new.core.limits ≡ self.old.core.limits }
+        ensures lack { IfErr result (λ refusal. IsLack refusal) }
+    {
+        self.begin_first()?;
+        for pair in pairs {
+            self.put_new(pair.0, pair.1)?;
+        }
+        self.commit_first()
+    }
+
+    /// Begins the first transaction.
+    fn begin_first(&mut self) -> Result<(), Refusal>
+        requires blank { self.old.core.history ≡ [] }
+        ensures ok { OnOk result (self.new.core.history ≡ entries.Began 0 1 ∷ []) }
+        ensures limits { self.new.core.limits ≡ self.old.core.limits }
+        ensures lack { IfErr result (λ refusal. IsLack refusal) }
+    {
+        // Caller 0 is there and has no transaction, so only memory can be refused.
+        match self.core.step(Step::Begin(0)) {
+            Answer::Began(_) => Ok(()),
+            _ => Err(Refusal::NoMemory),
+        }
+    }
+
+    /// Puts a pair of a new key, and grows the table by a step.
+    fn put_new(&mut self, key: u64, value: u64) -> Result<(), Refusal>
+        requires fresh { get (now self.old.core.history) key ≡ None }
+        ensures ok { OnOk result (self.new.core.history
+            ≡ self.old.core.history ++ putting (key, value)) }
+        ensures map { OnOk result (now self.new.core.history
+            ≡ insert (now self.old.core.history) key value) }
+        ensures limits { self.new.core.limits ≡ self.old.core.limits }
+        ensures lack { IfErr result (λ refusal. IsLack refusal) }
+    {
+        let _legal = self.core.trace();
+        // The key was a key of such a map before, and no other caller is there to hold its stripe.
+        match self.core.put(0, key, value) {
+            Answer::Done(_) => {
+                self.grow(0);
+                Ok(())
+            }
+            Answer::Refused(Refusal::StampsUsedUp) => Err(Refusal::StampsUsedUp),
+            _ => Err(Refusal::NoMemory),
+        }
+    }
+
+    /// Commits the first transaction, which takes no memory.
+    fn commit_first(&mut self) -> Result<(), Refusal>
+        ensures ok { OnOk result (self.new.core.history ≡ self.old.core.history
+            ++ entries.Committed 0 (how_many is_commit self.old.core.history + 1) ∷ []) }
+        ensures map { OnOk result (now self.new.core.history ≡ now self.old.core.history) }
+        ensures limits { self.new.core.limits ≡ self.old.core.limits }
+        ensures lack { IfErr result (λ refusal. IsLack refusal) }
+    {
+        let _legal = self.core.trace();
+        match self.core.step(Step::Commit(0)) {
+            Answer::Committed(_) => Ok(()),
+            _ => Err(Refusal::NoMemory),
+        }
+    }
+}

@@ -1,0 +1,32 @@
+#!/usr/bin/env bash
+# Lays out a new repository NAME beside this one, around one caller of the map of threads: the folders that it stands
+# on, their lines of crates.txt, HANDLES, and a crate that counts in a map from two threads. Then `rt check` in
+# NAME/crates/counter proves it: about 15 minutes the first time, of which all but one are for the folders below, and
+# half a minute after an edit. docs/LIBRARY.md says what stands in it.
+set -eu
+[ $# = 1 ] || { echo "usage: docs/library/new.sh NAME" >&2; exit 2; }
+here=$(cd "$(dirname "${BASH_SOURCE[0]}")/../.." && pwd)
+there=$1
+[ ! -e "$there" ] || { echo "new.sh: $there is there already" >&2; exit 1; }
+
+# What the map of threads stands on, lowest first.
+below="split_key txn_trace txn_drive undo_log key_locks key_words node_list list_steps bucket_table map_ops boost_core
+locked_map shared_transactions"
+
+mkdir -p "$there/crates/counter/src" "$there/crates/counter/proofs" "$there/crates/counter/specs"
+for crate in $below; do
+  mkdir "$there/crates/$crate"
+  for part in src specs proofs; do
+    if [ -d "$here/crates/$crate/$part" ]; then cp -r "$here/crates/$crate/$part" "$there/crates/$crate/"; fi
+  done
+  grep "^$crate\b" "$here/crates.txt" >>"$there/crates.txt"
+done
+# How many of the crate's functions may wait: the last line of its check says so, and `rt verdict` compares.
+echo "counter may_wait=4: txn_trace boost_core locked_map shared_transactions anyhow" >>"$there/crates.txt"
+echo "Handles allowed: Threads, Wait." >"$there/HANDLES"
+printf 'out/\n' >"$there/.gitignore"
+cp "$here"/docs/library/counter/*.rt "$there/crates/counter/src/"
+touch "$there/crates/counter/specs/Lib.antt" "$there/crates/counter/proofs/Lib.antt"
+mkdir -p "$there/crates/counter/proofs/counter/count_all"
+cp "$here/docs/library/counter/Invariants.antt" "$there/crates/counter/proofs/counter/count_all/"
+printf 'counted to 200\n' >"$there/crates/counter/stdout"
