@@ -14,12 +14,12 @@ use history_check::{Verdict, check};
 use std::alloc::{AllocError, Global};
 use txn_trace::{Entry, Holder};
 
-/// Whether the history of a map with this number of stripes is legal; `None` where a caller's
+/// Whether the history of a map with this number of stripes is legal; `None` if a caller's
 /// number is 64 or more, since the checker knows no such caller.
 ///
 /// # Errors
 ///
-/// `AllocError` where memory is refused.
+/// `AllocError` if memory is refused.
 ///
 /// # Cost
 ///

@@ -35,11 +35,11 @@ impl From<Stop> for NotMoved {
 /// # Errors
 ///
 /// Then nothing is moved and the map is unchanged: `TooLittle`, `TooMuch`, or `Stopped` with what
-/// stopped a call, as `Busy` where another caller holds one of the stripes (try again later).
+/// stopped a call, as `Busy` if another caller holds one of the stripes (try again later).
 ///
 /// # Cost
 ///
-/// A begin, two `get`s, two `put`s and a commit, or an abort where it does not get so far.
+/// A begin, two `get`s, two `put`s and a commit, or an abort if it does not get so far.
 pub fn transfer(
     accounts: &mut OwnedMap,
     caller: u64,

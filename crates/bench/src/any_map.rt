@@ -11,7 +11,7 @@ pub(crate) trait AnyMap {
     fn run(&mut self, op: Op) -> Result<Reply, Refusal>;
 }
 
-/// Stores a bucket by its three steps, as helper 0. Where one is refused the bucket stays as it is,
+/// Stores a bucket by its three steps, as helper 0. If one is refused the bucket stays as it is,
 /// and its keys are sought from its parent's dummy.
 pub(crate) fn store_bucket(table: &mut Table, bucket: u32) {
     let sought = table.init_seek(0, u64::from(bucket));

@@ -31,7 +31,7 @@ fn regular_there(list: &NodeList, cursor: &Cursor) -> Option<NodeRef>
     None
 }
 
-/// Links a new node, sought from a dummy. `None` where its sort key is there.
+/// Links a new node, sought from a dummy. `None` if its sort key is there.
 pub(crate) fn put(
     list: &mut NodeList,
     from: NodeRef,

@@ -8,9 +8,9 @@ use txn_trace::Step;
 /// By what an operation claims the stripe of its key.
 #[derive(Clone, Copy, Debug, PartialEq, Eq)]
 pub enum Claim {
-    /// It locks the stripe, and is busy where another caller holds it.
+    /// It locks the stripe, and is busy if another caller holds it.
     Lock,
-    /// Its caller has the stripe's right: it locks the stripe, and where another caller holds it,
+    /// Its caller has the stripe's right: it locks the stripe, and if another caller holds it,
     /// the word that gave the right was stale.
     Right,
     /// The stripe's word names this holder: it is busy.

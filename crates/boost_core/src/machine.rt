@@ -84,7 +84,7 @@ impl Core {
     ///
     /// # Errors
     ///
-    /// `Refusal::NoMemory` where memory is refused.
+    /// `Refusal::NoMemory` if memory is refused.
     ///
     /// # Cost
     ///
@@ -137,9 +137,9 @@ impl Core {
     /// The first refusal whose test holds is the answer, and a refusal leaves the state as it was.
     /// `NoMemory` comes only from `Begin`, `Ask`, `Save`, `Back`, `InitLink` and `InitStore`,
     /// behind all tests; so no caller wants memory to seek, to act, to commit or to abort.
-    /// `InitStore` answers it only where no bucket of its segment of 64 is stored. `Again` comes
-    /// exactly where the cursor of the caller or the helper fits no longer, and drops it: so never
-    /// where the two nodes beside it were side by side all the time, whatever was done elsewhere.
+    /// `InitStore` answers it only if no bucket of its segment of 64 is stored. `Again` comes
+    /// exactly if the cursor of the caller or the helper fits no longer, and drops it: so never
+    /// if the two nodes beside it were side by side all the time, whatever was done elsewhere.
     ///
     /// Where stripes are words, no step may be an `Ask`: `ask_with` and `ask_held` stand for it.
     ///
@@ -237,7 +237,7 @@ impl Core {
     ///
     /// # Errors
     ///
-    /// `AllocError` where that room is refused: then no step is taken.
+    /// `AllocError` if that room is refused: then no step is taken.
     ///
     /// # Cost
     ///
@@ -279,7 +279,7 @@ impl Core {
     ///
     /// # Errors
     ///
-    /// `AllocError` where memory is refused.
+    /// `AllocError` if memory is refused.
     ///
     /// # Cost
     ///
@@ -296,7 +296,7 @@ impl Core {
     ///
     /// # Errors
     ///
-    /// `AllocError` where memory is refused.
+    /// `AllocError` if memory is refused.
     ///
     /// # Cost
     ///

@@ -179,7 +179,7 @@ impl Session {
         }
     }
 
-    /// Ends the taking back, where no change above the level is left.
+    /// Ends the taking back, if no change above the level is left.
     fn arrive(&mut self, caller: usize, locks: &mut KeyLocks) -> Answer
         requires caller { caller < 64 }
         requires arrives { CanArrive self.old }

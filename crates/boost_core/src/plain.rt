@@ -24,7 +24,7 @@ impl Core {
     /// The answer is `Done` with the reply, or the first that is not `Asked`: `Busy`, where another
     /// caller holds the key's stripe and this one now leaves to the end, or a refusal, which leaves
     /// the state: in this order `NoSuchCaller`, `NotOpen`, `Leaving`, `OperationUnfinished`,
-    /// `BadKey` where the limits have half keys and the key is 2^63 or more, `NoMemory` for the
+    /// `BadKey` if the limits have half keys and the key is 2^63 or more, `NoMemory` for the
     /// history and the log, `StampsUsedUp`, `NoMemory` for the node.
     ///
     /// # Cost
@@ -39,9 +39,9 @@ impl Core {
         self.operate(caller, Op::Put(key, value))
     }
 
-    /// Puts a value at a key exactly where the key has what is expected, a value or none, by the
+    /// Puts a value at a key exactly if the key has what is expected, a value or none, by the
     /// same steps as `put` and with the same refusals. The reply is what the key had, so the value
-    /// was put exactly where the reply is what was expected.
+    /// was put exactly if the reply is what was expected.
     ///
     /// # Cost
     ///
@@ -105,7 +105,7 @@ impl Core {
     /// `Busy`.
     ///
     /// The answer is `Aborted`, or a refusal, which leaves the state: in this order `NoSuchCaller`,
-    /// `NotOpen`, and `Leaving` where the caller leaves to a level.
+    /// `NotOpen`, and `Leaving` if the caller leaves to a level.
     ///
     /// # Cost
     ///
@@ -124,7 +124,7 @@ impl Core {
     }
 
     /// Helps the table to grow, as a call `Help` of a drive does, with none between: doubles it
-    /// where it has more than two keys a bucket, and then initialises the bucket of a key at the
+    /// if it has more than two keys a bucket, and then initialises the bucket of a key at the
     /// size that the table has then, the buckets above it first. It needs no transaction, and map
     /// and history stay. Nothing else doubles a table: call it beside `put`, or each seek walks one
     /// long list.
@@ -132,14 +132,14 @@ impl Core {
     /// # Errors
     ///
     /// Buckets that are initialised stay so:
-    /// - `NoSuchHelper` where there is no caller of this number: nothing is done.
-    /// - `BadKey` where the limits have half keys and the key is 2^63 or more: nothing is done.
-    /// - `StampsUsedUp` where none is left, and `NoMemory` where memory is refused.
+    /// - `NoSuchHelper` if there is no caller of this number: nothing is done.
+    /// - `BadKey` if the limits have half keys and the key is 2^63 or more: nothing is done.
+    /// - `StampsUsedUp` if none is left, and `NoMemory` if memory is refused.
     ///
     /// # Cost
     ///
     /// A step to double; then for each bucket on the way, of which there are at most 16, one step
-    /// where it is initialised, and else three, with time in proportion to the nodes that are
+    /// if it is initialised, and else three, with time in proportion to the nodes that are
     /// passed to its place; may take memory for each bucket's dummy and segment.
     pub fn help(&mut self, caller: u64, key: u64) -> Result<(), Refusal>
         ensures helps { Helps self.old caller key result self.new }

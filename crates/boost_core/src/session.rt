@@ -66,7 +66,7 @@ impl Session {
         }
     }
 
-    /// Does what a step of this caller asks for, where nothing refuses it. The seat stays: it
+    /// Does what a step of this caller asks for, if nothing refuses it. The seat stays: it
     /// enters the entry afterwards.
     #[inline(always)]
     pub(crate) fn answer(

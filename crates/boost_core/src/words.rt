@@ -23,7 +23,7 @@ impl Core {
     ///
     /// # Errors
     ///
-    /// `Refusal::NoMemory` where memory is refused.
+    /// `Refusal::NoMemory` if memory is refused.
     ///
     /// # Cost
     ///
@@ -68,12 +68,12 @@ impl Core {
         self.call(caller, Step::Ask(caller, op), Claim::Right)
     }
 
-    /// Asks for an operation where the word of its stripe names another caller: the word is one
+    /// Asks for an operation if the word of its stripe names another caller: the word is one
     /// more than that caller's number.
     ///
     /// The answer is `Busy` with that number, after which the caller leaves to the end, or the
     /// first refusal whose test holds: `NoSuchCaller`, `NotOpen`, `Leaving`, `OperationUnfinished`,
-    /// `BadKey`, and `StaleWord` where the word names the caller itself or one that has never begun
+    /// `BadKey`, and `StaleWord` if the word names the caller itself or one that has never begun
     /// a transaction. A refusal leaves the state. No spare is made, and room for the entry is there
     /// since the transaction began.
     ///

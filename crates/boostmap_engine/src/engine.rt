@@ -27,11 +27,11 @@ use std::io::{Read, Write};
 ///
 /// At each of them but `Write` nothing is written.
 ///
-/// - `Read` where a read fails.
-/// - `Input` where the file is refused.
-/// - `NoMemory` where memory is refused outside a step. A step that is refused memory is answered
+/// - `Read` if a read fails.
+/// - `Input` if the file is refused.
+/// - `NoMemory` if memory is refused outside a step. A step that is refused memory is answered
 ///   `refused 14` and changes nothing.
-/// - `Write` where a write fails or takes nothing: a proper beginning of the report is written.
+/// - `Write` if a write fails or takes nothing: a proper beginning of the report is written.
 ///
 /// # Cost
 ///
@@ -60,10 +60,10 @@ pub fn replay<R: Read, W: Write>(alloc: Global, input: &mut R, output: &mut W) -
 ///
 /// At each of them but `Write` nothing is written.
 ///
-/// - `Read` where a read fails.
-/// - `Input` where the file is refused.
-/// - `NoMemory` where memory is refused.
-/// - `Write` where a write fails or takes nothing: a proper beginning of the line is written.
+/// - `Read` if a read fails.
+/// - `Input` if the file is refused.
+/// - `NoMemory` if memory is refused.
+/// - `Write` if a write fails or takes nothing: a proper beginning of the line is written.
 ///
 /// # Cost
 ///
@@ -96,11 +96,11 @@ pub fn check<R: Read, W: Write>(alloc: Global, input: &mut R, output: &mut W) ->
 ///
 /// At each of them but `Write` nothing is written.
 ///
-/// - `Read` where a read fails.
-/// - `Input` where the file is refused.
-/// - `NoMemory` where memory is refused outside a step. A step that is refused memory ends its
+/// - `Read` if a read fails.
+/// - `Input` if the file is refused.
+/// - `NoMemory` if memory is refused outside a step. A step that is refused memory ends its
 ///   script as refused.
-/// - `Write` where a write fails or takes nothing: a proper beginning of the line is written.
+/// - `Write` if a write fails or takes nothing: a proper beginning of the line is written.
 ///
 /// # Cost
 ///

@@ -28,7 +28,7 @@ fn zeros(alloc: Global, count: usize) -> Result<Vec<u8>, AllocError>
 ///
 /// # Errors
 ///
-/// `Read` where a read fails, after which the reader is not called again; `NoMemory` where memory
+/// `Read` if a read fails, after which the reader is not called again; `NoMemory` if memory
 /// is refused.
 ///
 /// # Cost

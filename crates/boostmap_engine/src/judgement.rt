@@ -39,7 +39,7 @@ fn history_in(alloc: Global, bytes: Vec<u8>) -> Result<(u32, Vec<PackedEntry>, u
 ///
 /// # Errors
 ///
-/// `Input` where the bytes are no history file; `NoMemory` where memory is refused.
+/// `Input` if the bytes are no history file; `NoMemory` if memory is refused.
 ///
 /// # Cost
 ///
@@ -57,7 +57,7 @@ pub fn judge(alloc: Global, bytes: Vec<u8>) -> Result<Verdict, Fault>
 ///
 /// # Errors
 ///
-/// `AllocError` where memory is refused.
+/// `AllocError` if memory is refused.
 ///
 /// # Cost
 ///

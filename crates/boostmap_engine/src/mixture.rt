@@ -15,7 +15,7 @@ use txn_files::history_text;
 ///
 /// # Errors
 ///
-/// `Input` where the bytes are no script file; `NoMemory` where memory is refused outside a step.
+/// `Input` if the bytes are no script file; `NoMemory` if memory is refused outside a step.
 ///
 /// # Cost
 ///

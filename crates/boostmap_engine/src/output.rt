@@ -12,7 +12,7 @@ use std::io::Write;
 ///
 /// # Errors
 ///
-/// `Write` where the writer fails or takes nothing, after which it is not called again: a proper
+/// `Write` if the writer fails or takes nothing, after which it is not called again: a proper
 /// beginning of the text is written.
 ///
 /// # Cost

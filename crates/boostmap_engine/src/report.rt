@@ -74,7 +74,7 @@ fn text_of_run(alloc: Global, limits: Limits, steps: Vec<Step>) -> Result<String
 ///
 /// # Errors
 ///
-/// `Input` where the bytes are no step file; `NoMemory` where memory is refused outside a step.
+/// `Input` if the bytes are no step file; `NoMemory` if memory is refused outside a step.
 ///
 /// # Cost
 ///

@@ -24,7 +24,7 @@ pub struct Ending {
     pub is_told: bool,
 }
 
-/// Want of memory where the error is that, else the other fault.
+/// Want of memory if the error is that, else the other fault.
 fn memory_or(error: &io::Error, other: Fault) -> Fault
     ensures { result ≡ memory_or (error_kind error.now) other }
 {

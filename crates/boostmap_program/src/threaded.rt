@@ -23,8 +23,8 @@ const VERSION: u64 = 3;
 ///
 /// # Errors
 ///
-/// `Input` where the bytes are no script file; `NoMemory` where memory is refused outside a call;
-/// `NoThread` where a thread could not be started; `OutOfStep` where the history is not what the
+/// `Input` if the bytes are no script file; `NoMemory` if memory is refused outside a call;
+/// `NoThread` if a thread could not be started; `OutOfStep` if the history is not what the
 /// workers saw.
 ///
 /// # Cost
@@ -84,13 +84,13 @@ fn fault_of(refusal: Refusal) -> Fault
 ///
 /// At each of them but `Write` nothing is written.
 ///
-/// - `Read` where a read fails.
-/// - `Input` where the file is refused.
-/// - `NoMemory` where memory is refused outside a call. A call that is refused memory ends its
+/// - `Read` if a read fails.
+/// - `Input` if the file is refused.
+/// - `NoMemory` if memory is refused outside a call. A call that is refused memory ends its
 ///   script as refused.
-/// - `NoThread` where a thread could not be started; the workers that were started finish.
-/// - `OutOfStep` where the history is not what the workers saw.
-/// - `Write` where a write fails or takes nothing: a proper beginning of the line is written.
+/// - `NoThread` if a thread could not be started; the workers that were started finish.
+/// - `OutOfStep` if the history is not what the workers saw.
+/// - `Write` if a write fails or takes nothing: a proper beginning of the line is written.
 ///
 /// # Cost
 ///

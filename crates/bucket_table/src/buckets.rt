@@ -55,7 +55,7 @@ impl Buckets {
     ///
     /// # Errors
     ///
-    /// `AllocError` where memory is refused.
+    /// `AllocError` if memory is refused.
     ///
     /// # Cost
     ///
@@ -154,8 +154,8 @@ impl Buckets {
     ///
     /// # Errors
     ///
-    /// In this order: `NoSuchHelper`; `NoSuchBucket` where the bucket is not below the size; and,
-    /// unless the bucket is stored, `ParentMissing` where its parent is not either. The helper, the
+    /// In this order: `NoSuchHelper`; `NoSuchBucket` if the bucket is not below the size; and,
+    /// unless the bucket is stored, `ParentMissing` if its parent is not either. The helper, the
     /// buckets and the list are then as they were.
     ///
     /// # Cost
@@ -245,8 +245,8 @@ impl Buckets {
     ///
     /// # Errors
     ///
-    /// In this order: `NoSuchHelper`; `HelperOutOfOrder` where the helper has no cursor; and, where
-    /// a dummy is to be linked, `StampsUsedUp`, then `NoMemory` where memory is refused. The helper
+    /// In this order: `NoSuchHelper`; `HelperOutOfOrder` if the helper has no cursor; and, where
+    /// a dummy is to be linked, `StampsUsedUp`, then `NoMemory` if memory is refused. The helper
     /// keeps its cursor then, and the buckets and the list are as they were.
     ///
     /// # Cost
@@ -275,13 +275,13 @@ impl Buckets {
     ///
     /// # Errors
     ///
-    /// In this order: `NoSuchHelper`; `HelperOutOfOrder` where the helper has no dummy; `NoMemory`
-    /// where memory is refused, and only where no bucket of the bucket's segment is stored. The
+    /// In this order: `NoSuchHelper`; `HelperOutOfOrder` if the helper has no dummy; `NoMemory`
+    /// if memory is refused, and only if no bucket of the bucket's segment is stored. The
     /// helper, with its dummy, and the buckets are then as they were.
     ///
     /// # Cost
     ///
-    /// Constant time; takes memory only for the bucket's segment, where it is not there.
+    /// Constant time; takes memory only for the bucket's segment, if it is not there.
     pub fn init_store(&mut self, helper: u64) -> Result<(), InitRefusal>
         ensures answer { result ≢ Err InitRefusal.NoMemory
             → result ≡ store_answer (help_at self.old helper) }
@@ -298,7 +298,7 @@ impl Buckets {
         Ok(())
     }
 
-    /// Doubles the size, where it is the one that the caller saw, is not the largest, and the list
+    /// Doubles the size, if it is the one that the caller saw, is not the largest, and the list
     /// has more than twice as many keys as there are buckets; these are tested in this order.
     ///
     /// Nothing else changes: no node moves, and the new buckets are not stored yet.

@@ -10,7 +10,7 @@
 //! linked already, and stores it.
 //!
 //! Beside the one list the buckets are a row of segments, each with the entries of 64 buckets. A
-//! segment is there exactly where one of its buckets is stored: the first from the beginning, and
+//! segment is there exactly if one of its buckets is stored: the first from the beginning, and
 //! each other one from the first store of a bucket of its own on, which takes the memory for it. A
 //! contract sees the row as the flat array of its entries. Here the size is 4, the keys are 1 to 5,
 //! and all buckets but bucket 2 are stored. The list is in the order that `split_key` draws:
@@ -43,7 +43,7 @@
 //! Memory is taken by `Buckets::new`, for a new dummy by `Buckets::init_link`, and for a new
 //! segment by `Buckets::init_store`. `nearest` walks up the ancestors of a bucket, of which there
 //! are as many as the bucket has 1 bits; `init_seek` walks the list from the parent's dummy; the
-//! other steps take constant time, amortized where a dummy is linked.
+//! other steps take constant time, amortized if a dummy is linked.
 #![tactic(auto)]
 
 mod answer;

@@ -120,12 +120,12 @@ impl Segments {
         }
     }
 
-    /// Stores a bucket with its dummy. Takes memory for the bucket's segment where no bucket of it
+    /// Stores a bucket with its dummy. Takes memory for the bucket's segment if no bucket of it
     /// is stored, and else none.
     ///
     /// # Errors
     ///
-    /// `AllocError` where memory is refused: then all is as it was.
+    /// `AllocError` if memory is refused: then all is as it was.
     pub(crate) fn set(&mut self, bucket: u32, dummy: NodeRef) -> Result<(), AllocError>
         requires { bucket < length self.old }
         ensures ok { IfOk result (λ done. self.new ≡ slice_set self.old bucket (Some dummy)) }
@@ -137,7 +137,7 @@ impl Segments {
     }
 }
 
-/// Stores a dummy at a place of a segment, which is made where it is not there.
+/// Stores a dummy at a place of a segment, which is made if it is not there.
 fn put(
     alloc: Global,
     segment: &mut Option<Segment>,

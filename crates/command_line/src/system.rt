@@ -16,17 +16,17 @@ pub trait System {
     /// A file that is open for reading.
     type Input: Read + Drop;
 
-    /// The words of the call, where they are known.
+    /// The words of the call, if they are known.
     ghost spoken: { Self → Option (List (List ℕ)) } = { λ _. None };
 
-    /// The bytes of the file of a name, where they are known.
+    /// The bytes of the file of a name, if they are known.
     ghost bytes: { Self → List ℕ → Option (List ℕ) } = { λ _ _. None };
 
     /// The words of the call, of which the first is the program's name.
     ///
     /// # Errors
     ///
-    /// `OutOfMemory` where memory is refused; another kind, where the words are not known, for a
+    /// `OutOfMemory` if memory is refused; another kind, if the words are not known, for a
     /// word that is no text.
     ///
     /// # Cost
@@ -42,7 +42,7 @@ pub trait System {
     ///
     /// # Errors
     ///
-    /// `OutOfMemory` where memory is refused; another kind where the file cannot be opened.
+    /// `OutOfMemory` if memory is refused; another kind where the file cannot be opened.
     ///
     /// # Cost
     ///

@@ -74,7 +74,7 @@ fn mix_command<'a>(alloc: Global) -> Result<Command<'a>, AllocError>
 }
 
 /// The command line of the program. Each command is added as soon as it is made, so that little has
-/// to be given back where memory is refused.
+/// to be given back if memory is refused.
 fn command<'a>(alloc: Global) -> Result<Command<'a>, AllocError>
     ensures { IfOk result (λ command. Has command command_line) }
 {
@@ -118,7 +118,7 @@ fn call_named<'a>(name: &str, found: &ArgMatches<'a>) -> Option<Call<'a>>
 /// # Errors
 ///
 /// - `Usage` exactly for words that are no call of the program, a call for help among them.
-/// - `NoMemory` where memory is refused.
+/// - `NoMemory` if memory is refused.
 ///
 /// # Cost
 ///

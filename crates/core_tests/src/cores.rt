@@ -385,7 +385,7 @@ fn core_in(alloc: Global, run: &Run) -> Result<Core, Fail> {
     core_with(alloc, limits)
 }
 
-/// Sees that the history is this one, where it is compared.
+/// Sees that the history is this one, if it is compared.
 fn has_history(rt: &impl Abort, core: &Core, wanted: Option<&'static [Entry]>) {
     if let Some(history) = wanted {
         assert_eq!(rt; trace_of(core), history);

@@ -20,7 +20,7 @@ pub(crate) fn core_with(alloc: Global, limits: Limits) -> Result<Core, Fail> {
     Ok(core_if_made(alloc, limits).ok_or("no core")?)
 }
 
-/// A core of these limits. Asks again where memory is refused once; none where it is refused again.
+/// A core of these limits. Asks again if memory is refused once; none if it is refused again.
 pub(crate) fn core_if_made(alloc: Global, limits: Limits) -> Option<Core> {
     match Core::new(alloc, limits) {
         Ok(core) => Some(core),

@@ -93,7 +93,7 @@ fn judge_once(
     Ok(expected)
 }
 
-/// The verdict, asked for once more where memory is refused.
+/// The verdict, asked for once more if memory is refused.
 fn judge(
     rt: &impl Abort,
     alloc: Global,
@@ -125,7 +125,7 @@ const REPLIES: [Entry; 14] = [
     Entry::Committed(0, 2),
 ];
 
-/// What the reader answers where the change was not taken back.
+/// What the reader answers if the change was not taken back.
 const STALE_REPLY: Entry = Entry::Did(0, Some(99));
 
 /// An abort that leaves a change.
@@ -141,7 +141,7 @@ const NOT_UNDONE: [Entry; 9] = [
     Entry::Aborted(1),
 ];
 
-/// Keys 1 and 9, of which each has a stripe of its own where there are 16.
+/// Keys 1 and 9, of which each has a stripe of its own if there are 16.
 const ONE_STRIPE: [Entry; 4] = [
     Entry::Began(0, 1),
     Entry::Asked(0, Op::Get(1)),
@@ -246,7 +246,7 @@ const WITH_SAVEPOINTS: [Entry; 16] = [
 /// and the verdict.
 type Row = (&'static [Entry], Option<(usize, Entry)>, u64, Verdict);
 
-/// What is said where a Busy names a holder of now.
+/// What is said if a Busy names a holder of now.
 static BY_HOLDERS_OF_NOW: [Row; 19] = [
     // `checker_replies`.
     (
@@ -295,7 +295,7 @@ static BY_HOLDERS_OF_NOW: [Row; 19] = [
             rule: Rule::Locks,
         },
     ),
-    // `holder_has_begun`, where the holder is to be one of now.
+    // `holder_has_begun`, if the holder is to be one of now.
     (
         &HOLDER_HAS_BEGUN,
         None,
@@ -427,7 +427,7 @@ static BY_HOLDERS_OF_NOW: [Row; 19] = [
     ),
 ];
 
-/// What is said where a Busy names a caller that has begun.
+/// What is said if a Busy names a caller that has begun.
 static BY_HOLDERS_THAT_HAVE_BEGUN: [Row; 5] = [
     // `holder_has_begun`; and holders that are the caller itself, or no caller.
     (
@@ -533,7 +533,7 @@ fn is_refused(alloc: Global) -> bool {
     Box::new(alloc, 0).is_err()
 }
 
-/// Begins to check, once more where that is refused; none where memory is refused still.
+/// Begins to check, once more where that is refused; none if memory is refused still.
 fn start_checker(rt: &impl Abort, alloc: Global) -> Option<Checker> {
     for _ in 0..2 {
         if let Ok(checker) = checker_of(rt, alloc, 8, Holder::Now) {
@@ -584,7 +584,7 @@ fn verdict_at(rows: &[(usize, Verdict)], place: usize) -> Option<Verdict> {
     found
 }
 
-/// Feeds a checker, once more where it is refused memory, and compares what it says after each
+/// Feeds a checker, once more if it is refused memory, and compares what it says after each
 /// entry.
 fn feed_all(rt: &impl Abort, alloc: Global, entries: &[Entry], rows: &[(usize, Verdict)]) {
     let Some(mut checker) = start_checker(rt, alloc) else {
@@ -718,7 +718,7 @@ fn judge_seed(
     judge_once(rt, alloc, &history, stripes, holder)
 }
 
-/// The same, done once more where memory is refused.
+/// The same, done once more if memory is refused.
 fn judge_drawn(
     rt: &impl Abort,
     alloc: Global,

@@ -58,7 +58,7 @@ fn has_turn(worker: &mut Worker) -> bool {
 }
 
 /// The worker is told how the one step of its next turn is answered, with one further try allowed:
-/// the step, and how its script ended, where it did.
+/// the step, and how its script ended, if it did.
 fn tell(
     worker: &mut Worker,
     scripts: &[Script],
@@ -72,7 +72,7 @@ fn tell(
 }
 
 /// The worker takes its next turn, in which each step is answered so: the last step that it takes,
-/// and how its script ended, where it did.
+/// and how its script ended, if it did.
 fn take_turn(
     worker: &mut Worker,
     scripts: &[Script],
@@ -124,7 +124,7 @@ fn takes(rt: &impl Abort, worker: &mut Worker, scripts: &[Script], row: &Row, by
     assert_eq!(rt; script_at(worker), script, "after {step:?}");
 }
 
-/// The worker of a case takes its steps, and has a turn left where it is at a script then.
+/// The worker of a case takes its steps, and has a turn left if it is at a script then.
 fn play(rt: &impl Abort, alloc: Global, case: &Case, by_take_turn: bool) -> Result<(), Fail> {
     let scripts = scripts_of(alloc, case.scripts)?;
     let mut worker = worker_in(case, &scripts)?;

@@ -4,7 +4,7 @@
 //! read as far as it goes.
 //!
 //! The model is two functions of bytes (`specs/`): `entry_on` is the entry that a line is, none
-//! where the line is blank, or its first fault; `history_of_lines` is the entries of all lines up
+//! if the line is blank, or its first fault; `history_of_lines` is the entries of all lines up
 //! to the first that is refused, and the number of that line. What an array is as an entry is what
 //! `txn_files` says of the newest version of history files, and what is JSON what `piece_files`
 //! says.

@@ -56,7 +56,7 @@ fn is_in_range(entry: Entry) -> bool
     entry.caller() < Limits::MAX_CALLERS && is_named_in_range
 }
 
-/// The entry that was found, where there is one and its callers are in range.
+/// The entry that was found, if there is one and its callers are in range.
 fn entry_in_range(found: Option<Entry>) -> Result<Option<Entry>, FileFault>
     ensures found { result ≡ entry_found found }
     ensures callers { IfOk result (λ found. IfSome found (λ entry. caller_of entry < 64)) }
@@ -69,7 +69,7 @@ fn entry_in_range(found: Option<Entry>) -> Result<Option<Entry>, FileFault>
     }
 }
 
-/// The entry that an array is whose bracket was taken, or none where it is no entry.
+/// The entry that an array is whose bracket was taken, or none if it is no entry.
 #[tactic(auto, using(txn_files::proofs::PlainPieces::no_entry))]
 fn entry_in_array(reader: &mut Reader<'_>) -> Result<Option<Entry>, Stop>
     ensures ok { IfOk result (λ found. (ds : List Data)
@@ -85,7 +85,7 @@ fn entry_in_array(reader: &mut Reader<'_>) -> Result<Option<Entry>, Stop>
     }
 }
 
-/// The entry that the next value is, or none where it is no entry.
+/// The entry that the next value is, or none if it is no entry.
 fn entry_in_value(reader: &mut Reader<'_>) -> Result<Option<Entry>, Stop>
     ensures ok { IfOk result (λ found. (d : Data)
         × (value_at max_depth reader.old ≡ Some (d, reader.new))
@@ -110,7 +110,7 @@ fn entry_in_value(reader: &mut Reader<'_>) -> Result<Option<Entry>, Stop>
     }
 }
 
-/// The entry that a text is, or none where it is another value.
+/// The entry that a text is, or none if it is another value.
 fn entry_in_text(text: &str, scratch: &mut Scratch<Global>) -> Result<Option<Entry>, FileFault>
     ensures { MatchResult result
         (λ found. (d : Data) × (read text.now ≡ Some d)
@@ -132,16 +132,16 @@ fn entry_in_text(text: &str, scratch: &mut Scratch<Global>) -> Result<Option<Ent
 ///
 /// The first of these, in this order:
 ///
-/// - `Limit` where the line has more than 1,000 bytes.
-/// - `NotJson` where it is no JSON as `piece_files::read_file` takes it.
-/// - `Member` where it is no entry.
-/// - `Limit` where a caller, or the holder that the entry names, is above 63.
+/// - `Limit` if the line has more than 1,000 bytes.
+/// - `NotJson` if it is no JSON as `piece_files::read_file` takes it.
+/// - `Member` if it is no entry.
+/// - `Limit` if a caller, or the holder that the entry names, is above 63.
 ///
-/// `NoMemory` where memory is refused. It can come in place of any answer but the first.
+/// `NoMemory` if memory is refused. It can come in place of any answer but the first.
 ///
 /// # Cost
 ///
-/// Time in proportion to the line. Memory only where the scratch has no room for the line.
+/// Time in proportion to the line. Memory only if the scratch has no room for the line.
 #[tactic(auto, unfolding(crate::specs::EntryLine::entry_on))]
 pub fn entry_on(line: &[u8], scratch: &mut Scratch<Global>) -> Result<Option<Entry>, FileFault>
     ensures entry { Gives (λ entry. entry) result (entry_on line.now) }

@@ -83,11 +83,11 @@ fn put_line(text: &mut String, entry: Entry) -> Result<(), AllocError>
 }
 
 /// A history as lines, one an entry, as `["began",0,1]`, each with its line feed. What is read of
-/// them is the same history where the callers are below 64.
+/// them is the same history if the callers are below 64.
 ///
 /// # Errors
 ///
-/// `AllocError` where memory is refused.
+/// `AllocError` if memory is refused.
 ///
 /// # Cost
 ///

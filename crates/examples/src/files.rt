@@ -15,7 +15,7 @@ const CALLS: [(Command, &str); 7] = [
     (Command::Check, "checked.json"),
 ];
 
-/// A command of the program `boostmap`, with the seed where it has one. It is printed as the words
+/// A command of the program `boostmap`, with the seed if it has one. It is printed as the words
 /// that a user types.
 #[derive(Clone, Copy, Debug)]
 enum Command {

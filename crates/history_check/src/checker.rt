@@ -36,7 +36,7 @@ impl Checker {
     ///
     /// # Errors
     ///
-    /// `AllocError` where memory is refused.
+    /// `AllocError` if memory is refused.
     ///
     /// # Cost
     ///
@@ -58,7 +58,7 @@ impl Checker {
     ///
     /// # Errors
     ///
-    /// `AllocError` where memory is refused, or where 2^64 - 1 entries were fed. Then it was fed no
+    /// `AllocError` if memory is refused, or where 2^64 - 1 entries were fed. Then it was fed no
     /// entry more, and the same one may be fed again.
     ///
     /// # Cost

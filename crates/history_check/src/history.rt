@@ -14,13 +14,13 @@ use txn_trace::{Entry, Holder, PackedEntry};
 /// entries may name such a caller.
 ///
 /// The verdict is `Legal`, with the number of commits and of callers that are in a transaction at
-/// the end, exactly where the history is legal. Otherwise it is `Illegal`, with the index of the
+/// the end, exactly if the history is legal. Otherwise it is `Illegal`, with the index of the
 /// first entry that breaks a rule, from 0, and the rule: shape, or of replies and locks the first
 /// that it breaks.
 ///
 /// # Errors
 ///
-/// `AllocError` where memory is refused.
+/// `AllocError` if memory is refused.
 ///
 /// # Cost
 ///
@@ -49,7 +49,7 @@ pub fn check(
 ///
 /// # Errors
 ///
-/// `AllocError` where memory is refused.
+/// `AllocError` if memory is refused.
 ///
 /// # Cost
 ///

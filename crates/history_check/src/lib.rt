@@ -1,6 +1,6 @@
 //! A checker of recorded histories of a transactional map.
 //!
-//! A history is a list of `txn_trace`'s entries. It is legal where each open transaction has the
+//! A history is a list of `txn_trace`'s entries. It is legal if each open transaction has the
 //! replies of running alone after the committed ones, where a stripe of keys belongs to one open
 //! transaction at a time, and where each caller's entries follow the state table: `IsLegal` of
 //! `txn_trace`. In the usual terms these are serializability in the order of commits (which open
@@ -24,7 +24,7 @@
 //! share the verdict and what is proved of the first bad entry (`FirstBad`).
 //!
 //! Proved: `check`, `check_packed`, and a `Checker` that was fed the same entries, say what the
-//! definition `verdict` of `txn_trace` says, and they say legal exactly where `IsLegal` holds. An
+//! definition `verdict` of `txn_trace` says, and they say legal exactly if `IsLegal` holds. An
 //! entry that is refused for want of memory leaves a checker fed with what it was fed before.
 #![tactic(auto)]
 

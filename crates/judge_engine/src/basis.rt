@@ -5,13 +5,13 @@ use txn_trace::Holder;
 /// By which rules a history is judged.
 #[derive(Clone, Copy, Debug, PartialEq, Eq)]
 pub enum Basis {
-    /// By exclusive locks: a history is legal where it is `IsLegal` of `txn_trace`.
+    /// By exclusive locks: a history is legal if it is `IsLegal` of `txn_trace`.
     Locks {
         /// How many stripes the keys are shared out to.
         stripes: u64,
         /// Whom a Busy may name.
         holder: Holder,
     },
-    /// By the order of commits: a history is legal where it is `IsSerializable` of `serial_check`.
+    /// By the order of commits: a history is legal if it is `IsSerializable` of `serial_check`.
     Commits,
 }

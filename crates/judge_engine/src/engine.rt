@@ -1,3 +1,5 @@
+//! The commands of `judge` over a reader and a writer. Each makes its whole text before it writes:
+//! so a fault before that leaves the output unchanged.
 ghost use Rattle.std.specs.Prelude.{IfOk, IfErr};
 ghost use Rattle.judge_engine.specs.Bases.{HasStripes};
 ghost use Rattle.judge_engine.specs.Files.{Checks, FailsToCheck, FailsToExplain};
@@ -25,11 +27,11 @@ use std::io::{Read, Write};
 ///
 /// At each of them but `Write` nothing is written.
 ///
-/// - `Line` for the first line that is refused, where no entry before it is bad: it has more than
+/// - `Line` for the first line that is refused, if no entry before it is bad: it has more than
 ///   1,000 bytes, is no entry, or a caller is above 63.
-/// - `Read` where a read fails.
-/// - `NoMemory` where memory is refused.
-/// - `Write` where a write fails or takes nothing: a proper beginning of the line is written.
+/// - `Read` if a read fails.
+/// - `NoMemory` if memory is refused.
+/// - `Write` if a write fails or takes nothing: a proper beginning of the line is written.
 ///
 /// # Cost
 ///
@@ -63,10 +65,10 @@ pub fn watch<R: Read, W: Write>(
 ///
 /// At each of them but `Write` nothing is written.
 ///
-/// - `Read` where a read fails.
-/// - `Input` where the file is refused.
-/// - `NoMemory` where memory is refused.
-/// - `Write` where a write fails or takes nothing: a proper beginning of the line is written.
+/// - `Read` if a read fails.
+/// - `Input` if the file is refused.
+/// - `NoMemory` if memory is refused.
+/// - `Write` if a write fails or takes nothing: a proper beginning of the line is written.
 ///
 /// # Cost
 ///
@@ -95,10 +97,10 @@ pub fn check<R: Read + Drop, W: Write>(
 ///
 /// # Errors
 ///
-/// - `Read` where a read fails.
-/// - `Input` where the file is refused.
-/// - `NoMemory` where memory is refused.
-/// - `Write` where a write fails or takes nothing.
+/// - `Read` if a read fails.
+/// - `Input` if the file is refused.
+/// - `NoMemory` if memory is refused.
+/// - `Write` if a write fails or takes nothing.
 ///
 /// # Cost
 ///

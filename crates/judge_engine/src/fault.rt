@@ -1,3 +1,4 @@
+//! Why there is no verdict, the line that is printed of it, and the exit status.
 ghost use Rattle.std.specs.Prelude.{◌≡◌};
 ghost use Rattle.judge_engine.specs.Faults.{status_of, message_of, of_file};
 ghost use Rattle.judge_engine.specs.declared.fault.Fault.TheVariants as faults;

@@ -63,7 +63,7 @@ fn by_locks(
 ///
 /// # Errors
 ///
-/// `Input` where the bytes are no history file; `NoMemory` where memory is refused.
+/// `Input` if the bytes are no history file; `NoMemory` if memory is refused.
 ///
 /// # Cost
 ///
@@ -86,7 +86,7 @@ pub(crate) fn judge_file(alloc: Global, by_commits: bool, bytes: Vec<u8>) -> Res
 ///
 /// # Errors
 ///
-/// `Input` where the bytes are no history file; `NoMemory` where memory is refused.
+/// `Input` if the bytes are no history file; `NoMemory` if memory is refused.
 ///
 /// # Cost
 ///

@@ -245,10 +245,10 @@ fn entries_in<R: Read + Drop>(alloc: Global, input: R) -> Result<Vec<PackedEntry
 ///
 /// At each of them but `Write` nothing is written.
 ///
-/// - `ScriptsRead` where a read of the script file fails; `Scripts` where that file is refused.
-/// - `HistoryRead` where a read of the history file fails; `History` where that file is refused.
-/// - `NoMemory` where memory is refused.
-/// - `Write` where a write fails or takes nothing: a proper beginning of the lines is written.
+/// - `ScriptsRead` if a read of the script file fails; `Scripts` if that file is refused.
+/// - `HistoryRead` if a read of the history file fails; `History` if that file is refused.
+/// - `NoMemory` if memory is refused.
+/// - `Write` if a write fails or takes nothing: a proper beginning of the lines is written.
 ///
 /// # Cost
 ///

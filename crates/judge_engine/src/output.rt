@@ -31,7 +31,7 @@ fn is_legal(verdict: Verdict) -> bool
 ///
 /// # Errors
 ///
-/// `NoMemory` where memory is refused: nothing is written. `Write` where the writer fails or takes
+/// `NoMemory` if memory is refused: nothing is written. `Write` if the writer fails or takes
 /// nothing.
 ///
 /// # Cost
@@ -58,7 +58,7 @@ pub(crate) fn write_verdict<W: Write>(
 ///
 /// # Errors
 ///
-/// `NoMemory` where memory is refused: nothing is written. `Write` where the writer fails or takes
+/// `NoMemory` if memory is refused: nothing is written. `Write` if the writer fails or takes
 /// nothing.
 ///
 /// # Cost

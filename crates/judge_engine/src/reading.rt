@@ -24,7 +24,7 @@ const MAX_READ: u64 = 16_777_217;
 ///
 /// # Errors
 ///
-/// `Read` where a read fails; `NoMemory` where memory is refused.
+/// `Read` if a read fails; `NoMemory` if memory is refused.
 ///
 /// # Cost
 ///
@@ -84,9 +84,9 @@ fn read_on<R: Read>(
 ///
 /// # Errors
 ///
-/// - `Line` for the first line that is refused, where no entry before it is bad.
-/// - `Read` where a read fails, after which the reader is not called again.
-/// - `NoMemory` where memory is refused.
+/// - `Line` for the first line that is refused, if no entry before it is bad.
+/// - `Read` if a read fails, after which the reader is not called again.
+/// - `NoMemory` if memory is refused.
 ///
 /// # Cost
 ///

@@ -123,7 +123,7 @@ impl Watcher {
     ///
     /// # Errors
     ///
-    /// `NoMemory` where memory is refused. Then it is of no use any more.
+    /// `NoMemory` if memory is refused. Then it is of no use any more.
     ///
     /// # Cost
     ///
@@ -142,12 +142,12 @@ impl Watcher {
         self.hold(rest)
     }
 
-    /// The verdict so far, where no further byte can change it: an entry is bad. None where no
+    /// The verdict so far, if no further byte can change it: an entry is bad. None if no
     /// entry is bad, and no line is refused.
     ///
     /// # Errors
     ///
-    /// `Line` where no entry is bad, and a line is refused.
+    /// `Line` if no entry is bad, and a line is refused.
     ///
     /// # Cost
     ///
@@ -167,12 +167,12 @@ impl Watcher {
         }
     }
 
-    /// The verdict where no further byte comes. A last line without its line feed is read as a
+    /// The verdict if no further byte comes. A last line without its line feed is read as a
     /// line.
     ///
     /// # Errors
     ///
-    /// `Line` where no entry is bad, and a line is refused; `NoMemory` where memory is refused.
+    /// `Line` if no entry is bad, and a line is refused; `NoMemory` if memory is refused.
     ///
     /// # Cost
     ///

@@ -34,7 +34,7 @@ fn show<W: Write>(output: &mut W, text: &str) -> Result<bool, Failure> {
     }
 }
 
-/// Want of memory where the error is that, else the other failure.
+/// Want of memory if the error is that, else the other failure.
 fn memory_or(error: &io::Error, other: Failure) -> Failure {
     match error.kind() {
         io::ErrorKind::OutOfMemory => Failure::Fault(Fault::NoMemory),

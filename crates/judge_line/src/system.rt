@@ -16,10 +16,10 @@ pub trait System {
     /// A file that is open for reading, or standard input.
     type Source: Read + Drop;
 
-    /// The words of the call, where they are known.
+    /// The words of the call, if they are known.
     ghost spoken: { Self → Option (List (List ℕ)) } = { λ _. None };
 
-    /// The bytes of the file of a name, where they are known. The name `-` is that of standard
+    /// The bytes of the file of a name, if they are known. The name `-` is that of standard
     /// input.
     ghost bytes: { Self → List ℕ → Option (List ℕ) } = { λ _ _. None };
 
@@ -27,7 +27,7 @@ pub trait System {
     ///
     /// # Errors
     ///
-    /// `OutOfMemory` where memory is refused; another kind, where the words are not known, for a
+    /// `OutOfMemory` if memory is refused; another kind, if the words are not known, for a
     /// word that is no text.
     fn words(&self, alloc: Global) -> io::Result<Vec<String>>
         ensures words { IfOk result (λ words. IfSome (spoken self.now)
@@ -39,7 +39,7 @@ pub trait System {
     ///
     /// # Errors
     ///
-    /// `OutOfMemory` where memory is refused; another kind where the file cannot be opened.
+    /// `OutOfMemory` if memory is refused; another kind where the file cannot be opened.
     fn open(&self, name: &str) -> io::Result<Self::Source>
         ensures { IfOk result (λ source. IfSome (bytes self.now name.now)
             (λ known. Self.Source.remaining source ≡ Some known)) };

@@ -142,7 +142,7 @@ fn call_named<'a>(name: &str, found: &ArgMatches<'a>) -> Option<Call<'a>>
 /// # Errors
 ///
 /// - `Usage` for words that are no call of the program.
-/// - `NoMemory` where memory is refused.
+/// - `NoMemory` if memory is refused.
 ///
 /// # Cost
 ///

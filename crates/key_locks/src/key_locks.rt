@@ -1,3 +1,6 @@
+//! Who holds which stripe, for one owner: a byte a stripe, and the stripes of a caller as a chain,
+//! so that `release_all` takes time in proportion to these alone. Invariant: the chains have just
+//! the stripes that their callers hold.
 ghost use Rattle.std.specs.Prelude.{◌≡◌, ℕ, ◌<◌, List, Option, None, length, replicate, IfOk};
 ghost use Rattle.key_locks.specs.Chains.{AreChained};
 
@@ -58,7 +61,7 @@ impl KeyLocks {
     ///
     /// # Errors
     ///
-    /// `AllocError` where memory is refused.
+    /// `AllocError` if memory is refused.
     ///
     /// # Cost
     ///

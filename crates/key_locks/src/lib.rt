@@ -24,7 +24,7 @@
 //! `StripeRight` is for stripes that callers take elsewhere, each by its own right, of which there
 //! is one.
 //!
-//! Proved: a stripe has one holder at most; a lock is granted exactly where no other caller holds
+//! Proved: a stripe has one holder at most; a lock is granted exactly if no other caller holds
 //! the stripe, and otherwise names that holder; each call says of every stripe who holds it
 //! afterwards.
 #![tactic(auto)]

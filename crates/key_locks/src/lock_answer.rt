@@ -1,3 +1,4 @@
+//! What a caller that asks for a stripe is told.
 /// What a caller that asks for a stripe is told.
 #[derive(Clone, Copy, Debug, PartialEq, Eq)]
 pub enum LockAnswer {

@@ -1,3 +1,5 @@
+//! The right to a stripe as a value that is not copied: two holders of one stripe cannot be written
+//! down.
 ghost use Rattle.std.specs.Prelude.{◌≡◌, IfOk};
 ghost use Rattle.key_locks.specs.Rights.{AreAll};
 
@@ -24,7 +26,7 @@ impl StripeRight {
     ///
     /// # Errors
     ///
-    /// `AllocError` where memory is refused.
+    /// `AllocError` if memory is refused.
     ///
     /// # Cost
     ///

@@ -1,3 +1,5 @@
+//! A seat together with the rights of the stripes that it holds, as one value, so that no call can
+//! part them. Invariant: the rights are of just the stripes that the seat holds, each once.
 ghost use Rattle.std.specs.Prelude.{◌≡◌, ◌<◌, [], reverse, vec_len, slice_get, Some, IfErr, IfOk, IfSome, IfNone};
 ghost use Rattle.key_words.specs.Rule.{Holds};
 ghost use Rattle.key_words.specs.Seats.{IsOf, known, stripes_of};
@@ -58,11 +60,11 @@ impl Rights {
     ///
     /// # Errors
     ///
-    /// `AllocError` where memory is refused: no word was tried, and seat and rights are as before.
+    /// `AllocError` if memory is refused: no word was tried, and seat and rights are as before.
     ///
     /// # Cost
     ///
-    /// Time in proportion to the rights, and one try of one word; takes memory only where there is
+    /// Time in proportion to the rights, and one try of one word; takes memory only if there is
     /// no room for a right.
     pub fn take(&mut self, words: &KeyWords, stripe: usize) -> Result<Tried, AllocError>
         requires seat { IsOf self.old.seat words.now }

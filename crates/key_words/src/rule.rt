@@ -19,7 +19,7 @@ impl TableRule<Slot, View, ()> for Order {
     ghost first = { λ _. view 0 1 [] [] };
 }
 
-/// A compare-exchange of the word from 0 to the seat's: where it was 0, the slot goes out to the
+/// A compare-exchange of the word from 0 to the seat's: if it was 0, the slot goes out to the
 /// seat.
 pub(crate) struct Take;
 

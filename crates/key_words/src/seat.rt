@@ -1,3 +1,5 @@
+//! A seat at the words: what one thread brings to an atomic step. Invariant: it has out just the
+//! slots of the stripes that it holds, each empty.
 ghost use Rattle.std.specs.Prelude.{◌≡◌, ℕ, ◌<◌, []};
 ghost use Rattle.key_words.specs.Rule.{Holds};
 ghost use Rattle.key_words.specs.Steps.{emptied};

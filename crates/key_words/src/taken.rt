@@ -1,3 +1,5 @@
+//! What a take answers, to whoever takes a single stripe and to whoever keeps rights: granted, or
+//! the word that was seen.
 use key_locks::StripeRight;
 
 /// What a take answers.

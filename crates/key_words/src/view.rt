@@ -1,3 +1,5 @@
+//! What the rule of the words knows of a seat. It stands in proofs alone; each atomic step says
+//! what becomes of it.
 use std::collections::LinkedList;
 
 /// What a seat knows. It stands in proofs alone, and no value of it is made.

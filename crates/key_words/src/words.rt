@@ -1,3 +1,6 @@
+//! The words of the stripes, each with a slot for its right. Invariant, between any two atomic
+//! steps: a word is 0 exactly if its right is in its slot, else it names the one seat that holds
+//! the stripe.
 ghost use Rattle.std.specs.Prelude.{◌≡◌, ◌<◌, ◌≤◌, [], replicate, IfErr, IfOk, vec_capacity, vec_len};
 ghost use Rattle.key_locks.specs.Rights.{AreAll};
 ghost use Rattle.key_words.specs.Rule.{Holds, view};
@@ -34,7 +37,7 @@ impl KeyWords {
     ///
     /// # Errors
     ///
-    /// `Refusal::NoMemory` where memory is refused, with the rights that were handed in.
+    /// `Refusal::NoMemory` if memory is refused, with the rights that were handed in.
     ///
     /// # Cost
     ///
@@ -104,7 +107,7 @@ impl KeyWords {
     /// Takes a stripe, in one try, which never waits: one compare-exchange of its word, which the
     /// seat notes.
     ///
-    /// Granted, with the stripe's right, exactly where the word was 0 then; else `Held` with the
+    /// Granted, with the stripe's right, exactly if the word was 0 then; else `Held` with the
     /// word.
     ///
     /// # Cost

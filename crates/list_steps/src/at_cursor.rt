@@ -18,7 +18,7 @@ use node_list::{NodeList, NodeRef, Spare};
 ///
 /// # Errors
 ///
-/// `Again` exactly where the cursor does not fit; then nothing changes, and the spare comes back.
+/// `Again` exactly if the cursor does not fit; then nothing changes, and the spare comes back.
 ///
 /// # Cost
 ///
@@ -52,7 +52,7 @@ pub fn link(list: &mut NodeList, cursor: Cursor, spare: Spare) -> Result<NodeRef
 ///
 /// # Errors
 ///
-/// `Again` exactly where the cursor does not fit; then nothing changes.
+/// `Again` exactly if the cursor does not fit; then nothing changes.
 ///
 /// # Cost
 ///
@@ -80,7 +80,7 @@ pub fn mark(list: &mut NodeList, cursor: Cursor) -> Result<u64, Again>
 ///
 /// # Errors
 ///
-/// `Again` exactly where the cursor does not fit; then nothing changes.
+/// `Again` exactly if the cursor does not fit; then nothing changes.
 ///
 /// # Cost
 ///

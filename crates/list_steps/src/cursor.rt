@@ -96,7 +96,7 @@ impl Cursor {
         }
     }
 
-    /// The node behind which the sort key belongs, where the cursor fits and no node has it.
+    /// The node behind which the sort key belongs, if the cursor fits and no node has it.
     /// Constant time.
     pub fn pred(&self) -> NodeRef
         ensures { result ≡ pred_of self.now }

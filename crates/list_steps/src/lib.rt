@@ -13,11 +13,11 @@
 //! A `Cursor` notes `pred`, the last unmarked node below the sort key sought; `cur`, the first
 //! unmarked one not below it, or the end; their stamps; the sort key; and the list's change number.
 //! It *fits* where `pred` is a linked, unmarked node with its noted stamp, the node behind it is
-//! the noted `cur`, and that is unmarked with its noted stamp. `look` tests it: where it does not
-//! fit the answer is `Again`, and never where it fits. A cursor of any age may be handed in: every
+//! the noted `cur`, and that is unmarked with its noted stamp. `look` tests it: if it does not
+//! fit the answer is `Again`, and never if it fits. A cursor of any age may be handed in: every
 //! change of the list keeps what makes it safe (`IsPlaced`, by the lemma `still_placed`).
 //!
-//! A cursor is tested once: where it fits `look` answers the node of the sort key, or that there is
+//! A cursor is tested once: if it fits `look` answers the node of the sort key, or that there is
 //! none, and `link_at`, `mark_at` and `swap_at` go by that. `link`, `mark` and `swap` are both at
 //! once.
 //!

@@ -28,11 +28,11 @@ fn node_there(list: &NodeList, cursor: &Cursor) -> Option<NodeRef>
 /// sort key, which belongs right behind `cursor.pred()`.
 ///
 /// What is done next goes by the answer alone, until the list changes: `link_at` behind
-/// `cursor.pred()` where there is no node, `mark_at` or `swap_at` at a regular one.
+/// `cursor.pred()` if there is no node, `mark_at` or `swap_at` at a regular one.
 ///
 /// # Errors
 ///
-/// `Again` exactly where the cursor does not fit.
+/// `Again` exactly if the cursor does not fit.
 ///
 /// # Cost
 ///
@@ -51,7 +51,7 @@ pub fn look(list: &NodeList, cursor: &Cursor) -> Result<Option<NodeRef>, Again>
     }
 }
 
-/// Links the node of a spare behind a linked node, where its sort key is vacant, and answers it.
+/// Links the node of a spare behind a linked node, if its sort key is vacant, and answers it.
 /// The spare is this list's.
 ///
 /// The content gains the pair of a regular node; a dummy keeps it as it was.

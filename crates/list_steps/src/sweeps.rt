@@ -39,13 +39,13 @@ fn before_first_marked(list: &NodeList, start: NodeRef) -> NodeRef
 
 /// Unlinks the first marked node, and nothing else, or answers that no node is marked.
 ///
-/// `Clean` exactly where none is; the list is then as it was. The content and the spares that are
+/// `Clean` exactly if none is; the list is then as it was. The content and the spares that are
 /// out stay as they were.
 ///
 /// # Cost
 ///
 /// Time in proportion to the nodes from the first one to the first marked one, and constant time
-/// where none is marked; takes no memory.
+/// if none is marked; takes no memory.
 pub fn sweep(list: &mut NodeList) -> SweepOutcome
     ensures clean { (result ≡ SweepOutcome.Clean) ↔
         AllByRecursion (λ n. n.marked ≡ false) list.old.nodes }

@@ -1,3 +1,6 @@
+//! What lies under the lock: the core and the book that counts its entries. Invariant: the book's
+//! total is the length of the history, so no entry can be added without a caller's share of the
+//! ledger.
 ghost use Rattle.std.specs.Prelude.{◌≡◌, true, length, IfErr, IfOk};
 
 use boost_core::Core;
@@ -30,7 +33,7 @@ impl<L: Ledger> Booked<L> {
     ///
     /// # Errors
     ///
-    /// `NoMemory` where memory is refused.
+    /// `NoMemory` if memory is refused.
     pub(crate) fn new(
         alloc: Global,
         limits: Limits,

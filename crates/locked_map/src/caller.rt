@@ -1,3 +1,5 @@
+//! A caller's token: its seat after its own entries, its rights and its side value. Invariant: its
+//! share of the ledger counts as many entries as `seen` has. The shared calls stand in `calls.rt`.
 ghost use Rattle.std.specs.Prelude.{◌≡◌, ◌≢◌, ◌<◌, true, false, is_some, length, unwrap_or, Some, None, [], ◌∷◌, List, ◌+◌, IfSome, IfNone, IfErr, OnOk, OnErr};
 ghost use Rattle.txn_trace.specs.declared.entry.Entry.{Entry};
 ghost use Rattle.txn_trace.specs.declared.refusal.Refusal.{Refusal};
@@ -148,12 +150,12 @@ impl<L: Ledger, S: Side> Caller<L, S> {
     /// # Errors
     ///
     /// The end is `Refused` with
-    /// - `OutOfStep` where the token is broken: nothing is done;
-    /// - `OutOfStep` where the core has not as many stripes as the map has words: no step is taken,
+    /// - `OutOfStep` if the token is broken: nothing is done;
+    /// - `OutOfStep` if the core has not as many stripes as the map has words: no step is taken,
     ///   and the token breaks;
-    /// - `NoMemory` where memory is refused for room in `seen`: no step is taken;
-    /// - `NoMemory`, `StampsUsedUp` or `StaleWord` where the core refuses the step so;
-    /// - `OutOfStep` where the core answers what the token's state excludes, or where the token
+    /// - `NoMemory` if memory is refused for room in `seen`: no step is taken;
+    /// - `NoMemory`, `StampsUsedUp` or `StaleWord` if the core refuses the step so;
+    /// - `OutOfStep` if the core answers what the token's state excludes, or where the token
     ///   would have refused the call, as `help` of a bad key: the token breaks.
     ///
     /// Core and token that are in step stay so, and then `OutOfStep` is not answered.
@@ -232,12 +234,12 @@ impl<L: Ledger, S: Side> Caller<L, S> {
     /// No word was tried, and the token is as it was:
     /// - the refusal of the operation by the token, as a shared call answers it: so a token without
     ///   a transaction tries no word;
-    /// - then `NoMemory` where memory is refused for one right more.
+    /// - then `NoMemory` if memory is refused for one right more.
     ///
     /// # Cost
     ///
     /// Time in proportion to the rights that it holds, and one try of one word; takes memory only
-    /// where there is no room for one right more.
+    /// if there is no room for one right more.
     pub fn try_word(&mut self, op: Op) -> Result<(), Refusal>
         ensures same { IsSameSeen self.old self.new }
         ensures side { self.new.side ≡ self.old.side }
@@ -274,8 +276,8 @@ impl<L: Ledger, S: Side> Caller<L, S> {
     ///
     /// # Errors
     ///
-    /// - `NoMemory` where memory is refused; the caller is then as it was.
-    /// - `OutOfStep` where there is no such level, which breaks the token.
+    /// - `NoMemory` if memory is refused; the caller is then as it was.
+    /// - `OutOfStep` if there is no such level, which breaks the token.
     pub(crate) fn make_ready(&mut self, call: Call) -> Result<(), Refusal>
         requires { self.old.broken ≡ false }
         ensures same { OnOk result (IsSameSeen self.old self.new) }
@@ -323,7 +325,7 @@ impl<L: Ledger, S: Side> Caller<L, S> {
         }
     }
 
-    /// Changes the side value, where the token is not broken.
+    /// Changes the side value, if the token is not broken.
     pub(crate) fn change<F: FnOnce(S) -> S>(
         &mut self,
         change: F,

@@ -6,10 +6,10 @@
 //! A call that the token refuses leaves the token as it was. Where the core answers what the token
 //! excludes, the call ends with `OutOfStep`: the token is broken, `seen` keeps what it had added,
 //! and `close` compares. Each call has the clauses
-//! - `ok`: what it has added, where it did what it was asked (`level` of `save`: its answer);
+//! - `ok`: what it has added, if it did what it was asked (`level` of `save`: its answer);
 //! - `side`: what it has then made of the side value;
 //! - `claims`: which rights to stripes it has then, and which words it has tried: an operation tries
-//!   the word of its key's stripe, unless it has the right, which comes where the word is free; and
+//!   the word of its key's stripe, unless it has the right, which comes if the word is free; and
 //!   the end of the transaction gives all back;
 //! - `leaves`: that the token let it pass, or why it was not done and what is left then; and that
 //!   after `OutOfStep` every call answers that and nothing changes any more (`Leaves` in
@@ -44,7 +44,7 @@ impl<L: Ledger> SharedMap<L> {
     /// `Refused`, and the transaction, if there is one, is as it was:
     /// - `OutOfStep` of a token that is broken.
     /// - `Leaving` of a caller that takes changes back, `AlreadyOpen` of one with a transaction.
-    /// - Then `NoMemory` where memory is refused, and `OutOfStep`, which breaks the token.
+    /// - Then `NoMemory` if memory is refused, and `OutOfStep`, which breaks the token.
     ///
     /// # Cost
     ///
@@ -71,11 +71,11 @@ impl<L: Ledger> SharedMap<L> {
     ///   - `OutOfStep` of a token that is broken.
     ///   - `NotOpen`, `Leaving`, `OperationUnfinished` and `BadKey` (a key of 2^63 or more, where
     ///     the limits have half keys), the first that holds.
-    ///   - Then `NoMemory` where memory is refused: for one right more, before any word is tried,
-    ///     or for the operation; `StampsUsedUp` where no stamp is left; `StaleWord` where by the
+    ///   - Then `NoMemory` if memory is refused: for one right more, before any word is tried,
+    ///     or for the operation; `StampsUsedUp` if no stamp is left; `StaleWord` where by the
     ///     core's record the word of the key's stripe does not say who holds it; and `OutOfStep`,
     ///     which breaks the token.
-    /// - `Busy` where the word of the key's stripe names another caller: the transaction is
+    /// - `Busy` if the word of the key's stripe names another caller: the transaction is
     ///   aborted, with all its changes taken back and all its rights given back, and the side value
     ///   has the words that it had when the transaction began.
     ///
@@ -84,7 +84,7 @@ impl<L: Ledger> SharedMap<L> {
     /// One try of the word, outside the lock, unless the token has its right, and time in
     /// proportion to the rights that it has; three holds of the lock, one of which seeks the place
     /// of the key, and at most two more for each time that the place no longer fits, and for each
-    /// change that is taken back where the key is busy; may take memory.
+    /// change that is taken back if the key is busy; may take memory.
     pub fn put<S: Side, R: Wait>(
         &self,
         rt: &R,
@@ -111,11 +111,11 @@ impl<L: Ledger> SharedMap<L> {
     ///   - `OutOfStep` of a token that is broken.
     ///   - `NotOpen`, `Leaving`, `OperationUnfinished` and `BadKey` (a key of 2^63 or more, where
     ///     the limits have half keys), the first that holds.
-    ///   - Then `NoMemory` where memory is refused: for one right more, before any word is tried,
-    ///     or for the operation; `StampsUsedUp` where no stamp is left; `StaleWord` where by the
+    ///   - Then `NoMemory` if memory is refused: for one right more, before any word is tried,
+    ///     or for the operation; `StampsUsedUp` if no stamp is left; `StaleWord` where by the
     ///     core's record the word of the key's stripe does not say who holds it; and `OutOfStep`,
     ///     which breaks the token.
-    /// - `Busy` where the word of the key's stripe names another caller: the transaction is
+    /// - `Busy` if the word of the key's stripe names another caller: the transaction is
     ///   aborted, with all its changes taken back and all its rights given back, and the side value
     ///   has the words that it had when the transaction began.
     ///
@@ -124,7 +124,7 @@ impl<L: Ledger> SharedMap<L> {
     /// One try of the word, outside the lock, unless the token has its right, and time in
     /// proportion to the rights that it has; three holds of the lock, one of which seeks the place
     /// of the key, and at most two more for each time that the place no longer fits, and for each
-    /// change that is taken back where the key is busy; may take memory.
+    /// change that is taken back if the key is busy; may take memory.
     pub fn take<S: Side, R: Wait>(
         &self,
         rt: &R,
@@ -140,8 +140,8 @@ impl<L: Ledger> SharedMap<L> {
         self.operate(rt, me, Op::Take(key))
     }
 
-    /// Puts a value at a key where the value before is the one expected, `None` for a key that is
-    /// not there, and answers the value before. It is a change exactly where they are the same.
+    /// Puts a value at a key if the value before is the one expected, `None` for a key that is
+    /// not there, and answers the value before. It is a change exactly if they are the same.
     ///
     /// # Errors
     ///
@@ -149,11 +149,11 @@ impl<L: Ledger> SharedMap<L> {
     ///   - `OutOfStep` of a token that is broken.
     ///   - `NotOpen`, `Leaving`, `OperationUnfinished` and `BadKey` (a key of 2^63 or more, where
     ///     the limits have half keys), the first that holds.
-    ///   - Then `NoMemory` where memory is refused: for one right more, before any word is tried,
-    ///     or for the operation; `StampsUsedUp` where no stamp is left; `StaleWord` where by the
+    ///   - Then `NoMemory` if memory is refused: for one right more, before any word is tried,
+    ///     or for the operation; `StampsUsedUp` if no stamp is left; `StaleWord` where by the
     ///     core's record the word of the key's stripe does not say who holds it; and `OutOfStep`,
     ///     which breaks the token.
-    /// - `Busy` where the word of the key's stripe names another caller: the transaction is
+    /// - `Busy` if the word of the key's stripe names another caller: the transaction is
     ///   aborted, with all its changes taken back and all its rights given back, and the side value
     ///   has the words that it had when the transaction began.
     ///
@@ -162,7 +162,7 @@ impl<L: Ledger> SharedMap<L> {
     /// One try of the word, outside the lock, unless the token has its right, and time in
     /// proportion to the rights that it has; three holds of the lock, one of which seeks the place
     /// of the key, and at most two more for each time that the place no longer fits, and for each
-    /// change that is taken back where the key is busy; may take memory.
+    /// change that is taken back if the key is busy; may take memory.
     pub fn put_if<S: Side, R: Wait>(
         &self,
         rt: &R,
@@ -191,11 +191,11 @@ impl<L: Ledger> SharedMap<L> {
     ///   - `OutOfStep` of a token that is broken.
     ///   - `NotOpen`, `Leaving`, `OperationUnfinished` and `BadKey` (a key of 2^63 or more, where
     ///     the limits have half keys), the first that holds.
-    ///   - Then `NoMemory` where memory is refused: for one right more, before any word is tried,
-    ///     or for the operation; `StampsUsedUp` where no stamp is left; `StaleWord` where by the
+    ///   - Then `NoMemory` if memory is refused: for one right more, before any word is tried,
+    ///     or for the operation; `StampsUsedUp` if no stamp is left; `StaleWord` where by the
     ///     core's record the word of the key's stripe does not say who holds it; and `OutOfStep`,
     ///     which breaks the token.
-    /// - `Busy` where the word of the key's stripe names another caller: the transaction is
+    /// - `Busy` if the word of the key's stripe names another caller: the transaction is
     ///   aborted, with all its changes taken back and all its rights given back, and the side value
     ///   has the words that it had when the transaction began.
     ///
@@ -204,7 +204,7 @@ impl<L: Ledger> SharedMap<L> {
     /// One try of the word, outside the lock, unless the token has its right, and time in
     /// proportion to the rights that it has; three holds of the lock, one of which seeks the place
     /// of the key, and at most two more for each time that the place no longer fits, and for each
-    /// change that is taken back where the key is busy; may take memory.
+    /// change that is taken back if the key is busy; may take memory.
     pub fn get<S: Side, R: Wait>(
         &self,
         rt: &R,
@@ -228,7 +228,7 @@ impl<L: Ledger> SharedMap<L> {
     /// `Refused`, and the transaction is as it was:
     /// - `OutOfStep` of a token that is broken.
     /// - `NotOpen`, `Leaving` and `OperationUnfinished`, the first that holds.
-    /// - Then `NoMemory` where memory is refused, and `OutOfStep`, which breaks the token.
+    /// - Then `NoMemory` if memory is refused, and `OutOfStep`, which breaks the token.
     ///
     /// # Cost
     ///
@@ -255,8 +255,8 @@ impl<L: Ledger> SharedMap<L> {
     /// `Refused`, and the transaction is as it was:
     /// - `OutOfStep` of a token that is broken.
     /// - `NotOpen`, `Leaving`, `OperationUnfinished` and `NoSuchLevel`, the first that holds.
-    /// - Then `NoMemory` where memory is refused, which is before anything is taken back, and
-    ///   `OutOfStep`, which breaks the token. That comes too where the side value has no such
+    /// - Then `NoMemory` if memory is refused, which is before anything is taken back, and
+    ///   `OutOfStep`, which breaks the token. That comes too if the side value has no such
     ///   level, since a save was made by `hold` alone.
     ///
     /// # Cost
@@ -341,7 +341,7 @@ impl<L: Ledger> SharedMap<L> {
         }
     }
 
-    /// Helps the table to grow: doubles it where it is full, and then initialises the bucket of a
+    /// Helps the table to grow: doubles it if it is full, and then initialises the bucket of a
     /// key, its ancestors first. It needs no transaction, and content and history stay.
     ///
     /// # Errors
@@ -349,13 +349,13 @@ impl<L: Ledger> SharedMap<L> {
     /// `Refused`, and the transaction, if there is one, is as it was; buckets that are initialised
     /// stay so:
     /// - `OutOfStep` of a token that is broken.
-    /// - `BadKey` of a key of 2^63 or more, where the limits have half keys.
-    /// - Then `NoMemory` where memory is refused, `StampsUsedUp` where no stamp is left, and
+    /// - `BadKey` of a key of 2^63 or more, if the limits have half keys.
+    /// - Then `NoMemory` if memory is refused, `StampsUsedUp` if no stamp is left, and
     ///   `OutOfStep`, which breaks the token.
     ///
     /// # Cost
     ///
-    /// One hold of the lock to double; for each bucket on the way one where it is initialised, and
+    /// One hold of the lock to double; for each bucket on the way one if it is initialised, and
     /// else three, and at most two more for each time that its place no longer fits; may take
     /// memory.
     #[tactic(auto, using(crate::proofs::Refusing::help_bad_key))]
@@ -389,12 +389,12 @@ impl<L: Ledger> SharedMap<L> {
     ///
     /// The change was not called, nothing has changed, and change and job are handed back:
     /// - `OutOfStep` of a token that is broken;
-    /// - `NoMemory` where memory is refused.
+    /// - `NoMemory` if memory is refused.
     ///
     /// # Cost
     ///
     /// One call of `change`, and amortized constant time beside it, without the lock; takes memory
-    /// only where there is no room for a change.
+    /// only if there is no room for a change.
     pub fn side<S: Side, F: FnOnce(S) -> S>(
         &self,
         me: &mut Caller<L, S>,

@@ -66,7 +66,7 @@ impl Claims {
     ///
     /// # Errors
     ///
-    /// `AllocError` where memory is refused for one right more: then nothing has changed.
+    /// `AllocError` if memory is refused for one right more: then nothing has changed.
     pub(crate) fn try_word(&mut self, stripe: u64) -> Result<(), AllocError>
         requires { stripe < self.old.stripes }
         ensures tries { OnOk result (Tries self.old stripe self.new) }
@@ -110,7 +110,7 @@ impl Claims {
         }
     }
 
-    /// Gives all rights back where a call has ended its transaction.
+    /// Gives all rights back if a call has ended its transaction.
     ///
     /// Takes no memory, and time in proportion to the rights.
     pub(crate) fn follow(&mut self, end: End)

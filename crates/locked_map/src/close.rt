@@ -20,15 +20,15 @@ impl<L: Ledger> SharedMap<L> {
     /// Takes the core out, once the callers of all numbers are back, and compares its history with
     /// what they saw.
     ///
-    /// With `Ok` the core has the map's limits, and its history is legal, where a Busy may name any
+    /// With `Ok` the core has the map's limits, and its history is legal, if a Busy may name any
     /// other caller that has begun a transaction; each caller's own entries in it are just those
     /// that the caller saw, and there are no others. With each answer the callers come back as they
     /// were, in their order.
     ///
     /// # Errors
     ///
-    /// - `Missing` exactly where a number is missing or was handed in twice.
-    /// - Then `Differs` exactly where the core has other limits, or some caller's entries in the
+    /// - `Missing` exactly if a number is missing or was handed in twice.
+    /// - Then `Differs` exactly if the core has other limits, or some caller's entries in the
     ///   history are not those that it saw. Even then the history has as many entries as all
     ///   callers saw.
     ///

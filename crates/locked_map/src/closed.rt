@@ -1,3 +1,5 @@
+//! What `close` hands out: the core and the callers, in one value, so that neither is dropped by
+//! mistake.
 use crate::caller::Caller;
 use boost_core::Core;
 use std::sync::ledger::Ledger;

@@ -14,7 +14,7 @@ pub(crate) fn breaks(is_whole: bool, call: Call, end: Option<End>) -> bool
     !is_whole || odd_if(call, end)
 }
 
-/// What a hold gives after its turn: that the call is out of step, where the token is broken.
+/// What a hold gives after its turn: that the call is out of step, if the token is broken.
 pub(crate) fn end_in(is_broken: bool, end: Option<End>) -> Option<End>
     ensures { result ≡ end_in is_broken end }
 {

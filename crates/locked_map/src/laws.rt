@@ -16,7 +16,7 @@ use undo_log::Side;
 /// Its first hold, after which the core has some size, heads for the bucket that the key has at
 /// this size (`heads`), and each hold that does not end the call keeps to that (`stays`). Where
 /// core and token are in step before the hold that ends it, the core has this bucket after it
-/// (`stored`, and `at_once` where that is the first hold).
+/// (`stored`, and `at_once` if that is the first hold).
 ///
 /// The contract is the law.
 ///

@@ -1,3 +1,4 @@
+//! The side value of callers that keep none: its words never change, and its jobs do nothing.
 use undo_log::Side;
 
 /// No side value: its words never change. For callers that keep nothing beside the map.

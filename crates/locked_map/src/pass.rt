@@ -1,3 +1,5 @@
+//! A pass: the right to be the caller of a number, with that number's part of the ledger and its
+//! seat at the words. A map hands out one for each number, and `close` wants them all.
 ghost use Rattle.std.specs.Prelude.{◌≡◌, false, [], ◌∷◌};
 
 use crate::caller::Caller;

@@ -1,3 +1,4 @@
+//! What a commit gives its caller: the transaction's number and its place in the order of commits.
 /// What a commit gives.
 #[derive(Clone, Copy, Debug, PartialEq, Eq)]
 pub struct Receipt {

@@ -107,7 +107,7 @@ impl<L: Ledger> Seen<L> {
     ///
     /// # Errors
     ///
-    /// `AllocError` where memory is refused, and only where there was no such room.
+    /// `AllocError` if memory is refused, and only if there was no such room.
     #[inline(always)]
     pub(crate) fn reserve(&mut self, step: Step) -> Result<(), AllocError>
         requires { is_some (seat_after self.old.entries) ≡ true }

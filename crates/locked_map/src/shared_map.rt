@@ -1,3 +1,6 @@
+//! The shared map: the core under its lock, and a drive's turns, each under one hold of it. Nothing
+//! of the core is known between two holds but what its type says; what a call promises is told by
+//! its holds (`WentOn`).
 ghost use Rattle.std.specs.Prelude.{◌≡◌, ◌<◌, ◌≤◌, true, IfOk, IfErr, map};
 ghost use Rattle.std.specs.List.{range_with_len};
 ghost use Rattle.txn_trace.specs.Shape.{seat_after};
@@ -57,7 +60,7 @@ impl<L: Ledger> SharedMap<L> {
     ///
     /// # Errors
     ///
-    /// `NoMemory` where memory is refused.
+    /// `NoMemory` if memory is refused.
     ///
     /// # Cost
     ///
@@ -142,7 +145,7 @@ impl<L: Ledger> SharedMap<L> {
     ///
     /// # Errors
     ///
-    /// The end is `Refused` or `Busy` where the call of that name answers so.
+    /// The end is `Refused` or `Busy` if the call of that name answers so.
     ///
     /// # Cost
     ///
@@ -190,7 +193,7 @@ impl<L: Ledger> SharedMap<L> {
 ///
 /// # Errors
 ///
-/// `NoMemory` where memory is refused.
+/// `NoMemory` if memory is refused.
 fn words_of(alloc: Global, limits: Limits) -> Result<(Arc<KeyWords, Global>, Vec<KeySeat>), Refusal>
     ensures words { IfOk result (λ r. stripes_of r.0.value ≡ limits.stripes) }
     ensures seats { IfOk result (λ r. AreSeats r.0.value limits.callers r.1.items) }

@@ -1,3 +1,5 @@
+//! Why a shared call stopped: busy, or refused. It stands apart from the core's answers, since a
+//! busy call has taken its transaction back already.
 ghost use Rattle.std.specs.Prelude.{◌≡◌};
 ghost use Rattle.txn_trace.specs.declared.refusal.Refusal.TheVariants.{NoMemory};
 ghost use Rattle.locked_map.specs.declared.stop.Stop.TheVariants.{Refused};

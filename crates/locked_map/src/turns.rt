@@ -85,7 +85,7 @@ fn take_one<L: Ledger>(
     true
 }
 
-/// The same of a turn of two steps: the second is taken where the first was answered `Placed`.
+/// The same of a turn of two steps: the second is taken if the first was answered `Placed`.
 #[inline(never)]
 fn take_two<L: Ledger>(
     seen: &mut Seen<L>,

@@ -1,3 +1,5 @@
+//! Why a map does not close, with all that was handed in, so that nothing is lost. It is an error
+//! with a text.
 use crate::caller::Caller;
 use crate::shared_map::SharedMap;
 use boost_core::Core;

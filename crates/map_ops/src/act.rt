@@ -7,7 +7,7 @@ use txn_trace::Reply;
 /// What `Table::act` answers.
 #[derive(Debug, Drop)]
 pub enum Act {
-    /// The operation is done: its reply, and what takes the change back, where it is one.
+    /// The operation is done: its reply, and what takes the change back, if it is one.
     Acted(Reply, Option<MapJob>),
     /// The cursor no longer fits. Nothing has changed, and the operation comes back.
     Again(Pending),

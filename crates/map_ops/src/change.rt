@@ -242,7 +242,7 @@ fn put_key(
     }
 }
 
-/// Puts a value where the key has what is expected; else leaves it.
+/// Puts a value if the key has what is expected; else leaves it.
 fn put_if_key(
     list: &mut NodeList,
     pred: NodeRef,

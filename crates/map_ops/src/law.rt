@@ -27,7 +27,7 @@ pub fn there_and_back()
 {}
 
 /// Two jobs of different keys may be taken back in either order: the one that is second may still
-/// be taken back after the first (clause `due`, where a spare that each owns is at a place of its
+/// be taken back after the first (clause `due`, if a spare that each owns is at a place of its
 /// own), and both orders leave the same content, with it the same list of pairs, and the same
 /// spares out.
 ///

@@ -7,7 +7,7 @@
 //! order, and each initialised bucket names its linked dummy and has an initialised parent.
 //!
 //! - `apply` answers and leaves what the operation does on that map, and gives a `MapJob` exactly
-//!   where it was a change.
+//!   if it was a change.
 //! - `take_back` gives the job's key what it had before and leaves every other key as it is now:
 //!   the compensating actions of boosting (Herlihy and Koskinen, "Transactional Boosting", 2008),
 //!   each with its own inverse on whatever the table is then.

@@ -52,7 +52,7 @@ impl Pending {
         self.plan
     }
 
-    /// The operation. It has a spare exactly where it is not a get. Constant time.
+    /// The operation. It has a spare exactly if it is not a get. Constant time.
     pub fn op(&self) -> Op
         ensures op { result ≡ self.now.op }
         ensures spare { is_some self.now.spare ≡ takes_node result }

@@ -60,7 +60,7 @@ impl Table {
     ///
     /// # Errors
     ///
-    /// `AllocError` where memory is refused.
+    /// `AllocError` if memory is refused.
     ///
     /// # Cost
     ///
@@ -111,8 +111,8 @@ impl Table {
     ///
     /// # Errors
     ///
-    /// Unless it is a get, `StampsUsedUp` where the last stamp, 2^64 - 2, is given, and else
-    /// `NoMemory` where memory is refused. Each leaves the table as it was.
+    /// Unless it is a get, `StampsUsedUp` if the last stamp, 2^64 - 2, is given, and else
+    /// `NoMemory` if memory is refused. Each leaves the table as it was.
     ///
     /// # Cost
     ///
@@ -152,7 +152,7 @@ impl Table {
     /// takes the change back. A put that is made links one node or writes one value, a take marks
     /// one node, and what is no change writes nothing. No node is unlinked.
     ///
-    /// `Again` comes exactly where the cursor no longer fits, so never while the change number is
+    /// `Again` comes exactly if the cursor no longer fits, so never while the change number is
     /// still the cursor's and below 2^64 - 1: then nothing has changed, and the operation comes
     /// back.
     ///
@@ -209,7 +209,7 @@ impl Table {
     /// the change, and every other key what it has now, whatever was changed there since. One node
     /// is marked, written or linked, and none is unlinked.
     ///
-    /// `Again` comes exactly where the cursor no longer fits: then nothing has changed, and the job
+    /// `Again` comes exactly if the cursor no longer fits: then nothing has changed, and the job
     /// comes back.
     ///
     /// # Cost
@@ -248,7 +248,7 @@ impl Table {
     }
 
     /// Does an operation at once: its reply and what it leaves are those of a plain map, and a job
-    /// is given exactly where it is a change.
+    /// is given exactly if it is a change.
     ///
     /// # Errors
     ///
@@ -298,7 +298,7 @@ impl Table {
     ///
     /// # Errors
     ///
-    /// `AllocError` where memory is refused.
+    /// `AllocError` if memory is refused.
     ///
     /// # Cost
     ///
@@ -316,7 +316,7 @@ impl Table {
     ///
     /// # Errors
     ///
-    /// `AllocError` where memory is refused.
+    /// `AllocError` if memory is refused.
     ///
     /// # Cost
     ///
@@ -362,7 +362,7 @@ impl Table {
     }
 
     /// Unlinks the first marked node, if one is marked, and nothing else. `Clean` comes exactly
-    /// where none is.
+    /// if none is.
     ///
     /// The walk begins at the nearest initialised dummy before the place where the marked nodes
     /// begin (`NodeList::marks_begin`).
@@ -370,7 +370,7 @@ impl Table {
     /// # Cost
     ///
     /// Time in proportion to the nodes from there to the first marked one (from the first node on,
-    /// if `new_uncounted` made the table), and constant time where none is marked; takes no memory.
+    /// if `new_uncounted` made the table), and constant time if none is marked; takes no memory.
     pub fn sweep(&mut self) -> SweepOutcome
         ensures clean { (result ≡ SweepOutcome.Clean) ↔ IsClean self.old }
         ensures sweeps { Sweeps self.old self.new result }
@@ -388,13 +388,13 @@ impl Table {
     /// Seeks the place of a bucket's dummy for a helper, from the dummy of the bucket's parent.
     /// Content and list of pairs stay; the marked nodes that it passes are unlinked.
     ///
-    /// `Ready` where the bucket is initialised already: then the helper is idle. Else `Placed`, and
+    /// `Ready` if the bucket is initialised already: then the helper is idle. Else `Placed`, and
     /// the helper has a cursor that fits, in place of whatever it had.
     ///
     /// # Errors
     ///
-    /// In this order: `NoSuchHelper`, `NoSuchBucket` where the bucket is not below the size,
-    /// `ParentMissing` where it is not initialised and its parent is not either. Each leaves the
+    /// In this order: `NoSuchHelper`, `NoSuchBucket` if the bucket is not below the size,
+    /// `ParentMissing` if it is not initialised and its parent is not either. Each leaves the
     /// table as it was.
     ///
     /// # Cost
@@ -414,13 +414,13 @@ impl Table {
 
     /// Links the dummy of a helper's bucket at the helper's cursor. Content and list of pairs stay.
     ///
-    /// `Again` where the cursor no longer fits: it is dropped. `Present` where that dummy is linked
+    /// `Again` if the cursor no longer fits: it is dropped. `Present` if that dummy is linked
     /// already, else `Linked`: the helper has the dummy.
     ///
     /// # Errors
     ///
-    /// In this order: `NoSuchHelper`, `HelperOutOfOrder` where the helper has no cursor, and, where
-    /// a dummy is to be linked, `StampsUsedUp`, then `NoMemory` where memory is refused. Each
+    /// In this order: `NoSuchHelper`, `HelperOutOfOrder` if the helper has no cursor, and, where
+    /// a dummy is to be linked, `StampsUsedUp`, then `NoMemory` if memory is refused. Each
     /// leaves the table as it was.
     ///
     /// # Cost
@@ -449,13 +449,13 @@ impl Table {
     ///
     /// # Errors
     ///
-    /// In this order: `NoSuchHelper`, `HelperOutOfOrder` where the helper has no dummy, `NoMemory`
-    /// where memory is refused, and only where no bucket of the bucket's segment is initialised.
+    /// In this order: `NoSuchHelper`, `HelperOutOfOrder` if the helper has no dummy, `NoMemory`
+    /// if memory is refused, and only if no bucket of the bucket's segment is initialised.
     /// Each leaves the table as it was, and the helper has its dummy.
     ///
     /// # Cost
     ///
-    /// Constant time; takes memory only for the bucket's segment, where no bucket of it is
+    /// Constant time; takes memory only for the bucket's segment, if no bucket of it is
     /// initialised.
     pub fn init_store(&mut self, helper: u64) -> Result<(), Refusal>
         ensures answer { result ≢ Err Refusal.NoMemory
@@ -473,8 +473,8 @@ impl Table {
 
     /// Doubles the size. No node moves.
     ///
-    /// Not so, in this order, where the size is not the one seen (`Moved`), where it is the largest
-    /// (`AtLimit`), and where there are at most twice as many keys as buckets (`Light`).
+    /// Not so, in this order, if the size is not the one seen (`Moved`), if it is the largest
+    /// (`AtLimit`), and if there are at most twice as many keys as buckets (`Light`).
     ///
     /// # Cost
     ///
@@ -492,7 +492,7 @@ impl Table {
 }
 
 /// Where a sweep may begin: at the nearest initialised dummy before the place where the marked
-/// nodes begin, or at the first node where none is marked.
+/// nodes begin, or at the first node if none is marked.
 fn sweep_start(list: &NodeList, buckets: &Buckets) -> NodeRef
     requires { IsHome buckets.now list.now }
     ensures { IsBeforeMarks list.now.nodes result }

@@ -76,7 +76,7 @@ impl NodeList {
     ///
     /// # Errors
     ///
-    /// `AllocError` where memory is refused.
+    /// `AllocError` if memory is refused.
     ///
     /// # Cost
     ///
@@ -146,12 +146,12 @@ impl NodeList {
     ///
     /// # Errors
     ///
-    /// `Worn` exactly where the last stamp was 2^64 - 2; then `NoMemory` where memory is refused,
+    /// `Worn` exactly if the last stamp was 2^64 - 2; then `NoMemory` if memory is refused,
     /// or all of 2^32 - 1 places are in use. Either leaves the list as it was.
     ///
     /// # Cost
     ///
-    /// Amortized constant time; takes memory only where the slab has to grow.
+    /// Amortized constant time; takes memory only if the slab has to grow.
     #[inline(always)]
     pub fn spare(&mut self) -> Result<Spare, SpareFault>
         ensures worn { (result ≡ Err SpareFault.Worn) ↔ (self.old.last ≡ 2 ^ 64 - 2) }
@@ -335,7 +335,7 @@ impl NodeList {
         self.marks.total()
     }
 
-    /// Where in the order the marked nodes begin, or none exactly where no node is marked: no
+    /// Where in the order the marked nodes begin, or none exactly if no node is marked: no
     /// marked node has a split key below it, and the first one has a split key less than 2^52 above
     /// it.
     ///

@@ -177,7 +177,7 @@ impl OwnedMap {
         self.core.abort(caller);
     }
 
-    /// Grows the table by a step: doubles it where it has more than two keys a bucket, and
+    /// Grows the table by a step: doubles it if it has more than two keys a bucket, and
     /// initialises the next bucket, if there is one.
     pub(crate) fn grow(&mut self, caller: u64)
         ensures { IsGrown self.old.core self.new.core }

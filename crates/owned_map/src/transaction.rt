@@ -105,8 +105,8 @@ impl Transaction<'_> {
         self.operate(Op::Take(key))
     }
 
-    /// Puts a value at a key exactly where the key has what is expected, a value or none: the reply
-    /// is what it had, so the value was put exactly where that is what was expected.
+    /// Puts a value at a key exactly if the key has what is expected, a value or none: the reply
+    /// is what it had, so the value was put exactly if that is what was expected.
     ///
     /// # Errors
     ///

@@ -26,7 +26,7 @@ pub fn number_in<'v, 'a>(values: &'v [Plain<'a>]) -> Option<(u64, &'v [Plain<'a>
     }
 }
 
-/// The first element, which is a text, and the elements after it. None where there is no element,
+/// The first element, which is a text, and the elements after it. None if there is no element,
 /// or the first is no text.
 ///
 /// # Cost
@@ -44,7 +44,7 @@ pub fn word_in<'v, 'a>(values: &'v [Plain<'a>]) -> Option<(&'a str, &'v [Plain<'
     }
 }
 
-/// The one element, which is a whole number below 2^64. None where there is no element, another
+/// The one element, which is a whole number below 2^64. None if there is no element, another
 /// one, or more than one.
 ///
 /// # Cost
@@ -58,7 +58,7 @@ pub fn one_in(values: &[Plain<'_>]) -> Option<u64>
     if rest.is_empty() { Some(number) } else { None }
 }
 
-/// That there is no element. None where there is one.
+/// That there is no element. None if there is one.
 ///
 /// # Cost
 ///
@@ -71,7 +71,7 @@ pub fn end_in(values: &[Plain<'_>]) -> Option<()>
 }
 
 /// The first element, which is a whole number below 2^64, or `null`, which is none within; and the
-/// elements after it. None where there is no element, or the first is another.
+/// elements after it. None if there is no element, or the first is another.
 ///
 /// # Cost
 ///
@@ -105,7 +105,7 @@ pub fn optional_in(values: &[Plain<'_>]) -> Option<Option<u64>>
     if rest.is_empty() { Some(value) } else { None }
 }
 
-/// The two elements, which are whole numbers below 2^64, in their order. None where there are not
+/// The two elements, which are whole numbers below 2^64, in their order. None if there are not
 /// two of these, and nothing else.
 ///
 /// # Cost

@@ -94,15 +94,15 @@ fn contents_found<K: PieceKind, const N: usize>(
 ///
 /// The first of these, in this order:
 ///
-/// - `Limit` where there are more than 16,777,216 bytes.
-/// - `NotJson` where they are not UTF-8, or no JSON in which arrays and objects nest no deeper than
+/// - `Limit` if there are more than 16,777,216 bytes.
+/// - `NotJson` if they are not UTF-8, or no JSON in which arrays and objects nest no deeper than
 ///   127 and each number is in range of a float.
-/// - `Member` where the value is no object, or a member is missing or of the wrong kind.
-/// - `Piece` for the first element of `pieces` that is none, or where the version is 1 none that
+/// - `Member` if the value is no object, or a member is missing or of the wrong kind.
+/// - `Piece` for the first element of `pieces` that is none, or if the version is 1 none that
 ///   version 1 has.
-/// - `Limit` where the version is not 1 to 3 or there are more pieces than there may be.
+/// - `Limit` if the version is not 1 to 3 or there are more pieces than there may be.
 ///
-/// `NoMemory` where memory is refused. It can come in place of any answer, but for bytes that are
+/// `NoMemory` if memory is refused. It can come in place of any answer, but for bytes that are
 /// too many or not UTF-8.
 ///
 /// # Cost

@@ -8,7 +8,7 @@ use crate::part::Part;
 use std::alloc::{AllocError, AllocFailed};
 use std::fmt;
 
-/// Why a file was refused. It is printed as its number, with the place where there is one.
+/// Why a file was refused. It is printed as its number, with the place if there is one.
 #[derive(Clone, Copy, Debug, PartialEq, Eq)]
 pub enum FileFault {
     /// 20: the bytes are no JSON.

@@ -44,7 +44,7 @@ pub(crate) struct Found<P, const N: usize> {
     pub(crate) pieces: Option<Pieces<P>>,
 }
 
-/// The number that begins with this token, which was taken: none where the value is another.
+/// The number that begins with this token, which was taken: none if the value is another.
 fn number_member(
     token: Token<'_>,
     reader: &mut Reader<'_>,
@@ -62,7 +62,7 @@ fn number_member(
     }
 }
 
-/// The pieces of the array that begins with this token, which was taken: none where the value is
+/// The pieces of the array that begins with this token, which was taken: none if the value is
 /// another.
 fn pieces_member<K: PieceKind>(
     alloc: Global,
@@ -164,7 +164,7 @@ fn take_members<K: PieceKind, const N: usize>(
     Ok(())
 }
 
-/// Takes all members of a value, where it is an object.
+/// Takes all members of a value, if it is an object.
 fn take_value<K: PieceKind, const N: usize>(
     found: &mut Found<K::Piece, N>,
     names: Names<'_>,

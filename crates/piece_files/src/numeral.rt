@@ -32,7 +32,7 @@ fn few_digits_in(bytes: &[u8]) -> Option<u64>
     Some(number)
 }
 
-/// A number that is no whole number below 2^64, where it is in range: no number within.
+/// A number that is no whole number below 2^64, if it is in range: no number within.
 #[cold]
 #[inline(never)]
 fn float_in(is_negative: bool, bytes: &[u8]) -> Option<Option<u64>>
@@ -70,7 +70,7 @@ fn negative_in(bytes: &[u8]) -> Option<Option<u64>>
     float_in(true, bytes)
 }
 
-/// The number that a number's text is: none where no number in range, and none within where it has
+/// The number that a number's text is: none if no number in range, and none within if it has
 /// a sign, a fraction or an exponent, or is 2^64 or more.
 #[inline(always)]
 pub(crate) fn number_in_text(text: &str) -> Option<Option<u64>>

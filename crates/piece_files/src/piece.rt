@@ -23,7 +23,7 @@ pub trait PieceKind {
     /// A piece of this kind.
     type Piece: Drop;
 
-    /// The piece that has these elements in version 2, where some piece has them.
+    /// The piece that has these elements in version 2, if some piece has them.
     ghost of: { List Data → Option Self.Piece };
 
     /// Whether version 1 has a piece too.
@@ -54,13 +54,13 @@ pub trait PieceKind {
     fn most() -> usize
         ensures { result ≡ most };
 
-    /// The piece whose elements come next, after the bracket that opens it, or none where no piece
+    /// The piece whose elements come next, after the bracket that opens it, or none if no piece
     /// of this kind has them in version 2. The reader is then behind the bracket that closes it.
     ///
     /// # Errors
     ///
-    /// `NotJson` where what comes is not the rest of an array in which arrays and objects nest no
-    /// deeper than `depth`; `NoMemory` where memory is refused, and only of a kind that
+    /// `NotJson` if what comes is not the rest of an array in which arrays and objects nest no
+    /// deeper than `depth`; `NoMemory` if memory is refused, and only of a kind that
     /// `takes_memory`. The reader is then anywhere in the text.
     ///
     /// # Cost
@@ -92,7 +92,7 @@ pub struct Pieces<P> {
     pub first_new: Option<usize>,
 }
 
-/// The piece that begins with this token, which was taken, or none where it is no piece.
+/// The piece that begins with this token, which was taken, or none if it is no piece.
 fn piece_in<K: PieceKind>(
     alloc: Global,
     token: Token<'_>,
@@ -142,8 +142,8 @@ fn next_count(count: usize) -> Result<usize, Stop>
 ///
 /// # Errors
 ///
-/// `NotJson` where what comes is not the rest of an array in which arrays and objects nest no
-/// deeper than `depth`; `NoMemory` where memory is refused. The reader is then anywhere in the
+/// `NotJson` if what comes is not the rest of an array in which arrays and objects nest no
+/// deeper than `depth`; `NoMemory` if memory is refused. The reader is then anywhere in the
 /// text.
 ///
 /// # Cost

@@ -23,7 +23,7 @@ pub enum Plain<'a> {
     Number(u64),
 }
 
-/// The value that begins with this token, which was taken: none where it is not plain.
+/// The value that begins with this token, which was taken: none if it is not plain.
 #[inline(always)]
 pub(crate) fn plain_value<'a>(
     token: Token<'a>,
@@ -64,7 +64,7 @@ pub(crate) fn plain_value<'a>(
 ///
 /// # Errors
 ///
-/// `Invalid` where what comes is not the rest of an array in which arrays and objects nest no
+/// `Invalid` if what comes is not the rest of an array in which arrays and objects nest no
 /// deeper than `depth`, or a number is too large for a float. The reader is then anywhere in the
 /// text.
 ///

@@ -79,7 +79,7 @@ pub struct Narrow {
     /// How often it was called.
     pub calls: usize,
     fails_at: usize,
-    /// What it fails with; none where it takes nothing.
+    /// What it fails with; none if it takes nothing.
     failure: Option<ErrorKind>,
 }
 
@@ -154,14 +154,14 @@ pub struct Desk<'a> {
     pub words: &'a str,
     /// The files: names and bytes.
     pub files: &'a [(&'a str, &'a str)],
-    /// What asking for the words fails with, where it does.
+    /// What asking for the words fails with, if it does.
     pub words_fail: Option<ErrorKind>,
-    /// What opening a file fails with, where it does.
+    /// What opening a file fails with, if it does.
     pub open_fails: Option<ErrorKind>,
 }
 
 impl<'a> Desk<'a> {
-    /// A system of these words and files, where nothing fails.
+    /// A system of these words and files, if nothing fails.
     pub fn new(words: &'a str, files: &'a [(&'a str, &'a str)]) -> Desk<'a> {
         Desk {
             words,

@@ -35,7 +35,7 @@ struct Files {
     frame: &'static str,
     pieces: &'static str,
     fillings: &'static str,
-    /// What is printed, or where the status is that of a fault its line.
+    /// What is printed, or if the status is that of a fault its line.
     printed: &'static str,
     status: u8,
 }

@@ -29,11 +29,11 @@ struct Files {
     frame: &'static str,
     pieces: &'static str,
     fillings: &'static str,
-    /// What they are refused with; none where they are not.
+    /// What they are refused with; none if they are not.
     fault: Option<FileFault>,
 }
 
-/// What a file is refused with; none where it is not.
+/// What a file is refused with; none if it is not.
 fn fault_of(alloc: Global, kind: Kind, bytes: &[u8]) -> Option<FileFault> {
     match kind {
         Kind::Steps => read_steps(alloc, bytes).err(),

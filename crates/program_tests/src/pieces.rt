@@ -329,7 +329,7 @@ fn begin(reader: &mut Reader<'_>) -> bool {
     matches!(reader.next(), Some(Token::BeginArray))
 }
 
-/// Compares the elements of the next array, where they are plain and no more than four.
+/// Compares the elements of the next array, if they are plain and no more than four.
 fn compare_next(rt: &impl Abort, reader: &mut Reader<'_>, leading: Leading, shapes: Shapes) {
     let mut elements = ArrayVec::<Plain<'_>, 4>::new();
     assert!(rt; begin(reader));

@@ -43,10 +43,10 @@ fn live_count(workers: &[Worker]) -> usize
     count
 }
 
-/// Draws one of the workers that have a step to take, and gives its number; none where no worker
+/// Draws one of the workers that have a step to take, and gives its number; none if no worker
 /// has one.
 ///
-/// Draws a number below how many such workers there are, also where there is one, and takes the
+/// Draws a number below how many such workers there are, also if there is one, and takes the
 /// worker at that place of them, in rising order.
 pub(crate) fn draw_worker(generator: &mut Pcg32, workers: &[Worker]) -> Option<usize>
     ensures drawn { IfSome result (λ number.

@@ -3,7 +3,7 @@
 //! Each worker runs the scripts of its own by `Worker` of `script_worker`, as the caller of its
 //! number on a `Core` of `boost_core`. Before each turn a number is drawn below the number of
 //! workers that still have a step to take, and the worker at that place of them, in rising order,
-//! takes its next turn: one step, or two where the worker has waited long. So a seed names one
+//! takes its next turn: one step, or two if the worker has waited long. So a seed names one
 //! interleaving, and the same seed gives the same history.
 //!
 //! Proved (`mix_scripts`): the core afterwards is one of the limits asked for, whose history is

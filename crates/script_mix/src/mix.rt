@@ -14,11 +14,11 @@ use txn_trace::Scripts;
 
 /// Runs the scripts on a new core, the workers' turns mixed as the seed says, until no worker has a
 /// step left. The core then has the history. Before each turn a place among the live workers is
-/// drawn, also where there is one.
+/// drawn, also if there is one.
 ///
 /// # Errors
 ///
-/// `AllocError` where memory is refused outside a step. A step that is refused memory is answered
+/// `AllocError` if memory is refused outside a step. A step that is refused memory is answered
 /// 14, by which its script ends.
 ///
 /// # Cost

@@ -31,7 +31,7 @@ impl OrdinaryCore {
     ///
     /// # Errors
     ///
-    /// `Refusal::NoMemory` where memory is refused.
+    /// `Refusal::NoMemory` if memory is refused.
     pub(crate) fn new(alloc: Global, limits: Limits) -> Result<OrdinaryCore, Refusal>
         ensures { IfOk result (λ core. core ≡ start limits) }
     {

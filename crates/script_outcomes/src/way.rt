@@ -148,7 +148,7 @@ impl Way {
         }
     }
 
-    /// An attempt found a stripe held: the script is over where it was tried often enough.
+    /// An attempt found a stripe held: the script is over if it was tried often enough.
     fn give_way(&mut self, work: &Work<'_>)
         requires { 0 < work.now.workers }
         ensures part { self.new.part.items ≡ self.old.part.items }

@@ -11,7 +11,7 @@ use txn_trace::{Action, Refusal};
 pub enum Stage {
     /// The transaction is to begin.
     Beginning,
-    /// The action of this index, from 0, is to be done; where the script has no such action, the
+    /// The action of this index, from 0, is to be done; if the script has no such action, the
     /// transaction is to commit.
     Acting(usize),
     /// The transaction is to abort, since a call was refused so.
@@ -36,7 +36,7 @@ pub enum Outcome {
     Aborted,
     /// Each attempt found a stripe in another's hands, and is aborted.
     Busy,
-    /// A call was refused so. Its transaction is aborted, or did not begin, but where it is
+    /// A call was refused so. Its transaction is aborted, or did not begin, but if it is
     /// `OutOfStep`.
     Refused(Refusal),
 }
@@ -111,7 +111,7 @@ impl Attempt {
         }
     }
 
-    /// What follows where the call is done.
+    /// What follows if the call is done.
     fn after_done(self, script: &[Action]) -> Progress
         ensures { result ≡ done_at script.now self.again self.stage }
     {
@@ -126,7 +126,7 @@ impl Attempt {
         }
     }
 
-    /// What follows where a stripe was held by another, and the transaction is aborted.
+    /// What follows if a stripe was held by another, and the transaction is aborted.
     fn busy(self, tries: u64) -> Progress
         ensures { result ≡ busy_at tries self.again }
     {
@@ -140,7 +140,7 @@ impl Attempt {
         }
     }
 
-    /// What follows where the call was refused.
+    /// What follows if the call was refused.
     fn after_refusal(self, script: &[Action], refusal: Refusal) -> Progress
         ensures { result ≡ refused_at script.now self.again self.stage refusal }
     {

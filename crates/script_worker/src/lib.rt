@@ -3,7 +3,7 @@
 //!
 //! A script is a row of actions. An attempt at it begins a transaction, does the actions in order,
 //! and commits. Where a key's stripe is held by another, the transaction is aborted and the script
-//! attempted again, so often as is allowed; where a call is refused, the transaction is aborted and
+//! attempted again, so often as is allowed; if a call is refused, the transaction is aborted and
 //! the script is over; an action may say that it aborts. A worker says which step of its present
 //! call comes next and is told how it was answered, as `Drive` of `txn_drive` does for one call;
 //! `take_turn` does so for a whole turn, by whatever takes steps and answers them. It takes no step

@@ -16,7 +16,7 @@ pub struct Standing {
     pub number: usize,
     /// The limits of the map: as many workers as callers.
     pub limits: Limits,
-    /// The script that it is at; none where no script is left.
+    /// The script that it is at; none if no script is left.
     pub task: Option<Task>,
 }
 
@@ -32,7 +32,7 @@ impl Standing {
         }
     }
 
-    /// The next turn, at this size of the table; none where no script is left.
+    /// The next turn, at this size of the table; none if no script is left.
     pub(crate) fn turn(&mut self, size: u32) -> Option<Turn>
         ensures worker { self.new ≡ sized_by size self.old }
         ensures turn { result ≡ turn_by self.new }
@@ -96,7 +96,7 @@ impl Standing {
         self.go_on(task, scripts, tries, end)
     }
 
-    /// The worker goes on after its call has ended so; answers how its script ended, where it is
+    /// The worker goes on after its call has ended so; answers how its script ended, if it is
     /// over.
     fn go_on(&mut self, task: Task, scripts: &[Script], tries: u64, end: End) -> Option<Outcome>
         ensures worker { self.new
@@ -127,7 +127,7 @@ impl Standing {
     }
 }
 
-/// The first attempt at the script of this number, where there is one.
+/// The first attempt at the script of this number, if there is one.
 fn start(number: usize, script: usize, limits: Limits, scripts: &[Script]) -> Option<Task>
     ensures { result ≡ started limits.half scripts.now number script }
 {

@@ -75,7 +75,7 @@ impl Worker {
     }
 
     /// The next turn, of one step or of two, at the size that the table has at this moment; none
-    /// where the worker is not live.
+    /// if the worker is not live.
     ///
     /// # Cost
     ///

@@ -12,7 +12,7 @@ use txn_trace::{Entry, PackedEntry};
 /// Judges a whole history, whose callers are below 64, by the order of its commits.
 ///
 /// The verdict is `Legal`, with the number of commits and of callers that are in a transaction at
-/// the end, just where the history is serializable in that order. Otherwise it is `Illegal`, with
+/// the end, just if the history is serializable in that order. Otherwise it is `Illegal`, with
 /// the index of the first entry that breaks a rule, from 0, and the rule: shape, or replies, for
 /// which the entry is the Committed of a transaction with a wrong reply.
 ///

@@ -27,7 +27,7 @@
 //! - With `Ok` the token's last entries are one run of the work, begun from a token that has no
 //!   transaction, and its commit, with the number and the place of the receipt (`IsRun`); what came
 //!   before since the call committed nothing.
-//! - With `Err` there is no transaction where there was none before, and of what was added nothing
+//! - With `Err` there is no transaction if there was none before, and of what was added nothing
 //!   is committed (`IsUndone`). A drop says the same of the transaction that it ends (`IsTakenBack`).
 //! - A session's own promise holds of what it answers (`Session::promises`).
 //!

@@ -9,7 +9,7 @@ use std::thread;
 /// The most times in a row that a thread gives way between two tries: 2 to this power.
 const MOST: u64 = 10;
 
-/// How often a transaction is begun anew where another caller holds a stripe. Between two tries the
+/// How often a transaction is begun anew if another caller holds a stripe. Between two tries the
 /// thread gives way: once, then twice, four times and so on, up to 1,024 times in a row.
 #[derive(Clone, Copy, Debug, PartialEq, Eq)]
 pub struct Retry {

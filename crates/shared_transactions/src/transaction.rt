@@ -143,7 +143,7 @@ impl<'a, L: Ledger, R: Wait> Transaction<'a, L, R> {
         self.operate(Op::Take(key))
     }
 
-    /// Puts a value at a key exactly where the key has what is expected, a value or none, and
+    /// Puts a value at a key exactly if the key has what is expected, a value or none, and
     /// answers what it had.
     ///
     /// # Errors
@@ -245,7 +245,7 @@ impl<'a, L: Ledger, R: Wait> Transaction<'a, L, R> {
         }
     }
 
-    /// Does an operation, and grows the table where the key is new.
+    /// Does an operation, and grows the table if the key is new.
     fn operate_growing(&mut self, op: Op) -> Result<Reply, Stop>
         ensures keeps { Keeps self.old.me self.new.me }
         ensures ok { IfOk result (λ reply. self.new.me.now.seen ≡ self.old.me.now.seen

@@ -51,11 +51,11 @@ impl Key {
         Key { number }
     }
 
-    /// The key with this number, where it is one of the lower half of all keys.
+    /// The key with this number, if it is one of the lower half of all keys.
     ///
     /// # Errors
     ///
-    /// `BadKey` where the number is 2^63 or more.
+    /// `BadKey` if the number is 2^63 or more.
     ///
     /// # Cost
     ///

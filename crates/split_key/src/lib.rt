@@ -37,7 +37,7 @@
 //!
 //! A contract sees a key as its number, and the definitions stand in `specs/Split.antt` and
 //! `specs/Sort.antt`. Proved: each call gives what its definition says; two keys share a split key
-//! exactly where they agree below the top bit; different keys have different sort keys, and
+//! exactly if they agree below the top bit; different keys have different sort keys, and
 //! different buckets different split keys; the dummies of a bucket's ancestors stand before its
 //! own, and all of these before each of the bucket's keys; and a `BadKey` prints its text. No call
 //! takes memory, and each takes constant time.

@@ -20,7 +20,7 @@ fn is_refused(alloc: Global) -> bool {
     Box::new(alloc, 0).is_err()
 }
 
-/// A list and buckets on it, made once more where memory is refused; none where it is refused
+/// A list and buckets on it, made once more if memory is refused; none if it is refused
 /// again.
 fn home_again(alloc: Global, max: u32, helpers: u32) -> Option<Home> {
     match Home::new(alloc, 0, max, helpers) {
@@ -29,7 +29,7 @@ fn home_again(alloc: Global, max: u32, helpers: u32) -> Option<Home> {
     }
 }
 
-/// Puts a key, once more where memory is refused, which leaves the list. The answer is whether the
+/// Puts a key, once more if memory is refused, which leaves the list. The answer is whether the
 /// key is there now.
 fn has_put(rt: &impl Abort, home: &mut Home, number: u64) -> bool {
     let before = home.figures();
@@ -85,7 +85,7 @@ const DOUBLINGS: [(Call, Answer); 3] = [
     (Call::Double(4), Answer::Double(Double::Light)),
 ];
 
-/// A table of largest size 8 for two helpers, with keys 1 to 5 at size 4; none where memory is
+/// A table of largest size 8 for two helpers, with keys 1 to 5 at size 4; none if memory is
 /// refused still.
 fn five_keys(rt: &impl Abort, alloc: Global) -> Option<Home> {
     let mut home = home_again(alloc, 8, 2)?;
@@ -134,14 +134,14 @@ const INITIALISED: [(Call, Answer); 16] = [
     (Call::Seek(1, 3), Answer::Seek(Ok(InitSeek::Ready))),
 ];
 
-/// The five keys, with buckets 1 and 3 initialised; none where memory is refused still.
+/// The five keys, with buckets 1 and 3 initialised; none if memory is refused still.
 fn initialised(rt: &impl Abort, alloc: Global) -> Option<Home> {
     let mut home = five_keys(rt, alloc)?;
     make_all(rt, &mut home, &INITIALISED);
     Some(home)
 }
 
-/// Is to be run with allocations refused: only where memory is refused still are there fewer keys,
+/// Is to be run with allocations refused: only if memory is refused still are there fewer keys,
 /// or no table.
 #[test]
 fn bucket_initialisation(rt: HostRuntime) {
@@ -259,8 +259,8 @@ fn home_with_spares(alloc: Global, spares: u32) -> Result<Home, Fail> {
     Ok(home)
 }
 
-/// Initialises bucket 1. Where memory is refused to the link, buckets and list are as they were,
-/// and it is done again: where it is refused once more, the test gives up.
+/// Initialises bucket 1. If memory is refused to the link, buckets and list are as they were,
+/// and it is done again: if it is refused once more, the test gives up.
 fn initialise_1(rt: &impl Abort, home: &mut Home) -> Result<(), Fail> {
     let seen = home.figures();
     assert!(rt; home.make(Call::Seek(0, 1)) == Answer::Seek(Ok(InitSeek::Placed)));

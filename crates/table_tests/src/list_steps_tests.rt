@@ -524,7 +524,7 @@ fn dummy_of_1(list: &mut NodeList) -> Result<NodeRef, Fail> {
     link_here(list, &cursor, spare)
 }
 
-/// Sweeps from a dummy where no marked node may stand before it, and else from the head.
+/// Sweeps from a dummy if no marked node may stand before it, and else from the head.
 fn sweep_from_dummy(list: &mut NodeList, dummy: NodeRef) -> SweepOutcome {
     if let Some(split) = list.marks_begin() {
         let bucket = bucket_at(split, 8);

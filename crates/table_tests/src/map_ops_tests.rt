@@ -161,7 +161,7 @@ fn withdrawn(table: &mut Table, op: Op) -> Result<(Op, u64), Refusal> {
     Ok(seen)
 }
 
-/// The pairs of a table, which are asked for once more where memory is refused.
+/// The pairs of a table, which are asked for once more if memory is refused.
 fn pairs_of(alloc: Global, table: &Table) -> Result<Vec<(u64, u64)>, AllocError> {
     match table.regular_list(alloc) {
         Ok(pairs) => Ok(pairs),
@@ -169,7 +169,7 @@ fn pairs_of(alloc: Global, table: &Table) -> Result<Vec<(u64, u64)>, AllocError>
     }
 }
 
-/// The content of a table, which is asked for once more where memory is refused.
+/// The content of a table, which is asked for once more if memory is refused.
 fn content_of(alloc: Global, table: &Table) -> Result<BTreeMap<u64, u64>, AllocError> {
     match table.content(alloc) {
         Ok(content) => Ok(content),
@@ -190,7 +190,7 @@ fn has_pairs(alloc: Global, table: &Table, wanted: &[(u64, u64)]) -> Result<bool
     Ok(is_whole && pairs_of(alloc, table)?.as_slice() == wanted)
 }
 
-/// The pair of a rank, where the content and the count say the same as the list of pairs.
+/// The pair of a rank, if the content and the count say the same as the list of pairs.
 fn pair_of_rank(alloc: Global, table: &Table, rank: usize) -> Result<Answer, Fail> {
     let pairs = pairs_of(alloc, table)?;
     if !has_pairs(alloc, table, &pairs)? {
@@ -214,7 +214,7 @@ fn put_with_job(
     Ok(reply)
 }
 
-/// Whether a job is due where its key has this value.
+/// Whether a job is due if its key has this value.
 fn is_due(value: Reply, job: &MapJob) -> bool
     ensures { (m : Map) → get m (key_of_job job.now) ≡ value → result ≡ true → IsDue m job.now }
 {
@@ -225,7 +225,7 @@ fn is_due(value: Reply, job: &MapJob) -> bool
     }
 }
 
-/// Takes a change back, where it is due.
+/// Takes a change back, if it is due.
 fn take_back(table: &mut Table, job: MapJob) -> Result<(), Fail>
     requires { OwnsIf table.old (spare_of_job job) }
 {
@@ -664,7 +664,7 @@ fn second_and_third() -> &'static [(u64, u64)] {
     PAIRS.get(1..3).unwrap_or(&PAIRS)
 }
 
-/// A table of two buckets that cannot grow, asked for once more where memory is refused.
+/// A table of two buckets that cannot grow, asked for once more if memory is refused.
 fn table_again(alloc: Global) -> Result<Table, AllocError> {
     match small_table(alloc) {
         Ok(table) => Ok(table),
@@ -672,7 +672,7 @@ fn table_again(alloc: Global) -> Result<Table, AllocError> {
     }
 }
 
-/// Puts a new key. Where memory is refused, the table is as it was, with these pairs, and the put
+/// Puts a new key. If memory is refused, the table is as it was, with these pairs, and the put
 /// is done when it is asked again.
 fn put_again(
     rt: &impl Abort,
@@ -694,7 +694,7 @@ fn put_again(
     Ok(())
 }
 
-/// A table with these pairs, which were put in their order, each once more where memory was refused
+/// A table with these pairs, which were put in their order, each once more if memory was refused
 /// to it.
 fn table_of(rt: &impl Abort, alloc: Global, pairs: &[(u64, u64)]) -> Result<Table, Fail> {
     let mut table = table_again(alloc)?;
@@ -712,7 +712,7 @@ fn refused_memory_for_puts(rt: HostRuntime) -> Result<(), Fail> {
     shows(&rt, rt.alloc(), &table, &PAIRS)
 }
 
-/// Prepares a put of key 6, and then a take of key 2, which is done. Where memory is refused to it,
+/// Prepares a put of key 6, and then a take of key 2, which is done. If memory is refused to it,
 /// the table is as it was, and the put is done. The answer is the pairs of the table.
 fn do_second(
     rt: &impl Abort,

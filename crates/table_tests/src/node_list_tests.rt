@@ -4,7 +4,7 @@ use split_key::{Key, SortKey};
 use std::alloc::{AllocError, Global};
 use std::test::Fail;
 
-/// A list whose first node has this stamp, asked for once more where memory is refused.
+/// A list whose first node has this stamp, asked for once more if memory is refused.
 fn list_again(alloc: Global, first_stamp: u64) -> Result<NodeList, Fail> {
     if first_stamp == u64::MAX {
         return Err("no stamp".into());

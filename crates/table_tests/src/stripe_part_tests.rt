@@ -81,7 +81,7 @@ fn draw_op(draws: &mut Draws, keys: u64) -> Op {
     }
 }
 
-/// Does an operation; where memory is refused, the part is unchanged and is asked once more.
+/// Does an operation; if memory is refused, the part is unchanged and is asked once more.
 fn apply_again(rt: &impl Abort, alloc: Global, part: &mut Part, op: Op) -> Result<Reply, Fail> {
     let seen = (part.len(), part.changes());
     match part.apply(alloc, op) {
@@ -97,7 +97,7 @@ fn apply_again(rt: &impl Abort, alloc: Global, part: &mut Part, op: Op) -> Resul
     }
 }
 
-/// The pairs of a part, asked for once more where memory is refused.
+/// The pairs of a part, asked for once more if memory is refused.
 fn pairs_of(alloc: Global, part: &Part) -> Result<Vec<(u64, u64)>, AllocError> {
     match part.pairs(alloc) {
         Ok(pairs) => Ok(pairs),

@@ -31,7 +31,7 @@ fn is_refused(alloc: Global) -> bool {
     Box::new(alloc, 0).is_err()
 }
 
-/// Whether it pushed the job, having asked twice for room where memory is refused once.
+/// Whether it pushed the job, having asked twice for room if memory is refused once.
 fn is_pushed(rt: &impl Abort, log: &mut UndoLog<Raised>, number: u64) -> bool {
     let jobs = log.len();
     if log.reserve_one().is_err() {
@@ -45,7 +45,7 @@ fn is_pushed(rt: &impl Abort, log: &mut UndoLog<Raised>, number: u64) -> bool {
     true
 }
 
-/// Makes a savepoint, and asks twice where memory is refused once.
+/// Makes a savepoint, and asks twice if memory is refused once.
 fn save(rt: &impl Abort, log: &mut UndoLog<Raised>) -> Option<usize> {
     let level = log.level();
     if let Ok(saved) = log.save() {
@@ -57,7 +57,7 @@ fn save(rt: &impl Abort, log: &mut UndoLog<Raised>) -> Option<usize> {
 }
 
 /// Takes out the newest job above a level and runs it on its count, which it takes back by one.
-/// None where there is no such job, or one of another count.
+/// None if there is no such job, or one of another count.
 fn run_newest(log: &mut UndoLog<Raised>, level: usize, count: u64) -> Option<u64> {
     if level > log.level() {
         return None;
@@ -271,7 +271,7 @@ fn a_register(words: [u64; 4]) -> Register
     Register { words }
 }
 
-/// Sets the words, and asks twice where memory is refused once. None where it is refused still.
+/// Sets the words, and asks twice if memory is refused once. None if it is refused still.
 fn set(rt: &impl Abort, side: &mut SideValue<Register>, words: [u64; 4]) -> Option<()> {
     let before = side.words();
     let job = WordsJob {
@@ -286,7 +286,7 @@ fn set(rt: &impl Abort, side: &mut SideValue<Register>, words: [u64; 4]) -> Opti
     side.change(change, job).ok()
 }
 
-/// Makes a savepoint, and asks twice where memory is refused once.
+/// Makes a savepoint, and asks twice if memory is refused once.
 fn save_side(rt: &impl Abort, side: &mut SideValue<Register>) -> Option<usize> {
     let level = side.level();
     if let Ok(saved) = side.save() {
@@ -306,7 +306,7 @@ fn words_back(rt: &impl Abort, side: &mut SideValue<Register>, level: usize) -> 
 }
 
 /// The words after a change, a savepoint and two more changes, and back at the savepoint; none
-/// where one of them is refused memory twice.
+/// if one of them is refused memory twice.
 fn words_there(rt: &impl Abort, side: &mut SideValue<Register>) -> Option<[[u64; 4]; 2]> {
     set(rt, side, [1, 0, 0, 0])?;
     assert!(rt; save_side(rt, side)? == 1);

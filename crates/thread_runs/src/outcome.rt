@@ -1,3 +1,5 @@
+//! How a script ended. It stands apart, since the account of a worker and the contract of a run
+//! both speak of it.
 use txn_trace::{Refusal, Reply};
 
 /// How a script ended.

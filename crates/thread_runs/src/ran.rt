@@ -1,3 +1,4 @@
+//! What a run of scripts comes to: an outcome a script, and the history.
 use crate::outcome::Outcome;
 use txn_trace::Entry;
 

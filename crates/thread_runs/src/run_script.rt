@@ -130,7 +130,7 @@ impl Heard {
     }
 }
 
-/// Lets other threads go on where a stripe was held, so that its holder can end before the stripe
+/// Lets other threads go on if a stripe was held, so that its holder can end before the stripe
 /// is asked for again.
 fn give_way(end: End) {
     if let End::Busy(_) = end {

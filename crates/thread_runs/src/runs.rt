@@ -22,7 +22,7 @@ use txn_trace::{Limits, Refusal, Script};
 /// script that found a stripe held is tried again at most `tries` times, and other threads are let
 /// go on before.
 ///
-/// With `Ok` the history is legal, where a Busy may name any other worker that has begun a
+/// With `Ok` the history is legal, if a Busy may name any other worker that has begun a
 /// transaction; each of its entries is of one of these workers; and each script has one outcome,
 /// which is true of the history:
 ///
@@ -37,9 +37,9 @@ use txn_trace::{Limits, Refusal, Script};
 ///
 /// # Errors
 ///
-/// - `NoMemory` where memory is refused, before the threads or for what they answer.
-/// - `NoThread` where a thread was not started; the workers that were started finish.
-/// - `OutOfStep` where what the workers saw is not the history.
+/// - `NoMemory` if memory is refused, before the threads or for what they answer.
+/// - `NoThread` if a thread was not started; the workers that were started finish.
+/// - `OutOfStep` if what the workers saw is not the history.
 ///
 /// # Cost
 ///

@@ -30,7 +30,7 @@ pub(crate) struct Shared<L: Ledger> {
     parts: Parts<L>,
 }
 
-/// A new map, and the passes of its callers; none where memory is refused.
+/// A new map, and the passes of its callers; none if memory is refused.
 pub(crate) fn open<L: Ledger>(
     alloc: Global,
     blank: Blank,
@@ -75,7 +75,7 @@ pub(crate) fn play_with<P: Play, R: Wait + Abort>(
     Err("no memory for a map".into())
 }
 
-/// Plays it on such a map, for which it asks once more where memory is refused. Where it is refused
+/// Plays it on such a map, for which it asks once more if memory is refused. Where it is refused
 /// still, there is nothing to play with.
 pub(crate) fn play_where_made<P: Play, R: Wait + Abort>(
     rt: &R,
@@ -127,7 +127,7 @@ pub(crate) fn is_refused(alloc: Global) -> bool {
     Box::new(alloc, 0).is_err()
 }
 
-/// The callers of the passes, without side values. Asks once more where memory is refused.
+/// The callers of the passes, without side values. Asks once more if memory is refused.
 pub(crate) fn callers_of<L: Ledger>(
     alloc: Global,
     passes: Vec<Pass<L>>,
@@ -240,7 +240,7 @@ fn operate<L: Ledger, R: Wait>(
     }
 }
 
-/// Where a map does not close: it and its callers, where one of these is missing.
+/// Where a map does not close: it and its callers, if one of these is missing.
 pub(crate) type Missing<L, S> = Option<(Shared<L>, Vec<Caller<L, S>>)>;
 
 /// Closes a map.
@@ -270,7 +270,7 @@ pub(crate) fn close<L: Ledger, S: Side>(
     }
 }
 
-/// What the checker says of a history of so many stripes; none where that has an entry of a caller
+/// What the checker says of a history of so many stripes; none if that has an entry of a caller
 /// that the checker does not take.
 pub(crate) fn judge(
     alloc: Global,

@@ -23,7 +23,7 @@ struct Stripes {
     ghost sized: { length locks ≡ count },
 }
 
-/// So many free stripes; asks twice where memory is refused once.
+/// So many free stripes; asks twice if memory is refused once.
 fn free_stripes(alloc: Global, count: usize) -> Result<Stripes, AllocError> {
     if let Ok(locks) = KeyLocks::new(alloc, count) {
         return Ok(Stripes { locks, count });

@@ -122,8 +122,8 @@ fn callers_of(alloc: Global, stripes: usize, count: usize) -> Result<Vec<Keeping
     Ok(all)
 }
 
-/// Takes a stripe, and answers the word that it found: 0 where the stripe is granted, by its own
-/// right. None where there is no such stripe, or the right is another's.
+/// Takes a stripe, and answers the word that it found: 0 if the stripe is granted, by its own
+/// right. None if there is no such stripe, or the right is another's.
 fn take(seated: &mut Seated, stripe: usize) -> Option<u64> {
     if stripe >= seated.stripes {
         return None;
@@ -206,8 +206,8 @@ fn is_answered(caller: &mut Keeping, turn: Turn) -> Result<bool, AllocError> {
     })
 }
 
-/// A take answers the place of the right where the caller has the stripe, the next place where the
-/// stripe is free, and one more than the other caller's number where that one has it.
+/// A take answers the place of the right if the caller has the stripe, the next place where the
+/// stripe is free, and one more than the other caller's number if that one has it.
 #[test]
 fn rights_of_two_callers(rt: HostRuntime) -> Result<(), Fail> {
     let mut callers = callers_of(rt.alloc(), 8, 2)?;

@@ -4,7 +4,7 @@
 //! A call on a transactional map is a row of steps, each taken under a lock of its own. A drive
 //! says which step comes next, is told how it was answered, and says at last how the call ended. It
 //! takes no lock, no memory and no step itself. So an operation is asked for, its place sought, and
-//! acted on; where the place no longer fits it is sought anew; a call that goes back takes back one
+//! acted on; if the place no longer fits it is sought anew; a call that goes back takes back one
 //! change after the other; and a helper initialises a bucket after its ancestors, as
 //! `initialize_bucket` does in Shalev and Shavit, "Split-Ordered Lists: Lock-Free Extensible Hash
 //! Tables" (Journal of the ACM 53, 2006).

@@ -17,7 +17,7 @@ pub(crate) const PATIENCE: u8 = 8;
 pub enum Turn {
     /// It takes this step, and is told the answer.
     One(Step),
-    /// It takes the first step and is told the answer, and where that is `placed` it takes the
+    /// It takes the first step and is told the answer, and if that is `placed` it takes the
     /// second step in the same turn and is told the answer.
     Two(Step, Step),
     /// It takes no step any more.
@@ -25,12 +25,12 @@ pub enum Turn {
 }
 
 impl Turn {
-    /// Takes the turn's steps by `step`, which answers each; of two the second only where the first
+    /// Takes the turn's steps by `step`, which answers each; of two the second only if the first
     /// was answered `placed`. Whoever drives the call tells it each answer.
     ///
     /// # Cost
     ///
-    /// That of one or two calls of `step`; none where the call has ended.
+    /// That of one or two calls of `step`; none if the call has ended.
     pub fn take<F: FnMut(Step) -> Answer>(self, step: &mut F)
         requires { MayTake (λ f s. F.pre f s) (λ f s answer g. F.step f s answer g) step.old self }
         ensures { HasTaken (λ f s answer g. F.step f s answer g) step.old self step.new }

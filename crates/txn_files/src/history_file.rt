@@ -207,15 +207,15 @@ fn entries_in(
 ///
 /// The first of these, in this order:
 ///
-/// - `Limit` where there are more than 16,777,216 bytes.
-/// - `NotJson` where they are no JSON as `piece_files::read_file` takes it.
-/// - `Member` where the value is no object or one of the three members, in the order above, is
+/// - `Limit` if there are more than 16,777,216 bytes.
+/// - `NotJson` if they are no JSON as `piece_files::read_file` takes it.
+/// - `Member` if the value is no object or one of the three members, in the order above, is
 ///   missing or of the wrong kind.
 /// - `Piece` for the first entry that is none, or in version 1 has a `put_if`.
-/// - `Limit` where the version is not 1 to 3, the stripes are not 1 to 4,096, a caller or the
+/// - `Limit` if the version is not 1 to 3, the stripes are not 1 to 4,096, a caller or the
 ///   holder that an entry names is above 63, or there are more than 1,000,000 entries.
 ///
-/// `NoMemory` where memory is refused. It can come in place of any answer.
+/// `NoMemory` if memory is refused. It can come in place of any answer.
 ///
 /// # Cost
 ///
@@ -233,7 +233,7 @@ pub fn read_history(alloc: Global, bytes: &[u8]) -> Result<(u32, Vec<Entry>, u64
 ///
 /// # Errors
 ///
-/// `AllocError` where memory is refused.
+/// `AllocError` if memory is refused.
 fn unpacked(alloc: Global, packed: &[PackedEntry]) -> Result<Vec<Entry>, AllocError>
     ensures { IfOk result (λ entries. entries.items ≡ packed.now) }
 {

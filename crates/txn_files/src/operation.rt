@@ -101,11 +101,11 @@ fn put_named(text: &mut String, name: &str, number: u64) -> Result<(), AllocErro
 ///
 /// # Errors
 ///
-/// `AllocError` where memory is refused.
+/// `AllocError` if memory is refused.
 ///
 /// # Cost
 ///
-/// Amortized constant time; takes memory only where the text has no room.
+/// Amortized constant time; takes memory only if the text has no room.
 pub fn put_op(text: &mut String, op: Op) -> Result<(), AllocError>
     ensures { OnOk result (string_bytes text.new
         ≡ string_bytes text.old ++ join_with_byte comma (elements_of_op op)) }

@@ -186,16 +186,16 @@ fn work_in(version: u64, numbers: [u64; 4], scripts: Vec<Script>) -> Result<Scri
 ///
 /// The first of these, in this order:
 ///
-/// - `Limit` where there are more than 16,777,216 bytes.
-/// - `NotJson` where they are no JSON as `piece_files::read_file` takes it.
-/// - `Member` where the value is no object or one of the six members, in the order above, is
+/// - `Limit` if there are more than 16,777,216 bytes.
+/// - `NotJson` if they are no JSON as `piece_files::read_file` takes it.
+/// - `Member` if the value is no object or one of the six members, in the order above, is
 ///   missing or of the wrong kind.
 /// - `Piece` for the first script that is none, or in version 1 has a `put_if`, with its index.
-/// - `Limit` where the version is not 1 or 2, `Limits::new` refuses the numbers with the workers as
+/// - `Limit` if the version is not 1 or 2, `Limits::new` refuses the numbers with the workers as
 ///   callers, the tries are above 1,000, there are more than 10,000 scripts, or one of them has
 ///   more than 10,000 actions.
 ///
-/// `NoMemory` where memory is refused. It can come in place of any answer.
+/// `NoMemory` if memory is refused. It can come in place of any answer.
 ///
 /// # Cost
 ///

@@ -135,7 +135,7 @@ const MAX_RUN_VERSION: u64 = 2;
 ///
 /// # Errors
 ///
-/// `Limit` where the version is above 2, or `Limits::new` refuses the numbers.
+/// `Limit` if the version is above 2, or `Limits::new` refuses the numbers.
 ///
 /// # Cost
 ///
@@ -187,15 +187,15 @@ fn steps_in(
 ///
 /// The first of these, in this order:
 ///
-/// - `Limit` where there are more than 16,777,216 bytes.
-/// - `NotJson` where they are no JSON as `piece_files::read_file` takes it.
-/// - `Member` where the value is no object or one of the five members, in the order above, is
+/// - `Limit` if there are more than 16,777,216 bytes.
+/// - `NotJson` if they are no JSON as `piece_files::read_file` takes it.
+/// - `Member` if the value is no object or one of the five members, in the order above, is
 ///   missing or of the wrong kind.
 /// - `Piece` for the first step that is none, or in version 1 a `put_if`.
-/// - `Limit` where the version is not 1 or 2, `Limits::new` refuses the numbers, or there are more
+/// - `Limit` if the version is not 1 or 2, `Limits::new` refuses the numbers, or there are more
 ///   than 1,000,000 steps.
 ///
-/// `NoMemory` where memory is refused. It can come in place of any answer.
+/// `NoMemory` if memory is refused. It can come in place of any answer.
 ///
 /// # Cost
 ///

@@ -123,11 +123,11 @@ fn put_entries(text: &mut String, entries: &[Entry]) -> Result<(), AllocError>
 
 /// A history as compact JSON: an object with its entries, its stripes and the version of the file,
 /// in this order, as `{"entries":[["began",0,1]],"stripes":8,"version":1}`, with no line feed.
-/// `read_history` reads it where it is in range, in version 1 where it has no `put_if`.
+/// `read_history` reads it if it is in range, in version 1 if it has no `put_if`.
 ///
 /// # Errors
 ///
-/// `AllocError` where memory is refused.
+/// `AllocError` if memory is refused.
 ///
 /// # Cost
 ///

@@ -119,7 +119,7 @@ impl fmt::Display for Answer {
 ///
 /// # Errors
 ///
-/// `AllocError` where memory is refused.
+/// `AllocError` if memory is refused.
 ///
 /// # Cost
 ///

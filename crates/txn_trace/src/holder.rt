@@ -7,7 +7,7 @@ pub enum Holder {
     /// One whose open transaction has asked for a key of the stripe: so it is where the entry is
     /// noted at the same moment as the stripe is looked at.
     Now,
-    /// One that has begun a transaction before, open or over: so it is where a stripe is looked at
+    /// One that has begun a transaction before, open or over: so it is if a stripe is looked at
     /// first and the entry noted later, since its holder may have ended in between.
     Begun,
 }

@@ -52,7 +52,7 @@ impl Limits {
     ///
     /// # Errors
     ///
-    /// `Refusal::Limit` where a number is out of range.
+    /// `Refusal::Limit` if a number is out of range.
     ///
     /// # Cost
     ///

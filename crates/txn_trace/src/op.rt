@@ -13,7 +13,7 @@ pub enum Op {
     Take(u64),
     /// Looks a key up.
     Get(u64),
-    /// Puts a value at a key exactly where the key has what is expected, a value or none: the key,
+    /// Puts a value at a key exactly if the key has what is expected, a value or none: the key,
     /// what is expected, the value.
     PutIf(u64, Option<u64>, u64),
 }

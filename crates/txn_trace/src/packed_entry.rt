@@ -157,7 +157,7 @@ impl PackedEntry {
     }
 }
 
-/// Which operation it is, its key, its value and what it expects; 0 where it has none.
+/// Which operation it is, its key, its value and what it expects; 0 if it has none.
 fn parts_of(op: Op) -> (OpKind, u64, u64, u64)
     ensures { packed_op result.0 result.1 result.2 result.3 ≡ op }
 {

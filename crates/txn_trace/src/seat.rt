@@ -91,7 +91,7 @@ impl Seat {
         self.savepoints.len() as u64
     }
 
-    /// How many changes stood at a level: none at level 0. `None` where there is no such level.
+    /// How many changes stood at a level: none at level 0. `None` if there is no such level.
     ///
     /// # Cost
     ///
@@ -190,7 +190,7 @@ impl Seat {
         }
     }
 
-    /// How many changes stood at a level, or 0 where there is no such level.
+    /// How many changes stood at a level, or 0 if there is no such level.
     fn kept_at(&self, level: u64) -> u64
         ensures { result ≡ slice_index self.now.seat.kept level }
     {
@@ -222,11 +222,11 @@ impl Seat {
     ///
     /// # Errors
     ///
-    /// `AllocError` where there is no room and memory is refused.
+    /// `AllocError` if there is no room and memory is refused.
     ///
     /// # Cost
     ///
-    /// Amortized constant time; takes memory only where there is no room.
+    /// Amortized constant time; takes memory only if there is no room.
     pub fn reserve_level(&mut self) -> Result<(), AllocError>
         ensures seat { self.new.seat ≡ self.old.seat }
         ensures room { self.old.room ≤ self.new.room }

@@ -22,7 +22,7 @@ pub enum Step {
     /// reserved.
     ///
     /// Refused, in this order: `NoSuchCaller`, `NotOpen`, `Leaving`, `OperationUnfinished`,
-    /// `BadKey`; then `NoMemory` or, where the operation takes a node, `StampsUsedUp`.
+    /// `BadKey`; then `NoMemory` or, if the operation takes a node, `StampsUsedUp`.
     Ask(u64, Op),
     /// Seeks the place of the operation that was asked for, or of the newest change to take back.
     ///
@@ -61,14 +61,14 @@ pub enum Step {
     InitSeek(u64, u64),
     /// A helper links the dummy at the place that it sought.
     ///
-    /// Refused, in this order: `NoSuchHelper`, `HelperOutOfOrder`; then, where the dummy is not
+    /// Refused, in this order: `NoSuchHelper`, `HelperOutOfOrder`; then, if the dummy is not
     /// linked yet, `StampsUsedUp`, `NoMemory`.
     InitLink(u64),
     /// A helper stores its dummy, with which the bucket is initialised.
     ///
     /// Refused, in this order: `NoSuchHelper`, `HelperOutOfOrder`.
     InitStore(u64),
-    /// Doubles the size, where it is still the one named.
+    /// Doubles the size, if it is still the one named.
     ///
     /// Never refused.
     Double(u64),

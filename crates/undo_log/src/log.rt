@@ -104,12 +104,12 @@ impl<S: JobStore> JobLog<S> {
     ///
     /// # Errors
     ///
-    /// `AllocError` where memory is refused, and only where there was no room, so never while fewer
+    /// `AllocError` if memory is refused, and only if there was no room, so never while fewer
     /// than `S.inline` jobs are there. Then nothing has changed.
     ///
     /// # Cost
     ///
-    /// Amortized constant time; takes memory only where there is no room.
+    /// Amortized constant time; takes memory only if there is no room.
     pub fn reserve_one(&mut self) -> Result<(), AllocError>
         ensures jobs { self.new.jobs ≡ self.old.jobs }
         ensures kept { self.new.kept ≡ self.old.kept }
@@ -142,12 +142,12 @@ impl<S: JobStore> JobLog<S> {
     ///
     /// # Errors
     ///
-    /// `AllocError` where memory is refused, and only where there was no room. Then nothing has
+    /// `AllocError` if memory is refused, and only if there was no room. Then nothing has
     /// changed.
     ///
     /// # Cost
     ///
-    /// Amortized constant time; takes memory only where there is no room.
+    /// Amortized constant time; takes memory only if there is no room.
     pub fn save_room(&mut self) -> Result<(), AllocError>
         ensures jobs { self.new.jobs ≡ self.old.jobs }
         ensures kept { self.new.kept ≡ self.old.kept }
@@ -168,12 +168,12 @@ impl<S: JobStore> JobLog<S> {
     ///
     /// # Errors
     ///
-    /// `AllocError` where memory is refused, and only where there was no room for a savepoint. Then
+    /// `AllocError` if memory is refused, and only if there was no room for a savepoint. Then
     /// nothing has changed.
     ///
     /// # Cost
     ///
-    /// Amortized constant time; takes memory only where there is no room for a savepoint.
+    /// Amortized constant time; takes memory only if there is no room for a savepoint.
     pub fn save(&mut self) -> Result<usize, AllocError>
         ensures jobs { self.new.jobs ≡ self.old.jobs }
         ensures room { self.new.room ≡ self.old.room }

@@ -84,13 +84,13 @@ impl<S: Side> SideValue<S> {
     ///
     /// # Errors
     ///
-    /// `AllocFailed` where memory is refused, and only where there was no room for a change. Then
+    /// `AllocFailed` if memory is refused, and only if there was no room for a change. Then
     /// `change` was not called, nothing has changed, and the error's `value` is the change and the
     /// job that were handed in.
     ///
     /// # Cost
     ///
-    /// One call of `change`, and amortized constant time beside it; takes memory only where there
+    /// One call of `change`, and amortized constant time beside it; takes memory only if there
     /// is no room for a change.
     pub fn change<F: FnOnce(S) -> S>(
         &mut self,
@@ -132,12 +132,12 @@ impl<S: Side> SideValue<S> {
     ///
     /// # Errors
     ///
-    /// `AllocError` where memory is refused, and only where there was no room. Then nothing has
+    /// `AllocError` if memory is refused, and only if there was no room. Then nothing has
     /// changed.
     ///
     /// # Cost
     ///
-    /// Amortized constant time; takes memory only where there is no room.
+    /// Amortized constant time; takes memory only if there is no room.
     pub fn save_room(&mut self) -> Result<(), AllocError>
         ensures value { self.new.value ≡ self.old.value }
         ensures levels { self.new.levels ≡ self.old.levels }
@@ -157,12 +157,12 @@ impl<S: Side> SideValue<S> {
     ///
     /// # Errors
     ///
-    /// `AllocError` where memory is refused, and only where there was no room for a savepoint. Then
+    /// `AllocError` if memory is refused, and only if there was no room for a savepoint. Then
     /// nothing has changed.
     ///
     /// # Cost
     ///
-    /// Amortized constant time; takes memory only where there is no room for a savepoint.
+    /// Amortized constant time; takes memory only if there is no room for a savepoint.
     pub fn save(&mut self) -> Result<usize, AllocError>
         ensures value { self.new.value ≡ self.old.value }
         ensures number { IfOk result (λ level. level ≡ length self.old.levels) }

@@ -37,12 +37,12 @@ pub trait JobStore: Drop {
     ///
     /// # Errors
     ///
-    /// `AllocError` where memory is refused, and only where there was no room. Then nothing has
+    /// `AllocError` if memory is refused, and only if there was no room. Then nothing has
     /// changed.
     ///
     /// # Cost
     ///
-    /// Amortized constant time; takes memory only where there is no room.
+    /// Amortized constant time; takes memory only if there is no room.
     fn reserve_one(&mut self) -> Result<(), AllocError>
         ensures jobs { jobs_of self.new ≡ jobs_of self.old }
         ensures ok { OnOk result (0 < room_of self.new) }

@@ -89,7 +89,7 @@ impl<L: Ledger> Visitor<L> {
 ///
 /// # Errors
 ///
-/// `CallersMissing` where there are more visits than passes, `NoMemory` where memory is refused.
+/// `CallersMissing` if there are more visits than passes, `NoMemory` if memory is refused.
 fn visitors_of<L: Ledger>(
     alloc: Global,
     mut passes: Vec<Pass<L>>,
@@ -133,8 +133,8 @@ fn unzip<L: Ledger>(
 ///
 /// # Errors
 ///
-/// `NoMemory` where memory is refused, `CallersMissing` where there are more visits than callers,
-/// `OutOfStep` where the map does not close, as with fewer visits than callers.
+/// `NoMemory` if memory is refused, `CallersMissing` if there are more visits than callers,
+/// `OutOfStep` if the map does not close, as with fewer visits than callers.
 ///
 /// # Cost
 ///

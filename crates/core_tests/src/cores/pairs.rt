@@ -60,7 +60,7 @@ struct Compared {
 }
 
 /// Takes a step of a caller. A place that no longer fits is sought anew at once: that may be wanted
-/// only where the other caller, whose step was the last, came between.
+/// only if the other caller, whose step was the last, came between.
 fn take_anew(
     rt: &impl Abort,
     core: &mut Core,

@@ -15,8 +15,8 @@ fn figures(core: &Core) -> (usize, (u32, u64), usize) {
     (trace_of(core).len(), sizes_of(core), owed_by(core))
 }
 
-/// Takes a step. Where it is refused memory, all is as it was before, and the answer is false. The
-/// pairs are compared where there is memory for their lists.
+/// Takes a step. If it is refused memory, all is as it was before, and the answer is false. The
+/// pairs are compared if there is memory for their lists.
 fn try_step(
     rt: &impl Abort,
     alloc: Global,
@@ -63,7 +63,7 @@ fn steps_of(caller: u64, op: Op, reply: Reply) -> [(Step, Answer); 3] {
     ]
 }
 
-/// A caller begins and puts; false where memory is refused.
+/// A caller begins and puts; false if memory is refused.
 fn begin_and_put(
     rt: &impl Abort,
     alloc: Global,
@@ -78,7 +78,7 @@ fn begin_and_put(
     )
 }
 
-/// A caller puts once more and takes; false where memory is refused.
+/// A caller puts once more and takes; false if memory is refused.
 fn put_and_take(
     rt: &impl Abort,
     alloc: Global,
@@ -91,7 +91,7 @@ fn put_and_take(
     Ok(try_steps(rt, alloc, core, &put)? && try_steps(rt, alloc, core, &take)?)
 }
 
-/// Five callers begin and change a key each three times; false where memory is refused.
+/// Five callers begin and change a key each three times; false if memory is refused.
 fn change_five(rt: &impl Abort, alloc: Global, core: &mut Core) -> Result<bool, Fail> {
     for caller in 0..5 {
         if !begin_and_put(rt, alloc, core, caller)? {
@@ -106,7 +106,7 @@ fn change_five(rt: &impl Abort, alloc: Global, core: &mut Core) -> Result<bool, 
     Ok(true)
 }
 
-/// Sees that five keys have this value. The pairs are compared where there is memory for their
+/// Sees that five keys have this value. The pairs are compared if there is memory for their
 /// list, and else counted.
 fn has_five(rt: &impl Abort, alloc: Global, core: &Core, value: u64) {
     assert_eq!(rt; sizes_of(core), (2, 5));
@@ -183,7 +183,7 @@ fn play_five(rt: &impl Abort, alloc: Global, core: &mut Core) -> Result<(), Fail
     Ok(())
 }
 
-/// Where memory is refused every caller aborts, for which none is wanted. Without a core there is
+/// If memory is refused every caller aborts, for which none is wanted. Without a core there is
 /// nothing to show.
 #[test]
 fn five_callers_undone(rt: HostRuntime) -> Result<(), Fail> {
@@ -194,7 +194,7 @@ fn five_callers_undone(rt: HostRuntime) -> Result<(), Fail> {
     play_five(&rt, rt.alloc(), &mut core)
 }
 
-/// Takes steps, and each once more where it is refused memory; false where one is refused again.
+/// Takes steps, and each once more if it is refused memory; false if one is refused again.
 fn try_steps_twice(
     rt: &impl Abort,
     alloc: Global,
@@ -211,7 +211,7 @@ fn try_steps_twice(
     Ok(true)
 }
 
-/// Caller 0 puts 129 keys; false where a step is refused memory twice.
+/// Caller 0 puts 129 keys; false if a step is refused memory twice.
 fn put_many(rt: &impl Abort, alloc: Global, core: &mut Core) -> Result<bool, Fail> {
     if !try_steps_twice(rt, alloc, core, &[(Step::Begin(0), Answer::Began(1))])? {
         return Ok(false);
@@ -244,7 +244,7 @@ static SECOND_SEGMENT: [(Step, Answer); 12] = [
     (Step::InitSeek(0, 64), Answer::Ready),
 ];
 
-/// Fills the table and stores the bucket; or the caller aborts where a step is refused memory
+/// Fills the table and stores the bucket; or the caller aborts if a step is refused memory
 /// twice.
 fn fill_segments(rt: &impl Abort, alloc: Global, core: &mut Core) -> Result<(), Fail> {
     let is_done = put_many(rt, alloc, core)? && try_steps_twice(rt, alloc, core, &SECOND_SEGMENT)?;
@@ -258,7 +258,7 @@ fn fill_segments(rt: &impl Abort, alloc: Global, core: &mut Core) -> Result<(), 
 }
 
 /// Bucket 64 is the first of the second segment, so its store takes memory. Where a step is refused
-/// it may be taken again, and where it is refused again the caller aborts, for which no memory is
+/// it may be taken again, and if it is refused again the caller aborts, for which no memory is
 /// wanted.
 #[test]
 fn segments(rt: HostRuntime) -> Result<(), Fail> {

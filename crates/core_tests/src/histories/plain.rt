@@ -316,7 +316,7 @@ impl Running {
     }
 }
 
-/// The last map of a transaction that runs alone on these values; none where it has another reply
+/// The last map of a transaction that runs alone on these values; none if it has another reply
 /// than it would have.
 fn run_alone(
     start: &Values,

@@ -103,7 +103,7 @@ fn is_among(known: &[&str], text: &str) -> bool {
     known.iter().any(|one| *one == text)
 }
 
-/// Checks that one of these texts is printed, or where memory is refused, or of a run a thread,
+/// Checks that one of these texts is printed, or if memory is refused, or of a run a thread,
 /// nothing.
 fn refuse_memory<T: Abort + Threads + Wait + Sync>(
     rt: &T,

@@ -1,4 +1,4 @@
-//! Callers whose changes are taken back in turn, where memory is refused: what the core leaves, and
+//! Callers whose changes are taken back in turn, if memory is refused: what the core leaves, and
 //! what the checker says of its history.
 
 use boost_core::Core;
@@ -190,7 +190,7 @@ fn is_refused(alloc: Global) -> bool {
     Box::new(alloc, 0).is_err()
 }
 
-/// A core of these limits; none where memory is refused.
+/// A core of these limits; none if memory is refused.
 fn core_if_made(alloc: Global, limits: Limits) -> Option<Core> {
     for _ in 0..TRIES {
         if let Ok(core) = Core::new(alloc, limits) {
@@ -221,7 +221,7 @@ fn sizes_of(core: &Core) -> (u32, u64) {
     (core.size(), core.count())
 }
 
-/// The pairs in the order of the list; none where memory is refused.
+/// The pairs in the order of the list; none if memory is refused.
 fn pairs_of(alloc: Global, core: &Core) -> Option<Vec<(u64, u64)>> {
     for _ in 0..TRIES {
         if let Ok(pairs) = core.regular_list(alloc) {
@@ -231,7 +231,7 @@ fn pairs_of(alloc: Global, core: &Core) -> Option<Vec<(u64, u64)>> {
     None
 }
 
-/// Takes a step; none where memory is refused.
+/// Takes a step; none if memory is refused.
 fn answer_if_given(rt: &impl Abort, core: &mut Core, step: Step) -> Option<Answer> {
     for _ in 0..TRIES {
         let answer = take(rt, core, step);
@@ -369,7 +369,7 @@ fn first_entries(count: usize) -> &'static [Entry] {
     ENTRIES.get(..count).unwrap_or(&ENTRIES)
 }
 
-/// Compares all that there is after these entries, the stripes only where the onlooker may look on.
+/// Compares all that there is after these entries, the stripes only if the onlooker may look on.
 fn compare(rt: &impl Abort, alloc: Global, core: &mut Core, entries: &[Entry], looks_on: bool) {
     compare_entries(rt, core, entries);
     compare_map(rt, alloc, core, entries);
@@ -453,7 +453,7 @@ fn play_all(rt: &impl Abort, alloc: Global, core: &mut Core) {
     judge(rt, alloc, core);
 }
 
-/// Has a caller begin, ask for an operation and seek; none where memory is refused.
+/// Has a caller begin, ask for an operation and seek; none if memory is refused.
 fn placed_if_given(rt: &impl Abort, core: &mut Core, caller: u64, op: Op) -> Option<Answer> {
     let began = answer_if_given(rt, core, Step::Begin(caller))?;
     assert!(rt; matches!(began, Answer::Began(_)));
@@ -505,7 +505,7 @@ fn play_on_core(rt: &impl Abort, alloc: Global, callers: u64, is_all: bool) -> R
 
 /// Is to be run with allocations refused: one, eight in a row, or all from one on. Where a change
 /// is refused memory, all is as it was before, and every caller aborts. What wants memory to be
-/// seen is compared where there is memory.
+/// seen is compared if there is memory.
 #[test]
 fn five_callers_undone_is_legal(rt: HostRuntime) -> Result<(), Fail> {
     play_on_core(&rt, rt.alloc(), 6, true)

@@ -177,7 +177,7 @@ const FIVE_KEYS: &str = r#"["begin",0] = began 1
 ["double",2] = moved 4
 ["double",4] = light"#;
 
-/// Keys that share a split key, and `put_if`, which puts only where the old value is the expected
+/// Keys that share a split key, and `put_if`, which puts only if the old value is the expected
 /// one.
 const KEYS_OF_64_BITS: &str = r#"["begin",0] = began 1
 ["ask",0,"put",9223372036854775809,11],["seek",0],["act",0] = asked, placed, done none

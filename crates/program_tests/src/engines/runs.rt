@@ -12,7 +12,7 @@ use std::thread::Threads;
 pub const SHORT_RUN: &str =
     "{\"entries\":[[\"began\",0,1],[\"committed\",0,1]],\"stripes\":8,\"version\":3}\n";
 
-/// The same where memory was refused to the script.
+/// The same if memory was refused to the script.
 pub const NO_ENTRIES: &str = "{\"entries\":[],\"stripes\":8,\"version\":3}\n";
 
 /// Script files, and what is printed of them.

@@ -93,7 +93,7 @@ fn put(
 
 impl Home {
     /// A list of the dummy of bucket 0, with this stamp, and two buckets on it, which can grow to
-    /// `max`, 2 or 8. None where memory is refused.
+    /// `max`, 2 or 8. None if memory is refused.
     pub fn new(alloc: Global, first_stamp: u64, max: u32, helpers: u32) -> Option<Home> {
         if first_stamp == u64::MAX {
             return None;

@@ -9,10 +9,10 @@ use std::sync::ledger::Ledger;
 use std::test::Fail;
 use txn_trace::{Answer, Op, Refusal};
 
-/// A call of the caller at a place, and how it ends where memory is there.
+/// A call of the caller at a place, and how it ends if memory is there.
 type Wanted = (usize, Call, End);
 
-/// Makes a call, once more where it is refused memory, and answers how it ends. Where it is refused
+/// Makes a call, once more if it is refused memory, and answers how it ends. Where it is refused
 /// memory, `seen` is as it was.
 fn end_of<L: Ledger, R: Wait + Abort>(
     rt: &R,

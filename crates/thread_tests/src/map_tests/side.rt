@@ -20,7 +20,7 @@ fn marks_of<L: Ledger, S: Side>(me: &Caller<L, S>) -> Marks {
     (me.seen().len(), me.words())
 }
 
-/// Makes a call, once more where it is refused memory; none where it is refused still. A refused
+/// Makes a call, once more if it is refused memory; none if it is refused still. A refused
 /// one leaves its caller's marks.
 fn try_call<L: Ledger, S: Side, R: Wait + Abort>(
     rt: &R,
@@ -40,8 +40,8 @@ fn try_call<L: Ledger, S: Side, R: Wait + Abort>(
     None
 }
 
-/// Changes the first word of the side value, whose others are 0. Where that is refused memory,
-/// nothing has changed, and what is handed back is tried once more; none where it is refused still.
+/// Changes the first word of the side value, whose others are 0. If that is refused memory,
+/// nothing has changed, and what is handed back is tried once more; none if it is refused still.
 fn change<L: Ledger, S: OfWords, R: Abort>(
     rt: &R,
     shared: &Shared<L>,
@@ -69,7 +69,7 @@ fn change<L: Ledger, S: OfWords, R: Abort>(
 }
 
 /// The words after a change from 0 to 1, a savepoint and two more changes, and back at the
-/// savepoint; none where a call is refused memory twice.
+/// savepoint; none if a call is refused memory twice.
 fn words_there<L: Ledger, S: OfWords, R: Wait + Abort>(
     rt: &R,
     shared: &Shared<L>,
@@ -154,7 +154,7 @@ fn there_and_back<L: Ledger, S: OfWords, R: Wait + Abort>(
     close_alone(rt, alloc, shared, me)
 }
 
-/// Boxes a value, once more where memory is refused; none where it is refused still.
+/// Boxes a value, once more if memory is refused; none if it is refused still.
 fn make_box<T: Drop>(alloc: Global, value: T) -> Option<Box<T>>
     ensures { IfSome result (λ block. block.value ≡ value) }
 {
@@ -171,7 +171,7 @@ fn register(words: [u64; 4]) -> Register
     Register { words }
 }
 
-/// The same of a register, whose jobs are boxed; nothing was done where they are refused memory.
+/// The same of a register, whose jobs are boxed; nothing was done if they are refused memory.
 fn register_returns<L: Ledger, R: Wait + Abort>(
     rt: &R,
     alloc: Global,
