@@ -25,8 +25,10 @@ done
 echo "counter may_wait=4: txn_trace boost_core locked_map shared_transactions anyhow" >>"$there/crates.txt"
 echo "Handles allowed: Threads, Wait." >"$there/HANDLES"
 printf 'out/\n' >"$there/.gitignore"
-cp "$here"/docs/library/counter/*.rt "$there/crates/counter/src/"
+for text in counter main; do
+  cp "$here/docs/library/counter/$text.rt.txt" "$there/crates/counter/src/$text.rt"
+done
 touch "$there/crates/counter/specs/Lib.antt" "$there/crates/counter/proofs/Lib.antt"
 mkdir -p "$there/crates/counter/proofs/counter/count_all"
-cp "$here/docs/library/counter/Invariants.antt" "$there/crates/counter/proofs/counter/count_all/"
+cp "$here/docs/library/counter/Invariants.antt.txt" "$there/crates/counter/proofs/counter/count_all/Invariants.antt"
 printf 'counted to 200\n' >"$there/crates/counter/stdout"
