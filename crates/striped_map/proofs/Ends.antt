@@ -1,27 +1,33 @@
 -- What a hand has added by a step.
-use Rattle.std.proofs.Common.{◌≡◌, ◌≢◌, ℕ, zero, suc, ◌-◌, List, [], ◌∷◌, get_or, Option, sym, refl, ap, subst, ◌∙◌, arith}
+use Rattle.std.proofs.Common.{◌≡◌, ◌≢◌, ℕ, zero, suc, ◌+◌, ◌-◌, ◌<◌, List, [], ◌∷◌, get_or, Option, sym, refl, ap, subst, ◌∙◌, arith}
 use Rattle.txn_trace.specs.declared.entry.Entry.{Entry}
 use Rattle.txn_trace.specs.declared.entry.Entry.TheVariants.{Asked, Did, Busy, Aborted}
+use Rattle.txn_trace.specs.declared.holder.Holder.TheVariants.{Begun}
 use Rattle.txn_trace.specs.declared.op.Op.{Op}
+use Rattle.txn_trace.specs.Legal.{IsLegal}
+use Rattle.stripe_part.specs.PartAt.{PartAt}
 use Rattle.striped_map.specs.declared.hand.Hand.{Hand}
 use Rattle.striped_map.specs.declared.map.StripedMap.{StripedMap}
 use Rattle.striped_map.specs.declared.view.View.{View}
 use Rattle.striped_map.specs.Handling.{idle}
 use Rattle.striped_map.specs.Hands.{Moves}
-use Rattle.striped_map.specs.Seats.{known, stripes_of}
-use Rattle.striped_map.specs.Steps.{Standing, Extends, AddsIn, undoing}
+use Rattle.striped_map.specs.Rule.{times, Holds}
+use Rattle.striped_map.specs.Seats.{IsOf, known, stripes_of}
+use Rattle.striped_map.specs.Steps.{Standing, Extends, AddsIn, SeesIn, TakesIn, FindsIn, undoing}
 use Rattle.striped_map.specs.Additions.{due, entries_of}
 use Rattle.striped_map.specs.declared.addition.Addition.TheVariants.{Yield}
-use Rattle.striped_map.proofs.Hands.{extends_then, own_same}
+use Rattle.striped_map.proofs.Hands.{extends_then, extends_none, own_same}
 use Rattle.striped_map.proofs.Sounds.{due_same}
 
 pub moved : (map : StripedMap) (a b : Hand) (es : List Entry) (left : Standing) → AddsIn (stripes_of map) (known a.seat) es left (known b.seat) → Moves map a es b
-moved map a b es left x = record { number_is = ap (λ (v : View). v.number) x.view_is; goes = x.goes }
+moved map a b es left x = record { number_is = ap (λ (v : View). v.number) x.view_is; retired_is = ap (λ (v : View). v.retired) x.view_is; made_is = ap (λ (v : View). v.made) x.view_is; goes = x.goes }
 
 -- The stripes were given back after it.
 pub moved_idle : (map : StripedMap) (a b : Hand) (w : View) (es : List Entry) (left : Standing) → AddsIn (stripes_of map) (known a.seat) es left w → known b.seat ≡ idle w → Moves map a es b
 moved_idle map a b w es left x is = record {
   number_is = ap (λ (v : View). v.number) is ∙ ap (λ (v : View). v.number) x.view_is;
+  retired_is = ap (λ (v : View). v.retired) is ∙ ap (λ (v : View). v.retired) x.view_is;
+  made_is = ap (λ (v : View). v.made) is ∙ ap (λ (v : View). v.made) x.view_is;
   goes = subst (Extends (stripes_of map) (known a.seat).number (known a.seat).seen es) (sym (ap (λ (v : View). v.seen) is)) x.goes;
 }
 
@@ -29,6 +35,8 @@ moved_idle map a b w es left x is = record {
 pub moved_then : (map : StripedMap) (a b c : Hand) (es : ℕ → List Entry) → Moves map a [] b → Moves map b (es (known b.seat).number) c → Moves map a (es (known a.seat).number) c
 moved_then map a b c es x y = record {
   number_is = y.number_is ∙ x.number_is;
+  retired_is = y.retired_is ∙ x.retired_is;
+  made_is = y.made_is ∙ x.made_is;
   goes = extends_then (stripes_of map) (known a.seat).number (known a.seat).seen (known b.seat).seen (es (known a.seat).number) (known c.seat).seen x.goes
       (subst (λ (k : ℕ). Extends (stripes_of map) k (known b.seat).seen (es k) (known c.seat).seen) x.number_is y.goes);
 }
@@ -50,5 +58,25 @@ moved_busy map a b c op holder x y = moved_then map a b c (λ k. Busy k op holde
 pub moved_none : (map : StripedMap) (a b : Hand) → Moves map a [] b → (c : Hand) → c.seat ≡ b.seat → Moves map a [] c
 moved_none map a b x c same = record {
   number_is = ap (λ z. (known z).number) same ∙ x.number_is;
+  retired_is = ap (λ z. (known z).retired) same ∙ x.retired_is;
+  made_is = ap (λ z. (known z).made) same ∙ x.made_is;
   goes = subst (Extends (stripes_of map) (known a.seat).number (known a.seat).seen []) (sym (ap (λ z. (known z).seen) same)) x.goes;
 }
+
+-- Nothing was added, and nothing seen.
+pub moved_still : (map : StripedMap) (a : Hand) → IsOf a.seat map → Moves map a [] a
+moved_still map a of = record { number_is = refl; retired_is = refl; made_is = refl; goes = extends_none (stripes_of map) (known a.seat).number (known a.seat).seen (subst (λ z. IsLegal Begun z.slots (known a.seat).seen) of a.sound.legal) }
+
+pub moved_on : (map : StripedMap) (a b c : Hand) → Moves map a [] b → Moves map b [] c → Moves map a [] c
+moved_on map a b c x y = moved_then map a b c (λ k. []) x y
+
+-- What was held is held after a stripe was taken, and after the history went on.
+pub holds_taken : (n k : ℕ) (v w : View) (part : PartAt) → TakesIn n k v part w → (other : ℕ) → Holds v other → Holds w other
+holds_taken n k v w part t other hold = subst (λ (u : View). Holds u other) (sym t.view_is) (let h : 0 < times other v.held = hold in let more : 0 < times other (k ∷ v.held) = omega arith in more)
+
+pub holds_found : (n holder : ℕ) (v w : View) → FindsIn n v holder w → (other : ℕ) → Holds v other → Holds w other
+holds_found n holder v w f other hold = subst (λ (u : View). Holds u other) (sym f.sees.view_is) hold
+
+-- The history goes on.
+pub moved_seen : (map : StripedMap) (a b : Hand) → SeesIn (stripes_of map) (known a.seat) (known b.seat) → Moves map a [] b
+moved_seen map a b x = record { number_is = ap (λ (v : View). v.number) x.view_is; retired_is = ap (λ (v : View). v.retired) x.view_is; made_is = ap (λ (v : View). v.made) x.view_is; goes = x.goes }

@@ -107,7 +107,7 @@ times_append k (x ∷ xs) ys = let more : times k (xs ++ ys) ≡ times k xs + ti
     (λ (e : x ≡ k). subst (λ (j : ℕ). times k (j ∷ xs ++ ys) ≡ times k (j ∷ xs) + times k ys) (sym e) (omega (arith, more, times_same k xs, times_same k (xs ++ ys))))
     (λ ne. omega (arith, more, times_other k x xs ne, times_other k x (xs ++ ys) ne))
 
-times_reverse : (k : ℕ) (ks : List ℕ) → times k (reverse ks) ≡ times k ks
+pub times_reverse : (k : ℕ) (ks : List ℕ) → times k (reverse ks) ≡ times k ks
 times_reverse k [] = refl
 times_reverse k (x ∷ ks) = ap (times k) (reverse-append (x ∷ []) ks) ∙ times_append k (reverse ks) (x ∷ []) ∙ ap (λ (n : ℕ). n + times k (x ∷ [])) (times_reverse k ks)
     ∙ dite (ℕ_discrete x k) (λ (e : x ≡ k). subst (λ (j : ℕ). times k ks + times k (j ∷ []) ≡ times k (j ∷ ks)) (sym e) (omega (arith, times_same k [], times_same k ks)))
@@ -118,7 +118,7 @@ times_at [] i k e = absurd (none_some k e)
 times_at (x ∷ ks) zero k e = let same : x ≡ k = some_same x k e in subst (λ (j : ℕ). 0 < times k (j ∷ ks)) (sym same) (omega (arith, times_same k ks))
 times_at (x ∷ ks) (suc i) k e = let more : 0 < times k ks = times_at ks i k e in omega arith
 
-at_times : (ks : List ℕ) (k : ℕ) → 0 < times k ks → (i : ℕ) × (slice_get ks i ≡ Some k)
+pub at_times : (ks : List ℕ) (k : ℕ) → 0 < times k ks → (i : ℕ) × (slice_get ks i ≡ Some k)
 at_times [] k h = absurd (omega arith)
 at_times (x ∷ ks) k h = dite (ℕ_discrete x k) (λ (e : x ≡ k). (0, ap (λ (y : ℕ). Some y) e))
     (λ ne. let more : 0 < times k ks = omega (arith, h, times_other k x ks ne) in let deep = at_times ks k more in (suc deep.0, deep.1))

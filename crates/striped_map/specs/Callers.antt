@@ -3,6 +3,7 @@ use Rattle.std.specs.Prelude.{◌≡◌, ℕ, ◌-◌, ◌%◌, ◌^◌, List, [
 use Rattle.txn_trace.specs.declared.entry.Entry.{Entry}
 use Rattle.txn_trace.specs.declared.entry.Entry.TheVariants.{Began, Committed, Busy as BusyEntry, Aborted}
 use Rattle.txn_trace.specs.declared.op.Op.{Op}
+use Rattle.txn_trace.specs.declared.op.Op.TheVariants.{Get}
 use Rattle.txn_trace.specs.declared.refusal.Refusal.TheVariants.{NotOpen}
 use Rattle.txn_trace.specs.History.{is_began, is_commit}
 use Rattle.txn_trace.specs.Shape.{own, how_many}
@@ -54,6 +55,10 @@ IsStopped a op b (Busy holder) = (a.is_open ≡ true) × (b.is_open ≡ false)
 IsStopped a op b (Refused NotOpen) = (a.is_open ≡ false) × (b ≡ a)
 IsStopped a op b (Refused refusal) = IsShort op refusal × (a.is_open ≡ true)
     × (b.is_open ≡ true) × IsStep a [] b
+
+-- A call that takes every stripe was not done: it stopped as a look at some key does.
+abbrev pub IsCut : Caller → Caller → Stop → Type 0
+IsCut a b stop = (key : ℕ) × IsStopped a (Get key) b stop
 
 -- The same caller of the same map, which has seen more, and committed nothing.
 pub record IsSince (a b : Caller) : Type 0 where

@@ -1,14 +1,17 @@
 -- What the calls of a hand leave.
-use Rattle.std.specs.Prelude.{◌≡◌, List, [], ◌∷◌}
+use Rattle.std.specs.Prelude.{◌≡◌, ℕ, List, [], ◌∷◌, ◌++◌}
 use Rattle.txn_trace.specs.declared.entry.Entry.{Entry}
-use Rattle.txn_trace.specs.declared.entry.Entry.TheVariants.{Busy as BusyEntry, Aborted}
+use Rattle.txn_trace.specs.declared.entry.Entry.TheVariants.{Began, Busy as BusyEntry, Aborted}
 use Rattle.txn_trace.specs.declared.op.Op.{Op}
+use Rattle.txn_trace.specs.declared.op.Op.TheVariants.{Get}
+use Rattle.txn_trace.specs.declared.refusal.Refusal.TheVariants.{NoMemory}
+use Rattle.txn_trace.specs.Now.{now}
 use Rattle.txn_trace.specs.declared.seat.Phase.TheVariants.{Closed, Opened}
 use Rattle.striped_map.specs.Handling.{IsShort}
 use Rattle.striped_map.specs.declared.hand.Hand.{Hand}
 use Rattle.striped_map.specs.declared.map.StripedMap.{StripedMap}
 use Rattle.striped_map.specs.Seats.{known, stripes_of}
-use Rattle.striped_map.specs.Steps.{Extends, IsAt, undoing}
+use Rattle.striped_map.specs.Steps.{Extends, HasAll, HasNoOther, IsAt, undoing}
 use Rattle.striped_map.specs.Additions.{due}
 use Rattle.striped_map.specs.declared.stop.Stop.{Stop}
 use Rattle.striped_map.specs.declared.stop.Stop.TheVariants.{Busy, Refused}
@@ -16,6 +19,8 @@ use Rattle.striped_map.specs.declared.stop.Stop.TheVariants.{Busy, Refused}
 -- The same caller: others may have added entries, and then it has added these.
 pub record Moves (map : StripedMap) (a : Hand) (es : List Entry) (b : Hand) : Type 0 where
   pub number_is : (known b.seat).number ≡ (known a.seat).number
+  pub retired_is : (known b.seat).retired ≡ (known a.seat).retired
+  pub made_is : (known b.seat).made ≡ (known a.seat).made
   pub goes : Extends (stripes_of map) (known a.seat).number (known a.seat).seen es
       (known b.seat).seen
 
@@ -28,3 +33,29 @@ IsStopped map a op b (Busy holder) = IsAt Closed (known b.seat) × ((known b.sea
     ∷ undoing (known a.seat).number (due (known a.seat)) (Aborted (known a.seat).number)) b
 IsStopped map a op b (Refused refusal) =
     IsShort op refusal × IsAt Opened (known b.seat) × Moves map a [] b
+
+-- A call that takes every stripe was not done: it stopped as a look at some key does.
+abbrev pub IsCut : StripedMap → Hand → Hand → Stop → Type 0
+IsCut map a b stop = (key : ℕ) × IsStopped map a (Get key) b stop
+
+-- In a transaction that was begun for it, and which adds nothing else before, the hand has seen one
+-- legal history (of `left`) which has of each caller that was taken in just the entries that its
+-- calls added, and none of others than the seats that were made; the pairs are the map of that
+-- history; and the hand has seen it since.
+pub record AreLeft (map : StripedMap) (a c : Hand) (pairs : List (ℕ × ℕ)) : Type 0 where
+  pub txn : ℕ
+  pub during : Hand
+  pub begun : Moves map a (Began (known a.seat).number txn ∷ []) during
+  pub left : Hand
+  pub goes : Moves map during [] left
+  pub all : HasAll (known a.seat) (known left.seat).seen
+  pub others : HasNoOther (known a.seat) (known left.seat).seen
+  pub pairs_are : pairs ≡ (now (known left.seat).seen).rows
+  pub seen : (later : List Entry) × ((known c.seat).seen ≡ (known left.seat).seen ++ later)
+
+-- The pairs were not read. Busy: as a look at a key in a transaction that was begun for it. Refused:
+-- memory was.
+abbrev pub IsUnread : StripedMap → Hand → Hand → Stop → Type 0
+IsUnread map a c (Busy holder) = (txn : ℕ) × (b : Hand)
+    × Moves map a (Began (known a.seat).number txn ∷ []) b × IsCut map b c (Busy holder)
+IsUnread map a c (Refused refusal) = refusal ≡ NoMemory

@@ -6,7 +6,7 @@ ghost use Rattle.std.specs.Prelude.{◌≡◌, ◌≢◌, ℕ, ◌+◌, ◌-◌,
 ghost use Rattle.txn_trace.specs.declared.entry.Entry.TheVariants.{Began, Asked, Did, Saved, Leave, Returned, Committed};
 ghost use Rattle.txn_trace.specs.declared.seat.Phase.TheVariants.{Closed, Opened};
 ghost use Rattle.txn_trace.specs.Locks.{stripe_of};
-ghost use Rattle.txn_trace.specs.Map.{key_of};
+ghost use Rattle.txn_trace.specs.Map.{count_of, key_of};
 ghost use Rattle.txn_trace.specs.declared.refusal.Refusal.TheVariants.{NoMemory};
 ghost use Rattle.txn_trace.specs.Now.{now};
 ghost use Rattle.txn_trace.specs.Owed.{may_change};
@@ -17,9 +17,10 @@ ghost use Rattle.striped_map.specs.Lone.{RunsAlone};
 ghost use Rattle.striped_map.specs.Rule.{Holds};
 ghost use Rattle.striped_map.specs.Seats.{IsOf, known, stripes_of};
 ghost use Rattle.striped_map.specs.Sound.{AreHeld, AreLogged, IsSound, stripes_in};
-ghost use Rattle.striped_map.specs.Steps.{IsAt, seat_of, undone, undoing};
+ghost use Rattle.striped_map.specs.Steps.{HasAll, HasNoOther, IsAt, SeesIn, seat_of, taken_in, undone, undoing};
 
 use crate::addition::Addition;
+use crate::contents;
 use crate::held::Held;
 use crate::map::{StripedMap, Taken};
 use crate::seat::MapSeat;
@@ -119,13 +120,12 @@ fn give_all(map: &StripedMap, seat: &mut MapSeat, held: &mut Vec<Held>)
 }
 
 impl Hand {
-    ghost use Rattle.striped_map.specs.Hands.{IsStopped, Moves};
+    ghost use Rattle.striped_map.specs.Hands.{AreLeft, IsCut, IsStopped, IsUnread, Moves};
 
     /// A hand that holds nothing, of a seat that has seen nothing.
     pub(crate) fn new(alloc: Global, seat: MapSeat) -> Hand
         requires seen { (known seat).seen ≡ [] }
         requires held { (known seat).held ≡ [] }
-        requires retired { (known seat).retired ≡ [] }
         ensures { result.seat ≡ seat }
     {
         Hand {
@@ -152,6 +152,7 @@ impl Hand {
     }
 
     /// Takes a stripe, unless it is held, and answers the place of its part.
+    #[tactic(auto, using(crate::proofs::Ends::holds_taken, crate::proofs::Ends::holds_found))]
     fn hold(&mut self, map: &StripedMap, stripe: usize) -> Result<usize, Stop>
         requires map { IsOf self.old.seat map.now }
         requires open { IsAt Opened (known self.old.seat) }
@@ -161,6 +162,8 @@ impl Hand {
         ensures moves { Moves map.now self.old [] self.new }
         ensures held { IfOk result (λ place. slice_get (stripes_in self.new.held.items) place
             ≡ Some stripe) }
+        ensures keeps { (other : ℕ) → Holds (known self.old.seat) other
+            → Holds (known self.new.seat) other }
         ensures order { self.new.order ≡ self.old.order }
         ensures miss { IfErr result (IsMiss (known self.new.seat)) }
     {
@@ -177,6 +180,126 @@ impl Hand {
                 Ok(place)
             }
             Taken::Denied(holder) => Err(Stop::Busy { holder }),
+        }
+    }
+
+    /// Takes all stripes that are not held. A busy one ends the transaction as a look at a key of
+    /// it does.
+    #[tactic(auto, using(crate::proofs::Ends::moved_still, crate::proofs::Ends::moved_on, crate::proofs::Ends::moved_busy))]
+    fn hold_all(&mut self, map: &StripedMap) -> Result<(), Stop>
+        requires map { IsOf self.old.seat map.now }
+        requires open { IsAt Opened (known self.old.seat) }
+        ensures map { IsOf self.new.seat map.now }
+        ensures ok { OnOk result (IsAt Opened (known self.new.seat)
+            × Moves map.now self.old [] self.new) }
+        ensures all { OnOk result ((stripe : ℕ) → stripe < stripes_of map.now
+            → Holds (known self.new.seat) stripe) }
+        ensures err { IfErr result (IsCut map.now self.old self.new) }
+    {
+        for stripe in 0..map.stripes() {
+            match self.hold(map, stripe) {
+                Ok(_) => {}
+                Err(Stop::Busy { holder }) => {
+                    self.leave(map, Addition::Yield(Op::Get(stripe as u64), holder));
+                    return Err(Stop::Busy { holder });
+                }
+                Err(Stop::Refused(refusal)) => return Err(Stop::Refused(refusal)),
+            }
+        }
+        Ok(())
+    }
+
+    /// Takes all stripes, and answers how many pairs the map has.
+    pub(crate) fn len(&mut self, map: &StripedMap) -> Result<u64, Stop>
+        requires map { IsOf self.old.seat map.now }
+        requires open { IsAt Opened (known self.old.seat) }
+        ensures map { IsOf self.new.seat map.now }
+        ensures ok { IfOk result (λ count. IsAt Opened (known self.new.seat)
+            × Moves map.now self.old [] self.new
+            × (count ≡ count_of (now (known self.new.seat).seen))) }
+        ensures err { IfErr result (IsCut map.now self.old self.new) }
+    {
+        self.hold_all(map)?;
+        let Some(count) = contents::count_of(&self.held) else {
+            return Err(Stop::Refused(Refusal::NoMemory));
+        };
+        Ok(count)
+    }
+
+    /// Takes all stripes, and answers the pairs of the map, rising by key.
+    pub(crate) fn pairs(&mut self, map: &StripedMap, alloc: Global) -> Result<Vec<(u64, u64)>, Stop>
+        requires map { IsOf self.old.seat map.now }
+        requires open { IsAt Opened (known self.old.seat) }
+        ensures map { IsOf self.new.seat map.now }
+        ensures ok { IfOk result (λ pairs. IsAt Opened (known self.new.seat)
+            × Moves map.now self.old [] self.new
+            × (pairs.items ≡ (now (known self.new.seat).seen).rows)) }
+        ensures all { OnOk result ((stripe : ℕ) → stripe < stripes_of map.now
+            → Holds (known self.new.seat) stripe) }
+        ensures err { IfErr result (IsCut map.now self.old self.new) }
+    {
+        self.hold_all(map)?;
+        let Ok(mut pairs) = contents::pairs_of(alloc, map.stripes() as u64, &self.held) else {
+            return Err(Stop::Refused(Refusal::NoMemory));
+        };
+        let Ok(()) = pairs.sort() else {
+            return Err(Stop::Refused(Refusal::NoMemory));
+        };
+        Ok(pairs)
+    }
+
+    /// Looks at the history, which has all entries of the seats that were taken in.
+    pub(crate) fn gather(&mut self, map: &StripedMap)
+        requires map { IsOf self.old.seat map.now }
+        ensures map { IsOf self.new.seat map.now }
+        ensures sees { SeesIn (stripes_of map.now) (known self.old.seat) (known self.new.seat) }
+        ensures all { HasAll (known self.old.seat) (known self.new.seat).seen }
+        ensures others { (known self.old.seat).number ≡ 0
+            → HasNoOther (known self.old.seat) (known self.new.seat).seen }
+    {
+        map.gather(&mut self.seat);
+    }
+
+    /// Takes in another seat that holds nothing, and which acts no more.
+    pub(crate) fn take_in(&mut self, map: &StripedMap, other: MapSeat)
+        requires map { IsOf self.old.seat map.now }
+        requires other { IsOf other map.now }
+        requires first { (known self.old.seat).number ≡ 0 }
+        requires idle { (known other).held ≡ [] }
+        requires plain { (known other).retired ≡ [] }
+        ensures map { IsOf self.new.seat map.now }
+        ensures taken { known self.new.seat ≡ taken_in (known self.old.seat) (known other) }
+    {
+        map.take_in(&mut self.seat, other);
+    }
+
+    /// Answers the pairs of the map in a transaction of its own, which it takes back.
+    pub(crate) fn read(&mut self, map: &StripedMap, alloc: Global) -> Result<Vec<(u64, u64)>, Stop>
+        requires map { IsOf self.old.seat map.now }
+        requires closed { IsAt Closed (known self.old.seat) }
+        requires idle { (known self.old.seat).held ≡ [] }
+        requires first { (known self.old.seat).number ≡ 0 }
+        ensures map { IsOf self.new.seat map.now }
+        ensures closed { IsAt Closed (known self.new.seat) }
+        ensures idle { (known self.new.seat).held ≡ [] }
+        ensures number { (known self.new.seat).number ≡ (known self.old.seat).number }
+        ensures retired { (known self.new.seat).retired ≡ (known self.old.seat).retired }
+        ensures made { (known self.new.seat).made ≡ (known self.old.seat).made }
+        ensures ok { IfOk result (λ pairs. AreLeft map.now self.old self.new pairs.items) }
+        ensures err { IfErr result (IsUnread map.now self.old self.new) }
+    {
+        self.begin(map);
+        match self.pairs(map, alloc) {
+            Ok(pairs) => {
+                self.gather(map);
+                self.leave(map, Addition::Abort);
+                Ok(pairs)
+            }
+            Err(Stop::Busy { holder }) => Err(Stop::Busy { holder }),
+            Err(Stop::Refused(refusal)) => {
+                self.leave(map, Addition::Abort);
+                Err(Stop::Refused(refusal))
+            }
         }
     }
 

@@ -2,6 +2,7 @@
 ghost use Rattle.std.specs.Prelude.{◌≡◌, ℕ, ◌+◌, ◌≤◌, ◌<◌, IfOk, IfErr, length, vec_len, vec_capacity};
 ghost use Rattle.std.specs.List.{HoldsAt};
 ghost use Rattle.striped_map.specs.Callers.{IsNew};
+ghost use Rattle.striped_map.specs.Hosts.{numbers};
 
 use crate::caller::Caller;
 use crate::host::Host;
@@ -29,6 +30,7 @@ pub fn open_map(
     stripes: usize,
     callers: usize,
 ) -> Result<(Host, Vec<Caller>), Refusal>
+    ensures numbers { IfOk result (λ made. numbers made.0 ≡ callers + 1) }
     ensures count { IfOk result (λ made. length made.1.items ≡ callers) }
     ensures each { IfOk result (λ made. (place : ℕ) → place < callers
         → HoldsAt (IsNew made.0.map.value stripes (place + 1)) made.1.items place) }
@@ -52,5 +54,5 @@ pub fn open_map(
         let seat = map.seat(&mut first, place + 1);
         all.push_reserved(Caller::new(alloc, owned, seat));
     }
-    Ok((Host::new(map, first), all))
+    Ok((Host::new(alloc, map, first), all))
 }

@@ -45,7 +45,7 @@ invariant_of-self-then-changes c = let me = c.args.self.now in let n = c.args.ma
     record {
       sound = subst (λ z. IsSound z.slots w (set held c.args.place new) c.push_reserved.new.self.items me.levels.items) (sym c.add.ensures.seat)
           (subst (λ (l : List ℕ). IsSound n w (set held c.args.place new) l me.levels.items) (sym order)
-          (sound_added n v w _ (noting v (seat_of v) op reply) (set held c.args.place new) (cond (changes op reply) later me.order.items) me.levels.items s.plain c.add.ensures.added
+          (sound_added n v w _ (noting v (seat_of v) op reply) (set held c.args.place new) (cond (changes op reply) later me.order.items) me.levels.items c.add.ensures.added
           (parts_noted n v held (now v.seen) s.parts c.args.place h c.apply.new.self op reply at in_k does)
           (logged_noted n v held (now v.seen) me.order.items (due v) s.parts s.logged c.args.place h c.apply.new.self op reply at in_k does) s.levelled));
     }
@@ -66,7 +66,7 @@ invariant_of-self-else-changes c = let me = c.args.self.now in let n = c.args.ma
     record {
       sound = subst (λ z. IsSound z.slots w (set held c.args.place new) me.order.items me.levels.items) (sym c.add.ensures.seat)
           (subst (λ (l : List ℕ). IsSound n w (set held c.args.place new) l me.levels.items) (sym order)
-          (sound_added n v w _ (noting v (seat_of v) op reply) (set held c.args.place new) (cond (changes op reply) later me.order.items) me.levels.items s.plain c.add.ensures.added
+          (sound_added n v w _ (noting v (seat_of v) op reply) (set held c.args.place new) (cond (changes op reply) later me.order.items) me.levels.items c.add.ensures.added
           (parts_noted n v held (now v.seen) s.parts c.args.place h c.apply.new.self op reply at in_k does)
           (logged_noted n v held (now v.seen) me.order.items (due v) s.parts s.logged c.args.place h c.apply.new.self op reply at in_k does) s.levelled));
     }

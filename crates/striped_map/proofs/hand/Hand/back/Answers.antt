@@ -47,7 +47,7 @@ invariant_of-self c = let me = c.args.self.now in let n = c.args.map.now.table.s
     let levelled = ap (take (level + 1)) me.sound.levelled ∙ take_first level me.levels.items ∙ ap (λ (l : List ℕ). 0 ∷ l) (sym c.truncate.ensures.items) in
     record {
       sound = subst (λ z. IsSound z.slots w held order c.truncate.new.self.items) (sym c.add.ensures.seat)
-          (sound_added n v w _ (returning v (seat_of v) level (take count (due v)) (drop count (due v))) held order c.truncate.new.self.items me.sound.plain c.add.ensures.added parts logged levelled);
+          (sound_added n v w _ (returning v (seat_of v) level (take count (due v)) (drop count (due v))) held order c.truncate.new.self.items c.add.ensures.added parts logged levelled);
     }
 
 pub returns-clause-moves : goal.returns-clause-moves

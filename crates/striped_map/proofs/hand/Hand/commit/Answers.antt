@@ -25,7 +25,7 @@ pub invariant_of-self : goal.invariant_of-self
 invariant_of-self c = let me = c.args.self.now in let n = c.args.map.now.table.shared.table_id.slots in let v = known me.seat in let w = known c.commit-place.new.seat in let u = known c.give_all.new.seat in let a = c.commit-place.ensures.committed.2 in
     record {
       sound = subst (λ z. IsSound z.slots u c.give_all.new.held.items c.clear.new.self.items c.clear-2.new.self.items) (sym c.give_all.ensures.map)
-          (sound_lists n u _ _ _ c.give_all.ensures.none c.clear.ensures.items c.clear-2.ensures.items (sound_ended n v w u _ (now v.seen) me.sound.plain a c.give_all.ensures.idle));
+          (sound_lists n u _ _ _ c.give_all.ensures.none c.clear.ensures.items c.clear-2.ensures.items (sound_ended n v w u _ (now v.seen) a c.give_all.ensures.idle));
     }
 
 pub returns-clause-closed : goal.returns-clause-closed

@@ -35,7 +35,7 @@ invariant_of-self c = let me = c.args.self.now in let n = c.args.map.now.table.s
     let left : AddsIn n v (entries_of v c.args.what) (at_end (undone (now v.seen) (due v))) w = subst (λ (l : Standing). AddsIn n v (entries_of v c.args.what) l w) (left_end v c.args.what c.requires.may) c.add.ensures.added in
     record {
       sound = subst (λ z. IsSound z.slots u c.give_all.new.held.items c.clear.new.self.items c.clear-2.new.self.items) (sym c.give_all.ensures.map)
-          (sound_lists n u _ _ _ c.give_all.ensures.none c.clear.ensures.items c.clear-2.ensures.items (sound_ended n v w u _ (undone (now v.seen) (due v)) me.sound.plain left c.give_all.ensures.idle));
+          (sound_lists n u _ _ _ c.give_all.ensures.none c.clear.ensures.items c.clear-2.ensures.items (sound_ended n v w u _ (undone (now v.seen) (due v)) left c.give_all.ensures.idle));
     }
 
 pub returns-clause-closed : goal.returns-clause-closed

@@ -4,4 +4,4 @@ use Rattle.striped_map.proofs.hand.Hand.new.Goals as goal
 
 pub invariant_of-result : goal.invariant_of-result
 invariant_of-result c = let n = c.args.seat.seat.table_id.slots in let v = known c.args.seat in
-    record { sound = sound_lists n v _ _ _ c.new.ensures.items c.new-2.ensures.items c.new-3.ensures.items (sound_new n v c.requires.seen c.requires.held c.requires.retired) }
+    record { sound = sound_lists n v _ _ _ c.new.ensures.items c.new-2.ensures.items c.new-3.ensures.items (sound_new n v c.requires.seen c.requires.held) }

@@ -18,5 +18,5 @@ invariant_of-self-2 c = let me = c.args.self.now in let n = c.args.map.now.table
     let kept = ap (λ (l : List ℕ). l ++ (seat_of v).standing ∷ []) s.levelled ∙ ap (λ (x : ℕ). (0 ∷ me.levels.items) ++ x ∷ []) many ∙ ap (λ (l : List ℕ). 0 ∷ l) (sym levels) in
     record {
       sound = subst (λ z. IsSound z.slots w me.held.items me.order.items c.push_reserved.new.self.items) (sym c.add.ensures.seat)
-          (sound_added n v w _ (saving v (seat_of v)) me.held.items me.order.items c.push_reserved.new.self.items s.plain c.add.ensures.added s.parts s.logged kept);
+          (sound_added n v w _ (saving v (seat_of v)) me.held.items me.order.items c.push_reserved.new.self.items c.add.ensures.added s.parts s.logged kept);
     }

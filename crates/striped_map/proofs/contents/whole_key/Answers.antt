@@ -1,0 +1,1 @@
+use Rattle.striped_map.proofs.Wholes.{all_rows}

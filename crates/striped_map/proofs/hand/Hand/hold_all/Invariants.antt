@@ -1,0 +1,15 @@
+use Rattle.std.specs.Prelude.{ℕ, ◌<◌, []}
+use Rattle.txn_trace.specs.declared.seat.Phase.TheVariants.{Opened}
+use Rattle.striped_map.specs.Hands.{Moves}
+use Rattle.striped_map.specs.Rule.{Holds}
+use Rattle.striped_map.specs.Seats.{IsOf, known}
+use Rattle.striped_map.specs.Steps.{IsAt}
+use Rattle.striped_map.proofs.hand.Hand.hold_all.Given as goal
+
+abbrev pub invariant-loop-stripe : goal.invariant-loop-stripe
+invariant-loop-stripe l = record {
+  map : IsOf l.self.seat l.map;
+  opened : IsAt Opened (known l.self.seat);
+  moves : Moves l.map l.initial.self [] l.self;
+  held : (other : ℕ) → other < l.stripe → Holds (known l.self.seat) other;
+}

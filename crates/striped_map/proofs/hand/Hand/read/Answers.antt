@@ -1,0 +1,34 @@
+use Rattle.std.proofs.Common.{◌≡◌, ℕ, ◌≤◌, List, ◌++◌, Some, slice_get, sym, ap, subst, ◌∙◌, append_assoc, mod-lt}
+use Rattle.txn_trace.specs.declared.entry.Entry.{Entry}
+use Rattle.txn_trace.specs.Locks.{stripe_of}
+use Rattle.txn_trace.specs.Map.{Map}
+use Rattle.txn_trace.specs.Now.{now}
+use Rattle.txn_trace.specs.Shape.{own}
+use Rattle.txn_trace.proofs.Maps.{same_map}
+use Rattle.striped_map.specs.declared.view.View.{View}
+use Rattle.striped_map.specs.Hands.{IsCut}
+use Rattle.striped_map.specs.Seats.{known}
+use Rattle.striped_map.proofs.Ends.{moved_seen, moved_on}
+use Rattle.striped_map.proofs.hand.Hand.read.Goals as goal
+
+pub returns-in-Ok-clause-ok : goal.returns-in-Ok-clause-ok
+returns-in-Ok-clause-ok c = let map = c.args.map.now in let n = map.table.shared.table_id.slots in
+    let begun = c.begin.ensures.begun in let done = c.in-Ok.ensures.ok in let sees = c.gather.ensures.sees in let ended = c.leave.ensures.moves in
+    let a = known c.args.self.now.seat in let v = known c.pairs.new.self.seat in let w = known c.gather.new.self.seat in
+    let same : now w.seen ≡ now v.seen = same_map (now w.seen) (now v.seen) (λ key. sees.still key (c.in-Ok.ensures.all (stripe_of n key) (mod-lt key map.some))) in
+    let retired : v.retired ≡ a.retired = done.1.retired_is ∙ begun.1.retired_is in
+    record {
+      txn = begun.0;
+      during = c.begin.new.self;
+      begun = begun.1;
+      left = c.gather.new.self;
+      goes = moved_on map c.begin.new.self c.pairs.new.self c.gather.new.self done.1 (moved_seen map c.pairs.new.self c.gather.new.self sees);
+      all = subst (λ (rs : List (ℕ × List Entry)). (j : ℕ) (r : ℕ × List Entry) → slice_get rs j ≡ Some r → own r.0 w.seen ≡ r.1) retired c.gather.ensures.all;
+      others = λ k low. c.gather.ensures.others (done.1.number_is ∙ begun.1.number_is ∙ c.requires.first) k (subst (λ (x : ℕ). x ≤ k) (sym (done.1.made_is ∙ begun.1.made_is)) low);
+      pairs_are = done.2 ∙ ap (λ (m : Map). m.rows) (sym same);
+      seen = (_, ended.goes.goes ∙ append_assoc w.seen ended.goes.between _);
+    }
+
+pub returns-in-Err-Busy-clause-err : goal.returns-in-Err-Busy-clause-err
+returns-in-Err-Busy-clause-err c = let begun = c.begin.ensures.begun in
+    (begun.0, c.begin.new.self, begun.1, subst (λ stop. IsCut c.args.map.now c.begin.new.self c.pairs.new.self stop) c.in-Err-Busy.field-0-is c.in-Err-Busy.ensures.err)
