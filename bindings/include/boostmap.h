@@ -105,7 +105,7 @@ enum {
     BOOSTMAP_FULL = 4,   /* the handle is in use already; nothing was done */
     BOOSTMAP_NULL = 5,   /* only by boostmap_checked.h: a null pointer */
     BOOSTMAP_IN_CALL = 6, /* only by boostmap_checked.h: the handle is in another call */
-    BOOSTMAP_SHORT = 7,  /* boostmap_read: the array is too short; *word is the number of places that it needs */
+    BOOSTMAP_SHORT = 7,  /* of a read: the array is too short; *word is the number of places that it needs */
     BOOSTMAP_NO_ENTRY = 8, /* boostmap_judge_feed: the numbers say no entry of a caller below 64 */
     /* 16 + the number of a refusal: map and transaction are unchanged */
     BOOSTMAP_NO_SUCH_CALLER = 18,  /* the caller's number is not below the number of callers; of
@@ -248,6 +248,16 @@ boostmap_status boostmap_striped_save(boostmap_caller *caller, uint64_t *word);
 /* Takes back every change since the level was set; 0 is the beginning. The level stays set, later
  * ones are dropped, the stripes stay held.    0; 3; 19; 25 */
 boostmap_status boostmap_striped_back(boostmap_caller *caller, uint64_t level);
+
+/* Takes every stripe, so that nobody else has any; *word: how many keys the map has, the
+ * transaction's own changes included. The stripes stay held to the transaction's end.
+ * 0; 2, after which the transaction is over, and aborted; 3; 19; 30 */
+boostmap_status boostmap_striped_count(boostmap_caller *caller, uint64_t *word);
+
+/* Takes every stripe in the same way, and writes the pairs of the map to the front of an array with
+ * this many places, by rising keys; *word: how many there are. After 7 the array is unchanged, and
+ * *word the number of places that it needs.    0; 2; 3; 7; 19; 30 */
+boostmap_status boostmap_striped_read(boostmap_caller *caller, boostmap_pair *pairs, size_t places, uint64_t *word);
 
 /* ---- the judge of histories ---------------------------------------------------------------------
  *

@@ -224,6 +224,15 @@ public:
     std::uint64_t save() { return *call(boostmap_striped_save); }
     void back(std::uint64_t level) { told(boostmap_striped_back(handle(), level), 0); }
 
+    // How many keys the map has, and its pairs, by rising keys: every stripe is taken.
+    std::uint64_t count() { return *call(boostmap_striped_count); }
+    std::vector<boostmap_pair> pairs() {
+        std::vector<boostmap_pair> all(count() + 1);
+        std::uint64_t many = *call(boostmap_striped_read, all.data(), all.size());
+        all.resize(many);
+        return all;
+    }
+
     // Commits, and gives the place in the order of commits. The transaction is over then.
     std::uint64_t commit() {
         std::uint64_t place = *call(boostmap_striped_commit);

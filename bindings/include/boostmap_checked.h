@@ -103,6 +103,8 @@ BOOSTMAP_CHECKED_WORD(striped_put_if_equal,
                       boostmap_striped_put_if_equal(&door->caller, key, expected, value, word))
 BOOSTMAP_CHECKED_WORD(striped_save, (boostmap_caller_door *door, uint64_t *word),
                       boostmap_striped_save(&door->caller, word))
+BOOSTMAP_CHECKED_WORD(striped_count, (boostmap_caller_door *door, uint64_t *word),
+                      boostmap_striped_count(&door->caller, word))
 
 /* The inner half of a join, behind the second door. */
 BOOSTMAP_CHECKED_WORD(striped_joined_to, (boostmap_caller_door *door, boostmap_caller *first, uint64_t *word),

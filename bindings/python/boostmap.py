@@ -60,6 +60,7 @@ _CALLS = {
     "striped_commit": (0, True), "striped_abort": (0, False), "striped_save": (0, True), "striped_back": (1, False),
     "striped_get": (1, True), "striped_take": (1, True), "striped_put": (2, True),
     "striped_put_if_absent": (2, True), "striped_put_if_equal": (3, True),
+    "striped_count": (0, True),
     "judge_free": (0, False),
 }
 
@@ -80,12 +81,13 @@ def _load():
         call.argtypes = [_HANDLE] + [_U64] * numbers + ([_WORD] if has_word else [])
         call.restype = ctypes.c_uint32
     library.boostmap_read.argtypes = [_HANDLE, ctypes.POINTER(_Pair), ctypes.c_size_t, _WORD]
+    library.boostmap_striped_read.argtypes = library.boostmap_read.argtypes
     library.boostmap_striped_join.argtypes = [_HANDLE, _HANDLE, _WORD]
     library.boostmap_judge_new.argtypes = [_HANDLE, _U64, ctypes.c_uint32]
     library.boostmap_judge_feed.argtypes = [_HANDLE, ctypes.POINTER(_Entry)]
     library.boostmap_judge_feed_all.argtypes = [_HANDLE, ctypes.POINTER(_Entry), ctypes.c_size_t, _WORD]
     library.boostmap_judge_verdict.argtypes = [_HANDLE, ctypes.POINTER(_Verdict)]
-    for name in ("read", "striped_join", "judge_new", "judge_feed", "judge_feed_all", "judge_verdict"):
+    for name in ("read", "striped_read", "striped_join", "judge_new", "judge_feed", "judge_feed_all", "judge_verdict"):
         getattr(library, "boostmap_" + name).restype = ctypes.c_uint32
     return library
 
@@ -319,6 +321,17 @@ class CallerTransaction:
 
     def back(self, level=0):
         self._call("striped_back", level)
+
+    def items(self):
+        """A dictionary of the whole map, with the transaction's own changes: every stripe is taken."""
+        places, word = self._call("striped_count"), _U64(0)
+        pairs = (_Pair * max(places, 1))()
+        with self._caller._lock:
+            status = _library.boostmap_striped_read(self._caller._handle, pairs, places, word)
+        return {pair.key: pair.value for pair in pairs[:_told(status, word)]}
+
+    def __len__(self):
+        return self._call("striped_count")
 
 
 _KINDS = {

@@ -16,6 +16,7 @@ enum { UNTOUCHED = 77 };
 /* No call but open and join does anything on an empty handle. */
 static void an_empty_handle(boostmap_caller *c) {
     boostmap_caller next = BOOSTMAP_INIT;
+    boostmap_pair pair = {UNTOUCHED, UNTOUCHED};
     uint64_t w;
     IS(boostmap_striped_free(c), BOOSTMAP_EMPTY);
     IS(boostmap_striped_begin(c), BOOSTMAP_EMPTY);
@@ -29,6 +30,9 @@ static void an_empty_handle(boostmap_caller *c) {
     ANSWERS(boostmap_striped_put_if_absent(c, 1, 2, &w), BOOSTMAP_EMPTY, UNTOUCHED);
     ANSWERS(boostmap_striped_put_if_equal(c, 1, 2, 3, &w), BOOSTMAP_EMPTY, UNTOUCHED);
     ANSWERS(boostmap_striped_save(c, &w), BOOSTMAP_EMPTY, UNTOUCHED);
+    ANSWERS(boostmap_striped_count(c, &w), BOOSTMAP_EMPTY, UNTOUCHED);
+    ANSWERS(boostmap_striped_read(c, &pair, 1, &w), BOOSTMAP_EMPTY, UNTOUCHED);
+    CHECK(pair.key == UNTOUCHED);
     CHECK(c->tag == 0 && c->held == 0 && next.tag == 0 && next.held == 0);
 }
 
@@ -109,6 +113,31 @@ static void two_callers(boostmap_caller *three, boostmap_caller *two, boostmap_c
     ANSWERS(boostmap_striped_commit(one, &w), BOOSTMAP_DONE, 2);
 }
 
+/* The whole map: its own changes, an array that is too short, and another in the way. */
+static void contents(boostmap_caller *three, boostmap_caller *two) {
+    uint64_t w;
+    boostmap_pair pairs[3] = {{UNTOUCHED, 0}, {UNTOUCHED, 0}, {UNTOUCHED, 0}};
+    ANSWERS(boostmap_striped_count(three, &w), BOOSTMAP_NOT_OPEN, UNTOUCHED);
+    ANSWERS(boostmap_striped_read(three, pairs, 3, &w), BOOSTMAP_NOT_OPEN, UNTOUCHED);
+    IS(boostmap_striped_begin(three), BOOSTMAP_DONE);
+    ANSWERS(boostmap_striped_put(three, UINT64_MAX, 1, &w), BOOSTMAP_ABSENT, UNTOUCHED);
+    ANSWERS(boostmap_striped_count(three, &w), BOOSTMAP_DONE, 2);
+    ANSWERS(boostmap_striped_read(three, pairs, 1, &w), BOOSTMAP_SHORT, 2);
+    CHECK(pairs[0].key == UNTOUCHED);
+    ANSWERS(boostmap_striped_read(three, pairs, 3, &w), BOOSTMAP_DONE, 2);
+    CHECK(pairs[0].key == 5 && pairs[0].value == 52 && pairs[1].key == UINT64_MAX && pairs[1].value == 1);
+    CHECK(pairs[2].key == UNTOUCHED);
+    IS(boostmap_striped_begin(two), BOOSTMAP_DONE);
+    ANSWERS(boostmap_striped_count(two, &w), BOOSTMAP_BUSY, 3);
+    ANSWERS(boostmap_striped_commit(two, &w), BOOSTMAP_NOT_OPEN, UNTOUCHED);
+    IS(boostmap_striped_begin(two), BOOSTMAP_DONE);
+    ANSWERS(boostmap_striped_read(two, pairs, 3, &w), BOOSTMAP_BUSY, 3);
+    IS(boostmap_striped_abort(three), BOOSTMAP_DONE);
+    IS(boostmap_striped_begin(two), BOOSTMAP_DONE);
+    ANSWERS(boostmap_striped_count(two, &w), BOOSTMAP_DONE, 1);
+    IS(boostmap_striped_abort(two), BOOSTMAP_DONE);
+}
+
 /* A caller that is freed in a transaction aborts it; the map stays for the others. */
 static void freeing(boostmap_caller c[3]) {
     uint64_t w;
@@ -131,6 +160,7 @@ int main(void) {
     order(&c[0]);
     operations(&c[0]);
     two_callers(&c[0], &c[1], &c[2]);
+    contents(&c[0], &c[1]);
     freeing(c);
     return 0;
 }

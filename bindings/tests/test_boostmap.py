@@ -107,6 +107,7 @@ class Callers(unittest.TestCase):
                 t.put(2, 20)
                 raise KeyError
         self.assertEqual(other.transact(lambda t: (t.get(1), t.get(2))), (2**64 - 1, None))
+        self.assertEqual(other.transact(lambda t: (t.items(), len(t))), ({1: 2**64 - 1}, 1))
 
     def test_busy_ends_the_transaction(self):
         one, other = open_striped(callers=2, stripes=16)

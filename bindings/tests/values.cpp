@@ -70,6 +70,8 @@ static void of_callers() {
         left_open.put(1, 99);
     }
     CHECK(two.transact(0, [](auto &t) { return *t.get(1); }) == 12);
+    CHECK(two.transact(0, [](auto &t) { return t.count() + t.pairs().size(); }) == 2);
+    CHECK(two.transact(0, [](auto &t) { return t.pairs()[0].key * 100 + t.pairs()[0].value; }) == 112);
     auto holds = one.begin();
     holds.get(1);
     int runs = 0;
@@ -86,12 +88,12 @@ static void of_callers() {
     auto other = two.begin();
     CHECK(thrown([&] { other.get(1 + 16); }) == BOOSTMAP_BUSY);
     CHECK(thrown([&] { other.get(2); }) == BOOSTMAP_NOT_OPEN);
-    CHECK(holds.commit() == 3);
+    CHECK(holds.commit() == 5);
     CHECK(thrown([&] { two.transact(0, [](auto &t) { t.put(3, 30); throw error(99); }); }) == 99);
     CHECK(two.transact(0, [](auto &t) { return t.get(2) || t.get(3); }) == false);
     auto moved = std::move(one);
     CHECK(thrown([&] { one.begin(); }) == BOOSTMAP_EMPTY);
-    CHECK(moved.begin().commit() == 5);
+    CHECK(moved.begin().commit() == 7);
     CHECK(thrown([] { boostmap_cpp::open_striped(0, 16); }) == BOOSTMAP_LIMIT);
 }
 

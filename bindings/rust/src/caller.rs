@@ -157,6 +157,20 @@ impl CallerTransaction<'_> {
         self.call(|at, _| unsafe { sys::boostmap_striped_back(at, level) }).map(drop)
     }
 
+    /// How many keys the map has, with the transaction's own changes: every stripe is taken.
+    pub fn count(&mut self) -> Result<u64> {
+        self.call(|at, word| unsafe { sys::boostmap_striped_count(at, word) }).map(Option::unwrap_or_default)
+    }
+
+    /// The pairs of the map, by rising keys, with the transaction's own changes: every stripe is taken.
+    pub fn pairs(&mut self) -> Result<Vec<(u64, u64)>> {
+        let mut pairs = vec![sys::Pair { key: 0, value: 0 }; self.count()? as usize];
+        let (start, places) = (pairs.as_mut_ptr(), pairs.len());
+        // The array has the places that its length says, one for each key; nobody else has a stripe.
+        self.call(|at, word| unsafe { sys::boostmap_striped_read(at, start, places, word) })?;
+        Ok(pairs.iter().map(|pair| (pair.key, pair.value)).collect())
+    }
+
     /// Commits, and gives the place in the order of commits.
     pub fn commit(mut self) -> Result<u64> {
         let place = self.call(|at, word| unsafe { sys::boostmap_striped_commit(at, word) })?;

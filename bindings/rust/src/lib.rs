@@ -127,6 +127,9 @@ mod sys {
         pub fn boostmap_striped_save(caller: *mut Handle, word: *mut u64) -> u32;
         pub fn boostmap_striped_back(caller: *mut Handle, level: u64) -> u32;
 
+        pub fn boostmap_striped_count(caller: *mut Handle, word: *mut u64) -> u32;
+        pub fn boostmap_striped_read(caller: *mut Handle, pairs: *mut Pair, places: usize, word: *mut u64) -> u32;
+
         pub fn boostmap_judge_new(judge: *mut Handle, stripes: u64, holder: u32) -> u32;
         pub fn boostmap_judge_feed(judge: *mut Handle, entry: *const Entry) -> u32;
         pub fn boostmap_judge_feed_all(judge: *mut Handle, entries: *const Entry, count: usize, word: *mut u64) -> u32;

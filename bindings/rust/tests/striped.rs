@@ -28,6 +28,13 @@ fn a_transaction_commits_or_leaves_nothing() -> Result<(), Error> {
     one.begin()?.put(2, 20)?;
     assert_eq!(other.transact(0, |t| Ok((t.get(1)?, t.get(2)?)))?, (Some(12), None));
     assert_eq!(other.begin()?.commit()?, 3);
+    let pairs = other.transact(0, |t| {
+        t.put(0, 9)?;
+        assert_eq!(t.count()?, 2);
+        t.pairs()
+    })?;
+    assert_eq!(pairs, [(0, 9), (1, 12)]);
+    assert_eq!(open_striped(1, 8)?[0].transact(0, |t| t.pairs())?, []);
     Ok(())
 }
 

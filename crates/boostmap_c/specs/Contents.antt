@@ -15,14 +15,18 @@ pub record Lie (pairs : List (ℕ × ℕ)) (before after : List CPair) : Type 0 
   pub front : take (length pairs) after ≡ map pair_of pairs
   pub rest : drop (length pairs) after ≡ drop (length pairs) before
 
--- The pairs, in the order of the list; or their number only, if the array has too few places; or
--- nothing, for want of memory.
+-- The pairs, in the order of the list; or their number only, if the array has too few places.
+abbrev pub LaysOf : List (ℕ × ℕ) → ℕ → List CPair → List CPair → ℕ → Type 0
+LaysOf pairs zero before after word = (word ≡ length pairs) × Lie pairs before after
+LaysOf pairs (suc status) before after word =
+    (suc status ≡ short) × (word ≡ length pairs) × (length before < length pairs)
+    × (after ≡ before)
+
+-- The same, or nothing, for want of memory.
 abbrev pub ReadsOf : List (ℕ × ℕ) → ℕ → List CPair → List CPair → ℕ → ℕ → Type 0
-ReadsOf pairs zero before after was word = (word ≡ length pairs) × Lie pairs before after
-ReadsOf pairs (suc status) before after was word =
-    (after ≡ before)
-    × (((suc status ≡ short) × (word ≡ length pairs) × (length before < length pairs))
-    ⊎ ((suc status ≡ refused NoMemory) × (word ≡ was)))
+ReadsOf pairs status before after was word =
+    LaysOf pairs status before after word
+    ⊎ ((status ≡ refused NoMemory) × (after ≡ before) × (word ≡ was))
 
 abbrev pub Reads : Option State → ℕ → List CPair → List CPair → ℕ → ℕ → Option State → Type 0
 Reads (Some old) status before after was word (Some new) =

@@ -8,3 +8,4 @@ pub mod Contents
 pub mod Stops
 pub mod Striped
 pub mod Members
+pub mod StripedContents

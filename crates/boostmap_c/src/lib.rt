@@ -62,4 +62,5 @@ mod status;
 mod stops;
 mod striped;
 mod striped_calls;
+mod striped_read;
 mod transactions;

@@ -1,7 +1,7 @@
 //! The content of a map, into an array of C's. It stands apart because it alone takes memory that
 //! it gives back before it ends, and writes more than a word.
 ghost use Rattle.std.specs.Prelude.{◌≡◌, ◌≤◌, length};
-ghost use Rattle.boostmap_c.specs.Contents.{Lie, Reads};
+ghost use Rattle.boostmap_c.specs.Contents.{LaysOf, Lie, Reads};
 
 use crate::handle::{Handle, close, open};
 use crate::status::{DONE, EMPTY, SHORT, refused};
@@ -46,11 +46,19 @@ pub extern "C" fn boostmap_read(
     let Ok(listed) = listed else {
         return refused(Refusal::NoMemory);
     };
+    lay_all(&listed, pairs, word)
+}
+
+/// Lays pairs to the front of an array, if it has room for them, writes their number, and gives the
+/// status.
+pub(crate) fn lay_all(listed: &[(u64, u64)], pairs: &mut [CPair], word: &mut u64) -> u32
+    ensures { LaysOf listed.now result pairs.old pairs.new word.new }
+{
     *word = listed.len() as u64;
     if listed.len() > pairs.len() {
         return SHORT;
     }
-    lay(&listed, pairs);
+    lay(listed, pairs);
     DONE
 }
 

@@ -8,7 +8,7 @@ use striped_map::Stop;
 use txn_trace::Reply;
 
 /// Writes the holder, if there is one, and gives the status.
-fn tell_stop(stop: Stop, word: &mut u64) -> u32
+pub(crate) fn tell_stop(stop: Stop, word: &mut u64) -> u32
     ensures status { result ≡ status_of_stop stop }
     ensures word { word.new ≡ word_of_stop word.old stop }
 {

@@ -1,0 +1,14 @@
+use Rattle.std.proofs.Common.{ℕ, List, inl, refl, ap, subst, ◌∙◌}
+use Rattle.boost_core.specs.State.{State}
+use Rattle.txn_trace.specs.Now.{now}
+use Rattle.txn_trace.specs.Ordered.{ordered}
+use Rattle.boostmap_c.specs.Contents.{LaysOf}
+use Rattle.boostmap_c.proofs.read.boostmap_read.Goals as goal
+
+pub returns : goal.returns
+returns c =
+    rw (c.in-Some.ensures.some.0, c.close.ensures) (
+      refl,
+      inl (subst (λ (xs : List (ℕ × ℕ)). LaysOf xs c.lay_all.result c.args.pairs.now c.lay_all.new.pairs c.lay_all.new.word)
+          (c.deref-2.ensures.value ∙ c.in-Ok.ensures ∙ ap (λ (s : State). ordered (now s.history)) c.deref.ensures) c.lay_all.ensures),
+    )

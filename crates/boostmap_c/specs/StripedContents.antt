@@ -1,0 +1,34 @@
+-- What a caller of a striped map tells C of the whole map: it takes every stripe, so nobody else is in
+-- the way of what it tells.
+use Rattle.std.specs.Prelude.{◌≡◌, ◌⊎◌, ℕ, List, [], true, Option, Some, None, Result, Ok, Err}
+use Rattle.txn_trace.specs.Map.{count_of}
+use Rattle.txn_trace.specs.Now.{now}
+use Rattle.striped_map.specs.declared.caller.Caller.{Caller}
+use Rattle.striped_map.specs.declared.stop.Stop.{Stop}
+use Rattle.striped_map.specs.Callers.{seen, IsCut, IsStep}
+use Rattle.boostmap_c.specs.declared.member.Member.{Member}
+use Rattle.boostmap_c.specs.declared.read.CPair.{CPair}
+use Rattle.boostmap_c.specs.Contents.{LaysOf}
+use Rattle.boostmap_c.specs.Replies.{empty}
+use Rattle.boostmap_c.specs.Stops.{status_of_stop, word_of_stop}
+
+-- The caller is in a transaction, which is unchanged, and has added no entry.
+abbrev pub Looks : Caller → Caller → Type 0
+Looks a b = (a.is_open ≡ true) × (b.is_open ≡ true) × IsStep a [] b
+
+-- How many keys the map has; or why not.
+abbrev pub Counts : Caller → Result ℕ Stop → Caller → Type 0
+Counts a (Ok count) b = Looks a b × (count ≡ count_of (now (seen b)))
+Counts a (Err stop) b = IsCut a b stop
+
+-- The pairs of the map, by rising keys, or their number; or why not.
+abbrev pub ReadsMap : Option Member → ℕ → List CPair → List CPair → ℕ → ℕ → Option Member → Type 0
+ReadsMap (Some old) status before after was word (Some new) =
+    (new.waiting ≡ old.waiting)
+    × ((Looks old.caller new.caller
+    × LaysOf (now (seen new.caller)).rows status before after word)
+    ⊎ ((stop : Stop) × IsCut old.caller new.caller stop × (status ≡ status_of_stop stop)
+    × (word ≡ word_of_stop was stop) × (after ≡ before)))
+ReadsMap None status before after was word None =
+    (status ≡ empty) × (after ≡ before) × (word ≡ was)
+ReadsMap old status before after was word new = ⊥

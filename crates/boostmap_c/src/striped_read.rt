@@ -1,0 +1,72 @@
+//! The content of a striped map, in a transaction that takes every stripe. It stands apart because
+//! these two calls look at all of the map.
+ghost use Rattle.boostmap_c.specs.Members.{Numbers};
+ghost use Rattle.boostmap_c.specs.StripedContents.{Counts, ReadsMap};
+
+use crate::member_handle::{CallerHandle, put_in, take_out};
+use crate::read::{CPair, lay_all};
+use crate::status::EMPTY;
+use crate::stops::{tell_number, tell_stop};
+use std::alloc::Global;
+
+/// Takes every stripe; the word is how many keys the map has, with the transaction's own changes. The
+/// stripes stay held to the transaction's end.
+///
+/// # Errors
+///
+/// 3 if the handle has no caller; 2 if another caller held a stripe: then the transaction is aborted,
+/// with all its changes taken back, and the word is the holder. A refusal leaves the transaction
+/// unchanged, but it may hold more stripes: 19 (`NotOpen`), 30 (`NoMemory`).
+///
+/// # Cost
+///
+/// That of `striped_map::Caller::len`.
+#[unsafe(no_mangle)]
+pub extern "C" fn boostmap_striped_count(
+    alloc: Global,
+    caller: &mut CallerHandle,
+    word: &mut u64,
+) -> u32
+    ensures { Numbers Counts caller.old.held.member result word.old word.new
+        caller.new.held.member }
+{
+    let Some(mut member) = take_out(alloc, caller) else {
+        return EMPTY;
+    };
+    let answer = member.caller.len();
+    put_in(caller, member);
+    tell_number(answer, word)
+}
+
+/// Takes every stripe, and writes the pairs of the map, with the transaction's own changes, to the
+/// front of an array, by rising keys; the word is their number. The stripes stay held to the
+/// transaction's end.
+///
+/// # Errors
+///
+/// The array is unchanged: 7 if it has too few places: then the word is the number that it needs; and
+/// those of `boostmap_striped_count`.
+///
+/// # Cost
+///
+/// That of `striped_map::Caller::pairs`, and memory in proportion to the pairs while it runs.
+#[unsafe(no_mangle)]
+pub extern "C" fn boostmap_striped_read(
+    alloc: Global,
+    caller: &mut CallerHandle,
+    pairs: &mut [CPair],
+    word: &mut u64,
+) -> u32
+    ensures { ReadsMap caller.old.held.member result pairs.old pairs.new word.old word.new
+        caller.new.held.member }
+{
+    let Some(mut member) = take_out(alloc, caller) else {
+        return EMPTY;
+    };
+    let answer = member.caller.pairs();
+    put_in(caller, member);
+    match answer {
+        Ok(listed) => lay_all(&listed, pairs, word),
+        Err(stop) => tell_stop(stop, word),
+    }
+}
