@@ -4,7 +4,7 @@ use Rattle.std.specs.Io.KnownBytes.{Appends, Keeps}
 use Rattle.judge_engine.specs.Bases.{HasStripes}
 use Rattle.judge_line.specs.declared.failure.Failure.{Failure}
 use Rattle.judge_line.specs.declared.words.Call.{Call}
-use Rattle.judge_line.specs.declared.words.Call.TheVariants.{Check, Help, Version, Watch, Why}
+use Rattle.judge_line.specs.declared.words.Call.TheVariants.{Check, Help, Outcomes, Version, Watch, Why}
 use Rattle.judge_line.specs.Failures as failures
 
 -- What a run comes to: whether all is well, or a failure.
@@ -16,6 +16,7 @@ abbrev pub IsReady : Call → Type 0
 IsReady (Watch basis) = HasStripes basis
 IsReady (Check by_commits file) = Unit {0}
 IsReady (Why by_commits file) = Unit {0}
+IsReady (Outcomes scripts history) = Unit {0}
 IsReady Help = Unit {0}
 IsReady Version = Unit {0}
 

@@ -4,7 +4,7 @@ ghost use Rattle.std.specs.Prelude.{◌≡◌};
 ghost use Rattle.judge_line.specs.Failures.{message_of, status_of};
 ghost use Rattle.judge_line.specs.declared.failure.Failure.TheVariants as failures;
 
-use judge_engine::Fault;
+use judge_engine::{Fault, OutcomesFault};
 use std::alloc::AllocError;
 use std::fmt;
 
@@ -12,28 +12,34 @@ use std::fmt;
 pub(crate) const USAGE: &str = "usage: judge check [--serializable] FILE
        judge watch [--serializable | --stripes N]
        judge why [--serializable] FILE
+       judge outcomes SCRIPTS HISTORY
 
   check FILE  says whether the history of a file is legal, or which entry breaks which rule
   watch       says so of the entries that standard input has, one a line, as each comes
   why FILE    says what check says, and what leads to the entry, or to the fault of the file
+  outcomes SCRIPTS HISTORY
+              says what became of each script of a file in the history that was printed of it
 
   --serializable  judges by the order of commits, and not by locks
   --stripes N     how many locks the keys are shared out to: 1 to 4096, and 4096 if it is not given
 
-FILE is the path of a history file; - is standard input.
+FILE and HISTORY are paths of history files, SCRIPTS of a script file; - is standard input.
 
-Exit status: 0 all is well, 1 the history is illegal, 2 a usage error, 3 the file or a line is refused,
-4 no memory, a failed read or write. From 3 on one line on standard error says which.
+Exit status: 0 all is well, 1 the history is illegal, or a script without an abort was given up,
+2 a usage error, 3 a file or a line is refused, 4 no memory, a failed read or write.
+From 3 on one line on standard error says which.
 
 Example: judge check examples/checked.json";
 
-/// Why a call has no verdict.
+/// Why a call has no verdict, and no outcomes.
 #[derive(Clone, Copy, Debug, PartialEq, Eq)]
 pub enum Failure {
     /// The words of the call are none that the program has.
     Usage,
     /// There is no verdict, for a fault of the input, of memory or of an output.
     Fault(Fault),
+    /// There are no outcomes, for a fault of one of the files, of memory or of an output.
+    Outcomes(OutcomesFault),
 }
 
 impl Failure {
@@ -44,6 +50,7 @@ impl Failure {
         match self {
             Failure::Usage => 2,
             Failure::Fault(fault) => fault.status(),
+            Failure::Outcomes(fault) => fault.status(),
         }
     }
 }
@@ -57,6 +64,7 @@ impl fmt::Display for Failure {
         match *self {
             Failure::Usage => f.write_str(USAGE),
             Failure::Fault(fault) => write!(f, "{fault}"),
+            Failure::Outcomes(fault) => write!(f, "{fault}"),
         }
     }
 }
@@ -68,6 +76,14 @@ impl From<Fault> for Failure {
 
     fn from(fault: Fault) -> Failure {
         Failure::Fault(fault)
+    }
+}
+
+impl From<OutcomesFault> for Failure {
+    ghost from_gives = { λ fault failure. failure ≡ failures.Outcomes fault };
+
+    fn from(fault: OutcomesFault) -> Failure {
+        Failure::Outcomes(fault)
     }
 }
 

@@ -5,8 +5,8 @@ ghost use Rattle.judge_line.specs.Runs.{IsReady, Tells, status_after};
 
 use crate::failure::{Failure, USAGE};
 use crate::system::System;
-use crate::words::{Call, call_in};
-use judge_engine::{Fault, check, watch, why};
+use crate::words::{Call, STANDARD, call_in};
+use judge_engine::{Fault, OutcomesFault, check, tell_outcomes, watch, why};
 use std::alloc::Global;
 use std::io;
 use std::io::{Read, Write};
@@ -14,13 +14,11 @@ use std::io::{Read, Write};
 /// What is printed of a call for the version.
 const VERSION: &str = "judge 1.0.0";
 
-/// The name of standard input.
-const STANDARD: &str = "-";
-
 /// How a run of the program ended.
 #[derive(Clone, Copy, Debug, PartialEq, Eq)]
 pub struct Ending {
-    /// The exit status: 0 where all is well, 1 for an illegal history, else that of the failure.
+    /// The exit status: 0 if all is well, 1 for an illegal history or a script that was given up,
+    /// else that of the failure.
     pub status: u8,
     /// Whether standard error took all that there was to say.
     pub is_told: bool,
@@ -42,16 +40,16 @@ fn memory_or(error: &io::Error, other: Failure) -> Failure {
     }
 }
 
-/// Opens the source of this name.
-fn open<S: System>(system: &S, name: &str) -> Result<S::Source, Failure> {
+/// Opens the source of this name; if that fails but for want of memory, with this failure.
+fn open<S: System>(system: &S, name: &str, failure: Failure) -> Result<S::Source, Failure> {
     match system.open(name) {
         Ok(source) => Ok(source),
-        Err(error) => Err(memory_or(&error, Failure::Fault(Fault::Read))),
+        Err(error) => Err(memory_or(&error, failure)),
     }
 }
 
-/// Does what a call asks for. The answer is whether all is well: only of an illegal history it is
-/// not.
+/// Does what a call asks for. The answer is whether all is well: of an illegal history it is not,
+/// nor of a script without an abort that was given up.
 fn answer<S: System, W: Write>(
     alloc: Global,
     system: &S,
@@ -64,15 +62,28 @@ fn answer<S: System, W: Write>(
         Call::Help => show(output, USAGE),
         Call::Version => show(output, VERSION),
         Call::Check { by_commits, file } => {
-            let source = open(system, file)?;
+            let source = open(system, file, Failure::Fault(Fault::Read))?;
             Ok(check(alloc, by_commits, source, output)?)
         }
         Call::Watch { basis } => {
-            let mut source = open(system, STANDARD)?;
+            let mut source = open(system, STANDARD, Failure::Fault(Fault::Read))?;
             Ok(watch(alloc, basis, &mut source, output)?)
         }
+        Call::Outcomes { scripts, history } => {
+            let scripts = open(
+                system,
+                scripts,
+                Failure::Outcomes(OutcomesFault::ScriptsRead),
+            )?;
+            let history = open(
+                system,
+                history,
+                Failure::Outcomes(OutcomesFault::HistoryRead),
+            )?;
+            Ok(tell_outcomes(alloc, scripts, history, output)?)
+        }
         Call::Why { by_commits, file } => {
-            let source = open(system, file)?;
+            let source = open(system, file, Failure::Fault(Fault::Read))?;
             Ok(why(alloc, by_commits, source, output)?)
         }
     }

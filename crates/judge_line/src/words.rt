@@ -22,6 +22,13 @@ pub enum Call<'a> {
     },
     /// To show the usage.
     Help,
+    /// To say what became of each script of a script file in a history file.
+    Outcomes {
+        /// The script file's name.
+        scripts: &'a str,
+        /// The history file's name.
+        history: &'a str,
+    },
     /// To show the version.
     Version,
     /// To judge the entries that standard input has.
@@ -37,6 +44,9 @@ pub enum Call<'a> {
         file: &'a str,
     },
 }
+
+/// The name of standard input.
+pub(crate) const STANDARD: &str = "-";
 
 /// The most locks that keys may be shared out to, and how many they are if it is not said.
 const MAX_STRIPES: u64 = 4096;
@@ -57,6 +67,18 @@ fn command_on_history<'a>(alloc: Global, name: &'a str) -> Result<Command<'a>, A
     command.arg(file)
 }
 
+/// The command `outcomes`.
+fn outcomes_command<'a>(alloc: Global) -> Result<Command<'a>, AllocError> {
+    let scripts = Arg::new(alloc, "SCRIPTS")
+        .required(true)
+        .action(ArgAction::Set);
+    let history = Arg::new(alloc, "HISTORY")
+        .required(true)
+        .action(ArgAction::Set);
+    let command = Command::new(alloc, "outcomes").arg(scripts)?;
+    command.arg(history)
+}
+
 /// The command `watch`.
 fn watch_command<'a>(alloc: Global) -> Result<Command<'a>, AllocError> {
     let stripes = Arg::new(alloc, "stripes")
@@ -72,6 +94,7 @@ fn command<'a>(alloc: Global) -> Result<Command<'a>, AllocError> {
         .version("1.0.0")
         .subcommand_required(true)
         .subcommand(command_on_history(alloc, "check")?)?
+        .subcommand(outcomes_command(alloc)?)?
         .subcommand(watch_command(alloc)?)?
         .subcommand(command_on_history(alloc, "why")?)
 }
@@ -115,6 +138,17 @@ fn basis_in(by_commits: bool, stripes: Option<&str>) -> Option<Basis>
     }
 }
 
+/// The call for the outcomes of these files, unless standard input would have to be both.
+fn outcomes_of<'a>(scripts: &'a str, history: &'a str) -> Option<Call<'a>>
+    ensures { IfSome result IsReady }
+{
+    if scripts == STANDARD && history == STANDARD {
+        None
+    } else {
+        Some(Call::Outcomes { scripts, history })
+    }
+}
+
 /// The call of the command of this name, by what was found of its arguments.
 fn call_named<'a>(name: &str, found: &ArgMatches<'a>) -> Option<Call<'a>>
     ensures { IfSome result IsReady }
@@ -124,6 +158,11 @@ fn call_named<'a>(name: &str, found: &ArgMatches<'a>) -> Option<Call<'a>>
         "check" => {
             let file = found.get_str("FILE")?;
             Some(Call::Check { by_commits, file })
+        }
+        "outcomes" => {
+            let scripts = found.get_str("SCRIPTS")?;
+            let history = found.get_str("HISTORY")?;
+            outcomes_of(scripts, history)
         }
         "watch" => {
             let basis = basis_in(by_commits, found.get_str("stripes"))?;
