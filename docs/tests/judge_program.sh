@@ -358,6 +358,36 @@ $.entries has more than 1000000 elements, or a caller or a holder in it is above
   done
 }
 
+# What became of each script of examples/scripts.json, by hand: the history of docs/FORMATS.md, and none.
+script_outcomes() {
+  local lost='script 0 worker 0 given up
+script 1 worker 0 given up
+script 2 worker 0 given up
+0 committed 0 aborted 3 given up'
+  printf '%s' '{"version":1,"stripes":8,"entries":[["began",0,1],["asked",0,"put",1,10],["did",0,null],
+["asked",0,"put",2,20],["did",0,null],["saved",0],["asked",0,"take",1],["did",0,10],["asked",0,"get",9],
+["did",0,null],["leave",0,1],["undone",0],["returned",0,1],["asked",0,"get",1],["did",0,10],
+["committed",0,1],["began",0,2],["asked",0,"put",1,11],["did",0,10],["leave",0,null],["undone",0],
+["aborted",0],["began",0,3],["committed",0,2]]}' >"$work/history.json"
+  wants 0 'script 0 worker 0 committed 1 entry 15
+script 1 worker 0 aborted entry 21
+script 2 worker 0 committed 2 entry 23
+2 committed 1 aborted 0 given up' '' outcomes examples/scripts.json "$work/history.json"
+  echo '{"version":1,"stripes":8,"entries":[]}' >"$work/empty.json"
+  wants 1 "$lost" '' outcomes examples/scripts.json "$work/empty.json"
+  "$program" outcomes examples/scripts.json - <"$work/empty.json" >"$work/out" 2>"$work/err"
+  echo $? >"$work/status"
+  judge 'outcomes with a history of standard input' 1 "$lost" ''
+  wants 3 '' 'scripts refused 20' outcomes README.md "$work/empty.json"
+  wants 3 '' 'history refused 20' outcomes examples/scripts.json README.md
+  wants 4 '' 'scripts read failed' outcomes examples/missing.json "$work/empty.json"
+  wants 4 '' 'history read failed' outcomes examples/scripts.json examples/missing.json
+  wants 2 '' "$usage" outcomes
+  wants 2 '' "$usage" outcomes examples/scripts.json
+  wants 2 '' "$usage" outcomes - -
+  wants 2 '' "$usage" outcomes --serializable examples/scripts.json "$work/empty.json"
+}
+
 # A line of this many bytes, which is an entry.
 long() {
   printf '["began",0,1%*s]' $(($1 - 13)) ''
@@ -476,6 +506,7 @@ reasons
 shapes
 commits
 refusals
+script_outcomes
 input
 limits
 many
