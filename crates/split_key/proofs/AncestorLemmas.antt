@@ -1,4 +1,5 @@
--- Parents and ancestors of buckets: an ancestor has the bucket's lowest bits, so its dummy stands before the bucket's.
+-- Parents and ancestors of buckets: an ancestor has some of the bucket's lowest bits and no other,
+-- so its dummy stands before the bucket's.
 use Prim.Native.Nat.{zero, suc}
 use Rattle.std.proofs.Common.{◌≡◌, ◌≢◌, ℕ, ◌+◌, ◌*◌, ◌-◌, ◌/◌, ◌%◌, ◌^◌, ◌<◌, ◌≤◌, refl, sym, ◌∙◌, ap, arith, pow-suc, div-add-mod', add-mul, inl, inr}
 use Rattle.std.proofs.lemmas.Bool.{cases_lt}
@@ -8,7 +9,7 @@ use Rattle.std.proofs.Math.Nat.{pow-le-pow_right, mod-eq_of_lt, mod-le, mul-le-m
 use Rattle.split_key.specs.Split.{reversed_low, reversed, split, highest_cleared, parent_of, ancestor_of, IsAncestor}
 use Rattle.split_key.proofs.SplitLemmas.{reversed_low_below, reversed_low_of_zero, reversed_low_append, lowest_before, lowest_before_key}
 
--- The exponent of a power of two that fits a word.
+-- If a power of two is below `2 ^ width`, its exponent is below `width`.
 pub exponent_below : (bit width : ℕ) → 2 ^ bit < 2 ^ width → bit < width
 exponent_below bit width small =
     elim (cases_lt bit width) [
@@ -16,7 +17,7 @@ exponent_below bit width small =
       | inr more ↦ let large : 2 ^ width ≤ 2 ^ bit = pow-le-pow_right {n = 2} (omega arith) more in absurd (omega arith)
     ]
 
--- The lowest bits of the lowest bits.
+-- The lowest bits of a number's lowest bits are lowest bits of the number.
 mod_pow_twice : (number j k : ℕ) → (bits : ℕ) × (bits ≤ j) × (number % 2 ^ j % 2 ^ k ≡ number % 2 ^ bits)
 mod_pow_twice number j k =
     elim (cases_lt j k) [
@@ -31,7 +32,7 @@ mod_pow_twice number j k =
           (k, more, rw parts (mod_low (number / 2 ^ k % 2 ^ (j - k)) k (number % 2 ^ k) (mod_below number (2 ^ k) (pow_pos k))))
     ]
 
--- The highest 1 bit of a number, and the rest.
+-- A number with its highest 1 bit cleared is the rest below that bit.
 pub highest_cleared_is : (width number bit rest : ℕ) → number ≡ 2 ^ bit + rest → rest < 2 ^ bit → bit < width → highest_cleared width number ≡ rest
 unfolding highest_cleared
 highest_cleared_is zero number bit rest is below small = absurd (omega arith)
@@ -51,7 +52,7 @@ highest_cleared_is (suc width) number bit rest is below small =
           ]
     ]
 
--- Without its highest 1 bit a number is its bits below some place.
+-- A number with its highest 1 bit cleared is the number's lowest bits.
 highest_cleared_lowest : (width number : ℕ) → number < 2 ^ width → (bits : ℕ) × (highest_cleared width number ≡ number % 2 ^ bits)
 unfolding highest_cleared
 highest_cleared_lowest zero number small = (0, omega arith)
@@ -64,7 +65,7 @@ highest_cleared_lowest (suc width) number small =
       | inr under ↦ let below = highest_cleared_lowest width number under.1 in (below.0, rw (under.0) below.1)
     ]
 
--- An ancestor is the bucket's bits below some place.
+-- An ancestor is the lowest bits of the bucket.
 ancestor_of_lowest : (steps bucket : ℕ) → bucket < 2 ^ 32 → (bits : ℕ) × (bits ≤ 32) × (ancestor_of steps bucket ≡ bucket % 2 ^ bits)
 unfolding ancestor_of parent_of
 ancestor_of_lowest zero bucket small = (32, omega arith, omega arith)
@@ -80,12 +81,12 @@ pub IsAncestor-self : (bucket : ℕ) → IsAncestor bucket bucket
 unfolding ancestor_of
 IsAncestor-self bucket = record { steps = 0; reached = refl }
 
--- The parent of an ancestor is one.
+-- The parent of an ancestor is an ancestor.
 pub IsAncestor-parent_of : (ancestor descendant : ℕ) → IsAncestor ancestor descendant → IsAncestor (parent_of ancestor) descendant
 unfolding ancestor_of
 IsAncestor-parent_of ancestor descendant is = record { steps = suc is.steps; reached = ap parent_of is.reached }
 
--- Another ancestor's dummy stands before the bucket's.
+-- The dummy of an ancestor, other than the bucket itself, stands before the bucket's.
 pub ancestor_before : (ancestor bucket : ℕ) → bucket < 2 ^ 32 → IsAncestor ancestor bucket → ancestor ≢ bucket → reversed ancestor < reversed bucket
 ancestor_before ancestor bucket small is other =
     let lowest = ancestor_of_lowest is.steps bucket small in
@@ -105,7 +106,7 @@ ancestor_before_key ancestor key exponent small is =
     let low : ancestor ≡ key % 2 ^ twice.0 = is.reached ∙ lowest.2 ∙ twice.2 in
     rw low (lowest_before_key twice.0 key (omega (arith, twice.1)))
 
--- The dummies of a word's lowest bits, and of their ancestors, do not stand behind the word.
+-- No dummy of a word's lowest bits, or of an ancestor of these, stands behind the word.
 pub ancestor_not_behind : (ancestor word exponent : ℕ) → exponent ≤ 32 → word < 2 ^ 64 → IsAncestor ancestor (word % 2 ^ exponent) → reversed ancestor ≤ reversed word
 ancestor_not_behind ancestor word exponent small fits is =
     let within = mod_below word (2 ^ exponent) (pow_pos exponent) in
@@ -118,7 +119,8 @@ ancestor_not_behind ancestor word exponent small fits is =
       | inr longer ↦ let lower = lowest_before twice.0 word (omega (arith, twice.1)) fits longer in rw low (omega (arith, lower))
     ]
 
--- What is not above another and a part of its unit is not above it.
+-- Of two multiples of a unit, one that is at most the other and a part of the unit is at most the
+-- other.
 whole_not_above : (a b unit rest : ℕ) → rest < unit → a * unit ≤ b * unit + rest → a ≤ b
 whole_not_above a b unit rest part below =
     elim (cases_lt b a) [
@@ -128,7 +130,8 @@ whole_not_above a b unit rest part below =
       | inr within ↦ within
     ]
 
--- Of all words of so few bits that do not stand behind a word, its lowest bits stand last.
+-- Of all numbers of `exponent` bits whose reversal is not above the word's, the word's lowest bits
+-- have the highest.
 pub lowest_is_last : (other word exponent : ℕ) → exponent ≤ 64 → other < 2 ^ exponent → reversed other ≤ reversed word → reversed other ≤ reversed (word % 2 ^ exponent)
 unfolding reversed
 lowest_is_last other word exponent small short below =

@@ -1,5 +1,5 @@
--- The order of sort keys: no sort key is before itself, what is before another is before all behind that, and
--- of two that differ one is before the other. The crates above use nothing else of it.
+-- Sort keys are in a strict total order: no sort key is before itself, `is_before` is transitive,
+-- and of two that differ one is before the other. The crates above use only these lemmas of it.
 use Rattle.std.proofs.Common.{◌≡◌, ◌≢◌, ℕ, ◌%◌, ◌^◌, ◌<◌, ◌≤◌, ◌⊎◌, inl, inr, Bool, true, false, refl, sym, ◌∙◌, ap, ap₂, subst, arith, ◌==◌, nat_lt}
 use Rattle.std.proofs.lemmas.Bool.{cases_order}
 use Rattle.std.proofs.lemmas.Bool.Decides.{eqb_tells, nat_tests}
@@ -29,7 +29,7 @@ apart_test a b differs = elim (eqb_tells a b) [
   | inr apart ↦ apart.0
 ]
 
--- What the test of two sort keys says of their numbers.
+-- The test of two sort keys, as a statement about their numbers.
 abbrev pub IsLower : SortKey → SortKey → Type 0
 IsLower a b = (a.split < b.split) ⊎ ((a.split ≡ b.split) × (a.key < b.key))
 
@@ -83,11 +83,11 @@ lower_twice a b c (inl first) (inr second) = inl (omega (arith, first, second.0)
 lower_twice a b c (inr first) (inl second) = inl (omega (arith, first.0, second))
 lower_twice a b c (inr first) (inr second) = inr (first.0 ∙ second.0, omega (arith, first.1, second.1))
 
--- What is before another is before all behind that.
+-- If `a` is before `b` and `b` before `c`, `a` is before `c`.
 pub before_transitive : (a b c : SortKey) → IsBefore a b → IsBefore b c → IsBefore a c
 before_transitive a b c first second = before_from a c (lower_twice a b c (lower_from a b first) (lower_from b c second))
 
--- Two sort keys of which neither is before the other are one.
+-- Two sort keys are equal if neither is before the other.
 pub before_total : (a b : SortKey) → IsNotBefore a b → IsNotBefore b a → a ≡ b
 before_total a b not_first not_second = elim (cases_sort a b) [
   | inl lower ↦ absurd (true-false (sym (before_from a b lower) ∙ not_first))
@@ -97,7 +97,7 @@ before_total a b not_first not_second = elim (cases_sort a b) [
   ]
 ]
 
--- A test that is not true is false, so of two sort keys the first is before the second or not.
+-- Of two sort keys, the first is before the second or it is not.
 pub cases_before : (a b : SortKey) → IsBefore a b ⊎ IsNotBefore a b
 cases_before a b = go (is_before a b) refl
   where
@@ -115,40 +115,40 @@ before_once a b before = elim (cases_before b a) [
   | inr not_back ↦ not_back
 ]
 
--- Sort keys of which one is before the other differ.
+-- If one sort key is before another, they differ.
 pub before_apart : (a b : SortKey) → IsBefore a b → a ≢ b
 before_apart a b before same = before_not_before b b (rw same at before) (before_irreflexive b)
 
--- What is before another is before all that is not before that.
+-- If `a` is before `b`, and `c` is not, `a` is before `c`.
 pub before_behind : (a b c : SortKey) → IsBefore a b → IsNotBefore c b → IsBefore a c
 before_behind a b c before not_before = elim (cases_before b c) [
   | inl behind ↦ before_transitive a b c before behind
   | inr not_behind ↦ subst (λ k. IsBefore a k) (before_total b c not_behind not_before) before
 ]
 
--- What another is not before is before all behind that.
+-- If `b` is not before `a`, and `b` is before `c`, `a` is before `c`.
 pub not_before_before : (a b c : SortKey) → IsNotBefore b a → IsBefore b c → IsBefore a c
 not_before_before a b c not_before before = elim (cases_before a b) [
   | inl ahead ↦ before_transitive a b c ahead before
   | inr not_ahead ↦ subst (λ k. IsBefore k c) (sym (before_total a b not_ahead not_before)) before
 ]
 
--- Sort keys whose split keys differ are in the order of these.
+-- Sort keys with different split keys are ordered by these.
 pub before_by_split : (a b : SortKey) → a.split < b.split → IsBefore a b
 before_by_split a b less = before_from a b (inl less)
 
--- Sort keys of one split key are in the order of their keys.
+-- Sort keys with the same split key are ordered by their keys.
 pub before_by_key : (a b : SortKey) → a.split ≡ b.split → a.key < b.key → IsBefore a b
 before_by_key a b same less = before_from a b (inr (same, less))
 
--- What is before another has no higher split key.
+-- If `a` is before `b`, its split key is not above that of `b`.
 pub split_before : (a b : SortKey) → IsBefore a b → a.split ≤ b.split
 split_before a b before = elim (lower_from a b before) [
   | inl less ↦ omega (arith, less)
   | inr both ↦ omega (arith, both.0)
 ]
 
--- The test whether two sort keys are one.
+-- The test for equality is true of equal sort keys.
 pub is_same_from : (a b : SortKey) → a ≡ b → is_same a b ≡ true
 is_same_from a b same =
     rw (same_test a.split b.split (ap (λ (k : SortKey). k.split) same), same_test a.key b.key (ap (λ (k : SortKey). k.key) same)) refl
@@ -162,7 +162,7 @@ same_from_test a b is = elim (eqb_tells a.split b.split) [
   | inr differs ↦ absurd (true-false (sym (rw differs.0 at is)))
 ]
 
--- Of two sort keys they are one, or not.
+-- Two sort keys are equal or not, and the test tells which.
 pub cases_same : (a b : SortKey) → ((is_same a b ≡ true) × (a ≡ b)) ⊎ ((is_same a b ≡ false) × (a ≢ b))
 cases_same a b = go (is_same a b) refl
   where
@@ -176,14 +176,14 @@ nonzero_above n other = elim (cases_order 0 n) [
   | inr either ↦ elim either [ inl less ↦ less | inr more ↦ absurd (omega arith) ]
 ]
 
--- The dummy of bucket 0 is before each other.
+-- The dummy of bucket 0 is before every other dummy.
 pub first_before_dummy : (bucket : ℕ) → bucket < 2 ^ 32 → bucket ≢ 0 → IsBefore (dummy_at 0) (dummy_at bucket)
 first_before_dummy bucket fits other =
     let none : bucket % 2 ^ 0 ≡ 0 = omega arith in
     let lower = lowest_before 0 bucket (omega arith) (omega arith) (omega (arith, nonzero_above bucket other)) in
     before_by_split (dummy_at 0) (dummy_at bucket) (subst (λ low. reversed low < reversed bucket) none lower)
 
--- And before each key.
+-- The dummy of bucket 0 is before every key.
 pub first_before_key : (key : ℕ) → IsBefore (dummy_at 0) (regular_at key)
 first_before_key key =
     let none : key % 2 ^ 0 ≡ 0 = omega arith in

@@ -1,4 +1,5 @@
--- Bits in reverse order: each bit's place, that no two words share a reversal, and the order of split keys.
+-- Bits in reverse order: the position of each bit, that no two words share a reversal, and the
+-- order of split keys.
 use Prim.Native.Nat.{zero, suc}
 use Rattle.std.proofs.Common.{◌≡◌, ℕ, ◌+◌, ◌*◌, ◌-◌, ◌/◌, ◌%◌, ◌^◌, ◌<◌, ◌≤◌, refl, sym, ◌∙◌, ap, arith, bit_or, pow-suc, zero-add, suc-add, div-add-mod', add-mul, subst, mul_assoc, mul_left_comm, inl, inr}
 use Rattle.std.proofs.lemmas.Bool.{cases_lt}
@@ -32,7 +33,7 @@ unfolding reversed_low
 reversed_low_of_zero zero = refl
 reversed_low_of_zero (suc width) = omega (arith, reversed_low_of_zero width)
 
--- What is lower in the word stands higher in the reversal.
+-- The reversal of two parts: the low part of the word is the high part of the reversal.
 pub reversed_low_append : (j k high low word : ℕ) → low < 2 ^ j → word ≡ high * 2 ^ j + low → reversed_low (j + k) word ≡ reversed_low j low * 2 ^ k + reversed_low k high
 unfolding reversed_low
 reversed_low_append zero k high low word within is =
@@ -94,11 +95,11 @@ pub reversed_twice : (word : ℕ) → word < 2 ^ 64 → reversed (reversed word)
 unfolding reversed
 reversed_twice word within = reversed_low_twice 64 word within
 
--- Two words with one reversal are one.
+-- Two words with the same reversal are equal.
 pub same_from_reversed : (a b : ℕ) → a < 2 ^ 64 → b < 2 ^ 64 → reversed a ≡ reversed b → a ≡ b
 same_from_reversed a b a_fits b_fits same = sym (reversed_twice a a_fits) ∙ ap reversed same ∙ reversed_twice b b_fits
 
--- A key with bit 63 set, as a sum and as the machine makes it.
+-- A key with bit 63 set, as a sum and as the machine computes it.
 top_set_below : (key : ℕ) → key % 2 ^ 63 + 2 ^ 63 < 2 ^ 64
 top_set_below key = omega (arith, mod_below key (2 ^ 63) (pow_pos 63))
 
@@ -127,7 +128,7 @@ top_set_is key fits =
     let whole : 1 * 2 ^ 63 + key % 2 ^ 63 ≡ key % 2 ^ 63 + 2 ^ 63 = omega arith in
     same_from_bits_below 64 (bit_or key (2 ^ 63)) (1 * 2 ^ 63 + key % 2 ^ 63) (or_lt 64 key (2 ^ 63) fits (omega arith)) (omega (arith, top_set_below key)) (top_set_bits key) ∙ whole
 
--- Two keys share a split key exactly where they agree below bit 63.
+-- Two keys share a split key exactly if they agree below bit 63.
 pub same_from_split : (a b : ℕ) → split a ≡ split b → a % 2 ^ 63 ≡ b % 2 ^ 63
 unfolding split
 same_from_split a b same =
@@ -150,7 +151,7 @@ split_odd key =
 pub reversed_even : (bucket : ℕ) → bucket < 2 ^ 63 → reversed bucket % 2 ≡ 0
 reversed_even bucket fits = omega (arith, bit_at_lowest (reversed bucket), bit_at-reversed bucket 0 (omega arith))
 
--- A word's lowest bits stand before the word, where a higher bit is 1.
+-- If a word has a 1 above its lowest `j` bits, these stand before the word.
 pub lowest_before : (j word : ℕ) → j ≤ 64 → word < 2 ^ 64 → 2 ^ j ≤ word → reversed (word % 2 ^ j) < reversed word
 unfolding reversed
 lowest_before j word small fits longer =

@@ -1,4 +1,4 @@
--- Neighbouring groups of bits that change places, as masks and shifts do it, and six such changes in a row.
+-- Swaps of neighbouring groups of bits, as masks and shifts make them, and six of them in a row.
 use Rattle.std.proofs.Common.{◌≡◌, ℕ, ◌+◌, ◌*◌, ◌-◌, ◌/◌, ◌%◌, ◌^◌, ◌<◌, ◌≤◌, add-zero, refl, sym, ◌∙◌, ap, arith, inl, inr, true, bit_and, bit_or, nat_eq, nat_lt, min}
 use Rattle.std.proofs.lemmas.Bool.{agree_below, agree_below_at, cases_eq, cases_lt, eq-eqb, eqb-true, ltb-true, ne_eqb}
 use Rattle.std.proofs.lemmas.Nat.{pow_pos, shr-shr, shr_split}
@@ -7,11 +7,11 @@ use Rattle.std.proofs.lemmas.Nat.Bits.{bit_at_and, bit_at_or, bit_at-lt, bit_at-
 use Rattle.std.specs.Int.{bit_at}
 use Rattle.split_key.specs.Swap.{swapped_place}
 
--- Two functions that are equal at each place of a word, as computing shows.
+-- Two functions agree at each position of a word if computing says so.
 pub same_at_places : (f g : ℕ → ℕ) → agree_below (λ place. nat_eq (f place) (g place)) (λ _. true) 64 ≡ true → (place : ℕ) → place < 64 → f place ≡ g place
 same_at_places f g e place within = eqb-true (f place) (g place) (agree_below_at (λ k. nat_eq (f k) (g k)) (λ _. true) 64 place e within)
 
--- A bit of a word that moved up or down.
+-- A bit of a word that was shifted down.
 bit_at_shr : (word width place : ℕ) → bit_at (word / 2 ^ width) place ≡ bit_at word (place + width)
 bit_at_shr word width place = ap (λ n. n % 2) (shr-shr word width place) ∙ ap (λ k. bit_at word k) (omega arith)
 
@@ -32,7 +32,7 @@ swapped_place_of_lower width place lower = rw (eq-eqb (place / width % 2) 0 lowe
 swapped_place_of_upper : (width place : ℕ) → place / width % 2 ≡ 1 → swapped_place width place ≡ place - width
 swapped_place_of_upper width place upper = rw (ne_eqb (place / width % 2) 0 (λ none. omega arith)) refl
 
--- The group before one of the upper groups is a lower one, and the other way round.
+-- The group before an upper group is a lower one, and the other way round.
 group_before : (width place : ℕ) → 0 < width → width ≤ place → (place - width) / width % 2 ≡ 1 - place / width % 2
 group_before width place some above = omega (arith, div-eq-sub-div some above)
 
@@ -61,14 +61,14 @@ bit_at-swapped word width low place some groups within =
           ]
     ]
 
--- Each two neighbouring groups of so many bits have changed places.
+-- Neighbouring groups of `width` bits are swapped.
 abbrev pub IsSwap : ℕ → ℕ → ℕ → Type 0
 IsSwap width word new = (place : ℕ) → place < 64 → bit_at new place ≡ bit_at word (swapped_place width place)
 
 swapped_place_below : (width place : ℕ) → agree_below (λ k. nat_lt (swapped_place width k) 64) (λ _. true) 64 ≡ true → place < 64 → swapped_place width place < 64
 swapped_place_below width place e within = ltb-true _ 64 (agree_below_at (λ k. nat_lt (swapped_place width k) 64) (λ _. true) 64 place e within)
 
--- Swaps of all powers of two reverse a word.
+-- Swaps of groups of 1, 2, 4, 8, 16 and 32 bits reverse a word.
 pub bit_at-six_swaps : (word pairs nibbles bytes double_bytes halves reversal : ℕ) → IsSwap 1 word pairs → IsSwap 2 pairs nibbles → IsSwap 4 nibbles bytes → IsSwap 8 bytes double_bytes → IsSwap 16 double_bytes halves
     → IsSwap 32 halves reversal → (place : ℕ) → place < 64 → bit_at reversal place ≡ bit_at word (63 - place)
 bit_at-six_swaps word pairs nibbles bytes double_bytes halves reversal bits_swap pairs_swap nibbles_swap bytes_swap double_bytes_swap halves_swap place within =

@@ -3,7 +3,8 @@ use Rattle.std.specs.Prelude.{ℕ, ◌≡◌, Bool, true, false, ◌==◌, ◌&&
 use Rattle.split_key.specs.declared.sort.SortKey.{SortKey}
 use Rattle.split_key.specs.Split.{reversed, split}
 
--- Whether the first stands before the second: by the split key, and where that is one by the key.
+-- Whether the first stands before the second: by the split key, and if the split keys are equal by
+-- the key.
 unfoldable pub is_before : SortKey → SortKey → Bool
 is_before a b = if a.split == b.split then nat_lt a.key b.key else nat_lt a.split b.split
 
@@ -11,18 +12,18 @@ is_before a b = if a.split == b.split then nat_lt a.key b.key else nat_lt a.spli
 abbrev pub IsBefore : SortKey → SortKey → Type 0
 IsBefore a b = is_before a b ≡ true
 
--- The first does not stand before the second: it stands behind it, or they are one.
+-- The first does not stand before the second: it stands behind it, or they are equal.
 abbrev pub IsNotBefore : SortKey → SortKey → Type 0
 IsNotBefore a b = is_before a b ≡ false
 
--- Whether they are one.
+-- Whether two sort keys are equal.
 abbrev pub is_same : SortKey → SortKey → Bool
 is_same a b = a.split == b.split && a.key == b.key
 
--- Where the node of a key stands.
+-- The sort key of a key's node.
 abbrev pub regular_at : ℕ → SortKey
 regular_at key = record { split = split key; key = key }
 
--- Where the dummy of a bucket stands.
+-- The sort key of a bucket's dummy.
 abbrev pub dummy_at : ℕ → SortKey
 dummy_at bucket = record { split = reversed bucket; key = 0 }

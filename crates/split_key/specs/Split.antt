@@ -2,7 +2,7 @@
 use Rattle.std.specs.Prelude.{ℕ, ◌≡◌, ◌+◌, ◌*◌, ◌-◌, ◌/◌, ◌%◌, ◌^◌, ◌<◌, nat_le, if◌then◌else◌}
 use Prim.Native.Nat.{zero, suc}
 
--- The lowest bits of a word, so many, in reverse order.
+-- The lowest bits of a word in reverse order; the first number says how many.
 unfoldable pub reversed_low : ℕ → ℕ → ℕ
 reversed_low zero word = 0
 reversed_low (suc width) word = word % 2 * 2 ^ width + reversed_low width (word / 2)
@@ -21,22 +21,23 @@ highest_cleared zero number = 0
 highest_cleared (suc width) number =
     if nat_le (2 ^ width) number then number - 2 ^ width else highest_cleared width number
 
--- The parent of a bucket, and 0 for bucket 0.
+-- The parent of a bucket; bucket 0 is its own.
 unfoldable pub parent_of : ℕ → ℕ
 parent_of bucket = highest_cleared 32 bucket
 
--- The bucket is its parent with one 1 bit more, above all others.
+-- The bucket is its parent with one more 1 bit, above all others.
 pub record IsParent (bucket parent : ℕ) : Type 0 where
   pub bit : ℕ
   pub splits : bucket ≡ 2 ^ bit + parent
   pub below : parent < 2 ^ bit
 
--- The bucket that so many steps to the parent reach.
+-- The bucket that a number of steps from a bucket to its parent reaches.
 unfoldable pub ancestor_of : ℕ → ℕ → ℕ
 ancestor_of zero bucket = bucket
 ancestor_of (suc steps) bucket = parent_of (ancestor_of steps bucket)
 
--- Some number of steps to the parent reaches the ancestor; a bucket is its own, by no step.
+-- The ancestor is reached by some number of steps to the parent. A bucket is its own ancestor, by
+-- no step.
 pub record IsAncestor (ancestor bucket : ℕ) : Type 0 where
   pub steps : ℕ
   pub reached : ancestor ≡ ancestor_of steps bucket

@@ -1,6 +1,6 @@
--- Errors in words.
+-- The texts of errors.
 use Rattle.std.specs.Prelude.{ℕ, List, codes}
 
--- What a bad key is printed as.
+-- The text of a `BadKey`.
 abbrev pub bad_key_text : List ℕ
 bad_key_text = codes "a key is a number below 2^63"

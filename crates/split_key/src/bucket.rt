@@ -1,5 +1,5 @@
-//! Which bucket a key belongs to, a bucket's parent, and the bucket of a place in the order.
-//! Constant time.
+//! Buckets as numbers: the bucket that a key belongs to, the parent of a bucket, and the bucket to
+//! which a position of the split order belongs. A bucket is the lowest bits of its keys.
 ghost use Rattle.std.specs.Prelude.{◌≡◌, ℕ, ◌%◌, ◌<◌, ◌≤◌};
 ghost use Rattle.split_key.specs.Split.{reversed, split, parent_of, IsParent};
 ghost use Rattle.split_key.specs.Split.{IsAncestor, IsPowerOfTwo};
@@ -8,11 +8,7 @@ use crate::key::Key;
 use crate::reversal::reverse;
 
 /// The parent of a bucket other than 0: the bucket with its highest 1 bit cleared. The bucket's
-/// keys were the parent's when the table had half the size at which the bucket came up.
-///
-/// # Cost
-///
-/// Constant time; takes no memory.
+/// keys were the parent's in the table of half the size, before the bucket was split off.
 pub fn parent(bucket: u32) -> u32
     requires { 0 < bucket }
     ensures value { result ≡ parent_of bucket }
@@ -28,9 +24,6 @@ pub fn parent(bucket: u32) -> u32
 /// The bucket of a key in a table of this size, a power of two: the key's lowest bits. The dummies
 /// of the bucket and of all its ancestors stand before the key, so a search for the key may begin
 /// at any of them.
-///
-/// # Cost
-///
 /// Constant time; takes no memory.
 pub fn bucket_of(key: Key, size: u32) -> u32
     requires { IsPowerOfTwo size }
@@ -41,12 +34,9 @@ pub fn bucket_of(key: Key, size: u32) -> u32
     (key.number() & u64::from(size - 1)) as u32
 }
 
-/// The bucket to which a place of the split order belongs, in a table of this size, a power of two:
-/// its dummy has the greatest split key of the table's dummies that is not above `split`. The
-/// dummies of its ancestors are not above `split` either.
-///
-/// # Cost
-///
+/// The bucket to which a position of the split order belongs, in a table of this size, a power of
+/// two: of the table's dummies whose split keys are not above `split`, this bucket's has the
+/// greatest. The dummies of its ancestors are not above `split` either.
 /// Constant time; takes no memory.
 pub fn bucket_at(split: u64, size: u32) -> u32
     requires { IsPowerOfTwo size }

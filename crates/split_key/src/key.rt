@@ -1,5 +1,5 @@
-//! Keys: any number of 64 bits, or one of the lower half, to which files of version 1 are held. A
-//! key is a type of its own, so that no place of a node is taken for one.
+//! Keys. A key is a number of 64 bits with a type of its own, so that it is not mistaken for a
+//! position, a bucket or a value. Files of version 1 hold only half keys, those below 2^63.
 ghost use Rattle.std.specs.Prelude.{◌≡◌, ℕ, ◌<◌, ◌≤◌, ◌^◌, MatchResult};
 ghost use Rattle.split_key.specs.Text.{bad_key_text};
 
@@ -7,7 +7,7 @@ use std::fmt;
 use std::fmt::Display;
 use std::marker::Model;
 
-/// The numbers of half keys are below this.
+/// Half keys are below this.
 const HALF: u64 = 1 << 63;
 
 /// A key of the table: any number of 64 bits. A contract sees it as that number.
@@ -26,8 +26,8 @@ impl Model for Key {
     ghost inverse = { λ number. record { number = number } };
 }
 
-/// The error of a number that is no half key, since it is 2^63 or more. It is printed as
-/// `a key is a number below 2^63`.
+/// The error for a number that is no half key, since it is 2^63 or more. It is printed as `a key is
+/// a number below 2^63`.
 #[derive(Clone, Copy, Debug, PartialEq, Eq)]
 pub struct BadKey;
 
@@ -44,22 +44,19 @@ impl Display for BadKey {
 impl std::error::Error for BadKey {}
 
 impl Key {
-    /// The key with this number. Constant time.
+    /// The key with this number.
     pub fn new(number: u64) -> Key
         ensures { result ≡ number }
     {
         Key { number }
     }
 
-    /// The key with this number, if it is one of the lower half of all keys.
+    /// The key with this number, if it is a half key.
     ///
     /// # Errors
     ///
     /// `BadKey` if the number is 2^63 or more.
     ///
-    /// # Cost
-    ///
-    /// Constant time; takes no memory.
     pub fn half(number: u64) -> Result<Key, BadKey>
         ensures { MatchResult result
             (λ key. (key ≡ number) × (number < 2 ^ 63))
@@ -72,7 +69,7 @@ impl Key {
         }
     }
 
-    /// The key's number. Constant time.
+    /// The key's number.
     pub fn number(self) -> u64
         ensures { result ≡ self }
     {

@@ -3,12 +3,12 @@
 //! Extensible Hash Tables" (Journal of the ACM 53(3), 2006), section 2: bits in reverse, dummy
 //! nodes, and parents of buckets.
 //!
-//! A split key is a number's 64 bits in reverse order: a key's with its top bit set first, so that
-//! it is odd, and a bucket's as it is, so that it is even. Sorted by split keys, the keys of one
-//! bucket stand together, whatever power of two the table's size is, and right behind a dummy node
-//! of their bucket: in reverse, the digits of a split key begin with the lowest bits of the key,
-//! which say its bucket. So the list of a table of size 4 with the keys 0 to 7 is as follows, where
-//! a number is shown by its lowest four bits, and a split key by its first four and its last four:
+//! A split key is 64 bits in reverse order: a key's with its top bit set first, so that it is odd,
+//! or a bucket's unchanged, so that it is even. Sorted by split keys, the keys of one bucket stand
+//! together, whatever power of two the table's size is, right behind the dummy node of the bucket:
+//! the digits of a split key begin with the lowest bits of the key, which say its bucket. The list
+//! of a table of size 4 with the keys 0 to 7 is as follows; a number is shown by its lowest four
+//! bits, a split key by its first four and its last four:
 //!
 //! ```text
 //!  in the list    bits    split key         bucket at size 2   4   8
@@ -26,21 +26,21 @@
 //!  key   7        0111    1110 .. 0001                     1   3   7
 //! ```
 //!
-//! A table that doubles moves no node. At size 8 the dummy of bucket 4, `0010 .. 0000`, comes right
-//! before key 4, where bucket 0 is split, and the keys 0, 8, 16 and so on stay before it; the
-//! dummies of 6, 5 and 7 come right before the keys 6, 5 and 7. A bucket's parent, which is the
-//! bucket without its highest 1 bit, is where its keys were before it was split off.
+//! A table that doubles moves no node. At size 8 the dummy of bucket 4, `0010 .. 0000`, is put
+//! right before key 4, which splits bucket 0: the keys 0, 8, 16 and so on stay before it. The
+//! dummies of 6, 5 and 7 are put right before the keys 6, 5 and 7. The parent of a bucket, which is
+//! the bucket without its highest 1 bit, is the bucket that it was split off from.
 //!
 //! A key may be any number of 64 bits. The top bit of a key is set before it is reversed, so two
-//! keys that differ there alone, as 1 and 2^63 + 1, share a split key. The order of the list is
-//! therefore that of sort keys: by the split key, and where that is one by the key.
+//! keys that differ only in that bit, as 1 and 2^63 + 1, share a split key. The list is therefore
+//! ordered by sort keys: by the split key, and if the split keys are equal by the key.
 //!
 //! A contract sees a key as its number, and the definitions stand in `specs/Split.antt` and
-//! `specs/Sort.antt`. Proved: each call gives what its definition says; two keys share a split key
-//! exactly if they agree below the top bit; different keys have different sort keys, and
+//! `specs/Sort.antt`. Proved: each call answers what its definition says; two keys share a split
+//! key exactly if they agree below the top bit; different keys have different sort keys, and
 //! different buckets different split keys; the dummies of a bucket's ancestors stand before its
-//! own, and all of these before each of the bucket's keys; and a `BadKey` prints its text. No call
-//! takes memory, and each takes constant time.
+//! own, and all of these before each of the bucket's keys; and a `BadKey` prints its text. Each
+//! call takes constant time and no memory.
 #![tactic(auto)]
 
 mod bucket;

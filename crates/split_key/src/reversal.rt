@@ -1,12 +1,12 @@
-//! The bits of a word in reverse, by six swaps of neighbouring groups. Everything else of this
-//! crate rests on what it promises of each bit.
+//! The bits of a word in reverse, by six swaps of neighbouring groups. All other modules of the
+//! crate rest on the clause of `reverse` about each bit.
 ghost use Rattle.std.specs.Prelude.{◌≡◌, ℕ, ◌-◌, ◌*◌, ◌/◌, ◌%◌, ◌<◌};
 ghost use Rattle.std.specs.Int.{bit_at};
 ghost use Rattle.split_key.specs.Split.{reversed};
 ghost use Rattle.split_key.specs.Swap.{swapped_place};
 
-/// The word with each two neighbouring groups of `width` bits swapped, where `low` has a 1 at each
-/// bit of the lower group of each two.
+/// The word with neighbouring groups of `width` bits swapped. `low` has a 1 at each bit of the
+/// lower group of each pair.
 fn swap_groups(word: u64, width: u32, low: u64) -> u64
     requires some { 0 < width }
     requires fits { width < 64 }
@@ -18,12 +18,8 @@ fn swap_groups(word: u64, width: u32, low: u64) -> u64
 }
 
 /// The word with its 64 bits in reverse order: bit `i` of the result is bit `63 - i` of the word.
-///
-/// Bits, pairs of bits, half bytes, bytes, pairs of bytes and halves change places.
-///
-/// # Cost
-///
-/// Constant time: thirty operations without a branch; takes no memory.
+/// Bits, pairs of bits, half bytes, bytes, pairs of bytes and halves are swapped, in thirty
+/// operations without a branch.
 pub fn reverse(word: u64) -> u64
     ensures value { result ≡ reversed word }
     ensures bits { (place : ℕ) → place < 64 → bit_at result place ≡ bit_at word (63 - place) }

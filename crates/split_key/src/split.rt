@@ -1,21 +1,17 @@
-//! Split keys: the order of keys and dummies in the list. A key's split key ends in 1, a dummy's in
-//! 0, so a bucket's dummy stands before the keys of the bucket.
+//! Split keys of keys and of dummies. A key's ends in 1 and a dummy's in 0, so a bucket's dummy
+//! stands before the keys of the bucket.
 ghost use Rattle.std.specs.Prelude.{◌≡◌, ◌≢◌, ℕ, ◌%◌, ◌^◌, ◌<◌};
 ghost use Rattle.split_key.specs.Split.{reversed, split, IsAncestor};
 
 use crate::key::Key;
 use crate::reversal::reverse;
 
-/// The bit that is set in a key before it is reversed, and that makes its split key odd.
+/// The bit that is set in a key before it is reversed; it makes the split key odd.
 const TOP_BIT: u64 = 1 << 63;
 
 /// The split key of a key's node, a regular node: the key's 64 bits, the top one set, in reverse
-/// order. It is odd. Keys that agree below their top bit share it, and no others: two keys below
-/// 2^63 have one split key where they are one.
-///
-/// # Cost
-///
-/// Constant time; takes no memory.
+/// order. It is odd. Keys that agree below their top bit share it, and no others do; so no two keys
+/// below 2^63 share one.
 pub fn regular(key: Key) -> u64
     ensures value { result ≡ split key }
     ensures odd { result % 2 ≡ 1 }
@@ -27,10 +23,6 @@ pub fn regular(key: Key) -> u64
 
 /// The split key of a bucket's dummy node: the bucket's bits in reverse order. It is even, no other
 /// bucket has it, and it is above those of the bucket's ancestors.
-///
-/// # Cost
-///
-/// Constant time; takes no memory.
 pub fn dummy(bucket: u32) -> u64
     ensures value { result ≡ reversed bucket }
     ensures even { result % 2 ≡ 0 }

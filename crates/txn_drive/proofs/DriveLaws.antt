@@ -1,4 +1,4 @@
--- Laws of drives: what their steps add to a history, and how an ended drive ended.
+-- Laws of drives: the entries that their steps add to a history, and the end of an ended drive.
 use Rattle.std.proofs.Common.{Bool, ◌≡◌, ℕ, nat_lt, true, false, if◌then◌else◌, [], Option, Some, None, refl, sym, ap, subst}
 use Rattle.std.specs.Prelude.{IfSome}
 use Rattle.std.specs.List.{AllByRecursion}
@@ -39,7 +39,7 @@ goes_on_in c call phase step is = absurd (cc is)
 pub goes_on : (drive : Drive) (step : Step) → step_of drive ≡ Some step → end_of drive ≡ None
 goes_on drive step is = goes_on_in drive.caller drive.call drive.phase step is
 
--- What an ended drive has made belongs to its end.
+-- The entries of an ended drive are those of its end.
 made_by_turn : (drive : Drive) (turn : Turn) → HasMade drive turn → IfSome (ended_by turn) (λ outcome. IsMade drive.caller drive.call outcome (made drive))
 made_by_turn drive (Ended outcome) has = has
 made_by_turn drive (One step) has = tt
@@ -51,23 +51,23 @@ made_if_ended drive = made_by_turn drive (turn_of drive) (ended-turn_of drive (t
 pub made_at_end : (drive : Drive) (outcome : End) → end_of drive ≡ Some outcome → IsMade drive.caller drive.call outcome (made drive)
 made_at_end drive outcome is = subst (λ (o : Option End). IfSome o (λ e. IsMade drive.caller drive.call e (made drive))) is (made_if_ended drive)
 
--- A turn that says how its call has ended says nothing else.
+-- Only the turn `Ended` of an end tells that the call has ended by it.
 pub turn_of_end : (turn : Turn) (outcome : End) → ended_by turn ≡ Some outcome → Ended outcome ≡ turn
 turn_of_end (Ended other) outcome is = let same : other ≡ outcome = cc is in ap Ended (sym same)
 turn_of_end (One step) outcome is = absurd (cc is)
 turn_of_end (Two step next) outcome is = absurd (cc is)
 
--- The size at this moment adds nothing.
+-- The table's size does not change the entries of a drive.
 pub made-sized : (size c : ℕ) (call : Call) (phase : Phase) → made_in c call (sized_in size phase) ≡ made_in c call phase
 made-sized size c call (Doubling seen) = refl
 made-sized size c call phase = refl
 
--- A new drive has made nothing.
+-- A new drive has no entries.
 pub made-new : (half : Bool) (c : ℕ) (call : Call) → made (new_drive half c call) ≡ []
 made-new half c (calls.Help key) = elim (is_bad_key half key) as (λ b. made_in c (calls.Help key) (if b then Refused BadKey else Doubling 0) ≡ []) [ true ↦ refl | false ↦ refl ]
 made-new half c call = refl
 
--- A drive's step adds entries of its caller alone.
+-- The step of a drive adds only entries of its caller.
 abbrev IsBy : ℕ → Step → Type 0
 IsBy c (Begin d) = d ≡ c
 IsBy c (Ask d op) = d ≡ c

@@ -1,4 +1,5 @@
--- What a drive has made grows by the entries of its steps, and is at its end what belongs to the end.
+-- The entries of a drive grow by those of each step, and are at its end the ones that belong to the
+-- end.
 use Rattle.std.proofs.Common.{◌≡◌, ℕ, ◌+◌, ◌-◌, ◌^◌, ◌%◌, ◌==◌, nat_lt, ◌&&◌, Bool, true, false, if◌then◌else◌, List, [], ◌∷◌, ◌++◌, Option, Some, None, refl, sym, ap, ◌∙◌, subst, append_assoc}
 use Rattle.std.proofs.lemmas.Bool.{eqb-true}
 use Rattle.std.proofs.lemmas.List.{append-nil, replicate_more}
@@ -26,7 +27,7 @@ use Rattle.txn_drive.specs.Drives.{first_step, step_in, step_of, end_first, end_
 use Rattle.txn_trace.specs.Entries.{entries_of}
 use Rattle.txn_drive.specs.Made.{undone_by, entered_by, made_by, made_in, made, IsRefused, IsMade, HasMade}
 
--- A fresh call has made the entry of its first step.
+-- After the answer to the first step, a call has the entry of that step.
 made-told_first : (c : ℕ) (call : Call) (a : Answer) → made_in c call (told_first call a) ≡ entries_of (first_step c call) a
 made-told_first c calls.Begin (answers.Began t) = refl
 made-told_first c (calls.Op op) answers.Asked = refl
@@ -37,14 +38,14 @@ made-told_first c calls.Commit (answers.Committed p) = refl
 made-told_first c calls.Abort answers.Leaving = refl
 made-told_first c call a = refl
 
--- A seek adds nothing.
+-- A seek adds no entry.
 made-told_seek : (c : ℕ) (call : Call) (work : Work) (again : ℕ) (a : Answer) → made_in c call (told_seek work again a) ≡ made_by c call work
 made-told_seek c call work again answers.Placed = refl
 made-told_seek c call Operation again (answers.Refused r) = refl
 made-told_seek c call work again (answers.Refused NothingToSeek) = refl
 made-told_seek c call work again a = refl
 
--- One change more is taken back.
+-- One more change is taken back, which adds its entry.
 made-counted : (c : ℕ) (call : Call) (undone : ℕ) (more work : Work) → made_by c call more ≡ made_by c call work ++ entries.Undone c ∷ []
     → made_in c call (counted undone more work) ≡ made_by c call work ++ entries.Undone c ∷ []
 made-counted c call undone more work is =
@@ -76,7 +77,7 @@ made-told_act c call work again answers.Again = sym (append-nil (made_by c call 
 made-told_act c call work again answers.Undone = made-undone_more c call work
 made-told_act c call work again a = refl
 
--- A helper adds nothing.
+-- A helper adds no entry.
 made-towards : (c : ℕ) (call : Call) (last bucket : ℕ) → made_in c call (towards last bucket) ≡ []
 made-towards c call last bucket =
     elim (last == bucket) as (λ b. made_in c call (if b then Helped else Initialising (record { bucket = child_towards last bucket; target = bucket }) 0) ≡ []) [
@@ -126,7 +127,7 @@ made-told_store c call way answers.Stored = made-towards c call way.bucket way.t
 made-told_store c call way (answers.Refused r) = made-refused_help c call r
 made-told_store c call way a = refl
 
--- The entries of the step that a phase has.
+-- The entries of the step of a phase with its answer.
 abbrev added : Option Step → Answer → List Entry
 added (Some step) a = entries_of step a
 added None a = []
@@ -151,7 +152,7 @@ made-told_in c call phase step a is =
 pub made-told_of : (d : Drive) (step : Step) (a : Answer) → step_of d ≡ Some step → made (told_of d a) ≡ made d ++ entries_of step a
 made-told_of d step a is = made-told_in d.caller d.call d.phase step a is
 
--- What an ended drive has made.
+-- The entries of an ended drive.
 ended-refused : (r : Refusal) → IsRefused r []
 ended-refused OutOfStep = tt
 ended-refused r = refl

@@ -1,4 +1,4 @@
--- Of turns that are taken.
+-- Laws of turns that are taken.
 use Rattle.std.proofs.Common.{ap, sym, subst}
 use Rattle.txn_trace.specs.declared.answer.Answer.{Answer}
 use Rattle.txn_trace.specs.declared.answer.Answer.TheVariants.{Placed}
@@ -21,7 +21,8 @@ module _ {X Y : Type 0} (R : X → Step → Answer → X → Type 0) (S : Y → 
       ((a, p z, mapped.0, then.0), then.1)
   steps_map x (Ended outcome) y i same = (ap p same, subst I (sym same) i)
 
--- What each step does to a part of whatever takes it, the turn does, where a fact of it stays; and the fact stays over the turn.
+-- If each step that is taken maps to a step of a part, and keeps a fact that the mapping needs,
+-- then so does a turn.
 pub turn_maps : {X Y : Type 0} (R : X → Step → Answer → X → Type 0) (S : Y → Step → Answer → Y → Type 0) (I : X → Type 0) (p : X → Y) (x : X) (t : Turn) (y : X) → I x → HasTaken R x t y
     → ((x : X) (s : Step) (a : Answer) (y : X) → I x → R x s a y → S (p x) s a (p y) × I y) → TakesTurn S (p x) t (p y) × I y
 turn_maps R S I p x t y i taken each = steps_map R S I p each x t y i taken.steps

@@ -13,7 +13,7 @@ pub parent_of-zero : parent_of 0 ≡ 0
 unfolding parent_of highest_cleared
 parent_of-zero = refl
 
--- After some steps of the 32.
+-- The next bucket on the way, once some of the 32 steps are looked at.
 pub child_within-step : (taken last bucket : ℕ) → taken < 32
     → child_within (32 - taken) last bucket ≡ (if parent_of bucket == last then bucket else child_within (32 - (taken + 1)) last (parent_of bucket))
 unfolding child_within

@@ -21,8 +21,8 @@ use Rattle.txn_drive.specs.declared.turn.Turn.TheVariants.{One, Two, Ended}
 use Rattle.txn_drive.specs.declared.way.Way.{Way}
 use Rattle.txn_drive.specs.Ways.{child_towards}
 
--- A helper's call is first to double the table, where its key is good: any key, or, where half keys
--- alone are taken, one of them. Any other call is fresh.
+-- A call for help begins by doubling the table if its key is taken: every key is, unless only half
+-- keys are. Any other call is fresh.
 abbrev pub first_phase : Bool → Call → Phase
 first_phase half (calls.Help key) = if is_bad_key half key then Refused BadKey else Doubling 0
 first_phase half call = Fresh
@@ -30,7 +30,7 @@ first_phase half call = Fresh
 abbrev pub new_drive : Bool → ℕ → Call → Drive
 new_drive half c call = record { caller = c; call = call; phase = first_phase half call }
 
--- The phase once the table's size at this moment is known.
+-- The phase once the table's size is known.
 abbrev pub sized_in : ℕ → Phase → Phase
 sized_in size (Doubling seen) = Doubling size
 sized_in size phase = phase
@@ -48,7 +48,7 @@ first_step c calls.Commit = steps.Commit c
 first_step c calls.Abort = steps.Abort c
 first_step c (calls.Help key) = steps.Double 0
 
--- The step of a phase, whose answer the drive is told next; none once it has ended.
+-- The step of a phase, whose answer the drive is told next, or None if the drive has ended.
 abbrev pub step_in : ℕ → Call → Phase → Option Step
 step_in c call Fresh = Some (first_step c call)
 step_in c call (Seeking work again) = Some (steps.Seek c)
@@ -62,7 +62,7 @@ step_in c call phase = None
 abbrev pub step_of : Drive → Option Step
 step_of drive = step_in drive.caller drive.call drive.phase
 
--- How a call ended whose first step was its last.
+-- The end of a call whose first step was its last.
 abbrev pub end_first : Call → Answer → End
 end_first call (answers.Refused refusal) = ends.Refused refusal
 end_first calls.Begin (answers.Began t) = ends.Answered (answers.Began t)
@@ -70,12 +70,12 @@ end_first calls.Save (answers.Saved n) = ends.Answered (answers.Saved n)
 end_first calls.Commit (answers.Committed p) = ends.Answered (answers.Committed p)
 end_first call answer = ends.Refused OutOfStep
 
--- How a return to a level ended that was answered to have returned to a level.
+-- The end of a return to a level, if the answer was that the caller has returned to some level.
 abbrev pub end_returned : ℕ → ℕ → End
 end_returned level reached =
     if reached == level then ends.Answered (answers.Returned reached) else ends.Refused OutOfStep
 
--- How a call ended that an act has ended.
+-- The end of a call that ended with an act.
 abbrev pub end_last : Call → Work → Answer → End
 end_last (calls.Op op) Operation (answers.Done reply) = ends.Answered (answers.Done reply)
 end_last (calls.Op op) (Busy holder undone) answers.Aborted = ends.Busy holder
@@ -83,13 +83,13 @@ end_last (calls.Back level) (Leaving undone) (answers.Returned reached) = end_re
 end_last calls.Abort (Leaving undone) answers.Aborted = ends.Answered answers.Aborted
 end_last call work answer = ends.Refused OutOfStep
 
--- How a call ended whose buckets are all initialised.
+-- The end of a help when all buckets on the way are initialised.
 abbrev pub end_helped : Call → End
 end_helped (calls.Help key) = ends.Helped
 end_helped call = ends.Refused OutOfStep
 
--- A step that seeks and the step at the place found: one turn after eight `again` in a row, else
--- two.
+-- A step that seeks and the step that acts at the position found: one turn after eight `again` in a
+-- row, else two.
 abbrev pub paired : ℕ → Step → Step → Turn
 paired again seeking acting = if nat_lt again 8 then One seeking else Two seeking acting
 
@@ -112,12 +112,12 @@ turn_in c call (Refused refusal) = Ended (ends.Refused refusal)
 abbrev pub turn_of : Drive → Turn
 turn_of drive = turn_in drive.caller drive.call drive.phase
 
--- One `again` more in a row, of which eight are counted.
+-- One more `again` in a row; at most eight are counted.
 abbrev pub one_more : ℕ → ℕ
 one_more again = if nat_lt again 8 then again + 1 else again
 
--- After the first step: an operation that is asked for is sought, after a busy stripe or a leave
--- changes are taken back, and whatever else was answered ends the call.
+-- The phase after the first step: an operation that is asked for is sought, after a busy stripe or
+-- a leave changes are taken back, and any other answer ends the call.
 abbrev pub told_first : Call → Answer → Phase
 told_first (calls.Op op) answers.Asked = Seeking Operation 0
 told_first (calls.Op op) (answers.Busy holder) = Seeking (Busy holder 0) 0
@@ -125,7 +125,8 @@ told_first (calls.Back level) answers.Leaving = Seeking (Leaving 0) 0
 told_first calls.Abort answers.Leaving = Seeking (Leaving 0) 0
 told_first call answer = First answer
 
--- After a seek: the place is there; or no change is left to take back, and then the act ends it.
+-- The phase after a seek: the position is found; or no change is left to take back, in which case
+-- the act ends the call.
 abbrev pub told_seek : Work → ℕ → Answer → Phase
 told_seek work again answers.Placed = Acting work again
 told_seek (Busy holder undone) again (answers.Refused NothingToSeek) =
@@ -133,43 +134,43 @@ told_seek (Busy holder undone) again (answers.Refused NothingToSeek) =
 told_seek (Leaving undone) again (answers.Refused NothingToSeek) = Acting (Leaving undone) again
 told_seek work again answer = Lost work
 
--- The phase after this many changes are taken back, where the number is one of 64 bits.
+-- The phase after this number of changes is taken back, if it is a number of 64 bits.
 abbrev pub counted : ℕ → Work → Work → Phase
 counted undone more work =
     if nat_lt undone (2 ^ 64 - 1) then Seeking more 0 else Last work answers.Undone
 
--- After one change more was taken back, the next one is sought.
+-- The phase after one more change was taken back: the next one is sought.
 abbrev pub undone_more : Work → Phase
 undone_more Operation = Last Operation answers.Undone
 undone_more (Busy holder undone) = counted undone (Busy holder (undone + 1)) (Busy holder undone)
 undone_more (Leaving undone) = counted undone (Leaving (undone + 1)) (Leaving undone)
 
--- After an act: the place did not fit and is sought anew; or one change more is taken back; or the
--- call has ended.
+-- The phase after an act: the position did not fit and is sought again; or one more change is taken
+-- back; or the call has ended.
 abbrev pub told_act : Work → ℕ → Answer → Phase
 told_act work again answers.Again = Seeking work (one_more again)
 told_act work again answers.Undone = undone_more work
 told_act work again answer = Last work answer
 
--- What follows once the bucket `last`, on the way to a bucket, is initialised: the next bucket on
--- the way, or the end.
+-- The phase once the bucket `last`, on the way to a bucket, is initialised: that of the next bucket
+-- on the way, or the end.
 abbrev pub towards : ℕ → ℕ → Phase
 towards last bucket =
     if last == bucket then Helped
     else Initialising (record { bucket = child_towards last bucket; target = bucket }) 0
 
--- The way to the bucket of a key at a size.
+-- The phase that begins the way to the bucket of a key at a size.
 abbrev pub heading : ℕ → ℕ → Phase
 heading key size =
     if nat_lt 0 size && nat_lt size (2 ^ 32) then towards 0 (key % size) else Refused OutOfStep
 
--- A helper may want memory or a stamp.
+-- The phase after a helper's step was refused, for lack of memory or of a stamp.
 abbrev pub refused_help : Refusal → Phase
 refused_help NoMemory = Refused NoMemory
 refused_help StampsUsedUp = Refused StampsUsedUp
 refused_help refusal = Refused OutOfStep
 
--- After a doubling, which was to begin at the size seen: the way at the size that the table then
+-- The phase after a doubling that named the size `seen`: the way at the size that the table then
 -- has.
 abbrev pub told_help : ℕ → ℕ → Answer → Phase
 told_help key seen (answers.Moved size) = heading key size
@@ -183,14 +184,14 @@ abbrev pub told_double : Call → ℕ → Answer → Phase
 told_double (calls.Help key) seen answer = told_help key seen answer
 told_double call seen answer = Refused OutOfStep
 
--- After the place of a bucket's dummy was sought.
+-- The phase after the position of a bucket's dummy was sought.
 abbrev pub told_init_seek : Way → ℕ → Answer → Phase
 told_init_seek way again answers.Ready = towards way.bucket way.target
 told_init_seek way again answers.Placed = Linking way again
 told_init_seek way again (answers.Refused refusal) = refused_help refusal
 told_init_seek way again answer = Refused OutOfStep
 
--- After a bucket's dummy was to be linked.
+-- The phase after the answer to linking a bucket's dummy.
 abbrev pub told_link : Way → ℕ → Answer → Phase
 told_link way again answers.Again = Initialising way (one_more again)
 told_link way again answers.Present = Storing way
@@ -198,7 +199,7 @@ told_link way again answers.Linked = Storing way
 told_link way again (answers.Refused refusal) = refused_help refusal
 told_link way again answer = Refused OutOfStep
 
--- After a bucket's dummy was to be stored.
+-- The phase after the answer to storing a bucket's dummy.
 abbrev pub told_store : Way → Answer → Phase
 told_store way answers.Stored = towards way.bucket way.target
 told_store way (answers.Refused refusal) = refused_help refusal
@@ -218,19 +219,19 @@ told_in call phase answer = Refused OutOfStep
 abbrev pub told_of : Drive → Answer → Drive
 told_of drive answer = record drive { phase = told_in drive.call drive.phase answer }
 
--- A turn takes the step of its drive; of two steps the second is the step after `placed`; an ended
--- drive has none.
+-- The turn takes the step of its drive; a second step is the step after `placed`; an ended drive
+-- takes none.
 abbrev pub IsTurnOf : Drive → Turn → Type 0
 IsTurnOf drive (One step) = step_of drive ≡ Some step
 IsTurnOf drive (Two step next) =
     (step_of drive ≡ Some step) × (step_of (told_of drive answers.Placed) ≡ Some next)
 IsTurnOf drive (Ended outcome) = step_of drive ≡ None
 
--- How a turn says that its call has ended, if it says so.
+-- The end that a turn tells, if it tells that the call has ended.
 abbrev pub ended_by : Turn → Option End
 ended_by (Ended outcome) = Some outcome
 ended_by turn = None
 
--- How a call has ended, if it has.
+-- The end of the call, if it has ended.
 abbrev pub end_of : Drive → Option End
 end_of drive = ended_by (turn_of drive)

@@ -30,7 +30,7 @@ undone_in (Leaving undone) = undone
 abbrev pub undone_by : ℕ → ℕ → List Entry
 undone_by c undone = replicate undone (entries.Undone c)
 
--- The entry of a call's first step, where its work goes on after it.
+-- The entry of a call's first step, if its work goes on after it.
 abbrev pub opened_by : ℕ → Call → Work → List Entry
 opened_by c (calls.Op op) Operation = entries.Asked c op ∷ []
 opened_by c (calls.Op op) (Busy holder undone) = entries.Busy c op holder ∷ []
@@ -38,7 +38,7 @@ opened_by c (calls.Back level) (Leaving undone) = entries.Leave c (Some level) �
 opened_by c calls.Abort (Leaving undone) = entries.Leave c None ∷ []
 opened_by c call work = []
 
--- The entry of a call's first step, where this answer has ended it.
+-- The entry of a call's first step, if this answer has ended the call.
 abbrev pub entered_by : ℕ → Call → Answer → List Entry
 entered_by c calls.Begin (answers.Began t) = entries.Began c t ∷ []
 entered_by c calls.Save (answers.Saved n) = entries.Saved c ∷ []
@@ -62,8 +62,8 @@ made_in c call phase = []
 abbrev pub made : Drive → List Entry
 made drive = made_in drive.caller drive.call drive.phase
 
--- The entries of a call that was refused: none. Of one that was answered what no rule foresees
--- nothing is said here.
+-- The entries of a refused call: none. `OutOfStep` is excepted: nothing is said of a call that got
+-- an answer which no rule foresees.
 abbrev pub IsRefused : Refusal → List Entry → Type 0
 IsRefused OutOfStep h = Unit {0}
 IsRefused refusal h = h ≡ []
@@ -72,7 +72,7 @@ IsRefused refusal h = h ≡ []
 abbrev pub IsUndone : ℕ → Entry → List Entry → Entry → Type 0
 IsUndone c opening h closing = (undone : ℕ) × (h ≡ opening ∷ undone_by c undone ++ closing ∷ [])
 
--- What a caller's call has added to the history by its end; a call has no other end.
+-- The entries that a caller's call has added to the history by each end that it can have.
 abbrev pub IsMade : ℕ → Call → End → List Entry → Type 0
 IsMade c call (ends.Refused refusal) h = IsRefused refusal h
 IsMade c calls.Begin (ends.Answered (answers.Began t)) h = h ≡ entries.Began c t ∷ []
@@ -89,7 +89,7 @@ IsMade c calls.Abort (ends.Answered answers.Aborted) h =
 IsMade c (calls.Help key) ends.Helped h = h ≡ []
 IsMade c call outcome h = ⊥
 
--- Where a turn says that its drive has ended, the drive has made what belongs to the end.
+-- If a turn tells that its drive has ended, the drive's entries are those of the end.
 abbrev pub HasMade : Drive → Turn → Type 0
 HasMade drive (Ended outcome) = IsMade drive.caller drive.call outcome (made drive)
 HasMade drive turn = Unit {0}

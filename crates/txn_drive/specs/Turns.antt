@@ -1,4 +1,4 @@
--- What the steps of a turn do to whatever takes them.
+-- Turns in terms of any state that takes their steps.
 use Rattle.std.specs.Prelude.{◌≡◌}
 use Rattle.txn_trace.specs.declared.answer.Answer.{Answer}
 use Rattle.txn_trace.specs.declared.answer.Answer.TheVariants.{Placed}
@@ -6,13 +6,13 @@ use Rattle.txn_trace.specs.declared.step.Step.{Step}
 use Rattle.txn_drive.specs.declared.turn.Turn.{Turn}
 use Rattle.txn_drive.specs.declared.turn.Turn.TheVariants.{One, Two, Ended}
 
--- After the first step of two the second is taken where the answer was `placed`.
+-- After the first of two steps, the second is taken if the answer was `placed`.
 abbrev pub TakesSecond : {X : Type 0} → (X → Step → Answer → X → Type 0) → X → Step → Answer → X
     → Type 0
 TakesSecond takes old second Placed new = (answer : Answer) × takes old second answer new
 TakesSecond takes old second answer new = new ≡ old
 
--- A turn is taken: its steps and no other.
+-- The turn is taken: its steps and no other.
 abbrev pub TakesTurn : {X : Type 0} → (X → Step → Answer → X → Type 0) → X → Turn → X → Type 0
 TakesTurn takes old (One step) new = (answer : Answer) × takes old step answer new
 TakesTurn {X} takes old (Two first second) new =
@@ -20,7 +20,7 @@ TakesTurn {X} takes old (Two first second) new =
     × TakesSecond takes between second answer new
 TakesTurn takes old (Ended outcome) new = new ≡ old
 
--- The same as a record, by which a proof finds what takes the steps.
+-- A turn that was taken, as a record, so that a proof finds the states and the relation.
 pub record HasTaken {X : Type 0} (takes : X → Step → Answer → X → Type 0) (old : X) (turn : Turn)
     (new : X) : Type 0 where
   pub steps : TakesTurn takes old turn new

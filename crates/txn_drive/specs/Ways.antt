@@ -3,13 +3,14 @@ use Rattle.std.specs.Prelude.{ℕ, ◌==◌, if◌then◌else◌}
 use Prim.Native.Nat.{zero, suc}
 use Rattle.split_key.specs.Split.{parent_of}
 
--- Of a bucket and its ancestors, so many of them, the first whose parent is `last`.
+-- The first of a bucket and its ancestors whose parent is `last`; the first number says how many
+-- are looked at.
 unfoldable pub child_within : ℕ → ℕ → ℕ → ℕ
 child_within zero last bucket = bucket
 child_within (suc steps) last bucket =
     if parent_of bucket == last then bucket else child_within steps last (parent_of bucket)
 
--- The bucket that comes after `last` on the way to a bucket. A bucket below 2 ^ 32 has at most 32
+-- The bucket that follows `last` on the way to a bucket. A bucket below 2 ^ 32 has at most 32
 -- ancestors.
 unfoldable pub child_towards : ℕ → ℕ → ℕ
 child_towards last bucket = child_within 32 last bucket

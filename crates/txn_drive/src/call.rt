@@ -1,12 +1,12 @@
-//! What a caller asks a drive for, one variant a call of the map: an operation, begin, save, back,
-//! commit, abort or help. The first step of a call is a function of it.
+//! Calls on the map, which a drive turns into steps: an operation, begin, save, back, commit, abort
+//! or help.
 ghost use Rattle.std.specs.Prelude.{◌≡◌};
 ghost use Rattle.txn_drive.specs.Drives.{first_phase, first_step};
 
 use crate::phase::Phase;
 use txn_trace::{Limits, Op, Refusal, Step};
 
-/// A call on the map: what a caller wants done.
+/// A call on the map.
 #[derive(Clone, Copy, Debug, PartialEq, Eq)]
 pub enum Call {
     /// Begin a transaction.
@@ -26,7 +26,7 @@ pub enum Call {
 }
 
 impl Call {
-    /// The phase in which a drive of this call begins. Constant time.
+    /// The phase in which a drive of this call begins.
     pub(crate) fn first_phase(self, limits: Limits) -> Phase
         ensures { result ≡ first_phase limits.half self }
     {
@@ -37,7 +37,7 @@ impl Call {
         }
     }
 
-    /// The step with which the call begins. Constant time.
+    /// The step with which the call begins.
     pub(crate) fn first_step(self, caller: u64) -> Step
         ensures { result ≡ first_step caller self }
     {

@@ -1,6 +1,6 @@
-//! A call in progress: its phase, the turn that comes next, and what an answer makes of it. It
-//! stands apart from whatever takes the steps, so that a core, a lock and a test drive calls by one
-//! machine. Every call of a drive takes constant time and no memory.
+//! A call in progress: its phase, its next turn, and its phase after an answer. It stands apart
+//! from whatever takes the steps, so that a core, a lock and a test all drive calls by the same
+//! machine.
 ghost use Rattle.std.specs.Prelude.{◌≡◌, [], ◌++◌, Some, IfSome};
 ghost use Rattle.txn_trace.specs.declared.step.Step.{Step};
 ghost use Rattle.txn_drive.specs.Drives.{new_drive, sized_of, turn_of, told_of, step_of, IsTurnOf, end_of, end_first, end_last, end_helped};
@@ -13,10 +13,10 @@ use crate::phase::{Phase, Work};
 use crate::turn::{Turn, one_or_two};
 use txn_trace::{Answer, Limits, Refusal, Step};
 
-/// A caller's call on its way: which step comes next, and what was told so far.
+/// A caller's call in progress: its next step, and what it has been told so far.
 ///
-/// Begin with `new`; take turns by `turn`, and after each step taken say by `told` how it was
-/// answered, until a turn says `Ended`.
+/// Begin with `new`; take turns by `turn`, and after each step pass its answer to `told`, until a
+/// turn is `Ended`.
 #[derive(Clone, Copy, Debug, PartialEq, Eq)]
 pub struct Drive {
     /// The caller's number, which is also its helper's.
@@ -30,12 +30,8 @@ pub struct Drive {
 impl Drive {
     /// The drive of a caller's call on a map of these limits, before its first step.
     ///
-    /// Where the limits take half keys alone, a call `Help` of a key of 2^63 or more has ended with
+    /// If the limits take only half keys, a call `Help` for a key of 2^63 or more has ended with
     /// `Refusal::BadKey`, before any step.
-    ///
-    /// # Cost
-    ///
-    /// Constant time; takes no memory.
     pub fn new(caller: u64, call: Call, limits: Limits) -> Drive
         ensures drive { result ≡ new_drive limits.half caller call }
         ensures made { made result ≡ [] }
@@ -47,14 +43,10 @@ impl Drive {
         }
     }
 
-    /// The next turn, at the size in buckets that the table has at this moment.
+    /// The next turn, for a table that has this size in buckets now.
     ///
-    /// Only a helper that is to double the table notes the size. A drive whose turn says `Ended`
-    /// says it at each later turn too.
-    ///
-    /// # Cost
-    ///
-    /// Constant time; takes no memory.
+    /// Only a helper that is about to double the table notes the size. A drive whose turn is
+    /// `Ended` answers the same at each later turn.
     #[inline(always)]
     pub fn turn(&mut self, size: u32) -> Turn
         ensures drive { self.new ≡ sized_of size self.old }
@@ -69,11 +61,7 @@ impl Drive {
         self.show()
     }
 
-    /// How the call has ended, if it has.
-    ///
-    /// # Cost
-    ///
-    /// Constant time; takes no memory.
+    /// The end of the call, if it has ended.
     #[inline(always)]
     pub fn ended(self) -> Option<End>
         ensures drive { result ≡ end_of self }
@@ -82,7 +70,7 @@ impl Drive {
         self.end()
     }
 
-    /// The end that a final phase is; none of any other.
+    /// The end that a final phase stands for, and none for any other.
     #[inline(always)]
     fn end(self) -> Option<End>
         ensures { result ≡ end_of self }
@@ -121,14 +109,15 @@ impl Drive {
         }
     }
 
-    /// Says how the step that the turn named was answered; of a turn of two steps, each step taken.
+    /// Tells the drive the answer to the step that the turn named; of a turn of two steps, the
+    /// answer to each step taken.
     ///
     /// An answer that no rule foresees ends the call with `Refusal::OutOfStep`, and so does any
-    /// answer that is told once the call has ended.
+    /// answer that is told after the end.
     ///
     /// # Cost
     ///
-    /// Constant time: the search of a helper's next bucket takes up to 32 rounds; takes no memory.
+    /// Constant time: the search of a helper's next bucket takes up to 32 rounds.
     #[inline(always)]
     pub fn told(&mut self, answer: Answer)
         ensures drive { self.new ≡ told_of self.old answer }
@@ -139,7 +128,7 @@ impl Drive {
     }
 }
 
-/// How a call ended whose first step was its last.
+/// The end of a call whose first step was its last.
 fn end_first(call: Call, answer: Answer) -> End
     ensures { result ≡ end_first call answer }
 {
@@ -161,7 +150,7 @@ fn end_first(call: Call, answer: Answer) -> End
     }
 }
 
-/// How a call ended that an act has ended.
+/// The end of a call that ended with an act.
 fn end_last(call: Call, work: Work, answer: Answer) -> End
     ensures { result ≡ end_last call work answer }
 {
@@ -196,7 +185,7 @@ fn end_last(call: Call, work: Work, answer: Answer) -> End
     }
 }
 
-/// How a call ended whose buckets are all initialised.
+/// The end of a help when all buckets on the way are initialised.
 fn end_helped(call: Call) -> End
     ensures { result ≡ end_helped call }
 {

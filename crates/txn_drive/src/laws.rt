@@ -1,17 +1,13 @@
-//! Laws of drives: theorems about `specs/` as contracts of functions that do nothing when they run.
+//! The laws of drives: functions that do nothing, whose contracts are theorems about `specs/`.
 
 ghost use Rattle.std.specs.Prelude.{◌≡◌, ◌≢◌, ℕ, ◌^◌, ◌<◌, ◌≤◌};
 ghost use Rattle.split_key.specs.Split.{parent_of, IsAncestor};
 ghost use Rattle.txn_drive.specs.Ways.{child_towards};
 
 /// A helper's way to a bucket begins at bucket 0, goes from each bucket to a child of it, and stays
-/// on the bucket's ancestors: so each bucket on the way comes after its parent.
+/// on the bucket's ancestors. So each bucket on the way follows its parent.
 ///
-/// The contract is the law.
-///
-/// # Cost
-///
-/// None: it does nothing when it runs.
+/// The contract is the law; the function does nothing.
 pub fn ways()
     ensures root { (bucket : ℕ) → bucket < 2 ^ 32 → IsAncestor 0 bucket }
     ensures child { (last bucket : ℕ) → bucket < 2 ^ 32 → IsAncestor last bucket → last ≢ bucket

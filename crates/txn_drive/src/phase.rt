@@ -1,6 +1,6 @@
-//! How far a call is, and the next phase after an answer, one function a phase
+//! The progress of a call, and the next phase after an answer, by one function for each phase
 //! (`specs/Drives.antt`). A phase holds all that a call remembers between two steps: its work, its
-//! helper's way, and how many `again` came in a row.
+//! helper's way, and the number of `again` in a row.
 ghost use Rattle.std.specs.Prelude.{◌≡◌};
 ghost use Rattle.txn_drive.specs.Drives.{one_more, towards, heading, told_first, told_seek, told_act, told_double, told_init_seek, told_link, told_store, refused_help, undone_more, told_in};
 
@@ -9,39 +9,39 @@ use crate::turn::PATIENCE;
 use crate::way::{Way, next_towards};
 use txn_trace::{Answer, Refusal};
 
-/// What a caller seeks a place for.
+/// The object of a caller's seek.
 #[derive(Clone, Copy, Debug, PartialEq, Eq)]
 pub enum Work {
     /// The operation that was asked for.
     Operation,
-    /// Changes to take back after a busy stripe: the stripe's holder, how many changes are taken
-    /// back.
+    /// Changes to take back after a busy stripe: the stripe's holder, and how many changes have
+    /// been taken back.
     Busy(u64, u64),
-    /// Changes to take back on the way to a level or to the transaction's end: how many are taken
-    /// back.
+    /// Changes to take back on the way to a level or to the transaction's end: how many have been
+    /// taken back.
     Leaving(u64),
 }
 
-/// How far a call is. A number beside a work or a way counts the `again` in a row, up to 8.
+/// The progress of a call. A number beside a work or a way counts the `again` in a row, up to 8.
 #[derive(Clone, Copy, Debug, PartialEq, Eq)]
 pub enum Phase {
     /// No step was answered.
     Fresh,
-    /// The place of a work is to be sought.
+    /// The position of a work is to be sought.
     Seeking(Work, u8),
-    /// The place of a work was sought.
+    /// The position of a work was found.
     Acting(Work, u8),
-    /// The table is to be doubled: the size that the last turn saw, 0 before the first.
+    /// The table is to be doubled: the size at the last turn, 0 before the first.
     Doubling(u32),
-    /// The place of a bucket's dummy is to be sought.
+    /// The position of a bucket's dummy is to be sought.
     Initialising(Way, u8),
-    /// The place of a bucket's dummy was sought.
+    /// The position of a bucket's dummy was found.
     Linking(Way, u8),
     /// A bucket's dummy is linked.
     Storing(Way),
-    /// The answer of the first step has ended it.
+    /// The answer to the first step has ended it.
     First(Answer),
-    /// This answer of an act has ended it.
+    /// This answer to an act has ended it.
     Last(Work, Answer),
     /// An answer to a seek that no rule foresees has ended it.
     Lost(Work),
@@ -52,8 +52,7 @@ pub enum Phase {
 }
 
 impl Phase {
-    /// The phase after an answer to the step of this one. Constant time, but for the search of the
-    /// next bucket.
+    /// The phase after an answer to the step of this one.
     #[inline(always)]
     pub(crate) fn told(self, call: Call, answer: Answer) -> Phase
         ensures { result ≡ told_in call self answer }
@@ -71,7 +70,7 @@ impl Phase {
     }
 }
 
-/// One `again` more in a row.
+/// One more `again` in a row.
 fn one_more(again: u8) -> u8
     ensures { result ≡ one_more again }
 {
@@ -97,8 +96,8 @@ fn told_first(call: Call, answer: Answer) -> Phase
     }
 }
 
-/// After a seek: the place is there, or there is no change left to take back, which the act then
-/// says too.
+/// After a seek: the position is found, or there is no change left to take back, which the act will
+/// answer too.
 #[inline(always)]
 fn told_seek(work: Work, again: u8, answer: Answer) -> Phase
     ensures { result ≡ told_seek work again answer }
@@ -113,7 +112,7 @@ fn told_seek(work: Work, again: u8, answer: Answer) -> Phase
     }
 }
 
-/// After an act: the place did not fit, or one change more is taken back, or the call has ended.
+/// After an act: the position did not fit, or one more change is taken back, or the call has ended.
 #[inline(always)]
 fn told_act(work: Work, again: u8, answer: Answer) -> Phase
     ensures { result ≡ told_act work again answer }
@@ -125,7 +124,7 @@ fn told_act(work: Work, again: u8, answer: Answer) -> Phase
     }
 }
 
-/// After one change more was taken back: the place of the next one is to be sought.
+/// After one more change was taken back: the position of the next one is to be sought.
 fn undone_more(work: Work) -> Phase
     ensures { result ≡ undone_more work }
 {
@@ -140,7 +139,7 @@ fn undone_more(work: Work) -> Phase
     }
 }
 
-/// After the table's turn to grow: the way to the key's bucket at the size that the table then has.
+/// After a doubling: the way to the key's bucket at the size that the table then has.
 fn told_double(call: Call, seen: u32, answer: Answer) -> Phase
     ensures { result ≡ told_double call seen answer }
 {
@@ -166,7 +165,7 @@ fn heading(key: u64, size: u64) -> Phase
     }
 }
 
-/// What follows once the bucket `last`, on the way to `target`, is initialised.
+/// The phase once the bucket `last`, on the way to `target`, is initialised.
 fn towards(last: u32, target: u32) -> Phase
     ensures { result ≡ towards last target }
 {
@@ -190,7 +189,7 @@ fn told_init_seek(way: Way, again: u8, answer: Answer) -> Phase
     }
 }
 
-/// After a bucket's dummy was to be linked.
+/// After the answer to linking a bucket's dummy.
 fn told_link(way: Way, again: u8, answer: Answer) -> Phase
     ensures { result ≡ told_link way again answer }
 {
@@ -202,7 +201,7 @@ fn told_link(way: Way, again: u8, answer: Answer) -> Phase
     }
 }
 
-/// After a bucket's dummy was to be stored.
+/// After the answer to storing a bucket's dummy.
 fn told_store(way: Way, answer: Answer) -> Phase
     ensures { result ≡ told_store way answer }
 {
@@ -213,7 +212,7 @@ fn told_store(way: Way, answer: Answer) -> Phase
     }
 }
 
-/// A helper may want memory or a stamp; no other refusal is foreseen.
+/// A helper's step may be refused for lack of memory or of a stamp; no other refusal is foreseen.
 fn refused_help(refusal: Refusal) -> Phase
     ensures { result ≡ refused_help refusal }
 {

@@ -1,6 +1,5 @@
-//! What a drive wants next: one step, a seek with its act, or nothing more. A turn of two steps
-//! comes after eight `again` in a row; its second step is taken only if the first was answered
-//! `placed`.
+//! The turns of a drive: one step, a seek with its act, or none. A turn has two steps after eight
+//! `again` in a row; the second step is taken only if the first was answered `placed`.
 ghost use Rattle.std.specs.Prelude.{◌≡◌};
 ghost use Rattle.txn_drive.specs.Drives.{paired};
 ghost use Rattle.txn_drive.specs.Turns.{HasTaken, MayTake};
@@ -8,11 +7,11 @@ ghost use Rattle.txn_drive.specs.Turns.{HasTaken, MayTake};
 use crate::end::End;
 use txn_trace::{Answer, Step};
 
-/// After so many `again` in a row, two steps are one turn, so that no other caller comes between
-/// them.
+/// After this many `again` in a row, two steps make one turn, so that no other caller takes a step
+/// between them.
 pub(crate) const PATIENCE: u8 = 8;
 
-/// What a drive does next.
+/// The next move of a drive.
 #[derive(Clone, Copy, Debug, PartialEq, Eq)]
 pub enum Turn {
     /// It takes this step, and is told the answer.
@@ -25,8 +24,8 @@ pub enum Turn {
 }
 
 impl Turn {
-    /// Takes the turn's steps by `step`, which answers each; of two the second only if the first
-    /// was answered `placed`. Whoever drives the call tells it each answer.
+    /// Takes the turn's steps by `step`, which answers each; the second of two only if the first
+    /// was answered `placed`. `step` must tell the drive each answer.
     ///
     /// # Cost
     ///
@@ -49,8 +48,8 @@ impl Turn {
     }
 }
 
-/// A step that seeks and the step at the place found: two turns, or one after enough `again` in a
-/// row. Constant time.
+/// A step that seeks and the step that acts at the position found: two turns, or one after enough
+/// `again` in a row.
 #[inline(always)]
 pub(crate) fn one_or_two(again: u8, seeking: Step, acting: Step) -> Turn
     ensures { result ≡ paired again seeking acting }

@@ -1,4 +1,5 @@
--- A reply: it is right where it is that of the map as it is now, which then changes by the operation.
+-- Did: after a legal history a reply is right exactly if it is that of the map now, and the map
+-- then changes by the operation.
 use Rattle.std.proofs.Common.{◌≡◌, ℕ, ◌==◌, ◌≢◌, true, false, cond, List, [], ◌∷◌, ◌++◌, refl, ap, sym, subst, ◌∙◌, Some, None, Option, is_some}
 use Rattle.std.specs.Prelude.{nat_eq}
 use Rattle.std.specs.Option.{option_eq, option_and_then}
@@ -30,7 +31,7 @@ use Rattle.txn_trace.proofs.Seated.{are_seated, the_some}
 use Rattle.txn_trace.proofs.Judging.{legal_push, shape_push, locks_push}
 use Rattle.txn_trace.proofs.Others.{replies-push_other, now_at-push}
 
--- An operation that is no change leaves the map.
+-- An operation that is no change leaves the map unchanged.
 pub after_unchanged : (m : Map) (op : Op) → is_change m op ≡ false → after m op ≡ m
 after_unchanged m (Put k v) h = absurd (false≢true (sym h))
 after_unchanged m (Take k) h = same_map (remove m k) m (λ q. get-remove m k q ∙ at q)
@@ -43,7 +44,7 @@ after_unchanged m (Take k) h = same_map (remove m k) m (λ q. get-remove m k q �
 after_unchanged m (Get k) h = refl
 after_unchanged m (PutIf k expected v) h = ap (λ b. cond b (insert m k v) m) h
 
--- Another key stays.
+-- An operation leaves every other key unchanged.
 pub get-after_other : (m : Map) (op : Op) (q : ℕ) → q ≢ key_of op → get (after m op) q ≡ get m q
 get-after_other m (Put k v) q other = get-insert m k v q ∙ ap (λ b. cond b (Some v) (get m q)) (ne_eqb q k other)
 get-after_other m (Take k) q other = get-remove m k q ∙ ap (λ b. cond b None (get m q)) (ne_eqb q k other)
@@ -54,7 +55,7 @@ get-after_other m (PutIf k expected v) q other =
       | false ↦ refl
     ]
 
--- Maps that have the same at a key and at the operation's have the same there after it.
+-- If two maps agree at a key and at the operation's key, they agree at the key after the operation.
 pub get-after_same : (m n : Map) (op : Op) (q : ℕ) → get m q ≡ get n q → get m (key_of op) ≡ get n (key_of op) → get (after m op) q ≡ get (after n op) q
 get-after_same m n (Put k v) q same at = get-insert m k v q ∙ ap (cond (q == k) (Some v)) same ∙ sym (get-insert n k v q)
 get-after_same m n (Take k) q same at = get-remove m k q ∙ ap (cond (q == k) None) same ∙ sym (get-remove n k q)
@@ -72,14 +73,14 @@ added r op = (elim (is_change r.last op) as (λ b. is_change r.last op ≡ b →
   | false ↦ λ is. sym (after_unchanged r.last op is)
 ]) refl
 
--- The operation that a run waits for is of a stripe that it holds.
+-- The operation that a run waits for is of a stripe that the run holds.
 waits_in : (stripes : ℕ) (es : List Entry) (m : Map) (r : Run) (op : Op) → alone m es ≡ Some r → r.pending ≡ Some op → keys_in stripes es (key_of op) ≡ true
 waits_in stripes es m r op run waits =
     let alike : RunsAlike (keys_in stripes es) m m (alone m es) (alone m es) = alone_alike (keys_in stripes es) m m es (asks_own stripes es) (λ k is. refl) in
     let alike' : RunsAlike (keys_in stripes es) m m (Some r) (Some r) = subst (λ o. RunsAlike (keys_in stripes es) m m o o) run alike in
     subst (WaitsFor (keys_in stripes es)) waits alike'.waits
 
--- A caller that waits for a reply gets that of the map as it is now.
+-- A caller that waits gets the reply of the map now.
 module _ {holder : Holder} (stripes : ℕ) (g : List Entry) (legal : IsLegal holder stripes g) (c t : ℕ) (op : Op) (x : Option ℕ) (seat : Seat)
     (in_t : txn_in g c ≡ Some t) (going : ended t g ≡ false) (seat_is : seat_after (own c g) ≡ Some seat) (waiting : seat.phase ≡ Waiting op)
     (right : x ≡ reply_of (now g) op) (shaped : is_shaped g (Did c x) ≡ true) where

@@ -1,4 +1,4 @@
--- How a transaction begins and ends: neither changes the map as it is now.
+-- The beginning and the end of a transaction: neither changes the map now.
 use Rattle.std.proofs.Common.{slice_get, take, ◌≡◌, ℕ, ◌+◌, ◌≢◌, true, false, cond, List, [], ◌∷◌, ◌++◌, length, refl, ap, sym, subst, ◌∙◌, Some, None, Option}
 use Rattle.std.specs.Option.{option_eq, option_and_then}
 use Rattle.std.specs.Prelude.{nat_eq}
@@ -60,7 +60,7 @@ fold_starts m [] o is = is
 fold_starts m (e ∷ es) None is = fold_starts m es None tt
 fold_starts m (e ∷ es) (Some r) is = fold_starts m es (act r e) (act_starts m r e is)
 
--- A run with no change left has its first map.
+-- A run in which no change stands is at its first map.
 pub alone_starts : (m : Map) (es : List Entry) → StartsAt m (alone m es)
 alone_starts m es = fold_starts m es (Some (start m)) refl
 
@@ -69,7 +69,7 @@ unchanged_run m es r run none =
     let is : StartsAt m (Some r) = subst (StartsAt m) run (alone_starts m es) in
     subst (λ ms. first_map r.last ms ≡ m) none is
 
--- A transaction that begins.
+-- A transaction begins.
 module _ {holder : Holder} (stripes : ℕ) (g : List Entry) (legal : IsLegal holder stripes g) (c t : ℕ) (shaped : is_shaped g (Began c t) ≡ true) (at : txn_at g (Began c t) ≡ Some t) where
   callers : Callers g
   callers = callers_of g legal.shape
@@ -89,7 +89,7 @@ module _ {holder : Holder} (stripes : ℕ) (g : List Entry) (legal : IsLegal hol
       at_key k (inr free) = now_at-push_mine holder stripes g (Began c t) t legal.shape legal.locks (shape_push g (Began c t) legal.shape shaped) (locks_push holder stripes g (Began c t) legal.locks refl) shaped refl at k refl (λ u going away. free u going)
           ∙ ap (λ m. get m k) last_is ∙ sym (now_at-free stripes g k free)
 
--- A transaction that aborts, with no change left.
+-- A transaction aborts, with no change left.
 module _ {holder : Holder} (stripes : ℕ) (g : List Entry) (legal : IsLegal holder stripes g) (c t : ℕ) (shaped : is_shaped g (Aborted c) ≡ true) (at : txn_at g (Aborted c) ≡ Some t) (empty_run : map_after (serial g) (of t g) ≡ serial g) where
   gone : (u : ℕ) → ended u (g ++ Aborted c ∷ []) ≡ false → u ≢ t
   gone u goes same = false≢true (sym goes ∙ ap (λ x. ended x (g ++ Aborted c ∷ [])) same ∙ ended_in g (Aborted c) (callers_of g legal.shape) shaped t at)

@@ -1,4 +1,4 @@
--- Which rule an entry breaks after a legal history.
+-- The rule that an entry breaks after a legal history.
 use Rattle.std.proofs.Common.{◌≡◌, ℕ, Bool, true, false, cond, not, List, [], ◌∷◌, ◌++◌, refl, ap, sym, subst, ◌∙◌, Some, None, Option, IsSome, is_some}
 use Rattle.std.specs.Option.{option_eq, option_and_then}
 use Rattle.std.specs.Prelude.{nat_eq}
@@ -41,7 +41,8 @@ row_active s Closed (Began c t) b h = absurd (false≢true (sym b))
 row_active s Closed _ b h = absurd (false≢true h)
 row_active s _ e b h = refl
 
--- Whether an entry has the right reply: that of a Did is that of the map now to the operation that waits.
+-- Whether an entry has the right reply: a Did must have that of the map now to the operation that
+-- waits.
 abbrev pub is_right_in : List Entry → Phase → Option ℕ → Bool
 is_right_in g (Waiting op) x = option_eq nat_eq x (reply_of (now g) op)
 is_right_in g _ x = true
@@ -50,7 +51,7 @@ abbrev pub is_right : List Entry → Entry → Bool
 is_right g (Did c x) = elim (seat_after (own c g)) [ None ↦ true | Some s ↦ is_right_in g s.phase x ]
 is_right g _ = true
 
--- What follows from the right shape of an entry after a legal history.
+-- Consequences of the right shape of an entry after a legal history.
 record Shaped (g : List Entry) (e : Entry) : Type 0 where
   before : Seat
   is : seat_after (own (caller_of e) g) ≡ Some before
@@ -83,7 +84,7 @@ module _ {holder : Holder} (stripes : ℕ) (g : List Entry) (legal : IsLegal hol
   hold_now : RepliesHoldAt g
   hold_now = legal.replies g ([], append-nil g)
 
-  -- In a transaction, where the run goes on.
+  -- In a transaction, if the run is still defined after the entry.
   module _ (not_began : is_began e ≡ false) where
     active : runs parts.before.phase ≡ true
     active = row_active parts.before parts.before.phase e not_began (ap is_some parts.goes)
@@ -144,7 +145,7 @@ waits_for : (s : Seat) (q : Phase) (c : ℕ) (x : Option ℕ) → is_some (row s
 waits_for s (Waiting op) c x h = (op, refl)
 waits_for s _ c x h = absurd (false≢true h)
 
--- A caller that waits gets the right reply, and no other.
+-- A caller that waits may get the reply of the map now, and no other.
 did_holds : {holder : Holder} (stripes : ℕ) (g : List Entry) (legal : IsLegal holder stripes g) (c : ℕ) (x : Option ℕ) (shaped : is_shaped g (Did c x) ≡ true) (op : Op)
     → (shaped_by g (Did c x) legal.shape shaped).before.phase ≡ Waiting op → replies_hold (g ++ Did c x ∷ []) ≡ option_eq nat_eq x (reply_of (now g) op)
 did_holds {holder} stripes g legal c x shaped op waits = elim (cases_Bool (option_eq nat_eq x (reply_of (now g) op))) [
@@ -191,7 +192,8 @@ did_holds {holder} stripes g legal c x shaped op waits = elim (cases_Bool (optio
         ∙ run_after stripes g legal e shaped refl None (acts_none wrong) in
         false≢true (sym (ap is_some none) ∙ runs_on)
 
--- After a legal history an entry in right shape breaks the rule of replies exactly where it is a Did with a wrong reply.
+-- After a legal history an entry in right shape breaks the rule of replies exactly if it is a Did
+-- with a wrong reply.
 pub replies_hold-push : {holder : Holder} (stripes : ℕ) (g : List Entry) → IsLegal holder stripes g → (e : Entry) → is_shaped g e ≡ true → replies_hold (g ++ e ∷ []) ≡ is_right g e
 replies_hold-push stripes g legal (Did c x) shaped =
     let p = shaped_by g (Did c x) legal.shape shaped in
@@ -208,7 +210,8 @@ replies_hold-push stripes g legal (Committed c p) shaped = replies_hold_from (g 
 replies_hold-push stripes g legal (Busy c op x) shaped = replies_hold_from (g ++ Busy c op x ∷ []) (holds_after stripes g legal (Busy c op x) shaped refl)
 replies_hold-push stripes g legal (Aborted c) shaped = replies_hold_from (g ++ Aborted c ∷ []) (holds_after stripes g legal (Aborted c) shaped refl)
 
--- The rule that an entry breaks after a legal history, by its shape, the map now and the holders of stripes.
+-- The rule that an entry breaks after a legal history, from its shape, the map now and the holders
+-- of stripes.
 pub broken_is : {holder : Holder} (stripes : ℕ) (g : List Entry) → IsLegal holder stripes g → (e : Entry)
     → broken holder stripes g e ≡ cond {A = Option ℕ} (not (is_shaped g e)) (Some 3) (cond {A = Option ℕ} (not (is_right g e)) (Some 1) (cond {A = Option ℕ} (not (is_locked holder stripes g e)) (Some 2) None))
 broken_is {holder} stripes g legal e = elim (cases_Bool (is_shaped g e)) [

@@ -1,4 +1,5 @@
--- The callers of a history of the right shape: each is in one transaction at most, and runs exactly while that is open.
+-- The callers of a history of the right shape: each is in at most one transaction, and runs exactly
+-- while that is open.
 use Rattle.std.proofs.Common.{[], ◌≡◌, ℕ, ◌-◌, take, slice_index, ◌+◌, ◌≤◌, Bool, true, false, cond, not, ◌&&◌, ◌||◌, ◌==◌, List, ◌∷◌, ◌++◌, length, refl, ap, sym, subst, ◌∙◌, Some, None, Option, is_some, arith}
 use Rattle.std.specs.Option.{option_and_then}
 use Rattle.std.specs.Prelude.{nat_lt}
@@ -28,7 +29,7 @@ ends_either (e ∷ es) a b = ends_either es (is_commit e) (is_abort e)
 pub is_open-ended : (t : ℕ) (g : List Entry) → is_open t g ≡ not (ended t g)
 is_open-ended t g = ap not (sym (ends_either (of t g) false false))
 
--- A line of a transaction that has not ended is of the caller that is in it.
+-- A line of a transaction that has not ended belongs to the caller that is in it.
 abbrev pub IsOwned : List Entry → Line → Type 0
 IsOwned g line = (t : ℕ) → line.txn ≡ Some t → ended t g ≡ false → txn_in g (caller_of line.entry) ≡ Some t
 
@@ -50,7 +51,7 @@ callers_none = record {
   owned = tt;
 }
 
--- Whose transaction an entry is in: that of its caller before, or the one that it begins.
+-- The transaction of an entry: that of its caller before it, or the one that it begins.
 abbrev pub IsIn : List Entry → Entry → ℕ → Type 0
 IsIn g (Began c u) t = u ≡ t
 IsIn g e t = txn_in g (caller_of e) ≡ Some t
@@ -62,7 +63,7 @@ pub at_is : (g : List Entry) (e : Entry) (t : ℕ) → txn_at g e ≡ Some t →
 at_is g (Began c u) t is = some_same u t (subst (λ b. cond b (Some u) (txn_in g c) ≡ Some t) (eq-eqb c c refl) is)
 at_is g _ t is = is
 
--- A caller is in a transaction after the entry, by it or from before.
+-- A caller that is in a transaction after the entry was in it before, or began it by the entry.
 pub after_is : (g : List Entry) (e : Entry) (x t : ℕ) → txn_after (txn_in g) e x ≡ Some t → ((x ≡ caller_of e) × (txn_at g e ≡ Some t)) ⊎ ((x ≡ caller_of e → ⊥) × (txn_in g x ≡ Some t))
 after_is g e x t is = elim (cases_eq x (caller_of e)) [
   | inl same ↦ inl (same, subst (λ y. txn_after (txn_in g) e y ≡ Some t) same is)
@@ -73,7 +74,7 @@ after_is g e x t is = elim (cases_eq x (caller_of e)) [
     from (Began c u) other got = subst (λ b. cond b (Some u) (txn_in g x) ≡ Some t) (ne_eqb c x (λ k. other (sym k))) got
     from _ other got = got
 
--- A closed caller only begins.
+-- A closed caller may only begin.
 pub closed_begins : (e : Entry) → is_some (row closed_seat closed_seat.phase e) ≡ true → is_began e ≡ true
 closed_begins (Began c t) h = refl
 closed_begins _ h = absurd (false≢true h)
@@ -105,7 +106,7 @@ pub began_or_not : (e : Entry) → (is_began e ≡ true) ⊎ (is_began e ≡ fal
 began_or_not (Began c t) = inl refl
 began_or_not _ = inr refl
 
--- After a shaped entry, its transaction's number is in range; and where it begins, the number is new.
+-- After a shaped entry its transaction's number is in range, and new if the entry begins it.
 pub number_in : (g : List Entry) (e : Entry) (t : ℕ) → Callers g → is_shaped g e ≡ true → txn_at g e ≡ Some t → t ≤ how_many is_began (g ++ e ∷ [])
 number_in g e t callers shaped at = elim (began_or_not e) [
   | inl b ↦
@@ -115,7 +116,7 @@ number_in g e t callers shaped at = elim (began_or_not e) [
   | inr b ↦ let n = callers.numbers (caller_of e) t (not_began_is g e t b (at_is g e t at)) in omega (arith, more g e)
 ]
 
--- Nothing comes after the end.
+-- A transaction has no entry after its end.
 pub not_after_end : (g : List Entry) (e : Entry) (t : ℕ) → Callers g → is_shaped g e ≡ true → ended t g ≡ true → txn_at g e ≡ Some t → ⊥
 not_after_end g e t callers shaped done at = elim (began_or_not e) [
   | inl b ↦
@@ -132,7 +133,7 @@ pub end_not_began : (e : Entry) → is_end e ≡ true → is_began e ≡ false
 end_not_began (Began c t) h = absurd (false≢true h)
 end_not_began _ h = refl
 
--- An end closes, and nothing else does.
+-- An end closes the caller, and no other entry does.
 pub end_closes : (e : Entry) (o : Option Seat) → is_end e ≡ true → is_some (option_and_then (λ s. row s s.phase e) o) ≡ true → option_and_then (λ s. row s s.phase e) o ≡ Some closed_seat
 end_closes e None c h = absurd (false≢true h)
 end_closes e (Some s) c h = at e s.phase c h
@@ -172,7 +173,7 @@ other_runs e (Some s) c h = at e s.phase refl c h
     at (Undone x) LeavingToEnd is c h = runs_if (nat_lt 0 s.standing) (record s { standing = s.standing - 1 }) (runs_still s.phase LeavingToEnd is refl) h
     at _ q is c h = absurd (false≢true h)
 
--- Only a closed caller begins.
+-- Only a closed caller may begin.
 pub began_was_closed : (e : Entry) (o : Option Seat) → is_began e ≡ true → is_some (option_and_then (λ s. row s s.phase e) o) ≡ true → is_running o ≡ false
 began_was_closed e None b h = refl
 began_was_closed e (Some s) b h = at e s.phase b h
@@ -185,7 +186,7 @@ began_was_closed e (Some s) b h = at e s.phase b h
 pub not_equal : (a b : ℕ) → (a ≡ b → ⊥) → (b == a) ≡ false
 not_equal a b h = ne_eqb b a (λ k. h (sym k))
 
--- A caller that does not begin stays in its transaction.
+-- A caller stays in its transaction unless it begins one.
 pub txn_stays : (g : List Entry) (e : Entry) (x t : ℕ) → (is_began e ≡ true → x ≡ caller_of e → ⊥) → txn_in g x ≡ Some t → txn_in (g ++ e ∷ []) x ≡ Some t
 txn_stays g e x t other is = ap (λ f. f x) (txn_in-push g e) ∙ at e other
   where

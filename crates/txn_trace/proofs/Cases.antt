@@ -1,4 +1,5 @@
--- Worked histories, by computing: their verdicts, their maps, and what is left of them without what aborted.
+-- Worked histories, by computing: their verdicts, their maps, and the histories without their
+-- aborted transactions.
 use Rattle.std.proofs.Common.{[], ◌≡◌, ℕ, ◌^◌, ◌-◌, List, ◌∷◌, ◌++◌, Some, None, Option, refl, take, map}
 use Rattle.split_key.specs.Split.{split, reversed, reversed_low}
 use Rattle.txn_trace.specs.declared.op.Op.{Op}
@@ -17,7 +18,7 @@ use Rattle.txn_trace.specs.Erase.{erase}
 use Rattle.txn_trace.specs.Owed.{owed}
 use Rattle.txn_trace.proofs.Judging.{legal_iff}
 
--- A put is taken back by an abort.
+-- An abort takes a put back.
 abbrev abort_takes_back : List Entry
 abort_takes_back = Began 0 1 ∷ Asked 0 (Put 1 10) ∷ Did 0 None ∷ Leave 0 None ∷ Undone 0 ∷ Aborted 0 ∷ []
 
@@ -39,7 +40,7 @@ abort_takes_back_now = refl
 abort_takes_back_erased : erase abort_takes_back ≡ []
 abort_takes_back_erased = refl
 
--- A caller finds the stripe of its key in the hands of another, and aborts.
+-- A caller finds the stripe of its key held by another, and aborts.
 abbrev busy_aborts : List Entry
 busy_aborts = Began 0 1 ∷ Asked 0 (Put 1 10) ∷ Did 0 None ∷ Began 1 2 ∷ Busy 1 (Get 9) 0 ∷ Aborted 1 ∷ []
 
@@ -55,7 +56,7 @@ busy_aborts_serial = refl
 busy_aborts_erased : erase busy_aborts ≡ Began 0 1 ∷ Asked 0 (Put 1 10) ∷ Did 0 None ∷ []
 busy_aborts_erased = refl
 
--- A transaction returns to a savepoint twice, and then to its beginning, and commits nothing.
+-- A transaction returns to a savepoint twice, then to its beginning, and commits no change.
 abbrev savepoints : List Entry
 savepoints = Began 0 1 ∷ Asked 0 (Put 1 10) ∷ Did 0 None ∷ Saved 0 ∷ Asked 0 (Put 1 11) ∷ Did 0 (Some 10) ∷ Saved 0 ∷ Asked 0 (Take 1) ∷ Did 0 (Some 11)
     ∷ Leave 0 (Some 1) ∷ Undone 0 ∷ Undone 0 ∷ Returned 0 1 ∷ Asked 0 (Get 1) ∷ Did 0 (Some 10) ∷ Leave 0 (Some 1) ∷ Returned 0 1 ∷ Asked 0 (Get 1) ∷ Did 0 (Some 10)
@@ -79,7 +80,7 @@ savepoints_now = refl
 savepoints_serial : (serial savepoints).rows ≡ []
 savepoints_serial = refl
 
--- A take is seen by no other caller, and is taken back.
+-- No other caller sees a take, which is taken back.
 abbrev aborted_take_restores : List Entry
 aborted_take_restores = Began 0 1 ∷ Asked 0 (Put 3 30) ∷ Did 0 None ∷ Committed 0 1 ∷ Began 0 2 ∷ Asked 0 (Take 3) ∷ Did 0 (Some 30) ∷ Began 1 3 ∷ Busy 1 (Get 3) 0 ∷ Aborted 1
     ∷ Leave 0 None ∷ Undone 0 ∷ Aborted 0 ∷ Began 1 4 ∷ Asked 1 (Get 3) ∷ Did 1 (Some 30) ∷ Committed 1 2 ∷ []
@@ -102,14 +103,14 @@ aborted_take_restores_now = refl
 aborted_take_restores_erased : erase aborted_take_restores ≡ Began 0 1 ∷ Asked 0 (Put 3 30) ∷ Did 0 None ∷ Committed 0 1 ∷ Began 1 4 ∷ Asked 1 (Get 3) ∷ Did 1 (Some 30) ∷ Committed 1 2 ∷ []
 aborted_take_restores_erased = refl
 
--- What is owed to both callers before the reply of the take, and after the other one was busy.
+-- The entries that both callers owe, before the reply of the take and after the other one was busy.
 aborted_take_restores_owed : owed 2 (take 6 aborted_take_restores) ≡ 4
 aborted_take_restores_owed = refl
 
 aborted_take_restores_owed_busy : owed 2 (take 9 aborted_take_restores) ≡ 4
 aborted_take_restores_owed_busy = refl
 
--- A caller aborts while its operation has no reply: the operation is withdrawn.
+-- A caller aborts while its operation has no reply, which withdraws the operation.
 abbrev withdrawn_put : List Entry
 withdrawn_put = Began 0 1 ∷ Asked 0 (Put 1 10) ∷ Leave 0 None ∷ Aborted 0 ∷ []
 
@@ -119,7 +120,7 @@ withdrawn_put_verdict = refl
 withdrawn_put_now : (now (take 3 withdrawn_put)).rows ≡ []
 withdrawn_put_now = refl
 
--- Three callers change keys of their own, and take all back in rounds.
+-- Three callers each change their own keys, and take all changes back in rounds.
 abbrev round : (ℕ → Entry) → List Entry
 round entry = entry 0 ∷ entry 1 ∷ entry 2 ∷ []
 
@@ -160,7 +161,7 @@ callers_undone_holder = refl
 callers_undone_free : holder_of 8 3 callers_undone ≡ None
 callers_undone_free = refl
 
--- Two transactions commit in the other order than they began.
+-- Two transactions commit in the reverse order of their beginnings.
 abbrev crossed : List Entry
 crossed = Began 0 1 ∷ Began 1 2 ∷ Asked 0 (Put 2 20) ∷ Asked 1 (Put 4 40) ∷ Did 1 None ∷ Did 0 None ∷ Committed 1 1 ∷ Committed 0 2 ∷ []
 
@@ -174,7 +175,8 @@ crossed_ordered : ordered (now crossed) ≡ (4, 40) ∷ (2, 20) ∷ []
 unfolding split reversed reversed_low
 crossed_ordered = refl
 
--- A second transaction changes what the first one put, and commits after it though its number is lower.
+-- A second transaction changes a key that the first one put, and commits after it though its number
+-- is lower.
 abbrev handed_on : List Entry
 handed_on = Began 1 1 ∷ Began 0 2 ∷ Asked 0 (Put 1 10) ∷ Did 0 None ∷ Committed 0 1 ∷ Asked 1 (Put 1 11) ∷ Did 1 (Some 10) ∷ Committed 1 2 ∷ []
 
@@ -184,7 +186,7 @@ handed_on_verdict = refl
 handed_on_serial : (serial handed_on).rows ≡ (1, 11) ∷ []
 handed_on_serial = refl
 
--- A value of an aborted transaction is read by a later one.
+-- A later transaction reads a value of an aborted one.
 abbrev checker_replies_front : List Entry
 checker_replies_front = Began 0 1 ∷ Asked 0 (Put 1 10) ∷ Did 0 None ∷ Committed 0 1 ∷ Began 1 2 ∷ Asked 1 (Put 1 99) ∷ Did 1 (Some 10) ∷ Leave 1 None ∷ []
 
@@ -206,7 +208,7 @@ checker_replies_right_verdict = refl
 checker_replies_not_undone_verdict : verdict Now 8 checker_replies_not_undone ≡ Illegal 8 3
 checker_replies_not_undone_verdict = refl
 
--- The same, entry by entry.
+-- The verdicts on the beginnings of that history.
 fed_entry_by_entry_10 : verdict Now 8 (take 10 checker_replies) ≡ Legal 1 0
 fed_entry_by_entry_10 = refl
 
@@ -222,7 +224,8 @@ fed_entry_by_entry_13 = refl
 fed_entry_by_entry_14 : verdict Now 8 (take 14 checker_replies) ≡ Illegal 12 1
 fed_entry_by_entry_14 = refl
 
--- A stripe is taken from its holder, and a Busy names one that holds nothing.
+-- An Asked for a stripe that another caller holds, and a Busy that names a caller that holds no
+-- stripe.
 checker_locks_asked : verdict Now 8 (Began 0 1 ∷ Asked 0 (Put 1 10) ∷ Did 0 None ∷ Began 1 2 ∷ Asked 1 (Get 9) ∷ []) ≡ Illegal 4 2
 checker_locks_asked = refl
 
@@ -261,7 +264,7 @@ forged_stripes_verdict = refl
 forged_stripes_more_stripes_verdict : verdict Now 16 forged_stripes ≡ Legal 0 2
 forged_stripes_more_stripes_verdict = refl
 
--- Split keys, and maps in the order of them.
+-- Split keys, and maps in their order.
 split_keys : map split (0 ∷ 4 ∷ 2 ∷ 10 ∷ 6 ∷ 1 ∷ 5 ∷ 3 ∷ 7 ∷ (2 ^ 63 - 1) ∷ []) ≡ 0x0000000000000001 ∷ 0x2000000000000001 ∷ 0x4000000000000001 ∷ 0x5000000000000001 ∷ 0x6000000000000001
     ∷ 0x8000000000000001 ∷ 0xa000000000000001 ∷ 0xc000000000000001 ∷ 0xe000000000000001 ∷ 0xffffffffffffffff ∷ []
 unfolding split reversed reversed_low
@@ -287,7 +290,7 @@ ordered_last : ordered (insert (insert empty (2 ^ 63 - 1) 7) 3 30) ≡ (3, 30) �
 unfolding split reversed reversed_low
 ordered_last = refl
 
--- So the definition of legal histories is met, and excludes some.
+-- The definition of legal histories admits some histories and excludes others.
 aborted_take_restores_legal : IsLegal Now 8 aborted_take_restores
 aborted_take_restores_legal = (legal_iff 8 aborted_take_restores).1 refl
 

@@ -1,4 +1,4 @@
--- A committed transaction, told from its caller's own entries, whatever the other callers do.
+-- A committed transaction, found in its caller's own entries, whatever the other callers do.
 use Rattle.std.proofs.Common.{◌≡◌, ℕ, ◌+◌, ◌==◌, Bool, true, false, cond, List, [], ◌∷◌, ◌++◌, append_assoc, Some, None, Option, is_some, IsSome, refl, sym, ap, subst, ◌∙◌, inl, inr}
 use Rattle.std.specs.List.{filter}
 use Rattle.std.specs.Option.{option_and_then}
@@ -18,8 +18,9 @@ use Rattle.txn_trace.proofs.Shaped.{callers_of, callers_push, first_of_rest, end
 use Rattle.txn_trace.proofs.Seated.{none_before, are_seated}
 use Rattle.txn_trace.proofs.Now.{open_going}
 
--- What the history has of a transaction that committed at a place: the transaction's entries are this part, and the part
--- runs alone on the map of the transactions that committed before it, that is, with the replies of that map.
+-- The history has a transaction that committed at this place of the commit order: its entries are
+-- this part, and the part runs alone on the map of the transactions that committed before it, with
+-- the replies of that map.
 pub record HasCommitted (c txn place : ℕ) (part h : List Entry) : Type 0 where
   pub whole : of txn h ≡ part
   pub before : List Entry
@@ -27,11 +28,12 @@ pub record HasCommitted (c txn place : ℕ) (part h : List Entry) : Type 0 where
   pub number : place ≡ how_many is_commit before + 1
   pub replied : IsSome (alone (serial before) part)
 
--- The list is cut at an element: those before it that pass the test are xs, and those after it ys.
+-- The list is cut at an element: the elements before it that pass the test are xs, and those after
+-- it ys.
 abbrev IsCut : {X : Type 0} → (X → Bool) → List X → List X → X → List X → Type 0
 IsCut {X} p h xs x ys = (g : List X) × (rest : List X) × (h ≡ g ++ x ∷ rest) × (filter p g ≡ xs) × (filter p rest ≡ ys)
 
--- Where what passes a test can be cut, so can the list.
+-- If the elements that pass a test can be cut, so can the list.
 cut : {X : Type 0} (p : X → Bool) (h xs : List X) (x : X) (ys : List X) → filter p h ≡ xs ++ x ∷ ys → IsCut p h xs x ys
 cut p [] [] x ys is = absurd (cc is)
 cut p [] (z ∷ xs) x ys is = absurd (cc is)
@@ -53,7 +55,7 @@ cut p (y ∷ h) xs x ys is =
         let (g, rest, h_is, front, back) = shorter xs (cc here) in
         (y ∷ g, rest, ap (λ zs. y ∷ zs) h_is, ap (λ b. cond b (y ∷ filter p g) (filter p g)) passes ∙ (λ i. first i ∷ front i), back)
 
--- Of entries that begin nothing none begins.
+-- If no entry of a list begins a transaction, neither its first nor one of the rest does.
 begins_not : (e : Entry) (es : List Entry) → filter is_began (e ∷ es) ≡ [] → (is_began e ≡ false) × (filter is_began es ≡ [])
 begins_not e es =
     elim (is_began e) as (λ b. cond b (e ∷ filter is_began es) (filter is_began es) ≡ [] → (b ≡ false) × (filter is_began es ≡ [])) [
@@ -61,7 +63,7 @@ begins_not e es =
       | false ↦ λ none. (refl, none)
     ]
 
--- While a caller begins nothing more, its further entries are those of its transaction.
+-- While a caller begins no further transaction, its further entries are those of its transaction.
 pub own_goes : (c t : ℕ) (g rest : List Entry) → Callers g → IsShaped (g ++ rest) → txn_in g c ≡ Some t → filter is_began (own c rest) ≡ []
     → (of t (g ++ rest) ≡ of t g ++ own c rest) × (txn_in (g ++ rest) c ≡ Some t)
 own_goes c t g [] callers shape in_it quiet = (ap (of t) (append-nil g) ∙ sym (append-nil (of t g)), ap (λ h. txn_in h c) (append-nil g) ∙ in_it)
@@ -85,13 +87,13 @@ own_goes c t g (e ∷ rest) callers shape in_it quiet =
           (ap (of t) (sym assoc) ∙ of_is ∙ ap (λ es. es ++ own c rest) out ∙ ap (λ es. of t g ++ es) (sym own_is), ap (λ h. txn_in h c) (sym assoc) ∙ in_is)
     ]
 
--- A commit leaves a run as it is.
+-- A commit leaves a run unchanged.
 commits_so : (c p : ℕ) (o : Option Run) → is_some o ≡ true → is_some (option_and_then (λ r. act r (Committed c p)) o) ≡ true
 commits_so c p None some = some
 commits_so c p (Some r) some = refl
 
--- Where a caller's own entries have a part from a Began to a Committed, and none in between begins, a transaction has
--- committed so.
+-- If a caller's own entries have a part from a Began to a Committed with no Began in between, a
+-- transaction has committed by that part.
 pub has_committed : (c txn place : ℕ) (h front inner later : List Entry) → IsShaped h → RepliesHold h
     → own c h ≡ front ++ ((Began c txn ∷ inner ++ Committed c place ∷ []) ++ later) → filter is_began inner ≡ [] → HasCommitted c txn place (Began c txn ∷ inner ++ Committed c place ∷ []) h
 has_committed c txn place h front inner later shape replies own_is quiet =

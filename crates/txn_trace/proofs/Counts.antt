@@ -1,5 +1,5 @@
--- What a verdict counts: in right shape there are as many commits as Committed entries, and as many open transactions as
--- callers that are not closed.
+-- The counts of a verdict: in right shape there are as many commits as Committed entries, and as
+-- many open transactions as callers that are not closed.
 use Rattle.std.proofs.Common.{◌≡◌, ◌≢◌, ℕ, zero, suc, ◌+◌, ◌<◌, ◌≤◌, ◌==◌, Bool, true, false, cond, not, List, [], ◌∷◌, ◌++◌, length, max, refl, ap, sym, subst, ◌∙◌, Some, None, Option, is_some, arith, length-append}
 use Rattle.std.specs.Option.{option_and_then}
 use Rattle.std.specs.List.{cons_option, list_any, sum_by, range_with_len}
@@ -67,7 +67,7 @@ began_txns h shape = by_entries (λ g. txns_of is_began g ≡ range_with_len 1 (
           txns_of-push is_began g e ∙ ap (λ x. txns_of is_began g ++ cons_option (cond x (txn_at g e) None) []) b ∙ append-nil (txns_of is_began g) ∙ was ∙ ap (range_with_len 1) (sym same)
     ]
 
--- One where a test holds, else none.
+-- 1 if a test holds, else 0.
 abbrev pub one_if : Bool → ℕ
 one_if b = cond b 1 0
 
@@ -173,17 +173,19 @@ counted n h shape = by_entries (λ g. callers_in g ≤ n → opens g ≡ in_txns
         let bound : max (callers_in g) (caller_of e + 1) ≤ n = subst (λ k. k ≤ n) (callers_in-push g e) within in
         count_push n g e shape callers shaped (omega arith) (was (omega arith))
 
--- There are as many open transactions as callers that are not closed, however many callers are counted beyond those of the history.
+-- There are as many open transactions as callers that are not closed, however many callers beyond
+-- those of the history are counted.
 pub length-open_txns : (n : ℕ) (h : List Entry) → IsShaped h → callers_in h ≤ n → length (open_txns h) ≡ length (running n h)
 length-open_txns n h shape within =
     length-filter (λ t. is_open t h) (txns_of is_began h) ∙ ap (sum_by (λ t. one_if (is_open t h))) (began_txns h shape) ∙ counted n h shape within
     ∙ sym (length-filter (λ c. is_running (seat_after (own c h))) (range_with_len 0 n))
 
--- Counting beyond the callers of the history changes nothing.
+-- Callers beyond those of the history do not change the number of callers that are not closed.
 pub length-running : (n : ℕ) (h : List Entry) → IsShaped h → callers_in h ≤ n → length (running n h) ≡ length (running (callers_in h) h)
 length-running n h shape within = let same : callers_in h ≤ callers_in h = omega arith in sym (length-open_txns n h shape within) ∙ length-open_txns (callers_in h) h shape same
 
--- A Began is one caller more that is not closed, an end is one less, and every other entry leaves their number.
+-- A Began is one more caller that is not closed, an end is one less, and every other entry leaves
+-- their number unchanged.
 pub length-running-push : (g : List Entry) (e : Entry) → IsShaped g → is_shaped g e ≡ true
     → length (running (callers_in (g ++ e ∷ [])) (g ++ e ∷ [])) + one_if (is_end e) ≡ length (running (callers_in g) g) + one_if (is_began e)
 length-running-push g e shape shaped = elim (began_or_not e) [

@@ -1,4 +1,5 @@
--- Each kind of entry after a legal history: under which conditions it is legal, and what the history says after it.
+-- Each kind of entry after a legal history: when it is legal, and the seats, logs, holders and maps
+-- after it.
 use Rattle.std.proofs.Common.{[], drop, ◌≡◌, ℕ, ◌+◌, ◌-◌, ◌<◌, ◌==◌, Bool, true, cond, List, ◌∷◌, ◌++◌, take, length, slice_index, refl, ap, sym, subst, ◌∙◌, Some, None, Option, is_some, arith}
 use Rattle.std.specs.Option.{option_eq}
 use Rattle.std.specs.Prelude.{nat_eq}
@@ -40,7 +41,8 @@ use Rattle.txn_trace.proofs.Settled.{settled, settled_out, settled_in, same_as_f
 abbrev is_active : Seat → Type 0
 is_active seat = runs seat.phase ≡ true
 
--- Asked: an open caller asks where no other holds the stripe. The stripe is the caller's from now on.
+-- Asked: an open caller may ask if no other caller holds the stripe, which is the caller's from
+-- then on.
 pub asked : {holder : Holder} (stripes : ℕ) (g : List Entry) → IsLegal holder stripes g → (c : ℕ) (op : Op) (seat : Seat) → seat_after (own c g) ≡ Some seat → seat.phase ≡ Opened → is_locked holder stripes g (Asked c op) ≡ true
     → Next holder stripes g (Asked c op) (record seat { phase = Waiting op }) (log_of c g) (serial g) (now g) (λ s. cond (stripe_of stripes (key_of op) == s) (Some c) (holder_of stripes s g))
 asked {holder} stripes g legal c op seat seat_is opened locked =
@@ -63,7 +65,7 @@ pub left_to_end : {holder : Holder} (stripes : ℕ) (g : List Entry) → IsLegal
 left_to_end stripes g legal c seat seat_is opened =
     still_next stripes g legal (Leave c None) seat (record seat { phase = LeavingToEnd }) seat_is (ap (λ q. row seat q (Leave c None)) opened) refl (ap runs opened) refl refl (λ s. refl)
 
--- The same of a caller whose operation has no reply yet: it is withdrawn.
+-- Leave to the end, by a caller whose operation has no reply yet: the operation is withdrawn.
 pub withdrawn : {holder : Holder} (stripes : ℕ) (g : List Entry) → IsLegal holder stripes g → (c : ℕ) (op : Op) (seat : Seat) → seat_after (own c g) ≡ Some seat → seat.phase ≡ Waiting op
     → Next holder stripes g (Leave c None) (record seat { phase = LeavingToEnd }) (log_of c g) (serial g) (now g) (λ s. holder_of stripes s g)
 withdrawn stripes g legal c op seat seat_is waits =
@@ -76,7 +78,8 @@ left_to stripes g legal c n seat seat_is opened within =
     still_next stripes g legal (Leave c (Some n)) seat (record seat { phase = LeavingTo n }) seat_is
     (ap (λ q. row seat q (Leave c (Some n))) opened ∙ ap (λ b. cond b (Some (record seat { phase = LeavingTo n })) None) (lt-ltb n (length seat.kept) within)) refl (ap runs opened) refl refl (λ s. refl)
 
--- Returned: a caller that leaves to a level is there where just the changes of that level stand. Later savepoints are dropped.
+-- Returned: a caller that leaves to a level has returned when exactly the changes of that level
+-- stand. Later savepoints are dropped.
 pub returned : {holder : Holder} (stripes : ℕ) (g : List Entry) → IsLegal holder stripes g → (c n : ℕ) (seat : Seat) → seat_after (own c g) ≡ Some seat → seat.phase ≡ LeavingTo n → slice_index seat.kept n ≡ seat.standing
     → Next holder stripes g (Returned c n) (record seat { phase = Opened; kept = take (n + 1) seat.kept }) (log_of c g) (serial g) (now g) (λ s. holder_of stripes s g)
 returned stripes g legal c n seat seat_is leaving reached =
@@ -84,7 +87,7 @@ returned stripes g legal c n seat seat_is leaving reached =
     still_next stripes g legal (Returned c n) seat next seat_is
     (ap (λ q. row seat q (Returned c n)) leaving ∙ ap (λ b. cond b (Some next) None) (and_from (n == n) _ (eq-eqb n n refl) (eq-eqb _ _ reached))) refl (ap runs leaving) refl refl (λ s. refl)
 
--- Busy: an open caller finds the stripe in the hands of another, and aborts.
+-- Busy: an open caller finds the stripe held by another caller, and aborts.
 pub busy : {holder : Holder} (stripes : ℕ) (g : List Entry) → IsLegal holder stripes g → (c : ℕ) (op : Op) (x : ℕ) (seat : Seat) → seat_after (own c g) ≡ Some seat → seat.phase ≡ Opened → is_locked holder stripes g (Busy c op x) ≡ true
     → Next holder stripes g (Busy c op x) (record seat { phase = LeavingToEnd }) (log_of c g) (serial g) (now g) (λ s. holder_of stripes s g)
 busy stripes g legal c op x seat seat_is opened locked =
@@ -117,7 +120,8 @@ began {holder} stripes g legal c t seat seat_is closed numbered =
       holder_is = λ s. holder_of-other holder stripes g e callers shaped legal.shape legal.locks s refl refl;
     }
 
--- Aborted: a caller that leaves to the end is closed where no change stands. Its stripes are given back.
+-- Aborted: a caller that leaves to the end is closed when no change stands. Its stripes are given
+-- back.
 pub aborted : {holder : Holder} (stripes : ℕ) (g : List Entry) → IsLegal holder stripes g → (c : ℕ) (seat : Seat) → seat_after (own c g) ≡ Some seat → seat.phase ≡ LeavingToEnd → seat.standing ≡ 0
     → Next holder stripes g (Aborted c) closed_seat [] (serial g) (now g) (λ s. cond (option_eq nat_eq (holder_of stripes s g) (Some c)) None (holder_of stripes s g))
 aborted {holder} stripes g legal c seat seat_is leaving none =
@@ -144,7 +148,8 @@ aborted {holder} stripes g legal c seat seat_is leaving none =
     no_elements [] is = refl
     no_elements (x ∷ xs) is = absurd (omega arith)
 
--- Did: a caller that waits gets the reply of the map now, which changes as the operation does. A change is noted in the log.
+-- Did: a caller that waits gets the reply of the map now, and the map changes as the operation
+-- says. The log notes a change.
 pub did : {holder : Holder} (stripes : ℕ) (g : List Entry) → IsLegal holder stripes g → (c : ℕ) (op : Op) (x : Option ℕ) (seat : Seat) → seat_after (own c g) ≡ Some seat → seat.phase ≡ Waiting op → x ≡ reply_of (now g) op
     → Next holder stripes g (Did c x) (record seat { phase = Opened; standing = cond (changes op x) (seat.standing + 1) seat.standing })
     (cond (changes op x) ((key_of op, x) ∷ log_of c g) (log_of c g)) (serial g) (after (now g) op) (λ s. holder_of stripes s g)
@@ -209,7 +214,8 @@ undone_by {holder} stripes g legal c seat seat_is active goes job jobs log_is =
       holder_is = λ s. holder_of-other holder stripes g e (callers_of g legal.shape) shaped legal.shape legal.locks s refl refl;
     }
 
--- Undone to a level: where more changes stand than at the level, the newest is taken back. Its key has what it had before, and every other key what it has.
+-- Undone to a level: if more changes stand than at the level, the newest is taken back. Its key
+-- gets the value before the change, and every other key is unchanged.
 pub undone_to : {holder : Holder} (stripes : ℕ) (g : List Entry) → IsLegal holder stripes g → (c n : ℕ) (seat : Seat) → seat_after (own c g) ≡ Some seat → seat.phase ≡ LeavingTo n → slice_index seat.kept n < seat.standing
     → (job : ℕ × Option ℕ) (jobs : List (ℕ × Option ℕ)) → log_of c g ≡ job ∷ jobs
     → Next holder stripes g (Undone c) (record seat { standing = seat.standing - 1 }) jobs (serial g) (set_at (now g) job.0 job.1) (λ s. holder_of stripes s g)
@@ -217,7 +223,7 @@ undone_to stripes g legal c n seat seat_is leaving more job jobs log_is =
     undone_by stripes g legal c seat seat_is (ap runs leaving)
     (ap (λ q. row seat q (Undone c)) leaving ∙ ap (λ b. cond b (Some (record seat { standing = seat.standing - 1 })) None) (lt-ltb (slice_index seat.kept n) seat.standing more)) job jobs log_is
 
--- Undone to the end: the same of a caller that takes all its changes back.
+-- Undone to the end: a caller that takes all its changes back takes the newest back.
 pub undone_to_end : {holder : Holder} (stripes : ℕ) (g : List Entry) → IsLegal holder stripes g → (c : ℕ) (seat : Seat) → seat_after (own c g) ≡ Some seat → seat.phase ≡ LeavingToEnd → 0 < seat.standing
     → (job : ℕ × Option ℕ) (jobs : List (ℕ × Option ℕ)) → log_of c g ≡ job ∷ jobs
     → Next holder stripes g (Undone c) (record seat { standing = seat.standing - 1 }) jobs (serial g) (set_at (now g) job.0 job.1) (λ s. holder_of stripes s g)
@@ -233,8 +239,8 @@ newest g c seat seat_is some = at (log_of c g) refl
     at [] is = let none : seat.standing ≡ 0 = sym (length-log_of g c seat seat_is) ∙ ap length is in absurd (omega arith)
     at (job ∷ jobs) is = (job, jobs, is)
 
--- Committed: an open caller commits, at the next place. The map now stays; the committed map takes over the caller's standing
--- changes. Its stripes are given back.
+-- Committed: an open caller commits, with the next commit number. The map now is unchanged, and the
+-- committed map gets the caller's standing changes. The caller's stripes are given back.
 pub committed : {holder : Holder} (stripes : ℕ) (g : List Entry) → IsLegal holder stripes g → (c p : ℕ) (seat : Seat) → seat_after (own c g) ≡ Some seat → seat.phase ≡ Opened → p ≡ how_many is_commit g + 1
     → Next holder stripes g (Committed c p) closed_seat [] (settled (serial g) (now g) (log_of c g)) (now g) (λ s. cond (option_eq nat_eq (holder_of stripes s g) (Some c)) None (holder_of stripes s g))
 committed {holder} stripes g legal c p seat seat_is opened numbered =

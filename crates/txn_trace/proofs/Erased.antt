@@ -1,4 +1,5 @@
--- What is left of a legal history without its aborted transactions.
+-- A legal history without its aborted transactions: it has the same map now and the same committed
+-- map.
 use Rattle.std.proofs.Common.{◌≡◌, ℕ, Bool, true, false, cond, not, ◌||◌, List, [], ◌∷◌, map, refl, ap, sym, subst, ◌∙◌, Some, None, Option, IsTrue, IsSome}
 use Rattle.std.specs.List.{filter, fold}
 use Rattle.std.proofs.lemmas.Bool.{cases_Bool}
@@ -17,7 +18,7 @@ use Rattle.txn_trace.proofs.Lists.{filter_within, fold_filter}
 use Rattle.txn_trace.proofs.Erasing.{kept, kept_of, kept_lines, no_txn, of-kept_in, of-kept_out, txns_of-kept, committed_not_aborted, serial-kept, now-kept}
 use Rattle.txn_trace.proofs.Shaped.{callers_of, ended_whole, committed_ended, shape_front}
 
--- A beginning of what is kept is what is kept of a beginning.
+-- A prefix of the kept entries is the kept entries of a prefix.
 kept_prefix : (keep : Option ℕ → Bool) (before : ℕ → Option ℕ) (h g' : List Entry) → IsPrefix g' (kept keep before h) → (g : List Entry) × IsPrefix g h × (kept keep before g ≡ g')
 kept_prefix keep before [] [] p = ([], ([], refl), refl)
 kept_prefix keep before [] (x ∷ g') p = absurd (cc (p.1))
@@ -48,14 +49,14 @@ serial-erase h = serial-kept (lasts h) h (lasts_in h)
 pub now-erase : (h : List Entry) → now (erase h) ≡ now h
 now-erase h = now-kept (lasts h) h (lasts_in h)
 
--- A transaction that is committed at a beginning is not aborted.
+-- A transaction that is committed in a prefix is not aborted.
 still : (h g : List Entry) (t : ℕ) → IsShaped h → IsPrefix g h → is_committed t g ≡ true → is_aborted t h ≡ false
 still h g t shape p done =
     let callers = callers_of g (shape_front h g shape p) in
     let whole : of t h ≡ of t g = ap (of t) (sym p.1) ∙ ended_whole t g p.0 callers (subst IsShaped (sym p.1) shape) (committed_ended t g done) in
     ap (ends_in is_abort) whole ∙ committed_not_aborted t g done
 
--- The committed map at a beginning is the same without transactions that abort in the end.
+-- The committed map of a prefix is the same without the transactions that abort in the end.
 serial_there : (h g : List Entry) → IsShaped h → IsPrefix g h → serial (kept_of (lasts h) g) ≡ serial g
 serial_there h g shape p =
     let keep = lasts h in

@@ -1,4 +1,4 @@
--- What is left of a history when the entries of some transactions are left out.
+-- A history without the entries of some transactions.
 use Rattle.std.proofs.Common.{◌≡◌, ℕ, Bool, true, false, cond, not, ◌||◌, ◌==◌, List, [], ◌∷◌, map, refl, ap, sym, ◌∙◌, Some, None, Option}
 use Rattle.std.specs.List.{filter, filter_map, fold, cons_option}
 use Rattle.std.proofs.lemmas.Bool.{false≢true, eq-eqb}
@@ -20,7 +20,7 @@ kept_lines keep before h = filter (λ line. keep line.txn) (lines_from before h)
 abbrev pub kept : (Option ℕ → Bool) → (ℕ → Option ℕ) → List Entry → List Entry
 kept keep before h = map (λ line. line.entry) (kept_lines keep before h)
 
--- Each caller in a transaction that is kept is in it there too.
+-- Each caller that is in a kept transaction is in it in the kept history too.
 abbrev pub Agree : (Option ℕ → Bool) → (ℕ → Option ℕ) → (ℕ → Option ℕ) → Type 0
 Agree keep before there = (c : ℕ) → keep (before c) ≡ true → there c ≡ before c
 
@@ -41,7 +41,7 @@ agree_left keep before there (Began c t) same out x is =
     ] is
 agree_left keep before there _ same out x is = same x is
 
--- What is kept has the same lines.
+-- The kept entries have the same lines as before.
 pub lines_from-kept : (keep : Option ℕ → Bool) (before there : ℕ → Option ℕ) → Agree keep before there → (h : List Entry) → lines_from there (kept keep before h) ≡ kept_lines keep before h
 lines_from-kept keep before there same [] = refl
 lines_from-kept keep before there same (e ∷ h) =
@@ -53,7 +53,7 @@ lines_from-kept keep before there same (e ∷ h) =
       | false ↦ λ is. lines_from-kept keep now there (agree_left keep before there e same is) h
     ] refl
 
--- A transaction's lines are all kept, or none.
+-- Either all lines of a transaction are kept or none is.
 pub filter_of_kept : (keep : Option ℕ → Bool) (t : ℕ) (lines : List Line) → filter (is_of t) (filter (λ line. keep line.txn) lines) ≡ cond (keep (Some t)) (filter (is_of t) lines) []
 filter_of_kept keep t lines =
     elim (keep (Some t)) as (λ b. keep (Some t) ≡ b → filter (is_of t) (filter (λ line. keep line.txn) lines) ≡ cond b (filter (is_of t) lines) []) [
@@ -85,7 +85,7 @@ map_cond : {X Y : Type 0} (f : X → Y) (b : Bool) (xs : List X) → map f (cond
 map_cond f true xs = refl
 map_cond f false xs = refl
 
--- A kept transaction has its entries, another has none.
+-- A kept transaction has its entries, and any other has none.
 pub of-kept : (keep : Option ℕ → Bool) (t : ℕ) (h : List Entry) → of t (kept_of keep h) ≡ cond (keep (Some t)) (of t h) []
 of-kept keep t h =
     ap (λ ls. map (λ (l : Line). l.entry) (filter (is_of t) ls)) (lines_of-kept keep h)
@@ -98,7 +98,7 @@ of-kept_in keep t h is = of-kept keep t h ∙ ap (λ b. cond b (of t h) []) is
 pub of-kept_out : (keep : Option ℕ → Bool) (t : ℕ) (h : List Entry) → keep (Some t) ≡ false → of t (kept_of keep h) ≡ []
 of-kept_out keep t h is = of-kept keep t h ∙ ap (λ b. cond b (of t h) []) is
 
--- The transactions of the entries that are kept.
+-- The transactions of the kept entries.
 abbrev picked : (Entry → Bool) → List Line → List ℕ
 picked test ls = filter_map (λ l. cond (test l.entry) l.txn None) ls
 
@@ -135,7 +135,7 @@ picked_kept keep test (l ∷ ls) = one_kept keep test l.txn l.entry (filter (λ 
 pub txns_of-kept : (keep : Option ℕ → Bool) (test : Entry → Bool) (h : List Entry) → txns_of test (kept_of keep h) ≡ filter (λ t. keep (Some t)) (txns_of test h)
 txns_of-kept keep test h = ap (picked test) (lines_of-kept keep h) ∙ picked_kept keep test (lines_of h)
 
--- No history ends both ways.
+-- No transaction ends both ways.
 not_both : (es : List Entry) (a b : Bool) → (a ≡ true → b ≡ false) → fold (λ x e. is_commit e) a es ≡ true → fold (λ x e. is_abort e) b es ≡ false
 not_both [] a b apart is = apart is
 not_both (e ∷ es) a b apart is = not_both es (is_commit e) (is_abort e) (λ c. one e c) is
@@ -147,7 +147,7 @@ not_both (e ∷ es) a b apart is = not_both es (is_commit e) (is_abort e) (λ c.
 pub committed_not_aborted : (t : ℕ) (h : List Entry) → is_committed t h ≡ true → is_aborted t h ≡ false
 committed_not_aborted t h is = not_both (of t h) false false (λ x. refl) is
 
--- What holds where the aborted transactions are among those left out.
+-- For a test that keeps every transaction that is not aborted.
 module _ (keep : Option ℕ → Bool) (h : List Entry) (lasting : (t : ℕ) → is_aborted t h ≡ false → keep (Some t) ≡ true) where
   kept_committed : (t : ℕ) → keep (Some t) ≡ true → is_committed t (kept_of keep h) ≡ is_committed t h
   kept_committed t is = ap (ends_in is_commit) (of-kept_in keep t h is)

@@ -1,4 +1,5 @@
--- In right shape a caller's seat and its transaction's run agree, and then an entry can only fail by its reply.
+-- In right shape a caller's seat and its transaction's run agree, and an entry can fail only by its
+-- reply.
 use Rattle.std.proofs.Common.{◌≡◌, ℕ, zero, suc, ◌+◌, ◌-◌, ◌<◌, ◌==◌, Bool, true, false, cond, ◌&&◌, List, [], ◌∷◌, ◌++◌, map, length, take, slice_get, slice_index, refl, ap, sym, subst, ◌∙◌, Some, None, Option, is_some, arith}
 use Rattle.std.specs.Prelude.{nat_lt}
 use Rattle.std.proofs.lemmas.Bool.{false≢true, eqb-true, ltb-true, and_parts}
@@ -15,7 +16,7 @@ use Rattle.txn_trace.specs.Shape.{Seat, row, changes, closed_seat}
 use Rattle.txn_trace.proofs.Callers.{is_end}
 use Rattle.txn_trace.proofs.Now.{same_is}
 
--- What a phase says of the run.
+-- A phase, as a statement about the run.
 abbrev pub PhaseFits : Phase → Seat → Run → Type 0
 PhaseFits (Waiting op) s r = r.pending ≡ Some op
 PhaseFits (LeavingTo n) s r = n < length s.kept
@@ -92,7 +93,8 @@ when : {A : Type 0} (b : Bool) (x : A) → is_some (cond b (Some x) None) ≡ tr
 when true x h = refl
 when false x h = absurd (false≢true h)
 
--- One entry: where the row is there and the reply is right, the run goes on and still agrees.
+-- If an entry has a row in the table and its reply is right, the run goes on and still agrees with
+-- the seat.
 pub fits_act : (s : Seat) (r : Run) (e : Entry) (q : Phase) → s.phase ≡ q → is_began e ≡ false → is_end e ≡ false → Fits s r → IsReply r e → is_some (row s q e) ≡ true → FitsAfter (row s q e) (act r e)
 fits_act s r (Began c t) q at b n fits right h = absurd (false≢true (sym b))
 fits_act s r (Committed c p) q at b n fits right h = absurd (false≢true (sym n))

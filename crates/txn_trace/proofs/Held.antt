@@ -1,4 +1,5 @@
--- What a caller in a transaction holds: the stripes of its standing changes and of the operation that waits.
+-- The stripes that a caller in a transaction holds: those of its standing changes and of the
+-- operation that waits.
 use Rattle.std.proofs.Common.{None, Option, ◌++◌, append_assoc, ◌≡◌, ◌≢◌, ℕ, ◌==◌, Bool, true, false, cond, ◌&&◌, List, [], ◌∷◌, map, slice_get, refl, ap, sym, subst, ◌∙◌, Some}
 use Rattle.std.specs.Option.{option_eq}
 use Rattle.std.specs.Prelude.{nat_eq}
@@ -110,7 +111,7 @@ held_apart stripes g c d k j of_c of_d apart same = apart (some_same c d (sym of
     some_same : (a b : ℕ) → Some a ≡ Some b → a ≡ b
     some_same a b is = cc (is)
 
--- The open transaction by which a caller holds a stripe.
+-- The open transaction through which a caller holds a stripe.
 pub record HeldTxn (stripes s : ℕ) (g : List Entry) (c : ℕ) : Type 0 where
   pub txn : ℕ
   pub in_it : txn_in g c ≡ Some txn
@@ -159,11 +160,11 @@ module _ (stripes s : ℕ) (g : List Entry) (c : ℕ) where
 pub holder_txn : (stripes : ℕ) (g : List Entry) → IsShaped g → (s c : ℕ) → holder_of stripes s g ≡ Some c → HeldTxn stripes s g c
 holder_txn stripes g shape s c held = first_line stripes s g c (lines_of g) [] refl (callers_of g shape).owned held
 
--- So the holder of a stripe is in a transaction: a closed caller holds none.
+-- The holder of a stripe is in a transaction: a closed caller holds none.
 pub holder_running : (stripes : ℕ) (g : List Entry) → IsShaped g → (s c : ℕ) → holder_of stripes s g ≡ Some c → is_running (seat_after (own c g)) ≡ true
 holder_running stripes g shape s c held = let there = holder_txn stripes g shape s c held in (callers_of g shape).running c there.txn there.in_it there.going
 
--- An entry leaves the value now of each key whose stripe another caller holds.
+-- An entry leaves the value now of each key unchanged whose stripe another caller holds.
 pub get-now_held : {holder : Holder} (stripes : ℕ) (g : List Entry) (e : Entry) → IsLegal holder stripes g → IsLegal holder stripes (g ++ e ∷ []) → (k d : ℕ) → holder_of stripes (stripe_of stripes k) g ≡ Some d → d ≢ caller_of e
     → get (now (g ++ e ∷ [])) k ≡ get (now g) k
 get-now_held {holder} stripes g e legal after k d held other = get-now (g ++ e ∷ []) k ∙ at_key ∙ sym (get-now g k)
@@ -192,7 +193,7 @@ get-now_held {holder} stripes g e legal after k d held other = get-now (g ++ e �
       | inl commits ↦ now_at-push_commit holder stripes g e mine.0 legal.shape legal.locks after.shape shaped commits mine.1 not_ended k
     ]
 
--- At a key at most one open transaction's last map differs from the committed map.
+-- At each key at most one open transaction's last map differs from the committed map.
 pub one_differs : {holder : Holder} (stripes : ℕ) (g : List Entry) → IsLegal holder stripes g → (k t u : ℕ) → is_open t g ≡ true → is_open u g ≡ true
     → get (map_after (serial g) (of t g)) k ≢ get (serial g) k → get (map_after (serial g) (of u g)) k ≢ get (serial g) k → t ≡ u
 one_differs {holder} stripes g legal k t u open_t open_u differs_t differs_u =

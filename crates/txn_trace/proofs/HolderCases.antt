@@ -1,4 +1,4 @@
--- Worked histories, by computing: whom a Busy may name by each of the two rules.
+-- Worked histories, by computing: the callers that a Busy may name by each of the two rules.
 use Rattle.std.proofs.Common.{◌≡◌, List, [], ◌∷◌, refl, None}
 use Rattle.txn_trace.specs.declared.op.Op.TheVariants.{Put, Get}
 use Rattle.txn_trace.specs.declared.entry.Entry.{Entry}
@@ -6,7 +6,7 @@ use Rattle.txn_trace.specs.declared.entry.Entry.TheVariants.{Began, Asked, Did, 
 use Rattle.txn_trace.specs.declared.holder.Holder.TheVariants.{Now, Begun}
 use Rattle.txn_trace.specs.Legal.{verdict, Legal, Illegal}
 
--- The caller that a Busy names has begun a transaction, which is over.
+-- The caller that a Busy names has begun a transaction, which has ended.
 abbrev holder_has_begun : List Entry
 holder_has_begun = Began 0 1 ∷ Asked 0 (Put 1 10) ∷ Did 0 None ∷ Committed 0 1 ∷ Began 1 2 ∷ Busy 1 (Get 9) 0 ∷ []
 
@@ -16,14 +16,14 @@ holder_has_begun_verdict = refl
 holder_has_begun_now : verdict Now 8 holder_has_begun ≡ Illegal 5 2
 holder_has_begun_now = refl
 
--- It has begun none.
+-- The caller that a Busy names has begun none.
 none_has_begun : verdict Begun 8 (Began 1 1 ∷ Busy 1 (Get 9) 0 ∷ []) ≡ Illegal 1 2
 none_has_begun = refl
 
--- It is the caller itself.
+-- The Busy names its own caller.
 begun_itself : verdict Begun 8 (Began 0 1 ∷ Asked 0 (Put 1 10) ∷ Did 0 None ∷ Busy 0 (Get 9) 0 ∷ []) ≡ Illegal 3 2
 begun_itself = refl
 
--- An Asked is held to the holders of now, whichever it is.
+-- An Asked is tested against the holders now, by either rule.
 begun_asked : verdict Begun 8 (Began 0 1 ∷ Asked 0 (Put 1 10) ∷ Did 0 None ∷ Began 1 2 ∷ Asked 1 (Get 9) ∷ []) ≡ Illegal 4 2
 begun_asked = refl

@@ -16,7 +16,8 @@ module _ (P : List Entry → Type 0) (step : (g : List Entry) (e : Entry) → Is
       subst P (append_assoc g (e ∷ []) rest)
       (by_entries_from (g ++ e ∷ []) rest (callers_push g e callers shaped) (step g e (shape_front (g ++ e ∷ rest) g shape (e ∷ rest, refl)) callers shaped is) (subst IsShaped (sym (append_assoc g (e ∷ []) rest)) shape))
 
-  -- What holds of the empty history, and of one more entry in right shape where it held before, holds of each history in right shape.
+  -- A statement that holds of the empty history, and is kept by each entry in right shape, holds of
+  -- each history in right shape.
   pub by_entries : P [] → (h : List Entry) → IsShaped h → P h
   by_entries none h shape = by_entries_from [] h callers_none none shape
 
@@ -30,6 +31,6 @@ module _ (holder : Holder) (stripes : ℕ) (P : List Entry → Type 0) (step : (
       subst P (append_assoc g (e ∷ []) rest)
       (by_locked_entries_from (g ++ e ∷ []) rest (callers_push g e callers shaped) (step g e (shape_front (g ++ e ∷ rest) g shape (e ∷ rest, refl)) callers shaped locked is) (subst IsShaped back shape) (subst (LocksHold holder stripes) back locks))
 
-  -- The same, where the rule of locks holds too.
+  -- Induction over histories of the right shape in which the rule of locks holds too.
   pub by_locked_entries : P [] → (h : List Entry) → IsShaped h → LocksHold holder stripes h → P h
   by_locked_entries none h shape locks = by_locked_entries_from [] h callers_none none shape locks

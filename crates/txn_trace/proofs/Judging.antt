@@ -1,4 +1,4 @@
--- A history is legal exactly where no entry is bad.
+-- A history is legal exactly if it has no bad entry.
 use Rattle.std.proofs.Common.{◌≡◌, ℕ, ◌+◌, ◌==◌, Bool, true, false, cond, not, List, [], ◌∷◌, ◌++◌, map, refl, ap, sym, subst, ◌∙◌, Some, None, Option, IsSome, is_some, append_assoc}
 use Rattle.std.specs.List.{filter, list_any, list_all, AllByRecursion}
 use Rattle.std.specs.Prelude.{◌↔◌}
@@ -21,7 +21,7 @@ use Rattle.txn_trace.proofs.Shaped.{callers_of}
 use Rattle.txn_trace.proofs.Steps.{are_listed}
 use Rattle.txn_trace.proofs.Now.{any-filter, going_open}
 
--- A beginning of a history with one more entry.
+-- A prefix of a history with one more entry is a prefix of the history, or all of it.
 prefix_push : {A : Type 0} (g h : List A) (e : A) → IsPrefix g (h ++ e ∷ []) → IsPrefix g h ⊎ (g ≡ h ++ e ∷ [])
 prefix_push [] h e p = inl (h, refl)
 prefix_push (x ∷ []) [] e p = inr (cc (p.1))
@@ -44,7 +44,7 @@ last_same (z ∷ g) (w ∷ h) x y is =
     let rest = last_same g h x y (cc (is)) in
     (cc (heads, rest.0), rest.1)
 
--- One entry more is legal where it breaks no rule.
+-- One more entry is legal if it breaks no rule.
 pub legal_push : {holder : Holder} (stripes : ℕ) (h : List Entry) (e : Entry) → IsLegal holder stripes h → is_shaped h e ≡ true → is_locked holder stripes h e ≡ true → RepliesHoldAt (h ++ e ∷ []) → IsLegal holder stripes (h ++ e ∷ [])
 legal_push {holder} stripes h e legal shaped locked hold = record {
   replies = λ g p. elim (prefix_push g h e p) [ inl q ↦ legal.replies g q | inr q ↦ subst RepliesHoldAt (sym q) hold ];
@@ -86,7 +86,7 @@ filter_passes p q (x ∷ xs) to =
       | false ↦ λ is. filter_passes p q xs to
     ]) refl
 
--- The test says what the rule says.
+-- The test of replies agrees with the rule.
 pub replies_hold_from : (g : List Entry) → RepliesHoldAt g → replies_hold g ≡ true
 replies_hold_from g hold = filter_passes (λ t. is_open t g) (λ t. is_some (alone (serial g) (of t g))) (txns_of is_began g) hold
 
@@ -99,7 +99,7 @@ RepliesHoldAt-from g shape holds t is_open_there =
           (any-filter (λ u. is_open u g) t is_open_there (txns_of is_began g) (are_listed g w.0 t w.1))
     ]
 
--- An entry that breaks no rule.
+-- An entry that breaks no rule keeps all three.
 not_broken : (holder : Holder) (stripes : ℕ) (g : List Entry) (e : Entry) → broken holder stripes g e ≡ None → (is_shaped g e ≡ true) × (replies_hold (g ++ e ∷ []) ≡ true) × (is_locked holder stripes g e ≡ true)
 not_broken holder stripes g e is = at (is_shaped g e) (replies_hold (g ++ e ∷ [])) (is_locked holder stripes g e) is
   where
@@ -161,6 +161,6 @@ legal_none stripes = record {
     nothing [] p t = refl
     nothing (x ∷ g) p t = absurd (cc (p.1))
 
--- A history is legal exactly where the search finds no bad entry.
+-- A history is legal exactly if the search finds no bad entry.
 pub legal_iff : {holder : Holder} (stripes : ℕ) (h : List Entry) → IsLegal holder stripes h ↔ (first_bad holder stripes [] h 0 ≡ None)
 legal_iff stripes h = (λ legal. none_bad stripes [] h 0 legal, λ none. legal_from stripes [] h 0 (legal_none stripes) none)

@@ -1,4 +1,5 @@
--- The savepoints of a seat: they rise, and those that a caller may go back to keep no more changes than stand.
+-- The savepoints of a seat: they rise, and no level that a caller may go back to keeps more changes
+-- than stand.
 use Rattle.std.proofs.Common.{◌≡◌, ℕ, ◌+◌, ◌-◌, ◌<◌, ◌≤◌, ◌==◌, ◌&&◌, Bool, true, false, cond, List, [], ◌∷◌, ◌++◌, length, take, get_or, slice_index, refl, sym, subst, Some, None, Option, arith}
 use Rattle.std.specs.Prelude.{nat_lt}
 use Rattle.std.specs.Option.{option_and_then}
@@ -16,11 +17,11 @@ use Rattle.txn_trace.specs.Shape.{Seat, closed_seat, changes, row, seat_after}
 abbrev pub IsRisingList : List ℕ → Type 0
 IsRisingList kept = (i j : ℕ) → i ≤ j → j < length kept → get_or kept i 0 ≤ get_or kept j 0
 
--- Each level keeps at most so many.
+-- Each level keeps at most this number of changes.
 abbrev pub AreWithin : ℕ → List ℕ → Type 0
 AreWithin standing kept = (i : ℕ) → i < length kept → get_or kept i 0 ≤ standing
 
--- What a phase says of the changes that stand and of the levels.
+-- A phase, as a statement about the standing changes and the levels.
 abbrev pub IsLevelIn : Phase → ℕ → List ℕ → Type 0
 IsLevelIn Closed standing kept = (standing ≡ 0) × (kept ≡ 0 ∷ [])
 IsLevelIn Opened standing kept = AreWithin standing kept
@@ -148,6 +149,6 @@ fold_leveled [] o is = is
 fold_leveled (e ∷ es) None is = fold_leveled es None tt
 fold_leveled (e ∷ es) (Some s) is = fold_leveled es (row s s.phase e) (row_leveled s s.phase e refl is.rising is.within)
 
--- The seat after any entries is so.
+-- The savepoints of the seat after any entries have these properties.
 pub seat_leveled : (es : List Entry) (s : Seat) → seat_after es ≡ Some s → Leveled s
 seat_leveled es s is = subst LeveledAfter is (fold_leveled es (Some closed_seat) closed_leveled)

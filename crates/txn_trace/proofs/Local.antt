@@ -1,5 +1,5 @@
--- A transaction that runs alone reads and writes only the keys that it asks for, so it runs alike on every map
--- that has the same there.
+-- A transaction that runs alone reads and writes only the keys that it asks for, so it runs alike
+-- on all maps that agree at these keys.
 use Rattle.std.proofs.Common.{◌≡◌, ◌==◌, ℕ, suc, ◌+◌, Bool, true, false, cond, List, [], ◌∷◌, ◌++◌, length, take, refl, ap, sym, subst, ◌∙◌, Some, None, Option, is_some, slice_get}
 use Rattle.std.specs.Prelude.{nat_eq}
 use Rattle.std.specs.Option.{option_eq, option_and_then}
@@ -13,7 +13,7 @@ use Rattle.txn_trace.specs.Map.{Map, get, insert, remove, key_of, reply_of, afte
 use Rattle.txn_trace.specs.Alone.{Run, start, number_of_maps, with_op, act_did, act_undone, act_returned, act, alone}
 use Rattle.txn_trace.proofs.Maps.{get-insert, get-remove}
 
--- The maps a and b are m and n, with the same changes at keys that pass.
+-- The maps a and b are m and n, with the same changes at keys that pass the test.
 pub record Alike (keys : ℕ → Bool) (m n a b : Map) : Type 0 where
   pub inside : (k : ℕ) → keys k ≡ true → get a k ≡ get b k
   pub left : (k : ℕ) → keys k ≡ false → get a k ≡ get m k
@@ -42,7 +42,7 @@ RunsAlike keys m n (Some r) (Some s) = RunAlike keys m n r s
 RunsAlike keys m n None (Some s) = ⊥
 RunsAlike keys m n (Some r) None = ⊥
 
--- What the entry asks for passes.
+-- The key that the entry asks for, if it asks for one, passes the test.
 abbrev pub AsksFor : (ℕ → Bool) → Entry → Type 0
 AsksFor keys (Asked c op) = keys (key_of op) ≡ true
 AsksFor keys _ = Unit {0}
@@ -54,7 +54,7 @@ AllAskFor keys (e ∷ es) = AsksFor keys e × AllAskFor keys es
 apart_from : (keys : ℕ → Bool) (k q : ℕ) → keys k ≡ true → keys q ≡ false → (q == k) ≡ false
 apart_from keys k q in_keys out = ne_eqb q k (λ same. false≢true (sym out ∙ ap keys same ∙ in_keys))
 
--- A change at a key that passes.
+-- A change at a key that passes the test.
 module _ (keys : ℕ → Bool) (m n a b : Map) (alike : Alike keys m n a b) (k : ℕ) (in_keys : keys k ≡ true) where
   insert_alike : (v : ℕ) → Alike keys m n (insert a k v) (insert b k v)
   insert_alike v = record {
@@ -155,7 +155,7 @@ module _ (keys : ℕ → Bool) (m n : Map) where
   fold_alike (e ∷ es) (Some r) None asks alike = absurd alike
   fold_alike (e ∷ es) (Some r) (Some s) asks alike = fold_alike es (act r e) (act s e) asks.1 (act_alike e r s asks.0 alike)
 
-  -- The entries run alike on two maps that have the same at the keys that they ask for.
+  -- The entries run alike on two maps that agree at the keys that they ask for.
   pub alone_alike : (es : List Entry) → AllAskFor keys es → ((k : ℕ) → keys k ≡ true → get m k ≡ get n k) → RunsAlike keys m n (alone m es) (alone n es)
   alone_alike es asks same = fold_alike es (Some (start m)) (Some (start n)) asks
       (record { last = record { inside = same; left = λ k out. refl; right = λ k out. refl }; earlier = tt; pending = refl; waits = tt; notes = refl })

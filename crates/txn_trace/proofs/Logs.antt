@@ -28,7 +28,7 @@ use Rattle.txn_trace.proofs.Seated.{none_before, AreSeated, seated_push, alone_b
 use Rattle.txn_trace.proofs.Undoing.{IsLogged, logged_add}
 use Rattle.txn_trace.proofs.Inductions.{by_entries}
 
--- One more entry of the caller, and one of another.
+-- The log after one more entry of the caller, and after one of another caller.
 pub log_after-push : (es : List Entry) (e : Entry) → log_after (es ++ e ∷ []) ≡ log_step (log_after es) e
 log_after-push es e = fold-append log_step no_log es (e ∷ [])
 
@@ -38,12 +38,13 @@ log_after-own g e = ap log_after (own-push_in (caller_of e) g e refl) ∙ log_af
 pub log_after-other : (c : ℕ) (g : List Entry) (e : Entry) → c ≢ caller_of e → log_after (own c (g ++ e ∷ [])) ≡ log_after (own c g)
 log_after-other c g e other = ap log_after (own-push_out c g e (not_equal c (caller_of e) other))
 
--- What a phase says of the log.
+-- A phase, as a statement about the log.
 abbrev pub PhaseLogged : Phase → Log → Type 0
 PhaseLogged (Waiting op) log = log.pending ≡ Some op
 PhaseLogged _ log = Unit {0}
 
--- A log has as many changes as stand by the seat, and the operation that the seat waits for.
+-- A log has the number of changes that the seat has standing, and the operation that the seat waits
+-- for.
 pub record SeatLogged (s : Seat) (log : Log) : Type 0 where
   pub count : length log.standing ≡ s.standing
   pub phase : PhaseLogged s.phase log
@@ -97,13 +98,14 @@ fold_logged (e ∷ es) (Some s) log is = fold_logged es (row s s.phase e) (log_s
 pub seat_logged : (es : List Entry) (s : Seat) → seat_after es ≡ Some s → SeatLogged s (log_after es)
 seat_logged es s is = subst (λ o. LoggedAfter o (log_after es)) is (fold_logged es (Some closed_seat) no_log (record { count = refl; phase = tt }))
 
--- A log names for each map of a run but the first the change that made it, of a key that passes.
+-- A log names, for each map of a run but the first, the change that made it, of a key that passes
+-- the test.
 pub record Logs (keys : ℕ → Bool) (log : Log) (r : Run) : Type 0 where
   pub pending : log.pending ≡ r.pending
   pub waits : WaitsFor keys r.pending
   pub standing : IsLogged keys log.standing r.last r.earlier
 
--- More keys may pass.
+-- A log that fits a test of keys fits a wider one.
 wider_waits : (keys wide : ℕ → Bool) → ((k : ℕ) → keys k ≡ true → wide k ≡ true) → (p : Option Op) → WaitsFor keys p → WaitsFor wide p
 wider_waits keys wide to None is = tt
 wider_waits keys wide to (Some op) is = to (key_of op) is
@@ -117,7 +119,7 @@ wider_jobs keys wide to (job ∷ jobs) last [] is = is
 wider : (keys wide : ℕ → Bool) → ((k : ℕ) → keys k ≡ true → wide k ≡ true) → (log : Log) (r : Run) → Logs keys log r → Logs wide log r
 wider keys wide to log r is = record { pending = is.pending; waits = wider_waits keys wide to r.pending is.waits; standing = wider_jobs keys wide to log.standing r.last r.earlier is.standing }
 
--- One entry of the transaction, after which the run is still defined.
+-- One entry of the transaction, if the run is still defined after it.
 did_logs : (keys : ℕ → Bool) (log : Log) (r r' : Run) (x : Option ℕ) (p : Option Op) → log.pending ≡ p → WaitsFor keys p → IsLogged keys log.standing r.last r.earlier → act_did r p x ≡ Some r' → Logs keys (log_did log p x) r'
 did_logs keys log r r' x None at waits is goes = absurd (cc (goes))
 did_logs keys log r r' x (Some op) at waits is goes =
@@ -168,7 +170,7 @@ act_logs keys log r r' (Returned c k) b n asks is goes =
 act_logs keys log r r' (Leave c n) b m asks is goes = subst (Logs keys log) (cc (goes)) is
 act_logs keys log r r' (Busy c op x) b n asks is goes = subst (Logs keys log) (cc (goes)) is
 
--- Whatever map a transaction runs on, its caller's log agrees with the run.
+-- On whatever map a transaction runs, its caller's log agrees with the run.
 abbrev pub AreLogged : ℕ → List Entry → Type 0
 AreLogged stripes g = (c t : ℕ) → txn_in g c ≡ Some t → ended t g ≡ false → (m : Map) (r : Run) → alone m (of t g) ≡ Some r → Logs (keys_in stripes (of t g)) (log_after (own c g)) r
 

@@ -1,4 +1,5 @@
--- Maps by their values: maps that have the same at each key are equal, and what insert and remove leave at a key.
+-- Maps by their values: maps that agree at each key are equal, and the values after insert and
+-- remove.
 use Rattle.std.specs.Prelude.{ℕ, ◌≡◌, ◌==◌, Bool, true, false, cond, not, Option, Some, None, is_some, T, List, ◌∷◌}
 use Rattle.std.specs.FinMap.Entries.{is_sorted, find-put, find-where_key, same_entries}
 use Rattle.std.specs.FinMap.{nat_cmp-IsAntisymmetric}
@@ -12,7 +13,7 @@ use mathlib.Core.HLevel.{Σ_prop_path}
 use Rattle.txn_trace.specs.Map.{Map, get, insert, remove, keys}
 use Rattle.txn_trace.specs.Now.{first_differing, map_of}
 
--- Maps that have the same at each key are equal.
+-- Maps that agree at each key are equal.
 pub same_map : (m n : Map) → ((k : ℕ) → get m k ≡ get n k) → m ≡ n
 same_map m n same =
     let rows : m.rows ≡ n.rows = same_entries nat_cmp nat_cmp_total nat_cmp-IsAntisymmetric m.rows n.rows m.rising n.rising same in
@@ -23,7 +24,7 @@ pub none_is : (o : Option ℕ) → is_some o ≡ false → o ≡ None
 none_is None h = refl
 none_is (Some v) h = absurd (false≢true (sym h))
 
--- An inserted key has its value, and each other key what it had.
+-- An inserted key has its value, and every other key is unchanged.
 pub get-insert : (m : Map) (k v q : ℕ) → get (insert m k v) q ≡ cond (q == k) (Some v) (get m q)
 get-insert m k v q = find-put nat_cmp nat_cmp_total q k v m.rows ∙ ap (λ b. cond b (Some v) (get m q)) (unsigned_tied q k)
 
@@ -31,7 +32,7 @@ cond_not : {A : Type 0} (b : Bool) (x y : A) → cond (not b) x y ≡ cond b y x
 cond_not true x y = refl
 cond_not false x y = refl
 
--- A removed key has no value, and each other key what it had.
+-- A removed key has no value, and every other key is unchanged.
 pub get-remove : (m : Map) (k q : ℕ) → get (remove m k) q ≡ cond (q == k) None (get m q)
 get-remove m k q =
     find-where_key nat_cmp (λ x. not (eq_by_cmp nat_cmp k x)) q (λ x t. ap (λ r. not (is_eq r)) (sym (alike_right nat_cmp_total q x k t))) m.rows

@@ -1,4 +1,4 @@
--- Whom a Busy may name: the two rules compared.
+-- The callers that a Busy may name: the two rules compared.
 use Rattle.std.proofs.Common.{◌≡◌, ◌≢◌, ℕ, ◌==◌, ◌&&◌, ◌||◌, Bool, true, false, cond, not, List, [], ◌∷◌, ◌++◌, refl, ap, sym, ◌∙◌, Some, is_some, append_assoc}
 use Rattle.std.specs.Option.{option_eq}
 use Rattle.std.specs.Prelude.{nat_eq}
@@ -31,11 +31,12 @@ and_false : (b : Bool) → (b && false) ≡ false
 and_false true = refl
 and_false false = refl
 
--- Who has begun, with one more entry.
+-- Whether a caller has begun, after one more entry.
 has_begun-push : (c : ℕ) (g : List Entry) (e : Entry) → has_begun c (g ++ e ∷ []) ≡ (has_begun c g || (is_began e && caller_of e == c))
 has_begun-push c g e = list_any-append (λ f. is_began f && caller_of f == c) g (e ∷ []) ∙ ap (λ b. has_begun c g || b) (or_false (is_began e && caller_of e == c))
 
--- Its caller has begun a transaction where it had or the entry begins one, and who else has stays.
+-- The entry's caller has begun a transaction if it had, or if the entry begins one; the entry
+-- changes no other caller.
 pub has_begun-own : (g : List Entry) (e : Entry) → has_begun (caller_of e) (g ++ e ∷ []) ≡ (has_begun (caller_of e) g || is_began e)
 has_begun-own g e = has_begun-push (caller_of e) g e ∙ ap (λ b. has_begun (caller_of e) g || b) (ap (λ b. is_began e && b) (eq-eqb (caller_of e) (caller_of e) refl) ∙ and_true (is_began e))
   where
@@ -64,7 +65,7 @@ txn_begun c g shape = by_entries (λ h. is_some (txn_in h c) ≡ true → has_be
 pub holder_begun : (stripes : ℕ) (g : List Entry) → IsShaped g → (s c : ℕ) → holder_of stripes s g ≡ Some c → has_begun c g ≡ true
 holder_begun stripes g shape s c holds = txn_begun c g shape (ap is_some (holder_txn stripes g shape s c holds).in_it)
 
--- So an entry that may stand where a Busy names a holder of now may stand where it names one that has begun.
+-- An entry that may stand by the rule Now may stand by the rule Begun.
 is_locked-begun : (stripes : ℕ) (g : List Entry) (e : Entry) → IsShaped g → LocksHold Now stripes g → is_locked Now stripes g e ≡ true → is_locked Begun stripes g e ≡ true
 is_locked-begun stripes g (Busy c op x) shape locks locked =
     let s = stripe_of stripes (key_of op) in
@@ -73,11 +74,11 @@ is_locked-begun stripes g (Busy c op x) shape locks locked =
 is_locked-begun stripes g (Asked c op) shape locks locked = locked
 is_locked-begun stripes g _ shape locks locked = refl
 
--- A beginning of a history keeps the rule of locks.
+-- A prefix of a history keeps the rule of locks.
 locks_front : (holder : Holder) (stripes : ℕ) (h g : List Entry) → LocksHold holder stripes h → IsPrefix g h → LocksHold holder stripes g
 locks_front holder stripes h g locks p f e q = locks f e (q.0 ++ p.0, sym (append_assoc (f ++ e ∷ []) q.0 p.0) ∙ ap (λ w. w ++ p.0) q.1 ∙ p.1)
 
--- A history that is legal where a Busy names a holder of now is legal where it names one that has begun.
+-- A history that is legal by the rule Now is legal by the rule Begun.
 pub legal_begun : (stripes : ℕ) (h : List Entry) → IsLegal Now stripes h → IsLegal Begun stripes h
 legal_begun stripes h legal = record {
   replies = legal.replies;

@@ -1,4 +1,4 @@
--- One more entry in a legal history: what all kinds of entries have in common.
+-- One more entry after a legal history: what all kinds of entries have in common.
 use Rattle.std.proofs.Common.{◌&&◌, ◌≡◌, ◌≢◌, ℕ, ◌+◌, Bool, true, false, cond, List, [], ◌∷◌, ◌++◌, take, slice_get, refl, ap, sym, subst, ◌∙◌, Some, None, Option, is_some}
 use Rattle.std.specs.Option.{option_eq, option_and_then}
 use Rattle.std.specs.Prelude.{nat_eq}
@@ -29,8 +29,9 @@ use Rattle.txn_trace.proofs.Seated.{are_seated, the_some}
 use Rattle.txn_trace.proofs.Logs.{Logs, are_logged, log_after-own, log_after-other}
 use Rattle.txn_trace.proofs.Holders.{holder_of-other}
 
--- What a history with one more entry says: it is legal; the caller of the entry has this seat and this log, and each
--- other caller what it had; the committed map and the map now are these, and this is who holds each stripe.
+-- The state of a history after one more entry: it is legal; the entry's caller has this seat and
+-- this log, and every other caller's are unchanged; the committed map and the map now are these,
+-- and these are the holders of the stripes.
 pub record Next (holder : Holder) (stripes : ℕ) (g : List Entry) (e : Entry) (seat : Seat) (log : List (ℕ × Option ℕ)) (committed current : Map) (held : ℕ → Option ℕ) : Type 0 where
   pub legal : IsLegal holder stripes (g ++ e ∷ [])
   pub seat_is : seat_after (own (caller_of e) (g ++ e ∷ [])) ≡ Some seat
@@ -41,7 +42,7 @@ pub record Next (holder : Holder) (stripes : ℕ) (g : List Entry) (e : Entry) (
   pub now_is : now (g ++ e ∷ []) ≡ current
   pub holder_is : (s : ℕ) → holder_of stripes s (g ++ e ∷ []) ≡ held s
 
--- An entry of another caller changes no entries of one's own, nor one's seat, nor one's log.
+-- An entry of another caller changes neither a caller's own entries nor its seat nor its log.
 pub own-other : (d : ℕ) (g : List Entry) (e : Entry) → d ≢ caller_of e → own d (g ++ e ∷ []) ≡ own d g
 own-other d g e other = own-push_out d g e (not_equal d (caller_of e) other)
 
@@ -51,7 +52,7 @@ seat-other d g e other = ap seat_after (own-other d g e other)
 pub log_of-other : (d : ℕ) (g : List Entry) (e : Entry) → d ≢ caller_of e → log_of d (g ++ e ∷ []) ≡ log_of d g
 log_of-other d g e other = ap (λ (l : Log). l.standing) (log_after-other d g e other)
 
--- An entry of the caller's own: its seat takes the row of the table, and its log the step.
+-- An entry of the caller itself: its seat takes the row of the table, and its log the step.
 pub seat-own : (g : List Entry) (e : Entry) → seat_after (own (caller_of e) (g ++ e ∷ [])) ≡ option_and_then (λ s. row s s.phase e) (seat_after (own (caller_of e) g))
 seat-own g e = ap seat_after (own-push_in (caller_of e) g e refl) ∙ seat_after-push (own (caller_of e) g) e
 
@@ -114,7 +115,7 @@ module _ {holder : Holder} (stripes : ℕ) (g : List Entry) (legal : IsLegal hol
   pub next_seat : seat_after (own (caller_of e) (g ++ e ∷ [])) ≡ Some next
   next_seat = seat-own g e ∙ ap (option_and_then (λ (s : Seat). row s s.phase e)) seat_is ∙ goes
 
-  -- A row of the table and the right number are the right shape.
+  -- An entry with a row in the table and the right number has the right shape.
   pub shaped_by_row : is_shaped g e ≡ true
   shaped_by_row = and_from (is_some (seat_after (own (caller_of e) (g ++ e ∷ [])))) (is_numbered g e) (ap is_some next_seat) numbered
 
@@ -124,7 +125,7 @@ module _ {holder : Holder} (stripes : ℕ) (g : List Entry) (legal : IsLegal hol
   pub next_log : (log_of (caller_of e) (g ++ e ∷ [])) ≡ (log_step (log_after (own (caller_of e) g)) e).standing
   next_log = log_of-own g e
 
-  -- Where the caller is in a transaction.
+  -- If the caller is in a transaction.
   module _ (active : runs seat.phase ≡ true) where
     pub there : Running g (caller_of e)
     there = running_txn g legal.shape (caller_of e) (ap is_running seat_is ∙ active)
@@ -171,17 +172,17 @@ module _ {holder : Holder} (stripes : ℕ) (g : List Entry) (legal : IsLegal hol
     pub last_is : map_after (serial g) (of txn g) ≡ run.last
     last_is = ap (last_map (serial g)) run_is
 
-    -- An entry that commits nothing is legal where the run goes on.
+    -- An entry that commits nothing is legal if the run is defined after it.
     pub legal_next : (r : Run) → act run e ≡ Some r → is_began e ≡ false → is_commit e ≡ false → is_locked holder stripes g e ≡ true → IsLegal holder stripes (g ++ e ∷ [])
     legal_next r acts began commit locked = legal_push stripes g e legal shaped_by_row locked
         (replies-push_other g e txn legal.shape shape_next shaped_by_row commit (at_txn began)
         (legal.replies g ([], append-nil g)) (ap is_some (run_next r acts)))
 
-    -- It leaves the committed map.
+    -- Such an entry leaves the committed map unchanged.
     pub serial_next : is_began e ≡ false → is_commit e ≡ false → is_locked holder stripes g e ≡ true → serial (g ++ e ∷ []) ≡ serial g
     serial_next began commit locked = serial_is g e txn legal.shape shape_next shaped_by_row commit (at_txn began)
 
-    -- A quiet entry leaves both maps and the log.
+    -- A quiet entry leaves both maps and the log unchanged.
     pub quiet_next : (held : ℕ → Option ℕ) → is_quiet e ≡ true → is_locked holder stripes g e ≡ true → ((s : ℕ) → holder_of stripes s (g ++ e ∷ []) ≡ held s)
         → Next holder stripes g e next (log_of (caller_of e) g) (serial g) (now g) held
     quiet_next held quiet locked holds =
@@ -201,11 +202,12 @@ module _ {holder : Holder} (stripes : ℕ) (g : List Entry) (legal : IsLegal hol
           holder_is = holds;
         }
 
-    -- One that asks for nothing leaves each holder too.
+    -- A quiet entry that asks for nothing leaves each holder unchanged too.
     pub still_next : is_quiet e ≡ true → is_locked holder stripes g e ≡ true → ((s : ℕ) → asks_in stripes s e ≡ false) → Next holder stripes g e next (log_of (caller_of e) g) (serial g) (now g) (λ s. holder_of stripes s g)
     still_next quiet locked asks = quiet_next (λ s. holder_of stripes s g) quiet locked (λ s. holder_of-other holder stripes g e callers shaped_by_row legal.shape legal.locks s (quiet_goes e quiet).1 (asks s))
 
--- Under an entry that commits nothing the run of another transaction stays, and that of the entry's transaction acts on it.
+-- An entry that commits nothing leaves the runs of other transactions unchanged, and acts on the
+-- run of its own.
 pub run-other : {holder : Holder} (stripes : ℕ) (g : List Entry) → IsLegal holder stripes g → (e : Entry) (t u : ℕ) → is_shaped g e ≡ true → is_commit e ≡ false → txn_at g e ≡ Some t → u ≢ t
     → alone (serial (g ++ e ∷ [])) (of u (g ++ e ∷ [])) ≡ alone (serial g) (of u g)
 run-other stripes g legal e t u shaped commit at away =
@@ -221,7 +223,7 @@ run-own stripes g legal e t shaped commit at =
     ap (λ m. alone m (of t (g ++ e ∷ []))) (serial_is g e t legal.shape (shape_push g e legal.shape shaped) shaped commit at)
     ∙ ap (alone (serial g)) (of-push_in t g e at) ∙ alone-push (serial g) (of t g) e
 
--- An entry has the right shape where the table has a row for it, and it has the right number.
+-- An entry has the right shape if the table has a row for it and its number is right.
 pub is_shaped_is : (g : List Entry) (e : Entry) (seat : Seat) → seat_after (own (caller_of e) g) ≡ Some seat → is_shaped g e ≡ (is_some (row seat seat.phase e) && is_numbered g e)
 is_shaped_is g e seat seat_is =
     ap (λ o. is_some o && is_numbered g e) (seat-own g e ∙ ap (option_and_then (λ (s : Seat). row s s.phase e)) seat_is)

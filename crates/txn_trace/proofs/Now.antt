@@ -1,4 +1,4 @@
--- The map as it is now: what it has at a key, and what a commit does to it.
+-- The map now: its value at a key, and the effect of a commit on it.
 use Rattle.std.proofs.Common.{◌≡◌, ℕ, ◌==◌, ◌≢◌, Bool, true, false, cond, not, ◌||◌, List, [], ◌∷◌, ◌++◌, map, refl, ap, sym, subst, ◌∙◌, Some, None, Option, IsSome}
 use Rattle.std.specs.Option.{option_eq}
 use Rattle.std.specs.Prelude.{nat_eq}
@@ -36,7 +36,7 @@ pub same_is : (a b : Option ℕ) → a ≡ b → option_eq nat_eq a b ≡ true
 same_is a b is = subst (λ x. option_eq nat_eq a x ≡ true) is (option_itself a)
 
 module _ (base : Map) (f : ℕ → Map) (k : ℕ) where
-  -- Where no map differs at the key.
+  -- No map differs at the key.
   first_base : (ts : List ℕ) → AllByRecursion (λ t. get (f t) k ≡ get base k) ts → first_differing base (map f ts) k ≡ get base k
   first_base [] all = refl
   first_base (t ∷ ts) all = ap (λ b. cond b (first_differing base (map f ts) k) (get (f t) k)) (same_is _ _ all.0) ∙ first_base ts all.1
@@ -45,7 +45,7 @@ module _ (base : Map) (f : ℕ → Map) (k : ℕ) where
   one_for_all t is [] all = tt
   one_for_all t is (u ∷ ts) all = (elim (cases_eq u t) [ inl same ↦ ap (λ x. get (f x) k) same ∙ is | inr other ↦ all.0 other ], one_for_all t is ts all.1)
 
-  -- Where only one map can differ there.
+  -- Only one map can differ at the key.
   first_one : (t : ℕ) (ts : List ℕ) → list_any (λ u. u == t) ts ≡ true → AllByRecursion (λ u. u ≢ t → get (f u) k ≡ get base k) ts → first_differing base (map f ts) k ≡ get (f t) k
   first_one t [] there all = absurd (false≢true there)
   first_one t (u ∷ ts) there all = elim (cases_eq u t) [
@@ -95,18 +95,19 @@ pub running_of : (g : List Entry) (c t : ℕ) → txn_in g c ≡ Some t → ende
 running_of g c t is going = record { began = are_listed g c t is; going = going }
 
 module _ (stripes : ℕ) (g : List Entry) (k : ℕ) where
-  -- Where no other running transaction holds the stripe of a key, it is as in the transaction's last map.
+  -- If no other running transaction holds the stripe of a key, the value now is that of the
+  -- transaction's last map.
   pub now_at-mine : (t : ℕ) → IsRunning g t → ((u : ℕ) → ended u g ≡ false → u ≢ t → keys_in stripes (of u g) k ≡ false) → now_at g k ≡ get (map_after (serial g) (of t g)) k
   now_at-mine t running none = first_one (serial g) (λ u. map_after (serial g) (of u g)) k t (open_txns g)
       (any-filter (λ u. is_open u g) t (open_going t g running.going) (txns_of is_began g) running.began)
       (all_pass (λ u. is_open u g) _ (λ u is other. untouched stripes (of u g) (serial g) (serial g) k (none u (going_open u g is) other)) (txns_of is_began g))
 
-  -- Where none holds it, it is as the commits left it.
+  -- If no running transaction holds the stripe of a key, the value now is the committed one.
   pub now_at-free : ((u : ℕ) → ended u g ≡ false → keys_in stripes (of u g) k ≡ false) → now_at g k ≡ get (serial g) k
   now_at-free none = first_base (serial g) (λ u. map_after (serial g) (of u g)) k (open_txns g)
       (all_pass (λ u. is_open u g) _ (λ u is. untouched stripes (of u g) (serial g) (serial g) k (none u (going_open u g is))) (txns_of is_began g))
 
-  -- The holder of the stripe of a key.
+  -- The value now at a key whose stripe a running transaction holds is that of its last map.
   pub now_at-holder : Apart stripes g → (t : ℕ) → IsRunning g t → keys_in stripes (of t g) k ≡ true → now_at g k ≡ get (map_after (serial g) (of t g)) k
   now_at-holder apart t running held = now_at-mine t running (λ u going other. false_from_ne_true _ (λ is. other (apart u t (stripe_of stripes k) going running.going is held)))
 
@@ -118,7 +119,7 @@ owner_in stripes s u g going (l ∷ ls) owned asks =
       | false ↦ λ of_u h. owner_in stripes s u g going ls owned.1 h
     ]) refl asks
 
--- A running transaction that holds the stripe of a key, or none does.
+-- Some running transaction holds the stripe of a key, or none does.
 pub record KeyHolder (stripes : ℕ) (g : List Entry) (k : ℕ) : Type 0 where
   pub txn : ℕ
   pub running : IsRunning g txn
@@ -156,7 +157,7 @@ holder_or_none stripes g k callers = elim (found_in stripes g k (open_txns g)) [
       false≢true (sym (none u there) ∙ is)))
 ]
 
--- One entry more, which commits t.
+-- One more entry, which commits t.
 module _ (holder : Holder) (stripes : ℕ) (g : List Entry) (e : Entry) (t : ℕ) (shape : IsShaped g) (locks : LocksHold holder stripes g) (shape_after : IsShaped (g ++ e ∷ [])) (shaped : is_shaped g e ≡ true) (commit : is_commit e ≡ true) (at : txn_at g e ≡ Some t) (going : ended t g ≡ false) where
   callers : Callers g
   callers = callers_of g shape
@@ -179,12 +180,12 @@ module _ (holder : Holder) (stripes : ℕ) (g : List Entry) (e : Entry) (t : ℕ
   goes_on : (u : ℕ) → ended u g ≡ false → u ≢ t → ended u (g ++ e ∷ []) ≡ false
   goes_on u goes other = ap (ends_in is_end) (entries_stay u other) ∙ goes
 
-  -- The keys of another running transaction are left as they were.
+  -- The keys of another running transaction are unchanged.
   same_there : (u : ℕ) → ended u g ≡ false → u ≢ t → (k : ℕ) → keys_in stripes (of u g) k ≡ true → get (serial g) k ≡ get (serial (g ++ e ∷ [])) k
   same_there u goes other k held =
       sym (ap (λ m. get m k) serial-commit ∙ untouched stripes (of t g) (serial g) (serial g) k (false_from_ne_true _ (λ is. other (apart u t (stripe_of stripes k) goes going held is))))
 
-  -- The others' replies still hold.
+  -- The replies of the other transactions still hold.
   pub replies-push_commit : RepliesHoldAt g → RepliesHoldAt (g ++ e ∷ [])
   replies-push_commit hold u is_open_after =
       let goes_after = going_open u (g ++ e ∷ []) is_open_after in
@@ -193,7 +194,7 @@ module _ (holder : Holder) (stripes : ℕ) (g : List Entry) (e : Entry) (t : ℕ
       subst (λ es. IsSome (alone (serial (g ++ e ∷ [])) es)) (sym (entries_stay u other))
       (runs_there stripes (of u g) (serial g) (serial (g ++ e ∷ [])) (same_there u goes other) (hold u (open_going u g goes)))
 
-  -- And the map stays as it is.
+  -- The map now is unchanged.
   pub now_at-push_commit : (k : ℕ) → now_at (g ++ e ∷ []) k ≡ now_at g k
   now_at-push_commit k = elim (holder_or_none stripes g k callers) [
     | inl w ↦ elim (cases_eq w.txn t) [

@@ -1,4 +1,5 @@
--- The pairs of a map in the order of the table: there is one list of them that rises strictly by sort keys.
+-- The pairs of a map in the order of the table: exactly one list of them rises strictly by sort
+-- keys.
 use Rattle.std.proofs.Common.{[], ◌≡◌, ◌≢◌, ℕ, ◌+◌, ◌<◌, ◌==◌, ◌&&◌, Bool, true, false, cond, T, List, ◌∷◌, length, refl, ap, sym, subst, ◌∙◌, Some, None, Option, is_some, arith}
 use Rattle.std.specs.List.{fold, AllByRecursion}
 use Rattle.std.specs.FinMap.{IsAntisymmetric, nat_cmp-IsAntisymmetric}
@@ -16,7 +17,7 @@ use Rattle.split_key.proofs.SortLemmas.{lower_from, before_by_split, before_by_k
 use Rattle.txn_trace.specs.Map.{Map, get, count_of}
 use Rattle.txn_trace.specs.Ordered.{split_cmp, ordered}
 
--- The order of keys is total, and only equal keys are equal in it.
+-- The order of keys is total, and only equal keys compare as equal.
 by_split_total : IsTotalOrder (λ a b. nat_cmp (split a) (split b))
 by_split_total = record {
   antisymm = λ a b. nat_cmp_total.antisymm (split a) (split b);
@@ -58,7 +59,7 @@ split_cmp_less a b before = elim (lower_from (regular_at a) (regular_at b) befor
 abbrev pub value_at : ℕ → List (ℕ × ℕ) → Option ℕ
 value_at k es = find split_cmp k es
 
--- The keys strictly rise by split_cmp.
+-- The keys rise strictly by split_cmp.
 abbrev pub IsSortedBySplit : List (ℕ × ℕ) → Type 0
 IsSortedBySplit es = T (is_sorted split_cmp es)
 
@@ -72,7 +73,7 @@ sorted-puts : (rows es : List (ℕ × ℕ)) → IsSortedBySplit es → IsSortedB
 sorted-puts [] es is = is
 sorted-puts (row ∷ rows) es is = sorted-puts rows (put split_cmp row.0 row.1 es) (is_sorted-put split_cmp split_cmp_total row.0 row.1 es is)
 
--- The ordered pairs of a map rise.
+-- The ordered pairs of a map rise strictly.
 pub sorted-ordered : (m : Map) → IsSortedBySplit (ordered m)
 sorted-ordered m = sorted-puts m.rows [] tt
 
@@ -93,7 +94,7 @@ none_below k (row ∷ rows) is =
     let parts = pair_parts (is_lt (nat_cmp k row.0)) (below_all nat_cmp k rows) is in
     ap (λ b. cond b (Some row.1) (find nat_cmp k rows)) (unsigned_tied k row.0 ∙ ne_eqb k row.0 (λ same. not_below_itself k (subst (λ x. T (is_lt (nat_cmp k x))) (sym same) parts.0))) ∙ none_below k rows parts.1
 
--- What is put last stands.
+-- The first option, or the second if there is none.
 abbrev pub or_else : Option ℕ → Option ℕ → Option ℕ
 or_else None y = y
 or_else (Some v) y = Some v
@@ -117,11 +118,11 @@ pub or_else_none : (o : Option ℕ) → or_else o None ≡ o
 or_else_none None = refl
 or_else_none (Some v) = refl
 
--- They have at each key what the map has.
+-- The ordered pairs have at each key the map's value.
 pub value_at-ordered : (m : Map) (k : ℕ) → value_at k (ordered m) ≡ get m k
 value_at-ordered m k = value_at-puts k m.rows [] m.rising ∙ or_else_none (get m k)
 
--- A list that rises and has at each key what the map has is the list of the map's ordered pairs.
+-- A list that rises, and has at each key the map's value, is the list of the map's ordered pairs.
 pub ordered_is : (m : Map) (es : List (ℕ × ℕ)) → IsSortedBySplit es → ((k : ℕ) → value_at k es ≡ get m k) → es ≡ ordered m
 ordered_is m es sorted same = same_entries split_cmp split_cmp_total split_cmp-IsAntisymmetric es (ordered m) sorted (sorted-ordered m) (λ k. same k ∙ sym (value_at-ordered m k))
 
@@ -144,7 +145,7 @@ length-puts (row ∷ rows) es rows_rise es_rise fresh =
           ∙ fresh k (ap (λ b. is_some (cond b (Some row.1) (find nat_cmp k rows))) (unsigned_tied k row.0 ∙ ne_eqb k row.0 other) ∙ there)
     ]
 
--- There are as many as the map has keys.
+-- There are as many ordered pairs as the map has keys.
 pub length-ordered : (m : Map) → length (ordered m) ≡ count_of m
 length-ordered m = let same : length (puts [] m.rows) ≡ 0 + length m.rows = length-puts m.rows [] m.rising tt (λ k there. refl) in omega arith
 
@@ -157,12 +158,13 @@ below_sorted : (pair : ℕ × ℕ) (rest : List (ℕ × ℕ)) → AllByRecursion
 below_sorted pair [] below = tt
 below_sorted pair (other ∷ rest) below = pair_both _ _ (subst (λ o. T (is_lt o)) (sym (split_cmp_less pair.0 other.0 below.0)) tt) (below_sorted pair rest below.1)
 
--- Such a list rises by split_cmp too.
+-- A list that rises by sort keys rises by split_cmp too.
 pub sorted-rises : (es : List (ℕ × ℕ)) → Rises es → IsSortedBySplit es
 sorted-rises [] rises = tt
 sorted-rises (pair ∷ rest) rises = pair_both _ _ (below_sorted pair rest rises.0) (sorted-rises rest rises.1)
 
--- A list that rises strictly by sort keys, and has at each key what the map has, is the list of the map's ordered pairs.
+-- A list that rises strictly by sort keys, and has at each key the map's value, is the list of the
+-- map's ordered pairs.
 pub ordered_rising : (m : Map) (es : List (ℕ × ℕ)) → Rises es → ((k : ℕ) → value_at k es ≡ get m k) → es ≡ ordered m
 ordered_rising m es rises same = ordered_is m es (sorted-rises es rises) same
 
@@ -228,7 +230,8 @@ value_at-among k v (other ∷ rest) sorted among =
           ∙ value_at-among k v rest parts.1 later
     ]
 
--- The list that rises strictly by split keys and has just the map's pairs is that of its ordered pairs.
+-- A list that rises strictly by sort keys, and has exactly the map's pairs, is the list of its
+-- ordered pairs.
 pub ordered_of_pairs : (m : Map) (es : List (ℕ × ℕ)) → Rises es → ((k v : ℕ) → IsAmong (k, v) es → get m k ≡ Some v) → ((k v : ℕ) → get m k ≡ Some v → IsAmong (k, v) es) → es ≡ ordered m
 ordered_of_pairs m es rises within all = ordered_rising m es rises (λ k. from k (value_at k es) refl)
   where

@@ -1,4 +1,4 @@
--- What an entry that commits nothing does to the map as it is now, and to the replies.
+-- The effect of an entry that commits nothing on the map now and on the replies.
 use Rattle.std.proofs.Common.{◌≡◌, ℕ, ◌==◌, ◌≢◌, true, false, List, [], ◌∷◌, ◌++◌, ap, sym, subst, ◌∙◌, Some, IsSome}
 use Rattle.std.specs.List.{list_any}
 use Rattle.std.proofs.lemmas.Bool.{false_from_ne_true, cases_eq}
@@ -27,7 +27,7 @@ module _ (g : List Entry) (e : Entry) (t : ℕ) (shape : IsShaped g) (shape_afte
   callers : Callers g
   callers = callers_of g shape
 
-  -- The committed map stays.
+  -- The committed map is unchanged.
   pub serial_is : serial (g ++ e ∷ []) ≡ serial g
   serial_is = serial-push_other g e callers shape shaped shape_after other
 
@@ -57,7 +57,7 @@ module _ (holder : Holder) (stripes : ℕ) (g : List Entry) (e : Entry) (t : ℕ
   here_callers : Callers g
   here_callers = callers_of g shape
 
-  -- A key of another's stripe stays.
+  -- The value of a key whose stripe another transaction holds is unchanged.
   pub now_at-push_else : (k w : ℕ) → IsRunning g w → w ≢ t → keys_in stripes (of w g) k ≡ true → now_at (g ++ e ∷ []) k ≡ now_at g k
   now_at-push_else k w running away held =
       now_at-holder stripes (g ++ e ∷ []) k (are_apart holder stripes (g ++ e ∷ []) shape_after locks_after) w
@@ -67,7 +67,7 @@ module _ (holder : Holder) (stripes : ℕ) (g : List Entry) (e : Entry) (t : ℕ
       ∙ ap (λ es. get (map_after (serial g) es) k) (stay w away)
       ∙ sym (now_at-holder stripes g k (are_apart holder stripes g shape locks) w running held)
 
-  -- Any other key is as in the transaction's last map.
+  -- Any other key has the value of the transaction's last map.
   pub now_at-push_mine : (k : ℕ) → is_end e ≡ false → ((u : ℕ) → ended u g ≡ false → u ≢ t → keys_in stripes (of u g) k ≡ false) → now_at (g ++ e ∷ []) k ≡ get (map_after (serial g) (of t g ++ e ∷ [])) k
   now_at-push_mine k goes none =
       now_at-mine stripes (g ++ e ∷ []) k t
@@ -76,7 +76,7 @@ module _ (holder : Holder) (stripes : ℕ) (g : List Entry) (e : Entry) (t : ℕ
       ∙ ap (λ m. get (map_after m (of t (g ++ e ∷ []))) k) same_committed
       ∙ ap (λ es. get (map_after (serial g) es) k) (of-push_in t g e at)
 
-  -- The map changes just as the last map of the transaction does.
+  -- The map now changes exactly as the last map of the transaction does.
   pub now_at-push : (k : ℕ) → is_end e ≡ false → IsRunning g t
       → ((now_at (g ++ e ∷ []) k ≡ now_at g k) × (keys_in stripes (of t g) k ≡ false))
       ⊎ ((now_at (g ++ e ∷ []) k ≡ get (map_after (serial g) (of t g ++ e ∷ [])) k) × (now_at g k ≡ get (map_after (serial g) (of t g)) k))
@@ -94,6 +94,6 @@ module _ (holder : Holder) (stripes : ℕ) (g : List Entry) (e : Entry) (t : ℕ
     | inr none ↦ inr (now_at-push_mine k goes (λ u going away. none u going), now_at-mine stripes g k t running (λ u going away. none u going))
   ]
 
-  -- An entry that leaves the transaction's last map leaves the map as it is now.
+  -- An entry that leaves the transaction's last map unchanged leaves the map now unchanged.
   pub now-push_same : is_end e ≡ false → IsRunning g t → map_after (serial g) (of t g ++ e ∷ []) ≡ map_after (serial g) (of t g) → now (g ++ e ∷ []) ≡ now g
   now-push_same goes running same = same_map (now (g ++ e ∷ [])) (now g) (λ k. get-now (g ++ e ∷ []) k ∙ elim (now_at-push k goes running) [ inl w ↦ w.0 | inr w ↦ w.0 ∙ ap (λ m. get m k) same ∙ sym w.1 ] ∙ sym (get-now g k))

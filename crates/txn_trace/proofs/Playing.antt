@@ -1,4 +1,4 @@
--- Which scripts the transactions of one caller play, told from the caller's own entries.
+-- The scripts that the transactions of a caller play, found in the caller's own entries.
 use Rattle.std.proofs.Common.{◌≡◌, ℕ, ◌<◌, ◌≤◌, ◌⊎◌, ◌==◌, ◌&&◌, Bool, true, false, cond, List, [], ◌∷◌, ◌++◌, length, Some, None, Option, refl, sym, ap, subst, ◌∙◌, inl, inr, arith}
 use Prim.Native.Nat.{suc}
 use Rattle.std.specs.List.{filter_map, cons_option, AllByRecursion}
@@ -20,11 +20,11 @@ use Rattle.txn_trace.proofs.Inductions.{by_entries}
 use Rattle.txn_trace.proofs.Running.{has_txn}
 use Rattle.txn_trace.proofs.Seated.{none_before, are_seated}
 
--- One more entry of the caller.
+-- The parts of a caller's entries with one more entry.
 pub parts_of-push : (es : List Entry) (e : Entry) → parts_of (es ++ e ∷ []) ≡ part_after (parts_of es) e
 parts_of-push es e = fold-append part_after [] es (e ∷ [])
 
--- Began begins a part, and any other entry comes to the last one.
+-- A Began begins a part, and any other entry is added to the last one.
 pub part-began : (parts : List (List Entry)) (e : Entry) → is_began e ≡ true → part_after parts e ≡ (e ∷ []) ∷ parts
 part-began [] e is = ap (λ b. cond b ((e ∷ []) ∷ []) []) is
 part-began (part ∷ parts) e is = ap (λ b. cond b ((e ∷ []) ∷ part ∷ parts) ((part ++ e ∷ []) ∷ parts)) is
@@ -32,7 +32,8 @@ part-began (part ∷ parts) e is = ap (λ b. cond b ((e ∷ []) ∷ part ∷ par
 pub part-goes : (part : List Entry) (parts : List (List Entry)) (e : Entry) → is_began e ≡ false → part_after (part ∷ parts) e ≡ (part ++ e ∷ []) ∷ parts
 part-goes part parts e is = ap (λ b. cond b ((e ∷ []) ∷ part ∷ parts) ((part ++ e ∷ []) ∷ parts)) is
 
--- The entries of the transaction that a caller is in, or was in last, are the last part of the caller's own.
+-- The entries of the transaction that a caller is in, or was in last, are the last part of the
+-- caller's own.
 abbrev pub IsLastPart : ℕ → List Entry → Type 0
 IsLastPart c h = (t : ℕ) → txn_in h c ≡ Some t → (parts : List (List Entry)) × (parts_of (own c h) ≡ of t h ∷ parts)
 
@@ -57,7 +58,8 @@ last_part_push c g e shape callers shaped last t at = elim (step g e callers sha
 pub last_part : (c : ℕ) (h : List Entry) → IsShaped h → IsLastPart c h
 last_part c = by_entries (IsLastPart c) (last_part_push c) (λ t is. absurd (cc (is)))
 
--- What holds of the transactions of all entries that pass a test holds of those that pass a stronger one.
+-- A statement about the transactions of the entries that pass a test holds of those that pass a
+-- stronger test.
 txns_within : (Q : ℕ → Type 0) (small large : Entry → Bool) → ((e : Entry) → small e ≡ true → large e ≡ true) → (ls : List Line)
     → AllByRecursion Q (filter_map (λ l. cond (large l.entry) l.txn None) ls) → AllByRecursion Q (filter_map (λ l. cond (small l.entry) l.txn None) ls)
 txns_within Q small large within [] all = tt
@@ -80,7 +82,7 @@ commit_of-is_commit c _ is = is
 commits_of-committed : (c : ℕ) (g : List Entry) → IsShaped g → AreCommitted g (commits_of c g)
 commits_of-committed c g shape = txns_within (λ t. is_committed t g ≡ true) (is_commit_of c) is_commit (commit_of-is_commit c) (lines_of g) (are_committed g shape)
 
--- The committed transactions of a caller stay with any entry but a Committed of its own.
+-- The committed transactions of a caller change only with a Committed of the caller.
 commits_of-other : (c : ℕ) (g : List Entry) (e : Entry) → is_commit_of c e ≡ false → commits_of c (g ++ e ∷ []) ≡ commits_of c g
 commits_of-other c g e is =
     txns_of-push (is_commit_of c) g e ∙ ap (λ b. commits_of c g ++ cons_option (cond b (txn_at g e) None) []) is ∙ append-nil (commits_of c g)
@@ -105,7 +107,7 @@ and_true true d is js = js
 and_true false d is js = absurd (false≢true is)
 
 module _ (callers : ℕ) (scripts : List (List Action)) (c : ℕ) where
-  -- More numbers may be played.
+  -- A higher bound for the numbers that may be played.
   pub played_below : (low high : ℕ) (parts : List (List Entry)) → low ≤ high → HavePlayed callers scripts c low parts → HavePlayed callers scripts c high parts
   played_below low high [] le played = tt
   played_below low high (part ∷ parts) le played =
@@ -115,7 +117,7 @@ module _ (callers : ℕ) (scripts : List (List Action)) (c : ℕ) where
   uncommitted : (high : ℕ) (part : List Entry) (parts : List (List Entry)) → ends_in is_commit part ≡ false → HavePlayed callers scripts c high parts → HavePlayed callers scripts c high (part ∷ parts)
   uncommitted high part parts is played = (high, omega arith, λ k. absurd (false≢true (sym is ∙ k)), played)
 
-  -- An entry that commits nothing leaves what was played.
+  -- An entry that commits nothing leaves the played numbers unchanged.
   pub played_on : (high : ℕ) (parts : List (List Entry)) (e : Entry) → is_commit e ≡ false → HavePlayed callers scripts c high parts → HavePlayed callers scripts c high (part_after parts e)
   played_on high parts e is played = elim (began_or_not e) [
     | inl b ↦ subst (HavePlayed callers scripts c high) (sym (part-began parts e b)) (uncommitted high (e ∷ []) parts is played)
@@ -128,14 +130,14 @@ module _ (callers : ℕ) (scripts : List (List Action)) (c : ℕ) where
           subst (HavePlayed callers scripts c high) (sym (part-goes part parts e b))
           (played.0, played.1, λ k. absurd (false≢true (sym is ∙ sym (ends_in-push is_commit part e) ∙ k)), played.3)
 
-  -- A transaction that commits plays a script of a number above those before.
+  -- A transaction that commits plays a script whose number is above the earlier ones.
   pub played_commit : (n high : ℕ) (part : List Entry) (parts : List (List Entry)) (e : Entry) → is_began e ≡ false → n < high → PlaysPart callers scripts c n (part ++ e ∷ [])
       → HavePlayed callers scripts c n (part ∷ parts) → HavePlayed callers scripts c high (part_after (part ∷ parts) e)
   played_commit n high part parts e b less plays played =
       subst (HavePlayed callers scripts c high) (sym (part-goes part parts e b))
       (n, omega arith, λ k. (less, plays), played_below played.0 n parts played.1 played.3)
 
-  -- What was played stays so with each further entry.
+  -- Scripts that were played stay played with each further entry.
   rising_kept : (g : List Entry) (e : Entry) → Callers g → is_shaped g e ≡ true → (low high : ℕ) (ts : List ℕ) → AreCommitted g ts
       → PlayRising callers scripts c g low high ts → PlayRising callers scripts c (g ++ e ∷ []) low high ts
   rising_kept g e owners shaped low high [] all rising = tt
@@ -149,7 +151,7 @@ module _ (callers : ℕ) (scripts : List (List Action)) (c : ℕ) where
     rising_kept g e owners shaped (suc rising.0) high ts all.1 rising.6,
   )
 
-  -- One more transaction plays a script of a greater number.
+  -- One more transaction plays a script with a greater number.
   rising_more : (h : List Entry) (middle n high t : ℕ) (script : List Action) → middle ≤ n → n < high → IsScriptOf callers scripts c n script → IsPlayed script (without_undone (of t h))
       → (low : ℕ) (ts : List ℕ) → low ≤ n → PlayRising callers scripts c h low middle ts → PlayRising callers scripts c h low high (ts ++ t ∷ [])
   rising_more h middle n high t script le less is plays low [] low_le rising = (n, script, low_le, less, is, plays, tt)
@@ -157,7 +159,8 @@ module _ (callers : ℕ) (scripts : List (List Action)) (c : ℕ) where
       let below = rising.3 in
       (rising.0, rising.1, rising.2, omega arith, rising.4, rising.5, rising_more h middle n high t script le less is plays (suc rising.0) ts (omega arith) rising.6)
 
-  -- The parts of a caller's own entries say what the caller's committed transactions play.
+  -- The parts of a caller's own entries tell which scripts the caller's committed transactions
+  -- play.
   abbrev IsTold : List Entry → Type 0
   IsTold h = (high : ℕ) → HavePlayed callers scripts c high (parts_of (own c h)) → PlayRising callers scripts c h 0 high (commits_of c h)
 
@@ -206,7 +209,7 @@ module _ (callers : ℕ) (scripts : List (List Action)) (c : ℕ) where
   played_told : (h : List Entry) → IsShaped h → IsTold h
   played_told = by_entries IsTold told_push (λ high played. tt)
 
--- So the callers' own entries say which scripts their transactions play.
+-- The callers' own entries tell which scripts their transactions play.
 pub scripts_played : (callers : ℕ) (scripts : List (List Action)) (h : List Entry) → IsShaped h
     → ((c : ℕ) → c < callers → HavePlayed callers scripts c (length scripts) (parts_of (own c h))) → PlayScripts callers scripts h
 scripts_played callers scripts h shape played c below = played_told callers scripts c h shape (length scripts) (played c below)

@@ -1,4 +1,4 @@
--- What one more entry does to a history's parts.
+-- The parts of a history with one more entry.
 use Rattle.std.proofs.Common.{◌≡◌, ℕ, ◌+◌, Bool, true, false, cond, ◌==◌, List, [], ◌∷◌, ◌++◌, map, length, refl, ap, ◌∙◌, Some, None, Option, length-append}
 use Rattle.std.specs.Option.{option_eq, option_and_then}
 use Rattle.std.specs.List.{filter, fold}
@@ -21,7 +21,7 @@ no_txn c = None
 abbrev pub txn_in : List Entry → ℕ → Option ℕ
 txn_in h = fold txn_after no_txn h
 
--- The transaction of an entry that comes after g.
+-- The transaction of an entry that follows g.
 abbrev pub txn_at : List Entry → Entry → Option ℕ
 txn_at g e = txn_after (txn_in g) e (caller_of e)
 
@@ -54,7 +54,7 @@ pub of_is : (t : ℕ) (o : Option ℕ) → option_eq nat_eq o (Some t) ≡ true 
 of_is t None is = absurd (false≢true is)
 of_is t (Some u) is = ap Some (eqb-true u t is)
 
--- An entry of the transaction, and one of another.
+-- The entries of a transaction, after one more entry of it or of another.
 pub of-push_in : (t : ℕ) (g : List Entry) (e : Entry) → txn_at g e ≡ Some t → of t (g ++ e ∷ []) ≡ of t g ++ e ∷ []
 of-push_in t g e is = of-push t g e ∙ ap (λ b. of t g ++ cond b (e ∷ []) []) (some_itself t _ is)
 

@@ -1,4 +1,4 @@
--- The room that is kept for what callers still owe.
+-- The room that is kept for the entries that callers still owe.
 use Rattle.std.proofs.Common.{◌≡◌, ℕ, ◌+◌, ◌-◌, ◌<◌, ◌≤◌, ◌==◌, ◌&&◌, Bool, true, false, cond, List, [], ◌∷◌, ◌++◌, length, take, slice_index, refl, ap, sym, subst, ◌∙◌, Some, None, Option, is_some, arith}
 use Rattle.std.specs.Prelude.{nat_eq, nat_lt}
 use Rattle.std.specs.List.{AllByRecursion}
@@ -25,7 +25,8 @@ use Rattle.txn_trace.proofs.Running.{has_seat}
 use Rattle.txn_trace.proofs.Seated.{the_some}
 use Rattle.txn_trace.proofs.Sums.{sum_at}
 
--- How many entries are reserved for an entry: itself and what is owed more after it; none for those that are owed already.
+-- The number of entries reserved for an entry: one for itself and those owed after it. Entries that
+-- are owed already reserve none.
 abbrev pub reserved_for : Entry → ℕ
 reserved_for (Began c t) = 3
 reserved_for (Asked c op) = 1 + owed_for op
@@ -33,7 +34,7 @@ reserved_for (Saved c) = 1
 reserved_for (Leave c (Some n)) = 2
 reserved_for _ = 0
 
--- What a step reserves is enough for its entry, whatever it is answered.
+-- A step reserves enough for its entry, whatever its answer.
 pub reserved_enough : (step : Step) (answer : Answer) → AllByRecursion (λ e. reserved_for e ≤ reserved step) (entries_of step answer)
 reserved_enough (Begin c) (answers.Began t) = (omega arith, tt)
 reserved_enough (Ask c op) answers.Asked = (omega arith, tt)
@@ -82,11 +83,13 @@ row_fits s LeavingToEnd (Undone c) at = fits_if (1 + s.standing + 0) (nat_lt 0 s
 row_fits s LeavingToEnd (Aborted c) at = fits_if (1 + s.standing + 0) (s.standing == 0) closed_seat (λ b. omega arith)
 row_fits s q e at = tt
 
--- An entry takes one place; what its caller owes after it fits into what was owed before and what is reserved for the entry.
+-- An entry takes one place of those owed before it and reserved for it; the rest is enough for what
+-- its caller owes after it.
 pub owed_by-row : (s next : Seat) (e : Entry) → row s s.phase e ≡ Some next → owed_by (Some next) + 1 ≤ owed_by (Some s) + reserved_for e
 owed_by-row s next e is = subst (FitsIn (owed_in s.standing s.phase + reserved_for e)) is (row_fits s s.phase e refl)
 
--- The same of the sum over all callers.
+-- Over all callers, the owed entries after an entry fit into those owed before it and reserved for
+-- it.
 pub owed-push : (callers : ℕ) (g : List Entry) (e : Entry) → IsShaped g → is_shaped g e ≡ true → caller_of e < callers → owed callers (g ++ e ∷ []) + 1 ≤ owed callers g + reserved_for e
 owed-push callers g e shape shaped within =
     let c : ℕ = caller_of e in

@@ -1,4 +1,4 @@
--- A caller is in an open transaction exactly where its seat is not closed.
+-- A caller is in an open transaction exactly if its seat is not closed.
 use Rattle.std.proofs.Common.{◌≡◌, ℕ, ◌==◌, cond, ◌≢◌, true, false, List, [], ◌∷◌, ◌++◌, refl, ap, sym, subst, ◌∙◌, Some, None, Option, is_some}
 use Rattle.std.specs.Option.{option_and_then}
 use Rattle.std.proofs.lemmas.Bool.{false≢true, cases_Bool, cases_eq, eq-eqb}
@@ -55,7 +55,7 @@ pub record Running (g : List Entry) (c : ℕ) : Type 0 where
   pub in_it : txn_in g c ≡ Some txn
   pub going : ended txn g ≡ false
 
--- A caller that is not closed has one.
+-- A caller that is not closed has an open transaction.
 pub running_txn : (g : List Entry) → IsShaped g → (c : ℕ) → is_running (seat_after (own c g)) ≡ true → Running g c
 running_txn g shape c runs = from (txn_in g c) refl
   where

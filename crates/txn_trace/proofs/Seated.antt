@@ -1,4 +1,5 @@
--- In a history of the right shape each caller's seat agrees with its transaction's run, on every map on which it is defined.
+-- In a history of the right shape each caller's seat agrees with its transaction's run, on every
+-- map on which the run is defined.
 use Rattle.std.proofs.Common.{◌≡◌, ℕ, true, false, cond, List, [], ◌∷◌, ◌++◌, refl, ap, sym, subst, ◌∙◌, Some, None, Option, is_some, arith, append_assoc}
 use Rattle.std.specs.Option.{option_eq, option_and_then}
 use Rattle.std.specs.Prelude.{nat_eq}
@@ -20,7 +21,7 @@ use Rattle.txn_trace.proofs.Now.{same_option}
 use Rattle.txn_trace.proofs.Judging.{empty_or_owned}
 use Rattle.txn_trace.proofs.Fits.{Fits, FitsAfter, IsReply, fits_act, fits_start}
 
--- The seat, and that it agrees with the run on each map.
+-- A caller's seat, and that it agrees with the run on each map.
 pub record Seated (g : List Entry) (c t : ℕ) : Type 0 where
   pub seat : Seat
   pub is : seat_after (own c g) ≡ Some seat
@@ -29,7 +30,7 @@ pub record Seated (g : List Entry) (c t : ℕ) : Type 0 where
 abbrev pub AreSeated : List Entry → Type 0
 AreSeated g = (c t : ℕ) → txn_in g c ≡ Some t → ended t g ≡ false → Seated g c t
 
--- Where an entry goes through its reply is right.
+-- If a run is defined after an entry, the entry's reply is right.
 pub reply_of_act : (r r' : Run) (e : Entry) → act r e ≡ Some r' → IsReply r e
 reply_of_act r r' (Did c x) is = λ op waits.
     let goes : act_did r (Some op) x ≡ Some r' = ap (λ p. act_did r p x) (sym waits) ∙ is in
@@ -55,7 +56,7 @@ the_some None h = absurd (false≢true h)
 the_some (Some a) h = (a, refl)
 
 module _ (g : List Entry) (e : Entry) (callers : Callers g) (shaped : is_shaped g e ≡ true) (seated : AreSeated g) where
-  -- A transaction that begins has no entries before.
+  -- A transaction that begins has no earlier entries.
   pub none_before : (t : ℕ) → is_began e ≡ true → txn_at g e ≡ Some t → of t g ≡ []
   none_before t b at =
       let n = began_number g e t b (shaped_number g e shaped) (at_is g e t at) in

@@ -1,4 +1,4 @@
--- The map with the changes of a log: each of its keys has what another map has there.
+-- The map with the changes of a log: each key of the log has the value of another map.
 use Rattle.std.proofs.Common.{[], ◌≡◌, ℕ, ◌==◌, Bool, true, false, cond, List, ◌∷◌, refl, ap, sym, ◌∙◌, Option}
 use Rattle.std.specs.List.{fold, list_any}
 use Rattle.std.proofs.lemmas.Bool.{or_parts, or_cases, cases_Bool, eqb-true, false≢true, eq-eqb}
@@ -9,7 +9,7 @@ use Rattle.txn_trace.proofs.Table.{get-set_at}
 use Rattle.txn_trace.proofs.Undoing.{IsLogged}
 use Rattle.txn_trace.proofs.Bounds.{first_map}
 
--- The map with the changes of a log: each of its keys has what another map has there.
+-- The first map, with the values of the second at the keys of the log.
 abbrev pub settled : Map → Map → List (ℕ × Option ℕ) → Map
 settled base current jobs = fold (λ m job. set_at m job.0 (get current job.0)) base jobs
 
@@ -29,7 +29,8 @@ settled_in current k (job ∷ jobs) base there = elim (cases_Bool (list_any (λ 
       ∙ ap (get current) (sym (eqb-true k job.0 here))
 ]
 
--- A key that no change names is as in the first map; one that some change names passes.
+-- A key that no change names has the value of the first map; one that some change names passes the
+-- test.
 pub same_as_first : (keys : ℕ → Bool) (k : ℕ) (jobs : List (ℕ × Option ℕ)) (last : Map) (ms : List Map) → IsLogged keys jobs last ms → list_any (λ job. k == job.0) jobs ≡ false → get last k ≡ get (first_map last ms) k
 same_as_first keys k [] last [] is out = refl
 same_as_first keys k [] last (m ∷ ms) is out = absurd is

@@ -1,4 +1,5 @@
--- The callers of a history stay as they should with each entry of the right shape, and what has ended is whole.
+-- Each entry of the right shape keeps the properties of callers, and an ended transaction has all
+-- its entries.
 use Rattle.std.proofs.Common.{[], ◌≡◌, ℕ, true, false, List, ◌∷◌, ◌++◌, refl, ap, sym, subst, ◌∙◌, Some, arith, append_assoc}
 use Rattle.std.specs.Option.{option_and_then}
 use Rattle.std.specs.List.{AllByRecursion}
@@ -20,7 +21,7 @@ module _ (g : List Entry) (e : Entry) (callers : Callers g) (shaped : is_shaped 
   pub ended_out : (t : ℕ) → (txn_at g e ≡ Some t → ⊥) → ended t (g ++ e ∷ []) ≡ ended t g
   ended_out t out = ap (ends_in is_end) (of-push_out t g e out)
 
-  -- An ended transaction stays so, and one that has not ended had not.
+  -- An ended transaction stays ended, and one that has not ended had not ended before.
   pub ended_stays : (t : ℕ) → ended t g ≡ true → of t (g ++ e ∷ []) ≡ of t g
   ended_stays t done = of-push_out t g e (not_after_end g e t callers shaped done)
 
@@ -48,7 +49,7 @@ module _ (g : List Entry) (e : Entry) (callers : Callers g) (shaped : is_shaped 
   pub seat_of_other : (c : ℕ) → (c ≡ caller_of e → ⊥) → seat_after (own c (g ++ e ∷ [])) ≡ seat_after (own c g)
   seat_of_other c other = ap seat_after (own-push_out c g e (not_equal c (caller_of e) other))
 
-  -- Where the transaction of the entry has ended with it, or has not.
+  -- After the entry, its transaction has ended or has not.
   closed_push : (c t : ℕ) → txn_in (g ++ e ∷ []) c ≡ Some t → ended t (g ++ e ∷ []) ≡ true → seat_after (own c (g ++ e ∷ [])) ≡ Some closed_seat
   closed_push c t is done = elim (in_or_out (txn_at g e) t) [
     | inl at ↦
@@ -131,7 +132,7 @@ ended_whole t g (e ∷ rest) callers shape done =
     ∙ ended_whole t (g ++ e ∷ []) rest (callers_push g e callers shaped) (subst IsShaped (sym (append_assoc g (e ∷ []) rest)) shape) (ap (ends_in is_end) out ∙ done)
     ∙ out
 
--- A beginning of a history of the right shape has it.
+-- A prefix of a history of the right shape has the right shape.
 pub shape_front : (h g : List Entry) → IsShaped h → IsPrefix g h → IsShaped g
 shape_front h g shape p k e q = shape k e (q.0 ++ p.0, sym (append_assoc (k ++ e ∷ []) q.0 p.0) ∙ ap (λ w. w ++ p.0) q.1 ∙ p.1)
 

@@ -1,4 +1,4 @@
--- What one more entry does to the committed transactions, and to the map that they leave.
+-- The effect of one more entry on the committed transactions and on the map that they leave.
 use Rattle.std.proofs.Common.{◌≡◌, ℕ, ◌==◌, Bool, true, false, cond, ◌||◌, List, [], ◌∷◌, ◌++◌, refl, ap, sym, subst, ◌∙◌, Some, None, Option, append_assoc}
 use Rattle.std.specs.Option.{option_and_then}
 use Rattle.std.specs.List.{filter, filter_map, cons_option, fold, list_any, AllByRecursion}
@@ -26,7 +26,7 @@ pub filter_all : {X : Type 0} (p : X → Bool) (xs : List X) → AllByRecursion 
 filter_all p [] all = refl
 filter_all p (x ∷ xs) all = ap (λ b. cond b (x ∷ filter p xs) (filter p xs)) all.0 ∙ ap (λ ys. x ∷ ys) (filter_all p xs all.1)
 
--- The transactions so far, and that of the entry, if it passes the test.
+-- The earlier transactions, and that of the entry if it passes the test.
 pub txns_of-push : (test : Entry → Bool) (g : List Entry) (e : Entry) → txns_of test (g ++ e ∷ []) ≡ txns_of test g ++ cons_option (cond (test e) (txn_at g e) None) []
 txns_of-push test g e =
     let f : Line → Option ℕ = λ l. cond (test l.entry) l.txn None in
@@ -62,18 +62,19 @@ module _ (g : List Entry) (e : Entry) (callers : Callers g) (shape : IsShaped g)
   commits-push : commits (g ++ e ∷ []) ≡ commits g ++ cons_option (cond (is_commit e) (txn_at g e) None) []
   commits-push = commits_are (g ++ e ∷ []) shape_after ∙ txns_of-push is_commit g e ∙ ap (λ ts. ts ++ cons_option (cond (is_commit e) (txn_at g e) None) []) (sym (commits_are g shape))
 
-  -- The fold over the earlier commits is as before.
+  -- The fold over the earlier commits is unchanged.
   same_fold : fold (λ m t. map_after m (of t (g ++ e ∷ []))) empty (commits g) ≡ serial g
   same_fold = fold_filter (λ t. is_committed t g) (λ m t. map_after m (of t (g ++ e ∷ []))) (λ m t. map_after m (of t g))
       (λ m t is. ap (map_after m) (ended_stays g e callers shaped t (committed_ended t g is))) empty (txns_of is_commit g)
 
-  -- An entry that commits nothing leaves the committed map.
+  -- An entry that commits nothing leaves the committed map unchanged.
   pub serial-push_other : is_commit e ≡ false → serial (g ++ e ∷ []) ≡ serial g
   serial-push_other is =
       ap (fold (λ m t. map_after m (of t (g ++ e ∷ []))) empty) (commits-push ∙ ap (λ b. commits g ++ cons_option (cond b (txn_at g e) None) []) is ∙ append-nil (commits g))
       ∙ same_fold
 
-  -- A commit leaves the last map of the transaction alone on the committed map.
+  -- After a commit the committed map is the last map of the transaction, run alone on the committed
+  -- map before it.
   pub serial-push_commit : (t : ℕ) → is_commit e ≡ true → txn_at g e ≡ Some t → serial (g ++ e ∷ []) ≡ map_after (serial g) (of t (g ++ e ∷ []))
   serial-push_commit t is at =
       let f : Map → ℕ → Map = λ m t. map_after m (of t (g ++ e ∷ [])) in

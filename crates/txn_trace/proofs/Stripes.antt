@@ -1,4 +1,5 @@
--- Open transactions have asked for keys of different stripes, and each changes only keys of its own.
+-- Open transactions have asked for keys of different stripes, and each changes only keys of its
+-- stripes.
 use Rattle.std.proofs.Common.{◌≡◌, ℕ, ◌==◌, Bool, true, false, cond, not, ◌&&◌, List, [], ◌∷◌, ◌++◌, map, refl, ap, sym, subst, ◌∙◌, Some, None, Option, IsSome, append_assoc}
 use Rattle.std.specs.List.{filter, list_any, list_all, AllByRecursion}
 use Rattle.std.proofs.lemmas.Bool.{false≢true, eq-eqb, eqb-true, or_left, or_right, and_parts, or_cases}
@@ -24,7 +25,7 @@ holds stripes s es = list_any (asks_in stripes s) es
 abbrev pub keys_in : ℕ → List Entry → ℕ → Bool
 keys_in stripes es k = holds stripes (stripe_of stripes k) es
 
--- Where each holder of a stripe is c, a transaction that holds it is that of c.
+-- If each holder of a stripe is c, a transaction that holds it is that of c.
 holder_is : (stripes s c u : ℕ) (g : List Entry) → ended u g ≡ false → (ls : List Line) → AllByRecursion (IsOwned g) ls
     → list_any (asks_in stripes s) (map (λ l. l.entry) (filter (is_of u) ls)) ≡ true
     → list_all (λ x. x == c) (map (λ l. caller_of l.entry) (filter (λ l. asks_in stripes s l.entry && is_in_open g l) ls)) ≡ true → txn_in g c ≡ Some u
@@ -52,7 +53,7 @@ holder_is stripes s c u g going (l ∷ ls) owned asks all =
       | false ↦ λ of_u h. holder_is stripes s c u g going ls owned.1 h tail
     ]) refl asks
 
--- Of two transactions that have not ended, not both hold a stripe.
+-- No two transactions that have not ended hold the same stripe.
 abbrev pub Apart : ℕ → List Entry → Type 0
 Apart stripes g = (t u s : ℕ) → ended t g ≡ false → ended u g ≡ false → holds stripes s (of t g) ≡ true → holds stripes s (of u g) ≡ true → t ≡ u
 
@@ -63,7 +64,7 @@ any-push p (x ∷ es) e is = elim (or_cases (p x) _ is) [
   | inr b ↦ elim (any-push p es e b) [ inl a ↦ inl (or_right (p x) _ a) | inr a ↦ inr a ]
 ]
 
--- An entry that asks for a key of a stripe is of the transaction that holds it.
+-- An entry that asks for a key of a stripe belongs to the transaction that holds it.
 asked_by : (holder : Holder) (stripes s t u : ℕ) (g : List Entry) (e : Entry) → Callers g → is_locked holder stripes g e ≡ true → txn_at g e ≡ Some t → asks_in stripes s e ≡ true
     → ended u g ≡ false → holds stripes s (of u g) ≡ true → t ≡ u
 asked_by holder stripes s t u g (Asked c op) callers locked at asks going held =
@@ -117,7 +118,7 @@ asks_more keys wide to (e ∷ es) all = (at e all.0, asks_more keys wide to es a
     at (Asked c op) h = to (key_of op) h
     at _ h = tt
 
--- What the entries ask for is of the stripes that they hold.
+-- The entries ask only for keys of stripes that they hold.
 pub asks_own : (stripes : ℕ) (es : List Entry) → AllAskFor (keys_in stripes es) es
 asks_own stripes [] = tt
 asks_own stripes (e ∷ es) = (at e, asks_more (keys_in stripes es) (keys_in stripes (e ∷ es)) (λ k is. or_right (asks_in stripes (stripe_of stripes k) e) _ is) es (asks_own stripes es))
@@ -143,11 +144,11 @@ runs_too keys m n (Some r) None alike is = absurd alike
 runs_too keys m n (Some r) (Some s) alike is = refl
 
 module _ (stripes : ℕ) (es : List Entry) (m n : Map) where
-  -- A key of another stripe stays.
+  -- A key of another stripe is unchanged.
   pub untouched : (k : ℕ) → keys_in stripes es k ≡ false → get (map_after m es) k ≡ get m k
   untouched k out = left_of (keys_in stripes es) m m (alone m es) (alone m es) (alone_alike (keys_in stripes es) m m es (asks_own stripes es) (λ q is. refl)) k out
 
-  -- On maps that have the same at the keys of these stripes the entries run alike.
+  -- On maps that agree at the keys of these stripes the entries run alike.
   pub touched : ((k : ℕ) → keys_in stripes es k ≡ true → get m k ≡ get n k) → (k : ℕ) → keys_in stripes es k ≡ true → get (map_after m es) k ≡ get (map_after n es) k
   touched same k is = inside_of (keys_in stripes es) m n (alone m es) (alone n es) (alone_alike (keys_in stripes es) m n es (asks_own stripes es) same) k (same k is) is
 

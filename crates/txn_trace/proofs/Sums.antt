@@ -1,11 +1,11 @@
--- Sums over ranges of numbers in which one summand changes.
+-- Sums over ranges of numbers of which one summand changes.
 use Rattle.std.proofs.Common.{◌≡◌, ◌≢◌, ℕ, zero, suc, ◌+◌, ◌<◌, ◌≤◌, Bool, true, false, cond, List, [], ◌∷◌, length, refl, ap, sym, ◌∙◌, arith}
 use Rattle.std.specs.List.{filter, sum_by, range_with_len}
 use Rattle.std.proofs.lemmas.Bool.{cases_eq}
 use Rattle.std.proofs.lemmas.List.Sums.{sum_by-cons}
 use mathlib.Core.Logic.{inl, inr}
 
--- Where the summands are the same, the sums are.
+-- Sums of equal summands are equal.
 pub sum_same : (f g : ℕ → ℕ) (a n : ℕ) → ((x : ℕ) → a ≤ x → x < a + n → f x ≡ g x) → sum_by f (range_with_len a n) ≡ sum_by g (range_with_len a n)
 sum_same f g a zero same = refl
 sum_same f g a (suc n) same =
@@ -13,7 +13,7 @@ sum_same f g a (suc n) same =
     let rest : sum_by f (range_with_len (a + 1) n) ≡ sum_by g (range_with_len (a + 1) n) = sum_same f g (a + 1) n (λ x low high. same x (omega arith) (omega arith)) in
     sum_by-cons f a (range_with_len (a + 1) n) ∙ ap (λ x. x + sum_by f (range_with_len (a + 1) n)) head ∙ ap (λ x. g a + x) rest ∙ sym (sum_by-cons g a (range_with_len (a + 1) n))
 
--- Where one summand changes, the sum changes by as much.
+-- If one summand changes, the sum changes by as much.
 pub sum_at : (f g : ℕ → ℕ) (c a n : ℕ) → a ≤ c → c < a + n → ((x : ℕ) → x ≢ c → f x ≡ g x) → sum_by g (range_with_len a n) + f c ≡ sum_by f (range_with_len a n) + g c
 sum_at f g c a zero low high same = absurd (omega arith)
 sum_at f g c a (suc n) low high same =
@@ -32,7 +32,7 @@ sum_at f g c a (suc n) low high same =
           omega arith
     ]
 
--- The number of those that pass a test is the sum of ones for them.
+-- The number of elements that pass a test is the sum of a 1 for each.
 pub length-filter : (p : ℕ → Bool) (xs : List ℕ) → length (filter p xs) ≡ sum_by (λ x. cond (p x) 1 0) xs
 length-filter p [] = refl
 length-filter p (x ∷ xs) =

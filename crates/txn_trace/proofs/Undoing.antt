@@ -1,4 +1,5 @@
--- A log of changes, newest first, against the maps of a run; and what taking the newest back does to the map as it is now.
+-- A log of changes, newest first, compared with the maps of a run; and the effect on the map now of
+-- taking the newest back.
 use Rattle.std.proofs.Common.{◌≡◌, ℕ, ◌≢◌, Bool, true, false, ◌||◌, List, [], ◌∷◌, ◌++◌, refl, ap, sym, ◌∙◌, Some, Option, is_some}
 use Rattle.std.specs.Option.{option_and_then}
 use Rattle.std.specs.List.{list_any}
@@ -41,7 +42,7 @@ any-push_same : (p : Entry → Bool) (es : List Entry) (e : Entry) → p e ≡ f
 any-push_same p [] e is = ap (λ b. b || false) is
 any-push_same p (x ∷ es) e is = ap (λ b. p x || b) (any-push_same p es e is)
 
--- A caller that leaves takes its newest change back.
+-- A caller that leaves takes back its newest change.
 module _ {holder : Holder} (stripes : ℕ) (g : List Entry) (legal : IsLegal holder stripes g) (c t : ℕ) (run : Run) (job : ℕ × Option ℕ) (jobs : List (ℕ × Option ℕ)) (m : Map) (ms : List Map)
     (in_t : txn_in g c ≡ Some t) (going : ended t g ≡ false) (run_is : alone (serial g) (of t g) ≡ Some run) (earlier : run.earlier ≡ m ∷ ms)
     (logged : IsLogged (keys_in stripes (of t g)) (job ∷ jobs) run.last (m ∷ ms)) (shaped : is_shaped g (Undone c) ≡ true) where
@@ -63,14 +64,14 @@ module _ {holder : Holder} (stripes : ℕ) (g : List Entry) (legal : IsLegal hol
       ⊎ ((now_at (g ++ Undone c ∷ []) q ≡ get (map_after (serial g) (of t g ++ Undone c ∷ [])) q) × (now_at g q ≡ get (map_after (serial g) (of t g)) q))
   each q = now_at-push holder stripes g (Undone c) t legal.shape legal.locks (shape_push g (Undone c) legal.shape shaped) (locks_push holder stripes g (Undone c) legal.locks refl) shaped refl in_t q refl (running_of g c t in_t going)
 
-  -- The key of the newest job has what it had before.
+  -- The key of the newest job has the value before the change.
   pub get-now_undone : get (now (g ++ Undone c ∷ [])) job.0 ≡ job.1
   get-now_undone = get-now (g ++ Undone c ∷ []) job.0 ∙ elim (each job.0) [
     | inl w ↦ absurd (false≢true (sym w.1 ∙ logged.0))
     | inr w ↦ w.0 ∙ ap (λ n. get n job.0) afterwards ∙ logged.1
   ]
 
-  -- And each other key what it has.
+  -- Every other key is unchanged.
   pub get-now_undone_other : (q : ℕ) → q ≢ job.0 → get (now (g ++ Undone c ∷ [])) q ≡ get (now g) q
   get-now_undone_other q other = get-now (g ++ Undone c ∷ []) q ∙ elim (each q) [
     | inl w ↦ w.0

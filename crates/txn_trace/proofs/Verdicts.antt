@@ -1,4 +1,4 @@
--- The first bad entry of a history, and what a verdict counts.
+-- The first bad entry of a history, and the counts of a verdict.
 use Rattle.std.proofs.Common.{◌≡◌, ℕ, suc, ◌+◌, List, [], ◌∷◌, ◌++◌, length, refl, ap, sym, subst, ◌∙◌, Some, None, Option, arith, append_assoc, length-append}
 use Rattle.std.proofs.lemmas.List.{append-nil}
 use Rattle.std.specs.Prelude.{◌↔◌}
@@ -10,8 +10,8 @@ use Rattle.txn_trace.specs.Shape.{how_many}
 use Rattle.txn_trace.specs.Legal.{IsLegal, broken, first_bad, callers_in, running, Legal, Illegal, verdict}
 use Rattle.txn_trace.proofs.Judging.{legal_iff, legal_from, legal_none, none_bad}
 
--- The i-th entry is the first that breaks a rule, and this is the rule: the entries before it are a legal history, after
--- which it breaks the rule.
+-- The i-th entry is the first that breaks a rule, and this is the rule: the entries before it are a
+-- legal history, and the entry breaks the rule after them.
 pub record IsFirstBad (holder : Holder) (stripes : ℕ) (h : List Entry) (i rule : ℕ) : Type 0 where
   pub front : List Entry
   pub entry : Entry
@@ -40,7 +40,7 @@ bad_from {holder} stripes g (e ∷ h) j i rule legal index bad =
           subst (λ w. IsFirstBad holder stripes w i rule) (append_assoc g (e ∷ []) h) next
     ]) refl bad
 
--- The entry that the search finds is the first bad one.
+-- The search finds only the first bad entry.
 pub first_bad_is : {holder : Holder} (stripes : ℕ) (h : List Entry) (i rule : ℕ) → first_bad holder stripes [] h 0 ≡ Some (i, rule) → IsFirstBad holder stripes h i rule
 first_bad_is stripes h i rule bad = bad_from stripes [] h 0 i rule (legal_none stripes) refl bad
 
@@ -63,7 +63,7 @@ found_after {holder} stripes g (f ∷ front) e back j rule legal breaks =
     let index : j + 1 + length front ≡ j + suc (length front) = omega arith in
     rw (fine, first_bad) (later ∙ ap (λ i. Some (i, rule)) index)
 
--- The first bad entry is the one that the search finds.
+-- The search finds the first bad entry.
 pub first_bad-found : {holder : Holder} (stripes : ℕ) (h : List Entry) (i rule : ℕ) → IsFirstBad holder stripes h i rule → first_bad holder stripes [] h 0 ≡ Some (i, rule)
 first_bad-found {holder} stripes h i rule bad =
     let index : 0 + length bad.front ≡ i = (let n = bad.index in omega arith) in
@@ -84,6 +84,6 @@ legal_or_bad {holder} stripes h = from (first_bad holder stripes [] h 0) refl
     from None is = inl ((legal_iff stripes h).1 is)
     from (Some bad) is = inr (bad.0, bad.1, first_bad_is stripes h bad.0 bad.1 is)
 
--- After a legal history one more entry is legal exactly where it breaks no rule.
+-- After a legal history one more entry is legal exactly if it breaks no rule.
 pub legal-push : {holder : Holder} (stripes : ℕ) (g : List Entry) → IsLegal holder stripes g → (e : Entry) → IsLegal holder stripes (g ++ e ∷ []) ↔ (broken holder stripes g e ≡ None)
 legal-push {holder} stripes g legal e = (λ after. fine_head holder stripes g e [] 0 (none_bad stripes g (e ∷ []) 0 after), λ fine. legal_after stripes g e legal fine)

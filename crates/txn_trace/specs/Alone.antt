@@ -1,4 +1,4 @@
--- What the entries of a transaction say when it runs alone.
+-- A transaction that runs alone: the maps that its entries leave, if its replies are right.
 use Rattle.std.specs.Prelude.{ℕ, ◌+◌, Option, Some, None, List, [], ◌∷◌, ◌++◌, length, take, nat_eq, slice_get, if◌then◌else◌}
 use Rattle.std.specs.Option.{option_eq, option_and_then}
 use Rattle.std.specs.List.{fold}
@@ -15,7 +15,7 @@ pub record Run : Type 0 where
   pub pending : Option Op
   pub notes : List ℕ
 
--- The run that has a map alone.
+-- The run that has only this map.
 abbrev pub start : Map → Run
 start m = record { last = m; earlier = []; pending = None; notes = 1 ∷ [] }
 
@@ -43,14 +43,14 @@ abbrev pub act_undone : Run → List Map → Option Run
 act_undone run [] = None
 act_undone run (m ∷ ms) = Some (record run { last = m; earlier = ms })
 
--- Returned: the number of maps must be the one noted at the level; later notes are dropped.
+-- Returned: the number of maps must be the one noted at the level. Later notes are dropped.
 abbrev pub act_returned : Run → ℕ → Option Run
 act_returned run n =
     if option_eq nat_eq (slice_get run.notes n) (Some (number_of_maps run))
     then Some (record run { notes = take (n + 1) run.notes })
     else None
 
--- What an entry does to a run; None where it must not stand there.
+-- The run after an entry, or None if the entry may not stand there.
 abbrev pub act : Run → Entry → Option Run
 act run (Asked c op) = Some (record run { pending = Some op })
 act run (Did c r) = act_did run run.pending r
@@ -59,11 +59,11 @@ act run (Saved c) = Some (record run { notes = run.notes ++ number_of_maps run �
 act run (Returned c n) = act_returned run n
 act run _ = Some run
 
--- The run of a list of entries from a map; None where it is undefined.
+-- The run of a list of entries from a map, or None if it is undefined.
 abbrev pub alone : Map → List Entry → Option Run
 alone m es = fold (λ run e. option_and_then (λ r. act r e) run) (Some (start m)) es
 
--- The last map of a run; the map that it began with where the run is undefined.
+-- The last map of a run, or the map that it began with if the run is undefined.
 abbrev pub last_map : Map → Option Run → Map
 last_map m None = m
 last_map m (Some run) = run.last

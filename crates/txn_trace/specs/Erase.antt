@@ -1,4 +1,4 @@
--- Histories without what aborted.
+-- Histories without their aborted transactions.
 use Rattle.std.specs.Prelude.{Bool, true, not, Some, None, List, map}
 use Rattle.std.specs.List.{filter}
 use Rattle.txn_trace.specs.declared.entry.Entry.{Entry}

@@ -44,7 +44,7 @@ abbrev pub txn_after : (ℕ → Option ℕ) → Entry → ℕ → Option ℕ
 txn_after before (Began c t) x = if c == x then Some t else before x
 txn_after before _ x = before x
 
--- Each entry with its transaction, where the callers had these transactions before.
+-- Each entry with its transaction, if the callers were in these transactions before.
 abbrev pub lines_from : (ℕ → Option ℕ) → List Entry → List Line
 lines_from before [] = []
 lines_from before (e ∷ h) =
@@ -86,7 +86,7 @@ txns_of test h = filter_map (λ line. if test line.entry then line.txn else None
 abbrev pub commits : List Entry → List ℕ
 commits h = filter (λ t. is_committed t h) (txns_of is_commit h)
 
--- The open transactions, in the order of their Began entries: by rising number, where the history
--- has the right shape.
+-- The open transactions, in the order of their Began entries: by rising number, if the history has
+-- the right shape.
 abbrev pub open_txns : List Entry → List ℕ
 open_txns h = filter (λ t. is_open t h) (txns_of is_began h)

@@ -12,8 +12,8 @@ use Rattle.txn_trace.specs.declared.seat.Phase.{Phase}
 use Rattle.txn_trace.specs.declared.seat.Phase.TheVariants.{Closed}
 use Rattle.txn_trace.specs.Shape.{Seat, seat_after, own, how_many, is_shaped, IsShaped}
 
--- A history is legal where its replies hold, its locks do, for Busy entries that name such a
--- caller, and it has the right shape.
+-- A history is legal if its replies hold, its locks hold by this rule for Busy entries, and it has
+-- the right shape.
 pub record IsLegal (holder : Holder) (stripes : ℕ) (h : List Entry) : Type 0 where
   pub replies : RepliesHold h
   pub locks : LocksHold holder stripes h
@@ -24,15 +24,15 @@ abbrev pub replies_hold : List Entry → Bool
 replies_hold g = list_all (λ t. is_some (alone (serial g) (of t g))) (open_txns g)
 
 -- The rule that an entry breaks after g: 3, shape; else the lesser of 1, replies, and 2, locks;
--- None where it breaks none.
+-- None if it breaks none.
 abbrev pub broken : Holder → ℕ → List Entry → Entry → Option ℕ
 broken holder stripes g e =
     if not (is_shaped g e) then Some 3 else
     if not (replies_hold (g ++ e ∷ [])) then Some 1 else
     if not (is_locked holder stripes g e) then Some 2 else None
 
--- Of the entries h that come after g, the i-th and following ones, the first that breaks a rule,
--- and the rule.
+-- The first of the entries h that breaks a rule, and the rule. The entries follow g, and the first
+-- of them is numbered i.
 abbrev pub first_bad : Holder → ℕ → List Entry → List Entry → ℕ → Option (ℕ × ℕ)
 first_bad holder stripes g [] i = None
 first_bad holder stripes g (e ∷ h) i = elim (broken holder stripes g e) [
@@ -40,7 +40,7 @@ first_bad holder stripes g (e ∷ h) i = elim (broken holder stripes g e) [
   | None ↦ first_bad holder stripes (g ++ e ∷ []) h (i + 1)
 ]
 
--- Whether a phase is one of a transaction.
+-- Whether a caller in this phase is in a transaction.
 abbrev pub runs : Phase → Bool
 runs Closed = false
 runs _ = true
@@ -54,7 +54,7 @@ is_running (Some s) = runs s.phase
 abbrev pub callers_in : List Entry → ℕ
 callers_in h = fold (λ n e. max n (caller_of e + 1)) 0 h
 
--- Of so many callers, numbered from 0, those that are not closed.
+-- Those of the first callers that are not closed; the number says how many are looked at.
 abbrev pub running : ℕ → List Entry → List ℕ
 running callers h = filter (λ c. is_running (seat_after (own c h))) (range_with_len 0 callers)
 

@@ -9,7 +9,7 @@ use Rattle.txn_trace.specs.declared.holder.Holder.TheVariants.{Now, Begun}
 use Rattle.txn_trace.specs.Map.{key_of}
 use Rattle.txn_trace.specs.History.{Line, caller_of, is_began, lines_of, is_open}
 
--- The stripe of a key, where there are so many stripes.
+-- The stripe of a key, for this number of stripes.
 abbrev pub stripe_of : ℕ → ℕ → ℕ
 stripe_of stripes k = k % stripes
 
@@ -36,14 +36,14 @@ holder_of stripes s h = slice_get (holders stripes s h) 0
 abbrev pub has_begun : ℕ → List Entry → Bool
 has_begun c g = list_any (λ e. is_began e && caller_of e == c) g
 
--- Whether a Busy on a key of the stripe may name x after g: one that holds the stripe now, or one
--- that has begun a transaction.
+-- Whether a Busy on a key of the stripe may name x after g: by one rule x holds the stripe now, by
+-- the other x has begun a transaction.
 abbrev pub may_name : Holder → ℕ → ℕ → List Entry → ℕ → Bool
 may_name Now stripes s g x = list_any (λ y. y == x) (holders stripes s g)
 may_name Begun stripes s g x = has_begun x g
 
--- Whether an entry may stand after g: an Asked where no other caller holds the stripe, a Busy where
--- the named one is another and may be named.
+-- Whether an entry may stand after g: an Asked if no other caller holds the stripe, a Busy if the
+-- caller that it names is another one and may be named.
 abbrev pub is_locked : Holder → ℕ → List Entry → Entry → Bool
 is_locked holder stripes g (Asked c op) =
     list_all (λ x. x == c) (holders stripes (stripe_of stripes (key_of op)) g)
@@ -51,7 +51,7 @@ is_locked holder stripes g (Busy c op x) =
     not (x == c) && may_name holder stripes (stripe_of stripes (key_of op)) g x
 is_locked holder stripes g _ = true
 
--- That holds of each entry after the beginning before it.
+-- Each entry may stand after the prefix before it.
 abbrev pub LocksHold : Holder → ℕ → List Entry → Type 0
 LocksHold holder stripes h =
     (g : List Entry) (e : Entry) → IsPrefix (g ++ e ∷ []) h → IsTrue (is_locked holder stripes g e)

@@ -1,4 +1,4 @@
--- What a caller has to take back: its standing changes.
+-- The log of a caller: its standing changes, which an abort takes back.
 use Rattle.std.specs.Prelude.{ℕ, Option, Some, None, List, [], ◌∷◌, drop, if◌then◌else◌}
 use Rattle.std.specs.List.{fold}
 use Rattle.txn_trace.specs.declared.op.Op.{Op}
@@ -7,8 +7,8 @@ use Rattle.txn_trace.specs.declared.entry.Entry.TheVariants.{Began, Asked, Did, 
 use Rattle.txn_trace.specs.Map.{key_of}
 use Rattle.txn_trace.specs.Shape.{changes, own}
 
--- The operation that waits for its reply; and for each change that stands, newest first, its key
--- and the value before it.
+-- The operation that waits for its reply; and of each change that stands, newest first, the key and
+-- the value before it.
 pub record Log : Type 0 where
   pub pending : Option Op
   pub standing : List (ℕ × Option ℕ)
@@ -25,8 +25,8 @@ log_did log (Some op) r = record {
   standing = if changes op r then (key_of op, r) ∷ log.standing else log.standing;
 }
 
--- The log after an entry: Undone takes back the newest change, and with its end a transaction has
--- nothing left to take back.
+-- The log after an entry. Undone takes back the newest change; the end of a transaction empties the
+-- log.
 abbrev pub log_step : Log → Entry → Log
 log_step log (Asked c op) = record log { pending = Some op }
 log_step log (Did c r) = log_did log log.pending r

@@ -1,4 +1,4 @@
--- Finite maps from numbers to numbers, and what an operation answers and leaves.
+-- Finite maps from numbers to numbers, and the reply and the effect of an operation.
 use Rattle.std.specs.Prelude.{ℕ, Bool, true, false, not, Option, is_some, T, List, [], map, length, nat_eq, if◌then◌else◌}
 use Rattle.std.specs.Option.{option_eq}
 use Rattle.std.specs.FinMap.Entries.{find, put, where_key, is_sorted, is_sorted-put, is_sorted-where_key}
@@ -7,8 +7,8 @@ use Rattle.std.specs.Cmp.{nat_cmp_total}
 use Rattle.txn_trace.specs.declared.op.Op.{Op}
 use Rattle.txn_trace.specs.declared.op.Op.TheVariants.{Put, Take, Get, PutIf}
 
--- A map is the list of its pairs of key and value, by rising keys: std's finite map, written so
--- that it computes.
+-- A map is the list of its pairs of key and value, by rising keys. It is std's finite map, written
+-- in a form that computes.
 pub record Map : Type 0 where
   pub rows : List (ℕ × ℕ)
   pub rising : T (is_sorted nat_cmp rows)
@@ -21,7 +21,7 @@ empty = record { rows = []; rising = tt }
 abbrev pub get : Map → ℕ → Option ℕ
 get m k = find nat_cmp k m.rows
 
--- The map with a key at a value.
+-- The map with this value at a key.
 abbrev pub insert : Map → ℕ → ℕ → Map
 insert m k v = record {
   rows = put nat_cmp k v m.rows;
@@ -50,20 +50,20 @@ key_of (Take k) = k
 key_of (Get k) = k
 key_of (PutIf k expected v) = k
 
--- What an operation answers: the value at its key, if the key is there.
+-- The reply of an operation: the value at its key, if the key is there.
 abbrev pub reply_of : Map → Op → Option ℕ
 reply_of m op = get m (key_of op)
 
--- The map that an operation leaves: a PutIf puts its value exactly where the key has what is
--- expected, a value or none.
+-- The map after an operation. A PutIf puts its value exactly if the key has what is expected, a
+-- value or none.
 abbrev pub after : Map → Op → Map
 after m (Put k v) = insert m k v
 after m (Take k) = remove m k
 after m (Get k) = m
 after m (PutIf k expected v) = if option_eq nat_eq (get m k) expected then insert m k v else m
 
--- Whether an operation is a change: a Put, a Take of a key that is there, or a PutIf where the key
--- has what is expected.
+-- Whether an operation is a change: a Put, a Take of a key that is there, or a PutIf whose key has
+-- what is expected.
 abbrev pub is_change : Map → Op → Bool
 is_change m (Put k v) = true
 is_change m (Take k) = is_some (get m k)

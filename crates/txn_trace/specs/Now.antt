@@ -12,24 +12,23 @@ use Rattle.txn_trace.specs.Serial.{serial}
 abbrev pub open_maps : List Entry → List Map
 open_maps h = map (λ t. map_after (serial h) (of t h)) (open_txns h)
 
--- The value at a key in the first of the maps that differs there from the base; that of the base
--- where none differs.
+-- The value at a key in the first of the maps that differs there from the base, or in the base if
+-- none differs.
 abbrev pub first_differing : Map → List Map → ℕ → Option ℕ
 first_differing base [] k = get base k
 first_differing base (m ∷ ms) k =
     if option_eq nat_eq (get m k) (get base k) then first_differing base ms k else get m k
 
--- The value at a key now: that of the open transaction that changed it, else that of the committed
--- ones.
+-- The value now at a key: that of the open transaction that changed it, else the committed one.
 abbrev pub now_at : List Entry → ℕ → Option ℕ
 now_at h k = first_differing (serial h) (open_maps h) k
 
--- The map with a key at a value, or without the key.
+-- The map with this value at a key, or without the key.
 abbrev pub set_at : Map → ℕ → Option ℕ → Map
 set_at m k None = remove m k
 set_at m k (Some v) = insert m k v
 
--- The map that has at these keys what a function says, and no other keys.
+-- The map of a function at these keys; it has no others.
 abbrev pub map_of : List ℕ → (ℕ → Option ℕ) → Map
 map_of ks f = fold (λ m k. set_at m k (f k)) empty ks
 

@@ -7,11 +7,11 @@ use Rattle.std.specs.declared.cmp.Ordering.{Ordering}
 use Rattle.split_key.specs.Split.{split}
 use Rattle.txn_trace.specs.Map.{Map}
 
--- Keys are compared by their split keys, and by themselves where these are equal: in the order of
--- their sort keys.
+-- Keys are compared by their split keys, and by themselves if these are equal: the order of their
+-- sort keys.
 abbrev pub split_cmp : ℕ → ℕ → Ordering
 split_cmp = then_cmp (λ a b. nat_cmp (split a) (split b)) nat_cmp
 
--- The pairs of a map, each once, rising in this order.
+-- The pairs of a map, each once, in this order.
 abbrev pub ordered : Map → List (ℕ × ℕ)
 ordered m = fold (λ pairs pair. put split_cmp pair.0 pair.1 pairs) [] m.rows

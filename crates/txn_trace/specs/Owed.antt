@@ -1,4 +1,4 @@
--- How many entries callers may still append without a new reservation.
+-- The number of entries that callers may still append without a new reservation.
 use Rattle.std.specs.Prelude.{ℕ, ◌+◌, Bool, true, false, Option, Some, None, List}
 use Rattle.std.specs.List.{sum_by, range_with_len}
 use Rattle.txn_trace.specs.declared.op.Op.{Op}
@@ -17,7 +17,7 @@ may_change (Take k) = true
 may_change (Get k) = false
 may_change (PutIf k expected v) = true
 
--- For an operation that waits: its reply, and for one that may change, the undoing of it.
+-- For an operation that waits: its reply, and its undoing if it may change the map.
 abbrev pub owed_for : Op → ℕ
 owed_for (Put k v) = 2
 owed_for (Take k) = 2
@@ -41,8 +41,8 @@ owed_by (Some s) = owed_in s.standing s.phase
 abbrev pub owed : ℕ → List Entry → ℕ
 owed callers h = sum_by (λ c. owed_by (seat_after (own c h))) (range_with_len 0 callers)
 
--- What a step reserves in the history before it does anything: its entry, and what its caller owes
--- more after it. The entries of all other steps are owed already.
+-- The room that a step reserves in the history before it does anything: for its entry and for what
+-- its caller owes more after it. The entries of all other steps are owed already.
 abbrev pub reserved : Step → ℕ
 reserved (Begin c) = 3
 reserved (Ask c op) = 1 + owed_for op

@@ -1,4 +1,4 @@
--- What a packed entry stands for.
+-- The operation and the entry that packed fields stand for.
 use Rattle.std.specs.Prelude.{ℕ, Some, None}
 use Rattle.txn_trace.specs.declared.entry.Entry.{Entry}
 use Rattle.txn_trace.specs.declared.entry.Entry.TheVariants as entries
@@ -9,7 +9,7 @@ use Rattle.txn_trace.specs.declared.packed_entry.OpKind.TheVariants as op_kinds
 use Rattle.txn_trace.specs.declared.packed_entry.Kind.{Kind}
 use Rattle.txn_trace.specs.declared.packed_entry.Kind.TheVariants as kinds
 
--- The operation of this kind, with its key, its value and what it expects.
+-- The operation of this kind, with its key, its value and the value that it expects.
 abbrev pub packed_op : OpKind → ℕ → ℕ → ℕ → Op
 packed_op op_kinds.Put k v e = ops.Put k v
 packed_op op_kinds.Take k v e = ops.Take k
@@ -17,7 +17,7 @@ packed_op op_kinds.Get k v e = ops.Get k
 packed_op op_kinds.PutIf k v e = ops.PutIf k (Some e) v
 packed_op op_kinds.PutIfNone k v e = ops.PutIf k None v
 
--- The entry of this kind, of caller `c`: with the number `n`, or the operation of key `n`.
+-- The entry of this kind of caller `c`, with the number `n` or the operation at key `n`.
 abbrev pub packed_entry : Kind → OpKind → ℕ → ℕ → ℕ → ℕ → ℕ → Entry
 packed_entry kinds.Began op c n v e x = entries.Began c n
 packed_entry kinds.Asked op c n v e x = entries.Asked c (packed_op op n v e)

@@ -1,4 +1,4 @@
--- Which script a transaction plays, and which scripts the transactions of one caller play.
+-- The script that a transaction plays, and the scripts that the transactions of one caller play.
 use Rattle.std.specs.Prelude.{◌≡◌, ℕ, ◌%◌, ◌<◌, ◌≤◌, ◌==◌, Bool, true, false, not, ◌&&◌, Some, List, [], ◌∷◌, ◌++◌, length, slice_get, if◌then◌else◌}
 use Prim.Native.Nat.{suc}
 use Rattle.std.specs.List.{filter, fold}
@@ -8,18 +8,18 @@ use Rattle.txn_trace.specs.declared.entry.Entry.{Entry}
 use Rattle.txn_trace.specs.declared.entry.Entry.TheVariants.{Began, Asked, Did, Saved, Leave, Undone, Returned, Committed}
 use Rattle.txn_trace.specs.History.{caller_of, is_began, is_commit, ends_in, of, txns_of}
 
--- Whether an entry says that a change was taken back.
+-- Whether an entry tells that a change was taken back.
 abbrev pub is_undone : Entry → Bool
 is_undone (Undone c) = true
 is_undone _ = false
 
--- The entries but those that say that a change was taken back.
+-- The entries without those that tell that a change was taken back.
 abbrev pub without_undone : List Entry → List Entry
 without_undone es = filter (λ e. not (is_undone e)) es
 
 -- The entries are those of the actions, in order, and then Committed: an operation is asked for and
--- done; a savepoint is set; a level is left for and returned to; help has no entries. An abort is
--- never played.
+-- done; a savepoint is set; a caller leaves for a level and returns to it; help has no entries. An
+-- abort is never played.
 abbrev pub ArePlayed : List Action → List Entry → Type 0
 ArePlayed [] (Committed c p ∷ []) = Unit {0}
 ArePlayed (actions.Op op ∷ script) (Asked c asked ∷ Did d reply ∷ es) =
@@ -30,13 +30,13 @@ ArePlayed (actions.Back n ∷ script) (Leave c (Some level) ∷ Returned d reach
 ArePlayed (actions.Help k ∷ script) es = ArePlayed script es
 ArePlayed _ _ = ⊥
 
--- The entries are Began and then those that the script asks for.
+-- The entries are Began and then those of the script's actions.
 abbrev pub IsPlayed : List Action → List Entry → Type 0
 IsPlayed script (Began c t ∷ es) = ArePlayed script es
 IsPlayed script _ = ⊥
 
--- A transaction plays a script where its entries, but those that are taken back, are Began, those
--- of each action in order, and Committed.
+-- A transaction plays a script if its entries, without those that take changes back, are Began,
+-- those of each action in order, and Committed.
 abbrev pub Plays : ℕ → List Action → List Entry → Type 0
 Plays t script h = IsPlayed script (without_undone (of t h))
 
@@ -48,15 +48,15 @@ is_commit_of c e = is_commit e && (caller_of e == c)
 abbrev pub commits_of : ℕ → List Entry → List ℕ
 commits_of c h = txns_of (is_commit_of c) h
 
--- Among these scripts, of which every so many-th is the caller's, beginning with that of the
--- caller's own number, this is one of the caller's.
+-- Every `callers`-th of these scripts is the caller's, beginning with the one of the caller's own
+-- number. This is one of the caller's.
 pub record IsScriptOf (callers : ℕ) (scripts : List (List Action)) (c n : ℕ)
     (script : List Action) : Type 0 where
   pub mine : n % callers ≡ c
   pub there : slice_get scripts n ≡ Some script
 
--- Each of these transactions plays one of the caller's scripts, with rising numbers, from `low` on
--- and below `high`.
+-- Each of these transactions plays one of the caller's scripts. The scripts' numbers rise, from
+-- `low` on and below `high`.
 abbrev pub PlayRising : ℕ → List (List Action) → ℕ → List Entry → ℕ → ℕ → List ℕ → Type 0
 PlayRising callers scripts c h low high [] = Unit {0}
 PlayRising callers scripts c h low high (t ∷ ts) =
@@ -64,30 +64,31 @@ PlayRising callers scripts c h low high (t ∷ ts) =
     × IsScriptOf callers scripts c n script × Plays t script h
     × PlayRising callers scripts c h (suc n) high ts
 
--- Each caller's committed transactions play scripts of its own, their numbers rising.
+-- Each caller's committed transactions play that caller's scripts, with rising numbers.
 abbrev pub PlayScripts : ℕ → List (List Action) → List Entry → Type 0
 PlayScripts callers scripts h =
     (c : ℕ) → c < callers → PlayRising callers scripts c h 0 (length scripts) (commits_of c h)
 
--- The entries of one caller, a part for each transaction, the last one first: after one entry more.
+-- The entries of one caller in parts, one for each transaction, the last one first, after one more
+-- entry.
 abbrev pub part_after : List (List Entry) → Entry → List (List Entry)
 part_after [] e = if is_began e then (e ∷ []) ∷ [] else []
 part_after (part ∷ parts) e =
     if is_began e then (e ∷ []) ∷ part ∷ parts else (part ++ e ∷ []) ∷ parts
 
--- The entries of one caller, a part for each transaction, the last one first.
+-- The entries of one caller in parts, one for each transaction, the last one first.
 abbrev pub parts_of : List Entry → List (List Entry)
 parts_of es = fold part_after [] es
 
--- The entries are those of a committed transaction that plays the caller's script of this number.
+-- The entries are those of a committed transaction that plays the caller's script with this number.
 pub record PlaysPart (callers : ℕ) (scripts : List (List Action)) (c n : ℕ)
     (part : List Entry) : Type 0 where
   pub script : List Action
   pub is : IsScriptOf callers scripts c n script
   pub plays : IsPlayed script (without_undone part)
 
--- Of a caller's transactions, the last one first, each that is committed plays one of the caller's
--- scripts, with a number below `high` and above those of the transactions before it.
+-- Each committed one of a caller's transactions, the last one first, plays one of the caller's
+-- scripts, whose number is below `high` and above those of the transactions before it.
 abbrev pub HavePlayed : ℕ → List (List Action) → ℕ → ℕ → List (List Entry) → Type 0
 HavePlayed callers scripts c high [] = Unit {0}
 HavePlayed callers scripts c high (part ∷ parts) =

@@ -1,9 +1,9 @@
--- The number of each refusal, and its text.
+-- Each refusal's number and text.
 use Rattle.std.specs.Prelude.{ℕ, List, decimal}
 use Rattle.txn_trace.specs.declared.refusal.Refusal.{Refusal}
 use Rattle.txn_trace.specs.declared.refusal.Refusal.TheVariants.{BadKey, NoSuchCaller, NotOpen, AlreadyOpen, OperationUnfinished, Leaving, Unplaced, NothingToSeek, NoSuchLevel, NoSuchBucket, ParentMissing, NoSuchHelper, HelperOutOfOrder, NoMemory, OutOfStep, StampsUsedUp, CallersMissing, NoThread, StaleWord, NotJson, WrongShape, Limit}
 
--- The number by which a refusal is known.
+-- The number of a refusal.
 abbrev pub number_of : Refusal → ℕ
 number_of BadKey = 1
 number_of NoSuchCaller = 2

@@ -10,6 +10,6 @@ use Rattle.txn_trace.specs.Serial.{serial}
 abbrev pub RepliesHoldAt : List Entry → Type 0
 RepliesHoldAt g = (t : ℕ) → IsTrue (is_open t g) → IsSome (alone (serial g) (of t g))
 
--- That holds of each beginning of the history.
+-- The replies hold at each prefix of the history.
 abbrev pub RepliesHold : List Entry → Type 0
 RepliesHold h = (g : List Entry) → IsPrefix g h → RepliesHoldAt g

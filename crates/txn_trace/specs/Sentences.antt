@@ -3,7 +3,7 @@ use Rattle.std.specs.Prelude.{ℕ, List, codes}
 use Rattle.txn_trace.specs.declared.refusal.Refusal.{Refusal}
 use Rattle.txn_trace.specs.declared.refusal.Refusal.TheVariants.{BadKey, NoSuchCaller, NotOpen, AlreadyOpen, OperationUnfinished, Leaving, Unplaced, NothingToSeek, NoSuchLevel, NoSuchBucket, ParentMissing, NoSuchHelper, HelperOutOfOrder, NoMemory, OutOfStep, StampsUsedUp, CallersMissing, NoThread, StaleWord, NotJson, WrongShape, Limit}
 
--- What a refusal says.
+-- The sentence of a refusal.
 abbrev pub sentence_of : Refusal → List ℕ
 sentence_of BadKey = codes "the key is 2^63 or more, and the map takes half keys only"
 sentence_of NoSuchCaller = codes "there is no caller of this number"

@@ -1,4 +1,4 @@
--- The rule of shape: which entry may stand in which phase of a caller, and the seat after it.
+-- The rule of shape: the entries that may stand in each phase of a caller, and the seat after each.
 use Rattle.std.specs.Prelude.{ℕ, ◌+◌, ◌-◌, ◌==◌, Bool, true, false, ◌&&◌, Option, Some, None, is_some, IsTrue, List, [], ◌∷◌, ◌++◌, length, take, slice_index, nat_eq, nat_lt, if◌then◌else◌}
 use Rattle.std.specs.Option.{option_eq, option_and_then}
 use Rattle.std.specs.List.{fold, filter}
@@ -11,19 +11,19 @@ use Rattle.txn_trace.specs.declared.seat.Phase.{Phase}
 use Rattle.txn_trace.specs.declared.seat.Phase.TheVariants.{Closed, Opened, Waiting, LeavingTo, LeavingToEnd}
 use Rattle.txn_trace.specs.History.{caller_of, is_began, is_commit}
 
--- A caller's phase, how many of its changes stand, and how many stood at each level, none at level
--- 0.
+-- A caller's phase, how many of its changes stand, and how many stood at each level; none stood at
+-- level 0.
 pub record Seat : Type 0 where
   pub phase : Phase
   pub standing : ℕ
   pub kept : List ℕ
 
--- A seat in memory, and how many Saved entries more it has memory for.
+-- A seat in memory, and the number of further Saved entries that it has memory for.
 pub record RoomySeat : Type 0 where
   pub seat : Seat
   pub room : ℕ
 
--- How many levels it has memory for, level 0 with them.
+-- The number of levels that it has memory for, including level 0.
 abbrev pub capacity : RoomySeat → ℕ
 capacity roomy = length roomy.seat.kept + roomy.room
 
@@ -38,7 +38,8 @@ changes (Take k) r = is_some r
 changes (Get k) r = false
 changes (PutIf k expected v) r = option_eq nat_eq r expected
 
--- The seat after an entry, for each phase and entry in which one may stand; None for all others.
+-- The seat after an entry, for each phase and each entry that may stand in it, and None for all
+-- others.
 abbrev pub row : Seat → Phase → Entry → Option Seat
 row s Closed (Began c t) = Some (record closed_seat { phase = Opened })
 row s Opened (Asked c op) = Some (record s { phase = Waiting op })
@@ -66,7 +67,7 @@ row s LeavingToEnd (Undone c) =
 row s LeavingToEnd (Aborted c) = if s.standing == 0 then Some closed_seat else None
 row s _ e = None
 
--- The seat after a caller's own entries; None where one of them may not stand.
+-- The seat after a caller's own entries, or None if one of them may not stand.
 abbrev pub seat_after : List Entry → Option Seat
 seat_after es = fold (λ seat e. option_and_then (λ s. row s s.phase e) seat) (Some closed_seat) es
 
@@ -88,6 +89,6 @@ is_numbered g _ = true
 abbrev pub is_shaped : List Entry → Entry → Bool
 is_shaped g e = is_some (seat_after (own (caller_of e) (g ++ e ∷ []))) && is_numbered g e
 
--- Each entry has the right shape after the beginning before it.
+-- Each entry has the right shape after the prefix before it.
 abbrev pub IsShaped : List Entry → Type 0
 IsShaped h = (g : List Entry) (e : Entry) → IsPrefix (g ++ e ∷ []) h → IsTrue (is_shaped g e)

@@ -4,41 +4,41 @@ use Rattle.std.specs.Int.{is_power_of_two}
 use Rattle.txn_trace.specs.declared.refusal.Refusal.{Refusal}
 use Rattle.txn_trace.specs.declared.refusal.Refusal.TheVariants.{Limit}
 
--- How many callers, stripes and buckets there are, the buckets at most; and whether only half keys
--- are taken, which are those below 2^63.
+-- The numbers of callers, stripes and buckets, of which the last is a maximum; and whether only
+-- half keys, those below 2^63, are taken.
 pub record Sizes : Type 0 where
   pub callers : ℕ
   pub stripes : ℕ
   pub buckets : ℕ
   pub half : Bool
 
--- Whether a key is refused: where only half keys are taken, one of 2^63 or more.
+-- Whether a key is refused: only half keys are taken, and it is 2^63 or more.
 abbrev pub is_bad_key : Bool → ℕ → Bool
 is_bad_key half key = half && nat_le (2 ^ 63) key
 
 abbrev is_within : ℕ → ℕ → ℕ → Bool
 is_within low high n = nat_le low n && nat_le n high
 
--- How many callers there may be.
+-- The greatest number of callers.
 abbrev pub max_callers : ℕ
 max_callers = 64
 
--- How many stripes there may be.
+-- The greatest number of stripes.
 abbrev pub max_stripes : ℕ
 max_stripes = 4096
 
--- How many buckets there may be.
+-- The greatest number of buckets.
 abbrev pub max_buckets : ℕ
 max_buckets = 65536
 
--- A caller or more, a stripe or more, a power of two of buckets from 2 on, and no more of each than
--- there may be.
+-- At least one caller and one stripe, a power of two of at least 2 buckets, and no more of each
+-- than the greatest number.
 abbrev pub are_limits : ℕ → ℕ → ℕ → Bool
 are_limits callers stripes buckets =
     is_within 1 max_callers callers && is_within 1 max_stripes stripes
     && is_within 2 max_buckets buckets && is_power_of_two buckets
 
--- The numbers as limits that take every key, where they are in range.
+-- The limits of these numbers, if they are in range. They take every key.
 abbrev pub limits_of : ℕ → ℕ → ℕ → Result Sizes Refusal
 limits_of callers stripes buckets =
     if are_limits callers stripes buckets

@@ -33,7 +33,7 @@ text_of Light = codes "light"
 text_of (Doubled n) = codes "doubled " ++ decimal n
 text_of (Refused refusal) = codes "refused " ++ words_of refusal
 
--- What stands after the words of an answer's text: nothing, a number, or a refusal's number.
+-- The text after an answer's words: nothing, a number, or a refusal's number.
 abbrev pub rest_text : Rest → List ℕ
 rest_text rests.Nothing = []
 rest_text (rests.Number n) = codes " " ++ decimal n

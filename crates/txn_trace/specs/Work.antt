@@ -1,10 +1,10 @@
--- What workers are given to do.
+-- The work of a set of workers.
 use Rattle.std.specs.Prelude.{ℕ, List}
 use Rattle.txn_trace.specs.Sizes.{Sizes}
 use Rattle.txn_trace.specs.declared.action.Action.{Action}
 
--- The version of the file that says it, the limits, how often a script is tried again, and the
--- scripts.
+-- The version of the file that holds the work, the limits, how often a script is tried again, and
+-- the scripts.
 pub record Work : Type 0 where
   pub version : ℕ
   pub sizes : Sizes

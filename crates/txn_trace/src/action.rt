@@ -1,8 +1,8 @@
-//! What a script asks for inside a transaction.
+//! The actions of scripts.
 
 use crate::op::Op;
 
-/// What a script asks of the worker that runs it, inside a transaction.
+/// One thing that a script asks of the worker that runs it, inside a transaction.
 #[derive(Clone, Copy, Debug, PartialEq, Eq)]
 pub enum Action {
     /// Runs an operation to its reply.

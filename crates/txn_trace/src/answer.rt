@@ -1,5 +1,5 @@
-//! What steps are answered, and the text of an answer as a report prints it. An answer says all
-//! that the history's entry of the step needs besides the step.
+//! The answers to steps, and the text of an answer as a report prints it. A step and its answer
+//! together determine the history's entry of the step.
 ghost use Rattle.std.specs.Prelude.{◌≡◌, ◌++◌, IfOk, string_bytes};
 ghost use Rattle.txn_trace.specs.Text.{rest_text, text_of};
 
@@ -8,7 +8,7 @@ use crate::refusal::Refusal;
 use std::alloc::{AllocError, Global};
 use std::fmt;
 
-/// What a step is answered.
+/// The answer to a step.
 #[derive(Clone, Copy, Debug, PartialEq, Eq)]
 pub enum Answer {
     /// The transaction of this number began.
@@ -21,7 +21,7 @@ pub enum Answer {
     Placed,
     /// The cursor no longer fits and is dropped.
     Again,
-    /// The operation is done, and this is its reply.
+    /// The operation was done, with this reply.
     Done(Reply),
     /// The newest change is taken back.
     Undone,
@@ -47,9 +47,9 @@ pub enum Answer {
     Linked,
     /// The bucket is initialised.
     Stored,
-    /// The size is this one, and not the one that was seen.
+    /// The size is this one, not the one named.
     Moved(u64),
-    /// The size is the largest one.
+    /// The size is the largest one allowed.
     AtLimit,
     /// There are too few keys to double.
     Light,
@@ -59,7 +59,7 @@ pub enum Answer {
     Refused(Refusal),
 }
 
-/// What the text of an answer says after its words.
+/// The part of an answer's text after its words.
 enum Rest {
     Nothing,
     Number(u64),
@@ -67,7 +67,7 @@ enum Rest {
 }
 
 impl Answer {
-    /// The words that an answer's text begins with, and the rest of the text.
+    /// The words with which an answer's text begins, and the rest of the text.
     fn parts(&self) -> (&'static str, Rest)
         ensures { text_of self.now ≡ result.0.now ++ rest_text result.1 }
     {
@@ -115,7 +115,7 @@ impl fmt::Display for Answer {
     }
 }
 
-/// An answer as text, without a line feed.
+/// The text of an answer, without a line feed.
 ///
 /// # Errors
 ///

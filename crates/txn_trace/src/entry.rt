@@ -1,13 +1,12 @@
-//! The entries of a history, one a line of a history file. The meaning of a row of them is in
-//! `specs/`.
+//! The entries of a history, one for each line of a history file. The meaning of a list of them is
+//! in `specs/`.
 ghost use Rattle.std.specs.Prelude.{◌≡◌};
 ghost use Rattle.txn_trace.specs.History.{caller_of};
 
 use crate::op::{Op, Reply};
 
-/// One line of a history. The first number of each is its caller.
-///
-/// An entry belongs to the transaction that its caller began last.
+/// One line of a history. The first number of each is its caller; the entry belongs to the
+/// transaction that its caller began last.
 #[derive(Clone, Copy, Debug, PartialEq, Eq)]
 pub enum Entry {
     /// A transaction began; the second number is the transaction's, counted from 1 over all
@@ -19,7 +18,7 @@ pub enum Entry {
     Did(u64, Reply),
     /// A savepoint was set.
     Saved(u64),
-    /// The caller goes back to a level, or to none of them: the transaction aborts.
+    /// The caller goes back to a level, or, if there is none, aborts its transaction.
     Leave(u64, Option<u64>),
     /// The newest change that stood was taken back.
     Undone(u64),
@@ -27,15 +26,14 @@ pub enum Entry {
     Returned(u64, u64),
     /// The transaction committed; the second number is its commit number, from 1.
     Committed(u64, u64),
-    /// An operation found its stripe in the hands of the caller named last, and its transaction
-    /// aborts.
+    /// An operation found its stripe held by the caller named last, and its transaction aborts.
     Busy(u64, Op, u64),
     /// All changes are taken back, and the transaction is over.
     Aborted(u64),
 }
 
 impl Entry {
-    /// The caller whose entry this is. Constant time.
+    /// The caller whose entry this is.
     pub fn caller(&self) -> u64
         ensures { result ≡ caller_of self.now }
     {

@@ -1,4 +1,4 @@
-//! Laws of histories.
+//! The laws of histories: functions that do nothing, whose contracts are the laws.
 
 ghost use Rattle.std.specs.Prelude.{◌≡◌, ℕ, List};
 ghost use Rattle.txn_trace.specs.Erase.{erase};
@@ -9,14 +9,10 @@ ghost use Rattle.txn_trace.specs.Serial.{serial};
 ghost use Rattle.txn_trace.specs.declared.entry.Entry.{Entry};
 ghost use Rattle.txn_trace.specs.declared.holder.Holder.{Holder};
 
-/// Nothing is left of aborted transactions: a legal history without their entries says the same
-/// of the map and of the committed map, and its replies hold.
+/// A legal history without the entries of its aborted transactions has the same map now and the
+/// same committed map, and its replies hold.
 ///
-/// The contract is the law.
-///
-/// # Cost
-///
-/// None: it does nothing when it runs.
+/// The contract is the law; the function does nothing.
 pub fn erased()
     ensures now { (holder : Holder) (stripes : ℕ) (h : List Entry) → IsLegal holder stripes h
         → now (erase h) ≡ now h }

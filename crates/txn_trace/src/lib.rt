@@ -1,22 +1,21 @@
-//! The words in which transactions on a map are spoken of: operations, steps and their answers,
-//! refusals, limits, and the entries of a history; and what a history of them means.
+//! The vocabulary of transactions on a map: operations, steps and their answers, refusals, limits,
+//! the entries of a history, and the meaning of a history.
 //!
 //! A history is a list of entries of one or more callers. The definitions in `specs/` say which
 //! transaction an entry belongs to, what a transaction does when it runs alone, which map the
-//! committed transactions leave in commit order (`serial`) and which map there is with the changes
-//! of the open ones (`now`), and which histories are legal: those in which each transaction has the
-//! replies of running alone, each stripe of keys belongs to one open transaction, and each entry
-//! has the right shape. This is the meaning of "serialisable" after Herlihy and Koskinen,
+//! committed transactions leave in commit order (`serial`), which map there is with the changes of
+//! the open ones (`now`), and which histories are legal: each transaction has the replies of
+//! running alone, each stripe of keys belongs to one open transaction at a time, and each entry has
+//! the right shape. This is the meaning of "serialisable" after Herlihy and Koskinen,
 //! "Transactional Boosting: A Methodology for Highly-Concurrent Transactional Objects" (PPoPP
-//! 2008), whose rules 2 (abstract locks) and 3 (inverses) are the locks and the taking back of a
+//! 2008), whose rules 2 (abstract locks) and 3 (inverses) are the locks and the undoing of a
 //! history here.
 //!
-//! Proved: the laws of histories in `proofs/`, entry by entry, for crates above to cite; and, as
-//! the contract of `laws::erased`, that nothing is left of aborted transactions. The code is that
-//! of definitions which crates above share: limits and texts, the entry of a step with its answer,
-//! an entry packed, what an operation and a step need in a history, and a caller's seat. Each call
-//! but `answer_text` takes constant time, amortized where savepoints come or go, and only
-//! `answer_text` and `Seat::reserve_level` take memory.
+//! Proved: the laws of histories in `proofs/`, entry by entry, for the crates above to cite; and,
+//! as the contract of `laws::erased`, that aborted transactions leave nothing behind. The functions
+//! compute definitions that the crates above share: limits and texts, the entry of a step with its
+//! answer, a packed entry, the room that an operation or a step needs in a history, and a caller's
+//! seat. Calls take constant time and no memory unless they say otherwise.
 #![tactic(auto)]
 
 mod action;

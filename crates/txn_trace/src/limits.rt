@@ -1,5 +1,5 @@
 //! The limits of a map: its callers, stripes and buckets, and whether keys of the upper half are
-//! taken. They are in range by the type, so no call tests them again.
+//! taken. The type keeps them in range, so no call tests them again.
 ghost use Rattle.std.specs.Prelude.{◌≡◌, true, IsTrue};
 ghost use Rattle.txn_trace.specs.Sizes.{Sizes, are_limits, is_bad_key, limits_of};
 
@@ -7,8 +7,8 @@ use crate::refusal::Refusal;
 use split_key::Key;
 use std::marker::Model;
 
-/// How many callers there are, how many stripes of keys, and how many buckets at most; and whether
-/// every key is taken, or half keys alone, which are those below 2^63.
+/// The number of callers, of stripes, and of buckets at most; and whether every key is taken or
+/// only half keys, those below 2^63.
 #[derive(Clone, Copy, Debug, PartialEq, Eq)]
 pub struct Limits {
     callers: u32,
@@ -38,25 +38,21 @@ impl Model for Limits {
 }
 
 impl Limits {
-    /// How many callers there may be.
+    /// The greatest number of callers.
     pub const MAX_CALLERS: u64 = 64;
 
-    /// How many stripes there may be.
+    /// The greatest number of stripes.
     pub const MAX_STRIPES: u64 = 4096;
 
-    /// How many buckets there may be. It is a power of two.
+    /// The greatest number of buckets, a power of two.
     pub const MAX_BUCKETS: u64 = 65536;
 
-    /// Limits that take every key and are in range: 1 to `MAX_CALLERS` callers, 1 to `MAX_STRIPES`
-    /// stripes, and as the largest size a power of two from 2 to `MAX_BUCKETS` buckets.
+    /// Limits that take every key: 1 to `MAX_CALLERS` callers, 1 to `MAX_STRIPES` stripes, and as
+    /// the largest size a power of two from 2 to `MAX_BUCKETS` buckets.
     ///
     /// # Errors
     ///
     /// `Refusal::Limit` if a number is out of range.
-    ///
-    /// # Cost
-    ///
-    /// Constant time; takes no memory.
     pub fn new(callers: u64, stripes: u64, buckets: u64) -> Result<Limits, Refusal>
         ensures { result ≡ limits_of callers stripes buckets }
     {
@@ -75,7 +71,7 @@ impl Limits {
         })
     }
 
-    /// How many callers there are. Constant time.
+    /// The number of callers.
     pub fn callers(self) -> u32
         ensures value { result ≡ self.callers }
         ensures limits { IsTrue (are_limits self.callers self.stripes self.buckets) }
@@ -83,7 +79,7 @@ impl Limits {
         self.callers
     }
 
-    /// How many stripes the keys are shared out to. Constant time.
+    /// The number of stripes to which the keys are distributed.
     pub fn stripes(self) -> u32
         ensures value { result ≡ self.stripes }
         ensures limits { IsTrue (are_limits self.callers self.stripes self.buckets) }
@@ -91,7 +87,7 @@ impl Limits {
         self.stripes
     }
 
-    /// The largest size of the table, in buckets. Constant time.
+    /// The largest size of the table, in buckets.
     pub fn buckets(self) -> u32
         ensures value { result ≡ self.buckets }
         ensures limits { IsTrue (are_limits self.callers self.stripes self.buckets) }
@@ -99,7 +95,7 @@ impl Limits {
         self.buckets
     }
 
-    /// The same limits, but that half keys alone are taken. Constant time.
+    /// These limits, restricted to half keys.
     pub fn half_keys(self) -> Limits
         ensures { result ≡ record self { half = true } }
     {
@@ -109,18 +105,14 @@ impl Limits {
         }
     }
 
-    /// Whether half keys alone are taken. Constant time.
+    /// Whether only half keys are taken.
     pub fn has_half_keys(self) -> bool
         ensures { result ≡ self.half }
     {
         self.half_keys
     }
 
-    /// Whether these limits refuse a key: half keys alone are taken, and it is none.
-    ///
-    /// # Cost
-    ///
-    /// Constant time; takes no memory.
+    /// Whether these limits refuse a key: only half keys are taken, and it is none.
     pub fn is_bad_key(self, key: u64) -> bool
         ensures { result ≡ is_bad_key self.half key }
     {

@@ -1,4 +1,4 @@
-//! The operations on one key, and what they answer: each replies the value that the key had before.
+//! The operations on one key. Each replies the value that the key had before.
 ghost use Rattle.std.specs.Prelude.{◌≡◌};
 ghost use Rattle.txn_trace.specs.Map.{key_of};
 ghost use Rattle.txn_trace.specs.Shape.{changes};
@@ -19,7 +19,7 @@ pub enum Op {
 }
 
 impl Op {
-    /// The operation's key. Constant time.
+    /// The operation's key.
     pub fn key(self) -> u64
         ensures { result ≡ key_of self }
     {
@@ -28,22 +28,14 @@ impl Op {
     }
 
     /// Whether the operation is a change on some map: all but `Get`.
-    ///
-    /// # Cost
-    ///
-    /// Constant time; takes no memory.
     pub fn may_change(self) -> bool
         ensures { result ≡ may_change self }
     {
         !matches!(self, Op::Get(_))
     }
 
-    /// Whether the operation was a change, if this is its reply: it put a value, or took a key out
+    /// Whether the operation was a change, if this is its reply: it put a value, or took out a key
     /// that was there.
-    ///
-    /// # Cost
-    ///
-    /// Constant time; takes no memory.
     pub fn changes(self, reply: Reply) -> bool
         ensures { result ≡ changes self reply }
     {
@@ -55,12 +47,8 @@ impl Op {
         }
     }
 
-    /// How many entries are owed for the operation while it waits: its reply, and where it may
-    /// change something the undoing of it.
-    ///
-    /// # Cost
-    ///
-    /// Constant time; takes no memory.
+    /// The number of entries owed for the operation while it waits: its reply, and its undoing if
+    /// it may change the map.
     pub fn owed(self) -> u64
         ensures { result ≡ owed_for self }
     {
@@ -68,5 +56,5 @@ impl Op {
     }
 }
 
-/// What an operation answers: the value that the key had before it, or none.
+/// The reply of an operation: the value that the key had before it, or none.
 pub type Reply = Option<u64>;

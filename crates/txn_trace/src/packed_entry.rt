@@ -1,5 +1,5 @@
-//! An entry of a history in 48 bytes for 64, whose model is the entry: so a list of packed entries
-//! is a history as well.
+//! An entry of a history in 48 bytes instead of 64. Its model is the entry, so a contract reads a
+//! list of packed entries as a history.
 ghost use Rattle.std.specs.Prelude.{◌≡◌};
 ghost use Rattle.txn_trace.specs.Packed.{packed_op, packed_entry};
 
@@ -8,7 +8,7 @@ use crate::op::Op;
 use std::marker::Model;
 use std::mem::size_of;
 
-/// Which operation it is, and whether a put may expect a value.
+/// The kind of an operation, and whether a put may expect a value.
 #[derive(Clone, Copy)]
 enum OpKind {
     Put,
@@ -18,7 +18,7 @@ enum OpKind {
     PutIfNone,
 }
 
-/// Which entry it is, and whether a reply or a level is there.
+/// The kind of an entry, and whether a reply or a level is there.
 #[derive(Clone, Copy)]
 enum Kind {
     Began,
@@ -35,9 +35,8 @@ enum Kind {
     Aborted,
 }
 
-/// An entry in 48 bytes, where an `Entry` takes 64: who keeps many of them may keep them so.
-///
-/// A contract sees it as the entry that it is.
+/// An entry in 48 bytes, for those who keep many; an `Entry` takes 64. A contract sees it as the
+/// entry.
 #[derive(Drop)]
 pub struct PackedEntry {
     kind: Kind,
@@ -63,10 +62,6 @@ impl Model for PackedEntry {
 
 impl PackedEntry {
     /// The entry, packed.
-    ///
-    /// # Cost
-    ///
-    /// Constant time; takes no memory.
     #[inline(always)]
     pub fn new(entry: Entry) -> PackedEntry
         ensures { result ≡ entry }
@@ -109,11 +104,7 @@ impl PackedEntry {
         }
     }
 
-    /// The entry that it is.
-    ///
-    /// # Cost
-    ///
-    /// Constant time; takes no memory.
+    /// The entry.
     #[inline(always)]
     pub fn entry(&self) -> Entry
         ensures { result ≡ self.now }
@@ -157,7 +148,7 @@ impl PackedEntry {
     }
 }
 
-/// Which operation it is, its key, its value and what it expects; 0 if it has none.
+/// The kind of an operation, its key, its value and the value that it expects; 0 if it has none.
 fn parts_of(op: Op) -> (OpKind, u64, u64, u64)
     ensures { packed_op result.0 result.1 result.2 result.3 ≡ op }
 {

@@ -1,5 +1,5 @@
-//! Why a call is refused, by number and by a sentence. The numbers are those of the files and of
-//! C's statuses.
+//! The refusals of calls, each with a number and a sentence. The numbers are those of the files and
+//! of the statuses of the C library.
 ghost use Rattle.std.specs.Prelude.{◌≡◌};
 ghost use Rattle.txn_trace.specs.Refusals.{number_of, words_of};
 ghost use Rattle.txn_trace.specs.Sentences.{sentence_of};
@@ -8,11 +8,11 @@ use std::alloc::AllocError;
 use std::error::Error;
 use std::fmt;
 
-/// Why a call was refused. Each has a number, by which answers and programs name it, and `Display`
-/// writes that number, as files and traces need it. For a person to read there is `text`.
+/// The reason why a call was refused. Each has a number, by which answers and programs name it;
+/// `Display` writes the number, as files and traces need it. `text` is for a person to read.
 #[derive(Clone, Copy, Debug, PartialEq, Eq)]
 pub enum Refusal {
-    /// 1: the key is 2^63 or more, and the limits take half keys alone.
+    /// 1: the key is 2^63 or more, and the limits take only half keys.
     BadKey,
     /// 2: the caller's number is not below the number of callers.
     NoSuchCaller,
@@ -40,7 +40,7 @@ pub enum Refusal {
     HelperOutOfOrder,
     /// 14: memory was refused.
     NoMemory,
-    /// 15: the core answered what the state of the caller's token excludes.
+    /// 15: the core's answer is impossible in the state of the caller's token.
     OutOfStep,
     /// 16: no stamp below 2^64 - 1 is left.
     StampsUsedUp,
@@ -48,11 +48,11 @@ pub enum Refusal {
     CallersMissing,
     /// 18: a worker could not be started.
     NoThread,
-    /// 19: the word of a stripe says what holds no more.
+    /// 19: the word of a stripe tells something that no longer holds.
     StaleWord,
     /// 20: a file is not JSON.
     NotJson,
-    /// 21: a file, or a piece of it, has not the shape that it should have.
+    /// 21: a file, or a part of it, does not have the shape that it should have.
     WrongShape,
     /// 22: a file, or one of its numbers, is out of range.
     Limit,
@@ -72,10 +72,6 @@ impl Error for Refusal {}
 
 impl Refusal {
     /// The refusal's number, from 1 to 22.
-    ///
-    /// # Cost
-    ///
-    /// Constant time; takes no memory.
     pub fn number(self) -> u64
         ensures { result ≡ number_of self }
     {
@@ -106,11 +102,7 @@ impl Refusal {
     }
 
     /// The refusal as a sentence in English, without a capital letter at the front and without a
-    /// full stop, as `Display` of an error mostly is.
-    ///
-    /// # Cost
-    ///
-    /// Constant time; takes no memory.
+    /// full stop, as the `Display` of most errors.
     pub fn text(self) -> &'static str
         ensures { result.now ≡ sentence_of self }
     {
@@ -145,7 +137,7 @@ impl Refusal {
     }
 }
 
-/// Memory that is refused is the refusal `NoMemory`, so that `?` converts it.
+/// `NoMemory`, so that `?` converts an allocation error.
 impl From<AllocError> for Refusal {
     ghost use Rattle.txn_trace.specs.declared.refusal.Refusal.TheVariants.{NoMemory};
 

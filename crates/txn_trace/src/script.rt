@@ -1,11 +1,12 @@
-//! What workers are given to do: scripts, which are rows of actions, with the limits and the tries.
+//! Scripts, which are lists of actions, and the work of a set of workers: scripts, limits and the
+//! number of tries.
 ghost use Rattle.std.specs.Prelude.{◌≡◌};
 
 use crate::action::Action;
 use crate::limits::Limits;
 use std::marker::Model;
 
-/// The actions of one transaction, in order: the list of them, where a contract speaks of it.
+/// The actions of one transaction, in order. A contract sees it as the list of them.
 #[derive(Drop)]
 pub struct Script {
     actions: Vec<Action>,
@@ -22,28 +23,20 @@ impl Model for Script {
 
 impl Script {
     /// The script of these actions.
-    ///
-    /// # Cost
-    ///
-    /// Constant time; takes no memory.
     pub fn new(actions: Vec<Action>) -> Script
         ensures { result ≡ actions.items }
     {
         Self { actions }
     }
 
-    /// The actions in order. Constant time.
+    /// The actions in order.
     pub fn actions(&self) -> &[Action]
         ensures { result.now ≡ self.now }
     {
         self.actions.as_slice()
     }
 
-    /// The actions in order, given back.
-    ///
-    /// # Cost
-    ///
-    /// Constant time; takes no memory.
+    /// The actions in order, by value.
     pub fn into_actions(self) -> Vec<Action>
         ensures { result.items ≡ self }
     {
@@ -52,8 +45,8 @@ impl Script {
     }
 }
 
-/// Scripts for the callers of a map: the version of the file that says them, the limits of the map,
-/// how often a script is tried again, and the scripts.
+/// Scripts for the callers of a map: the version of the file that holds them, the limits of the
+/// map, how often a script is tried again, and the scripts.
 #[derive(Drop)]
 pub struct Scripts {
     version: u64,
@@ -77,10 +70,6 @@ impl Model for Scripts {
 
 impl Scripts {
     /// The work of these scripts.
-    ///
-    /// # Cost
-    ///
-    /// Constant time; takes no memory.
     pub fn new(version: u64, limits: Limits, tries: u64, scripts: Vec<Script>) -> Scripts
         ensures { result ≡ record {
           version = version;
@@ -97,28 +86,28 @@ impl Scripts {
         }
     }
 
-    /// The version of the file that says the scripts. Constant time.
+    /// The version of the file that holds the scripts.
     pub fn version(&self) -> u64
         ensures { result ≡ self.now.version }
     {
         self.version
     }
 
-    /// The limits of the map, whose callers are the workers. Constant time.
+    /// The limits of the map; its callers are the workers.
     pub fn limits(&self) -> Limits
         ensures { result ≡ self.now.sizes }
     {
         self.limits
     }
 
-    /// How often a script is tried again that found a stripe held. Constant time.
+    /// How often a script that found a stripe held is tried again.
     pub fn tries(&self) -> u64
         ensures { result ≡ self.now.tries }
     {
         self.tries
     }
 
-    /// The scripts in order. Constant time.
+    /// The scripts in order.
     pub fn scripts(&self) -> &[Script]
         ensures { result.now ≡ self.now.scripts }
     {

@@ -1,7 +1,8 @@
-//! What a caller's own entries make of it.
+//! The seat of a caller: the state of the rule of shape after the caller's own entries, which
+//! decides most refusals of its next step.
 //!
-//! What each step asks of the seat is compiled into the step (`inline(always)`), where the kind of
-//! step is known: most of the seat's tests then take no instruction.
+//! The tests of the seat are compiled into each step (`inline(always)`), where the kind of step is
+//! known, so that most of them take no instruction.
 ghost use Rattle.std.specs.Prelude.{◌≡◌, ℕ, ◌+◌, ◌-◌, ◌<◌, ◌≤◌, ◌^◌, true, false, is_some, length, slice_get, slice_index, Some, OnOk, OnErr};
 ghost use Rattle.txn_trace.specs.declared.seat.Phase.TheVariants.{Opened};
 ghost use Rattle.txn_trace.specs.Shape.{row, capacity, closed_seat};
@@ -16,7 +17,7 @@ use crate::step::Step;
 use std::alloc::{AllocError, Global};
 use std::marker::Model;
 
-/// Where a caller is in the rule of shape, which says for each phase which entries may come next.
+/// The state of a caller in the rule of shape, which says for each phase which entries may follow.
 #[derive(Clone, Copy, Debug, PartialEq, Eq)]
 pub enum Phase {
     /// It has no transaction.
@@ -34,7 +35,7 @@ pub enum Phase {
 /// A caller's seat: its phase, how many of its changes stand, and how many stood at each savepoint.
 ///
 /// A contract sees it as two things: `seat`, the seat of the definitions, in which level 0 is noted
-/// too, with no change; and `room`, how many `Saved` entries more it has memory for.
+/// too, with no change; and `room`, the number of further `Saved` entries that it has memory for.
 #[derive(Drop)]
 pub struct Seat {
     phase: Phase,
@@ -56,10 +57,6 @@ impl Model for Seat {
 
 impl Seat {
     /// The seat of a caller without a transaction.
-    ///
-    /// # Cost
-    ///
-    /// Constant time; takes no memory.
     pub fn new(alloc: Global) -> Seat
         ensures { result.seat ≡ closed_seat }
     {
@@ -70,32 +67,28 @@ impl Seat {
         }
     }
 
-    /// Its phase. Constant time.
+    /// Its phase.
     pub fn phase(&self) -> Phase
         ensures { result ≡ self.now.seat.phase }
     {
         self.phase
     }
 
-    /// How many of its changes stand. Constant time.
+    /// How many of its changes stand.
     pub fn standing(&self) -> u64
         ensures { result ≡ self.now.seat.standing }
     {
         self.standing
     }
 
-    /// How many savepoints there are. Constant time.
+    /// How many savepoints there are.
     pub fn levels(&self) -> u64
         ensures { length self.now.seat.kept ≡ result + 1 }
     {
         self.savepoints.len() as u64
     }
 
-    /// How many changes stood at a level: none at level 0. `None` if there is no such level.
-    ///
-    /// # Cost
-    ///
-    /// Constant time; takes no memory.
+    /// How many changes stood at a level, which is 0 at level 0. `None` if there is no such level.
     pub fn kept(&self, level: u64) -> Option<u64>
         ensures { result ≡ slice_get self.now.seat.kept level }
     {
@@ -106,10 +99,6 @@ impl Seat {
     }
 
     /// Whether it takes changes back and one is left to take back.
-    ///
-    /// # Cost
-    ///
-    /// Constant time; takes no memory.
     pub fn has_job(&self) -> bool
         ensures { result ≡ has_job self.now.seat }
     {
@@ -121,22 +110,14 @@ impl Seat {
     }
 
     /// Whether there is something to seek: an operation that waits, or a change to take back.
-    ///
-    /// # Cost
-    ///
-    /// Constant time; takes no memory.
     pub fn has_target(&self) -> bool
         ensures { result ≡ has_target self.now.seat }
     {
         matches!(self.phase, Phase::Waiting(_)) || self.has_job()
     }
 
-    /// The refusal of a step of its caller, as far as the seat decides it, and the limits which
-    /// keys are taken.
-    ///
-    /// # Cost
-    ///
-    /// Constant time; takes no memory.
+    /// The refusal of a step of its caller, if the seat decides it. The limits say which keys are
+    /// taken.
     #[inline(always)]
     pub fn refusal(&self, limits: Limits, step: Step) -> Option<Refusal>
         ensures { result ≡ refusal_in limits.half self.now.seat step }
@@ -197,12 +178,8 @@ impl Seat {
         self.kept(level).unwrap_or(0)
     }
 
-    /// How many entries its caller may add without a new reservation: its reply, the undoing of
-    /// each change that stands, and the end.
-    ///
-    /// # Cost
-    ///
-    /// Constant time; takes no memory.
+    /// The number of entries that its caller may add without a new reservation: its reply, the
+    /// undoing of each change that stands, and the end.
     #[inline(always)]
     pub fn owed(&self) -> u64
         requires { owed_in self.now.seat.standing self.now.seat.phase < 2 ^ 64 }
@@ -217,8 +194,8 @@ impl Seat {
         }
     }
 
-    /// Makes room for one savepoint, if there is none; the seat stays, and so does the room that
-    /// there was.
+    /// Makes room for one more savepoint, if there is none; neither the seat nor the room that
+    /// there was changes.
     ///
     /// # Errors
     ///
@@ -236,11 +213,7 @@ impl Seat {
         self.savepoints.reserve(1)
     }
 
-    /// Whether an entry may come next: whether the rule of shape has a row for it here.
-    ///
-    /// # Cost
-    ///
-    /// Constant time; takes no memory.
+    /// Whether an entry may come next: the rule of shape has a row for it here.
     #[inline(always)]
     pub fn allows(&self, entry: &Entry) -> bool
         ensures { result ≡ is_some (row self.now.seat self.now.seat.phase entry.now) }
@@ -262,7 +235,7 @@ impl Seat {
         }
     }
 
-    /// Whether there is one in an open transaction with nothing unfinished.
+    /// Whether an entry may come next in an open transaction with nothing unfinished.
     fn allows_opened(&self, entry: &Entry) -> bool
         ensures { result ≡ is_some (row self.now.seat Opened entry.now) }
     {
@@ -277,8 +250,7 @@ impl Seat {
         }
     }
 
-    /// Goes on by an entry where it may come next, and says whether it may; else nothing changes.
-    ///
+    /// Moves on by an entry if it may come next, and says whether it may; if not, nothing changes.
     /// A `Saved` takes one of the room, and a savepoint that is dropped gives one back.
     ///
     /// # Cost

@@ -1,5 +1,5 @@
-//! The steps of callers, of helpers and of the table, and the entries that they add to a history.
-//! Which entry that is depends on step and answer alone.
+//! The steps of callers, of helpers and of the table, and the entries that they add to a history. A
+//! step and its answer determine the entry.
 ghost use Rattle.std.specs.Prelude.{◌≡◌, option_to_list};
 ghost use Rattle.txn_trace.specs.Entries.{entries_of};
 ghost use Rattle.txn_trace.specs.Owed.{reserved};
@@ -11,24 +11,24 @@ use crate::op::Op;
 /// One step: of a caller or a helper, which is named by its number, or of the table.
 ///
 /// Each kind lists the `Refusal`s with which a core answers it, in the order of their tests: the
-/// first that holds is the answer.
+/// first that fits is the answer.
 #[derive(Clone, Copy, Debug, PartialEq, Eq)]
 pub enum Step {
     /// Begins a transaction.
     ///
     /// Refused, in this order: `NoSuchCaller`, `Leaving`, `AlreadyOpen`, `NoMemory`.
     Begin(u64),
-    /// Asks for an operation: its stripe is locked, and all that it and its undoing need is
-    /// reserved.
+    /// Asks for an operation: locks its stripe, and reserves all that it and its undoing need.
     ///
     /// Refused, in this order: `NoSuchCaller`, `NotOpen`, `Leaving`, `OperationUnfinished`,
     /// `BadKey`; then `NoMemory` or, if the operation takes a node, `StampsUsedUp`.
     Ask(u64, Op),
-    /// Seeks the place of the operation that was asked for, or of the newest change to take back.
+    /// Seeks the position of the operation that was asked for, or of the newest change to take
+    /// back.
     ///
     /// Refused, in this order: `NoSuchCaller`, `NotOpen`, `NothingToSeek`.
     Seek(u64),
-    /// Acts at the place that was sought, or ends the undoing.
+    /// Acts at the position that was sought, or ends the undoing.
     ///
     /// Refused, in this order: `NoSuchCaller`, `NotOpen`, `NothingToSeek`, `Unplaced`.
     Act(u64),
@@ -37,8 +37,8 @@ pub enum Step {
     /// Refused, in this order: `NoSuchCaller`, `NotOpen`, `Leaving`, `OperationUnfinished`,
     /// `NoMemory`.
     Save(u64),
-    /// Goes back to a level, 0 or the number of a savepoint: from here the later changes are taken
-    /// back.
+    /// Goes back to a level, 0 or the number of a savepoint: the later changes are taken back from
+    /// here on.
     ///
     /// Refused, in this order: `NoSuchCaller`, `NotOpen`, `Leaving`, `OperationUnfinished`,
     /// `NoSuchLevel`, `NoMemory`.
@@ -55,16 +55,16 @@ pub enum Step {
     ///
     /// Never refused.
     Sweep,
-    /// A helper seeks the place of a bucket's dummy: the helper, the bucket.
+    /// A helper seeks the position of a bucket's dummy: the helper, the bucket.
     ///
     /// Refused, in this order: `NoSuchHelper`, `NoSuchBucket`, `ParentMissing`.
     InitSeek(u64, u64),
-    /// A helper links the dummy at the place that it sought.
+    /// A helper links the dummy at the position that it sought.
     ///
     /// Refused, in this order: `NoSuchHelper`, `HelperOutOfOrder`; then, if the dummy is not
     /// linked yet, `StampsUsedUp`, `NoMemory`.
     InitLink(u64),
-    /// A helper stores its dummy, with which the bucket is initialised.
+    /// A helper stores its dummy, which initialises the bucket.
     ///
     /// Refused, in this order: `NoSuchHelper`, `HelperOutOfOrder`.
     InitStore(u64),
@@ -75,11 +75,8 @@ pub enum Step {
 }
 
 impl Step {
-    /// How many entries a core reserves room for in its history before it takes the step.
-    ///
-    /// # Cost
-    ///
-    /// Constant time; takes no memory.
+    /// The number of entries for which a core reserves room in its history before it takes the
+    /// step.
     pub fn entry_room(self) -> u64
         ensures { result ≡ reserved self }
     {
@@ -94,10 +91,6 @@ impl Step {
 }
 
 /// The entry that a step with its answer adds to the history, if it adds one.
-///
-/// # Cost
-///
-/// Constant time; takes no memory.
 #[inline(always)]
 pub fn entry_of(step: Step, answer: Answer) -> Option<Entry>
     ensures { option_to_list result ≡ entries_of step answer }

@@ -1,4 +1,4 @@
--- The jobs of a log, and the places that they stand in.
+-- The jobs of a log and the places that hold them.
 use Rattle.std.proofs.Common.{◌≡◌, ℕ, zero, suc, ◌-◌, ◌<◌, List, [], ◌∷◌, ◌++◌, length, slice_get, Option, Some, None, IsSome, option_to_list, refl, ap, sym, subst, ◌∙◌, arith}
 use Rattle.std.specs.Option.{option_map}
 use Rattle.std.proofs.lemmas.List.{length_push}
@@ -18,7 +18,7 @@ module _ {J : Type 0} where
   jobs_in-push (None ∷ rest) job = jobs_in-push rest job
   jobs_in-push (Some first ∷ rest) job = ap (λ jobs. first ∷ jobs) (jobs_in-push rest job)
 
-  -- With one more job none is missing still.
+  -- After one more job, no place is without its job.
   pub AreThere-push : (places : List (Option J)) (job : J) → AreThere places → AreThere (places ++ Some job ∷ [])
   AreThere-push [] job there = tt
   AreThere-push (None ∷ rest) job there = absurd there
@@ -43,7 +43,7 @@ module _ {J : Type 0} where
       let same : length (jobs ++ job ∷ []) - 1 ≡ length jobs = omega (arith, length_push jobs job) in
       ap (slice_get (jobs ++ job ∷ [])) same ∙ slice_get-push jobs job
 
-  -- The newest place was taken out, which has its job, and rest is left.
+  -- The newest place was taken out with its job, and `rest` is left.
   pub record IsPopped (places rest : List (Option J)) (job : Option J) : Type 0 where
     pub some : IsSome job
     pub one : length (option_to_list job) ≡ 1
@@ -51,7 +51,7 @@ module _ {J : Type 0} where
     pub jobs : jobs_in places ≡ jobs_in rest ++ option_to_list job
     pub there : AreThere rest
 
-  -- What a pop of the newest place takes out.
+  -- A pop takes out the newest place.
   pub popped : (places rest : List (Option J)) (job : Option J) → places ≡ rest ++ job ∷ [] → AreThere places → IsPopped places rest job
   popped places rest None is there = absurd (none_newest rest (subst AreThere is there))
   popped places rest (Some job) is there =
@@ -80,7 +80,7 @@ module _ {J : Type 0} where
     pub last : job ≡ slice_get (jobs_in places) (length (jobs_in places) - 1)
     pub any : 0 < length (jobs_in places)
 
-  -- What a look at the newest place sees.
+  -- A look at the newest place sees the newest job.
   pub newest : (places : List (Option J)) (job : Option J) → AreThere places → slice_get places (length places - 1) ≡ Some job → IsNewest places job
   newest places job there is =
       let many : length (jobs_in places) ≡ length places = length_jobs_in places there in

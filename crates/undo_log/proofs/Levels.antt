@@ -1,4 +1,4 @@
--- The words of a side value at its levels, as jobs are pushed, run and dropped.
+-- The words of a side value at its levels when jobs are pushed, run and dropped.
 use Rattle.std.proofs.Common.{◌≡◌, ℕ, zero, suc, ◌+◌, ◌<◌, ◌≤◌, List, [], ◌∷◌, ◌++◌, map, take, length, get_or, slice_get, Some, Result, Ok, Err, OnOk, OnErr, refl, ap, sym, subst, ◌∙◌, arith, add-one}
 use Rattle.std.specs.Option.{option_map}
 use Rattle.std.proofs.lemmas.List.{map-append, take-map, length_push}
@@ -6,7 +6,7 @@ use Rattle.std.proofs.lemmas.Option.{slice_get-map, slice_get-get_or}
 use Rattle.undo_log.specs.UndoLog.{Log, kept_at}
 use Rattle.undo_log.specs.SideValue.{words_at, levels_of, IsChain, IsRising, IsUndoable}
 
--- A higher bound is one too.
+-- A higher bound is a bound too.
 IsRising-more : (low : ℕ) (ks : List ℕ) (high higher : ℕ) → high ≤ higher → IsRising low ks high → IsRising low ks higher
 IsRising-more low [] high higher more rising = omega (arith, more, rising)
 IsRising-more low (k ∷ ks) high higher more rising = (rising.0, IsRising-more k ks high higher more rising.1)
@@ -22,7 +22,7 @@ IsRising-take low ks high zero there rising = omega arith
 IsRising-take low [] high (suc n) there rising = absurd (omega (arith, there))
 IsRising-take low (k ∷ ks) high (suc n) there rising = (rising.0, IsRising-take k ks high n (omega (arith, there)) rising.1)
 
--- None of the numbers is above the highest.
+-- No number is above the highest.
 rising_within : (low : ℕ) (ks : List ℕ) (high n : ℕ) → n ≤ length ks → IsRising low ks high → get_or (low ∷ ks) n 0 ≤ high
 rising_within low [] high zero there rising = rising
 rising_within low [] high (suc n) there rising = absurd (omega (arith, there))
@@ -37,37 +37,37 @@ map_rising f g low (k ∷ ks) high rising same =
     let rest : map f (k ∷ ks) ≡ map g (k ∷ ks) = map_rising f g k ks high rising.1 same in cc
 
 module _ {J : Type 0} (before after : J → List ℕ) where
-  -- Past the jobs the words are those now.
+  -- Beyond the jobs, the words are those now.
   words_at_end : (now : List ℕ) (jobs : List J) (k : ℕ) → length jobs ≤ k → words_at before now jobs k ≡ now
   words_at_end now [] k past = refl
   words_at_end now (job ∷ jobs) zero past = absurd (omega (arith, past))
   words_at_end now (job ∷ jobs) (suc k) past = words_at_end now jobs k (omega (arith, past))
 
-  -- Below the newest job the words are as if its own were the words now.
+  -- Below the newest job the words are as if the words before that job were the words now.
   words_at-push : (now : List ℕ) (jobs : List J) (job : J) (k : ℕ) → k ≤ length jobs → words_at before now (jobs ++ job ∷ []) k ≡ words_at before (before job) jobs k
   words_at-push now [] job zero within = refl
   words_at-push now [] job (suc k) within = absurd (omega (arith, within))
   words_at-push now (first ∷ jobs) job zero within = refl
   words_at-push now (first ∷ jobs) job (suc k) within = words_at-push now jobs job k (omega (arith, within))
 
-  -- One more job, which fits the words that were there, keeps the chain.
+  -- One more job, whose words before are the words now, keeps the chain.
   IsChain-push : (jobs : List J) (job : J) → IsChain before after (before job) jobs → IsChain before after (after job) (jobs ++ job ∷ [])
   IsChain-push [] job chain = (refl, tt)
   IsChain-push (first ∷ jobs) job chain =
       (chain.0 ∙ sym (words_at-push (after job) jobs job 0 (omega arith)), IsChain-push jobs job chain.1)
 
-  -- The newest job names as after the words now.
+  -- The words after the newest job are the words now.
   newest_fits : (now : List ℕ) (jobs : List J) (job : J) → IsChain before after now (jobs ++ job ∷ []) → now ≡ after job
   newest_fits now [] job chain = sym chain.0
   newest_fits now (first ∷ jobs) job chain = newest_fits now jobs job chain.1
 
-  -- Without its newest job the chain leads from what that one names as before.
+  -- Without its newest job the chain leads to the words before that job.
   IsChain_pop : (now : List ℕ) (jobs : List J) (job : J) → IsChain before after now (jobs ++ job ∷ []) → IsChain before after (before job) jobs
   IsChain_pop now [] job chain = tt
   IsChain_pop now (first ∷ jobs) job chain =
       (chain.0 ∙ words_at-push now jobs job 0 (omega arith), IsChain_pop now jobs job chain.1)
 
-  -- A log with one more job, whose change led from the words as they were to the words now.
+  -- A log with one more job, whose change led from the words `was` to the words now.
   pub IsUndoable-push : (was now : List ℕ) (log pushed : Log J) (job : J) → was ≡ before job → now ≡ after job → pushed.jobs ≡ log.jobs ++ job ∷ [] → pushed.kept ≡ log.kept → IsUndoable before after was log → IsUndoable before after now pushed
   IsUndoable-push was now log pushed job fits gives jobs kept undoable =
       let chain : IsChain before after (before job) log.jobs = subst (λ w. IsChain before after w log.jobs) fits undoable.chain in
@@ -78,7 +78,7 @@ module _ {J : Type 0} (before after : J → List ℕ) where
         nested = subst (λ ks. IsRising 0 ks (length pushed.jobs)) (sym kept) (IsRising-more 0 log.kept (length log.jobs) (length pushed.jobs) more undoable.nested);
       }
 
-  -- A change moves the words of no level.
+  -- A change leaves the words of each level unchanged.
   pub levels_of-push : (was now : List ℕ) (log pushed : Log J) (job : J) → was ≡ before job → pushed.jobs ≡ log.jobs ++ job ∷ [] → pushed.kept ≡ log.kept → IsRising 0 log.kept (length log.jobs) → levels_of before now pushed ≡ levels_of before was log
   levels_of-push was now log pushed job fits jobs kept nested =
       let same : (k : ℕ) → k ≤ length log.jobs → words_at before now pushed.jobs k ≡ words_at before was log.jobs k =
@@ -100,12 +100,13 @@ module _ {J : Type 0} (before after : J → List ℕ) where
       ∙ map-append (words_at before now log.jobs) (0 ∷ log.kept) (length log.jobs ∷ [])
       ∙ ap (λ w. levels_of before now log ++ w ∷ []) (words_at_end now log.jobs (length log.jobs) (omega arith))
 
-  -- Whether or not there was memory for the savepoint.
+  -- The log stays undoable, whether or not there was memory for the savepoint.
   pub IsUndoable-saved : {T E : Type 0} (now : List ℕ) (log saved : Log J) (r : Result T E) → saved.jobs ≡ log.jobs → OnOk r (saved.kept ≡ log.kept ++ length log.jobs ∷ []) → OnErr r (saved ≡ log) → IsUndoable before after now log → IsUndoable before after now saved
   IsUndoable-saved now log saved (Ok x) jobs kept err undoable = IsUndoable-save now log saved jobs kept undoable
   IsUndoable-saved now log saved (Err e) jobs kept err undoable = subst (IsUndoable before after now) (sym err) undoable
 
-  -- The newest jobs have been run, none of those that the level keeps, and led from the words start to those now.
+  -- Some of the newest jobs have been run, none of those that the level keeps; they led from the
+  -- words `start` to the words now.
   pub record IsOnTheWay (start now : List ℕ) (old new : Log J) (level : ℕ) : Type 0 where
     pub kept : new.kept ≡ old.kept
     pub chain : IsChain before after now new.jobs
@@ -121,7 +122,7 @@ module _ {J : Type 0} (before after : J → List ℕ) where
     words = λ k within. refl;
   }
 
-  -- One more job leads on to the words that it names as before.
+  -- One more job leads to the words before it.
   pub on_the_way_step : (start now next : List ℕ) (old log popped : Log J) (job : J) (level : ℕ) → IsOnTheWay start now old log level → kept_at log.kept level < length log.jobs → log.jobs ≡ popped.jobs ++ job ∷ [] → popped.kept ≡ log.kept → next ≡ before job → IsOnTheWay start next old popped level
   on_the_way_step start now next old log popped job level way above jobs kept gives =
       let shorter : length log.jobs ≡ length popped.jobs + 1 = ap length jobs ∙ length_push popped.jobs job in
@@ -137,18 +138,18 @@ module _ {J : Type 0} (before after : J → List ℕ) where
             ∙ way.words k (omega (arith, within, shorter));
       }
 
-  -- The job that comes out finds the words that it names as after.
+  -- The words after the job that is taken out are the words now.
   pub on_the_way_fits : (start now : List ℕ) (old log : Log J) (jobs : List J) (job : J) (level : ℕ) → IsOnTheWay start now old log level → log.jobs ≡ jobs ++ job ∷ [] → now ≡ after job
   on_the_way_fits start now old log jobs job level way is = newest_fits now jobs job (subst (IsChain before after now) is way.chain)
 
-  -- A log cut at a level to which the way has led.
+  -- A log that was cut at the level to which the way has led.
   pub record IsCutAt (start now : List ℕ) (old cut : Log J) (level : ℕ) : Type 0 where
     pub undoable : IsUndoable before after now cut
     pub kept : 0 ∷ cut.kept ≡ take (level + 1) (0 ∷ old.kept)
     pub levels : levels_of before now cut ≡ take (level + 1) (levels_of before start old)
     pub words : slice_get (levels_of before start old) level ≡ Some now
 
-  -- With no job above the level, the way is at its end.
+  -- If no job above the level is left, the way is at its end.
   pub on_the_way_end : (start now : List ℕ) (old log cut : Log J) (level : ℕ) → level ≤ length old.kept → IsUndoable before after start old → IsOnTheWay start now old log level → length log.jobs ≤ kept_at log.kept level → log.jobs ≡ cut.jobs → cut.kept ≡ take level log.kept → IsCutAt start now old cut level
   on_the_way_end start now old log cut level there undoable way none_above jobs kept =
       let all_kept : length cut.jobs ≡ kept_at old.kept level =

@@ -1,8 +1,8 @@
--- Jobs in places of which some stand in the log itself.
+-- Jobs in places, some of which stand in the log itself.
 use Rattle.std.specs.Prelude.{ℕ, ◌≤◌, List, [], ◌∷◌, Option, None, Some}
 use Rattle.smallvec.specs.SmallVec.{SmallVec, small_vec_len}
 
--- The jobs, oldest first, and how many can be added before memory is taken.
+-- The jobs, oldest first, and how many more can be added before memory is taken.
 pub record Stored (J : Type 0) : Type 0 where
   pub jobs : List J
   pub room : ℕ
@@ -13,13 +13,13 @@ jobs_in [] = []
 jobs_in (None ∷ rest) = jobs_in rest
 jobs_in (Some job ∷ rest) = job ∷ jobs_in rest
 
--- No place is without its job.
+-- Each place has its job.
 abbrev pub AreThere : {J : Type 0} → List (Option J) → Type 0
 AreThere [] = Unit {0}
 AreThere (None ∷ rest) = ⊥
 AreThere (Some job ∷ rest) = AreThere rest
 
--- Each place has its job, all of them fit, and so many fit with no allocation.
+-- Each place has its job, all of them fit, and the inline ones take no allocation.
 pub record IsSound {J : Type 0} (inline : ℕ) (places : SmallVec (Option J)) : Type 0 where
   pub there : AreThere places.items
   pub fits : small_vec_len places ≤ places.capacity

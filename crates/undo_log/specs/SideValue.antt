@@ -1,4 +1,4 @@
--- The words that a side value has at each level, by what its jobs name.
+-- The words of a side value at each level, as its jobs tell them.
 use Rattle.std.specs.Prelude.{ℕ, zero, suc, ◌≡◌, ◌≤◌, List, [], ◌∷◌, map, length}
 use Rattle.undo_log.specs.UndoLog.{Log}
 
@@ -13,8 +13,7 @@ pub record Leveled (S : Type 0) : Type 0 where
   pub room : ℕ
   pub save_room : ℕ
 
--- The words when only the first k jobs are left: what the next one names as before, or the words
--- now.
+-- The words if only the first k jobs are left: those before the next job, or the words now.
 abbrev pub words_at : {J : Type 0} → (J → List ℕ) → List ℕ → List J → ℕ → List ℕ
 words_at before now [] k = now
 words_at before now (job ∷ jobs) zero = before job
@@ -24,7 +23,7 @@ words_at before now (job ∷ jobs) (suc k) = words_at before now jobs k
 abbrev pub levels_of : {J : Type 0} → (J → List ℕ) → List ℕ → Log J → List (List ℕ)
 levels_of before now log = map (words_at before now log.jobs) (0 ∷ log.kept)
 
--- Each job names as after what the next newer one names as before, and the newest the words now.
+-- The words after each job are those before the next newer one, and after the newest the words now.
 abbrev pub IsChain : {J : Type 0} → (J → List ℕ) → (J → List ℕ) → List ℕ → List J → Type 0
 IsChain before after now [] = Unit {0}
 IsChain before after now (job ∷ jobs) =

@@ -1,4 +1,4 @@
--- What contracts see of an undo log, and which jobs lie above a level.
+-- An undo log as contracts see it, and the jobs above a level.
 use Rattle.std.specs.Prelude.{ℕ, ◌∷◌, ◌-◌, nat_lt, List, length, slice_get, slice_index, Option, None, if◌then◌else◌}
 
 -- The jobs, oldest first; how many there were at each savepoint, savepoint 1 first; and how many
@@ -13,7 +13,7 @@ pub record Log (J : Type 0) : Type 0 where
 abbrev pub kept_at : List ℕ → ℕ → ℕ
 kept_at kept level = slice_index (0 ∷ kept) level
 
--- The newest job, if more jobs are there than the level keeps.
+-- The newest job, if there are more jobs than the level keeps.
 abbrev pub newest_above : {J : Type 0} → Log J → ℕ → Option J
 newest_above log level =
     if nat_lt (kept_at log.kept level) (length log.jobs)

@@ -1,16 +1,16 @@
-//! The store of a caller's jobs: a small vector, of which the first few stand in the value itself.
-//! Invariant: each place in use holds a job; `None` fills only the inline places that are not used.
+//! The store of a caller's jobs: a small vector whose first few places stand in the value itself.
+//! Invariant: each place in use holds a job; `None` fills only unused inline places.
 use crate::job::UndoJob;
 use crate::store::JobStore;
 use smallvec::SmallVec;
 use std::alloc::{AllocError, Global};
 use std::marker::Model;
 
-/// Jobs of which up to `INLINE` stand in the value itself, and only more than these in an
+/// Jobs in places, of which up to `INLINE` stand in the value itself; more than these take an
 /// allocation.
 #[derive(Drop)]
 pub struct InlineJobs<J: UndoJob, const INLINE: usize> {
-    // Each is `Some`: `None` only fills the inline places that are not used.
+    // Each is `Some`: `None` fills only unused inline places.
     places: SmallVec<Option<J>, INLINE>,
 }
 

@@ -1,13 +1,12 @@
-//! The trait of an inverse: what it names of the world before and after its change, and the law
-//! that `run` keeps. It stands apart, since the log knows jobs by this law alone.
+//! The trait of an inverse: what the world shows before and after the change, and the law that
+//! `run` keeps. The log uses nothing of a job but this law.
 /// The inverse of one change, which is run at most once.
 ///
 /// Its law is the contract of `run`: on a world that shows what the job names as after the change,
-/// it gives one that shows what the job names as before it, and that differs from the first as the
-/// job says: `takes_back` names what changes and that nothing else does. A job that is no longer
-/// wanted is dropped.
+/// `run` answers one that shows what the job names as before it; `takes_back` says what differs
+/// between the two, and that nothing else does. A job that is no longer needed is dropped.
 pub trait UndoJob: Drop {
-    /// What was changed, as a table of nodes.
+    /// The world that was changed, such as a table of nodes.
     type World;
 
     /// Whether a world shows what the job names as after its change.
@@ -16,15 +15,11 @@ pub trait UndoJob: Drop {
     /// Whether a world shows what the job names as before its change.
     ghost shows_before: { Self → Self.World → Type 0 };
 
-    /// Whether the second world is the first without the job's change, with everything else as it
-    /// was.
+    /// Whether the second world is the first without the job's change, with everything else
+    /// unchanged.
     ghost takes_back: { Self → Self.World → Self.World → Type 0 };
 
-    /// Takes the change back.
-    ///
-    /// # Cost
-    ///
-    /// The job's own.
+    /// Takes the change back. Its cost is the job's.
     fn run(self, world: Self::World) -> Self::World
         requires { shows_after self world }
         ensures before { shows_before self result }

@@ -1,5 +1,5 @@
-//! The log of a transaction: its jobs, oldest first, and how many of them each savepoint keeps. One
-//! log serves both kinds of job store. Only `reserve_one`, `save` and `save_room` take memory.
+//! The log of a transaction: its jobs, oldest first, and how many of them each savepoint keeps. The
+//! same log serves both kinds of job store.
 ghost use Rattle.std.specs.Prelude.{◌≡◌, ◌+◌, ◌-◌, ◌<◌, ◌≤◌, ◌↔◌, [], ◌∷◌, ◌++◌, length, take, IsTrue, IsOk, IsSome, IfOk, OnOk, OnErr, option_to_list, option_copied};
 ghost use Rattle.undo_log.specs.UndoLog.{kept_at, newest_above};
 
@@ -11,24 +11,24 @@ use std::marker::Model;
 /// The inverses of a transaction's changes, and its savepoints.
 ///
 /// Contracts see the `jobs`, oldest first; in `kept` how many jobs there were at each savepoint,
-/// savepoint 1 first; and the `room` for jobs and the `save_room` for savepoints that is there
-/// already. A level is the number of a savepoint, or 0, the beginning; a call that takes one wants
-/// one of those that are there.
+/// savepoint 1 first; and the `room` for jobs and the `save_room` for savepoints that is reserved.
+/// A level is the number of a savepoint, or 0, the beginning; a call that takes a level requires
+/// one that exists.
 ///
-/// `S` says where the jobs are kept, and its `inline` how many of them take no memory.
+/// `S` is the store of the jobs, and its `inline` says how many of them take no memory.
 #[derive(Drop)]
 pub struct JobLog<S: JobStore> {
     jobs: S,
     kept: Vec<usize>,
 }
 
-/// A log whose first eight jobs stand in itself: a transaction of up to eight changes takes no
-/// memory for their inverses.
+/// A log whose first eight jobs stand in the log itself: a transaction of up to eight changes takes
+/// no memory for their inverses.
 ///
 /// # Cost
 ///
-/// Eight places, used or not, of the size of a job and 8 bytes more each, and 40 bytes. A log that
-/// has grown keeps the allocation of its jobs.
+/// Eight places, used or not, each 8 bytes larger than a job, and 40 bytes. A log that has grown
+/// keeps the allocation of its jobs.
 pub type UndoLog<J> = JobLog<InlineJobs<J, 8>>;
 
 impl<S: JobStore> Model for JobLog<S> {
@@ -47,10 +47,6 @@ impl<S: JobStore> Model for JobLog<S> {
 
 impl<S: JobStore> JobLog<S> {
     /// An empty log at level 0, with room for `S.inline` jobs.
-    ///
-    /// # Cost
-    ///
-    /// Constant time; takes no memory.
     pub fn new(alloc: Global) -> JobLog<S>
         ensures jobs { result.jobs ≡ [] }
         ensures kept { result.kept ≡ [] }
@@ -63,21 +59,21 @@ impl<S: JobStore> JobLog<S> {
         }
     }
 
-    /// The number of jobs. Constant time.
+    /// The number of jobs.
     pub fn len(&self) -> usize
         ensures { result ≡ length self.now.jobs }
     {
         self.jobs.count()
     }
 
-    /// Whether there is no job. Constant time.
+    /// Whether there is no job.
     pub fn is_empty(&self) -> bool
         ensures { IsTrue result ↔ (self.now.jobs ≡ []) }
     {
         self.len() == 0
     }
 
-    /// The number of savepoints, which is the highest level. Constant time.
+    /// The number of savepoints, which is the highest level.
     pub fn level(&self) -> usize
         ensures { result ≡ length self.now.kept }
     {
@@ -86,10 +82,6 @@ impl<S: JobStore> JobLog<S> {
 
     /// The number of jobs that a return to the level keeps: those that were there at its savepoint,
     /// none at level 0.
-    ///
-    /// # Cost
-    ///
-    /// Constant time; takes no memory.
     pub fn kept(&self, level: usize) -> usize
         requires { level ≤ length self.now.kept }
         ensures { result ≡ kept_at self.now.kept level }
@@ -104,8 +96,8 @@ impl<S: JobStore> JobLog<S> {
     ///
     /// # Errors
     ///
-    /// `AllocError` if memory is refused, and only if there was no room, so never while fewer
-    /// than `S.inline` jobs are there. Then nothing has changed.
+    /// `AllocError` if memory is refused, which happens only if there was no room, so never while
+    /// there are fewer than `S.inline` jobs. Then nothing has changed.
     ///
     /// # Cost
     ///
@@ -123,11 +115,7 @@ impl<S: JobStore> JobLog<S> {
         self.jobs.reserve_one()
     }
 
-    /// Adds a job as the newest, in room that is there already.
-    ///
-    /// # Cost
-    ///
-    /// Constant time; takes no memory.
+    /// Adds a job as the newest, in room that was reserved.
     pub fn push_reserved(&mut self, job: S::Job)
         requires { 0 < self.old.room }
         ensures jobs { self.new.jobs ≡ self.old.jobs ++ job ∷ [] }
@@ -142,7 +130,7 @@ impl<S: JobStore> JobLog<S> {
     ///
     /// # Errors
     ///
-    /// `AllocError` if memory is refused, and only if there was no room. Then nothing has
+    /// `AllocError` if memory is refused, which happens only if there was no room. Then nothing has
     /// changed.
     ///
     /// # Cost
@@ -163,13 +151,13 @@ impl<S: JobStore> JobLog<S> {
         self.kept.reserve(1)
     }
 
-    /// Makes a savepoint here, which keeps all jobs, and gives its number: one more than there were
-    /// savepoints.
+    /// Makes a savepoint here, which keeps all jobs, and answers its number: one more than the
+    /// number of savepoints before.
     ///
     /// # Errors
     ///
-    /// `AllocError` if memory is refused, and only if there was no room for a savepoint. Then
-    /// nothing has changed.
+    /// `AllocError` if memory is refused, which happens only if there was no room for a savepoint.
+    /// Then nothing has changed.
     ///
     /// # Cost
     ///
@@ -188,11 +176,7 @@ impl<S: JobStore> JobLog<S> {
         Ok(self.kept.len())
     }
 
-    /// The job that `pop_above` would give.
-    ///
-    /// # Cost
-    ///
-    /// Constant time; takes no memory.
+    /// The job that `pop_above` would take out.
     pub fn newest_above(&self, level: usize) -> Option<&S::Job>
         requires { level ≤ length self.now.kept }
         ensures newest { option_copied result ≡ newest_above self.now level }
@@ -205,15 +189,11 @@ impl<S: JobStore> JobLog<S> {
         }
     }
 
-    /// Takes out the newest job, or gives none where only those are left that the level keeps.
+    /// Takes out the newest job, or answers `None` if only those are left that the level keeps.
     ///
-    /// Savepoints stay, those above the level too, until `cut`. The job's place is room again, in
-    /// which it may be pushed back. A transaction that commits takes out all its jobs so, by level
+    /// Savepoints stay until `cut`, also those above the level. The job's place is room again, into
+    /// which the job may be pushed back. A transaction that commits takes out all its jobs by level
     /// 0, discards them and cuts at 0.
-    ///
-    /// # Cost
-    ///
-    /// Constant time; takes no memory.
     pub fn pop_above(&mut self, level: usize) -> Option<S::Job>
         requires { level ≤ length self.old.kept }
         ensures newest { result ≡ newest_above self.old level }
@@ -227,8 +207,7 @@ impl<S: JobStore> JobLog<S> {
         self.jobs.take_newest()
     }
 
-    /// Drops the savepoints above the level, once no job above it is left, and keeps the level's
-    /// own.
+    /// Drops the savepoints above the level and keeps the level's, once no job above it is left.
     ///
     /// # Cost
     ///

@@ -1,19 +1,19 @@
-//! A value of the caller's own beside a transaction, and the job that takes one change of it back.
-//! The library sees four words of the value, and what each job says of them.
+//! A value that belongs to the caller, beside a transaction, and the job that takes back one change
+//! of it. The library sees four words of the value, and those that each job names.
 use crate::job::UndoJob;
 
-/// A value of the caller's own, kept beside a transaction, whose changes can be taken back, each by
-/// a job of its own.
+/// A value that belongs to the caller, kept beside a transaction. Each of its changes can be taken
+/// back by a job.
 ///
-/// The library makes no such value and looks into none: it sees four words, and a job names those
-/// before its change and after it.
+/// The library makes no such value and does not look into one: it sees four words, and a job names
+/// those before its change and after it.
 pub trait Side: Drop + Send {
-    /// The inverse of one change, which is used up once.
+    /// The inverse of one change, used at most once.
     type Job: Drop + Send;
 
     ghost use Rattle.std.specs.Prelude.{◌≡◌, ℕ, List};
 
-    /// The words that a value has.
+    /// The words of a value.
     ghost words_of: { Self → List ℕ };
 
     /// The words that a job names as before its change.
@@ -22,19 +22,12 @@ pub trait Side: Drop + Send {
     /// The words that a job names as after its change.
     ghost after: { Self.Job → List ℕ };
 
-    /// The four words of the value.
-    ///
-    /// # Cost
-    ///
-    /// The side type's own.
+    /// The four words of the value. The cost is the side type's.
     fn words(&self) -> [u64; 4]
         ensures { result ≡ words_of self.now };
 
-    /// The value without the job's change, by what the job keeps.
-    ///
-    /// # Cost
-    ///
-    /// The side type's own.
+    /// The value without the job's change, restored from what the job keeps. The cost is the side
+    /// type's.
     fn undo(self, job: Self::Job) -> Self
         requires { words_of self ≡ after job }
         ensures { words_of result ≡ before job };

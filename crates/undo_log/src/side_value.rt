@@ -1,5 +1,5 @@
-//! A side value with the log of its changes. Invariant: run newest first, the jobs give the value
-//! the words that it had at each level; so no words are stored.
+//! A side value with the log of its changes. Invariant: run newest first, the jobs restore the
+//! words that the value had at each level. So no words are stored.
 ghost use Rattle.std.specs.Prelude.{◌≡◌, ◌+◌, ◌<◌, ◌≤◌, [], ◌∷◌, ◌++◌, length, take, slice_get, IsOk, IfOk, IfErr, OnOk, OnErr};
 
 use crate::job::UndoJob;
@@ -12,9 +12,9 @@ use std::marker::Model;
 /// A side value with the jobs of its changes and its savepoints.
 ///
 /// Contracts see the `value`; in `levels` the words that it had at the beginning and at each
-/// savepoint, level 0 first; in `changes` how many changes can be taken back, each by its job, and
-/// in `kept` how many of them each level keeps; and the `room` for changes and the `save_room` for
-/// savepoints that is there already. No words are stored: each job names those that it gives.
+/// savepoint, level 0 first; in `changes` how many changes can be taken back, and in `kept` how
+/// many of them each level keeps; and the `room` for changes and the `save_room` for savepoints
+/// that is reserved. No words are stored: each job names those that it restores.
 #[derive(Drop)]
 pub struct SideValue<S: Side> {
     value: S,
@@ -41,11 +41,7 @@ impl<S: Side> Model for SideValue<S> {
 }
 
 impl<S: Side> SideValue<S> {
-    /// The value as level 0, with no change to take back.
-    ///
-    /// # Cost
-    ///
-    /// Constant time; takes no memory.
+    /// A side value with this value at level 0, and no change to take back.
     pub fn new(alloc: Global, value: S) -> SideValue<S>
         ensures value { result.value ≡ value }
         ensures levels { result.levels ≡ S.words_of value ∷ [] }
@@ -71,7 +67,7 @@ impl<S: Side> SideValue<S> {
         self.value.words()
     }
 
-    /// The number of savepoints, which is the highest level. Constant time.
+    /// The number of savepoints, which is the highest level.
     pub fn level(&self) -> usize
         ensures { result + 1 ≡ length self.now.levels }
     {
@@ -80,18 +76,18 @@ impl<S: Side> SideValue<S> {
 
     /// Changes the value, and logs the job that takes the change back.
     ///
-    /// The job names the words now as before, and those that `change` gives as after.
+    /// The job must name the words now as before, and those that `change` answers as after.
     ///
     /// # Errors
     ///
-    /// `AllocFailed` if memory is refused, and only if there was no room for a change. Then
-    /// `change` was not called, nothing has changed, and the error's `value` is the change and the
-    /// job that were handed in.
+    /// `AllocFailed` if memory is refused, which happens only if there was no room for a change.
+    /// Then `change` was not called, nothing has changed, and the error's `value` holds the change
+    /// and the job that were passed in.
     ///
     /// # Cost
     ///
-    /// One call of `change`, and amortized constant time beside it; takes memory only if there
-    /// is no room for a change.
+    /// One call of `change`, and otherwise amortized constant time; takes memory only if there is
+    /// no room for a change.
     pub fn change<F: FnOnce(S) -> S>(
         &mut self,
         change: F,
@@ -132,7 +128,7 @@ impl<S: Side> SideValue<S> {
     ///
     /// # Errors
     ///
-    /// `AllocError` if memory is refused, and only if there was no room. Then nothing has
+    /// `AllocError` if memory is refused, which happens only if there was no room. Then nothing has
     /// changed.
     ///
     /// # Cost
@@ -152,13 +148,13 @@ impl<S: Side> SideValue<S> {
         self.log.save_room()
     }
 
-    /// Makes a savepoint of the value as it is now, and gives its number: one more than there were
-    /// savepoints.
+    /// Makes a savepoint of the value, and answers its number: one more than the number of
+    /// savepoints before.
     ///
     /// # Errors
     ///
-    /// `AllocError` if memory is refused, and only if there was no room for a savepoint. Then
-    /// nothing has changed.
+    /// `AllocError` if memory is refused, which happens only if there was no room for a savepoint.
+    /// Then nothing has changed.
     ///
     /// # Cost
     ///
@@ -178,9 +174,8 @@ impl<S: Side> SideValue<S> {
         self.log.save()
     }
 
-    /// Takes back each change since the level, newest first, and drops the savepoints above it.
-    ///
-    /// The value then has the words that it had there.
+    /// Takes back each change since the level, newest first, and drops the savepoints above it. The
+    /// value then has the words that it had at the level.
     ///
     /// # Cost
     ///
@@ -209,7 +204,7 @@ impl<S: Side> SideValue<S> {
         self.log.cut(level);
     }
 
-    /// Keeps the value, which is level 0 from now on: drops all jobs, none of them run, and all
+    /// Keeps the value, which is level 0 from now on: drops all jobs without running them, and all
     /// savepoints.
     ///
     /// # Cost

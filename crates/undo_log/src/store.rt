@@ -1,17 +1,17 @@
-//! Where a log keeps its jobs: the trait, and a `Vec` as a store. The other store is
-//! `inline_jobs.rt`. A store says how many jobs take no memory (`inline`) and how much room is
-//! there (`room_of`).
+//! The store of a log's jobs: the trait, and a `Vec` as a store. The other store is in
+//! `inline_jobs.rt`. A store says how many jobs take no memory (`inline`) and how much room there
+//! is (`room_of`).
 use crate::job::UndoJob;
 use std::alloc::{AllocError, Global};
 
-/// Where a log keeps its jobs, the newest at the end.
+/// The store of a log's jobs, the newest at the end.
 pub trait JobStore: Drop {
     /// The inverse of one change.
     type Job: UndoJob;
 
     ghost use Rattle.std.specs.Prelude.{◌≡◌, ◌+◌, ◌-◌, ◌<◌, ◌↔◌, ℕ, List, [], ◌∷◌, ◌++◌, length, slice_get, IsOk, IsSome, OnOk, OnErr, option_to_list, option_copied};
 
-    /// How many jobs stand in the store itself, and take no memory.
+    /// How many jobs stand in the store itself and take no memory.
     ghost inline: { ℕ };
 
     /// The jobs, oldest first.
@@ -21,15 +21,11 @@ pub trait JobStore: Drop {
     ghost room_of: { Self → ℕ };
 
     /// A store without a job.
-    ///
-    /// # Cost
-    ///
-    /// Constant time; takes no memory.
     fn empty(alloc: Global) -> Self
         ensures jobs { jobs_of result ≡ [] }
         ensures room { room_of result ≡ inline };
 
-    /// The number of jobs. Constant time.
+    /// The number of jobs.
     fn count(&self) -> usize
         ensures { result ≡ length (jobs_of self.now) };
 
@@ -37,7 +33,7 @@ pub trait JobStore: Drop {
     ///
     /// # Errors
     ///
-    /// `AllocError` if memory is refused, and only if there was no room. Then nothing has
+    /// `AllocError` if memory is refused, which happens only if there was no room. Then nothing has
     /// changed.
     ///
     /// # Cost
@@ -51,31 +47,19 @@ pub trait JobStore: Drop {
         ensures err { OnErr result (room_of self.new ≡ room_of self.old) }
         ensures full { OnErr result (room_of self.old ≡ 0) };
 
-    /// Adds a job as the newest, in room that is there already.
-    ///
-    /// # Cost
-    ///
-    /// Constant time; takes no memory.
+    /// Adds a job as the newest, in room that was reserved.
     fn add(&mut self, job: Self::Job)
         requires { 0 < room_of self.old }
         ensures jobs { jobs_of self.new ≡ jobs_of self.old ++ job ∷ [] }
         ensures room { room_of self.new + 1 ≡ room_of self.old };
 
     /// The newest job.
-    ///
-    /// # Cost
-    ///
-    /// Constant time; takes no memory.
     fn newest(&self) -> Option<&Self::Job>
         ensures newest { option_copied result
             ≡ slice_get (jobs_of self.now) (length (jobs_of self.now) - 1) }
         ensures some { IsSome result ↔ (0 < length (jobs_of self.now)) };
 
     /// Takes out the newest job.
-    ///
-    /// # Cost
-    ///
-    /// Constant time; takes no memory.
     fn take_newest(&mut self) -> Option<Self::Job>
         ensures newest { result ≡ slice_get (jobs_of self.old) (length (jobs_of self.old) - 1) }
         ensures some { IsSome result ↔ (0 < length (jobs_of self.old)) }
@@ -83,8 +67,8 @@ pub trait JobStore: Drop {
         ensures room { room_of self.new ≡ room_of self.old + length (option_to_list result) };
 }
 
-/// All jobs stand in an allocation. So the size of a log does not depend on that of a job, which is
-/// a caller's in a side value.
+/// All jobs stand in an allocation. So the size of a log does not depend on that of a job, which
+/// for a side value is the caller's choice.
 impl<J: UndoJob> JobStore for Vec<J> {
     type Job = J;
 
