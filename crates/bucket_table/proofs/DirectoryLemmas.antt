@@ -1,4 +1,4 @@
--- What keeps the buckets sound.
+-- The steps that keep the buckets sound.
 use Prim.Native.Nat.{zero, suc}
 use Rattle.std.proofs.Common.{◌≡◌, ◌≢◌, ℕ, ◌+◌, ◌*◌, ◌-◌, ◌^◌, ◌<◌, ◌≤◌, inl, inr, List, Option, Some, None, true, All, replicate, is_some, refl, sym, ◌∙◌, ap, subst, arith, get_or, pow-suc, length-set}
 use Rattle.std.proofs.Math.Nat.{pow-le-pow_right}
@@ -12,12 +12,12 @@ use Rattle.bucket_table.specs.declared.helper.Helper.{Helper}
 use Rattle.bucket_table.specs.declared.helper.Helper.TheVariants.{Idle, Seeking, Holding}
 use Rattle.bucket_table.specs.Directory.{Directory, dummy_of, is_stored, limit_of, with_helper, with_dummy, with_size, beginning, IsReady, IsInOrder, IsSound}
 
--- A fact of each helper is one of the helper of a number.
+-- A statement about each helper holds of the helper with a number.
 pub helper_found : (P : Helper → Type 0) (helpers : List Helper) (number : ℕ) (helper : Helper) → All P helpers → slice_get helpers number ≡ Some helper → P helper
 helper_found P helpers number helper each is =
     subst P (get_or_from_slice_get helpers number helper helper is) (All-get_or P helpers number helper (slice_get_within helpers number helper is) each)
 
--- A bucket stays ready while no bucket is forgotten.
+-- A bucket stays ready if the size does not fall and each stored bucket stays stored.
 pub ready_kept : (old new : Directory) → old.size ≤ new.size → ((bucket : ℕ) → is_stored old bucket ≡ true → is_stored new bucket ≡ true) → (bucket : ℕ) → IsReady old bucket → IsReady new bucket
 ready_kept old new more kept bucket ready = record {
   within = omega (arith, ready.within);
@@ -46,7 +46,7 @@ sound_with_helper d helper now sound order = record {
       All-set (IsInOrder new) d.helpers helper now (kept now order) (All-weaker (IsInOrder d) (IsInOrder new) kept d.helpers sound.helpers);
 }
 
--- The stored buckets with one more.
+-- The stored buckets after one more is stored.
 pub stored_here : (d : Directory) (bucket place : ℕ) → bucket < limit_of d → is_stored (with_dummy d bucket place) bucket ≡ true
 stored_here d bucket place within = ap is_some (get_or-set_same d.entries bucket (Some place) None within)
 
@@ -86,7 +86,7 @@ sound_with_dummy d bucket place sound ready =
 power_doubled : (a : ℕ) → 2 ^ (a + 1) ≡ 2 * 2 ^ a
 power_doubled a = let next : a + 1 ≡ suc a = omega arith in rw next (omega (arith, pow-suc 2 a))
 
--- Two times a power of two is at most a larger one.
+-- Twice a power of two is at most a larger power of two.
 pub doubled_within : (a b : ℕ) → 2 ^ a < 2 ^ b → 2 * 2 ^ a ≤ 2 ^ b
 doubled_within a b less = elim (cases_lt a b) [
   | inl below ↦ let power : 2 ^ (a + 1) ≤ 2 ^ b = pow-le-pow_right {n = 2} (omega arith) (omega arith) in

@@ -21,7 +21,7 @@ either : (b : Bool) → (b ≡ true) ⊎ (b ≡ false)
 either true = inl refl
 either false = inr refl
 
--- A fact of all nodes after a seek.
+-- A statement about each node holds after a seek.
 each_cleaned : (P : NodeAt → Type 0) (at : SortKey) (nodes : List NodeAt) → AllByRecursion P nodes → AllByRecursion P (cleaned at nodes)
 unfolding cleaned
 each_cleaned P at [] each = tt
@@ -44,7 +44,7 @@ each_sought P (n ∷ rest) from at each = elim (eqb_tells n.place from) [
   | inr past ↦ rw past.0 (each.0, each_sought P rest from at each.1)
 ]
 
--- Which nodes are dummies of a bucket.
+-- The nodes that are dummies of a bucket.
 pub is_dummy_true : (bucket : ℕ) (n : NodeAt) → n.kind ≡ Dummy → n.at ≡ dummy_at bucket → is_dummy_of bucket n ≡ true
 is_dummy_true bucket n dummy same = elim (cases_same n.at (dummy_at bucket)) [
   | inl here ↦ rw (dummy, here.0) refl
@@ -68,7 +68,7 @@ is_dummy_regular bucket n regular = go n.kind refl
     go Dummy is = absurd (regular is)
     go Regular is = rw is refl
 
--- A linked dummy is had.
+-- A linked dummy is found by the search for its bucket's.
 pub dummy_had : (nodes : List NodeAt) (place bucket : ℕ) (n : NodeAt) → node_of nodes place ≡ Some n → n.kind ≡ Dummy → n.at ≡ dummy_at bucket → has_dummy nodes bucket ≡ true
 unfolding has_dummy node_of
 dummy_had [] place bucket n is dummy same = absurd (some-none (sym is))
@@ -83,13 +83,13 @@ dummy_had (m ∷ rest) place bucket n is dummy same = elim (eqb_tells m.place pl
     or_true true = refl
     or_true false = refl
 
--- Where no node stands where its dummy would, a bucket has no dummy.
+-- A bucket has no dummy if no node has the sort key of its dummy.
 pub no_dummy : (nodes : List NodeAt) (bucket : ℕ) → AllByRecursion (λ n. n.at ≢ dummy_at bucket) nodes → has_dummy nodes bucket ≡ false
 unfolding has_dummy
 no_dummy [] bucket each = refl
 no_dummy (n ∷ rest) bucket each = rw (is_dummy_other bucket n each.0) (no_dummy rest bucket each.1)
 
--- The dummies with one node more.
+-- The dummies after one more node is linked.
 pub has_dummy-linked_after : (nodes : List NodeAt) (pred : ℕ) (x : NodeAt) (bucket : ℕ) → IsLinked nodes pred → has_dummy (linked_after nodes pred x) bucket ≡ (is_dummy_of bucket x || has_dummy nodes bucket)
 unfolding has_dummy linked_after IsLinked
 has_dummy-linked_after [] pred x bucket linked = absurd linked
@@ -131,14 +131,15 @@ has_dummy-sought (n ∷ rest) from at bucket plain = elim (eqb_tells n.place fro
   | inr past ↦ rw past.0 (ap (λ b. is_dummy_of bucket n || b) (has_dummy-sought rest from at bucket plain.1))
 ]
 
--- A new dummy is that of its bucket alone.
+-- A new dummy is that of its bucket, and of no other.
 pub is_dummy_of-dummy_node : (place bucket stamp other : ℕ) → bucket < 2 ^ 32 → other < 2 ^ 32 → is_dummy_of other (dummy_node place bucket stamp) ≡ (bucket == other)
 is_dummy_of-dummy_node place bucket stamp other fits other_fits = elim (eqb_tells bucket other) [
   | inl same ↦ rw same.0 (is_dummy_true other (dummy_node place bucket stamp) refl (ap dummy_at same.1))
   | inr apart ↦ rw apart.0 (is_dummy_other other (dummy_node place bucket stamp) (λ same. apart.1 (same_from_reversed bucket other (omega arith) (omega arith) (ap (λ (at : SortKey). at.split) same))))
 ]
 
--- Where each regular node stands where its key belongs, a node that stands where a bucket's dummy would is it.
+-- If each regular node has the sort key of its key, a node with the sort key of a bucket's dummy is
+-- that dummy.
 pub dummy_there : (n : NodeAt) (bucket : ℕ) → bucket < 2 ^ 32 → IsKeyedNode n → n.at ≡ dummy_at bucket → n.kind ≡ Dummy
 dummy_there n bucket fits keyed same = go n.kind refl
   where
@@ -155,7 +156,7 @@ dummy_there n bucket fits keyed same = go n.kind refl
 pub keyed_dummy : (n : NodeAt) → n.kind ≡ Dummy → IsKeyedNode n
 keyed_dummy n dummy regular = absurd (cc (sym dummy ∙ regular))
 
--- Nor does a change that leaves kind and split key of a node.
+-- A change that leaves the kind and the split key of a node unlinks no dummy.
 pub has_dummy-changed_at : (nodes : List NodeAt) (place : ℕ) (change : NodeAt → NodeAt) (bucket : ℕ) → ((n : NodeAt) → is_dummy_of bucket (change n) ≡ is_dummy_of bucket n) → has_dummy (changed_at nodes place change) bucket ≡ has_dummy nodes bucket
 unfolding has_dummy changed_at
 has_dummy-changed_at [] place change bucket same = refl
@@ -164,7 +165,7 @@ has_dummy-changed_at (n ∷ rest) place change bucket same = elim (eqb_tells n.p
   | inr past ↦ rw past.0 (ap (λ b. is_dummy_of bucket n || b) (has_dummy-changed_at rest place change bucket same))
 ]
 
--- Nor does a sweep.
+-- A sweep unlinks no dummy.
 pub has_dummy-without_first_marked : (nodes : List NodeAt) (bucket : ℕ) → AllPlain nodes → has_dummy (without_first_marked nodes) bucket ≡ has_dummy nodes bucket
 unfolding has_dummy without_first_marked
 has_dummy-without_first_marked [] bucket plain = refl

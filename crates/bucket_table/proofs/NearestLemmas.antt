@@ -12,7 +12,7 @@ use Rattle.bucket_table.specs.Directory.{Directory, dummy_of, is_stored, IsNeare
 use Rattle.bucket_table.specs.Dummies.{IsDummyAt, IsBeforeBucket}
 use Rattle.bucket_table.specs.Home.{IsHome}
 
--- Some number of steps to the parent reaches this bucket, and none passed was stored.
+-- Some number of steps to the parent reaches this bucket, and no bucket passed was stored.
 pub record IsPassing (d : Directory) (bucket at : ℕ) : Type 0 where
   pub steps : ℕ
   pub reached : at ≡ ancestor_of steps bucket

@@ -1,4 +1,4 @@
--- A row of segments, and the entries that it stands for.
+-- A row of segments and its flat list of entries.
 use Prim.Native.Nat.{zero, suc}
 use Rattle.std.proofs.Common.{◌+◌, ◌≡◌, ◌≢◌, ℕ, ◌*◌, ◌/◌, ◌%◌, ◌^◌, ◌<◌, ◌≤◌, ◌⊎◌, inl, inr, List, Option, Some, None, true, false, replicate, is_some, length, refl, sym, ◌∙◌, ap, subst, arith, get_or, length-set, slice_index_or, slice_set}
 use Rattle.std.specs.Prelude.{Result, Ok, Err, IfOk, OnErr}
@@ -17,7 +17,7 @@ entry_at limit row bucket within = get_or-map-range_with_len (entry_in row) 0 li
 pub entry_past : (limit : ℕ) (row : List (Option (List (Option ℕ)))) (bucket : ℕ) → limit ≤ bucket → slice_index_or (entries_of limit row) bucket None ≡ None
 entry_past limit row bucket beyond = get_or_past (entries_of limit row) bucket None (omega (arith, entries_length limit row, beyond))
 
--- A bucket that has an entry is one of so many.
+-- A bucket that has an entry is below the limit.
 pub within_limit : (limit : ℕ) (row : List (Option (List (Option ℕ)))) (bucket : ℕ) (entries : List (Option ℕ)) → entries_of limit row ≡ entries → bucket < length entries → bucket < limit
 within_limit limit row bucket entries is below = let same = ap length is in omega (arith, same, entries_length limit row, below)
 
@@ -25,11 +25,11 @@ within_limit limit row bucket entries is below = let same = ap length is in omeg
 pub segment_within : (limit bucket long : ℕ) → bucket < limit → limit ≤ 64 * long → bucket / 64 < long
 segment_within limit bucket long within fits = omega (arith, within, fits)
 
--- Buckets of one segment and one place are the same.
+-- Two buckets with the same segment and the same place in it are equal.
 same_bucket : (one other : ℕ) → one / 64 ≡ other / 64 → one % 64 ≡ other % 64 → one ≡ other
 same_bucket one other segment place = omega (arith, segment, place)
 
--- A bucket is stored in its segment, whose other entries stay: this is so of the flat list as well.
+-- A bucket is stored in its segment, whose other entries are unchanged. So it is in the flat list.
 module _ (limit : ℕ) (row : List (Option (List (Option ℕ)))) (bucket : ℕ) (segment : List (Option ℕ)) (dummy : ℕ) (within : bucket < limit) (long : limit ≤ 64 * length row) (here : slice_index_or segment (bucket % 64) None ≡ Some dummy)
     (others : (place : ℕ) → place ≢ bucket % 64 → slice_index_or segment place None ≡ slice_index_or (held_by (slice_index_or row (bucket / 64) None)) place None) where
   abbrev changed : List (Option (List (Option ℕ)))
@@ -72,7 +72,7 @@ module _ (limit : ℕ) (row : List (Option (List (Option ℕ)))) (bucket : ℕ) 
             | inr beyond ↦ absurd (omega (arith, inside, beyond))
           ]
 
-  -- The row stays one.
+  -- The changed row is a row.
   pub row_set : IsRow limit row → IsRow limit changed
   row_set is = record {
     long = let same = length-set row (bucket / 64) (Some segment) in omega (arith, same, long);
@@ -101,7 +101,7 @@ module _ (limit : ℕ) (row : List (Option (List (Option ℕ)))) (bucket : ℕ) 
       used : (at : ℕ) → is_some (slice_index_or changed at None) ≡ true → HasStored (entries_of limit changed) at
       used at = used_now at (cases_eq at (bucket / 64))
 
--- No bucket of a segment that is not there is stored.
+-- No bucket of a missing segment is stored.
 pub lacks_missing : (limit : ℕ) (row : List (Option (List (Option ℕ)))) (bucket : ℕ) → slice_index_or row (bucket / 64) None ≡ None → LacksSegment (entries_of limit row) bucket
 lacks_missing limit row bucket missing other same = elim (cases_lt other limit) [
   | inl inside ↦ ap is_some (entry_at limit row other inside
@@ -110,7 +110,7 @@ lacks_missing limit row bucket missing other same = elim (cases_lt other limit) 
   | inr beyond ↦ ap is_some (entry_past limit row other beyond)
 ]
 
--- Nothing is in a list of nothing.
+-- A list of `None` has no entry.
 pub none_in : {A : Type 0} (count at : ℕ) → slice_index_or (replicate {A = Option A} count None) at None ≡ None
 none_in zero at = refl
 none_in (suc count) zero = refl
@@ -123,7 +123,7 @@ segment_here place dummy within = get_or-set_same (replicate 64 None) place (Som
 pub segment_elsewhere : (place dummy other : ℕ) → other ≢ place → slice_index_or (slice_set (replicate 64 None) place (Some dummy)) other None ≡ None
 segment_elsewhere place dummy other apart = get_or-set_other (replicate 64 None) place other (Some dummy) None apart ∙ none_in 64 other
 
--- A row of segments that are not there, just long enough for so many buckets.
+-- A row of missing segments, just long enough for the limit.
 pub row_missing : (limit count : ℕ) → limit ≤ 64 * count → 64 * count < limit + 64 → limit < 2 ^ 32 → IsRow limit (replicate count None)
 row_missing limit count long no_longer fits = record {
   long = let same = length-replicate {A = Option (List (Option ℕ))} count None in omega (arith, same, long);
@@ -141,11 +141,11 @@ entries_missing limit count = ext_get_or None _ _ (entries_length limit (replica
         entry_at limit (replicate count None) i (omega (arith, below, entries_length limit (replicate count None)))
         ∙ ap (λ (o : Option (List (Option ℕ))). slice_index_or (held_by o) (i % 64) None) (none_in count (i / 64)) ∙ sym (none_in limit i)
 
--- What a segment of a row was, by a read of it.
+-- The segment of a row, from a read of it.
 pub segment_read : (row : List (Option (List (Option ℕ)))) (bucket : ℕ) (limit : ℕ) (old : Option (List (Option ℕ))) → bucket < limit → limit ≤ 64 * length row → old ≡ slice_index_or row (bucket / 64) old → old ≡ slice_index_or row (bucket / 64) None
 segment_read row bucket limit old within long is = get_or_read row (bucket / 64) old (segment_within limit bucket (length row) within long) is None
 
--- What a put into a segment of a row comes to.
+-- The effect of a put into a segment of a row.
 module _ (limit : ℕ) (row : List (Option (List (Option ℕ)))) (bucket dummy : ℕ) (old new : Option (List (Option ℕ))) (is : IsRow limit row) (within : bucket < limit) (was : old ≡ slice_index_or row (bucket / 64) None) where
   others : (puts : Puts old new (bucket % 64) dummy) (place : ℕ) → place ≢ bucket % 64 → slice_index_or puts.segment place None ≡ slice_index_or (held_by (slice_index_or row (bucket / 64) None)) place None
   others puts place apart = puts.elsewhere place apart ∙ ap (λ (o : Option (List (Option ℕ))). slice_index_or (held_by o) place None) was

@@ -1,4 +1,4 @@
--- What each call is answered. The table above is answered the same.
+-- The answer to each call. The table above answers the same.
 use Rattle.std.specs.Prelude.{ℕ, ◌*◌, ◌-◌, ◌^◌, Bool, Option, Some, None, Result, Ok, Err, ◌==◌, not, nat_le, if◌then◌else◌}
 use Rattle.node_list.specs.Nodes.{Listing}
 use Rattle.split_key.specs.Split.{parent_of}
@@ -14,8 +14,7 @@ use Rattle.bucket_table.specs.Directory.{Directory, helper_of}
 use Rattle.bucket_table.specs.Dummies.{has_dummy}
 use Rattle.bucket_table.specs.Helpers.{Help, Nothing, Sought, Dummy, cursor_fits, help_at}
 
--- What a seek for a bucket by a helper that has this is answered, at this size and with these
--- buckets stored.
+-- The answer to a seek for a bucket, from the size, the stored buckets and the helper's state.
 abbrev pub seek_answer : ℕ → (ℕ → Bool) → Option Help → ℕ → Result InitSeek InitRefusal
 seek_answer size stored None bucket = Err NoSuchHelper
 seek_answer size stored (Some help) bucket =
@@ -24,8 +23,8 @@ seek_answer size stored (Some help) bucket =
     else (if stored (parent_of bucket) then Ok Placed
     else Err ParentMissing))
 
--- What a link by a helper that has this is answered, where memory lasts: by whether its cursor
--- fits, by which dummies are linked, and by the last stamp.
+-- The answer to a link if memory lasts, from whether the helper's cursor fits, which dummies are
+-- linked, the last stamp and the helper's state.
 abbrev pub link_answer : Bool → (ℕ → Bool) → ℕ → Option Help → Result InitLink InitRefusal
 link_answer fitting linked last None = Err NoSuchHelper
 link_answer fitting linked last (Some Nothing) = Err HelperOutOfOrder
@@ -36,19 +35,20 @@ link_answer fitting linked last (Some (Sought bucket changes)) =
     else (if last == 2 ^ 64 - 2 then Err StampsUsedUp
     else Ok Linked))
 
--- What a link by the helper of this number is answered, where memory lasts.
+-- The answer to a link by the helper of this number, if memory lasts.
 abbrev pub link_answer_at : Directory → Listing → ℕ → Result InitLink InitRefusal
 link_answer_at d l helper =
     link_answer (cursor_fits l (helper_of d helper)) (has_dummy l.nodes) l.last (help_at d helper)
 
--- What a store by a helper that has this is answered.
+-- The answer to a store, from the helper's state.
 abbrev pub store_answer : Option Help → Result Unit InitRefusal
 store_answer None = Err NoSuchHelper
 store_answer (Some Nothing) = Err HelperOutOfOrder
 store_answer (Some (Sought bucket changes)) = Err HelperOutOfOrder
 store_answer (Some (Dummy bucket)) = Ok tt
 
--- What a doubling is answered, at this size, with a largest size, and with so many keys.
+-- The answer to a doubling, from the size, the largest size, the number of keys and the size that
+-- the caller saw.
 abbrev pub double_answer : ℕ → ℕ → ℕ → ℕ → Double
 double_answer size largest count seen =
     if not (size == seen) then Moved size

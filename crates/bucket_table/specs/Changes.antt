@@ -1,4 +1,4 @@
--- What each call changes.
+-- The changes that each call makes.
 use Rattle.std.specs.Prelude.{◌≡◌, ℕ, ◌-◌, Some, Result, Ok, Err, length}
 use Rattle.node_list.specs.Nodes.{Listing, changes_after}
 use Rattle.list_steps.specs.declared.cursor.Cursor.{Cursor}
@@ -19,8 +19,8 @@ use Rattle.bucket_table.specs.Dummies.{IsDummyAt}
 use Rattle.bucket_table.specs.Links.{LinksAt}
 
 -- The helper has a cursor for the bucket's dummy, sought from the dummy of the bucket's parent: the
--- marked nodes between there and the place are unlinked, and no others. The change number grows by
--- one for each.
+-- marked nodes between there and the position are unlinked, and no others. The change number grows
+-- by one for each.
 pub record Seeks (old new : Directory) (before after : Listing) (helper bucket : ℕ) : Type 0 where
   pub cursor : Cursor
   pub now : new ≡ with_helper old helper (Seeking bucket cursor)
@@ -33,7 +33,7 @@ pub record Seeks (old new : Directory) (before after : Listing) (helper bucket :
       ≡ changes_after before.changes (length before.nodes - length after.nodes)
   pub rest : KeepsRest before after
 
--- What a seek for a bucket changes.
+-- The changes by a seek for a bucket.
 abbrev pub SeekChanges : Directory → Directory → Listing → Listing → ℕ → ℕ
     → Result InitSeek InitRefusal → Type 0
 SeekChanges old new before after helper bucket (Ok Ready) = (new ≡ with_helper old helper Idle)
@@ -51,7 +51,7 @@ pub record Holds (old new : Directory) (after : Listing) (helper : ℕ) : Type 0
   pub now : new ≡ with_helper old helper (Holding bucket place)
   pub dummy : IsDummyAt after.nodes place bucket
 
--- The dummy of the helper's bucket is linked where the helper's cursor is, and the helper has it.
+-- The dummy of the helper's bucket is linked at the helper's cursor, and the helper has it.
 pub record LinksDummy (old new : Directory) (before after : Listing) (helper : ℕ) : Type 0 where
   pub bucket : ℕ
   pub cursor : Cursor
@@ -60,7 +60,7 @@ pub record LinksDummy (old new : Directory) (before after : Listing) (helper : �
   pub now : new ≡ with_helper old helper (Holding bucket place)
   pub links : LinksAt before after (pred_of cursor) bucket place
 
--- What a link by a helper changes.
+-- The changes by a link of a helper.
 abbrev pub LinkChanges : Directory → Directory → Listing → Listing → ℕ
     → Result InitLink InitRefusal → Type 0
 LinkChanges old new before after helper (Ok Again) = (new ≡ with_helper old helper Idle)
@@ -76,12 +76,12 @@ pub record Stores (old new : Directory) (helper : ℕ) : Type 0 where
   pub had : helper_of old helper ≡ Some (Holding bucket place)
   pub now : new ≡ with_helper (with_dummy old bucket place) helper Idle
 
--- What a store by a helper changes.
+-- The changes by a store of a helper.
 abbrev pub StoreChanges : Directory → Directory → ℕ → Result Unit InitRefusal → Type 0
 StoreChanges old new helper (Ok done) = Stores old new helper
 StoreChanges old new helper (Err refusal) = new ≡ old
 
--- The buckets after a doubling that was answered so.
+-- The buckets after a doubling with this answer.
 abbrev pub after_double : Directory → Double → Directory
 after_double d (Moved size) = d
 after_double d AtLimit = d

@@ -1,11 +1,11 @@
--- What a contract sees of the buckets of a table.
+-- The buckets of a table as a contract sees them.
 use Rattle.std.specs.Prelude.{◌≡◌, ℕ, ◌-◌, ◌^◌, ◌<◌, ◌≤◌, List, ◌∷◌, Option, Some, None, Bool, true, false, All, length, replicate, is_some, slice_index_or, slice_set}
 use Rattle.std.specs.List.{slice_get}
 use Rattle.split_key.specs.Split.{parent_of, ancestor_of, IsPowerOfTwo}
 use Rattle.bucket_table.specs.declared.helper.Helper.{Helper}
 use Rattle.bucket_table.specs.declared.helper.Helper.TheVariants.{Idle, Seeking, Holding}
 
--- The size, the place of the dummy of each stored bucket, and what each helper has; there are as
+-- The size, the place of the dummy of each stored bucket, and each helper's state. There are as
 -- many entries as the largest size.
 pub record Directory : Type 0 where
   pub size : ℕ
@@ -20,15 +20,15 @@ limit_of d = length d.entries
 abbrev pub dummy_of : Directory → ℕ → Option ℕ
 dummy_of d bucket = slice_index_or d.entries bucket None
 
--- Whether a bucket is stored, which is to say initialised.
+-- Whether a bucket is stored, which means initialised.
 abbrev pub is_stored : Directory → ℕ → Bool
 is_stored d bucket = is_some (dummy_of d bucket)
 
--- What a helper has, if there is one of this number.
+-- The state of the helper of this number, if there is one.
 abbrev pub helper_of : Directory → ℕ → Option Helper
 helper_of d helper = slice_get d.helpers helper
 
--- Size 2, bucket 0 alone stored, and every helper idle.
+-- Size 2, only bucket 0 stored, and every helper idle.
 abbrev pub beginning : ℕ → ℕ → ℕ → Directory
 beginning limit helpers head = record {
   size = 2;
@@ -36,15 +36,15 @@ beginning limit helpers head = record {
   helpers = replicate helpers Idle;
 }
 
--- A helper has this now.
+-- The buckets with a helper in this state.
 abbrev pub with_helper : Directory → ℕ → Helper → Directory
 with_helper d helper now = record d { helpers = slice_set d.helpers helper now }
 
--- A bucket is stored, with its dummy at this place.
+-- The buckets with one more stored, its dummy at this place.
 abbrev pub with_dummy : Directory → ℕ → ℕ → Directory
 with_dummy d bucket place = record d { entries = slice_set d.entries bucket (Some place) }
 
--- The size is this one now.
+-- The buckets with this size.
 abbrev pub with_size : Directory → ℕ → Directory
 with_size d size = record d { size = size }
 
@@ -73,7 +73,7 @@ pub record IsSound (d : Directory) : Type 0 where
       → is_stored d (parent_of bucket) ≡ true
   pub helpers : All (IsInOrder d) d.helpers
 
--- The place is that of the dummy of the nearest stored one among the bucket, its parent, the
+-- The place is that of the dummy of the nearest stored bucket among this one, its parent, the
 -- parent's parent and so on.
 pub record IsNearest (d : Directory) (bucket place : ℕ) : Type 0 where
   pub steps : ℕ

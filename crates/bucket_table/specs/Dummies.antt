@@ -32,17 +32,17 @@ pub record IsDummyAt (nodes : List NodeAt) (place bucket : ℕ) : Type 0 where
   pub kind : node.kind ≡ Dummy
   pub at : node.at ≡ dummy_at bucket
 
--- A dummy that stands no later than a bucket's is linked at a place.
+-- A dummy that stands no later than a bucket's is linked at this place.
 pub record IsBeforeBucket (nodes : List NodeAt) (place bucket : ℕ) : Type 0 where
   pub node : NodeAt
   pub is : node_of nodes place ≡ Some node
   pub kind : node.kind ≡ Dummy
   pub at_most : IsNotBefore (dummy_at bucket) node.at
 
--- A regular node stands where its key belongs.
+-- A regular node has the sort key of its key.
 abbrev pub IsKeyedNode : NodeAt → Type 0
 IsKeyedNode n = n.kind ≡ Regular → n.at ≡ regular_at n.at.key
 
--- Each regular node stands where its key belongs.
+-- Each regular node has the sort key of its key.
 abbrev pub IsKeyed : List NodeAt → Type 0
 IsKeyed nodes = AllByRecursion IsKeyedNode nodes

@@ -1,4 +1,4 @@
--- What a helper has.
+-- The states of helpers.
 use Rattle.std.specs.Prelude.{ℕ, Bool, false, Option, Some, None, Result, Ok, Err}
 use Rattle.std.specs.Option.{option_map}
 use Rattle.node_list.specs.Nodes.{Listing}
@@ -22,7 +22,7 @@ holding_of Idle = Err HelperOutOfOrder
 holding_of (Seeking bucket cursor) = Err HelperOutOfOrder
 holding_of (Holding bucket dummy) = Ok (bucket, dummy)
 
--- What a helper has, as answers speak of it: nothing, a cursor for the dummy of a bucket with the
+-- The state of a helper as answers see it: nothing, a cursor for the dummy of a bucket with the
 -- change number when it was placed, or the dummy of a bucket.
 pub data Help : Type 0 where
   Nothing : Help
@@ -34,7 +34,7 @@ help_of Idle = Nothing
 help_of (Seeking bucket cursor) = Sought bucket (changes_of cursor)
 help_of (Holding bucket dummy) = Dummy bucket
 
--- What the helper of this number has, if there is one.
+-- The state of the helper of this number, if there is one.
 abbrev pub help_at : Directory → ℕ → Option Help
 help_at d helper = option_map help_of (helper_of d helper)
 

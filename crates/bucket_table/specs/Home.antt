@@ -1,4 +1,4 @@
--- What ties buckets to their list.
+-- Buckets at home on their list.
 use Rattle.std.specs.Prelude.{◌≡◌, ℕ, Some, All}
 use Rattle.node_list.specs.Nodes.{Listing}
 use Rattle.list_steps.specs.Found.{IsPlaced, at_of}
@@ -15,7 +15,7 @@ IsHelperHome l (Seeking bucket cursor) = IsPlaced l cursor × (at_of cursor ≡ 
 IsHelperHome l (Holding bucket dummy) = IsDummyAt l.nodes dummy bucket
 
 -- The buckets are those of this list: each stored one names its linked dummy, and so do the
--- helpers. Each later list is as much their home.
+-- helpers. They stay at home when the list changes.
 pub record IsHome (d : Directory) (l : Listing) : Type 0 where
   pub stored : (bucket place : ℕ) → dummy_of d bucket ≡ Some place → IsDummyAt l.nodes place bucket
   pub helpers : All (IsHelperHome l) d.helpers

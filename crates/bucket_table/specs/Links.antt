@@ -1,4 +1,4 @@
--- What linking a dummy does to a list.
+-- The effect of linking a dummy on a list.
 use Rattle.std.specs.Prelude.{◌≡◌, ◌≢◌, ℕ, ◌+◌, ◌-◌, ◌<◌, ◌^◌, ◌==◌, ◌||◌}
 use Rattle.node_list.specs.Nodes.{Listing, IsLinked, out_at, linked_after, one_more}
 use Rattle.bucket_table.specs.declared.answer.InitRefusal.{InitRefusal}
@@ -19,7 +19,7 @@ pub record LinksAt (before after : Listing) (pred bucket place : ℕ) : Type 0 w
   pub dummies : (other : ℕ) → other < 2 ^ 32
       → has_dummy after.nodes other ≡ ((bucket == other) || has_dummy before.nodes other)
 
--- Why no dummy is linked: the stamps are used up exactly where the last one is given, and else
+-- The reason why no dummy is linked: the stamps are used up exactly if the last one was given, else
 -- memory was refused.
 abbrev pub IsUnlinked : Listing → Listing → InitRefusal → Type 0
 IsUnlinked before after StampsUsedUp = (after ≡ before) × (before.last ≡ 2 ^ 64 - 2)

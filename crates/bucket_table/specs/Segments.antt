@@ -1,18 +1,18 @@
--- A row of segments of 64 entries, and the flat list of entries that it stands for.
+-- A row of segments of 64 entries, and its flat list of entries.
 use Rattle.std.specs.Prelude.{◌≡◌, ◌≢◌, ℕ, ◌+◌, ◌*◌, ◌/◌, ◌%◌, ◌<◌, ◌≤◌, ◌^◌, Bool, true, false, List, [], Option, Some, None, map, length, is_some, slice_index_or}
 use Rattle.std.specs.List.{range_with_len}
 
--- The entries of a segment; one that is not there has none.
+-- The entries of a segment; a missing segment has none.
 abbrev pub held_by : Option (List (Option ℕ)) → List (Option ℕ)
 held_by None = []
 held_by (Some segment) = segment
 
--- The entry of a bucket: that of its place in its segment.
+-- The entry of a bucket, at its place in its segment.
 abbrev pub entry_in : List (Option (List (Option ℕ))) → ℕ → Option ℕ
 entry_in row bucket =
     slice_index_or (held_by (slice_index_or row (bucket / 64) None)) (bucket % 64) None
 
--- The entries of so many buckets.
+-- The entries of this number of buckets.
 abbrev pub entries_of : ℕ → List (Option (List (Option ℕ))) → List (Option ℕ)
 entries_of limit row = map (entry_in row) (range_with_len 0 limit)
 
@@ -29,7 +29,7 @@ LacksSegment entries bucket =
 pub record IsSegment (entries : List (Option ℕ)) : Type 0 where
   pub width : length entries ≡ 64
 
--- A segment has this dummy at a place now, and everywhere else what it had.
+-- A segment has this dummy at a place, and everywhere else its old entries.
 pub record Puts (old new : Option (List (Option ℕ))) (place dummy : ℕ) : Type 0 where
   pub segment : List (Option ℕ)
   pub there : new ≡ Some segment
@@ -43,8 +43,8 @@ pub record HasStored (entries : List (Option ℕ)) (segment : ℕ) : Type 0 wher
   pub of : bucket / 64 ≡ segment
   pub stored : is_stored_in entries bucket ≡ true
 
--- The row is just long enough for so many buckets, and a segment is there only where one of its
--- buckets is stored.
+-- The row is just long enough for the limit, and has a segment only if one of the segment's buckets
+-- is stored.
 pub record IsRow (limit : ℕ) (row : List (Option (List (Option ℕ)))) : Type 0 where
   pub long : limit ≤ 64 * length row
   pub no_longer : 64 * length row < limit + 64

@@ -1,9 +1,9 @@
--- Refusals in words.
+-- The texts of refusals.
 use Rattle.std.specs.Prelude.{ℕ, List, codes}
 use Rattle.bucket_table.specs.declared.answer.InitRefusal.{InitRefusal}
 use Rattle.bucket_table.specs.declared.answer.InitRefusal.TheVariants.{NoSuchBucket, ParentMissing, NoSuchHelper, HelperOutOfOrder, NoMemory, StampsUsedUp}
 
--- What a refusal is printed as.
+-- The text of a refusal.
 abbrev pub refusal_text : InitRefusal → List ℕ
 refusal_text NoSuchBucket = codes "the bucket is not below the size"
 refusal_text ParentMissing = codes "the bucket's parent is not stored"

@@ -1,4 +1,4 @@
-//! What the calls on buckets answer, and why they refuse.
+//! The answers of the calls on buckets, and their refusals.
 ghost use Rattle.std.specs.Prelude.{◌≡◌};
 ghost use Rattle.bucket_table.specs.Refusals.{refusal_of};
 ghost use Rattle.bucket_table.specs.Text.{refusal_text};
@@ -7,7 +7,7 @@ use node_list::SpareFault;
 use std::fmt;
 use std::fmt::Display;
 
-/// What `Buckets::init_seek` did.
+/// The outcome of `Buckets::init_seek`.
 #[derive(Clone, Copy, Debug, PartialEq, Eq)]
 pub enum InitSeek {
     /// The bucket is stored already, and the helper is idle.
@@ -16,7 +16,7 @@ pub enum InitSeek {
     Placed,
 }
 
-/// What `Buckets::init_link` did.
+/// The outcome of `Buckets::init_link`.
 #[derive(Clone, Copy, Debug, PartialEq, Eq)]
 pub enum InitLink {
     /// The cursor no longer fits and is dropped: the helper is idle.
@@ -27,8 +27,8 @@ pub enum InitLink {
     Linked,
 }
 
-/// Why a step of a bucket's initialisation is refused. After each of these all is as it was. Each
-/// is printed as a sentence of its own.
+/// The refusal of a step of a bucket's initialisation, which leaves everything unchanged. Each is
+/// printed as a sentence.
 #[derive(Clone, Copy, Debug, PartialEq, Eq)]
 pub enum InitRefusal {
     /// The bucket is not below the size.
@@ -79,12 +79,13 @@ impl From<SpareFault> for InitRefusal {
     }
 }
 
-/// What `Buckets::double` did. All but `Doubled` leave the size. The numbers are sizes, in buckets.
+/// The outcome of `Buckets::double`. Only `Doubled` changes the size. The numbers are sizes, in
+/// buckets.
 #[derive(Clone, Copy, Debug, PartialEq, Eq)]
 pub enum Double {
-    /// The size is this one, and not the one that was seen.
+    /// The size is this one, not the one that the caller saw.
     Moved(u32),
-    /// The size is the largest one.
+    /// The size is the largest one allowed.
     AtLimit,
     /// There are at most twice as many keys as buckets.
     Light,

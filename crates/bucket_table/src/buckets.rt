@@ -1,4 +1,6 @@
-//! The buckets.
+//! The buckets of a table: its size, the dummies of the stored buckets, and the helpers that store
+//! more of them. Invariant (`IsSound`): the size is a power of two, and no bucket is stored before
+//! its parent.
 ghost use Rattle.std.specs.Prelude.{◌≡◌, ◌≢◌, ℕ, ◌%◌, ◌<◌, ◌≤◌, ◌^◌, Some, None, Ok, Err, true, length, replicate, IfOk, IfErr, OnErr};
 ghost use Rattle.bucket_table.specs.Segments.{LacksSegment};
 ghost use Rattle.node_list.specs.Nodes.{Listing, live_count};
@@ -73,7 +75,7 @@ impl Buckets {
         })
     }
 
-    /// How many buckets the table has now: a power of two, at least 2. Constant time.
+    /// The number of buckets that the table has now: a power of two, at least 2.
     pub fn size(&self) -> u32
         ensures size { result ≡ self.now.size }
         ensures sound { IsSoundDirectory self.now }
@@ -89,12 +91,12 @@ impl Buckets {
         self.entries.get(bucket)
     }
 
-    /// The dummy of a bucket, or that of its nearest stored ancestor: a seek for any key of the
+    /// The dummy of a bucket, or that of its nearest stored ancestor. A seek for any key of the
     /// bucket may begin there, since it stands before all of them.
     ///
     /// # Cost
     ///
-    /// One step for each ancestor that is passed; takes no memory.
+    /// One step for each ancestor that is passed.
     pub fn nearest(&self, bucket: u32) -> NodeRef
         ensures nearest { IsNearest self.now bucket result }
         ensures before { (list : Listing) → IsHome self.now list
@@ -111,7 +113,7 @@ impl Buckets {
         }
     }
 
-    /// What a helper has, or `NoSuchHelper`.
+    /// The state of a helper, or `NoSuchHelper`.
     fn helper(&self, helper: u64) -> Result<&Helper, InitRefusal>
         ensures ok { IfOk result (λ had. helper_of self.now helper ≡ Some had.now) }
         ensures err { IfErr result (λ refusal. (refusal ≡ InitRefusal.NoSuchHelper)
@@ -137,7 +139,7 @@ impl Buckets {
         }
     }
 
-    /// Gives a helper something else.
+    /// Sets a helper's state.
     fn set_helper(&mut self, helper: u64, now: Helper)
         requires there { helper < length self.old.helpers }
         requires order { IsInOrder self.old now }
@@ -146,21 +148,21 @@ impl Buckets {
         self.helpers[helper as usize] = now;
     }
 
-    /// Seeks the place of a bucket's dummy, from the dummy of its parent, and gives the helper a
-    /// cursor there. Whatever the helper had is dropped. A bucket that is stored is `Ready`, and
-    /// leaves the helper idle.
+    /// Seeks the position of a bucket's dummy, from the dummy of its parent, and gives the helper a
+    /// cursor there, in place of whatever it had. A bucket that is stored is `Ready`, and leaves
+    /// the helper idle.
     ///
-    /// The seek unlinks the marked nodes that it passes, and leaves the content of the list.
+    /// The seek unlinks the marked nodes that it passes. The content of the list is unchanged.
     ///
     /// # Errors
     ///
     /// In this order: `NoSuchHelper`; `NoSuchBucket` if the bucket is not below the size; and,
-    /// unless the bucket is stored, `ParentMissing` if its parent is not either. The helper, the
-    /// buckets and the list are then as they were.
+    /// unless the bucket is stored, `ParentMissing` if its parent is not stored. The helper, the
+    /// buckets and the list are then unchanged.
     ///
     /// # Cost
     ///
-    /// Time in proportion to the nodes from the parent's dummy to the place; takes no memory.
+    /// Time in proportion to the nodes from the parent's dummy to the position.
     pub fn init_seek(
         &mut self,
         list: &mut NodeList,
@@ -191,7 +193,7 @@ impl Buckets {
         let Some(from) = self.dummy(parent) else {
             return Err(InitRefusal::ParentMissing);
         };
-        // The list says here that no dummy is marked, so the seek unlinks none.
+        // By the list's invariants no dummy is marked, so the seek unlinks none.
         let _changes = list.changes();
         let cursor = seek(list, from, SortKey::dummy(bucket));
         self.set_helper(helper, Helper::Seeking(bucket, cursor));
@@ -237,17 +239,17 @@ impl Buckets {
         }
     }
 
-    /// Links the dummy of a helper's bucket where the helper's cursor is, unless it is linked there
-    /// already, and gives the helper that dummy. Where the cursor does not fit, it is dropped and
-    /// the helper is idle.
+    /// Links the dummy of a helper's bucket at the helper's cursor, unless it is linked there
+    /// already, and gives the helper that dummy. If the cursor does not fit, it is dropped and the
+    /// helper is idle.
     ///
-    /// The content of the list stays.
+    /// The content of the list is unchanged.
     ///
     /// # Errors
     ///
-    /// In this order: `NoSuchHelper`; `HelperOutOfOrder` if the helper has no cursor; and, where
-    /// a dummy is to be linked, `StampsUsedUp`, then `NoMemory` if memory is refused. The helper
-    /// keeps its cursor then, and the buckets and the list are as they were.
+    /// In this order: `NoSuchHelper`; `HelperOutOfOrder` if the helper has no cursor; and, if a
+    /// dummy is to be linked, `StampsUsedUp`, then `NoMemory` if memory is refused. The helper then
+    /// keeps its cursor, and the buckets and the list are unchanged.
     ///
     /// # Cost
     ///
@@ -270,14 +272,14 @@ impl Buckets {
         self.link_at(list, helper, bucket, cursor)
     }
 
-    /// Stores a helper's dummy as that of its bucket, also where the bucket was stored since; the
-    /// helper is idle then.
+    /// Stores a helper's dummy as that of its bucket, even if the bucket was stored meanwhile; the
+    /// helper is then idle.
     ///
     /// # Errors
     ///
-    /// In this order: `NoSuchHelper`; `HelperOutOfOrder` if the helper has no dummy; `NoMemory`
-    /// if memory is refused, and only if no bucket of the bucket's segment is stored. The
-    /// helper, with its dummy, and the buckets are then as they were.
+    /// In this order: `NoSuchHelper`; `HelperOutOfOrder` if the helper has no dummy; `NoMemory` if
+    /// memory is refused, which happens only if no bucket of the bucket's segment is stored. The
+    /// helper, with its dummy, and the buckets are then unchanged.
     ///
     /// # Cost
     ///
@@ -298,14 +300,10 @@ impl Buckets {
         Ok(())
     }
 
-    /// Doubles the size, if it is the one that the caller saw, is not the largest, and the list
-    /// has more than twice as many keys as there are buckets; these are tested in this order.
+    /// Doubles the size, if it is the one that the caller saw, is not the largest, and the list has
+    /// more than twice as many keys as there are buckets. These are tested in this order.
     ///
     /// Nothing else changes: no node moves, and the new buckets are not stored yet.
-    ///
-    /// # Cost
-    ///
-    /// Constant time; takes no memory.
     pub fn double(&mut self, list: &NodeList, seen: u64) -> Double
         ensures answer { result
             ≡ double_answer self.old.size (limit_of self.old) (live_count list.now.nodes) seen }
@@ -326,7 +324,7 @@ impl Buckets {
     }
 }
 
-/// Links the dummy of a bucket behind a node, where it belongs.
+/// Links the dummy of a bucket behind a node, at its position.
 fn link_dummy(list: &mut NodeList, pred: NodeRef, bucket: u32) -> Result<NodeRef, InitRefusal>
     requires { IsVacant list.old.nodes pred (dummy_at bucket) }
     ensures ok { IfOk result (λ place. LinksAt list.old list.new pred bucket place) }

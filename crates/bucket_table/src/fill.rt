@@ -1,9 +1,9 @@
-//! Vectors of equal values.
+//! Vectors filled with one value.
 ghost use Rattle.std.specs.Prelude.{◌≡◌, replicate, IfOk};
 
 use std::alloc::{AllocError, Global};
 
-/// A vector of so many equal values.
+/// A vector of this number of equal values.
 pub(crate) fn vec_of<T: Copy>(alloc: Global, count: u32, value: T) -> Result<Vec<T>, AllocError>
     ensures { IfOk result (λ items. items.items ≡ replicate count value) }
 {

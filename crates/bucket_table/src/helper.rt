@@ -1,11 +1,12 @@
-//! Helpers: the callers that initialise buckets.
+//! Helpers: the callers that initialise buckets, each between two steps. A helper is idle, has a
+//! cursor for a dummy, or has a dummy that is not stored yet.
 ghost use Rattle.std.specs.Prelude.{◌≡◌};
 
 use crate::answer::InitRefusal;
 use list_steps::Cursor;
 use node_list::NodeRef;
 
-/// How far a helper is with a bucket that it initialises.
+/// The state of a helper.
 #[derive(Clone, Copy, Debug)]
 pub enum Helper {
     /// It has no bucket.

@@ -1,19 +1,20 @@
 //! The buckets of a hash table whose keys stand in one split-ordered list: the extensible table of
 //! Shalev and Shavit, "Split-Ordered Lists: Lock-Free Extensible Hash Tables" (Journal of the ACM
-//! 53, 2006), section 2, with its initialisation of a bucket cut into steps that other callers may
-//! come between.
+//! 53, 2006), section 2. The initialisation of a bucket is divided into steps, between which other
+//! callers may act.
 //!
 //! A bucket is *stored* once the table knows its dummy, the node in the list that stands before all
-//! keys of the bucket; bucket 0 is stored from the beginning, and each other one only after its
+//! keys of the bucket. Bucket 0 is stored from the beginning, and each other one only after its
 //! parent. A key is sought from the nearest stored ancestor of its bucket. A *helper* stores a
-//! bucket in three steps: it seeks the place of the dummy, links the dummy there unless it is
+//! bucket in three steps: it seeks the position of the dummy, links the dummy there unless it is
 //! linked already, and stores it.
 //!
-//! Beside the one list the buckets are a row of segments, each with the entries of 64 buckets. A
-//! segment is there exactly if one of its buckets is stored: the first from the beginning, and
-//! each other one from the first store of a bucket of its own on, which takes the memory for it. A
-//! contract sees the row as the flat array of its entries. Here the size is 4, the keys are 1 to 5,
-//! and all buckets but bucket 2 are stored. The list is in the order that `split_key` draws:
+//! Beside the list the buckets are a row of segments, each with the entries of 64 buckets. A
+//! segment is there exactly if one of its buckets is stored: the first from the beginning, and each
+//! other one from the first store of one of its buckets on, which takes the memory for it. A
+//! contract sees the row as the flat array of its entries. In this example the size is 4, the keys
+//! are 1 to 5, and all buckets but bucket 2 are stored. The list is in the order that `split_key`
+//! draws:
 //!
 //! ```text
 //!     buckets            list         bucket of the key
@@ -32,18 +33,18 @@
 //! Key 2 is sought from dummy 0, since bucket 0 is the parent of bucket 2. The dummy of bucket 2
 //! will be linked between the keys 4 and 2.
 //!
-//! Contracts see a `Directory`: the size, the place of each stored bucket's dummy, and what each
-//! helper has. On every value the sizes are powers of two and no bucket is stored before its parent
-//! (`IsSound`). Buckets are *at home* on their list (`IsHome`) where each stored bucket and each
-//! helper names its linked dummy, and each cursor was placed; each call keeps that, and so does any
-//! change of the list (`still_home`). What a call answers is a function of what it finds
-//! (`Answers`), a refused call changes nothing, and no call changes the content of the list.
-//! Doubling changes the size alone: no node moves.
+//! Contracts see a `Directory`: the size, the place of each stored bucket's dummy, and each
+//! helper's state. On every value the sizes are powers of two and no bucket is stored before its
+//! parent (`IsSound`). Buckets are *at home* on their list (`IsHome`) if each stored bucket and
+//! each helper names its linked dummy, and each cursor was placed; each call keeps that, and so
+//! does any change of the list (`still_home`). The answer to a call is a function of the state
+//! before it (`Answers`), a refused call changes nothing, and no call changes the content of the
+//! list. A doubling changes only the size: no node moves.
 //!
-//! Memory is taken by `Buckets::new`, for a new dummy by `Buckets::init_link`, and for a new
-//! segment by `Buckets::init_store`. `nearest` walks up the ancestors of a bucket, of which there
-//! are as many as the bucket has 1 bits; `init_seek` walks the list from the parent's dummy; the
-//! other steps take constant time, amortized if a dummy is linked.
+//! Calls take constant time and no memory unless they say otherwise. `Buckets::new` takes memory,
+//! `Buckets::init_link` for a new dummy, and `Buckets::init_store` for a new segment. `nearest`
+//! walks up the ancestors of a bucket, which are as many as it has 1 bits; `init_seek` walks the
+//! list from the parent's dummy.
 #![tactic(auto)]
 
 mod answer;

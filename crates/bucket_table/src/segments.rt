@@ -1,5 +1,5 @@
-//! The entries of the buckets, in segments of 64: memory is taken for a segment once a bucket of
-//! its own is stored.
+//! The entries of the buckets, in segments of 64. Memory for a segment is taken when the first of
+//! its buckets is stored.
 ghost use Rattle.std.specs.Prelude.{◌≡◌, ℕ, ◌-◌, ◌*◌, ◌<◌, ◌≤◌, ◌^◌, ◌∷◌, List, Option, Some, None, length, replicate, slice_index_or, slice_set, IfOk, OnErr};
 ghost use Rattle.bucket_table.specs.Segments.{LacksSegment, Puts};
 
@@ -8,7 +8,7 @@ use node_list::{NodeRef, PackedRef};
 use std::alloc::{AllocError, Global};
 use std::marker::Model;
 
-/// How many entries a segment has.
+/// The number of entries of a segment.
 const WIDTH: usize = 64;
 
 /// The entries of 64 buckets in a row, of 4 bytes each.
@@ -29,7 +29,7 @@ impl Model for Segment {
 }
 
 impl Segment {
-    /// A segment with this dummy at a place, and none elsewhere.
+    /// A segment with this dummy at one place and no other.
     fn new(alloc: Global, place: usize, dummy: NodeRef) -> Result<Self, AllocError>
         requires { place < 64 }
         ensures { IfOk result (λ segment. Puts None (Some segment) place dummy) }
@@ -58,8 +58,8 @@ impl Segment {
     }
 }
 
-/// The dummies of the stored buckets, by bucket: a row of segments, of which one is there exactly
-/// where a bucket of its own is stored.
+/// The dummies of the stored buckets, by bucket: a row of segments, each of which is there exactly
+/// if one of its buckets is stored.
 ///
 /// A contract sees them as the flat list of all entries.
 #[derive(Drop)]
@@ -81,8 +81,8 @@ impl Model for Segments {
 }
 
 impl Segments {
-    /// The entries of so many buckets, of which bucket 0 is stored with this dummy. Takes memory
-    /// for the row and for the first segment.
+    /// The entries of this number of buckets, of which only bucket 0 is stored, with this dummy.
+    /// Takes memory for the row and for the first segment.
     pub(crate) fn new(alloc: Global, limit: u32, first: NodeRef) -> Result<Self, AllocError>
         requires { 0 < limit }
         ensures { IfOk result (λ entries. entries ≡ Some first ∷ replicate (limit - 1) None) }
@@ -92,7 +92,7 @@ impl Segments {
         Ok(entries)
     }
 
-    /// The entries of so many buckets, of which none is stored. Takes memory for the row alone.
+    /// The entries of this number of buckets, none of them stored. Takes memory only for the row.
     fn empty(alloc: Global, limit: u32) -> Result<Self, AllocError>
         ensures { IfOk result (λ entries. entries ≡ replicate limit None) }
     {
@@ -100,7 +100,7 @@ impl Segments {
         Ok(Segments { alloc, limit, row })
     }
 
-    /// How many entries there are.
+    /// The number of entries.
     pub(crate) fn limit(&self) -> u32
         ensures { result ≡ length self.now }
     {
@@ -120,12 +120,12 @@ impl Segments {
         }
     }
 
-    /// Stores a bucket with its dummy. Takes memory for the bucket's segment if no bucket of it
-    /// is stored, and else none.
+    /// Stores a bucket with its dummy. Takes memory for the bucket's segment only if no bucket of
+    /// it is stored.
     ///
     /// # Errors
     ///
-    /// `AllocError` if memory is refused: then all is as it was.
+    /// `AllocError` if memory is refused. Then nothing has changed.
     pub(crate) fn set(&mut self, bucket: u32, dummy: NodeRef) -> Result<(), AllocError>
         requires { bucket < length self.old }
         ensures ok { IfOk result (λ done. self.new ≡ slice_set self.old bucket (Some dummy)) }
@@ -137,7 +137,7 @@ impl Segments {
     }
 }
 
-/// Stores a dummy at a place of a segment, which is made if it is not there.
+/// Stores a dummy at a place of a segment, which is made if it is missing.
 fn put(
     alloc: Global,
     segment: &mut Option<Segment>,
@@ -157,7 +157,7 @@ fn put(
     Ok(())
 }
 
-/// A row of segments that are not there.
+/// A row of missing segments.
 fn missing(alloc: Global, count: usize) -> Result<Vec<Option<Segment>>, AllocError>
     ensures { IfOk result (λ row. row.items ≡ replicate count None) }
 {

@@ -1,4 +1,4 @@
--- A lock puts a stripe before its caller's chain, and a release takes the first one off.
+-- A lock puts a stripe in front of its caller's chain, and a release takes the first one off.
 use Prim.Native.Nat.{zero, suc}
 use Rattle.std.proofs.Common.{◌≡◌, ◌≢◌, ℕ, ◌<◌, ◌≤◌, List, [], ◌∷◌, length, get_or, set, replicate, Option, None, Some, true, false, cond, ◌||◌, refl, sym, ◌∙◌, ap, subst, arith, inl, inr, eqb, eq-eqb, ne_eqb, length-set, get_or-set_other, get_or-set_same}
 use Rattle.std.proofs.lemmas.Bool.{cases_eq, cases_lt, or_parts, or_left, eqb-true, eqb-false}
@@ -52,7 +52,7 @@ held_below holders stripe caller held =
     ]
 
 -- ---- chains
--- a write at a stripe that the chain lacks leaves the chain
+-- a write at a stripe that is not in the chain leaves the chain unchanged
 Leads-set : (older : Holders) (first : Option ℕ) (chain : List ℕ) (stripe : ℕ) (next : Option ℕ) → is_in chain stripe ≡ false → Leads older first chain → Leads (set older stripe next) first chain
 Leads-set older first [] stripe next out leads = leads
 Leads-set older first (other ∷ rest) stripe next out leads =
@@ -60,7 +60,7 @@ Leads-set older first (other ∷ rest) stripe next out leads =
     let same = get_or-set_other older stripe other next None (eqb-false other stripe apart.0) in
     (leads.0, leads.1, subst (λ from. Leads (set older stripe next) from rest) (sym same) (Leads-set older (get_or older other None) rest stripe next apart.1 leads.2))
 
--- The stripe comes first in the chain of the caller that takes it.
+-- A stripe becomes the first of the chain of the caller that takes it.
 IsChain-taken : (holders older : Holders) (caller stripe : ℕ) (first : Option ℕ) (chain : List ℕ) → IsChain holders older caller first chain → get_or holders stripe None ≡ None → stripe < length holders → stripe < length older
     → IsChain (set holders stripe (Some caller)) (set older stripe first) caller (Some stripe) (stripe ∷ chain)
 IsChain-taken holders older caller stripe first chain is free within within_older =
@@ -72,7 +72,8 @@ IsChain-taken holders older caller stripe first chain is free within within_olde
           (λ differs. ap (λ b. b || is_in chain other) (ne_eqb stripe other (λ same. differs (sym same))) ∙ is.held other);
     }
 
--- A stripe that goes from hand to hand among others is in no way the caller's.
+-- A stripe that is not in the caller's chain, and is not the caller's after the write, leaves the
+-- chain unchanged.
 IsChain-elsewhere : (holders older : Holders) (caller stripe : ℕ) (first next holder : Option ℕ) (chain : List ℕ) → IsChain holders older caller first chain → is_caller caller (get_or holders stripe None) ≡ false → is_caller caller holder ≡ false → stripe < length holders
     → IsChain (set holders stripe holder) (set older stripe next) caller first chain
 IsChain-elsewhere holders older caller stripe first next holder chain is not_before not_after within =
@@ -84,7 +85,7 @@ IsChain-elsewhere holders older caller stripe first next holder chain is not_bef
           (λ differs. is.held other);
     }
 
--- A chain that begins.
+-- A chain by its first stripe.
 chain_from : (holders older : Holders) (caller stripe : ℕ) (first : Option ℕ) (chain : List ℕ) → IsChain holders older caller first chain → first ≡ Some stripe → (rest : List ℕ) × IsChain holders older caller (Some stripe) (stripe ∷ rest)
 chain_from holders older caller stripe first [] is begins = absurd (none_is_not_some first stripe is.leads begins)
 chain_from holders older caller stripe first (other ∷ rest) is begins =
@@ -94,7 +95,7 @@ chain_from holders older caller stripe first (other ∷ rest) is begins =
 first_held : (holders older : Holders) (caller stripe : ℕ) (rest : List ℕ) → IsChain holders older caller (Some stripe) (stripe ∷ rest) → get_or holders stripe None ≡ Some caller
 first_held holders older caller stripe rest is = caller_is caller _ (sym (is.held stripe) ∙ or_left (eqb stripe stripe) (is_in rest stripe) (eq-eqb stripe stripe refl))
 
--- Without its first stripe a chain is that of the rest.
+-- Without its first stripe a chain is a chain of the rest.
 IsChain-freed : (holders older : Holders) (caller stripe : ℕ) (rest : List ℕ) → IsChain holders older caller (Some stripe) (stripe ∷ rest) → IsChain (set holders stripe None) older caller (get_or older stripe None) rest
 IsChain-freed holders older caller stripe rest is =
     let within = held_below holders stripe caller (first_held holders older caller stripe rest is) in
@@ -105,8 +106,8 @@ IsChain-freed holders older caller stripe rest is =
           (λ differs. sym (ap (λ b. b || is_in rest other) (ne_eqb stripe other (λ same. differs (sym same)))) ∙ is.held other);
     }
 
--- ---- who holds
--- Only callers do, also after a write of a caller or of none.
+-- ---- holders
+-- only callers hold stripes, also after a write of a caller or of none
 abbrev NoneElse : Holders → Type 0
 NoneElse holders = (stripe holder : ℕ) → get_or holders stripe None ≡ Some holder → holder < 64
 
@@ -136,7 +137,7 @@ Releases-none holders older newest caller are past = record {
 }
 
 -- ---- all chains
--- one caller's chain begins elsewhere
+-- a write of one caller's newest stripe leaves the chains of the others unchanged
 AreChained-set : (holders older newest : Holders) (caller : ℕ) (first : Option ℕ) → length older ≡ length holders → length newest ≡ 64 → caller < 64
     → (chain : List ℕ) × IsChain holders older caller first chain
     → ((other : ℕ) → other < 64 → other ≢ caller → (chain : List ℕ) × IsChain holders older other (get_or newest other None) chain)
@@ -167,7 +168,7 @@ AreChained-taken holders older newest caller stripe are below within free =
     (its.0, IsChain-elsewhere holders older other stripe _ next (Some caller) its.0 its.1 (none_is_no_caller other _ free) (some_is_no_other caller other _ refl differs) within))
     (none_else-taken holders stripe caller within below are.none_else)
 
--- The stripe is the one that the caller took last.
+-- The caller took this stripe last.
 pub record IsNewest (holders older newest : List (Option ℕ)) (caller stripe : ℕ) : Type 0 where
   pub newest_is : get_or newest caller None ≡ Some stripe
   pub held : get_or holders stripe None ≡ Some caller
@@ -203,7 +204,7 @@ AreChained-freed holders older newest caller stripe are below is =
     ))
     (none_else-freed holders stripe is.within are.none_else)
 
--- At first no caller has a stripe.
+-- At first no caller holds a stripe.
 pub AreChained-new : (stripes : ℕ) (holders older newest : Holders) → holders ≡ replicate stripes None → older ≡ replicate stripes None → newest ≡ replicate 64 None → AreChained holders older newest
 AreChained-new stripes holders older newest holders_is older_is newest_is = record {
   as_many = ap length (older_is ∙ sym holders_is);
@@ -224,7 +225,7 @@ fewer_held holders caller stripe within held =
     let one : cond {A = ℕ} (is_caller caller (get_or holders stripe None)) 1 0 ≡ 1 = ap (λ b. cond {A = ℕ} b 1 0) (some_is_caller caller _ held) in
     omega (arith, one, sum_by-set (λ (holder : Option ℕ). cond {A = ℕ} (is_caller caller holder) 1 0) holders stripe None None within)
 
--- A stripe of the caller's may be freed first: what the release leaves is the same.
+-- A stripe of the caller may be freed first: the release leaves the same holders.
 pub without_caller-set : (holders : Holders) (caller stripe other : ℕ) → get_or holders stripe None ≡ Some caller → without_caller caller (get_or (set holders stripe None) other None) ≡ without_caller caller (get_or holders other None)
 without_caller-set holders caller stripe other held =
     get_or-set_is holders stripe other None (held_below holders stripe caller held) (λ holder. without_caller caller holder ≡ without_caller caller (get_or holders other None))

@@ -7,20 +7,20 @@ use Rattle.key_locks.specs.Locks.{holder_of, is_caller}
 abbrev pub is_in : List ℕ → ℕ → Bool
 is_in chain stripe = list_any (λ other. other == stripe) chain
 
--- From this stripe on the older ones are this chain, each once.
+-- This stripe and the older ones behind it are this chain, each once.
 abbrev pub Leads : List (Option ℕ) → Option ℕ → List ℕ → Type 0
 Leads older first [] = first ≡ None
 Leads older first (stripe ∷ rest) =
     (first ≡ Some stripe) × (is_in rest stripe ≡ false)
     × Leads older (slice_index_or older stripe None) rest
 
--- The chain has just the stripes that the caller holds.
+-- The chain has exactly the stripes that the caller holds.
 pub record IsChain (holders older : List (Option ℕ)) (caller : ℕ) (first : Option ℕ)
     (chain : List ℕ) : Type 0 where
   pub leads : Leads older first chain
   pub held : (stripe : ℕ) → is_in chain stripe ≡ is_caller caller (holder_of holders stripe)
 
--- Each caller has a chain, and nobody else holds a stripe.
+-- Each caller has a chain, and no one else holds a stripe.
 pub record AreChained (holders older newest : List (Option ℕ)) : Type 0 where
   pub as_many : length older ≡ length holders
   pub callers : length newest ≡ 64

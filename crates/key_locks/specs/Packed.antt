@@ -1,18 +1,18 @@
--- A number or none, in one number.
+-- A number or none, packed into one number.
 use Rattle.std.specs.Prelude.{◌≡◌, ℕ, Option, Some, None, ◌==◌, if◌then◌else◌}
 use Rattle.std.proofs.Common.{refl, sym, inl, inr, eq-eqb, ne_eqb}
 use Rattle.std.proofs.lemmas.Bool.{cases_eq}
 
--- The number that this one stands for, where one of them stands for none.
+-- The number that is packed here, if `none` stands for none.
 abbrev pub unpacked : ℕ → ℕ → Option ℕ
 unpacked none number = if number == none then None else Some number
 
--- The number that stands for this one or for none.
+-- The packed form of this number, or of none.
 abbrev pub packed : ℕ → Option ℕ → ℕ
 packed none None = none
 packed none (Some number) = number
 
--- A number that is unpacked is packed again.
+-- To unpack a number and pack it again answers the number.
 pub packed_unpacked : (none number : ℕ) → packed none (unpacked none number) ≡ number
 packed_unpacked none number = elim (cases_eq number none) [
   | inl same ↦ rw (eq-eqb number none same) (sym same)

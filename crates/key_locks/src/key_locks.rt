@@ -1,6 +1,6 @@
-//! Who holds which stripe, for one owner: a byte a stripe, and the stripes of a caller as a chain,
-//! so that `release_all` takes time in proportion to these alone. Invariant: the chains have just
-//! the stripes that their callers hold.
+//! The holders of the stripes, for one owner: a byte for each stripe, and the stripes of each
+//! caller in a chain, so that `release_all` takes time only in proportion to these. Invariant: each
+//! chain has exactly the stripes that its caller holds.
 ghost use Rattle.std.specs.Prelude.{◌≡◌, ℕ, ◌<◌, List, Option, None, length, replicate, IfOk};
 ghost use Rattle.key_locks.specs.Chains.{AreChained};
 
@@ -9,16 +9,16 @@ use crate::packed::{Holder, Link};
 use std::alloc::{AllocError, Global};
 use std::marker::Model;
 
-/// The numbers of callers are below this.
+/// The number of callers: each caller's number is below it.
 pub const CALLERS: usize = 64;
 
 /// Abstract locks: stripes of keys, each with one holder or none. A caller is a number below
-/// `CALLERS`, and a stripe its place from 0. A contract sees the list of the stripes' holders.
+/// `CALLERS`, and a stripe a number from 0. A contract sees the list of the stripes' holders.
 #[derive(Drop)]
 pub struct KeyLocks {
     // The caller that holds the stripe.
     holders: Vec<Holder>,
-    // Of a stripe that is held: the one that its holder took before it.
+    // For a stripe that is held: the one that its holder took before it.
     older: Vec<Link>,
     // The stripe that the caller took last.
     newest: Vec<Link>,
@@ -56,7 +56,7 @@ fn no_links(alloc: Global, count: usize) -> Result<Vec<Link>, AllocError>
 impl KeyLocks {
     ghost use Rattle.key_locks.specs.Locks.{Locks, Releases};
 
-    /// So many stripes that no caller holds. This takes all the memory that the locks will ever
+    /// This number of stripes, none of them held. It takes all the memory that the locks will ever
     /// need.
     ///
     /// # Errors
@@ -80,12 +80,8 @@ impl KeyLocks {
     }
 
     /// Makes the caller the holder of the stripe, unless another caller holds it: then nothing
-    /// changes, and the answer names that one. A stripe that the caller holds is granted again. No
-    /// other stripe changes.
-    ///
-    /// # Cost
-    ///
-    /// Constant time; takes no memory.
+    /// changes, and the answer names that caller. A stripe that the caller holds is granted again.
+    /// No other stripe changes.
     pub fn lock(&mut self, caller: usize, stripe: usize) -> LockAnswer
         requires caller { caller < CALLERS }
         requires stripe { stripe < length self.old }
@@ -103,7 +99,7 @@ impl KeyLocks {
         }
     }
 
-    /// Frees all stripes that the caller holds, and no other: none if the number is no caller's.
+    /// Frees all stripes that the caller holds, and no other: none if no caller has this number.
     ///
     /// # Cost
     ///

@@ -2,10 +2,10 @@
 //! and Koskinen, "Transactional Boosting: A Methodology for Highly-Concurrent Transactional
 //! Objects" (PPoPP 2008), rule 2, commutativity isolation.
 //!
-//! Keys are put into a fixed number of stripes, and a transaction takes the stripe of each key that
-//! it works on, and keeps it to its end. Two operations on one key may not commute, so its stripe
-//! has one holder at most: a caller, whose number is below 64. A caller that finds a stripe held by
-//! another is told by whom, and never waits.
+//! Keys are distributed to a fixed number of stripes. A transaction takes the stripe of each key
+//! that it works on, and keeps it to its end. Two operations on one key may not commute, so a
+//! stripe has at most one holder: a caller, whose number is below 64. A caller that finds a stripe
+//! held by another is told by whom, and never waits.
 //!
 //! The model is the list of the stripes' holders. Each caller's stripes are chained through the
 //! stripes themselves, from the one that it took last to its first:
@@ -18,15 +18,15 @@
 //!  older     -     -     -     -     1     -     4     -       caller 0 holds 6, then 4, then 1
 //! ```
 //!
-//! So a lock takes constant time, and giving a caller's stripes back takes time in proportion to
-//! those, however many stripes there are. All memory is taken when the stripes are made.
+//! So a lock takes constant time, and giving back a caller's stripes takes time in proportion to
+//! these, however many stripes there are. All memory is taken when the stripes are made. Calls take
+//! constant time and no memory unless they say otherwise.
 //!
-//! `StripeRight` is for stripes that callers take elsewhere, each by its own right, of which there
-//! is one.
+//! `StripeRight` is for stripes that callers take from elsewhere: the right to a stripe as a value,
+//! of which there is exactly one.
 //!
-//! Proved: a stripe has one holder at most; a lock is granted exactly if no other caller holds
-//! the stripe, and otherwise names that holder; each call says of every stripe who holds it
-//! afterwards.
+//! Proved: a stripe has at most one holder; a lock is granted exactly if no other caller holds the
+//! stripe, and otherwise names that holder; each call says of every stripe who holds it afterwards.
 #![tactic(auto)]
 
 mod key_locks;

@@ -1,9 +1,9 @@
-//! What a caller that asks for a stripe is told.
-/// What a caller that asks for a stripe is told.
+//! The answer to a caller that asks for a stripe.
+/// The answer to a caller that asks for a stripe.
 #[derive(Clone, Copy, Debug, PartialEq, Eq)]
 pub enum LockAnswer {
     /// The stripe is the caller's now, or was so before.
     Granted,
-    /// Another caller, this one, holds the stripe.
+    /// This other caller holds the stripe.
     Busy(usize),
 }

@@ -1,4 +1,4 @@
-//! A caller and a stripe, or none, in as little memory as they take.
+//! A caller or a stripe, or none, packed into one byte and one word.
 //!
 //! A contract sees each as an option of its number. The greatest number of the type stands for
 //! none: no caller has it, and no vector is long enough for a stripe to have it.

@@ -1,13 +1,12 @@
-//! The right to a stripe as a value that is not copied: two holders of one stripe cannot be written
-//! down.
+//! The right to a stripe as a value that cannot be copied, so that no stripe can have two holders.
 ghost use Rattle.std.specs.Prelude.{◌≡◌, IfOk};
 ghost use Rattle.key_locks.specs.Rights.{AreAll};
 
 use std::alloc::{AllocError, Global};
 use std::marker::Model;
 
-/// The right to one stripe: whoever has it holds the stripe. It is not copied, and contracts see
-/// the stripe's number.
+/// The right to one stripe: whoever has it holds the stripe. It cannot be copied. Contracts see the
+/// stripe's number.
 #[derive(Debug, Drop)]
 pub struct StripeRight {
     stripe: usize,
@@ -22,7 +21,7 @@ impl Model for StripeRight {
 }
 
 impl StripeRight {
-    /// One right for each of so many stripes, by rising number.
+    /// One right for each of this number of stripes, by rising number.
     ///
     /// # Errors
     ///
@@ -41,7 +40,7 @@ impl StripeRight {
         Ok(rights)
     }
 
-    /// The stripe's number. Constant time.
+    /// The stripe's number.
     pub fn stripe(&self) -> usize
         ensures { result ≡ self.now }
     {

@@ -1,4 +1,5 @@
--- What a change of one seat's view, of words and of slots owes to the rule.
+-- Changes of one seat's view, of words and of slots, and the conditions under which they keep the
+-- rule.
 use Rattle.std.proofs.Common.{◌≡◌, ◌≢◌, ℕ, zero, suc, ◌+◌, ◌<◌, ◌≤◌, ◌⊎◌, List, [], ◌∷◌, ◌++◌, length, get_or, set, Contains, Option, Some, sym, refl, ◌∙◌, ap, subst, inl, inr, ⊎_elim, arith, cond, eq-eqb, ne_eqb}
 use mathlib.Core.Logic.{dite}
 use mathlib.Core.Option.{Option as Maybe, some, none, some-injective, some-ne-none}
@@ -26,7 +27,7 @@ within [] i a e = absurd (some-ne-none a (sym e))
 within (x ∷ xs) zero a e = omega arith
 within (x ∷ xs) (suc i) a e = let h : i < length xs = within xs i a e in omega arith
 
--- The views, once the seat id has the view w in place of v.
+-- The views after the seat `id` gets the view `w` in place of `v`.
 module _ (s : St) (o : IsOrderly s) (id : ℕ) (v w : View) (me : get_elem? s.views id ≡ some v) (same : w.number ≡ v.number) (more : v.made ≤ w.made) (kept : (note : ℕ × ℕ) → Contains v.notes note → Contains w.notes note) where
   abbrev after : List View
   after = set s.views id w
@@ -52,14 +53,14 @@ module _ (s : St) (o : IsOrderly s) (id : ℕ) (v w : View) (me : get_elem? s.vi
       (id, w, set_here s.views id w (within s.views id v me), t.3 ∙ ap (λ (n : ℕ). n + 1) (ap (λ (y : View). y.number) is ∙ sym same)))
       (λ ne. (t.0, t.1, set_else s.views id t.0 w ne ∙ t.2, t.3)))) n
 
-  -- What was taken stays so.
+  -- A stripe that was taken before counts as taken after.
   lifted : (stripe word : ℕ) → WasTaken s.views stripe word → WasTaken after stripe word
   lifted stripe word t = dite (ℕ_discrete t.0 id)
       (λ e. let is : t.1 ≡ v = some-injective t.1 v (sym t.2 ∙ subst (λ (k : ℕ). get_elem? s.views k ≡ some v) (sym e) me) in
       (id, w, set_here s.views id w (within s.views id v me), t.3 ∙ ap (λ (n : ℕ). n + 1) (ap (λ (y : View). y.number) is ∙ sym same), kept (stripe, 0) (subst (λ (u : View). Contains u.notes (stripe, 0)) is t.4)))
       (λ ne. (t.0, t.1, set_else s.views id t.0 w ne ∙ t.2, t.3, t.4))
 
-  -- The words and slots are others, and the view w is in place of v.
+  -- The words and slots change, and the view `w` is in place of `v`.
   pub moved : (ws : List ℕ) (hs : List (Maybe (Option ℕ))) → length ws ≡ length s.words → length hs ≡ length s.homes
       → ((k : ℕ) → (get_or ws k 0 ≡ 0) ⊎ ((get_or ws k 0 ≡ v.number + 1) ⊎ (get_or ws k 0 ≡ get_or s.words k 0)))
       → ((k : ℕ) → times k w.held ≡ once_for v.number (get_or ws k 0))
@@ -92,7 +93,7 @@ module _ (s : St) (o : IsOrderly s) (id : ℕ) (v w : View) (me : get_elem? s.vi
         (λ (t : (i ≢ id) × (get_elem? s.views i ≡ some u)). o.noted i u t.1 k word ne has) (at_set s.views id i w u e));
   }
 
-  -- The words stay, and so do the slots, each seen by its place.
+  -- The words are unchanged, and so are the slots, each looked at by its position.
   pub unmoved : (hs : List (Maybe (Option ℕ))) → length hs ≡ length s.homes → ((k : ℕ) → get_elem? hs k ≡ get_elem? s.homes k)
       → ((k : ℕ) → times k w.held ≡ times k v.held)
       → ((k word : ℕ) → word ≢ 0 → Contains w.notes (k, word) → WasTaken s.views k word)
@@ -121,7 +122,7 @@ unnamed s o number new k e = dite (dec_le (length s.words) k)
 pub none_in : {X : Type 0} (x : X) → Contains [] x → ⊥
 none_in x c = omega (arith, c.1)
 
--- A new seat, with the count of seats so far as its number.
+-- A new seat gets the number of seats so far as its number.
 pub joined : (s : St) (o : IsOrderly s) (number : ℕ) → number < o.first.made → ((i : ℕ) (u : View) → get_elem? s.views i ≡ some u → u.number < number) → IsOrderly (board s.words s.homes (s.views ++ view number 0 [] [] ∷ []))
 joined s o number low new = let w = view number 0 [] [] in let vs = s.views ++ w ∷ [] in
     let at_new : get_elem? vs (length s.views) ≡ some w = at_last s.views w (length s.views) refl in

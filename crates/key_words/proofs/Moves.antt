@@ -28,7 +28,7 @@ times_other k j ks ne = ap (λ b. cond b 1 0 + times k ks) (ne_eqb j k ne) ∙ (
 once_at_most : (n word : ℕ) → once_for n word ≤ 1
 once_at_most n word = dite (ℕ_discrete word (n + 1)) (λ e. omega (arith, once_yes n word e)) (λ ne. omega (arith, once_no n word ne))
 
--- where a seat holds a stripe, the word is the seat's
+-- if a seat holds a stripe, the word is the seat's
 own_word : (n word many : ℕ) → many ≡ once_for n word → 0 < many → word ≡ n + 1
 own_word n word many e h = dite (ℕ_discrete word (n + 1)) (λ y. y) (λ ne. absurd (omega (arith, once_no n word ne)))
 
@@ -44,7 +44,7 @@ seen_taken s o i inside ne = ⊎_elim (λ (z : get_or s.words i 0 ≡ 0). absurd
     let one : times i t.1.held ≡ 1 = o.held t.0 t.1 t.2 i ∙ once_yes t.1.number (get_or s.words i 0) t.3 in
     (t.0, t.1, t.2, t.3, o.taken t.0 t.1 t.2 i (omega (arith, one)))) (o.named i inside)
 
--- A note that was added to true ones, and is true, or is of a word 0.
+-- An added note is true, or is of a word 0; the earlier ones were true.
 added_note : (s : St) → IsOrderly s → (id : ℕ) (v : View) → get_elem? s.views id ≡ some v → (i x : ℕ) → (x ≢ 0 → WasTaken s.views i x)
     → (k word : ℕ) → word ≢ 0 → Contains (v.notes ++ (i, x) ∷ []) (k, word) → WasTaken s.views k word
 added_note s o id v me i x true k word ne has = ⊎_elim (λ (old : Contains v.notes (k, word)). o.noted id v me k word ne old)
@@ -93,7 +93,7 @@ tries n id m i own said e lt s o wide me _ = let v : View = m.0 in let x : ℕ =
     ))
 
 -- An act that puts the stripe k before the other stripes held: the slots go home and out again, all
--- in one step
+-- in one step.
 front_of : (hs : Slots) (c : List (ℕ × Option ℕ)) (x k : ℕ) (ks : List ℕ) → c ≡ (k, None) ∷ emptied ks → k ≢ x → x < length hs → k < length hs → get_elem? hs x ≡ some (some None)
     → Valid hs c (chain gives (chain (takes x None) (takes k None)))
     × (carried_after c (chain gives (chain (takes x None) (takes k None))) ≡ emptied (k ∷ x ∷ ks))
@@ -115,7 +115,7 @@ front_of hs c x k ks e ne lx lk at = let a : Act (Option ℕ) = chain gives (cha
       l₃ ∙ l₂ ∙ l₁,
     ))
 
--- what an act does that brings the stripe k forward
+-- the effect of an act that brings the stripe k to the front
 pub record Fronts (hs : Slots) (k : ℕ) (ks : List ℕ) (a : Act (Option ℕ)) : Type 0 where
   pub valid : Valid hs (emptied ks) a
   pub order : carried_after (emptied ks) a ≡ emptied (k ∷ removed k ks)

@@ -1,4 +1,4 @@
--- What a caller does with its seat and its rights.
+-- The effects of calls on a caller's seat and its rights.
 use Rattle.std.specs.Prelude.{◌≡◌, ◌≢◌, ℕ, ◌+◌, List, [], ◌∷◌, ◌++◌, slice_get, Some}
 use Rattle.key_words.specs.declared.rights.Rights.{Rights}
 use Rattle.key_words.specs.declared.taken.Tried.{Tried}
@@ -8,18 +8,18 @@ use Rattle.key_words.specs.Rule.{Holds, view}
 use Rattle.key_words.specs.Seats.{known}
 use Rattle.key_words.specs.Steps.{gained, with_note}
 
--- Seat and rights are as they were.
+-- Seat and rights are unchanged.
 abbrev pub IsSame : Rights → Rights → Type 0
 IsSame r q = (q.seat ≡ r.seat) × (q.rights.items ≡ r.rights.items)
 
--- The seat has the stripe now, and its right is the newest.
+-- The seat holds the stripe now, and its right is the newest.
 abbrev pub Gains : Rights → ℕ → Rights → Type 0
 Gains r stripe q = (known q.seat ≡ gained (known r.seat) stripe)
     × (q.rights.items ≡ r.rights.items ++ stripe ∷ [])
 
--- A take by whoever keeps its rights. Mine: the stripe's right lies at the place; where the seat
--- held the stripe before, nothing was done, and else it was free and is the seat's. Another: the
--- seat did not hold the stripe, another does, the word is noted, and the rights are as they were.
+-- A take with the rights kept. Mine: the stripe's right is at this position; if the seat held the
+-- stripe before, nothing was done, and if not it was free and is the seat's now. Another: the seat
+-- did not hold the stripe, another seat does, the word is noted, and the rights are unchanged.
 abbrev pub Tries : Rights → ℕ → Tried → Rights → Type 0
 Tries r stripe (Mine place) q = (slice_get q.rights.items place ≡ Some stripe)
     × (Holds (known r.seat) stripe → IsSame r q)
@@ -28,6 +28,6 @@ Tries r stripe (Another word) q = (word ≢ 0) × (word ≢ (known r.seat).numbe
     × (¬ Holds (known r.seat) stripe)
     × (known q.seat ≡ with_note (known r.seat) stripe word) × (q.rights.items ≡ r.rights.items)
 
--- The view, once no stripe is held.
+-- The view after the seat has given back all its stripes.
 abbrev pub none_held : View → View
 none_held v = view v.number v.made [] v.notes

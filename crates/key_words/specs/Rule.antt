@@ -18,7 +18,7 @@ times stripe (first ∷ rest) = cond (first == stripe) 1 0 + times stripe rest
 abbrev pub Holds : View → ℕ → Type 0
 Holds v stripe = 0 < times stripe v.held
 
--- One where the word is that of the seat with this number, else none.
+-- One if the word is that of the seat with this number, else none.
 abbrev pub once_for : ℕ → ℕ → ℕ
 once_for number word = cond (word == number + 1) 1 0
 
@@ -27,7 +27,7 @@ abbrev pub IsNamed : List View → ℕ → Type 0
 IsNamed views word =
     (word ≡ 0) ⊎ ((seat : ℕ) × (v : View) × (get_elem? views seat ≡ some v) × (word ≡ v.number + 1))
 
--- The seat that the word names has at some time taken the stripe, when it saw the word 0.
+-- The seat that the word names has taken the stripe at some time, when it saw the word 0.
 abbrev pub WasTaken : List View → ℕ → ℕ → Type 0
 WasTaken views stripe word =
     (seat : ℕ) × (v : View) × (get_elem? views seat ≡ some v) × (word ≡ v.number + 1)
@@ -44,18 +44,18 @@ pub record IsOrderly (s : State (Option ℕ) View) : Type 0 where
   pub below : (i : ℕ) (v : View) → get_elem? s.views i ≡ some v → v.number < first.made
   pub apart : (i j : ℕ) (v w : View) → get_elem? s.views i ≡ some v → get_elem? s.views j ≡ some w
       → v.number ≡ w.number → i ≡ j
-  -- A word is 0 or names a seat, and a seat holds a stripe, once, exactly where the word is the
+  -- A word is 0 or names a seat, and a seat holds a stripe, once, exactly if the word is the
   -- seat's.
   pub named : (stripe : ℕ) → stripe < length s.words → IsNamed s.views (slice_index s.words stripe)
   pub held : (i : ℕ) (v : View) → get_elem? s.views i ≡ some v → (stripe : ℕ)
       → times stripe v.held ≡ once_for v.number (slice_index s.words stripe)
-  -- Where the word is 0 the stripe's slot is at home with its right, and else it is out.
+  -- If the word is 0 the stripe's slot is at home with its right, and if not it is out.
   pub home : (stripe : ℕ) → stripe < length s.words → slice_index s.words stripe ≡ 0
       → get_elem? s.homes stripe ≡ some (some (Some stripe))
   pub out : (stripe : ℕ) → stripe < length s.words → slice_index s.words stripe ≢ 0
       → get_elem? s.homes stripe ≡ some none
-  -- Who holds a stripe has noted that its word was 0, and a seat is noted as a stripe's holder only
-  -- after it took the stripe.
+  -- A seat that holds a stripe has noted that its word was 0, and a seat is noted as a stripe's
+  -- holder only after it took the stripe.
   pub taken : (i : ℕ) (v : View) → get_elem? s.views i ≡ some v → (stripe : ℕ) → Holds v stripe
       → Contains v.notes (stripe, 0)
   pub noted : (i : ℕ) (v : View) → get_elem? s.views i ≡ some v → (stripe word : ℕ) → word ≢ 0

@@ -1,4 +1,4 @@
--- What contracts see of the words and of a seat.
+-- The words and a seat as contracts see them.
 use Rattle.std.specs.Prelude.{◌≡◌, ◌≢◌, ◌↔◌, ℕ, ◌+◌, ◌<◌, List, [], length}
 use Rattle.std.specs.List.{HoldsAt}
 use Rattle.key_words.specs.declared.view.View.{View}
@@ -9,11 +9,11 @@ use Rattle.key_words.specs.declared.taken.Taken.TheVariants.{Granted, Held}
 use Rattle.key_words.specs.Rule.{Holds}
 use Rattle.key_words.specs.Steps.{gained, with_note}
 
--- What the seat knows.
+-- The view of the seat.
 abbrev pub known : KeySeat → View
 known seat = seat.seat.me.0
 
--- The seat is one of these words.
+-- The seat belongs to these words.
 abbrev pub IsOf : KeySeat → KeyWords → Type 0
 IsOf seat words = seat.seat.table_id ≡ words.table.shared.table_id
 
@@ -21,22 +21,22 @@ IsOf seat words = seat.seat.table_id ≡ words.table.shared.table_id
 abbrev pub stripes_of : KeyWords → ℕ
 stripes_of words = words.table.shared.table_id.words
 
--- A take of a stripe adds one note, of the word that it saw. Granted: that was 0, and the seat has
--- the stripe and its right. Held: it was not 0, and is the seat's own exactly where the seat held
--- the stripe before, so else another's.
+-- A take of a stripe adds one note, of the word that it saw. Granted: the word was 0, and the seat
+-- has the stripe and its right. Held: the word was not 0; it was the seat's own exactly if the seat
+-- held the stripe before.
 abbrev pub Takes : ℕ → View → Taken → View → Type 0
 Takes stripe v (Granted right) w = (right ≡ stripe) × (w ≡ gained v stripe)
 Takes stripe v (Held word) w = (word ≢ 0) × (w ≡ with_note v stripe word)
     × (Holds v stripe ↔ (word ≡ v.number + 1))
 
--- A seat of these words that has done nothing yet.
+-- A seat of these words that has not done anything yet.
 pub record IsFresh (words : KeyWords) (number : ℕ) (seat : KeySeat) : Type 0 where
   pub of : IsOf seat words
   pub number_is : (known seat).number ≡ number
   pub held : (known seat).held ≡ []
   pub notes : (known seat).notes ≡ []
 
--- So many seats, and the seat at each place has the place's number.
+-- This number of seats, each with its position as its number.
 pub record AreSeats (words : KeyWords) (count : ℕ) (seats : List KeySeat) : Type 0 where
   pub count_is : length seats ≡ count
   pub each : (number : ℕ) → number < count → HoldsAt (IsFresh words number) seats number

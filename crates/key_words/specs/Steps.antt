@@ -1,4 +1,4 @@
--- What each step makes of its seat.
+-- The steps at the words: the seat after each.
 use Rattle.std.specs.Prelude.{◌≡◌, ◌≢◌, ◌↔◌, ℕ, ◌+◌, ◌==◌, cond, List, [], ◌∷◌, ◌++◌, Option, Some, None}
 use Rattle.atomic_table.specs.Table.{Me, Step, rest}
 use Rattle.key_words.specs.declared.view.View.{View}
@@ -25,7 +25,7 @@ abbrev pub removed : ℕ → List ℕ → List ℕ
 removed stripe [] = []
 removed stripe (first ∷ others) = cond (first == stripe) others (first ∷ removed stripe others)
 
--- The stripe is held no more.
+-- The stripe is no longer held.
 abbrev pub lost : View → ℕ → View
 lost v stripe = view v.number v.made (removed stripe v.held) v.notes
 
@@ -42,17 +42,17 @@ abbrev pub emptied : List ℕ → List (ℕ × Option ℕ)
 emptied [] = []
 emptied (stripe ∷ others) = (stripe, None) ∷ emptied others
 
--- Where the word was 0, the seat has the stripe, and its slot with the right. Else it notes the
--- word, which is its own exactly where it held the stripe before.
+-- If the word was 0, the seat holds the stripe and has its slot with the right. If not, it notes
+-- the word, which is its own exactly if it held the stripe before.
 abbrev pub took : Told
 took st m found n = (found ≡ 0 → n ≡ (gained m.0 st.word, (st.word, Some st.word) ∷ m.1))
     × (found ≢ 0 → (n ≡ (with_note m.0 st.word found, m.1))
     × (Holds m.0 st.word ↔ (found ≡ m.0.number + 1)))
 
--- The stripe's slot is the first of the seat's.
+-- The stripe's slot is the first of the seat's slots.
 abbrev pub brought : Told
 brought st m found n = n ≡ (m.0, emptied (st.word ∷ removed st.word m.0.held))
 
--- The stripe is the seat's no more, and its slot is at home.
+-- The seat no longer holds the stripe, and its slot is at home.
 abbrev pub freed : Told
 freed st m found n = n ≡ (lost m.0 st.word, rest m.1)

@@ -1,13 +1,9 @@
-//! A law of the rule.
+//! A law of the words: a function that does nothing, whose contract is the law.
 ghost use Rattle.key_words.specs.Laws.{HeldOnce};
 
 /// No stripe is held in two views.
 ///
-/// The contract is the law, of what the rule of the words promises.
-///
-/// # Cost
-///
-/// None: it does nothing when it runs.
+/// The contract is the law, a consequence of the rule of the words; the function does nothing.
 #[tactic(auto, using(crate::proofs::Moves::held_once))]
 pub fn held_once()
     ensures { HeldOnce }

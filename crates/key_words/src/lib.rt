@@ -1,16 +1,17 @@
 //! Key words: the stripes of a shared map as atomic words, which callers in many threads take and
 //! give without waiting.
 //!
-//! A stripe's word is 0 if it is free, and `n + 1` where seat `n` holds it. Its right, of which
-//! there is one, lies in the stripe's slot while no seat holds the stripe. A take is one
-//! compare-exchange of the word from 0: it answers the right, or the word that it saw, which tells
-//! who holds the stripe. A give lays the right back and stores 0.
+//! A stripe's word is 0 if it is free, and `n + 1` if seat `n` holds it. Each stripe has one right,
+//! which lies in the stripe's slot while no seat holds the stripe. A take is one compare-exchange
+//! of the word from 0: it answers the right, or the word that it saw, which tells who holds the
+//! stripe. A give lays the right back and stores 0.
 //!
-//! Proved, by a rule that holds between any two atomic steps of any threads: a stripe is held by
-//! one seat at most (`held_once`), the one that its word names; its right is in its slot exactly
-//! if the word is 0, and so is handed to one seat at a time; a seat is named as a holder only
-//! once it has taken the stripe, so that no take can answer that an untouched stripe is held. No
-//! call waits, and none but `KeyWords::new` and `Rights::take` takes memory. Nothing says that a
+//! Proved, by a rule that holds between any two atomic steps of any threads: a stripe is held by at
+//! most one seat (`held_once`), the one that its word names; its right is in its slot exactly if
+//! the word is 0, and so goes to one seat at a time; a seat is named as a holder only after it has
+//! taken the stripe, so no take can answer that an untouched stripe is held. No call waits. Nothing
+//! says that a take ever succeeds. Calls take constant time and no memory unless they say
+//! otherwise.
 //! take ever succeeds.
 #![tactic(auto)]
 

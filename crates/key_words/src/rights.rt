@@ -1,5 +1,5 @@
-//! A seat together with the rights of the stripes that it holds, as one value, so that no call can
-//! part them. Invariant: the rights are of just the stripes that the seat holds, each once.
+//! A seat and the rights of the stripes that it holds, as one value, so that no call can separate
+//! them. Invariant: the rights are those of the stripes that the seat holds, each once.
 ghost use Rattle.std.specs.Prelude.{◌≡◌, ◌<◌, [], reverse, vec_len, slice_get, Some, IfErr, IfOk, IfSome, IfNone};
 ghost use Rattle.key_words.specs.Rule.{Holds};
 ghost use Rattle.key_words.specs.Seats.{IsOf, known, stripes_of};
@@ -12,8 +12,8 @@ use std::alloc::{AllocError, Global};
 
 /// A caller's seat, and the rights of the stripes that it holds, the newest last.
 ///
-/// That the rights are of just the stripes that the seat holds, each once, is a fact of the type.
-/// So no call loses one; whoever drops the whole loses its rights.
+/// The type guarantees that the rights are those of the stripes that the seat holds, each once. So
+/// no call loses one; only dropping the whole value loses its rights.
 #[derive(Drop)]
 pub struct Rights {
     pub(crate) seat: KeySeat,
@@ -25,10 +25,6 @@ impl Rights {
     ghost use Rattle.key_words.specs.Kept.{IsSame, Tries, none_held};
 
     /// A seat that holds nothing, with no rights.
-    ///
-    /// # Cost
-    ///
-    /// Constant time; takes no memory.
     pub fn new(alloc: Global, seat: KeySeat) -> Rights
         requires { (known seat).held ≡ [] }
         ensures { (result.seat ≡ seat) × (result.rights.items ≡ []) }
@@ -39,7 +35,7 @@ impl Rights {
         }
     }
 
-    /// The place of the stripe's right, if the seat has it.
+    /// The position of the stripe's right, if the seat has it.
     fn place(&self, stripe: usize) -> Option<usize>
         ensures some { IfSome result (λ place.
             slice_get self.now.rights.items place ≡ Some stripe) }
@@ -54,13 +50,13 @@ impl Rights {
         None
     }
 
-    /// Takes the stripe's word, in one try, unless the right is there already.
-    ///
-    /// Room for a right is made before the word is tried.
+    /// Takes the stripe's word, in one try, unless the right is there already. Room for a right is
+    /// made before the word is tried.
     ///
     /// # Errors
     ///
-    /// `AllocError` if memory is refused: no word was tried, and seat and rights are as before.
+    /// `AllocError` if memory is refused. Then no word was tried, and seat and rights are
+    /// unchanged.
     ///
     /// # Cost
     ///
@@ -86,11 +82,7 @@ impl Rights {
         }
     }
 
-    /// The right at a place.
-    ///
-    /// # Cost
-    ///
-    /// Constant time; takes no memory.
+    /// The right at a position.
     pub fn right(&self, place: usize) -> &StripeRight
         requires { place < vec_len self.now.rights }
         ensures { Some result.now ≡ slice_get self.now.rights.items place }
@@ -98,7 +90,7 @@ impl Rights {
         &self.rights[place]
     }
 
-    /// Gives all rights back, the newest first.
+    /// Gives back all rights, the newest first.
     ///
     /// # Cost
     ///

@@ -7,10 +7,10 @@ use crate::view::View;
 use atomic_table::{Play, Split, TableRule};
 use key_locks::StripeRight;
 
-/// Where a stripe's right lies while no seat holds the stripe.
+/// The place of a stripe's right while no seat holds the stripe.
 pub(crate) type Slot = Option<StripeRight>;
 
-/// The words are in order.
+/// The rule: the words are in order.
 pub(crate) struct Order;
 
 impl TableRule<Slot, View, ()> for Order {
@@ -19,8 +19,7 @@ impl TableRule<Slot, View, ()> for Order {
     ghost first = { λ _. view 0 1 [] [] };
 }
 
-/// A compare-exchange of the word from 0 to the seat's: if it was 0, the slot goes out to the
-/// seat.
+/// A compare-exchange of the word from 0 to the seat's. If it was 0, the slot goes out to the seat.
 pub(crate) struct Take;
 
 impl Play<Slot, View> for Take {

@@ -1,5 +1,5 @@
-//! A seat at the words: what one thread brings to an atomic step. Invariant: it has out just the
-//! slots of the stripes that it holds, each empty.
+//! A seat at the words: the state that one thread brings to an atomic step. Invariant: it has out
+//! exactly the slots of the stripes that it holds, each empty.
 ghost use Rattle.std.specs.Prelude.{◌≡◌, ℕ, ◌<◌, []};
 ghost use Rattle.key_words.specs.Rule.{Holds};
 ghost use Rattle.key_words.specs.Steps.{emptied};
@@ -8,8 +8,8 @@ use crate::rule::Slot;
 use crate::view::View;
 use atomic_table::Seat;
 
-/// A seat at the words, for one thread at a time. It has out just the slots of the stripes that it
-/// holds, each empty.
+/// A seat at the words, for one thread at a time. It has out exactly the slots of the stripes that
+/// it holds, each empty.
 #[derive(Drop)]
 pub struct KeySeat {
     pub(crate) number: u64,

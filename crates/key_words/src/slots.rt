@@ -7,7 +7,7 @@ use crate::rule::Slot;
 use key_locks::StripeRight;
 use std::alloc::{AllocError, Global};
 
-/// So many slots, each empty.
+/// This number of slots, each empty.
 pub(crate) fn empty_slots(alloc: Global, count: usize) -> Result<Vec<Slot>, AllocError>
     ensures { IfOk result (λ slots. vec_len slots ≡ count) }
 {

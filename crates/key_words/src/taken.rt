@@ -1,8 +1,8 @@
-//! What a take answers, to whoever takes a single stripe and to whoever keeps rights: granted, or
-//! the word that was seen.
+//! The answers to takes, for a caller that takes a single stripe and for one that keeps its rights:
+//! granted, or the word that was seen.
 use key_locks::StripeRight;
 
-/// What a take answers.
+/// The answer to a take of a single stripe.
 #[derive(Debug, Drop)]
 pub enum Taken {
     /// The stripe was free, and is the seat's now: its right.
@@ -11,10 +11,10 @@ pub enum Taken {
     Held(u64),
 }
 
-/// What a take answers to whoever keeps its rights.
+/// The answer to a take by a caller that keeps its rights.
 #[derive(Clone, Copy, Debug, PartialEq, Eq)]
 pub enum Tried {
-    /// The stripe is the seat's: the place of its right.
+    /// The stripe is the seat's: the position of its right.
     Mine(usize),
     /// The stripe is held by another seat: its word, one more than that seat's number.
     Another(u64),

@@ -1,15 +1,15 @@
-//! What the rule of the words knows of a seat. It stands in proofs alone; each atomic step says
-//! what becomes of it.
+//! The view of a seat in the rule of the words. It exists only in proofs; each atomic step says
+//! what it becomes.
 use std::collections::LinkedList;
 
-/// What a seat knows. It stands in proofs alone, and no value of it is made.
+/// A seat's view. It exists only in proofs, and no value of it is made.
 pub struct View {
     /// The seat's number.
     pub number: u64,
-    /// How many seats are made: kept by seat 0.
+    /// How many seats have been made; seat 0 keeps this count.
     pub made: u64,
     /// The stripes that the seat holds, the newest first.
     pub held: LinkedList<u64>,
-    /// What its takes saw, the newest last: each stripe with its word.
+    /// The words that its takes saw, the newest last: each stripe with its word.
     pub notes: LinkedList<(u64, u64)>,
 }

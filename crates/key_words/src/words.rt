@@ -23,7 +23,7 @@ pub struct KeyWords {
     ghost sized: { table.shared.table_id.slots ≡ table.shared.table_id.words },
 }
 
-/// So many words, each 0.
+/// This number of words, each 0.
 fn zeros(alloc: Global, count: usize) -> Result<Vec<u64>, AllocError>
     ensures { IfOk result (λ words. words.items ≡ replicate count 0) }
 {
@@ -37,7 +37,7 @@ impl KeyWords {
     ///
     /// # Errors
     ///
-    /// `Refusal::NoMemory` if memory is refused, with the rights that were handed in.
+    /// `Refusal::NoMemory` if memory is refused, with the rights that were passed in.
     ///
     /// # Cost
     ///
@@ -104,15 +104,10 @@ impl KeyWords {
         all
     }
 
-    /// Takes a stripe, in one try, which never waits: one compare-exchange of its word, which the
+    /// Takes a stripe in one try, which never waits: one compare-exchange of its word, which the
     /// seat notes.
     ///
-    /// Granted, with the stripe's right, exactly if the word was 0 then; else `Held` with the
-    /// word.
-    ///
-    /// # Cost
-    ///
-    /// Constant time; takes no memory.
+    /// Granted, with the stripe's right, exactly if the word was 0 then; else `Held` with the word.
     pub fn take(&self, seat: &mut KeySeat, stripe: usize) -> Taken
         requires seat { IsOf seat.old self.now }
         requires stripe { stripe < stripes_of self.now }
@@ -131,13 +126,9 @@ impl KeyWords {
         }
     }
 
-    /// Gives a stripe back, by its right, and leaves the seat's others: lays the right into its
-    /// slot and frees the word by one store. Before it one load, which changes nothing, puts the
-    /// stripe's slot in front of the seat's others.
-    ///
-    /// # Cost
-    ///
-    /// Constant time; takes no memory.
+    /// Gives a stripe back by its right, and leaves the seat's other stripes unchanged: lays the
+    /// right into its slot and frees the word by one store. One load before it, which changes
+    /// nothing, puts the stripe's slot in front of the seat's others.
     pub fn give(&self, seat: &mut KeySeat, right: StripeRight)
         requires seat { IsOf seat.old self.now }
         requires held { Holds (known seat.old) right }

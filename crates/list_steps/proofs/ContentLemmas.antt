@@ -1,4 +1,4 @@
--- What steps do to the content.
+-- The effect of steps on the content.
 use Rattle.std.proofs.Common.{◌≡◌, ℕ, inl, inr, List, [], ◌∷◌, ◌++◌, Bool, true, false, Some, arith, subst, refl, sym, ◌∙◌, ap, append_assoc}
 use Rattle.split_key.specs.declared.sort.SortKey.{SortKey}
 use Rattle.split_key.proofs.SortLemmas.{cases_before}
@@ -46,14 +46,14 @@ pairs_cons : (n : NodeAt) (rest : List NodeAt) → pairs (n ∷ rest) ≡ pair_o
 unfolding pairs
 pairs_cons n rest = refl
 
--- The content goes by that of the nodes behind.
+-- The content changes exactly as that of the nodes behind a front does.
 pairs_same_rest : (front : List NodeAt) (n : NodeAt) (rest other : List NodeAt) → pairs rest ≡ pairs other → pairs (front ++ n ∷ rest) ≡ pairs (front ++ n ∷ other)
 pairs_same_rest front n rest other same =
     pairs-append front (n ∷ rest)
     ∙ ap (λ ps. pairs front ++ ps) (pairs_cons n rest ∙ ap (λ ps. pair_of n ++ ps) same ∙ sym (pairs_cons n other))
     ∙ sym (pairs-append front (n ∷ other))
 
--- Some nodes in the place of others.
+-- A stretch of nodes is replaced by another.
 pub replaced : (front was now rest : List NodeAt) → Replaces (pairs (front ++ (was ++ rest))) (pairs (front ++ (now ++ rest))) (pairs was) (pairs now)
 replaced front was now rest = record {
   before = pairs front;
@@ -74,7 +74,7 @@ module _ (nodes : List NodeAt) (place : ℕ) (n : NodeAt) (is : node_of nodes pl
   at : IsAt nodes place n
   at = found_at nodes place n is
 
-  -- A node that is linked adds what it has.
+  -- A node that is linked adds its pair, if it has one.
   pub pairs_linked : (x : NodeAt) → Replaces (pairs nodes) (pairs (linked_after nodes place x)) [] (pair_of x)
   pairs_linked x = replaces_same _ _ _ _ _ _ _ _
       (ap pairs (append_assoc at.front (n ∷ []) at.rest ∙ sym at.is))
@@ -90,13 +90,13 @@ module _ (nodes : List NodeAt) (place : ℕ) (n : NodeAt) (is : node_of nodes pl
       (replaced at.front (n ∷ []) (change n ∷ []) at.rest)
 
   module _ (regular : n.kind ≡ Regular) (unmarked : n.marked ≡ false) where
-    -- A node that is marked takes its pair away.
+    -- A node that is marked removes its pair.
     pub pairs_marked : Replaces (pairs nodes) (pairs (marked_at nodes place)) ((n.at.key, n.value) ∷ []) []
     pairs_marked = replaces_same _ _ _ _ _ _ _ _ refl refl
         (pair_regular n regular unmarked) (pair_marked (record n { marked = true }) refl)
         (changed (λ k. record k { marked = true }))
 
-    -- A value that is written stands in the pair.
+    -- A value that is written replaces the one in the pair.
     pub pairs_written : (value : ℕ) → Replaces (pairs nodes) (pairs (written_at nodes place value)) ((n.at.key, n.value) ∷ []) ((n.at.key, value) ∷ [])
     pairs_written value = replaces_same _ _ _ _ _ _ _ _ refl refl
         (pair_regular n regular unmarked) (pair_regular (record n { value = value }) regular unmarked)
@@ -111,7 +111,7 @@ module _ (nodes : List NodeAt) (place : ℕ) (n : NodeAt) (is : node_of nodes pl
         let P : List (ℕ × ℕ) → Type 0 = λ ps. Contains ps (n.at.key, n.value) in
         subst P (sym parts) (Contains-append_right (pairs at.front) ((n.at.key, n.value) ∷ pairs at.rest) (n.at.key, n.value) (0, omega arith, refl))
 
--- A marked node that is unlinked takes nothing away.
+-- A marked node that is unlinked leaves the content unchanged.
 pub pairs_unlinked : (nodes : List NodeAt) (place : ℕ) → IsBeforeMarked nodes place → pairs (unlinked_after nodes place) ≡ pairs nodes
 pairs_unlinked nodes place before =
     let found = next_from nodes place before.node before.next in
@@ -124,7 +124,7 @@ pairs_unlinked nodes place before =
     ) in
     ap pairs (unlinked_at nodes place found.0 at) ∙ pairs_same_rest at.front found.0 (without_first at.rest) at.rest keeps ∙ sym (ap pairs at.is)
 
--- Unlinking marked nodes keeps the content.
+-- Unlinking marked nodes leaves the content unchanged.
 pub pairs_cleaned : (sort : SortKey) (nodes : List NodeAt) → pairs (cleaned sort nodes) ≡ pairs nodes
 unfolding cleaned
 pairs_cleaned sort [] = refl
@@ -148,7 +148,7 @@ pairs_sought nodes from sort start =
     ∙ pairs_same_rest at.front start.node (cleaned sort at.rest) at.rest (pairs_cleaned sort at.rest)
     ∙ sym (ap pairs at.is)
 
--- What holds of each regular, unmarked node holds of each pair.
+-- A statement about each pair, from one about each regular, unmarked node.
 pub each_pair : (P : NodeAt → Type 0) (Q : ℕ → ℕ → Type 0) → ((n : NodeAt) → n.kind ≡ Regular → n.marked ≡ false → P n → Q n.at.key n.value) → (nodes : List NodeAt) → AllByRecursion P nodes → AllByRecursion (λ pair. Q pair.0 pair.1) (pairs nodes)
 unfolding pairs
 each_pair P Q holds [] each = tt

@@ -46,7 +46,7 @@ pub record Fits (n : NodeAt) (cur : Noted) : Type 0 where
   pub stamp : n.stamp ≡ cur.stamp
   pub unmarked : n.marked ≡ false
 
--- What the test of the next node tells.
+-- If the test of the next node succeeds, the node is the noted one.
 next_fits : (n : NodeAt) (cur : Noted) → is_next_noted (Some n) (Some cur) ≡ true → Fits n cur
 next_fits n cur is = record {
   place = same_from_test n.place cur.place (and_left _ _ is);
@@ -71,9 +71,9 @@ module _ (l : Listing) (c : Cursor) where
   unfolding fits
   fits_none is = ap (λ o. is_noted o c.pred.stamp && is_next_noted (behind l c) c.cur) is
 
--- Where a cursor fits.
+-- If a cursor fits.
 module _ (l : Listing) (c : Cursor) (fitting : fits l c ≡ true) where
-  -- Its first node is there.
+  -- Its first node is linked.
   pub fits_pred : (n : NodeAt) × (node_of l.nodes (pred_of c) ≡ Some n) × (n.stamp ≡ c.pred.stamp)
   unfolding fits
   fits_pred = go (node_of l.nodes (pred_of c)) (and_left _ _ fitting)
@@ -97,7 +97,7 @@ module _ (l : Listing) (c : Cursor) (fitting : fits l c ≡ true) where
       go None cur_is = absurd (true-false (sym (sym (ap (λ o. is_next_noted (Some m) o) cur_is) ∙ holds)))
       go (Some k) cur_is = (k, cur_is, next_fits m k (sym (ap (λ o. is_next_noted (Some m) o) cur_is) ∙ holds))
 
--- Where a cursor that was placed fits.
+-- If a cursor that was placed fits.
 module _ (l : Listing) (c : Cursor) (sound : IsSound l) (placed : IsPlaced l c) (fitting : fits l c ≡ true) where
   pub low : (n : NodeAt) → node_of l.nodes (pred_of c) ≡ Some n → IsBelow n (at_of c)
   low n is =
@@ -113,7 +113,7 @@ module _ (l : Listing) (c : Cursor) (sound : IsSound l) (placed : IsPlaced l c) 
       let P : ℕ → Type 0 = λ p. node_of l.nodes p ≡ Some m in
       placed.beyond m next.0 next.1 (subst P next.2.place there) next.2.stamp
 
-  -- And is above it where it does not have it.
+  -- It is above the sort key if it does not have it.
   pub above : node_there l c ≡ None → (m : NodeAt) → behind l c ≡ Some m → IsBefore (at_of c) m.at
   above none m is = elim (cases_same m.at (at_of c)) [
     | inl same ↦ absurd (some-none (rw same.0 at (sym (ap (λ o. with_key o (at_of c)) is) ∙ none)))
@@ -123,7 +123,7 @@ module _ (l : Listing) (c : Cursor) (sound : IsSound l) (placed : IsPlaced l c) 
     ]
   ]
 
--- The node of the sort key, where a cursor fits.
+-- The node of the sort key, if a cursor fits.
 pub record There (l : Listing) (c : Cursor) (n : NodeAt) : Type 0 where
   pub behind_is : behind l c ≡ Some n
   pub is : node_of l.nodes n.place ≡ Some n
@@ -148,9 +148,9 @@ there l c n spread fitting is = go (behind l c) refl is
       | inr differs ↦ absurd (some-none (sym (rw differs.0 at with_is)))
     ]
 
--- A cursor that is found.
+-- A cursor as a seek leaves it.
 module _ (l : Listing) (c : Cursor) (found : IsFound l c) where
-  -- Fits.
+  -- It fits.
   pub found_fits : fits l c ≡ true
   found_fits =
       fits_then l c found.pred found.pred_is pred_noted
@@ -169,7 +169,7 @@ module _ (l : Listing) (c : Cursor) (found : IsFound l c) where
           let stamp : m.stamp ≡ cur.stamp = ap (λ (n : Noted). n.stamp) same in
           rw (same_test m.place cur.place place, same_test m.stamp cur.stamp stamp, beyond.0) refl
 
-  -- And is placed.
+  -- It is placed.
   pub found_placed : IsSound l → IsPlaced l c
   found_placed sound = record {
     pred_known = omega (arith, sound.stamped.bound (pred_of c) found.pred found.pred_is, found.pred_noted);
@@ -196,13 +196,13 @@ module _ (l : Listing) (c : Cursor) (found : IsFound l c) where
       cur_node : (cur : Noted) → c.cur ≡ Some cur → (k : NodeAt) × (node_of l.nodes cur.place ≡ Some k) × (k.stamp ≡ cur.stamp) × IsNotBelow k (at_of c)
       cur_node cur cur_is = go (behind l c) cur refl (found.cur_noted ∙ cur_is) found.beyond
 
--- What is noted of the node behind a place.
+-- The note of the node behind a place.
 pub noted_next : (nodes : List NodeAt) (place next : ℕ) (k : Noted) → IsSpread nodes → place_of (next_of nodes place) ≡ Some next → noted (node_of nodes next) ≡ Some k → noted (next_of nodes place) ≡ Some k
 noted_next nodes place next k spread is note =
     let found = linked_found nodes next (next_linked nodes place next spread is) in
     ap noted (next_node nodes place next spread is found.0 found.1 ∙ sym found.1) ∙ note
 
--- A cursor that notes the place of its sort key is found.
+-- A cursor that notes the position of its sort key is as a seek leaves it.
 pub noted_found : (l : Listing) (place : ℕ) (c : Cursor) → IsPred l.nodes place (at_of c) → IsBeyond (next_of l.nodes place) (at_of c) → noted (node_of l.nodes place) ≡ Some c.pred → c.cur ≡ noted (next_of l.nodes place) → changes_of c ≡ l.changes → IsFound l c
 noted_found l place c before beyond pred_is cur_is changes_are = record {
   pred = before.node;
@@ -230,7 +230,7 @@ noted_found l place c before beyond pred_is cur_is changes_are = record {
     Beyond : ℕ → Type 0
     Beyond p = IsBeyond (next_of l.nodes p) (at_of c)
 
--- A cursor fits the same nodes alike.
+-- Whether a cursor fits depends only on the nodes.
 pub fits_same : (old new : Listing) (c : Cursor) → new.nodes ≡ old.nodes → fits new c ≡ fits old c
 unfolding fits
 fits_same old new c same = ap (λ ns. is_noted (node_of ns (pred_of c)) c.pred.stamp && is_next_noted (next_of ns (pred_of c)) c.cur) same

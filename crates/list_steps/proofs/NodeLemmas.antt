@@ -1,4 +1,4 @@
--- A list of nodes, taken apart at a place.
+-- A list of nodes, split at a place.
 use Rattle.std.proofs.Common.{◌≡◌, ◌≢◌, ℕ, inl, inr, List, [], ◌∷◌, ◌++◌, Option, Some, None, true, false, refl, sym, ◌∙◌, ap, subst, append_assoc, ◌==◌}
 use Rattle.std.proofs.lemmas.Bool.Decides.{eqb_tells}
 use Rattle.node_list.specs.Nodes.{NodeAt, IsLinked, node_of, next_of, first, without_first, place_of, linked_after, unlinked_after, changed_at}
@@ -51,7 +51,7 @@ found_at (m ∷ rest) place n is = elim (eqb_tells m.place place) [
       }
 ]
 
--- Each function of a list at a place, on a list that is taken apart there.
+-- Each function of a list at a place, on a list that is split there.
 module _ (place : ℕ) (n : NodeAt) (rest : List NodeAt) (here : n.place ≡ place) where
   node_of-append : (front : List NodeAt) → AbsentFrom place front → node_of (front ++ n ∷ rest) place ≡ Some n
   unfolding node_of
@@ -83,7 +83,7 @@ module _ (place : ℕ) (n : NodeAt) (rest : List NodeAt) (here : n.place ≡ pla
   linked-append [] = inl here
   linked-append (m ∷ front) = inr (linked-append front)
 
--- A node behind others is at none of their places.
+-- A node behind others has none of their places.
 apart_append : (place : ℕ) (front : List NodeAt) (m : NodeAt) (rest : List NodeAt) → AbsentFrom place (front ++ m ∷ rest) → m.place ≢ place
 apart_append place [] m rest absent = absent.0
 apart_append place (k ∷ front) m rest absent = apart_append place front m rest absent.1
@@ -145,7 +145,7 @@ some_place : (o : Option NodeAt) (place : ℕ) → place_of o ≡ Some place →
 some_place None place is = absurd (some-none (sym is))
 some_place (Some m) place is = (m, refl, some-injective is)
 
--- Nothing is behind the last node.
+-- No node is behind the last one.
 pub no_place : (o : Option NodeAt) → place_of o ≡ None → o ≡ None
 no_place None is = refl
 no_place (Some n) is = absurd (some-none is)
@@ -158,7 +158,7 @@ module _ (nodes : List NodeAt) (place next : ℕ) (spread : IsSpread nodes) (is 
       let P : ℕ → Type 0 = λ p. IsLinked nodes p in
       subst P there.2 (found_linked nodes there.0.place there.0 (next_found nodes place there.0 spread there.1))
 
-  -- And the node there is the next one.
+  -- The node there is the next one.
   pub next_node : (m : NodeAt) → node_of nodes next ≡ Some m → next_of nodes place ≡ Some m
   next_node m found =
       let there = some_place (next_of nodes place) next is in

@@ -1,4 +1,4 @@
--- The place of a sort key in a list in order.
+-- The position of a sort key in an ordered list.
 use Rattle.std.proofs.Common.{◌≡◌, ◌≢◌, ℕ, List, [], ◌∷◌, ◌++◌, Some, refl, sym, ◌∙◌, subst}
 use Rattle.std.specs.List.{AllByRecursion}
 use Rattle.node_list.specs.Nodes.{NodeAt, node_of, next_of, first}
@@ -9,7 +9,7 @@ use Rattle.split_key.proofs.SortLemmas.{before_apart, before_transitive}
 use Rattle.list_steps.specs.Seek.{IsBelow}
 use Rattle.list_steps.proofs.NodeLemmas.{found_at, next_at}
 
--- What is before all that follow it is before one that does.
+-- A node that is before all that follow it is before each of them.
 pub before_later : (k n : NodeAt) (front rest : List NodeAt) → AllByRecursion (IsNodeBefore k) (front ++ n ∷ rest) → IsNodeBefore k n
 before_later k n [] rest before = before.0
 before_later k n (m ∷ front) rest before = before_later k n front rest before.1
@@ -23,7 +23,7 @@ rising_rest (k ∷ front) n rest rising = rising_rest front n rest rising.1
 abbrev pub NoneHas : SortKey → List NodeAt → Type 0
 NoneHas sort nodes = AllByRecursion (λ n. n.at ≢ sort) nodes
 
--- The nodes up to one that is below the sort key.
+-- No node up to one that is below the sort key has the sort key.
 none_before : (front : List NodeAt) (n : NodeAt) (rest : List NodeAt) (sort : SortKey) → IsRising (front ++ n ∷ rest) → IsBelow n sort → NoneHas sort rest → NoneHas sort (front ++ n ∷ rest)
 unfolding IsRising
 none_before [] n rest sort rising below others = (before_apart n.at sort below, others)
@@ -31,7 +31,7 @@ none_before (m ∷ front) n rest sort rising below others =
     let low = before_transitive m.at n.at sort (before_later m n front rest rising.0) below in
     (before_apart m.at sort low, none_before front n rest sort rising.1 below others)
 
--- The nodes behind one that is above the sort key.
+-- No node behind one that is above the sort key has the sort key.
 none_behind : (n : NodeAt) (rest : List NodeAt) (sort : SortKey) → IsBefore sort n.at → AllByRecursion (IsNodeBefore n) rest → NoneHas sort rest
 none_behind n [] sort above before = tt
 none_behind n (m ∷ rest) sort above before =
@@ -45,7 +45,7 @@ none_from (m ∷ rest) sort rising above =
     let high = above m refl in
     ((λ same. before_apart sort m.at high (sym same)), none_behind m rest sort high rising.0)
 
--- No node has a sort key that is between two neighbours.
+-- No node has a sort key between those of two neighbours.
 pub none_between : (nodes : List NodeAt) (place : ℕ) (n : NodeAt) (sort : SortKey) → IsRising nodes → node_of nodes place ≡ Some n → IsBelow n sort → ((m : NodeAt) → next_of nodes place ≡ Some m → IsBefore sort m.at) → NoneHas sort nodes
 none_between nodes place n sort rising is below above =
     let at = found_at nodes place n is in

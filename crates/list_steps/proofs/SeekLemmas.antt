@@ -1,4 +1,4 @@
--- What is left of a seek at each node.
+-- The rest of a seek at each node.
 use Prim.Native.Nat.{suc}
 use Rattle.std.proofs.Common.{◌≡◌, ℕ, ◌+◌, ◌-◌, ◌<◌, ◌≤◌, inl, inr, List, [], ◌∷◌, ◌++◌, Option, Some, None, Bool, true, false, length, refl, sym, ◌∙◌, ap, subst, arith, if◌then◌else◌, ◌==◌, append_assoc}
 use Rattle.std.proofs.lemmas.Bool.Decides.{eqb_tells}
@@ -19,7 +19,8 @@ unfoldable pub nodes_behind : List NodeAt → ℕ → List NodeAt
 nodes_behind [] place = []
 nodes_behind (n ∷ rest) place = if n.place == place then rest else nodes_behind rest place
 
--- The seek is at a node before the place sought, and the rest of it gives what the whole would.
+-- The seek is at a node before the position sought, and the rest of it has the same result as the
+-- whole.
 pub record IsSeeking (old now : Listing) (from place : ℕ) (sort : SortKey) : Type 0 where
   pub linked : IsLinked now.nodes place
   pub pred : AllPlain now.nodes → IsPred now.nodes place sort
@@ -72,7 +73,7 @@ module _ (nodes : List NodeAt) (place : ℕ) (n : NodeAt) (at : IsAt nodes place
   pub behind_at : nodes_behind nodes place ≡ at.rest
   behind_at = ap (λ ns. nodes_behind ns place) at.is ∙ nodes_behind-append place n at.rest at.here at.front at.absent
 
--- At a node before the place sought.
+-- At a node before the position sought.
 module _ (nodes : List NodeAt) (place : ℕ) (sort : SortKey) (pred : IsPred nodes place sort) where
   pred_at : IsAt nodes place pred.node
   pred_at = found_at nodes place pred.node pred.is
@@ -80,7 +81,7 @@ module _ (nodes : List NodeAt) (place : ℕ) (sort : SortKey) (pred : IsPred nod
   first_rest : (o : Option NodeAt) → next_of nodes place ≡ o → first pred_at.rest ≡ o
   first_rest o is = sym (next_at nodes place pred.node pred_at) ∙ is
 
-  -- Nothing is left where nothing is behind.
+  -- The seek ends if no node is behind.
   pub sought_at_end : next_of nodes place ≡ None → sought nodes place sort ≡ nodes
   sought_at_end is =
       sought_at nodes place pred.node pred_at sort
@@ -94,7 +95,7 @@ module _ (nodes : List NodeAt) (place : ℕ) (sort : SortKey) (pred : IsPred nod
     rest_is : pred_at.rest ≡ m ∷ without_first pred_at.rest
     rest_is = first_is pred_at.rest m (first_rest (Some m) is)
 
-    -- Nor where an unmarked node that is not below the sort key is behind.
+    -- The seek ends if an unmarked node that is not below the sort key is behind.
     pub sought_stopped : m.marked ≡ false → IsNotBelow m sort → sought nodes place sort ≡ nodes
     sought_stopped unmarked above =
         sought_at nodes place pred.node pred_at sort
@@ -124,7 +125,7 @@ module _ (nodes : List NodeAt) (place : ℕ) (sort : SortKey) (pred : IsPred nod
         (sym (ap (cleaned sort) rest_is ∙ cleaned_marked m (without_first pred_at.rest) sort marked))
         ∙ sym (sought_at nodes place pred.node pred_at sort)
 
-  -- The node at the place stays.
+  -- The node at the place is still before the position.
   pub pred_unlinked : IsPred (unlinked_after nodes place) place sort
   pred_unlinked = record {
     node = pred.node;
@@ -157,7 +158,7 @@ module _ (nodes : List NodeAt) (place : ℕ) (n m : NodeAt) (is : node_of nodes 
         ap length behind_first,
       )
 
--- One node is unlinked by one change, so the change number has grown by the number of nodes unlinked.
+-- Each node is unlinked by one change, so the change number grows by the number of nodes unlinked.
 pub changes_unlinked : (first all changes unlinked before after : ℕ) → after + 1 ≡ before → before ≤ all → changes ≡ changes_after first (all - before) → unlinked ≡ one_more changes → unlinked ≡ changes_after first (all - after)
 unfolding changes_after
 changes_unlinked first all changes unlinked before after one fewer changes_are unlinked_is =
@@ -170,7 +171,7 @@ changes_unchanged changes nodes =
     let none : nodes - nodes ≡ 0 = omega arith in
     ap (changes_after changes) (sym none)
 
--- What holds of each node holds of each that a seek leaves.
+-- A statement about each node holds of each that a seek leaves.
 pub each_cleaned : (P : NodeAt → Type 0) (sort : SortKey) (nodes : List NodeAt) → AllByRecursion P nodes → AllByRecursion P (cleaned sort nodes)
 each_cleaned P sort [] each = let Each : List NodeAt → Type 0 = λ ns. AllByRecursion P ns in subst Each (sym (cleaned_nil sort)) tt
 each_cleaned P sort (n ∷ rest) each = go n.marked refl (each_cleaned P sort rest each.1)

@@ -1,4 +1,4 @@
--- What stands where a cursor fits, and what each step does there.
+-- The node at a cursor that fits, and the effect of each step there.
 use Rattle.std.proofs.Common.{◌≡◌, ℕ, List, [], ◌∷◌, Option, Some, None, true, false, refl, sym, ◌∙◌, ap, subst}
 use Rattle.std.specs.Prelude.{IsSomeAnd, IsTrue}
 use Rattle.node_list.specs.declared.node.Kind.{Kind}
@@ -20,7 +20,7 @@ module _ (l : Listing) (c : Cursor) (sound : IsSound l) (placed : IsPlaced l c) 
   pred : (n : NodeAt) × (node_of l.nodes (pred_of c) ≡ Some n) × (n.stamp ≡ c.pred.stamp)
   pred = fits_pred l c fitting
 
-  -- Where no node has the sort key, it belongs right behind the cursor's first node.
+  -- If no node has the sort key, it belongs right behind the cursor's first node.
   pub vacant_where_fits : node_there l c ≡ None → IsVacant l.nodes (pred_of c) (at_of c)
   vacant_where_fits none = record {
     node = pred.0;
@@ -56,12 +56,12 @@ module _ (l : Listing) (c : Cursor) (sound : IsSound l) (placed : IsPlaced l c) 
             content = λ regular. pairs_contain l.nodes n.place n here.is regular here.unmarked;
           })
 
-  -- What a look finds.
+  -- The result of a look.
   pub finds : (found : Option ℕ) → found ≡ place_of (node_there l c) → Finds l c found
   finds None none = absent (no_place (node_there l c) (sym none))
   finds (Some place) is = there_at place is
 
--- The node that is there is regular, where it has to be.
+-- The node that is there is regular, if a regular node has to be there.
 pub regular_there : (l : Listing) (c : Cursor) → fits l c ≡ true → (place : ℕ) → IsThere l c place → IsKeyThere l c → IsRegularAt l.nodes place
 regular_there l c fitting place here key_there =
     let P : Option NodeAt → Type 0 = λ o. IsSomeAnd o (λ m. IsTrue (is_regular m.kind)) in
@@ -72,7 +72,7 @@ regular_there l c fitting place here key_there =
     go Dummy is = cc
     go Regular is = refl
 
--- What holds at the place of the node that is there holds of that node.
+-- A statement about the place of the node that is there, as one about the place that a look finds.
 pub at_node : (l : Listing) (c : Cursor) (place : ℕ) → IsThere l c place → (P : ℕ → Type 0) → P place → IsSomeAnd (node_there l c) (λ n. P n.place)
 at_node l c place here P holds =
     let Q : Option NodeAt → Type 0 = λ o. IsSomeAnd o (λ n. P n.place) in

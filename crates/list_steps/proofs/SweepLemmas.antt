@@ -1,4 +1,4 @@
--- What a sweep has passed at each node.
+-- The nodes that a sweep has passed.
 use Rattle.std.proofs.Common.{◌≡◌, ℕ, ◌<◌, ◌≤◌, inl, inr, List, [], ◌∷◌, ◌++◌, Option, Some, None, Bool, true, false, refl, sym, ◌∙◌, ap, subst, arith, append_assoc, if◌then◌else◌}
 use Rattle.std.specs.List.{AllByRecursion}
 use Rattle.split_key.specs.declared.sort.SortKey.{SortKey}
@@ -35,7 +35,7 @@ not_marked : (b : Bool) → (b ≡ true → ⊥) → b ≡ false
 not_marked true never = absurd (never refl)
 not_marked false never = refl
 
--- A node is not marked that does not stand behind one that all marked ones stand behind.
+-- A node is unmarked if it does not stand behind a node that all marked ones stand behind.
 unmarked_up_to : (n m : NodeAt) → IsNotBefore n.at m.at → (m.marked ≡ true → IsBefore n.at m.at) → m.marked ≡ false
 unmarked_up_to n m not_before before = not_marked m.marked (λ marked. before_not_before n.at m.at (before marked) not_before)
 
@@ -62,7 +62,7 @@ without_first_marked-append (n ∷ front) m rest passed marked =
     without_first_marked-cons n (front ++ m ∷ rest) passed.0
     ∙ ap (λ ns. n ∷ ns) (without_first_marked-append front m rest passed.1 marked)
 
--- It begins at a node that all marked ones stand behind.
+-- The sweep begins at a node that all marked ones stand behind.
 pub sweeping_from : (nodes : List NodeAt) (place : ℕ) → IsRising nodes → IsBeforeMarks nodes place → IsSweeping nodes place
 sweeping_from nodes place rising start =
     let node = start.node in
@@ -75,7 +75,7 @@ sweeping_from nodes place rising start =
       passed = clean_up_to at.front node at.rest (subst R at.is rising) (subst B at.is start.before);
     }
 
--- All marked nodes stand behind an unmarked one that has none before it.
+-- All marked nodes stand behind an unmarked node that has no marked one before it.
 behind_rest : (n : NodeAt) (rest : List NodeAt) → AllByRecursion (IsNodeBefore n) rest → AllByRecursion (λ m. m.marked ≡ true → IsBefore n.at m.at) rest
 behind_rest n [] before = tt
 behind_rest n (m ∷ rest) before = ((λ marked. before.0), behind_rest n rest before.1)
@@ -91,7 +91,7 @@ behind_all P (m ∷ front) n rest rising unmarked never each = (
   behind_all P front n rest rising.1 unmarked never each.1,
 )
 
--- The first node is one that all marked ones stand behind.
+-- All marked nodes stand behind the first node.
 pub head_before_marks : (l : Listing) → IsSound l → IsBeforeMarks l.nodes l.head
 unfolding IsRising
 head_before_marks l sound =
@@ -108,15 +108,16 @@ head_before_marks l sound =
       before = subst B (sym nodes_are) ((λ marked. absurd (true-false (sym marked ∙ unmarked))), behind_rest node (without_first l.nodes) rising.0);
     }
 
--- Before the dummy of a bucket no node has a split key as high as its.
+-- Each node before the dummy of a bucket has a lower split key than the dummy.
 early_low : (bucket : ℕ) (at : SortKey) → IsBefore at (dummy_at bucket) → at.split < reversed bucket
 early_low bucket at before = elim (lower_from at (dummy_at bucket) before) [
   | inl less ↦ less
   | inr both ↦ absurd (omega (arith, both.1))
 ]
 
--- All marked nodes stand behind a dummy that is no later than the one of a bucket, where that one's split key is not above
--- the answer of `NodeList::marks_begin`. So a sweep may start at the nearest stored dummy of the answer's bucket.
+-- All marked nodes stand behind a dummy that is no later than the one of a bucket, if that one's
+-- split key is not above the answer of `NodeList::marks_begin`. So a sweep may start at the nearest
+-- stored dummy of the answer's bucket.
 pub before_marks : (l : Listing) (place bucket split : ℕ) (node : NodeAt) → IsSound l → node_of l.nodes place ≡ Some node → node.kind ≡ Dummy → IsNotBefore (dummy_at bucket) node.at → reversed bucket ≤ split → AreMarksFrom split l.nodes → IsBeforeMarks l.nodes place
 before_marks l place bucket split node sound is dummy not_behind order from =
     let at = found_at l.nodes place node is in
@@ -137,7 +138,7 @@ module _ (nodes : List NodeAt) (place : ℕ) (sweeping : IsSweeping nodes place)
   first_rest : (o : Option NodeAt) → next_of nodes place ≡ o → first sweeping.at.rest ≡ o
   first_rest o is = sym (next_at nodes place sweeping.node sweeping.at) ∙ is
 
-  -- Goes on behind an unmarked node.
+  -- The sweep moves on behind an unmarked node.
   pub sweeping_passed : (m : NodeAt) → IsSpread nodes → next_of nodes place ≡ Some m → m.marked ≡ false → IsSweeping nodes m.place
   sweeping_passed m spread is unmarked = record {
     node = m;
@@ -145,7 +146,7 @@ module _ (nodes : List NodeAt) (place : ℕ) (sweeping : IsSweeping nodes place)
     passed = clean-append (sweeping.at.front ++ sweeping.node ∷ []) (m ∷ []) sweeping.passed (unmarked, tt);
   }
 
-  -- Finds the first marked node.
+  -- It finds the first marked node.
   pub sweeping_found : (m : NodeAt) → next_of nodes place ≡ Some m → m.marked ≡ true → unlinked_after nodes place ≡ without_first_marked nodes
   sweeping_found m is marked =
       unlinked_at nodes place sweeping.node sweeping.at
@@ -160,14 +161,14 @@ module _ (nodes : List NodeAt) (place : ℕ) (sweeping : IsSweeping nodes place)
           sweeping.at.is ∙ ap (λ ns. sweeping.at.front ++ sweeping.node ∷ ns) (first_is sweeping.at.rest m (first_rest (Some m) is))
           ∙ sym (append_assoc sweeping.at.front (sweeping.node ∷ []) (m ∷ without_first sweeping.at.rest))
 
-  -- Or the end, and then none is marked.
+  -- It reaches the end, and then no node is marked.
   pub sweeping_ends : next_of nodes place ≡ None → IsClean nodes
   sweeping_ends is =
       let nothing = first_none sweeping.at.rest (first_rest None is) in
       let C : List NodeAt → Type 0 = IsClean in
       subst C (sym (sweeping.at.is ∙ ap (λ ns. sweeping.at.front ++ sweeping.node ∷ ns) nothing)) sweeping.passed
 
--- What holds of each node holds of each that a sweep leaves.
+-- A statement about each node holds of each that a sweep leaves.
 pub each_swept : (P : NodeAt → Type 0) (nodes : List NodeAt) → AllByRecursion P nodes → AllByRecursion P (without_first_marked nodes)
 unfolding without_first_marked
 each_swept P [] each = tt

@@ -1,26 +1,26 @@
--- The keys and values of a list, in its order, and what a step does to them.
+-- The keys and values of a list, in its order, and the effect of a step on them.
 use Rattle.std.specs.Prelude.{◌≡◌, ℕ, List, [], ◌∷◌, ◌++◌, Bool, true, false}
 use Rattle.node_list.specs.declared.node.Kind.{Kind}
 use Rattle.node_list.specs.declared.node.Kind.TheVariants.{Dummy, Regular}
 use Rattle.node_list.specs.Nodes.{NodeAt}
 
--- What a node of this kind, mark, key and value adds to the content: its pair, if it is regular and
--- unmarked.
+-- The pairs that a node of this kind, mark, key and value adds to the content: one if it is regular
+-- and unmarked, else none.
 abbrev pub pair_if : Kind → Bool → ℕ → ℕ → List (ℕ × ℕ)
 pair_if Dummy marked key value = []
 pair_if Regular true key value = []
 pair_if Regular false key value = (key, value) ∷ []
 
--- What a node adds to the content.
+-- The pairs that a node adds to the content: one or none.
 abbrev pub pair_of : NodeAt → List (ℕ × ℕ)
 pair_of n = pair_if n.kind n.marked n.at.key n.value
 
--- Key and value of each regular, unmarked node.
+-- The key and the value of each regular, unmarked node.
 unfoldable pub pairs : List NodeAt → List (ℕ × ℕ)
 pairs [] = []
 pairs (n ∷ rest) = pair_of n ++ pairs rest
 
--- One stretch of the list has become another, and the rest stands as it was.
+-- One stretch of the list has been replaced by another, and the rest is unchanged.
 pub record Replaces (old new was now : List (ℕ × ℕ)) : Type 0 where
   pub before : List (ℕ × ℕ)
   pub after : List (ℕ × ℕ)

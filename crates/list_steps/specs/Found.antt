@@ -1,4 +1,4 @@
--- What a cursor says of a list.
+-- Cursors on a list: found by a seek, placed at some time, and fitting now.
 use Rattle.std.specs.Prelude.{◌≡◌, ◌≢◌, ℕ, ◌<◌, ◌≤◌, ◌-◌, ◌^◌, min, Option, Some, None, Bool, true, false, ◌==◌, ◌&&◌, not, if◌then◌else◌, IsSomeAnd, IsTrue}
 use Rattle.split_key.specs.declared.sort.SortKey.{SortKey}
 use Rattle.split_key.specs.Sort.{is_same}
@@ -11,11 +11,11 @@ use Rattle.list_steps.specs.Seek.{IsBelow, IsNotBelow}
 abbrev pub at_of : Cursor → SortKey
 at_of c = c.at
 
--- The change number when the seek ended.
+-- The change number at the end of the seek.
 abbrev pub changes_of : Cursor → ℕ
 changes_of c = c.changes
 
--- The place of the node before the place sought.
+-- The place of the node before the position sought.
 abbrev pub pred_of : Cursor → ℕ
 pred_of c = c.pred.place
 
@@ -23,7 +23,7 @@ pred_of c = c.pred.place
 abbrev pub behind : Listing → Cursor → Option NodeAt
 behind l c = next_of l.nodes (pred_of c)
 
--- What a cursor notes of a node.
+-- The note that a cursor keeps of a node.
 abbrev pub noted : Option NodeAt → Option Noted
 noted None = None
 noted (Some n) = Some (record { place = n.place; stamp = n.stamp })
@@ -33,8 +33,8 @@ abbrev pub IsBeyond : Option NodeAt → SortKey → Type 0
 IsBeyond None at = Unit {0}
 IsBeyond (Some n) at = (n.marked ≡ false) × IsNotBelow n at
 
--- The cursor notes an unmarked node below its sort key and the node behind that, which is
--- unmarked and not below it.
+-- The cursor notes an unmarked node below its sort key and the node behind that, which is unmarked
+-- and not below the sort key.
 pub record IsFound (l : Listing) (c : Cursor) : Type 0 where
   pub pred : NodeAt
   pub pred_is : node_of l.nodes (pred_of c) ≡ Some pred
@@ -50,7 +50,8 @@ abbrev pub is_noted : Option NodeAt → ℕ → Bool
 is_noted None stamp = false
 is_noted (Some n) stamp = n.stamp == stamp && not n.marked
 
--- The next node is what the cursor noted, and unmarked.
+-- The next node is the one that the cursor noted, and is unmarked; or there is none and none was
+-- noted.
 abbrev pub is_next_noted : Option NodeAt → Option Noted → Bool
 is_next_noted None None = true
 is_next_noted None (Some c) = false
@@ -58,13 +59,13 @@ is_next_noted (Some n) None = false
 is_next_noted (Some n) (Some c) = n.place == c.place && (n.stamp == c.stamp && not n.marked)
 
 -- The cursor fits: its first node is linked and unmarked with the noted stamp, behind it is the
--- noted second one or the end, and that one is unmarked and has its noted stamp.
+-- noted second node or the end, and that node is unmarked with its noted stamp.
 unfoldable pub fits : Listing → Cursor → Bool
 fits l c = is_noted (node_of l.nodes (pred_of c)) c.pred.stamp && is_next_noted (behind l c) c.cur
 
--- A cursor that was placed on the list, at any time: a linked node with a noted stamp is the noted
--- one, so the first is below the sort key and the second is not, and the cursor fits where nothing
--- changed since. Each step on the list keeps it.
+-- A cursor that was placed on the list at any time. A linked node with a noted stamp is the noted
+-- one, so the first is below the sort key and the second is not; and the cursor fits if the nodes
+-- have not changed since. Each step on the list keeps this.
 pub record IsPlaced (l : Listing) (c : Cursor) : Type 0 where
   pub pred_known : c.pred.stamp ≤ l.last
   pub pred_apart : (place : ℕ) → out_at l place ≢ Some c.pred.stamp
@@ -82,14 +83,14 @@ abbrev pub with_key : Option NodeAt → SortKey → Option NodeAt
 with_key None at = None
 with_key (Some n) at = if is_same n.at at then Some n else None
 
--- The node of the sort key sought, if it stands where the cursor is.
+-- The node of the sort key sought, if it is right behind the cursor's first node.
 abbrev pub node_there : Listing → Cursor → Option NodeAt
 node_there l c = with_key (behind l c) (at_of c)
 
--- Where the cursor fits, no node has its sort key.
+-- If the cursor fits, no node has its sort key.
 abbrev pub IsRoomFor : Listing → Cursor → Type 0
 IsRoomFor l c = fits l c ≡ true → node_there l c ≡ None
 
--- Where the cursor fits, a regular node has its sort key.
+-- If the cursor fits, a regular node has its sort key.
 abbrev pub IsKeyThere : Listing → Cursor → Type 0
 IsKeyThere l c = fits l c ≡ true → IsSomeAnd (node_there l c) (λ n. IsTrue (is_regular n.kind))

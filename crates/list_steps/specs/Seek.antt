@@ -1,15 +1,15 @@
--- What a seek does to the nodes.
+-- The effect of a seek on the nodes.
 use Rattle.std.specs.Prelude.{◌≡◌, ℕ, List, [], ◌∷◌, Some, false, ◌==◌, if◌then◌else◌}
 use Rattle.split_key.specs.declared.sort.SortKey.{SortKey}
 use Rattle.split_key.specs.Sort.{is_before, IsBefore, IsNotBefore}
 use Rattle.node_list.specs.declared.node.Kind.TheVariants.{Dummy}
 use Rattle.node_list.specs.Nodes.{NodeAt, Listing, node_of, out_at}
 
--- The node is before the place of the sort key.
+-- The node is before the position of the sort key.
 abbrev pub IsBelow : NodeAt → SortKey → Type 0
 IsBelow n at = IsBefore n.at at
 
--- The node is at the place of the sort key, or behind it.
+-- The node is at the position of the sort key, or behind it.
 abbrev pub IsNotBelow : NodeAt → SortKey → Type 0
 IsNotBelow n at = IsNotBefore n.at at
 
@@ -25,21 +25,21 @@ unfoldable pub sought : List NodeAt → ℕ → SortKey → List NodeAt
 sought [] from at = []
 sought (n ∷ rest) from at = if n.place == from then n ∷ cleaned at rest else n ∷ sought rest from at
 
--- A dummy before the place of the sort key is linked here.
+-- A dummy before the position of the sort key is linked at this place.
 pub record IsStart (nodes : List NodeAt) (place : ℕ) (at : SortKey) : Type 0 where
   pub node : NodeAt
   pub is : node_of nodes place ≡ Some node
   pub dummy : node.kind ≡ Dummy
   pub below : IsBelow node at
 
--- An unmarked node before the place of the sort key is linked here.
+-- An unmarked node before the position of the sort key is linked at this place.
 pub record IsPred (nodes : List NodeAt) (place : ℕ) (at : SortKey) : Type 0 where
   pub node : NodeAt
   pub is : node_of nodes place ≡ Some node
   pub unmarked : node.marked ≡ false
   pub below : IsBelow node at
 
--- All but the nodes and the change number is as it was.
+-- All but the nodes and the change number is unchanged.
 pub record KeepsRest (old new : Listing) : Type 0 where
   pub head : new.head ≡ old.head
   pub last : new.last ≡ old.last

@@ -1,4 +1,4 @@
--- What each step on a list does.
+-- The effect of each step on a list.
 use Rattle.std.specs.Prelude.{◌≡◌, ◌≢◌, ℕ, List, [], ◌∷◌, Option, Some, None, true, false, Contains, IsSomeAnd, if◌then◌else◌}
 use Rattle.std.specs.List.{AllByRecursion}
 use Rattle.node_list.specs.declared.node.Kind.TheVariants.{Regular}
@@ -11,8 +11,8 @@ use Rattle.list_steps.specs.declared.sweeps.SweepOutcome.TheVariants.{Swept, Cle
 use Rattle.list_steps.specs.Content.{pairs, pair_of, Replaces}
 use Rattle.list_steps.specs.Found.{at_of, pred_of, node_there}
 
--- At the place is the node of the sort key sought, unmarked, and its pair is in the content if it
--- is regular.
+-- The node of the sort key sought is at the place and unmarked, and its pair is in the content if
+-- it is regular.
 pub record IsThere (l : Listing) (c : Cursor) (place : ℕ) : Type 0 where
   pub node : NodeAt
   pub there : node_there l c ≡ Some node
@@ -27,7 +27,7 @@ pub record IsAbsent (l : Listing) (c : Cursor) : Type 0 where
   pub vacant : IsVacant l.nodes (pred_of c) (at_of c)
   pub others : AllByRecursion (λ n. n.at ≢ at_of c) l.nodes
 
--- What a look finds.
+-- The result of a look: the place of the node, or none if no node has the sort key.
 abbrev pub Finds : Listing → Cursor → Option ℕ → Type 0
 Finds l c None = IsAbsent l c
 Finds l c (Some place) = IsThere l c place
@@ -65,7 +65,7 @@ MarksThere old new c value = IsSomeAnd (node_there old c) (λ n. Marks old new n
 abbrev pub SwapsThere : Listing → Listing → Cursor → ℕ → ℕ → Type 0
 SwapsThere old new c was now = IsSomeAnd (node_there old c) (λ n. Swaps old new n.place was now)
 
--- A node that all marked ones stand behind is linked here.
+-- A node that all marked ones stand behind is linked at this place.
 pub record IsBeforeMarks (nodes : List NodeAt) (place : ℕ) : Type 0 where
   pub node : NodeAt
   pub is : node_of nodes place ≡ Some node

@@ -1,6 +1,6 @@
--- Errors in words.
+-- The text of an error.
 use Rattle.std.specs.Prelude.{ℕ, List, codes}
 
--- What a cursor that does not fit is printed as.
+-- The text of `Again`.
 abbrev pub again_text : List ℕ
 again_text = codes "the list is not as the cursor noted it"

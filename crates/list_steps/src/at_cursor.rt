@@ -1,5 +1,5 @@
-//! The test and the step in one call, for a caller that does one thing at a cursor. If the cursor
-//! does not fit, nothing changes and a spare is handed back.
+//! A test and a step in one call, for a caller that takes one step at a cursor. If the cursor does
+//! not fit, nothing changes and a spare is returned.
 ghost use Rattle.std.specs.Prelude.{◌≡◌, ◌<◌, ◌-◌, ◌^◌, is_ok, IsOk, IfOk, IfErr, OnOk, OnErr};
 ghost use Rattle.node_list.specs.Nodes.{IsOut, filled};
 ghost use Rattle.node_list.specs.Follow.{Follows};
@@ -10,19 +10,15 @@ use crate::cursor::{Again, Cursor};
 use crate::steps::{link_at, look, mark_at, swap_at};
 use node_list::{NodeList, NodeRef, Spare};
 
-/// Links the node of a spare where the cursor is, and answers that node. The spare is this list's
-/// and filled with the sort key sought; where the cursor fits, no node may have that sort key, as
-/// `look` tells.
+/// Links the node of a spare at the cursor, and answers that node. The spare belongs to this list
+/// and has the sort key sought; if the cursor fits, no node may have that sort key, as `look`
+/// tells.
 ///
-/// The content gains the pair of a regular node; a dummy keeps it as it was.
+/// The content gains the pair of a regular node; a dummy leaves it unchanged.
 ///
 /// # Errors
 ///
-/// `Again` exactly if the cursor does not fit; then nothing changes, and the spare comes back.
-///
-/// # Cost
-///
-/// Constant time; takes no memory.
+/// `Again` exactly if the cursor does not fit; then nothing changes, and the spare is returned.
 pub fn link(list: &mut NodeList, cursor: Cursor, spare: Spare) -> Result<NodeRef, (Again, Spare)>
     requires out { IsOut list.old spare }
     requires filled { spare.at ≡ at_of cursor }
@@ -44,19 +40,14 @@ pub fn link(list: &mut NodeList, cursor: Cursor, spare: Spare) -> Result<NodeRef
     }
 }
 
-/// Marks the regular node of the sort key sought, and answers its value. Where the cursor fits,
-/// that node has to be there, as `look` tells.
+/// Marks the regular node of the sort key sought, and answers its value. If the cursor fits, that
+/// node must be there, as `look` tells.
 ///
-/// Its pair leaves the content. The node stays linked until a seek passes it or a sweep comes to
-/// it.
+/// The content loses its pair. The node stays linked until a seek passes it or a sweep reaches it.
 ///
 /// # Errors
 ///
 /// `Again` exactly if the cursor does not fit; then nothing changes.
-///
-/// # Cost
-///
-/// Constant time; takes no memory.
 pub fn mark(list: &mut NodeList, cursor: Cursor) -> Result<u64, Again>
     requires placed { IsPlaced list.old cursor }
     requires there { IsKeyThere list.old cursor }
@@ -74,17 +65,13 @@ pub fn mark(list: &mut NodeList, cursor: Cursor) -> Result<u64, Again>
 }
 
 /// Writes a value into the regular node of the sort key sought, and answers the value that it had.
-/// Where the cursor fits, that node has to be there, as `look` tells.
+/// If the cursor fits, that node must be there, as `look` tells.
 ///
-/// In the content its pair has the new value, at its old place.
+/// In the content the pair keeps its position and gets the new value.
 ///
 /// # Errors
 ///
 /// `Again` exactly if the cursor does not fit; then nothing changes.
-///
-/// # Cost
-///
-/// Constant time; takes no memory.
 pub fn swap(list: &mut NodeList, cursor: Cursor, value: u64) -> Result<u64, Again>
     requires placed { IsPlaced list.old cursor }
     requires there { IsKeyThere list.old cursor }

@@ -1,6 +1,6 @@
 //! Cursors: two neighbours by place and stamp, the sort key sought, and the test whether a cursor
-//! still fits. A stamp never comes back, so a place that was used again is not taken for the old
-//! node.
+//! still fits. A stamp is never used again, so a new node at an old place is not mistaken for the
+//! old node.
 ghost use Rattle.std.specs.Prelude.{◌≡◌, Some, true, ◌==◌, ◌&&◌, not};
 ghost use Rattle.node_list.specs.Nodes.{IsLinked, next_of, node_of};
 ghost use Rattle.node_list.specs.Sound.{IsSound};
@@ -11,16 +11,17 @@ use split_key::SortKey;
 use std::fmt;
 use std::fmt::Display;
 
-/// A node that a cursor noted: its place, and the stamp that tells it from any other node there.
+/// A node as a cursor notes it: its place, and the stamp that tells it from any other node there.
 #[derive(Clone, Copy, Debug, PartialEq, Eq)]
 pub struct Noted {
     pub(crate) place: NodeRef,
     pub(crate) stamp: u64,
 }
 
-/// Where a sort key belongs in a list, as a seek found it.
+/// The position of a sort key in a list, as a seek found it.
 ///
-/// It is plain data: the list may change while it is kept, and `look` tests whether it still fits.
+/// It is plain data: the list may change while a cursor is kept, and `look` tests whether it still
+/// fits.
 #[derive(Clone, Copy, Debug, PartialEq, Eq)]
 pub struct Cursor {
     pub(crate) pred: Noted,
@@ -29,8 +30,8 @@ pub struct Cursor {
     pub(crate) changes: u64,
 }
 
-/// The cursor does not fit: the list is not as it noted it. Seek again. It is printed as `the list
-/// is not as the cursor noted it`.
+/// The cursor does not fit: the list is no longer as the cursor noted it. Seek again. It is printed
+/// as `the list is not as the cursor noted it`.
 #[derive(Clone, Copy, Debug, PartialEq, Eq)]
 pub struct Again;
 
@@ -79,7 +80,7 @@ impl Cursor {
     ghost use Rattle.list_steps.specs.Seek.{IsPred};
     ghost use Rattle.list_steps.specs.Found.{IsBeyond, IsFound, IsPlaced, behind, fits, is_next_noted, pred_of, at_of};
 
-    /// The cursor of a sort key, which belongs behind this place.
+    /// The cursor of a sort key whose position is right behind this node.
     pub(crate) fn behind(list: &NodeList, place: NodeRef, at: SortKey) -> Cursor
         requires pred { IsPred list.now.nodes place at }
         requires beyond { IsBeyond (next_of list.now.nodes place) at }
@@ -97,14 +98,13 @@ impl Cursor {
     }
 
     /// The node behind which the sort key belongs, if the cursor fits and no node has it.
-    /// Constant time.
     pub fn pred(&self) -> NodeRef
         ensures { result ≡ pred_of self.now }
     {
         self.pred.place
     }
 
-    /// Whether the node behind the first one is what was noted, and unmarked.
+    /// Whether the node behind the first one is the one that was noted, and is unmarked.
     fn is_next_fitting(&self, list: &NodeList) -> bool
         requires { IsLinked list.now.nodes (pred_of self.now) }
         ensures { result ≡ is_next_noted (behind list.now self.now) self.now.cur }

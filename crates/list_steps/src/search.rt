@@ -1,5 +1,5 @@
-//! The seek: a walk from a node to the place of a sort key, which unlinks the marked nodes that it
-//! passes. The only loop over the list but for the sweep.
+//! The seek: a walk from a node to the position of a sort key, which unlinks the marked nodes that
+//! it passes. It and the sweep have the only loops over the list.
 ghost use Rattle.std.specs.Prelude.{◌≡◌, ◌-◌, length, true};
 ghost use Rattle.node_list.specs.Nodes.{changes_after};
 ghost use Rattle.node_list.specs.Follow.{Follows};
@@ -11,16 +11,16 @@ use crate::cursor::Cursor;
 use node_list::{NodeList, NodeRef};
 use split_key::SortKey;
 
-/// Seeks the place of a sort key from a dummy before it, and unlinks the marked nodes that it
+/// Seeks the position of a sort key from a dummy before it, and unlinks the marked nodes that it
 /// passes: all between its start and the first unmarked node that is not below the sort key (the
-/// search of Harris, DISC 2001, which unlinks marked nodes).
+/// search of Harris, DISC 2001).
 ///
 /// The cursor fits the list as the seek leaves it. The change number grows by the number of nodes
-/// that are unlinked. The content stays as it was, and so do the spares that are out.
+/// unlinked. The content and the spares that are out are unchanged.
 ///
 /// # Cost
 ///
-/// Time in proportion to the nodes from the start to the place, each visited once; takes no memory.
+/// Time in proportion to the nodes from the start to the position, each visited once.
 pub fn seek(list: &mut NodeList, from: NodeRef, at: SortKey) -> Cursor
     requires { IsStart list.old.nodes from at }
     ensures nodes { list.new.nodes ≡ sought list.old.nodes from at }

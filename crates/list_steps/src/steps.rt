@@ -1,5 +1,5 @@
-//! The test of a cursor, and what is done by its answer: link, mark, swap. They stand apart from
-//! the test, so that a caller that has looked does not look again.
+//! The test of a cursor, and the steps that rely on its answer: link, mark, swap. They are separate
+//! from the test, so that a caller that has looked does not look again.
 ghost use Rattle.std.specs.Prelude.{◌≡◌, ◌<◌, ◌-◌, ◌^◌, is_ok, IsOk, IfOk};
 ghost use Rattle.node_list.specs.Nodes.{IsLinked, IsOut, IsRegularAt, filled, place_of};
 ghost use Rattle.node_list.specs.Order.{IsVacant};
@@ -24,19 +24,15 @@ fn node_there(list: &NodeList, cursor: &Cursor) -> Option<NodeRef>
 }
 
 /// Tests a cursor, and tells which node has the sort key sought. That node is unmarked, and if it
-/// is regular its pair is in the content. `None` says that no linked node, marked or not, has the
+/// is regular its pair is in the content. `None` means that no linked node, marked or not, has the
 /// sort key, which belongs right behind `cursor.pred()`.
 ///
-/// What is done next goes by the answer alone, until the list changes: `link_at` behind
-/// `cursor.pred()` if there is no node, `mark_at` or `swap_at` at a regular one.
+/// The next step may rely on the answer until the list changes: `link_at` behind `cursor.pred()` if
+/// there is no node, `mark_at` or `swap_at` at a regular one.
 ///
 /// # Errors
 ///
 /// `Again` exactly if the cursor does not fit.
-///
-/// # Cost
-///
-/// Constant time; takes no memory.
 pub fn look(list: &NodeList, cursor: &Cursor) -> Result<Option<NodeRef>, Again>
     requires { IsPlaced list.now cursor.now }
     ensures again { is_ok result ≡ fits list.now cursor.now }
@@ -51,14 +47,10 @@ pub fn look(list: &NodeList, cursor: &Cursor) -> Result<Option<NodeRef>, Again>
     }
 }
 
-/// Links the node of a spare behind a linked node, if its sort key is vacant, and answers it.
-/// The spare is this list's.
+/// Links the node of a spare behind a linked node, if its sort key is vacant, and answers it. The
+/// spare belongs to this list.
 ///
-/// The content gains the pair of a regular node; a dummy keeps it as it was.
-///
-/// # Cost
-///
-/// Constant time; takes no memory.
+/// The content gains the pair of a regular node; a dummy leaves it unchanged.
 pub fn link_at(list: &mut NodeList, pred: NodeRef, spare: Spare) -> NodeRef
     requires out { IsOut list.old spare }
     requires vacant { IsVacant list.old.nodes pred spare.at }
@@ -73,12 +65,8 @@ pub fn link_at(list: &mut NodeList, pred: NodeRef, spare: Spare) -> NodeRef
 
 /// Marks an unmarked regular node, and answers its value.
 ///
-/// Its pair leaves the content. The node stays linked until a seek passes it or a sweep comes to it
+/// The content loses its pair. The node stays linked until a seek passes it or a sweep reaches it
 /// (Harris, DISC 2001).
-///
-/// # Cost
-///
-/// Constant time; takes no memory.
 pub fn mark_at(list: &mut NodeList, node: NodeRef) -> u64
     requires { IsRegularAt list.old.nodes node }
     ensures marks { Marks list.old list.new node result }
@@ -91,11 +79,7 @@ pub fn mark_at(list: &mut NodeList, node: NodeRef) -> u64
 
 /// Writes the value of an unmarked regular node, and answers the one that it had.
 ///
-/// In the content its pair has the new value, at its old place.
-///
-/// # Cost
-///
-/// Constant time; takes no memory.
+/// In the content the pair keeps its position and gets the new value.
 pub fn swap_at(list: &mut NodeList, node: NodeRef, value: u64) -> u64
     requires { IsRegularAt list.old.nodes node }
     ensures swaps { Swaps list.old list.new node result value }

@@ -1,5 +1,5 @@
-//! The sweep: unlinks the first marked node, found by the counts of regions, or says that none is
-//! marked. It takes no memory.
+//! The sweep: unlinks the first marked node, which it finds by a walk, or answers that no node is
+//! marked. An owner who calls it between other steps needs no pause to collect nodes.
 ghost use Rattle.std.specs.Prelude.{◌≡◌, ◌↔◌, false};
 ghost use Rattle.std.specs.List.{AllByRecursion};
 ghost use Rattle.node_list.specs.Follow.{Follows};
@@ -9,7 +9,7 @@ ghost use Rattle.list_steps.specs.Steps.{IsBeforeMarks, Sweeps, without_first_ma
 
 use node_list::{NodeList, NodeRef};
 
-/// What a sweep did.
+/// The outcome of a sweep.
 #[derive(Clone, Copy, Debug, PartialEq, Eq)]
 pub enum SweepOutcome {
     /// The first marked node is unlinked.
@@ -25,7 +25,7 @@ fn before_first_marked(list: &NodeList, start: NodeRef) -> NodeRef
     ensures marked { IsBeforeMarked list.now.nodes result }
     ensures first { unlinked_after list.now.nodes result ≡ without_first_marked list.now.nodes }
 {
-    // What is true of every list.
+    // The list's invariants hold.
     let _changes = list.changes();
     let mut place = start;
     'walk: while let Some(next) = list.node(place).next {
@@ -39,13 +39,13 @@ fn before_first_marked(list: &NodeList, start: NodeRef) -> NodeRef
 
 /// Unlinks the first marked node, and nothing else, or answers that no node is marked.
 ///
-/// `Clean` exactly if none is; the list is then as it was. The content and the spares that are
-/// out stay as they were.
+/// `Clean` exactly if none is; the list is then unchanged. The content and the spares that are out
+/// are unchanged in any case.
 ///
 /// # Cost
 ///
-/// Time in proportion to the nodes from the first one to the first marked one, and constant time
-/// if none is marked; takes no memory.
+/// Time in proportion to the nodes from the first one to the first marked one; constant time if
+/// none is marked.
 pub fn sweep(list: &mut NodeList) -> SweepOutcome
     ensures clean { (result ≡ SweepOutcome.Clean) ↔
         AllByRecursion (λ n. n.marked ≡ false) list.old.nodes }
@@ -57,13 +57,13 @@ pub fn sweep(list: &mut NodeList) -> SweepOutcome
     sweep_from(list, head)
 }
 
-/// Does what `sweep` does, from a node that all marked ones stand behind, so that the walk need not
+/// A `sweep` that begins at a node that all marked ones stand behind, so that the walk need not
 /// begin at the first node.
 ///
 /// # Cost
 ///
-/// Time in proportion to the nodes from `start` to the first marked one, and constant time where
-/// none is marked; takes no memory.
+/// Time in proportion to the nodes from `start` to the first marked one; constant time if none is
+/// marked.
 pub fn sweep_from(list: &mut NodeList, start: NodeRef) -> SweepOutcome
     requires { IsBeforeMarks list.old.nodes start }
     ensures clean { (result ≡ SweepOutcome.Clean) ↔

@@ -1,4 +1,4 @@
--- What is linked, and what is found, in a list of nodes after a link, a change or an unlink.
+-- The nodes that are linked, and those that are found, after a link, a change or an unlink.
 use Rattle.std.proofs.Common.{◌≡◌, ◌≢◌, ℕ, ◌⊎◌, inl, inr, List, [], ◌∷◌, Some, true, refl, sym, ◌∙◌, ap}
 use Rattle.std.proofs.lemmas.Bool.Decides.{eqb_tells}
 use Rattle.node_list.specs.Nodes.{NodeAt, node_of, next_of, first, place_of, IsLinked, linked_after, unlinked_after, changed_at, marked_at, written_at}
@@ -7,7 +7,7 @@ use Rattle.node_list.specs.Follow.{IsSameNode}
 use Rattle.node_list.proofs.OrderLemmas.{some-injective, some-none}
 use Rattle.node_list.proofs.NodesLemmas.{same_node, absent_linked, linked_more, next_linked, found_linked, linked_found, first_found, next_found}
 
--- Which places stay linked.
+-- The places that stay linked.
 pub still_linked : (nodes : List NodeAt) (pred place : ℕ) (x : NodeAt) → IsLinked nodes place → IsLinked (linked_after nodes pred x) place
 unfolding linked_after IsLinked
 still_linked [] pred place x is = is
@@ -75,7 +75,7 @@ others_linked (n ∷ (m ∷ rest)) pred gone place next differs is = elim (eqb_t
   ])
 ]
 
--- A node that is unlinked is there no more.
+-- A node that was unlinked is no longer there.
 pub absent_unlinked : (nodes : List NodeAt) (pred place : ℕ) → IsSpread nodes → place_of (next_of nodes pred) ≡ Some place → AbsentFrom place (unlinked_after nodes pred)
 unfolding IsSpread unlinked_after next_of
 absent_unlinked [] pred place apart is = tt
@@ -93,7 +93,7 @@ absent_unlinked (n ∷ (m ∷ rest)) pred place apart is = elim (eqb_tells n.pla
       rw later.0 (absent_linked (m ∷ rest) n.place place apart.0 (linked_more (m ∷ rest) place there.1), absent_unlinked (m ∷ rest) pred place apart.1 is_later)
 ]
 
--- What is found after each change was there before.
+-- A node that is found after a change was there before.
 pub found_linked_after : (nodes : List NodeAt) (pred place : ℕ) (x n : NodeAt) → node_of (linked_after nodes pred x) place ≡ Some n → (node_of nodes place ≡ Some n) ⊎ ((x ≡ n) × (x.place ≡ place))
 unfolding node_of linked_after
 found_linked_after [] pred place x n is = inl is
@@ -170,7 +170,7 @@ found_unlinked (m ∷ (k ∷ rest)) pred place n spread is = elim (eqb_tells m.p
   ]
 ]
 
--- What was found before each change is there after it.
+-- A node that was found before a change is there after it.
 pub still_found_linked : (nodes : List NodeAt) (pred place : ℕ) (x n : NodeAt) → AbsentFrom x.place nodes → node_of nodes place ≡ Some n → node_of (linked_after nodes pred x) place ≡ Some n
 unfolding node_of linked_after
 still_found_linked [] pred place x n absent is = is

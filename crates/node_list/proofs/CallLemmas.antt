@@ -1,4 +1,4 @@
--- What each call does to a list, by its fields.
+-- The effect of each call on a list, by its fields.
 use Rattle.std.proofs.Common.{◌≡◌, ℕ, ◌+◌, ◌-◌, ◌^◌, ◌<◌, ◌≤◌, List, Option, Some, None, Bool, true, false, refl, sym, ◌∙◌, ap, arith, cond}
 use Rattle.slab.specs.Slab.{Slab, get, slab_len, Updates, with_value}
 use Rattle.node_list.specs.declared.node.Node.{Node}
@@ -19,7 +19,7 @@ use Rattle.node_list.proofs.SpareSteps.{spare_laid_out, spare_stamps, spare_out,
 use Rattle.node_list.proofs.SlabSteps.{link_absent, link_laid_out, link_stamps, link_gone, link_others, mid_spare, change_laid_out, change_stamps, change_out, unlink_laid_out, unlink_stamps, unlink_out}
 use Rattle.node_list.proofs.FollowLemmas.{sound, gives_out_follows, takes_back_follows, links_follow, changes_follow, unlinks_follow}
 
--- No more nodes are counted than slots are in use.
+-- The counted nodes are no more than the slots in use.
 pub counted_fit : (slab : Slab SlotAt) (head last count marked : ℕ) → IsKept slab head last count marked → count + marked ≤ slab_len slab
 counted_fit slab head last count marked is =
     let fits = nodes_fit slab head (nodes_in slab head) is.laid_out in
@@ -55,7 +55,7 @@ module _ (old : Slab SlotAt) (head changes last count marked : ℕ) (is : IsKept
         gives_out_follows _ _ place (last + 1) refl (sound new head changes (last + 1) count marked now) gives,
       )
 
-  -- A spare is given back.
+  -- A spare is given back to the list.
   pub taken_back : (new : Slab SlotAt) (place stamp : ℕ) → out_at (listing_of old head changes last) place ≡ Some stamp → Updates old new place None → IsKept new head last count marked × TakesBack (listing_of old head changes last) (listing_of new head changes last) place × Follows (listing_of old head changes last) (listing_of new head changes last)
   taken_back new place stamp is_out freed =
       let nodes = nodes_in old head in
@@ -128,7 +128,7 @@ module _ (old : Slab SlotAt) (head changes last count marked : ℕ) (is : IsKept
       let same = some-injective (sym there ∙ regular.is) in
       (ap (λ (v : NodeAt). v.kind) same ∙ regular.regular, ap (λ (v : NodeAt). v.marked) same ∙ regular.unmarked)
 
-  -- So its node there is as it is seen.
+  -- It is the node that the list has at this place.
   pub regular_found : (place : ℕ) (node : Node) → IsRegularAt (nodes_in old head) place → get old place ≡ Some (Linked node) → (node_of (nodes_in old head) place ≡ Some (seen place node)) × (node.marked ≡ false)
   regular_found place node regular is_node =
       let linked = found_linked (nodes_in old head) place regular.node regular.is in
@@ -176,7 +176,7 @@ module _ (old : Slab SlotAt) (head changes last count marked : ℕ) (is : IsKept
       let place_is = next_is (get old) (nodes_in old head) pred before is.laid_out.chain linked is_before ∙ next in
       linked_node (get old) (nodes_in old head) place is.laid_out.chain (linked_more _ _ (next_linked (nodes_in old head) pred place place_is).1)
 
-  -- Its sort key.
+  -- The sort key of that node.
   pub behind_at : (pred place : ℕ) (before node : Node) (behind : IsBeforeMarked (nodes_in old head) pred) → get old pred ≡ Some (Linked before) → before.next ≡ Some place → get old place ≡ Some (Linked node) → behind.node.at ≡ node.at
   behind_at pred place before node behind is_before next is_node =
       let nodes = nodes_in old head in
@@ -225,7 +225,7 @@ module _ (old : Slab SlotAt) (head changes last count marked : ℕ) (is : IsKept
       (is_out : IsOut (listing_of old head changes last) s)
       (next_was : next ≡ before.next)
       (mid_is : mid ≡ with_value old pred (Linked (record before { next = Some s.place }))) where
-    -- The spare's place is still in use once the node before has its place.
+    -- The spare's place is still in use after the node before it was changed.
     pub filling_slot : get mid s.place ≡ Some (Out s.stamp)
     filling_slot = mid_spare old mid (with_value mid s.place (Linked (stored (filled s) before.next))) head last pred (nodes_in old head) (filled s) before is.laid_out is.stamps is_before is_out mid_is refl
 

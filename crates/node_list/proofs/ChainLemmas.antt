@@ -1,4 +1,4 @@
--- The linked nodes in the slots of a slab: a walk finds them, and each is the one in its slot.
+-- The linked nodes in the slots of a slab: a walk finds them, and each is the node in its slot.
 use Rattle.std.proofs.Common.{◌≡◌, ◌≢◌, ℕ, ◌<◌, ◌≤◌, inl, inr, List, [], ◌∷◌, Option, Some, None, Bool, true, false, length, refl, sym, ◌∙◌, ap, ap₂, arith, count_by, is_some, cond, get_or, set, get_or-set_other}
 use Prim.Native.Nat.{zero, suc}
 use Rattle.std.proofs.lemmas.Bool.{cases_lt}
@@ -21,7 +21,7 @@ linked-injective e = cc
 pub out-not-linked : {stamp : ℕ} {n : Node} → Some (Out stamp) ≡ Some (Linked n) → ⊥
 out-not-linked e = cc
 
--- The linked node at a place, by what lies there.
+-- The linked node at a place is the one in its slot.
 pub node_in-linked : (slot : Option SlotAt) (n : Node) → Some n ≡ node_in slot → slot ≡ Some (Linked n)
 node_in-linked None n is = absurd (some-none is)
 node_in-linked (Some (Linked m)) n is = ap (λ k. Some (Linked k)) (some-injective (sym is))
@@ -42,7 +42,7 @@ walk_is (suc fuel) at [] chain room = refl
 walk_is (suc fuel) at (n ∷ rest) chain room =
     rw chain.0 (ap (λ ns. n ∷ ns) (walk_is fuel at rest chain.1 (omega arith)))
 
--- A node that is before those of a chain is not in it.
+-- A node that is before the nodes of a chain is not in it.
 absent_after : (at : ℕ → Option SlotAt) (n : NodeAt) (next : Option ℕ) (nodes : List NodeAt) → at n.place ≡ Some (Linked (stored n next)) → IsChain at nodes → AllByRecursion (IsNodeBefore n) nodes → AbsentFrom n.place nodes
 unfolding IsChain
 absent_after at n next [] is chain before = tt
@@ -69,7 +69,7 @@ unfolding IsChain
 in_use slots [] chain = tt
 in_use slots (n ∷ rest) chain = (ap is_some chain.0, in_use slots rest chain.1)
 
--- A slot that is emptied stays in use at no other node.
+-- A slot that is emptied leaves the slots of the other nodes in use.
 in_use_after : (slots : List (Option SlotAt)) (place : ℕ) (nodes : List NodeAt) → AbsentFrom place nodes → AllInUse slots nodes → AllInUse (set slots place None) nodes
 in_use_after slots place [] absent used = tt
 in_use_after slots place (n ∷ rest) absent used =
@@ -88,7 +88,7 @@ in_range slots place used =
 one_if : (b : Bool) → b ≡ true → cond {A = ℕ} b 1 0 ≡ 1
 one_if b is = rw is refl
 
--- No more nodes than slots in use.
+-- There are no more nodes than slots in use.
 room : (slots : List (Option SlotAt)) (nodes : List NodeAt) → IsSpread nodes → AllInUse slots nodes → length nodes ≤ count_by is_some slots
 unfolding IsSpread
 room slots [] apart used = omega arith
@@ -116,24 +116,24 @@ unfolding nodes_in
 nodes_in_is slab head nodes laid =
     rw (← start_place nodes head laid.starts) (walk_is (slab_len slab) (get slab) nodes laid.chain (nodes_fit slab head nodes laid))
 
--- A chain stays where its slots do.
+-- A chain is unchanged while its slots are.
 pub chain_kept : (at new : ℕ → Option SlotAt) (nodes : List NodeAt) → IsChain at nodes → AllByRecursion (λ n. new n.place ≡ at n.place) nodes → IsChain new nodes
 unfolding IsChain
 chain_kept at new [] chain same = tt
 chain_kept at new (n ∷ rest) chain same = (same.0 ∙ chain.0, chain_kept at new rest chain.1 same.1)
 
--- A change at a place that a chain lacks keeps it.
+-- A change at a place that is not in a chain leaves the chain unchanged.
 pub chain_absent : (at new : ℕ → Option SlotAt) (place : ℕ) (nodes : List NodeAt) → IsChain at nodes → AbsentFrom place nodes → ((other : ℕ) → other ≢ place → new other ≡ at other) → IsChain new nodes
 chain_absent at new place nodes chain absent others =
     chain_kept at new nodes chain (each_map (λ n. n.place ≢ place) (λ n. new n.place ≡ at n.place) nodes (λ n apart. others n.place apart) absent)
 
--- A slot with no node is no node's.
+-- A slot without a node is not the slot of a node of the chain.
 pub absent_free : (at : ℕ → Option SlotAt) (nodes : List NodeAt) (place : ℕ) → IsChain at nodes → ((node : Node) → at place ≢ Some (Linked node)) → AbsentFrom place nodes
 unfolding IsChain
 absent_free at [] place chain free = tt
 absent_free at (n ∷ rest) place chain free = ((λ same. free _ (rw same at chain.0)), absent_free at rest place chain.1 free)
 
--- A linked node's slot has it.
+-- The slot of a linked node holds the node.
 pub linked_node : (at : ℕ → Option SlotAt) (nodes : List NodeAt) (place : ℕ) → IsChain at nodes → IsLinked nodes place → (node : Node) × (at place ≡ Some (Linked node))
 unfolding IsChain IsLinked
 linked_node at [] place chain is = absurd is
@@ -155,7 +155,7 @@ node_found at (n ∷ rest) place node chain is is_node = elim (eqb_tells n.place
   | inr apart ↦ rw apart.0 (node_found at rest place node chain.1 (elim is [ inl here ↦ absurd (apart.1 here) | inr later ↦ later ]) is_node)
 ]
 
--- The next of a node is the next place in its slot.
+-- The node behind a node is at the next place in its slot.
 pub next_is : (at : ℕ → Option SlotAt) (nodes : List NodeAt) (pred : ℕ) (before : Node) → IsChain at nodes → IsLinked nodes pred → at pred ≡ Some (Linked before) → place_of (next_of nodes pred) ≡ before.next
 unfolding IsChain IsLinked next_of
 next_is at [] pred before chain is is_before = absurd is

@@ -1,4 +1,4 @@
--- How many nodes pass a test.
+-- The number of nodes that pass a test.
 use Rattle.std.proofs.Common.{◌≡◌, ℕ, ◌+◌, ◌≤◌, ◌↔◌, inl, inr, List, [], ◌∷◌, Some, Bool, true, false, length, refl, sym, ap, arith, cond, ◌&&◌, not}
 use Rattle.std.proofs.lemmas.Bool.Decides.{eqb_tells}
 use Rattle.std.specs.List.{AllByRecursion}
@@ -7,7 +7,7 @@ use Rattle.node_list.specs.declared.node.Kind.TheVariants.{Dummy, Regular}
 use Rattle.node_list.specs.Nodes.{NodeAt, node_of, next_of, IsLinked, linked_after, unlinked_after, changed_at, count_where, is_live, is_regular, live_count, marked_count}
 use Rattle.node_list.proofs.OrderLemmas.{some-none, some-injective}
 
--- What one node counts.
+-- The count of one node.
 abbrev pub gain : (NodeAt → Bool) → NodeAt → ℕ
 gain test n = cond (test n) 1 0
 
@@ -66,7 +66,7 @@ count-changed test (m ∷ rest) place change n is = elim (eqb_tells m.place plac
       rw apart.0 (omega (arith, later))
 ]
 
--- A marked node does not count.
+-- A marked node counts nothing.
 pub live-marked : (n : NodeAt) → n.marked ≡ true → gain is_live n ≡ 0
 live-marked n marked = go n.kind
   where
@@ -74,11 +74,11 @@ live-marked n marked = go n.kind
     go Dummy = refl
     go Regular = rw marked refl
 
--- An unmarked regular node counts.
+-- An unmarked regular node counts one.
 pub live-regular : (n : NodeAt) → n.kind ≡ Regular → n.marked ≡ false → gain is_live n ≡ 1
 live-regular n regular unmarked = rw (regular, unmarked) refl
 
--- A fresh node counts where it is regular.
+-- A new node counts one if it is regular.
 pub live-fresh : (k : Kind) → cond {A = ℕ} (is_regular k) 1 0 ≡ cond {A = ℕ} (is_regular k && not false) 1 0
 live-fresh Dummy = refl
 live-fresh Regular = refl
@@ -89,13 +89,13 @@ gains Dummy false = omega arith
 gains Regular true = omega arith
 gains Regular false = omega arith
 
--- A node counts as live or as marked, or not at all.
+-- A node counts as live or as marked or as neither, never as both.
 pub counts_fit : (nodes : List NodeAt) → live_count nodes + marked_count nodes ≤ length nodes
 unfolding count_where
 counts_fit [] = omega arith
 counts_fit (n ∷ rest) = omega (arith, counts_fit rest, gains n.kind n.marked)
 
--- No node is counted exactly where none passes.
+-- The count is 0 exactly if no node passes.
 unmarked : (b : Bool) → cond {A = ℕ} b 1 0 ≡ 0 → b ≡ false
 unmarked true none = absurd (omega arith)
 unmarked false none = refl

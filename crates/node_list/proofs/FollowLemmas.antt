@@ -1,4 +1,4 @@
--- What is true of every list, and that each change follows.
+-- The invariants of every list, and that each changed list follows the one before.
 use Rattle.std.proofs.Common.{◌≡◌, ◌≢◌, ℕ, ◌+◌, ◌-◌, ◌^◌, ◌<◌, inl, inr, Some, false, refl, sym, ◌∙◌, ap, arith}
 use Rattle.std.proofs.lemmas.Bool.{cases_eq}
 use Rattle.slab.specs.Slab.{Slab, get}
@@ -28,7 +28,7 @@ follows_self l = record {
   dummies = λ place n is dummy. (n, is, same_node n);
 }
 
--- A list that follows one that follows another follows that.
+-- To follow is transitive.
 pub follows_twice : (a b c : Listing) → Follows a b → Follows b c → Follows a c
 follows_twice a b c first second = record {
   sound = λ is. second.sound (first.sound is);
@@ -62,7 +62,7 @@ follows_twice a b c first second = record {
       (in_c.0, in_c.1, same_after _ _ _ in_b.2 in_c.2);
 }
 
--- Each change follows.
+-- The list after each change follows the one before.
 pub gives_out_follows : (old new : Listing) (place stamp : ℕ) → stamp ≡ old.last + 1 → IsSound new → GivesOut old new place stamp → Follows old new
 gives_out_follows old new place stamp above now_sound given = record {
   sound = λ was. now_sound;
@@ -161,7 +161,7 @@ stamped slab head changes last laid stamps =
       out_alone = λ p q stamp is_p is_q. stamps.one_place p q (Out stamp) (Out stamp) (spare_of p stamp is_p) (spare_of q stamp is_q) refl;
     }
 
--- What callers may know of a list.
+-- The invariants that callers may rely on.
 pub sound : (slab : Slab SlotAt) (head changes last count marked : ℕ) → IsKept slab head last count marked → IsSound (listing_of slab head changes last)
 sound slab head changes last count marked kept = record {
   first = record {

@@ -1,4 +1,5 @@
--- The marked nodes are counted after each call, by region or in all; and the first one, found by a walk.
+-- The marked nodes are counted after each call, by region or in total, and a walk finds the first
+-- one.
 use Rattle.std.proofs.Common.{◌≡◌, ◌≢◌, ℕ, ◌+◌, ◌-◌, ◌^◌, ◌<◌, ◌≤◌, List, [], ◌∷◌, Option, Some, None, Bool, true, false, refl, sym, ◌∙◌, ap, arith, IfSome, IsSomeAnd}
 use Rattle.std.specs.Prelude.{option_map}
 use Rattle.std.specs.List.{AllByRecursion}
@@ -54,7 +55,7 @@ pub counted_some : (m : Marks) (old : List NodeAt) (pred split : ℕ) (n : NodeA
 counted_some (ByRegion t) old pred split n is next marked split_is = tallied_some t old pred split n is next marked split_is
 counted_some (InAll total) old pred split n is next marked split_is = tt
 
--- The walk is at a place: the first marked node of what is left of it.
+-- The first marked node of the rest of a walk, from this place on.
 abbrev pub first_from : ℕ → (ℕ → Option SlotAt) → Option ℕ → Option ℕ
 first_from fuel at place = option_map (λ n. n.at.split) (first_marked (walk fuel at place))
 
@@ -111,7 +112,7 @@ first_is_near nodes split is = go (first_marked nodes) is
     go None none = absurd (cc)
     go (Some n) same = let is : n.at.split ≡ split = cc in omega (arith, is)
 
--- The first marked node is none exactly where none is marked.
+-- There is no first marked node exactly if no node is marked.
 pub first_is_none : (nodes : List NodeAt) → option_map (λ n. n.at.split) (first_marked nodes) ≡ None → AllByRecursion (λ n. n.marked ≡ false) nodes
 unfolding first_marked
 first_is_none [] none = tt
@@ -126,12 +127,12 @@ unfolding first_marked
 none_is_first [] clean = refl
 none_is_first (n ∷ rest) clean = rw clean.0 (none_is_first rest clean.1)
 
--- What a walk over a whole slab finds is said of its linked nodes.
+-- The result of a walk over the whole slab is that of its linked nodes.
 pub walk_tells : (slab : Slab SlotAt) (head end : ℕ) → end ≡ slab_len slab → (found : Option ℕ) → found ≡ first_from end (get slab) (Some head) → found ≡ option_map (λ n. n.at.split) (first_marked (nodes_in slab head))
 unfolding nodes_in
 walk_tells slab head end is found same = same ∙ ap (λ fuel. first_from fuel (get slab) (Some head)) is
 
--- What was found is where the marked nodes begin.
+-- The marked nodes begin at the one that was found.
 pub found_from : (nodes : List NodeAt) → IsRising nodes → (o : Option ℕ) → o ≡ option_map (λ n. n.at.split) (first_marked nodes) → IfSome o (λ split. AreMarksFrom split nodes)
 found_from nodes rising None is = tt
 found_from nodes rising (Some split) is = first_from_there nodes rising split (sym is)
@@ -140,7 +141,7 @@ pub found_near : (nodes : List NodeAt) (o : Option ℕ) → o ≡ option_map (λ
 found_near nodes None is = tt
 found_near nodes (Some split) is = first_is_near nodes split (sym is)
 
--- Where a marked node stands behind another, some are marked.
+-- If a marked node stands behind another node, some node is marked.
 pub some_marked : (nodes : List NodeAt) (pred : ℕ) (n : NodeAt) → next_of nodes pred ≡ Some n → n.marked ≡ true → marked_count nodes ≢ 0
 some_marked nodes pred n next marked none =
     let now = count-unlinked (λ m. m.marked) nodes pred n next in

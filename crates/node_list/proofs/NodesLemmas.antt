@@ -1,4 +1,4 @@
--- What is linked, and what is found, in a list of nodes.
+-- The nodes that are linked, and those that are found, in a list of nodes.
 use Rattle.std.proofs.Common.{◌≡◌, ◌≢◌, ℕ, inl, inr, List, [], ◌∷◌, Option, Some, None, true, refl, sym, ◌∙◌, ap, is_some}
 use Rattle.std.proofs.lemmas.Bool.Decides.{eqb_tells}
 use Rattle.split_key.specs.declared.sort.SortKey.{SortKey}
@@ -9,7 +9,7 @@ use Rattle.node_list.specs.Order.{AbsentFrom, IsSpread, IsVacant}
 use Rattle.node_list.specs.Follow.{IsSameNode}
 use Rattle.node_list.proofs.OrderLemmas.{some-injective, some-none}
 
--- A spare that would be the dummy of bucket 0 is as a list gives it.
+-- A spare that is filled as the dummy of bucket 0 is one as a list gives it.
 pub unfilled_is : (s : SpareAt) → filled s ≡ first_dummy s.place s.stamp → unfilled s.place s.stamp ≡ s
 unfilled_is s is =
     let with : SortKey → Kind → ℕ → SpareAt = λ at kind value. record { place = s.place; stamp = s.stamp; at = at; kind = kind; value = value } in
@@ -32,7 +32,7 @@ pub some_place : (o : Option NodeAt) → is_some o ≡ true → (place : ℕ) ×
 some_place None is = cc
 some_place (Some n) is = (n.place, refl)
 
--- A place that is linked is no place that is absent.
+-- No place is both linked and absent.
 pub absent_linked : (nodes : List NodeAt) (p q : ℕ) → AbsentFrom p nodes → IsLinked nodes q → p ≢ q
 unfolding IsLinked
 absent_linked [] p q absent is same = absurd is
@@ -60,7 +60,7 @@ next_linked (n ∷ rest) pred place is = elim (eqb_tells n.place pred) [
       (inr later.0, linked_more rest place later.1)
 ]
 
--- A node that is found is linked, and is at that place.
+-- A node that is found is linked, and has the place that was asked for.
 pub found_linked : (nodes : List NodeAt) (place : ℕ) (n : NodeAt) → node_of nodes place ≡ Some n → IsLinked nodes place
 unfolding node_of IsLinked
 found_linked [] place n is = absurd (some-none (sym is))
@@ -69,7 +69,7 @@ found_linked (m ∷ rest) place n is = elim (eqb_tells m.place place) [
   | inr apart ↦ inr (found_linked rest place n (rw apart.0 at is))
 ]
 
--- Where a sort key is vacant there is a linked node to link behind.
+-- If a sort key is vacant there is a linked node to link it behind.
 pub vacant_linked : (nodes : List NodeAt) (pred : ℕ) (sort : SortKey) → IsVacant nodes pred sort → IsLinked nodes pred
 vacant_linked nodes pred sort vacant = found_linked nodes pred vacant.node vacant.is
 
@@ -81,7 +81,7 @@ place-found (m ∷ rest) place n is = elim (eqb_tells m.place place) [
   | inr apart ↦ place-found rest place n (rw apart.0 at is)
 ]
 
--- A place that is linked has a node.
+-- A linked place has a node.
 pub linked_found : (nodes : List NodeAt) (place : ℕ) → IsLinked nodes place → (n : NodeAt) × (node_of nodes place ≡ Some n)
 unfolding node_of IsLinked
 linked_found [] place is = absurd is
@@ -140,7 +140,7 @@ next-found nodes pred place n apart next is = go (next_of nodes pred) refl next
     go None same there = absurd (some-none (sym there))
     go (Some m) same there = same ∙ sym (next_found nodes pred m apart same) ∙ ap (node_of nodes) (some-injective there) ∙ is
 
--- One node alone has none behind it.
+-- A single node has no node behind it.
 pub next_of-single : (n : NodeAt) (place : ℕ) → next_of (n ∷ []) place ≡ None
 unfolding next_of
 next_of-single n place = elim (eqb_tells n.place place) [ inl here ↦ rw here.0 refl | inr apart ↦ rw apart.0 refl ]

@@ -1,4 +1,4 @@
--- The order of nodes, and what is true of each node of a list that changes.
+-- The order of nodes, and statements about each node of a list that changes.
 use Rattle.std.proofs.Common.{◌≡◌, ℕ, inl, inr, List, [], ◌∷◌, Some, None, refl, sym}
 use Rattle.std.proofs.lemmas.Bool.Decides.{eqb_tells}
 use Rattle.std.specs.List.{AllByRecursion}
@@ -20,11 +20,11 @@ before-irreflexive n before = before_not_before n.at n.at before (before_irrefle
 pub before-transitive : (n m k : NodeAt) → IsNodeBefore n m → IsNodeBefore m k → IsNodeBefore n k
 before-transitive n m k first second = before_transitive n.at m.at k.at first second
 
--- Only the sort keys matter.
+-- Only the sort keys decide the order.
 pub before-same : (n m k l : NodeAt) → n.at ≡ k.at → m.at ≡ l.at → IsNodeBefore n m → IsNodeBefore k l
 before-same n m k l n_at m_at before = rw (← n_at, ← m_at) before
 
--- What is true of each node, by what is.
+-- A statement about each node, from a stronger one.
 pub each_map : (P Q : NodeAt → Type 0) (nodes : List NodeAt) → ((n : NodeAt) → P n → Q n) → AllByRecursion P nodes → AllByRecursion Q nodes
 each_map P Q [] more each = tt
 each_map P Q (n ∷ rest) more each = (more n each.0, each_map P Q rest more each.1)
@@ -33,7 +33,7 @@ pub each_both : (P Q : NodeAt → Type 0) (nodes : List NodeAt) → AllByRecursi
 each_both P Q [] one other = tt
 each_both P Q (n ∷ rest) one other = ((one.0, other.0), each_both P Q rest one.1 other.1)
 
--- It is true of a node that is found.
+-- A statement about each node holds of a node that is found.
 pub each_found : (P : NodeAt → Type 0) (nodes : List NodeAt) (place : ℕ) (n : NodeAt) → AllByRecursion P nodes → node_of nodes place ≡ Some n → P n
 unfolding node_of
 each_found P [] place n each is = absurd (some-none (sym is))
@@ -42,7 +42,7 @@ each_found P (m ∷ rest) place n each is = elim (eqb_tells m.place place) [
   | inr apart ↦ each_found P rest place n each.1 (rw apart.0 at is)
 ]
 
--- Each change keeps it.
+-- Each change keeps a statement about each node.
 pub each_linked : (P : NodeAt → Type 0) (nodes : List NodeAt) (pred : ℕ) (x : NodeAt) → P x → AllByRecursion P nodes → AllByRecursion P (linked_after nodes pred x)
 unfolding linked_after
 each_linked P [] pred x it each = tt
@@ -96,7 +96,7 @@ rising_linked (k ∷ (m ∷ rest)) pred n x rising is before next = elim (eqb_te
       )
 ]
 
--- A node that is linked where its sort key is vacant keeps the order.
+-- A node that is linked at the vacant position of its sort key keeps the order.
 pub rising_vacant : (nodes : List NodeAt) (pred : ℕ) (x : NodeAt) → IsRising nodes → IsVacant nodes pred x.at → IsRising (linked_after nodes pred x)
 rising_vacant nodes pred x rising vacant = rising_linked nodes pred vacant.node x rising vacant.is vacant.below vacant.above
 

@@ -1,4 +1,4 @@
--- What a link, a change and an unlink in a slab do to the list in it.
+-- The effect of a link, a change and an unlink in a slab on the list in it.
 use Rattle.std.proofs.Common.{◌≡◌, ◌≢◌, ℕ, inl, inr, List, Option, Some, None, false, map, refl, sym, ◌∙◌, ap, get_or}
 use Rattle.std.proofs.lemmas.Bool.{cases_eq}
 use Rattle.slab.specs.Slab.{Slab, get, Updates, with_value}

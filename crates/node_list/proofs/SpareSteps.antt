@@ -1,4 +1,4 @@
--- What a new list is, and what a spare that is given out or comes back does to the list in its slab.
+-- A new list, and the effect on a list of a spare that is given out or given back.
 use Rattle.std.proofs.Common.{◌≡◌, ◌≢◌, ℕ, ◌+◌, inl, inr, List, [], ◌∷◌, Option, Some, None, map, refl, sym, ◌∙◌, ap, arith, get_or}
 use Rattle.std.proofs.Math.ListN.{get_or-map}
 use Rattle.std.proofs.lemmas.Bool.{cases_eq}
@@ -11,7 +11,7 @@ use Rattle.node_list.proofs.OrderLemmas.{some-injective, some-none}
 use Rattle.node_list.proofs.ChainLemmas.{out-not-linked, chain_absent, absent_free}
 use Rattle.node_list.proofs.StampLemmas.{stamps_set, stamps_freed}
 
--- What is out at a place, by its slot.
+-- The spare that is out at a place, from its slot.
 pub out_in : (slab : Slab SlotAt) (place : ℕ) → get_or (map out_stamp slab.slots) place None ≡ out_stamp (get slab place)
 out_in slab place = get_or-map out_stamp slab.slots place None
 

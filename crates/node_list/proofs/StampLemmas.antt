@@ -1,4 +1,4 @@
--- The stamps in a slab stay apart where one slot is written or freed.
+-- The stamps in a slab stay different when a slot is written or freed.
 use Rattle.std.proofs.Common.{◌≡◌, ◌≢◌, ℕ, ◌≤◌, inl, inr, Some, None, sym, ◌∙◌, ap, arith}
 use Rattle.std.proofs.lemmas.Bool.{cases_eq}
 use Rattle.slab.specs.Slab.{Slab, get, Updates}

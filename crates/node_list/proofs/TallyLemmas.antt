@@ -15,36 +15,36 @@ unmarked_gain region n unmarked = rw unmarked refl
 marked_gain : (region : ℕ) (n : NodeAt) → n.marked ≡ true → gain (is_marked_in region) n ≡ one_in n.at.split region
 marked_gain region n marked = rw marked refl
 
--- A split key is in its own region.
+-- A split key is in its region.
 one_here : (split : ℕ) → one_in split (region_of split) ≡ 1
 one_here split = elim (eqb_tells (region_of split) (region_of split)) [
   | inl here ↦ rw here.0 refl
   | inr apart ↦ absurd (apart.1 refl)
 ]
 
--- Nothing is counted of one dummy.
+-- The list of one dummy has no marked node to count.
 pub tallied_new : (t : TallyAt) (nodes : List NodeAt) (n : NodeAt) → ((region : ℕ) → count_in t region ≡ 0) → n.marked ≡ false → nodes ≡ n ∷ [] → IsTallied t nodes
 unfolding count_where
 tallied_new t nodes n none unmarked is region = rw is (omega (arith, none region, unmarked_gain region n unmarked))
 
--- The nodes are what they were.
+-- The nodes are unchanged.
 pub tallied_same : (t : TallyAt) (old new : List NodeAt) → new ≡ old → IsTallied t old → IsTallied t new
 tallied_same t old new same is = rw same is
 
--- An unmarked node more.
+-- One more unmarked node.
 pub tallied_linked : (t : TallyAt) (old new : List NodeAt) (pred : ℕ) (x : NodeAt) → IsTallied t old → IsLinked old pred → x.marked ≡ false → new ≡ linked_after old pred x → IsTallied t new
 tallied_linked t old new pred x is linked unmarked new_is region =
     let more = count-linked (is_marked_in region) old pred x linked in
     rw new_is (omega (arith, is region, more, unmarked_gain region x unmarked))
 
--- Another value.
+-- A node gets another value.
 pub tallied_written : (t : TallyAt) (old new : List NodeAt) (place value : ℕ) (n : NodeAt) → IsTallied t old → node_of old place ≡ Some n → new ≡ written_at old place value → IsTallied t new
 tallied_written t old new place value n is found new_is region =
     let now = count-changed (is_marked_in region) old place (λ m. record m { value = value }) n found in
     let same : gain (is_marked_in region) n ≡ gain (is_marked_in region) (record n { value = value }) = refl in
     rw new_is (omega (arith, is region, now, same))
 
--- A mark more.
+-- One more marked node.
 pub tallied_marked : (t u : TallyAt) (old new : List NodeAt) (place : ℕ) (n : NodeAt) → IsTallied t old → node_of old place ≡ Some n → n.marked ≡ false → ((region : ℕ) → count_in u region ≡ count_in t region + one_in n.at.split region) → new ≡ marked_at old place → IsTallied u new
 tallied_marked t u old new place n is found unmarked added new_is region =
     let now = count-changed (is_marked_in region) old place (λ m. record m { marked = true }) n found in
@@ -55,7 +55,7 @@ module _ (t : TallyAt) (old : List NodeAt) (pred split : ℕ) (m : NodeAt) (is :
   one_of : (region : ℕ) → gain (is_marked_in region) m ≡ one_in split region
   one_of region = marked_gain region m marked ∙ ap (λ s. one_in s region) split_is
 
-  -- A marked node less.
+  -- One marked node fewer.
   pub tallied_unlinked : (u : TallyAt) (new : List NodeAt) → ((region : ℕ) → count_in u region + one_in split region ≡ count_in t region) → new ≡ unlinked_after old pred → IsTallied u new
   tallied_unlinked u new removed new_is region =
       let now = count-unlinked (is_marked_in region) old pred m next in
@@ -67,7 +67,7 @@ module _ (t : TallyAt) (old : List NodeAt) (pred split : ℕ) (m : NodeAt) (is :
       let now = count-unlinked (is_marked_in (region_of split)) old pred m next in
       omega (arith, none, is (region_of split), now, one_of (region_of split), one_here split)
 
--- No node is marked in a region of which nothing is counted.
+-- No node is marked in a region whose count is 0.
 none_below : (low : ℕ) (nodes : List NodeAt) → ((region : ℕ) → region < low → count_where (is_marked_in region) nodes ≡ 0) → AreMarksFrom (low * 2 ^ 52) nodes
 unfolding count_where
 none_below low [] none = tt
@@ -81,7 +81,7 @@ none_below low (n ∷ rest) none = (
   none_below low rest (λ region less. let both = none region less in omega (arith, both)),
 )
 
--- What is marked in a region has a split key of it.
+-- A node that is marked in a region has a split key of the region.
 gain_near : (region : ℕ) (n : NodeAt) → gain (is_marked_in region) n ≢ 0 → n.at.split < (region + 1) * 2 ^ 52
 gain_near region n some = elim (eqb_tells (region_of n.at.split) region) [
   | inl here ↦ omega (arith, here.1)
@@ -92,7 +92,7 @@ gain_near region n some = elim (eqb_tells (region_of n.at.split) region) [
     none true other = rw other refl
     none false other = refl
 
--- The node before all that are marked in a region has no higher split key than they.
+-- A node before all that are marked in a region has no higher split key than any of them.
 before_near : (region : ℕ) (n : NodeAt) (rest : List NodeAt) → AllByRecursion (IsNodeBefore n) rest → count_where (is_marked_in region) rest ≢ 0 → n.at.split < (region + 1) * 2 ^ 52
 unfolding count_where
 before_near region n [] behind some = absurd (some refl)
@@ -101,7 +101,7 @@ before_near region n (m ∷ rest) behind some = elim (cases_lt 0 (gain (is_marke
   | inr none ↦ before_near region n rest behind.1 (λ nothing. some (omega (arith, none, nothing)))
 ]
 
--- The first marked node is no farther than any that is marked.
+-- The first marked node has no higher split key than any that is marked.
 first_near : (region : ℕ) (nodes : List NodeAt) → IsRising nodes → count_where (is_marked_in region) nodes ≢ 0 → IsSomeAnd (first_marked nodes) (λ n. n.at.split < (region + 1) * 2 ^ 52)
 unfolding count_where first_marked IsRising
 first_near region [] rising some = absurd (some refl)
@@ -117,7 +117,7 @@ first_near region (n ∷ rest) rising some = go (first_near region rest rising.1
     go later true marked = here marked
     go later false unmarked = later (λ nothing. some (omega (arith, unmarked_gain region n unmarked, nothing)))
 
--- So where the first region is in which something is counted, the marked nodes begin.
+-- The marked nodes begin in the first region whose count is not 0.
 pub marks_from : (t : TallyAt) (nodes : List NodeAt) (split : ℕ) → IsTallied t nodes → IsFirstCounted t split → AreMarksFrom split nodes
 marks_from t nodes split is first = rw first.is (none_below first.region nodes (λ region less. sym (is region) ∙ first.none_before region less))
 
@@ -126,7 +126,7 @@ marks_near t nodes split is rising first =
     let end : split + 2 ^ 52 ≡ (first.region + 1) * 2 ^ 52 = omega (arith, first.is) in
     rw end (first_near first.region nodes rising (λ none. first.some (is first.region ∙ none)))
 
--- What holds of a number that is there holds of it still.
+-- A statement about an option's number, from a stronger one.
 pub if_some : (P Q : ℕ → Type 0) (o : Option ℕ) → ((x : ℕ) → P x → Q x) → IfSome o P → IfSome o Q
 if_some P Q None each is = tt
 if_some P Q (Some x) each is = each x is

@@ -1,4 +1,4 @@
--- What a tally's calls do to its counts.
+-- The effect of a tally's calls on its counts.
 use Rattle.std.proofs.Common.{◌≡◌, ◌≢◌, ℕ, ◌+◌, ◌*◌, ◌/◌, ◌%◌, ◌^◌, ◌<◌, ◌≤◌, inl, inr, List, length, replicate, sym, ◌∙◌, ap, arith, get_or, set, get_or-set_other}
 use Rattle.std.proofs.lemmas.Bool.{cases_lt}
 use Rattle.std.proofs.lemmas.Bool.Decides.{eqb_tells}
@@ -10,7 +10,7 @@ use Rattle.node_list.proofs.RunLemmas.{count_in_run, run_of_zeros, run_elsewhere
 pub region_within : (split : ℕ) → split < 2 ^ 64 → region_of split < 64 * 64
 region_within split fits = omega arith
 
--- Zeros are counts of nothing.
+-- A list of zeros counts nothing.
 pub zero_at : (many place : ℕ) → get_or {A = ℕ} (replicate many 0) place 0 ≡ 0
 zero_at many place = elim (cases_lt place many) [
   | inl less ↦ get_or-replicate many place 0 0 less
@@ -25,7 +25,7 @@ nothing_summed = record {
   in_all = sym (run_of_zeros (replicate 64 0) 0 64 (λ place after before. zero_at 64 place));
 }
 
--- A count more, and a count less, in one region.
+-- The counts with one more, and with one less, in one region.
 pub one_more_in : (counts : List ℕ) (split : ℕ) → region_of split < length counts → (region : ℕ) → get_or (set counts (region_of split) (get_or counts (region_of split) 0 + 1)) region 0 ≡ get_or counts region 0 + one_in split region
 one_more_in counts split within region = elim (eqb_tells (region_of split) region) [
   | inl here ↦ rw (here.0, ← here.1) (get_or-set_same counts (region_of split) _ 0 within)
@@ -47,14 +47,14 @@ module _ (total : ℕ) (groups regions : List ℕ) (is : IsSummed total groups r
     pub group_there : region / 64 < length groups
     group_there = omega (arith, is.groups_in, small)
 
-    -- A region counts no more than its group, and that no more than all.
+    -- A region counts no more than its group, and the group no more than the total.
     pub region_fits : get_or regions region 0 ≤ get_or groups (region / 64) 0
     region_fits = omega (arith, is.by_group (region / 64) (omega (arith, small)), count_in_run regions (region / 64 * 64) 64 region (omega arith) (omega arith))
 
     pub group_fits : get_or groups (region / 64) 0 ≤ total
     group_fits = omega (arith, is.in_all, count_in_run groups 0 64 (region / 64) (omega arith) (omega (arith, small)))
 
-    -- A region, its group and all count as much more or less.
+    -- A region, its group and the total change by the same amount.
     pub summed : (in_region in_group in_total less more : ℕ) → in_region + less ≡ get_or regions region 0 + more → in_group + less ≡ get_or groups (region / 64) 0 + more → in_total + less ≡ total + more → IsSummed in_total (set groups (region / 64) in_group) (set regions region in_region)
     summed in_region in_group in_total less more region_is group_is total_is = record {
       groups_in = length-set groups (region / 64) in_group ∙ is.groups_in;
@@ -75,7 +75,7 @@ module _ (total : ℕ) (groups regions : List ℕ) (is : IsSummed total groups r
               get_or-set_other groups (region / 64) group in_group 0 apart.1 ∙ is.by_group group within ∙ sym same
         ]
 
-  -- Where something is counted, the first group of which it is has a region of which it is.
+  -- If the total is not 0, some group and some region of it are not 0.
   pub some_group : total ≢ 0 → run_sum groups 0 64 ≢ 0
   some_group some none = some (is.in_all ∙ none)
 

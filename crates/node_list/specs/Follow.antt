@@ -1,28 +1,28 @@
--- What stays true of nodes and spares while a list changes.
+-- Facts about nodes and spares that stay true while a list changes.
 use Rattle.std.specs.Prelude.{◌≡◌, ℕ, ◌<◌, ◌≤◌, ◌-◌, ◌^◌, ◌⊎◌, Some}
 use Rattle.node_list.specs.declared.node.Kind.TheVariants.{Dummy}
 use Rattle.node_list.specs.Nodes.{NodeAt, Listing, node_of, out_at}
 use Rattle.node_list.specs.Sound.{IsSound}
 
--- One node at two times: only its value and its mark may differ.
+-- The same node at two times: only its value and its mark may differ.
 pub record IsSameNode (n m : NodeAt) : Type 0 where
   pub place : n.place ≡ m.place
   pub at : n.at ≡ m.at
   pub kind : n.kind ≡ m.kind
   pub stamp : n.stamp ≡ m.stamp
 
--- The node was linked at this place before, or its stamp was out there or is new.
+-- The node was linked at this place before, or its stamp was out at the place, or is new.
 abbrev pub WasThere : Listing → ℕ → NodeAt → Type 0
 WasThere old place n =
     ((m : NodeAt) × (node_of old.nodes place ≡ Some m) × IsSameNode m n)
     ⊎ ((out_at old place ≡ Some n.stamp) ⊎ (old.last < n.stamp))
 
--- The node is linked at this place still.
+-- The node is still linked at this place.
 abbrev pub IsStillThere : Listing → ℕ → NodeAt → Type 0
 IsStillThere new place n = (m : NodeAt) × (node_of new.nodes place ≡ Some m) × IsSameNode n m
 
--- A list at two times: what is true of every list stays true, no stamp comes back, a linked dummy
--- stays linked, the change number never falls, and while it stays the nodes do.
+-- A list at two times: the invariants of lists still hold, no stamp is used again, a linked dummy
+-- stays linked, the change number never falls, and while it is unchanged the nodes are too.
 pub record Follows (old new : Listing) : Type 0 where
   pub sound : IsSound old → IsSound new
   pub last : old.last ≤ new.last

@@ -1,4 +1,4 @@
--- How a list lies in its slab.
+-- A list as it is laid out in its slab.
 use Rattle.std.specs.Prelude.{◌≡◌, ℕ, ◌<◌, ◌≤◌, ◌-◌, ◌^◌, List, [], ◌∷◌, Option, Some, None, true, map}
 use Prim.Native.Nat.{zero, suc}
 use Rattle.split_key.specs.Sort.{dummy_at}
@@ -13,7 +13,7 @@ use Rattle.node_list.specs.Sound.{AllPlain}
 use Rattle.node_list.specs.Marks.{AreCounted, total_of}
 use Rattle.node_list.specs.declared.marks.Marks.{Marks}
 
--- A node as it is stored, before a next one.
+-- A node as it is stored, with the place of the next one.
 abbrev pub stored : NodeAt → Option ℕ → Node
 stored n next = record {
   at = n.at;
@@ -31,7 +31,7 @@ step place None rest = []
 step place (Some (Out stamp)) rest = []
 step place (Some (Linked n)) rest = seen place n ∷ rest n.next
 
--- The nodes from a place on, so many at most.
+-- The nodes from a place on; the first number is how many at most.
 unfoldable pub walk : ℕ → (ℕ → Option SlotAt) → Option ℕ → List NodeAt
 walk zero at from = []
 walk (suc fuel) at None = []
@@ -47,7 +47,7 @@ unfoldable pub IsChain : (ℕ → Option SlotAt) → List NodeAt → Type 0
 IsChain at [] = Unit {0}
 IsChain at (n ∷ rest) = (at n.place ≡ Some (Linked (stored n (first_place rest)))) × IsChain at rest
 
--- The stamp of what lies in a slot.
+-- The stamp of the slot's node or spare.
 abbrev pub slot_stamp : SlotAt → ℕ
 slot_stamp (Linked n) = n.stamp
 slot_stamp (Out stamp) = stamp
@@ -62,7 +62,7 @@ out_stamp (Some (Out stamp)) = Some stamp
 unfoldable pub nodes_in : Slab SlotAt → ℕ → List NodeAt
 nodes_in slab head = walk (slab_len slab) (get slab) (Some head)
 
--- What a contract sees of the fields.
+-- The list as a contract sees it, from its fields.
 abbrev pub listing_of : Slab SlotAt → ℕ → ℕ → ℕ → Listing
 listing_of slab head changes last = record {
   nodes = nodes_in slab head;
@@ -88,13 +88,13 @@ pub record IsLaidOut (slab : Slab SlotAt) (head : ℕ) (nodes : List NodeAt) : T
   pub plain : AllPlain nodes
   pub all : (place : ℕ) (node : Node) → get slab place ≡ Some (Linked node) → IsLinked nodes place
 
--- No stamp is above the last one, and no two places have one stamp.
+-- No stamp is above the last one, and no two places have the same stamp.
 pub record HasStamps (slab : Slab SlotAt) (last : ℕ) : Type 0 where
   pub bound : (place : ℕ) (slot : SlotAt) → get slab place ≡ Some slot → slot_stamp slot ≤ last
   pub one_place : (p q : ℕ) (s t : SlotAt) → get slab p ≡ Some s → get slab q ≡ Some t
       → slot_stamp s ≡ slot_stamp t → p ≡ q
 
--- The fields of a list, but for the counts of marked nodes by region.
+-- The fields of a list, except the counts of marked nodes by region.
 pub record IsKept (slab : Slab SlotAt) (head last count marked : ℕ) : Type 0 where
   pub laid_out : IsLaidOut slab head (nodes_in slab head)
   pub stamps : HasStamps slab last

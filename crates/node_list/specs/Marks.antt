@@ -1,4 +1,4 @@
--- The marked nodes of a list, counted by region or in all.
+-- The marked nodes of a list, counted by region or in total.
 use Rattle.std.specs.Prelude.{◌≡◌, ◌≢◌, ℕ, ◌+◌, List}
 use Rattle.node_list.specs.declared.marks.Marks.{Marks}
 use Rattle.node_list.specs.declared.marks.Marks.TheVariants.{ByRegion, InAll}
@@ -20,8 +20,8 @@ abbrev pub CountsSome : Marks → ℕ → Type 0
 CountsSome (ByRegion t) split = count_in t (region_of split) ≢ 0
 CountsSome (InAll total) split = Unit {0}
 
--- If regions are counted, one more is counted in that of a split key, and as many as before in all
--- others.
+-- If regions are counted, the region of a split key counts one more, and all others count as
+-- before.
 abbrev pub CountsMore : Marks → Marks → ℕ → Type 0
 CountsMore (ByRegion t) (ByRegion u) split =
     (region : ℕ) → count_in u region ≡ count_in t region + one_in split region
@@ -29,8 +29,8 @@ CountsMore (ByRegion t) (InAll total) split = ⊥
 CountsMore (InAll total) (ByRegion u) split = ⊥
 CountsMore (InAll total) (InAll more) split = Unit {0}
 
--- If regions are counted, one less is counted in that of a split key, and as many as before in all
--- others.
+-- If regions are counted, the region of a split key counts one less, and all others count as
+-- before.
 abbrev pub CountsLess : Marks → Marks → ℕ → Type 0
 CountsLess (ByRegion t) (ByRegion u) split =
     (region : ℕ) → count_in u region + one_in split region ≡ count_in t region
@@ -38,7 +38,7 @@ CountsLess (ByRegion t) (InAll total) split = ⊥
 CountsLess (InAll total) (ByRegion u) split = ⊥
 CountsLess (InAll total) (InAll less) split = Unit {0}
 
--- If regions are counted, the marked ones of these nodes are.
+-- If regions are counted, the counts are those of the marked nodes among these.
 abbrev pub AreCounted : Marks → List NodeAt → Type 0
 AreCounted (ByRegion t) nodes = IsTallied t nodes
 AreCounted (InAll total) nodes = Unit {0}

@@ -1,4 +1,4 @@
--- What a contract sees of a list and of a spare.
+-- A list and a spare as contracts see them.
 use Rattle.std.specs.Prelude.{◌≡◌, ◌≢◌, ℕ, ◌+◌, ◌-◌, ◌^◌, min, List, [], ◌∷◌, Option, Some, None, Bool, true, false, ◌==◌, if◌then◌else◌, slice_index_or, ◌⊎◌, ◌&&◌, not}
 use Prim.Native.Nat.{zero, suc}
 use Rattle.split_key.specs.declared.sort.SortKey.{SortKey}
@@ -24,7 +24,7 @@ pub record Listing : Type 0 where
   pub changes : ℕ
   pub last : ℕ
 
--- A place that is kept, its stamp, and what the node there will be.
+-- A place that is kept, its stamp, and the contents that its node will have.
 pub record SpareAt : Type 0 where
   pub place : ℕ
   pub stamp : ℕ
@@ -56,7 +56,7 @@ first_dummy place stamp =
       marked = false;
     }
 
--- A spare as a list gives it: it would be the dummy of bucket 0.
+-- A spare as a list gives it, filled as the dummy of bucket 0.
 abbrev pub unfilled : ℕ → ℕ → SpareAt
 unfilled place stamp =
     record {
@@ -71,7 +71,7 @@ unfilled place stamp =
 abbrev pub out_at : Listing → ℕ → Option ℕ
 out_at l place = slice_index_or l.out place None
 
--- This spare is the list's.
+-- This spare was given out by the list.
 abbrev pub IsOut : Listing → SpareAt → Type 0
 IsOut l spare = out_at l spare.place ≡ Some spare.stamp
 
@@ -144,7 +144,7 @@ live_count nodes = count_where is_live nodes
 abbrev pub marked_count : List NodeAt → ℕ
 marked_count nodes = count_where is_marked nodes
 
--- The list with one node more, behind the one at a place.
+-- The list with one more node, behind the one at a place.
 unfoldable pub linked_after : List NodeAt → ℕ → NodeAt → List NodeAt
 linked_after [] place x = []
 linked_after (n ∷ rest) place x =
@@ -170,16 +170,16 @@ marked_at nodes place = changed_at nodes place (λ n. record n { marked = true }
 abbrev pub written_at : List NodeAt → ℕ → ℕ → List NodeAt
 written_at nodes place value = changed_at nodes place (λ n. record n { value = value })
 
--- The change number one higher, if there is a higher one.
+-- The change number plus one, or the same if it is the highest.
 abbrev pub one_more : ℕ → ℕ
 one_more changes = min (changes + 1) (2 ^ 64 - 1)
 
--- The change number after so many changes.
+-- The change number after this number of changes.
 unfoldable pub changes_after : ℕ → ℕ → ℕ
 changes_after changes zero = changes
 changes_after changes (suc more) = one_more (changes_after changes more)
 
--- The nodes are these now, by one change, and the same spares are out.
+-- The nodes are these after one change, and the same spares are out.
 pub record Becomes (old new : Listing) (after : List NodeAt) : Type 0 where
   pub nodes : new.nodes ≡ after
   pub head : new.head ≡ old.head
@@ -187,7 +187,7 @@ pub record Becomes (old new : Listing) (after : List NodeAt) : Type 0 where
   pub last : new.last ≡ old.last
   pub out : (place : ℕ) → out_at new place ≡ out_at old place
 
--- The nodes are these now, by one change, and the spare at the place is out no more.
+-- The nodes are these after one change, and the spare at the place is no longer out.
 pub record Takes (old new : Listing) (after : List NodeAt) (place : ℕ) : Type 0 where
   pub nodes : new.nodes ≡ after
   pub head : new.head ≡ old.head
@@ -196,7 +196,7 @@ pub record Takes (old new : Listing) (after : List NodeAt) (place : ℕ) : Type 
   pub gone : out_at new place ≡ None
   pub others : (other : ℕ) → other ≢ place → out_at new other ≡ out_at old other
 
--- A spare is out at the place, and all else is as it was but for the last stamp.
+-- A spare is out at the place, and all else is unchanged except the last stamp.
 pub record GivesOut (old new : Listing) (place stamp : ℕ) : Type 0 where
   pub nodes : new.nodes ≡ old.nodes
   pub head : new.head ≡ old.head
@@ -206,7 +206,7 @@ pub record GivesOut (old new : Listing) (place stamp : ℕ) : Type 0 where
   pub is_out : out_at new place ≡ Some stamp
   pub others : (other : ℕ) → other ≢ place → out_at new other ≡ out_at old other
 
--- The spare at the place is out no more, and all else is as it was.
+-- The spare at the place is no longer out, and all else is unchanged.
 pub record TakesBack (old new : Listing) (place : ℕ) : Type 0 where
   pub nodes : new.nodes ≡ old.nodes
   pub head : new.head ≡ old.head

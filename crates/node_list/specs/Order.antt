@@ -14,7 +14,7 @@ unfoldable pub IsRising : List NodeAt → Type 0
 IsRising [] = Unit {0}
 IsRising (n ∷ rest) = AllByRecursion (IsNodeBefore n) rest × IsRising rest
 
--- The sort key belongs right behind the node at a place, and no node has it.
+-- The position of the sort key is right behind the node at a place, and no node has this sort key.
 pub record IsVacant (nodes : List NodeAt) (pred : ℕ) (at : SortKey) : Type 0 where
   pub node : NodeAt
   pub is : node_of nodes pred ≡ Some node
@@ -25,7 +25,7 @@ pub record IsVacant (nodes : List NodeAt) (pred : ℕ) (at : SortKey) : Type 0 w
 abbrev pub AbsentFrom : ℕ → List NodeAt → Type 0
 AbsentFrom place nodes = AllByRecursion (λ n. n.place ≢ place) nodes
 
--- No two nodes are at one place.
+-- No two nodes are at the same place.
 unfoldable pub IsSpread : List NodeAt → Type 0
 IsSpread [] = Unit {0}
 IsSpread (n ∷ rest) = AbsentFrom n.place rest × IsSpread rest

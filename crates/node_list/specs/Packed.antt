@@ -1,18 +1,18 @@
--- A place or none, in one number.
+-- A place or none, packed into one number.
 use Rattle.std.specs.Prelude.{◌≡◌, ℕ, ◌-◌, ◌^◌, Option, Some, None, ◌==◌, if◌then◌else◌}
 use Rattle.std.proofs.Common.{refl, sym, inl, inr, eq-eqb, ne_eqb}
 use Rattle.std.proofs.lemmas.Bool.{cases_eq}
 
--- The place that a number of 32 bits stands for: the greatest stands for none.
+-- The place that is packed in a number of 32 bits; the greatest such number stands for none.
 abbrev pub unpacked : ℕ → Option ℕ
 unpacked number = if number == 2 ^ 32 - 1 then None else Some number
 
--- The number that stands for a place or for none.
+-- The packed form of a place, or of none.
 abbrev pub packed : Option ℕ → ℕ
 packed None = 2 ^ 32 - 1
 packed (Some place) = place
 
--- A number that is unpacked is packed again.
+-- To unpack a number and pack it again answers the number.
 pub packed_unpacked : (number : ℕ) → packed (unpacked number) ≡ number
 packed_unpacked number = elim (cases_eq number (2 ^ 32 - 1)) [
   | inl same ↦ rw (eq-eqb number (2 ^ 32 - 1) same) (sym same)

@@ -1,4 +1,4 @@
--- What a contract sees of a node.
+-- A node as contracts see it.
 use Rattle.std.specs.Prelude.{ℕ}
 use Rattle.node_list.specs.declared.node.Node.{Node}
 use Rattle.node_list.specs.Nodes.{NodeAt}

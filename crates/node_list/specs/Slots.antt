@@ -1,4 +1,4 @@
--- What lies at a place of a slab.
+-- The contents of a slab's places.
 use Rattle.std.specs.Prelude.{ℕ, Option, Some, None, if◌then◌else◌}
 use Rattle.node_list.specs.declared.node.Node.{Node}
 
@@ -7,7 +7,7 @@ pub data SlotAt : Type 0 where
   Linked : Node → SlotAt
   Out : ℕ → SlotAt
 
--- What a node as it lies there stands for.
+-- The slot that a stored node stands for.
 abbrev pub slot_of : Node → SlotAt
 slot_of n = if n.is_linked then Linked n else Out n.stamp
 

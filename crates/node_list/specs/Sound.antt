@@ -1,4 +1,4 @@
--- What is true of every list.
+-- The invariants of every list.
 use Rattle.std.specs.Prelude.{◌≡◌, ◌≢◌, ℕ, ◌<◌, ◌≤◌, ◌-◌, ◌^◌, List, Some, false}
 use Rattle.std.specs.List.{AllByRecursion}
 use Rattle.split_key.specs.Sort.{dummy_at}
@@ -18,7 +18,7 @@ pub record IsFirst (l : Listing) : Type 0 where
   pub at : node.at ≡ dummy_at 0
   pub kind : node.kind ≡ Dummy
 
--- No stamp is above the last one, and no two places have one stamp.
+-- No stamp is above the last one, and no two places have the same stamp.
 pub record IsStamped (l : Listing) : Type 0 where
   pub bound : (place : ℕ) (n : NodeAt) → node_of l.nodes place ≡ Some n → n.stamp ≤ l.last
   pub alone : (p q : ℕ) (n m : NodeAt) → node_of l.nodes p ≡ Some n → node_of l.nodes q ≡ Some m
@@ -28,8 +28,7 @@ pub record IsStamped (l : Listing) : Type 0 where
   pub out_bound : (place stamp : ℕ) → out_at l place ≡ Some stamp → stamp ≤ l.last
   pub out_alone : (p q stamp : ℕ) → out_at l p ≡ Some stamp → out_at l q ≡ Some stamp → p ≡ q
 
--- The nodes are in order and at places of their own, no dummy is marked, and no stamp is used
--- twice.
+-- The nodes are in order and at different places, no dummy is marked, and no stamp is used twice.
 pub record IsSound (l : Listing) : Type 0 where
   pub first : IsFirst l
   pub rising : IsRising l.nodes

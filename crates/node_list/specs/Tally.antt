@@ -4,7 +4,7 @@ use Rattle.std.specs.List.{AllByRecursion}
 use Prim.Native.Nat.{zero, suc}
 use Rattle.node_list.specs.Nodes.{NodeAt, count_where}
 
--- How much is counted in all regions, and in each.
+-- The count of all regions together, and that of each.
 pub record TallyAt : Type 0 where
   pub total : ℕ
   pub counts : List ℕ
@@ -13,16 +13,16 @@ pub record TallyAt : Type 0 where
 abbrev pub region_of : ℕ → ℕ
 region_of split = split / 2 ^ 52
 
--- How much is counted in a region.
+-- The count of a region.
 abbrev pub count_in : TallyAt → ℕ → ℕ
 count_in t region = slice_index_or t.counts region 0
 
--- The sum of so many counts from a place on.
+-- The sum of a run of counts: its first place, and its length.
 unfoldable pub run_sum : List ℕ → ℕ → ℕ → ℕ
 run_sum counts from zero = 0
 run_sum counts from (suc more) = run_sum counts from more + slice_index_or counts (from + more) 0
 
--- The counts of groups are the sums of their 64 regions, and the total is that of the 64 groups.
+-- The count of each group is the sum of its 64 regions, and the total is the sum of the 64 groups.
 pub record IsSummed (total : ℕ) (groups regions : List ℕ) : Type 0 where
   pub groups_in : length groups ≡ 64
   pub regions_in : length regions ≡ 64 * 64
@@ -30,21 +30,21 @@ pub record IsSummed (total : ℕ) (groups regions : List ℕ) : Type 0 where
       → slice_index_or groups group 0 ≡ run_sum regions (group * 64) 64
   pub in_all : total ≡ run_sum groups 0 64
 
--- The place has the first count other than 0 of the 64 from a place on.
+-- The place has the first count other than 0 in the run of 64 that begins at `from`.
 pub record IsFirstOfRun (counts : List ℕ) (from place : ℕ) : Type 0 where
   pub not_before : from ≤ place
   pub within : place < from + 64
   pub some : slice_index_or counts place 0 ≢ 0
   pub none_before : (other : ℕ) → from ≤ other → other < place → slice_index_or counts other 0 ≡ 0
 
--- The split key is the first one of the first region in which something is counted.
+-- The split key is the lowest of the first region whose count is not 0.
 pub record IsFirstCounted (t : TallyAt) (split : ℕ) : Type 0 where
   pub region : ℕ
   pub is : split ≡ region * 2 ^ 52
   pub some : count_in t region ≢ 0
   pub none_before : (other : ℕ) → other < region → count_in t other ≡ 0
 
--- What a split key counts in a region.
+-- One if the split key is in the region, else 0.
 abbrev pub one_in : ℕ → ℕ → ℕ
 one_in split region = if region_of split == region then 1 else 0
 
@@ -52,7 +52,7 @@ one_in split region = if region_of split == region then 1 else 0
 abbrev pub is_marked_in : ℕ → NodeAt → Bool
 is_marked_in region n = n.marked && region_of n.at.split == region
 
--- The marked ones of these nodes are counted.
+-- The counts are those of the marked nodes among these.
 abbrev pub IsTallied : TallyAt → List NodeAt → Type 0
 IsTallied t nodes = (region : ℕ) → count_in t region ≡ count_where (is_marked_in region) nodes
 

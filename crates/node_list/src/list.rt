@@ -1,4 +1,5 @@
-//! The list.
+//! The list: a slab of nodes that are chained by their places, and the counts of them. Invariant:
+//! the nodes are in strict order of their sort keys, and each counter is the number of its nodes.
 ghost use Rattle.std.specs.Prelude.{◌≡◌, ℕ, ◌+◌, ◌-◌, ◌<◌, ◌^◌, ◌↔◌, Some, None, Err, [], ◌∷◌, IfOk, OnErr, IfSome, IfNone, IsSomeAnd, false, option_map};
 ghost use Rattle.std.specs.List.{AllByRecursion};
 ghost use Rattle.node_list.specs.Follow.{Follows};
@@ -43,7 +44,7 @@ impl Model for NodeList {
     ghost invariant = { λ f. IsWhole f.slab f.head f.last f.count f.marks };
 }
 
-/// Counts one change more, up to 2^64 - 1.
+/// Counts one more change, up to 2^64 - 1.
 fn advance(changes: &mut u64)
     ensures next { changes.new ≡ one_more changes.old }
     ensures fits { changes.old < 2 ^ 64 }
@@ -72,7 +73,7 @@ fn first_marked_split(slab: &Slab<Slot>, head: NodeRef) -> Option<u64>
 }
 
 impl NodeList {
-    /// The list of the dummy of bucket 0 alone, with this stamp. Its change number is 0.
+    /// A list that has only the dummy of bucket 0, with this stamp. Its change number is 0.
     ///
     /// # Errors
     ///
@@ -94,8 +95,8 @@ impl NodeList {
         NodeList::with_marks(alloc, first_stamp, Marks::ByRegion(tally))
     }
 
-    /// The list that `new` makes, without counts of marked nodes by region: `marks_begin` walks the
-    /// list if a node is marked. For an owner who unlinks each node that he has marked.
+    /// A list as from `new`, but without counts of marked nodes by region: `marks_begin` walks the
+    /// list if a node is marked. It is for an owner who unlinks each node right after marking it.
     ///
     /// # Errors
     ///
@@ -115,7 +116,7 @@ impl NodeList {
         NodeList::with_marks(alloc, first_stamp, Marks::InAll(0))
     }
 
-    /// The list of the dummy of bucket 0 alone, with this stamp and these counts, of nothing.
+    /// A list that has only the dummy of bucket 0, with this stamp and these counts, which are 0.
     fn with_marks(alloc: Global, first_stamp: u64, marks: Marks) -> Result<Self, AllocError>
         requires stamp { first_stamp < 2 ^ 64 - 1 }
         requires none { CountNone marks }
@@ -141,13 +142,13 @@ impl NodeList {
         }
     }
 
-    /// A place that is kept for a node, with the stamp one above the last that was given. It is
-    /// filled as the dummy of bucket 0.
+    /// Keeps a place for a node, and gives it the stamp after the last one. The spare is filled as
+    /// the dummy of bucket 0.
     ///
     /// # Errors
     ///
-    /// `Worn` exactly if the last stamp was 2^64 - 2; then `NoMemory` if memory is refused,
-    /// or all of 2^32 - 1 places are in use. Either leaves the list as it was.
+    /// `Worn` exactly if the last stamp was 2^64 - 2; else `NoMemory` if memory is refused, or all
+    /// of 2^32 - 1 places are in use. Either leaves the list unchanged.
     ///
     /// # Cost
     ///
@@ -182,11 +183,7 @@ impl NodeList {
         }
     }
 
-    /// Takes a spare back that was not linked, and frees its place. Its stamp is never given again.
-    ///
-    /// # Cost
-    ///
-    /// Constant time; takes no memory.
+    /// Takes back a spare that was not linked, and frees its place. Its stamp is never given again.
     pub fn give_back(&mut self, spare: Spare)
         requires { IsOut self.old spare }
         ensures back { TakesBack self.old self.new spare.place }
@@ -195,12 +192,8 @@ impl NodeList {
         let _ = self.slab.try_remove(spare.node().place());
     }
 
-    /// Links the node of a spare behind a linked node, where its sort key belongs. The spare is out
-    /// no more.
-    ///
-    /// # Cost
-    ///
-    /// Constant time; takes no memory.
+    /// Links the node of a spare behind a linked node, at the position of its sort key. The spare
+    /// is no longer out.
     pub fn link_after(&mut self, pred: NodeRef, spare: Spare)
         requires vacant { IsVacant self.old.nodes pred spare.at }
         requires out { IsOut self.old spare }
@@ -214,17 +207,13 @@ impl NodeList {
         let node = spare.into_node(next);
         let weight = node.kind.weight();
         set_slot(&mut self.slab, place.place(), Slot::of_linked(node));
-        // No more nodes are counted than places are in use, so the counts fit.
+        // The counted nodes are no more than the places in use, so the counts fit.
         let _places = self.slab.len();
         self.count += weight;
         advance(&mut self.changes);
     }
 
     /// Unlinks the marked node behind a linked node, and frees its place.
-    ///
-    /// # Cost
-    ///
-    /// Constant time; takes no memory.
     pub fn unlink_after(&mut self, pred: NodeRef)
         requires { IsBeforeMarked self.old.nodes pred }
         ensures unlinked { Becomes self.old self.new (unlinked_after self.old.nodes pred) }
@@ -239,11 +228,7 @@ impl NodeList {
         }
     }
 
-    /// Marks an unmarked regular node. It stays linked, and counts no more.
-    ///
-    /// # Cost
-    ///
-    /// Constant time; takes no memory.
+    /// Marks an unmarked regular node. It stays linked, but no longer counts.
     pub fn set_mark(&mut self, node: NodeRef)
         requires { IsRegularAt self.old.nodes node }
         ensures marked { Becomes self.old self.new (marked_at self.old.nodes node) }
@@ -251,7 +236,7 @@ impl NodeList {
     {
         let split = node_at(&self.slab, node.place()).at.split();
         mark(&mut self.slab, node.place());
-        // No more nodes are counted than places are in use, so the counts fit.
+        // The counted nodes are no more than the places in use, so the counts fit.
         let _places = self.slab.len();
         self.count -= 1;
         self.marks.add(split);
@@ -259,10 +244,6 @@ impl NodeList {
     }
 
     /// Writes the value of a linked node.
-    ///
-    /// # Cost
-    ///
-    /// Constant time; takes no memory.
     pub fn write(&mut self, node: NodeRef, value: u64)
         requires { IsLinked self.old.nodes node }
         ensures written { Becomes self.old self.new (written_at self.old.nodes node value) }
@@ -273,10 +254,6 @@ impl NodeList {
     }
 
     /// A linked node.
-    ///
-    /// # Cost
-    ///
-    /// Constant time; takes no memory.
     pub fn node(&self, node: NodeRef) -> &Node
         requires { IsLinked self.now.nodes node }
         ensures node { node_of self.now.nodes node ≡ Some (seen node result.now) }
@@ -287,10 +264,6 @@ impl NodeList {
     }
 
     /// The node that is linked at a place now, if one is.
-    ///
-    /// # Cost
-    ///
-    /// Constant time; takes no memory.
     pub fn linked_node(&self, node: NodeRef) -> Option<&Node>
         ensures absent { IfNone result (node_of self.now.nodes node ≡ None) }
         ensures node { IfSome result (λ n. node_of self.now.nodes node ≡ Some (seen node n.now)) }
@@ -303,7 +276,7 @@ impl NodeList {
         }
     }
 
-    /// The dummy of bucket 0, which is the first node. Constant time.
+    /// The dummy of bucket 0, which is the first node.
     pub fn head(&self) -> NodeRef
         ensures place { result ≡ self.now.head }
         ensures sound { IsSound self.now }
@@ -311,8 +284,7 @@ impl NodeList {
         self.head
     }
 
-    /// The change number: how many links, marks, unlinks and writes there were, and 2^64 - 1 from
-    /// there on. Constant time.
+    /// The change number: how many links, marks, unlinks and writes there were, at most 2^64 - 1.
     pub fn changes(&self) -> u64
         ensures changes { result ≡ self.now.changes }
         ensures sound { IsSound self.now }
@@ -320,14 +292,14 @@ impl NodeList {
         self.changes
     }
 
-    /// How many regular nodes are linked and unmarked. Constant time.
+    /// How many regular nodes are linked and unmarked.
     pub fn count(&self) -> u64
         ensures { result ≡ live_count self.now.nodes }
     {
         self.count
     }
 
-    /// How many linked nodes are marked. Constant time.
+    /// How many linked nodes are marked.
     pub fn marked_count(&self) -> u64
         ensures count { result ≡ marked_count self.now.nodes }
         ensures none { (result ≡ 0) ↔ AllByRecursion (λ n. n.marked ≡ false) self.now.nodes }
@@ -335,14 +307,13 @@ impl NodeList {
         self.marks.total()
     }
 
-    /// Where in the order the marked nodes begin, or none exactly if no node is marked: no
-    /// marked node has a split key below it, and the first one has a split key less than 2^52 above
-    /// it.
+    /// The split key at which the marked nodes begin, or `None` exactly if no node is marked. No
+    /// marked node has a split key below it, and that of the first one is less than 2^52 above it.
     ///
     /// # Cost
     ///
-    /// Constant time: at most 64 + 64 counts are looked at. In a list without counts by region time
-    /// in proportion to the nodes up to the first marked one, if one is marked. Takes no memory.
+    /// Constant time: at most 64 + 64 counts are looked at. In a list without counts by region,
+    /// time in proportion to the nodes up to the first marked one, if one is marked.
     pub fn marks_begin(&self) -> Option<u64>
         ensures none { (result ≡ None) ↔ AllByRecursion (λ n. n.marked ≡ false) self.now.nodes }
         ensures from { IfSome result (λ split. AreMarksFrom split self.now.nodes) }

@@ -1,13 +1,13 @@
-//! How many nodes are marked, and for a list that is swept also where.
+//! The number of marked nodes, and for a list that is swept also their regions.
 //!
-//! The counts by region (`Tally`) take 33,280 bytes. A list whose owner unlinks each node that he
-//! has marked needs no more than their number.
+//! The counts by region (`Tally`) take 33,280 bytes. A list whose owner unlinks each node right
+//! after marking it needs no more than their number.
 ghost use Rattle.std.specs.Prelude.{◌≡◌, ◌≢◌, ◌+◌, ◌-◌, ◌^◌, ◌<◌};
 ghost use Rattle.node_list.specs.Marks.{CountsLess, CountsMore, CountsSome, total_of};
 
 use crate::tally::Tally;
 
-/// The marked nodes of a list: counted by region, or their number.
+/// The marked nodes of a list: counted by region, or only their number.
 #[derive(Drop)]
 pub enum Marks {
     ByRegion(Tally),
@@ -16,10 +16,6 @@ pub enum Marks {
 
 impl Marks {
     /// Counts one more at a split key.
-    ///
-    /// # Cost
-    ///
-    /// Constant time; takes no memory.
     pub fn add(&mut self, split: u64)
         requires { total_of self.old < 2 ^ 64 - 1 }
         ensures total { total_of self.new ≡ total_of self.old + 1 }
@@ -32,10 +28,6 @@ impl Marks {
     }
 
     /// Counts one less at a split key.
-    ///
-    /// # Cost
-    ///
-    /// Constant time; takes no memory.
     pub fn take_away(&mut self, split: u64)
         requires total { total_of self.old ≢ 0 }
         requires some { CountsSome self.old split }
@@ -48,7 +40,7 @@ impl Marks {
         }
     }
 
-    /// How many nodes are marked. Constant time.
+    /// How many nodes are marked.
     pub fn total(&self) -> u64
         ensures { result ≡ total_of self.now }
     {

@@ -1,4 +1,4 @@
-//! Nodes, and what names them.
+//! Nodes, and the references that name them.
 ghost use Rattle.std.specs.Prelude.{◌≡◌, ◌-◌, ◌^◌, ◌<◌, if◌then◌else◌, None, true, false};
 ghost use Rattle.node_list.specs.Nodes.{is_regular};
 ghost use Rattle.node_list.specs.declared.node.Kind.TheVariants.{Dummy};
@@ -6,7 +6,7 @@ ghost use Rattle.node_list.specs.declared.node.Kind.TheVariants.{Dummy};
 use split_key::SortKey;
 use std::marker::Model;
 
-/// What a node stands for.
+/// The kind of a node.
 #[derive(Clone, Copy, Debug, PartialEq, Eq)]
 pub enum Kind {
     /// The beginning of a bucket.
@@ -16,7 +16,7 @@ pub enum Kind {
 }
 
 impl Kind {
-    /// How much a new node of this kind counts.
+    /// The count of a new node of this kind.
     pub(crate) fn weight(self) -> u64
         ensures { result ≡ (if is_regular self then 1 else 0) }
     {
@@ -27,9 +27,9 @@ impl Kind {
     }
 }
 
-/// The place of a node. It names that node until the node is unlinked; whether it is the same node
-/// later is told by the stamp. A place is below 2^32 - 1, so that it takes half a word of each node,
-/// and one number of 32 bits is left to stand for none.
+/// The place of a node. It names that node until the node is unlinked; the stamp tells whether a
+/// node there later is the same. A place is below 2^32 - 1: it takes half a word of each node, and
+/// one number of 32 bits is left to stand for none.
 #[derive(Clone, Copy, Debug, PartialEq, Eq)]
 pub struct NodeRef {
     place: u32,
@@ -72,7 +72,7 @@ impl NodeRef {
 /// A linked node.
 #[derive(Clone, Copy, Debug)]
 pub struct Node {
-    /// Where it stands in the order of the list. A regular node has its key there.
+    /// Its position in the order of the list. A regular node has its key there.
     pub at: SortKey,
     /// The value of a regular node.
     pub value: u64,
@@ -82,9 +82,9 @@ pub struct Node {
     pub next: Option<NodeRef>,
     /// A dummy or a regular node. It lies beside the two that follow, so that all take one word.
     pub kind: Kind,
-    /// Whether the node is taken out of the table, and waits to be unlinked.
+    /// Whether the node was taken out of the table, and waits to be unlinked.
     pub marked: bool,
-    /// Whether the node is linked; else its place is kept for a spare.
+    /// Whether the node is linked; if not, its place is kept for a spare.
     pub(crate) is_linked: bool,
 }
 

@@ -5,10 +5,10 @@ use crate::node::NodeRef;
 use std::marker::Model;
 use std::mem::size_of;
 
-/// A node or none, in 4 bytes, where an `Option<NodeRef>` takes 8: who keeps many of them may keep
-/// them so. No node has the greatest place of 32 bits, which stands for none.
+/// A node or none, in 4 bytes, for those who keep many; an `Option<NodeRef>` takes 8. No node has
+/// the greatest place of 32 bits, which stands for none.
 ///
-/// A contract sees it as the option that it is.
+/// A contract sees it as the option.
 #[derive(Clone, Copy)]
 pub struct PackedRef {
     place: u32,
@@ -30,14 +30,14 @@ impl Model for PackedRef {
 }
 
 impl PackedRef {
-    /// No node. Constant time.
+    /// No node.
     pub fn none() -> PackedRef
         ensures { result ≡ None }
     {
         PackedRef { place: u32::MAX }
     }
 
-    /// This node. Constant time.
+    /// This node.
     pub fn of(node: NodeRef) -> PackedRef
         ensures { result ≡ Some node }
     {
@@ -46,7 +46,7 @@ impl PackedRef {
         }
     }
 
-    /// The node, if there is one. Constant time.
+    /// The node, if there is one.
     pub fn node(self) -> Option<NodeRef>
         ensures { result ≡ self }
     {

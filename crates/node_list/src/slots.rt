@@ -1,4 +1,4 @@
-//! What lies at a place of the slab.
+//! The slots of the slab: a linked node, or a place that is kept for a spare.
 ghost use Rattle.std.specs.Prelude.{◌≡◌, Some, true, option_copied};
 ghost use Rattle.slab.specs.Slab.{get, with_value, ContainsKey};
 ghost use Rattle.node_list.specs.declared.node.Node.{Node};
@@ -9,8 +9,8 @@ use slab::Slab;
 use std::marker::Model;
 use std::mem::size_of;
 
-/// A linked node, or the stamp of a spare whose place is kept. Which of the two it is stands in the
-/// node beside its mark, where an enum would take a word more of each entry.
+/// A linked node, or the stamp of a spare whose place is kept. The node says which, in a byte
+/// beside its mark; an enum would take one more word for each slot.
 #[derive(Drop)]
 pub struct Slot {
     node: Node,
@@ -27,7 +27,7 @@ impl Model for Slot {
 }
 
 impl Slot {
-    /// A linked node. Constant time.
+    /// A linked node.
     pub fn of_linked(node: Node) -> Self
         requires { node.is_linked ≡ true }
         ensures { result ≡ Linked node }
@@ -35,7 +35,7 @@ impl Slot {
         Slot { node }
     }
 
-    /// The stamp of a spare whose place is kept, which is that of this node. Constant time.
+    /// A place that is kept for a spare with the stamp of this node.
     pub fn out(node: &Node) -> Self
         ensures { result ≡ Out node.now.stamp }
     {
@@ -55,7 +55,7 @@ impl Slot {
         }
     }
 
-    /// The linked node that is there.
+    /// The linked node in the slot.
     fn linked_node(&self) -> &Node
         requires { (node : Node) × (self.now ≡ Linked node) }
         ensures { self.now ≡ Linked result.now }
@@ -90,10 +90,6 @@ impl Slot {
 }
 
 /// The linked node at a place.
-///
-/// # Cost
-///
-/// Constant time; takes no memory.
 pub fn node_at(slab: &Slab<Slot>, place: usize) -> &Node
     requires { (node : Node) × (get slab.now place ≡ Some (Linked node)) }
     ensures { get slab.now place ≡ Some (Linked result.now) }
@@ -105,10 +101,6 @@ pub fn node_at(slab: &Slab<Slot>, place: usize) -> &Node
 }
 
 /// The linked node at a place, if there is one.
-///
-/// # Cost
-///
-/// Constant time; takes no memory.
 pub fn linked_at(slab: &Slab<Slot>, place: usize) -> Option<&Node>
     ensures { option_copied result ≡ node_in (get slab.now place) }
 {
@@ -118,11 +110,7 @@ pub fn linked_at(slab: &Slab<Slot>, place: usize) -> Option<&Node>
     }
 }
 
-/// Writes what lies at a place that is in use.
-///
-/// # Cost
-///
-/// Constant time; takes no memory.
+/// Writes the slot of a place that is in use.
 pub fn set_slot(slab: &mut Slab<Slot>, place: usize, slot: Slot)
     requires { ContainsKey slab.old place }
     ensures { slab.new ≡ with_value slab.old place slot }
@@ -133,10 +121,6 @@ pub fn set_slot(slab: &mut Slab<Slot>, place: usize, slot: Slot)
 }
 
 /// Changes the next of a linked node, and returns the one that it had.
-///
-/// # Cost
-///
-/// Constant time; takes no memory.
 pub fn replace_next(slab: &mut Slab<Slot>, place: usize, next: Option<NodeRef>) -> Option<NodeRef>
     requires { (node : Node) × (get slab.old place ≡ Some (Linked node)) }
     ensures was { (node : Node) → get slab.old place ≡ Some (Linked node) → result ≡ node.next }
@@ -150,10 +134,6 @@ pub fn replace_next(slab: &mut Slab<Slot>, place: usize, next: Option<NodeRef>) 
 }
 
 /// Marks a linked node.
-///
-/// # Cost
-///
-/// Constant time; takes no memory.
 pub fn mark(slab: &mut Slab<Slot>, place: usize)
     requires { (node : Node) × (get slab.old place ≡ Some (Linked node)) }
     ensures { (node : Node) → get slab.old place ≡ Some (Linked node) →
@@ -165,10 +145,6 @@ pub fn mark(slab: &mut Slab<Slot>, place: usize)
 }
 
 /// Writes the value of a linked node.
-///
-/// # Cost
-///
-/// Constant time; takes no memory.
 pub fn set_value(slab: &mut Slab<Slot>, place: usize, value: u64)
     requires { (node : Node) × (get slab.old place ≡ Some (Linked node)) }
     ensures { (node : Node) → get slab.old place ≡ Some (Linked node) →

@@ -1,4 +1,5 @@
-//! Spares: nodes that are not linked yet.
+//! Spares: places for nodes that are not linked yet. A node is allocated before it is needed, so
+//! that linking it takes no memory.
 ghost use Rattle.std.specs.Prelude.{◌≡◌};
 ghost use Rattle.node_list.specs.Layout.{stored};
 ghost use Rattle.node_list.specs.Nodes.{filled, first_dummy};
@@ -11,11 +12,11 @@ use std::fmt::Display;
 use std::marker::Model;
 use std::mem::size_of;
 
-/// A place that a list keeps for a node, a stamp that was never used before, and what the node will
-/// be filled with.
+/// A place that a list keeps for a node, a stamp that was never used before, and the contents that
+/// the node will have.
 ///
-/// It is the list's as long as the list keeps that place and that stamp as out, which
-/// `NodeList::link_after` and `NodeList::give_back` end. A spare that is dropped keeps its place.
+/// It belongs to the list as long as that place and stamp are out, which `NodeList::link_after` and
+/// `NodeList::give_back` end. A spare that is dropped keeps its place in use.
 #[derive(Debug, Drop)]
 pub struct Spare {
     // The kind lies beside the place, so that both take one word.
@@ -40,8 +41,8 @@ impl Model for Spare {
     } };
 }
 
-/// A spare as a list gives it, to be kept until it is filled: its place and its stamp alone, so
-/// that it is small.
+/// A spare as a list gives it, stored until it is filled: only its place and its stamp, so that it
+/// is small.
 #[derive(Debug, Drop)]
 pub struct Unfilled {
     stamp: u64,
@@ -60,7 +61,7 @@ impl Model for Unfilled {
     ghost view = { λ s. unfilled s.place s.stamp };
 }
 
-/// Why a list gives no spare. Each is printed as a sentence of its own.
+/// The reason why a list gives no spare. Each is printed as a sentence.
 #[derive(Clone, Copy, Debug, PartialEq, Eq)]
 pub enum SpareFault {
     /// The last stamp that was given is 2^64 - 2: the stamps are used up.
@@ -85,7 +86,7 @@ impl Display for SpareFault {
 impl std::error::Error for SpareFault {}
 
 impl Spare {
-    /// A spare that is filled as a node is, and has its stamp.
+    /// A spare with the contents and the stamp of this node.
     pub(crate) fn of(place: NodeRef, node: Node) -> Self
         ensures { result ≡ record {
           place = place;
@@ -104,7 +105,7 @@ impl Spare {
         }
     }
 
-    /// The node that the spare becomes, before a next one.
+    /// The node that the spare becomes, with this next one.
     pub(crate) fn into_node(self, next: Option<NodeRef>) -> Node
         ensures { result ≡ stored (filled self) next }
     {
@@ -119,11 +120,7 @@ impl Spare {
         }
     }
 
-    /// The spare, to be kept until it is filled.
-    ///
-    /// # Cost
-    ///
-    /// Constant time; takes no memory.
+    /// The spare in its small form, until it is filled.
     pub fn keep(self) -> Unfilled
         requires { filled self ≡ first_dummy self.place self.stamp }
         ensures { result ≡ self }
@@ -134,11 +131,7 @@ impl Spare {
         }
     }
 
-    /// Sets where the node will stand, its kind and its value.
-    ///
-    /// # Cost
-    ///
-    /// Constant time; takes no memory.
+    /// Sets the node's position, its kind and its value.
     pub fn fill(&mut self, at: SortKey, kind: Kind, value: u64)
         ensures { self.new ≡ record self.old { at = at; kind = kind; value = value } }
     {
@@ -147,14 +140,14 @@ impl Spare {
         self.value = value;
     }
 
-    /// The node that the spare will become. Constant time.
+    /// The node that the spare will become.
     pub fn node(&self) -> NodeRef
         ensures { result ≡ self.now.place }
     {
         self.place
     }
 
-    /// The stamp that the node will have. Constant time.
+    /// The stamp that the node will have.
     pub fn stamp(&self) -> u64
         ensures { result ≡ self.now.stamp }
     {
@@ -164,10 +157,6 @@ impl Spare {
 
 impl Unfilled {
     /// The spare, to be filled or given back.
-    ///
-    /// # Cost
-    ///
-    /// Constant time; takes no memory.
     pub fn into_spare(self) -> Spare
         ensures { result ≡ self }
     {

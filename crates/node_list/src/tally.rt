@@ -1,18 +1,18 @@
-//! How many nodes are marked in each part of the order.
+//! The number of marked nodes in each part of the order.
 //!
-//! The split keys are cut into 4,096 regions of 2^52, and these into 64 groups of 64. A region and
-//! a group have a count each, and there is a count of all: so the first region in which a node is
-//! marked is found in at most 64 groups and 64 regions.
+//! The split keys are divided into 4,096 regions of 2^52 each, and these into 64 groups of 64. Each
+//! region and each group has a count, and there is a total. So the first region with a marked node
+//! is found by looking at no more than 64 groups and 64 regions.
 ghost use Rattle.std.specs.Prelude.{◌≡◌, ◌≢◌, ℕ, ◌+◌, ◌-◌, ◌*◌, ◌^◌, ◌<◌, ◌≤◌, ◌↔◌, IfOk, IfSome, None, length, replicate};
 ghost use Rattle.node_list.specs.Tally.{IsFirstCounted, IsFirstOfRun, count_in, one_in, region_of, run_sum};
 
 use std::alloc::{AllocError, Global};
 use std::marker::Model;
 
-/// The split keys of a region are 2^52.
+/// A region has 2^52 split keys.
 const REGION_BITS: u32 = 52;
 
-/// There are so many groups, and so many regions in each.
+/// The number of groups, and of regions in each.
 const WIDTH: usize = 64;
 
 /// The counts of marked nodes: of all, of each group and of each region.
@@ -33,7 +33,7 @@ impl Model for Tally {
     ghost invariant = { λ t. IsSummed t.total t.groups.items t.regions.items };
 }
 
-/// So many zeros. Allocates.
+/// This number of zeros. Allocates.
 fn zeros(alloc: Global, count: usize) -> Result<Vec<u64>, AllocError>
     ensures { IfOk result (λ counts. counts.items ≡ replicate count 0) }
 {
@@ -44,7 +44,7 @@ fn zeros(alloc: Global, count: usize) -> Result<Vec<u64>, AllocError>
     Ok(counts)
 }
 
-/// The place of the first count other than 0 of the 64 from a place on.
+/// The place of the first count other than 0 in the run of 64 that begins at a place.
 fn first_of_run(counts: &[u64], from: usize) -> usize
     requires within { from + 64 ≤ length counts.now }
     requires some { run_sum counts.now from 64 ≢ 0 }
@@ -61,7 +61,7 @@ fn first_of_run(counts: &[u64], from: usize) -> usize
 }
 
 impl Tally {
-    /// Nothing is counted.
+    /// A tally whose counts are 0.
     ///
     /// # Errors
     ///
@@ -84,10 +84,6 @@ impl Tally {
     }
 
     /// Counts one more in the region of a split key.
-    ///
-    /// # Cost
-    ///
-    /// Constant time; takes no memory.
     pub fn add(&mut self, split: u64)
         requires { self.old.total < 2 ^ 64 - 1 }
         ensures total { self.new.total ≡ self.old.total + 1 }
@@ -101,10 +97,6 @@ impl Tally {
     }
 
     /// Counts one less in the region of a split key.
-    ///
-    /// # Cost
-    ///
-    /// Constant time; takes no memory.
     pub fn take_away(&mut self, split: u64)
         requires { count_in self.old (region_of split) ≢ 0 }
         ensures total { self.new.total + 1 ≡ self.old.total }
@@ -117,18 +109,15 @@ impl Tally {
         self.total -= 1;
     }
 
-    /// How much is counted in all regions. Constant time.
+    /// The count of all regions together.
     pub fn total(&self) -> u64
         ensures { result ≡ self.now.total }
     {
         self.total
     }
 
-    /// The first split key of the first region in which something is counted.
-    ///
-    /// # Cost
-    ///
-    /// Constant time: at most 64 groups and 64 regions are looked at; takes no memory.
+    /// The lowest split key of the first region whose count is not 0. At most 64 groups and 64
+    /// regions are looked at.
     pub fn first(&self) -> Option<u64>
         ensures none { (result ≡ None) ↔ (self.now.total ≡ 0) }
         ensures first { IfSome result (λ split. IsFirstCounted self.now split) }

@@ -10,7 +10,7 @@ use Rattle.node_list.proofs.OrderLemmas.{each_linked}
 use Rattle.bucket_table.proofs.LinkLemmas.{unlinked, links_at}
 use Rattle.bucket_table.proofs.buckets.link_dummy.Goals as goal
 
--- A dummy that stands here.
+-- A dummy at this place with this sort key and stamp.
 abbrev dummy_with : ℕ → SortKey → ℕ → NodeAt
 dummy_with place at stamp = record { place = place; at = at; kind = Dummy; value = 0; stamp = stamp; marked = false }
 

@@ -4,7 +4,7 @@ use Rattle.key_locks.specs.Locks.{is_caller, without_caller}
 use Rattle.key_locks.specs.Chains.{AreChained}
 use Rattle.key_locks.proofs.key_locks.KeyLocks.release_all.Given as goal
 
--- What the release leaves of each stripe stays the same.
+-- The holders after the release are the same at each round.
 abbrev pub invariant-loop-stripe : goal.invariant-loop-stripe
 invariant-loop-stripe l = record {
   are_chained : AreChained l.self-inside.holders.items l.self-inside.older.items l.self-inside.newest.items;
@@ -12,6 +12,6 @@ invariant-loop-stripe l = record {
   each : (stripe : ℕ) → without_caller l.caller (get_or l.self-inside.holders.items stripe None) ≡ without_caller l.caller (get_or l.initial.self-inside.holders.items stripe None);
 }
 
--- How many stripes the caller still holds.
+-- The number of stripes that the caller still holds.
 abbrev pub decreases-loop-stripe : goal.decreases-loop-stripe
 decreases-loop-stripe l = count_by (is_caller l.caller) l.self-inside.holders.items
