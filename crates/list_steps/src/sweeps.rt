@@ -1,5 +1,5 @@
-//! The sweep: unlinks the first marked node, which it finds by a walk, or answers that no node is
-//! marked. An owner who calls it between other steps needs no pause to collect nodes.
+//! The sweep: unlinks the first marked node, or answers that no node is marked. It stands apart
+//! from the other steps, since it needs no cursor.
 ghost use Rattle.std.specs.Prelude.{◌≡◌, ◌↔◌, false};
 ghost use Rattle.std.specs.List.{AllByRecursion};
 ghost use Rattle.node_list.specs.Follow.{Follows};

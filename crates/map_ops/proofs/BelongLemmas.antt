@@ -1,4 +1,4 @@
--- What a step on the list keeps: that each node stands where it belongs, and which dummies are linked.
+-- A step on the list keeps each node at its position, and the linked dummies.
 use Rattle.std.proofs.Common.{◌≡◌, ℕ, ◌||◌, ◌⊎◌, inl, inr, List, [], ◌∷◌, Bool, true, false, cond, map, refl, sym, ◌∙◌, ap, subst}
 use Rattle.std.specs.List.{AllByRecursion, range_with_len}
 use Rattle.std.proofs.lemmas.Bool.Decides.{eqb_tells}
@@ -60,7 +60,7 @@ each_swept P (n ∷ rest) each = elim (either n.marked) [
 pub belong_swept : (nodes : List NodeAt) → Belong nodes → Belong (without_first_marked nodes)
 belong_swept nodes belong = record { keyed = each_swept IsKeyedNode nodes belong.keyed; even = each_swept IsEvenDummy nodes belong.even }
 
--- The dummies of a list in which one node changed.
+-- The dummies of a list in which one node was changed.
 has_dummy-changed_at : (nodes : List NodeAt) (place : ℕ) (change : NodeAt → NodeAt) (bucket : ℕ) → ((n : NodeAt) → is_dummy_of bucket (change n) ≡ is_dummy_of bucket n) → has_dummy (changed_at nodes place change) bucket ≡ has_dummy nodes bucket
 unfolding has_dummy changed_at
 has_dummy-changed_at [] place change bucket same = refl
@@ -93,6 +93,6 @@ has_dummy-swept (n ∷ rest) bucket plain = elim (either n.marked) [
     marked_no_dummy Dummy is marked = absurd (cc (plain.0 is))
     marked_no_dummy Regular is marked = regular_no_dummy n bucket is
 
--- Where the same dummies are linked, the buckets have the same linked dummies.
+-- If the same dummies are linked, each bucket has the same linked dummy.
 pub linked_same : (old new : Listing) (buckets : Directory) → ((bucket : ℕ) → has_dummy new.nodes bucket ≡ has_dummy old.nodes bucket) → linked_of (table_of new buckets) ≡ linked_of (table_of old buckets)
 linked_same old new buckets same = ap (λ (f : ℕ → Bool). map f (range_with_len 0 (limit_of buckets))) (λ i bucket. same bucket i)

@@ -1,4 +1,4 @@
--- What the calls on the buckets of a table are answered.
+-- The answers to the calls on the buckets of a table.
 use Rattle.std.proofs.Common.{◌≡◌, ℕ, ◌-◌, ◌<◌, ◌^◌, ◌==◌, List, Option, Some, None, Bool, true, false, map, refl, sym, ◌∙◌, ap, arith, slice_index_or, if◌then◌else◌}
 use Rattle.std.specs.Prelude.{Result, Ok, Err, is_some}
 use Rattle.std.specs.List.{slice_get, range_with_len}
@@ -34,11 +34,11 @@ stored_at entries bucket = lists.get_or-map is_some entries bucket None
 pub lacks_segment : (entries : List (Option ℕ)) (bucket : ℕ) → segments.LacksSegment entries bucket → LacksSegment (map is_some entries) bucket
 lacks_segment entries bucket lacks other same = stored_at entries other ∙ lacks other same
 
--- What a seek is answered.
+-- The answer to a seek.
 pub seek_answers : (d : Directory) (helper bucket : ℕ) → answer_for (buckets.seek_answer d.size (directories.is_stored d) (help_at d helper) bucket) ≡ seek_answer d.size (map is_some d.entries) (slice_get (map help_of d.helpers) helper) bucket
 seek_answers d helper bucket = λ i. answer_for (buckets.seek_answer d.size (λ b. sym (stored_at d.entries b) i) (sym (slice_get-map help_of d.helpers helper) i) bucket)
 
--- What a store is answered.
+-- The answer to a store.
 pub store_answers : (d : Directory) (helper : ℕ) → store_answer (help_at d helper) ≡ store_answer (slice_get (map help_of d.helpers) helper)
 store_answers d helper = ap store_answer (sym (slice_get-map help_of d.helpers helper))
 
@@ -48,7 +48,7 @@ linked_at nodes limit bucket within = get_or-map-range_with_len (has_dummy nodes
 pub within_limit : (d : Directory) (helper bucket : ℕ) (had : Helper) → directories.IsSound d → helper_of d helper ≡ Some had → (IsInOrder d had → bucket < d.size) → bucket < limit_of d
 within_limit d helper bucket had sound is below = let order = helper_found (IsInOrder d) d.helpers helper had sound.helpers is in let small : bucket < d.size = below order in omega (arith, small, sound.most)
 
--- What a link is answered.
+-- The answer to a link.
 pub link_answers : (l : Listing) (d : Directory) (helper : ℕ) → directories.IsSound d → answer_for (buckets.link_answer_at d l helper) ≡ link_answer (helper_fits (table_of l d) helper) (linked_of (table_of l d)) l.last (slice_get (map help_of d.helpers) helper)
 link_answers l d helper sound =
     go (helper_of d helper) refl ∙ ap (link_answer (helper_fits (table_of l d) helper) (linked_of (table_of l d)) l.last) (sym (slice_get-map help_of d.helpers helper))
@@ -61,7 +61,7 @@ link_answers l d helper sound =
         let within : bucket < limit_of d = within_limit d helper bucket (Seeking bucket cursor) sound is (λ order. order.within) in
         ap (λ (there : Bool). answer_for (buckets.link_answer (cursor_fits l (helper_of d helper)) (λ b. there) l.last (Some (Sought bucket (changes_of cursor))))) (sym (linked_at l.nodes (limit_of d) bucket within))
 
--- A cursor that a helper has fits while the change number stays, below the last one.
+-- A cursor of a helper fits while the change number is unchanged, below the greatest.
 pub helper_still_fits : (l : Listing) (d : Directory) (helper bucket : ℕ) → IsHome d l → slice_get (map help_of d.helpers) helper ≡ Some (Sought bucket l.changes) → l.changes < 2 ^ 64 - 1 → helper_fits (table_of l d) helper ≡ true
 helper_still_fits l d helper bucket home had below = go (helper_of d helper) refl (sym (slice_get-map help_of d.helpers helper) ∙ had)
   where
@@ -80,13 +80,13 @@ not_again true used is = cc
 not_again false true is = cc
 not_again false false is = cc
 
--- Where the helper's cursor fits, a link is not answered so.
+-- If the helper's cursor fits, the answer to a link is not `Again`.
 pub fits_not_again : (fitting : Bool) (linked : List Bool) (last bucket changes : ℕ) (help : Option Help) → help ≡ Some (Sought bucket changes) → fitting ≡ true → link_answer fitting linked last help ≡ Ok Again → ⊥
 fits_not_again fitting linked last bucket changes help is fit again =
     not_again (slice_index_or linked bucket false) (last == 2 ^ 64 - 2)
     (ap (λ (b : Bool). link_answer b linked last (Some (Sought bucket changes))) (sym fit) ∙ ap (λ (o : Option Help). link_answer fitting linked last o) (sym is) ∙ again)
 
--- No other refusal is answered as that of memory.
+-- Only the refusal of memory is answered as that of memory.
 pub no_memory_alone : {A : Type 0} (result : Result A InitRefusal) → answer_for result ≡ Err refusals.NoMemory → result ≡ Err NoMemory
 no_memory_alone (Ok done) is = absurd (cc is)
 no_memory_alone (Err NoMemory) is = refl

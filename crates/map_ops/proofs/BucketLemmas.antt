@@ -1,4 +1,4 @@
--- What the calls on the buckets of a table change.
+-- The changes by the calls on the buckets of a table.
 use Rattle.std.proofs.Common.{◌≡◌, ◌≢◌, ℕ, ◌+◌, ◌-◌, ◌<◌, ◌≤◌, ◌^◌, ◌==◌, ◌||◌, inl, inr, List, Option, Some, None, Bool, true, false, not, map, length, refl, sym, ◌∙◌, ap, subst, arith, get_or, slice_index_or, slice_set, if◌then◌else◌}
 use Rattle.std.specs.Prelude.{Result, Ok, Err, is_some}
 use Rattle.std.specs.List.{slice_get, range_with_len}
@@ -40,7 +40,7 @@ use Rattle.map_ops.specs.Buckets.{Doubles, Helps, IsPlacedFor, Holds, Links, Lin
 use Rattle.map_ops.proofs.BelongLemmas.{linked_same}
 use Rattle.map_ops.proofs.BucketAnswers.{linked_at, within_limit}
 
--- A helper has something else, and the others have their cursors.
+-- A helper gets another state, and the others keep their cursors.
 others_with : (old new : Listing) (d e : Directory) (helper : ℕ) (now : Helper) → e.helpers ≡ slice_set d.helpers helper now → KeepsCursors (table_of old d) (table_of new e) helper
 unfolding KeepsCursors
 others_with old new d e helper now is other apart =
@@ -63,7 +63,7 @@ helps_with old new d helper now same out last dummies = record {
   others = others_with old new d (with_helper d helper now) helper now refl;
 }
 
--- It has its new cursor.
+-- The helper has its new cursor.
 cursor_with : (helpers : List Helper) (helper : ℕ) (now : Helper) → helper < length helpers → slice_index_or (map cursor_in (slice_set helpers helper now)) helper None ≡ cursor_in now
 cursor_with helpers helper now within =
     lists.get_or-map cursor_in (slice_set helpers helper now) helper Idle ∙ ap cursor_in (get_or-set_same helpers helper now Idle within)
@@ -81,7 +81,7 @@ found_at helpers helper now within =
     let longer : helper < length (slice_set helpers helper now) = omega (arith, length-set helpers helper now, within) in
     slice_get-get_or (slice_set helpers helper now) helper Idle longer ∙ ap Some (get_or-set_same helpers helper now Idle within)
 
--- What a seek changes.
+-- The changes by a seek.
 pub seek_changes : (before after : Listing) (old new : Directory) (helper bucket : ℕ) (result : Result InitSeek InitRefusal) → result ≡ buckets.seek_answer old.size (directories.is_stored old) (help_at old helper) bucket → buckets_changes.SeekChanges old new before after helper bucket result
     → pairs after.nodes ≡ pairs before.nodes → ((other : ℕ) → has_dummy after.nodes other ≡ has_dummy before.nodes other) → IsSound after → SeekChanges (table_of before old) (table_of after new) helper bucket (answer_for result)
 seek_changes before after old new helper bucket (Ok Ready) answer changes same dummies sound =
@@ -104,7 +104,7 @@ seek_changes before after old new helper bucket (Ok Placed) answer seeks same du
     there (Some had) is says = slice_get_within old.helpers helper had is
 seek_changes before after old new helper bucket (Err refusal) answer changes same dummies sound = λ i. table_of (changes.1 i) (changes.0 i)
 
--- What a store changes.
+-- The changes by a store.
 pub store_changes : (list : Listing) (old new : Directory) (helper : ℕ) (result : Result Unit InitRefusal) → buckets_changes.StoreChanges old new helper result → StoreChanges (table_of list old) (table_of list new) helper (answer_for result)
 store_changes list old new helper (Ok done) stores =
     let Q : Directory → Type 0 = λ d. Stores (table_of list old) (table_of list d) helper in
@@ -126,7 +126,7 @@ store_changes list old new helper (Ok done) stores =
     })
 store_changes list old new helper (Err refusal) same = ap (table_of list) same
 
--- What a doubling changes.
+-- The changes by a doubling.
 pub double_changes : (list : Listing) (old new : Directory) (answer : Double) → new ≡ buckets_changes.after_double old answer → Doubles (table_of list old) (table_of list new) answer
 double_changes list old new answer is = subst (λ (d : Directory). Doubles (table_of list old) (table_of list d) answer) (sym is) (go answer)
   where
@@ -136,7 +136,7 @@ double_changes list old new answer is = subst (λ (d : Directory). Doubles (tabl
     go Light = record { becomes = record { regular = refl; spares = λ place. refl; largest = refl; size_is = refl; stored_is = refl; linked_is = refl; helps_is = refl }; last = refl; cursors = same_cursors list old _ refl; kept = refl }
     go (Doubled size) = record { becomes = record { regular = refl; spares = λ place. refl; largest = refl; size_is = refl; stored_is = refl; linked_is = refl; helps_is = refl }; last = refl; cursors = same_cursors list old _ refl; kept = refl }
 
--- The linked dummies with one more.
+-- The linked dummies after one more is linked.
 linked_more : (before after : List NodeAt) (limit bucket : ℕ) → bucket < limit → limit ≤ 2 ^ 32 → ((other : ℕ) → other < 2 ^ 32 → has_dummy after other ≡ ((bucket == other) || has_dummy before other))
     → map (has_dummy after) (range_with_len 0 limit) ≡ slice_set (map (has_dummy before) (range_with_len 0 limit)) bucket true
 linked_more before after limit bucket within small more =
@@ -168,7 +168,7 @@ was_absent true false used is = refl
 was_absent true true used is = absurd (cc)
 was_absent false there used is = absurd (cc)
 
--- What a link changes.
+-- The changes by a link.
 pub link_changes : (before after : Listing) (old new : Directory) (helper : ℕ) (result : Result InitLink InitRefusal) → directories.IsSound old → (result ≢ Err NoMemory → result ≡ buckets.link_answer_at old before helper) → buckets_changes.LinkChanges old new before after helper result
     → pairs after.nodes ≡ pairs before.nodes → LinkChanges (table_of before old) (table_of after new) helper (answer_for result)
 link_changes before after old new helper (Ok Again) sound answer changes same =
@@ -210,7 +210,7 @@ link_changes before after old new helper (Ok Linked) sound answer links same =
     })
 link_changes before after old new helper (Err refusal) sound answer changes same = λ i. table_of (changes.1 i) (changes.0 i)
 
--- Each dummy's split key stays even.
+-- The split key of each dummy is still even.
 pub seek_even : (before after : Listing) (old new : Directory) (helper bucket : ℕ) (result : Result InitSeek InitRefusal) → buckets_changes.SeekChanges old new before after helper bucket result → AllEven before.nodes → AllEven after.nodes
 seek_even before after old new helper bucket (Ok Ready) changes even = subst (λ (l : Listing). AllEven l.nodes) (sym changes.1) even
 seek_even before after old new helper bucket (Ok Placed) seeks even = subst AllEven (sym seeks.nodes) (each_sought IsEvenDummy before.nodes seeks.from (dummy_at bucket) even)

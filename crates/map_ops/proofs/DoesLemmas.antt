@@ -1,4 +1,4 @@
--- What is done to the table by the steps at a key.
+-- The effect of the steps at a key on the table.
 use Rattle.std.proofs.Common.{◌≡◌, ℕ, List, Option, Some, None, Bool, true, false, cond, refl, sym, ◌∙◌, ap, subst}
 use Rattle.node_list.specs.Nodes.{NodeAt, Listing, SpareAt}
 use Rattle.node_list.specs.Sound.{IsSound}
@@ -25,7 +25,7 @@ use Rattle.map_ops.proofs.BelongLemmas.{linked_same}
 use Rattle.map_ops.proofs.KeepLemmas.{placed_on, same_buckets}
 use Rattle.map_ops.proofs.RemoveLemmas.{remove-absent}
 
--- A spare that is given back after the write leaves what is written.
+-- A spare that is given back after the write leaves the written value unchanged.
 pub sets_then_back : (old mid new : Listing) (buckets : Directory) (k : ℕ) (value : Option ℕ) (spare : SpareAt) → Sets (table_of old buckets) (table_of mid buckets) k value → GivesBack (table_of mid buckets) (table_of new buckets) (Some spare)
     → Sets (table_of old buckets) (table_of new buckets) k value
 sets_then_back old mid new buckets k value spare sets gives = record {
@@ -35,12 +35,12 @@ sets_then_back old mid new buckets k value spare sets gives = record {
   last = gives.last ∙ sets.last;
 }
 
--- And is out no more.
+-- The spare is then no longer out.
 pub keeps_then_back : (old mid new : Listing) (buckets : Directory) (spare : SpareAt) → KeepsSpares (table_of old buckets) (table_of mid buckets) → GivesBack (table_of mid buckets) (table_of new buckets) (Some spare)
     → Spends (table_of old buckets) (table_of new buckets) (Some spare)
 keeps_then_back old mid new buckets spare keeps gives = (gives.spares.0, λ other apart. gives.spares.1 other apart ∙ keeps other)
 
--- The spare of a put is not its job's.
+-- The spare of a put is not that of its job.
 put_spends : (old new : TableAt) (k : ℕ) (before : Option ℕ) (spare : Option SpareAt) (job : Option MapJob) → job ≡ unput k before → Spends old new spare → SpendsFor old new spare job
 put_spends old new k None spare job is spends = subst (SpendsFor old new spare) (sym is) spends
 put_spends old new k (Some value) spare job is spends = subst (SpendsFor old new spare) (sym is) spends
@@ -142,7 +142,7 @@ places old new buckets key from bound c sound nodes_is kept same found placed fi
   changes = found.changes;
 }
 
--- A change is taken back where its key has what it had before.
+-- A change is taken back if its key has the value before the change.
 pub takes_back : (old new : Listing) (buckets : Directory) (job : MapJob) → Sets (table_of old buckets) (table_of new buckets) (key_of_job job) (value_before job) → Spends (table_of old buckets) (table_of new buckets) (spare_of_job job)
     → TakesBack (table_of old buckets) (table_of new buckets) job
 takes_back old new buckets job sets spends = record {

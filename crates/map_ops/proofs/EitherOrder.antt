@@ -14,7 +14,7 @@ use Rattle.map_ops.specs.Changes.{AreApart, OwnsIf, ShowsAfter, Spends, TakesBac
 use Rattle.map_ops.specs.Laws.{TakesBackTwo}
 use Rattle.map_ops.proofs.Laws.{still_owned, other_owned}
 
--- A key that is not set keeps what it had.
+-- A key that is not set keeps its value.
 get-set_at-other : (m : Map) (j k : ℕ) (value : Option ℕ) → j ≢ k → get (set_at m j value) k ≡ get m k
 get-set_at-other m j k value apart = get-set_at m j value k ∙ ap (λ b. cond b value (get m k)) (ne_eqb k j (λ same. apart (sym same)))
 
@@ -52,7 +52,7 @@ abbrev is_at : Option SpareAt → ℕ → Bool
 is_at None place = false
 is_at (Some spare) place = place == spare.place
 
--- What is out at a place where a spare was spent.
+-- The spare that is out at a place after another spare was spent.
 spent-at : (old new : TableAt) (spare : Option SpareAt) (place : ℕ) → Spends old new spare → spare_out new place ≡ cond (is_at spare place) None (spare_out old place)
 spent-at old new None place spends = spends place
 spent-at old new (Some spare) place spends = elim (cases_eq place spare.place) [
@@ -76,12 +76,12 @@ either-spares old one other first second a b place =
     ∙ either_none k j (spare_out old place)
     ∙ sym (spent-at b.between other (spare_of_job first) place b.two.spares ∙ ap (cond j None) (spent-at old b.between (spare_of_job second) place b.one.spares))
 
--- A spare elsewhere stays the table's where one is spent.
+-- A spare at another place still belongs to the table when one is spent.
 spent_owned : (old new : TableAt) (spent : Option SpareAt) (spare : SpareAt) → AreApart spent (Some spare) → Spends old new spent → OwnsIf old (Some spare) → OwnsIf new (Some spare)
 spent_owned old new None spare apart spends owned = still_owned old new spare spends owned
 spent_owned old new (Some gone) spare apart spends owned = other_owned old new spare gone.place spends.1 (λ same. apart (sym same)) owned
 
--- A job of another key is due after a change is taken back.
+-- A job is due after the change of another key is taken back.
 pub either_due : (old new : TableAt) (first second : MapJob) → key_of_job first ≢ key_of_job second → AreApart (spare_of_job first) (spare_of_job second) → ShowsAfter second old → TakesBack old new first → ShowsAfter second new
 either_due old new first second apart spares shows back = go second apart spares shows
   where

@@ -1,4 +1,4 @@
--- What is kept of a table where only its list, or only its spares, change.
+-- Parts of a table that are unchanged if only its list, or only its spares, change.
 use Rattle.std.proofs.Common.{◌≡◌, ℕ, List, map, refl, ap, arith}
 use Rattle.std.specs.List.{range_with_len}
 use Rattle.node_list.specs.Nodes.{NodeAt, Listing}
@@ -13,11 +13,11 @@ use Rattle.bucket_table.specs.Directory.{Directory, limit_of}
 use Rattle.bucket_table.specs.Dummies.{has_dummy}
 use Rattle.map_ops.specs.TableAt.{TableAt, table_of, Follows, IsPlaced, KeepsBuckets, KeepsNodes}
 
--- The list alone changes.
+-- Only the list changes.
 pub same_buckets : (old new : Listing) (d : Directory) → KeepsBuckets (table_of old d) (table_of new d)
 same_buckets old new d = record { all = refl; size = refl; largest = refl; stored = refl; helps = refl }
 
--- The spares alone change.
+-- Only the spares change.
 pub same_nodes : (old new : Listing) (d : Directory) → new.nodes ≡ old.nodes → new.changes ≡ old.changes → KeepsNodes (table_of old d) (table_of new d)
 same_nodes old new d same kept = record {
   all = same;

@@ -1,4 +1,4 @@
--- What layers above rest on.
+-- Lemmas for the layers above.
 use Rattle.std.proofs.Common.{◌≡◌, ◌≢◌, ℕ, inl, inr, Bool, true, false, cond, Option, Some, None, [], refl, sym, ap, subst, ◌∙◌}
 use Rattle.std.specs.Prelude.{is_some, IfSome, nat_eq}
 use Rattle.std.specs.Option.{option_eq}
@@ -19,15 +19,15 @@ use Rattle.map_ops.specs.Jobs.{PendingAt, IsDue, job_of, key_of_job, relink, spa
 use Rattle.map_ops.specs.Changes.{Applies, GivesFor, GivesSpare, JobSpare, OwnsIf, Prepares, ShowsAfter, ShowsBefore, TakesBack}
 use Rattle.map_ops.proofs.RemoveLemmas.{remove-absent}
 
--- A spare stays the table's where the spares stay.
+-- A spare still belongs to the table if the spares are unchanged.
 pub still_owned : (old new : TableAt) (spare : SpareAt) → KeepsSpares old new → Owns old spare → Owns new spare
 still_owned old new spare keeps owned = keeps spare.place ∙ owned
 
--- And where another one is given or spent.
+-- It still belongs to the table if another spare is given or spent.
 pub other_owned : (old new : TableAt) (spare : SpareAt) (place : ℕ) → KeepsOthers old new place → spare.place ≢ place → Owns old spare → Owns new spare
 other_owned old new spare place keeps other owned = keeps spare.place other ∙ owned
 
--- No spare that is out is where a new one is.
+-- No spare that is out has the place of a new one.
 pub fresh_apart : (old new : TableAt) (spare other : SpareAt) → GivesSpare old new spare → Owns old other → other.place ≢ spare.place
 fresh_apart old new spare other gives owned same = let gone : out_at old.list other.place ≡ None = ap (out_at old.list) same ∙ gives.fresh in let both : Some other.stamp ≡ None = sym owned ∙ gone in cc
 
@@ -35,21 +35,21 @@ fresh_apart old new spare other gives owned same = let gone : out_at old.list ot
 pub get-set_at-here : (m : Map) (k : ℕ) (value : Option ℕ) → get (set_at m k value) k ≡ value
 get-set_at-here m k value = get-set_at m k value k ∙ ap (λ b. cond b value (get m k)) (eq-eqb k k refl)
 
--- A change that is taken back has left its key as it was before.
+-- After a change is taken back, its key has the value before the change.
 pub shows_before : (old new : TableAt) (job : MapJob) → TakesBack old new job → ShowsBefore job new
 shows_before old new job back =
     ap (λ m. get m (key_of_job job)) back.content_is ∙ get-set_at-here (content old) (key_of_job job) (value_before job)
 
--- Some buckets, for what holds with any.
+-- Some buckets, for statements that hold with any.
 abbrev pub no_buckets : Directory
 no_buckets = record { size = 0; entries = []; helpers = [] }
 
--- The job of a put is due on what it leaves.
+-- The job of a put is due after the put.
 put_is_due : (m : Map) (k v : ℕ) (job : MapJob) (o : Option ℕ) → unput k o ≡ Some job → IsDue (insert m k v) job
 put_is_due m k v job None same = subst (IsDue (insert m k v)) (some-injective same) (ap is_some (get-insert-here m k v))
 put_is_due m k v job (Some old) same = subst (IsDue (insert m k v)) (some-injective same) (ap is_some (get-insert-here m k v))
 
--- A job is due on what its operation leaves, and gives the map before it.
+-- A job is due after its operation, and its undoing restores the map before it.
 pub job_is_due : (m : Map) (op : Op) (spare : Option SpareAt) (job : MapJob) → job_of m op spare ≡ Some job → IsDue (after m op) job
 job_is_due m (Put k v) spare job is = put_is_due m k v job (get m k) is
 job_is_due m (Take k) spare job is = go (get m k) spare is
@@ -65,7 +65,7 @@ job_is_due m (PutIf k expected v) spare job is = go (option_eq nat_eq (get m k) 
     go true same = put_is_due m k v job (get m k) same
     go false same = absurd (some-none (sym same))
 
--- Writing over a key and setting it to what it was.
+-- To write over a key and then to set it to its old value restores the map.
 set_at-insert : (m : Map) (k v : ℕ) (before : Option ℕ) → get m k ≡ before → set_at (insert m k v) k before ≡ m
 set_at-insert m k v before is = same_map _ m (λ q. get-set_at (insert m k v) k before q ∙ elim (cases_eq q k) [
   | inl same ↦ ap (λ b. cond b before (get (insert m k v) q)) (eq-eqb q k same) ∙ sym is ∙ ap (get m) (sym same)
@@ -78,7 +78,7 @@ set_at-remove m k before is = same_map _ m (λ q. get-set_at (remove m k) k befo
   | inr other ↦ ap (λ b. cond b before (get (remove m k) q)) (ne_eqb q k other) ∙ get-remove m k q ∙ ap (λ b. cond b None (get m q)) (ne_eqb q k other)
 ])
 
--- And gives the map before it.
+-- The undoing of a put restores the map before it.
 put_set_at : (m : Map) (k v : ℕ) (job : MapJob) (o : Option ℕ) → get m k ≡ o → unput k o ≡ Some job → set_at (insert m k v) (key_of_job job) (value_before job) ≡ m
 put_set_at m k v job None was same = subst (λ j. set_at (insert m k v) (key_of_job j) (value_before j) ≡ m) (some-injective same) (set_at-insert m k v None was)
 put_set_at m k v job (Some old) was same = subst (λ j. set_at (insert m k v) (key_of_job j) (value_before j) ≡ m) (some-injective same) (set_at-insert m k v (Some old) was)
@@ -98,12 +98,12 @@ set_at-after m (PutIf k expected v) spare job is = go (option_eq nat_eq (get m k
     go true same = put_set_at m k v job (get m k) refl same
     go false same = absurd (some-none (sym same))
 
--- A put always has a job.
+-- An operation that puts and has no job leaves the map unchanged.
 put_no_job : (m : Map) (k v : ℕ) (o : Option ℕ) → unput k o ≡ None → insert m k v ≡ m
 put_no_job m k v None none = absurd (some-none none)
 put_no_job m k v (Some old) none = absurd (some-none none)
 
--- An operation without a job leaves the map.
+-- An operation without a job leaves the map unchanged.
 pub after-no_job : (m : Map) (op : Op) (spare : Option SpareAt) → is_some spare ≡ takes_node op → job_of m op spare ≡ None → after m op ≡ m
 after-no_job m (Put k v) spare given is = put_no_job m k v (get m k) is
 after-no_job m (Take k) spare given is = go (get m k) spare refl given is
@@ -119,7 +119,7 @@ after-no_job m (PutIf k expected v) spare given is = go (option_eq nat_eq (get m
     go true none = put_no_job m k v (get m k) none
     go false none = refl
 
--- After an operation that was done at once, the table shows what its job names as after.
+-- After an operation done by `apply`, the table shows what its job names as after.
 pub shows_after : (old new : TableAt) (op : Op) (reply : Option ℕ) (job : MapJob) → Applies old new op reply (Some job) → ShowsAfter job new
 shows_after old new op reply job applies =
     (subst (λ (m : Map). IsDue m job) (sym applies.content_is) (job_is_due (content old) op applies.spare job (sym applies.job_is)), owned job applies.spares)
@@ -129,16 +129,16 @@ shows_after old new op reply job applies =
     owned (Restore k before) spares = tt
     owned (Relink k before spare) gives = gives.owned
 
--- An operation and its job leave the content.
+-- An operation and then its job leave the content unchanged.
 pub content-there_and_back : (old mid new : TableAt) (op : Op) (reply : Option ℕ) (job : MapJob) → Applies old mid op reply (Some job) → TakesBack mid new job → content new ≡ content old
 content-there_and_back old mid new op reply job applies back =
     back.content_is ∙ ap (λ (m : Map). set_at m (key_of_job job) (value_before job)) applies.content_is ∙ set_at-after (content old) op applies.spare job (sym applies.job_is)
 
--- An operation without a job leaves it too.
+-- An operation without a job leaves the content unchanged.
 pub content-no_job : (old new : TableAt) (op : Op) (reply : Option ℕ) → Applies old new op reply None → content new ≡ content old
 content-no_job old new op reply applies = applies.content_is ∙ after-no_job (content old) op applies.spare applies.spare_is (sym applies.job_is)
 
--- What an operation was prepared with is the table's, while the spares stay.
+-- The spare of a prepared operation belongs to the table while the spares are unchanged.
 given_owned : (old new : TableAt) (takes : Bool) (spare : Option SpareAt) → GivesFor old new takes spare → OwnsIf new spare
 given_owned old new true None gives = absurd gives
 given_owned old new true (Some spare) gives = gives.owned
@@ -152,7 +152,7 @@ pub still_owned_if : (old new : TableAt) (spare : Option SpareAt) → KeepsSpare
 still_owned_if old new None keeps owned = tt
 still_owned_if old new (Some spare) keeps owned = still_owned old new spare keeps owned
 
--- A put that was done at once keeps the spares.
+-- A put done by `apply` keeps the spares.
 pub put_keeps : (old new : TableAt) (k v : ℕ) (reply : Option ℕ) (job : Option MapJob) → Applies old new (Put k v) reply job → KeepsSpares old new
 put_keeps old new k v reply job applies = go (get (content old) k) (subst (JobSpare old new) applies.job_is applies.spares)
   where
@@ -160,11 +160,12 @@ put_keeps old new k v reply job applies = go (get (content old) k) (subst (JobSp
     go None keeps = keeps
     go (Some before) keeps = keeps
 
--- A get that was done at once keeps the spares and the content.
+-- A get done by `apply` keeps the spares and the content.
 pub get_keeps : (old new : TableAt) (k : ℕ) (reply : Option ℕ) (job : Option MapJob) → Applies old new (Get k) reply job → KeepsSpares old new
 get_keeps old new k reply job applies = subst (JobSpare old new) applies.job_is applies.spares
 
--- The same, where it was a change.
+-- After an operation done by `apply` that was a change, the table shows what its job names as
+-- after.
 pub applied_shows_after : (old new : TableAt) (op : Op) (reply : Option ℕ) (job : Option MapJob) → Applies old new op reply job → IfSome job (λ j. ShowsAfter j new)
 applied_shows_after old new op reply None applies = tt
 applied_shows_after old new op reply (Some job) applies = shows_after old new op reply job applies

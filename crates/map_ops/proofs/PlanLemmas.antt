@@ -1,4 +1,4 @@
--- What is prepared, and why not.
+-- The preparation of an operation, and its refusals.
 use Rattle.std.proofs.Common.{◌≡◌, ℕ, Option, Some, true, sym, ◌∙◌, ap, subst}
 use Rattle.node_list.specs.Nodes.{SpareAt}
 use Rattle.txn_trace.specs.declared.op.Op.{Op}
@@ -17,7 +17,7 @@ refused t op StampsUsedUp takes lacking = (takes, lacking)
 refused t op NoMemory takes lacking = (takes, lacking)
 refused t op _ takes lacking = absurd lacking
 
--- With one it is prepared.
+-- With a spare it is prepared.
 pub prepares_put : (old new : TableAt) (op : Op) (k key v : ℕ) (spare : SpareAt) → op ≡ Put k v → key ≡ key_of op → GivesOne old new spare → Prepares old new op (record { op = Put key v; spare = Some spare })
 prepares_put old new op k key v spare is key_is gives = record {
   op_is = ap (λ x. Put x v) (key_is ∙ ap key_of is) ∙ sym is;

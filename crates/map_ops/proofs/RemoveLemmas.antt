@@ -1,10 +1,10 @@
--- A key that is not there, taken out of a map.
+-- The removal of a key that is not in a map.
 use Rattle.std.proofs.Common.{◌≡◌, ℕ, inl, inr, None, cond, sym, ◌∙◌, ap}
 use Rattle.std.proofs.lemmas.Bool.{cases_eq, eq-eqb, ne_eqb}
 use Rattle.txn_trace.specs.Map.{Map, get, remove}
 use Rattle.txn_trace.proofs.Maps.{get-remove, same_map}
 
--- To take out a key that is not there changes nothing.
+-- To remove a key that is not there changes nothing.
 pub remove-absent : (m : Map) (k : ℕ) → get m k ≡ None → remove m k ≡ m
 remove-absent m k none = same_map (remove m k) m (λ q. get-remove m k q ∙ elim (cases_eq q k) [
   | inl same ↦ ap (λ b. cond b None (get m q)) (eq-eqb q k same) ∙ sym (ap (get m) same ∙ none)

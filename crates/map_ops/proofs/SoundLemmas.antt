@@ -1,4 +1,4 @@
--- What keeps tables sound.
+-- The steps that keep tables sound.
 use Rattle.std.proofs.Common.{◌≡◌, sym, subst}
 use Rattle.node_list.specs.Nodes.{Listing}
 use Rattle.node_list.specs.Follow.{Follows}
@@ -6,10 +6,10 @@ use Rattle.bucket_table.specs.Directory.{Directory}
 use Rattle.bucket_table.proofs.HomeLemmas.{still_home}
 use Rattle.map_ops.specs.Sound.{Belong, IsSound}
 
--- A later list in which each node stands where it belongs.
+-- A table stays sound when its list changes, if each node is at its position.
 pub still_sound : (old new : Listing) (buckets : Directory) → IsSound old buckets → Follows old new → Belong new.nodes → IsSound new buckets
 still_sound old new buckets sound follows belong = record { sound = follows.sound sound.sound; home = still_home old new follows buckets sound.home; belong = belong }
 
--- A later list of the same nodes.
+-- A table stays sound if its nodes are unchanged.
 pub sound_with_nodes : (old new : Listing) (buckets : Directory) → IsSound old buckets → Follows old new → new.nodes ≡ old.nodes → IsSound new buckets
 sound_with_nodes old new buckets sound follows same = still_sound old new buckets sound follows (subst Belong (sym same) sound.belong)

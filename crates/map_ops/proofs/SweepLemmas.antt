@@ -1,4 +1,4 @@
--- What a sweep keeps of a table.
+-- The parts of a table that a sweep keeps.
 use Rattle.std.proofs.Common.{◌≡◌, List, refl, sym, ◌∙◌, ap, subst}
 use Rattle.node_list.specs.Nodes.{NodeAt, Listing}
 use Rattle.node_list.specs.Sound.{IsSound}

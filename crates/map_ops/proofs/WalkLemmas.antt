@@ -1,4 +1,4 @@
--- A walk along the list that gathers its pairs.
+-- A walk along the list that collects its pairs.
 use Rattle.std.proofs.Common.{◌≡◌, ℕ, List, [], ◌∷◌, ◌++◌, Some, None, refl, sym, ◌∙◌, ap, append_assoc}
 use Rattle.std.proofs.lemmas.List.{append-nil}
 use Rattle.node_list.specs.declared.node.Kind.TheVariants.{Dummy}
@@ -38,7 +38,7 @@ walk_first l sound =
     }
 
 module _ (nodes : List NodeAt) (place : ℕ) (found : List (ℕ × ℕ)) (walking : IsWalking nodes place found) where
-  -- It goes on to the next node.
+  -- It moves on to the next node.
   pub walk_next : (m : NodeAt) (more : List (ℕ × ℕ)) → IsSpread nodes → next_of nodes place ≡ Some m → more ≡ found ++ pair_of m → IsWalking nodes m.place more
   walk_next m more spread is more_is =
       let next = sym (next_at nodes place walking.node walking.at) ∙ is in

@@ -1,4 +1,4 @@
--- What the calls on buckets write.
+-- The writes of the calls on buckets.
 use Rattle.std.proofs.Common.{◌≡◌, ℕ, ◌+◌, Some, map, sym, ◌∙◌, ap}
 use Rattle.std.specs.Prelude.{Result, Ok, Err}
 use Rattle.std.specs.List.{slice_get}
@@ -17,7 +17,7 @@ use Rattle.bucket_table.specs.Dummies.{dummy_node}
 use Rattle.map_ops.specs.TableAt.{Sought, help_of, table_of}
 use Rattle.map_ops.specs.Buckets.{LinkWrites, SeekWrites, answer_for}
 
--- What a seek writes.
+-- The writes of a seek.
 pub seek_writes : (before after : Listing) (old new : Directory) (helper bucket : ℕ) (result : Result InitSeek InitRefusal)
     → buckets.SeekChanges old new before after helper bucket result
     → SeekWrites (table_of before old) (table_of after new) bucket (answer_for result)
@@ -25,7 +25,7 @@ seek_writes before after old new helper bucket (Ok Ready) changes = changes.1
 seek_writes before after old new helper bucket (Ok Placed) seeks = record { start = seeks.from; parent = seeks.parent; nodes = seeks.nodes; changes = seeks.changes }
 seek_writes before after old new helper bucket (Err refusal) changes = changes.1
 
--- What a link writes, where the helper sought this bucket.
+-- The writes of a link, if the helper sought this bucket.
 pub link_writes : (before after : Listing) (old new : Directory) (helper bucket noted : ℕ) (result : Result InitLink InitRefusal)
     → slice_get (map help_of old.helpers) helper ≡ Some (Sought bucket noted)
     → buckets.LinkChanges old new before after helper result

@@ -1,4 +1,4 @@
--- What each call on the buckets of a table answers and changes.
+-- The answer and the changes of each call on the buckets of a table.
 use Rattle.std.specs.Prelude.{◌≡◌, ℕ, ◌+◌, ◌/◌, Bool, true, false, Option, Some, Result, Ok, Err, List, slice_set, slice_index_or}
 use Rattle.std.specs.List.{slice_get}
 pub use Rattle.split_key.specs.Split.{parent_of}
@@ -32,7 +32,7 @@ abbrev pub LacksSegment : List Bool → ℕ → Type 0
 LacksSegment stored bucket =
     (other : ℕ) → other / 64 ≡ bucket / 64 → is_stored stored other ≡ false
 
--- The refusal of a call on buckets, as steps name it.
+-- The refusal of a step, for one of a call on buckets.
 abbrev pub refusal_for : InitRefusal → Refusal
 refusal_for NoSuchBucket = refusals.NoSuchBucket
 refusal_for ParentMissing = refusals.ParentMissing
@@ -41,39 +41,38 @@ refusal_for HelperOutOfOrder = refusals.HelperOutOfOrder
 refusal_for NoMemory = refusals.NoMemory
 refusal_for StampsUsedUp = refusals.StampsUsedUp
 
--- What a call on buckets is answered, with that refusal.
+-- The answer of a step, for one of a call on buckets.
 abbrev pub answer_for : {A : Type 0} → Result A InitRefusal → Result A Refusal
 answer_for (Ok done) = Ok done
 answer_for (Err refusal) = Err (refusal_for refusal)
 
--- What a seek for a bucket by a helper that has this is answered, at this size and with these
--- buckets stored.
+-- The answer to a seek for a bucket, from the size, the stored buckets and the helper's state.
 abbrev pub seek_answer : ℕ → List Bool → Option Help → ℕ → Result InitSeek Refusal
 seek_answer size stored help bucket =
     answer_for (buckets.seek_answer size (is_stored stored) help bucket)
 
--- What a link by a helper that has this is answered, where memory lasts.
+-- The answer to a link if memory lasts, from the helper's state.
 abbrev pub link_answer : Bool → List Bool → ℕ → Option Help → Result InitLink Refusal
 link_answer fitting linked last help =
     answer_for (buckets.link_answer fitting (is_stored linked) last help)
 
--- What a link by the helper of this number is answered by a table, where memory lasts.
+-- The answer of a table to a link by the helper of this number, if memory lasts.
 abbrev pub link_answer_of : TableAt → ℕ → Result InitLink Refusal
 link_answer_of t helper =
     link_answer (helper_fits t helper) (linked_of t) (last_of t) (slice_get (helps_of t) helper)
 
--- What a store by a helper that has this is answered, where memory lasts.
+-- The answer to a store if memory lasts, from the helper's state.
 abbrev pub store_answer : Option Help → Result Unit Refusal
 store_answer help = answer_for (buckets.store_answer help)
 
--- The size after a doubling that was answered so.
+-- The size after a doubling with this answer.
 abbrev pub size_after : ℕ → Double → ℕ
 size_after size (Moved now) = size
 size_after size AtLimit = size
 size_after size Light = size
 size_after size (Doubled now) = now
 
--- The buckets are so now, and the pairs and the spares are as they were.
+-- The buckets are as these arguments say, and the pairs and the spares are unchanged.
 pub record Becomes (old new : TableAt) (size : ℕ) (stored linked : List Bool)
     (helps : List Help) : Type 0 where
   pub regular : regular new ≡ regular old
@@ -84,7 +83,7 @@ pub record Becomes (old new : TableAt) (size : ℕ) (stored linked : List Bool)
   pub linked_is : linked_of new ≡ linked
   pub helps_is : helps_of new ≡ helps
 
--- A helper has something else, and no node and no stamp is taken.
+-- A helper gets another state, and no node and no stamp is taken.
 pub record Helps (old new : TableAt) (helper : ℕ) (help : Help) : Type 0 where
   pub becomes : Becomes old new (size_of old) (stored_of old) (linked_of old)
       (slice_set (helps_of old) helper help)
@@ -97,35 +96,36 @@ IsPlacedFor t helper bucket =
     (cursor : Cursor) × (helper_cursor t helper ≡ Some cursor)
     × IsPlaced t.list cursor × (at_of cursor ≡ dummy_at bucket)
 
--- A seek placed a cursor for the bucket: the helper has it, with the change number that there is
--- now, and it fits.
+-- A seek placed a cursor for the bucket: the helper has it, with the change number of now, and it
+-- fits.
 pub record Seeks (old new : TableAt) (helper bucket : ℕ) : Type 0 where
   pub helps : Helps old new helper (Sought bucket (table_changes new))
   pub fits : helper_fits new helper ≡ true
   pub placed : IsPlacedFor new helper bucket
 
--- The place of a bucket's dummy was sought from the dummy of the bucket's parent: the marked nodes
--- between there and the place are unlinked, and no others. The change number grows by one for each.
+-- The position of a bucket's dummy was sought from the dummy of the bucket's parent: the marked
+-- nodes between there and the position are unlinked, and no others. The change number grows by one
+-- for each.
 pub record SeeksBucket (old new : TableAt) (bucket : ℕ) : Type 0 where
   pub start : ℕ
   pub parent : dummy_of old.buckets (parent_of bucket) ≡ Some start
   pub nodes : nodes_of new ≡ sought (nodes_of old) start (dummy_at bucket)
   pub changes : IsUnlinking old.list new.list
 
--- What a seek for a bucket writes.
+-- The writes of a seek for a bucket.
 abbrev pub SeekWrites : TableAt → TableAt → ℕ → Result InitSeek Refusal → Type 0
 SeekWrites old new bucket (Ok Ready) = KeepsList old new
 SeekWrites old new bucket (Ok Placed) = SeeksBucket old new bucket
 SeekWrites old new bucket (Err refusal) = KeepsList old new
 
--- What a seek for a bucket changes.
+-- The changes by a seek for a bucket.
 abbrev pub SeekChanges : TableAt → TableAt → ℕ → ℕ → Result InitSeek Refusal → Type 0
 SeekChanges old new helper bucket (Ok Ready) = Helps old new helper Nothing
     × (table_changes new ≡ table_changes old)
 SeekChanges old new helper bucket (Ok Placed) = Seeks old new helper bucket
 SeekChanges old new helper bucket (Err refusal) = new ≡ old
 
--- The helper that had a cursor for a bucket has its dummy, which was linked before.
+-- The helper, which had a cursor for a bucket, has the bucket's dummy, which was linked before.
 pub record Holds (old new : TableAt) (helper : ℕ) : Type 0 where
   pub bucket : ℕ
   pub changes : ℕ
@@ -134,8 +134,8 @@ pub record Holds (old new : TableAt) (helper : ℕ) : Type 0 where
   pub helps : Helps old new helper (Dummy bucket)
   pub kept : table_changes new ≡ table_changes old
 
--- The helper that had a cursor for a bucket has its dummy, which is linked now, with the next
--- stamp.
+-- The helper, which had a cursor for a bucket, has the bucket's dummy, which is linked now, with
+-- the next stamp.
 pub record Links (old new : TableAt) (helper : ℕ) : Type 0 where
   pub bucket : ℕ
   pub changes : ℕ
@@ -151,14 +151,14 @@ pub record LinksDummy (old new : TableAt) (bucket : ℕ) : Type 0 where
   pub place : ℕ
   pub links : LinksNode old.list new.list (dummy_node place bucket (last_of old + 1))
 
--- What a link by a helper writes, where it sought this bucket.
+-- The writes of a link by a helper, if it sought this bucket.
 abbrev pub LinkWrites : TableAt → TableAt → ℕ → Result InitLink Refusal → Type 0
 LinkWrites old new bucket (Ok Again) = KeepsList old new
 LinkWrites old new bucket (Ok Present) = KeepsList old new
 LinkWrites old new bucket (Ok Linked) = LinksDummy old new bucket
 LinkWrites old new bucket (Err refusal) = KeepsList old new
 
--- What a link by a helper changes.
+-- The changes by a link of a helper.
 abbrev pub LinkChanges : TableAt → TableAt → ℕ → Result InitLink Refusal → Type 0
 LinkChanges old new helper (Ok Again) = Helps old new helper Nothing
     × (table_changes new ≡ table_changes old)
@@ -166,7 +166,7 @@ LinkChanges old new helper (Ok Present) = Holds old new helper
 LinkChanges old new helper (Ok Linked) = Links old new helper
 LinkChanges old new helper (Err refusal) = new ≡ old
 
--- The bucket whose dummy the helper had is stored, and the helper has nothing.
+-- The bucket whose dummy the helper had is stored, and the helper is idle.
 pub record Stores (old new : TableAt) (helper : ℕ) : Type 0 where
   pub bucket : ℕ
   pub had : slice_get (helps_of old) helper ≡ Some (Dummy bucket)
@@ -176,12 +176,12 @@ pub record Stores (old new : TableAt) (helper : ℕ) : Type 0 where
   pub others : KeepsCursors old new helper
   pub kept : table_changes new ≡ table_changes old
 
--- What a store by a helper changes.
+-- The changes by a store of a helper.
 abbrev pub StoreChanges : TableAt → TableAt → ℕ → Result Unit Refusal → Type 0
 StoreChanges old new helper (Ok done) = Stores old new helper
 StoreChanges old new helper (Err refusal) = new ≡ old
 
--- Only the size changes by a doubling.
+-- A doubling changes only the size.
 pub record Doubles (old new : TableAt) (answer : Double) : Type 0 where
   pub becomes : Becomes old new (size_after (size_of old) answer) (stored_of old) (linked_of old)
       (helps_of old)

@@ -1,4 +1,4 @@
--- What each call answers and changes.
+-- The answer and the changes of each call.
 use Rattle.std.specs.Prelude.{◌≡◌, ◌≢◌, ◌<◌, ◌-◌, ◌^◌, ◌+◌, ℕ, Bool, true, false, Option, Some, None, is_some, if◌then◌else◌}
 use Rattle.txn_trace.specs.declared.op.Op.{Op}
 use Rattle.txn_trace.specs.declared.refusal.Refusal.{Refusal}
@@ -15,12 +15,12 @@ use Rattle.map_ops.specs.TableAt.{TableAt, Cursor, SpareAt, SweepOutcome, conten
 use Rattle.map_ops.specs.Jobs.{PendingAt, takes_node, key_of_job, value_before, spare_of_job, job_of, IsDue}
 use Rattle.map_ops.specs.Nodes.{IsUnlinking, JobWrites, OpWrites, WritesNothing}
 
--- The spare, if there is one, is the table's.
+-- The spare, if there is one, belongs to the table.
 abbrev pub OwnsIf : TableAt → Option SpareAt → Type 0
 OwnsIf t None = Unit {0}
 OwnsIf t (Some spare) = Owns t spare
 
--- The spare, if there is one, is out no more; all others are as they were.
+-- The spare, if there is one, is no longer out; all others are unchanged.
 abbrev pub Spends : TableAt → TableAt → Option SpareAt → Type 0
 Spends old new None = KeepsSpares old new
 Spends old new (Some spare) = (spare_out new spare.place ≡ None) × KeepsOthers old new spare.place
@@ -47,8 +47,8 @@ pub record Prepares (old new : TableAt) (op : Op) (pending : PendingAt) : Type 0
   pub given : GivesFor old new (takes_node op) pending.spare
   pub nodes : KeepsNodes old new
 
--- Why an operation that takes a node is not prepared: stamps used up exactly where the last one is
--- given; else memory was refused.
+-- The reason why an operation that takes a node is not prepared: the stamps are used up exactly if
+-- the last one was given; else memory was refused.
 abbrev pub IsRefused : TableAt → Op → Refusal → Type 0
 IsRefused t op refusals.StampsUsedUp = (takes_node op ≡ true) × (last_of t ≡ 2 ^ 64 - 2)
 IsRefused t op refusals.NoMemory = (takes_node op ≡ true) × (last_of t < 2 ^ 64 - 2)
@@ -62,24 +62,24 @@ pub record Places (old new : TableAt) (key : ℕ) (cursor : Cursor) : Type 0 whe
   pub fits : fits new cursor ≡ true
   pub changes : cursor_changes cursor ≡ table_changes new
 
--- A key was sought from the dummy of its bucket, or of the nearest ancestor that is initialised:
--- the marked nodes between there and the key's place are unlinked, and no others. The change number
--- grows by one for each.
+-- A key was sought from the dummy of its bucket, or of the nearest initialised ancestor: the marked
+-- nodes between there and the key's position are unlinked, and no others. The change number grows
+-- by one for each.
 pub record SeeksNear (old new : TableAt) (key : ℕ) : Type 0 where
   pub start : ℕ
   pub nearest : IsStart old key start
   pub nodes : nodes_of new ≡ nodes_sought old start key
   pub changes : IsUnlinking old.list new.list
 
--- The spare of an operation: with a job that owns it, it stays out; else it is out no more.
+-- The spare of an operation stays out if a job owns it, else it is no longer out.
 abbrev pub SpendsFor : TableAt → TableAt → Option SpareAt → Option MapJob → Type 0
 SpendsFor old new spare (Some (Relink k before kept)) = KeepsSpares old new
 SpendsFor old new spare (Some (Unput k)) = Spends old new spare
 SpendsFor old new spare (Some (Restore k before)) = Spends old new spare
 SpendsFor old new spare None = Spends old new spare
 
--- The operation is done: its reply and what it leaves are the map's, and the job is there exactly
--- where it is a change.
+-- The operation is done: its reply and its effect are those on the map, and there is a job exactly
+-- if it is a change.
 pub record Does (old new : TableAt) (pending : PendingAt) (reply : Option ℕ)
     (job : Option MapJob) : Type 0 where
   pub reply_is : reply ≡ reply_of (content old) pending.op
@@ -90,21 +90,21 @@ pub record Does (old new : TableAt) (pending : PendingAt) (reply : Option ℕ)
   pub linked : linked_of new ≡ linked_of old
   pub last : last_of new ≡ last_of old
 
--- An act at a cursor: the operation is done where the cursor fits; else nothing has changed and it
--- comes back.
+-- An act at a cursor: if the cursor fits the operation is done; if not, nothing has changed and the
+-- operation is returned.
 abbrev pub Acts : TableAt → TableAt → PendingAt → Cursor → Act → Type 0
 Acts old new pending cursor (Acted reply job) = (fits old cursor ≡ true)
     × Does old new pending reply job
 Acts old new pending cursor (ActAgain back) = (fits old cursor ≡ false) × (back ≡ pending)
     × (new ≡ old)
 
--- What an act writes.
+-- The writes of an act.
 abbrev pub ActWrites : TableAt → TableAt → PendingAt → Act → Type 0
 ActWrites old new pending (Acted reply job) =
     OpWrites old.list new.list pending.op pending.spare (get (content old) (key_of pending.op))
 ActWrites old new pending (ActAgain back) = WritesNothing old.list new.list
 
--- The change is taken back: its key has what it had before, and every other key what it has now.
+-- The change is taken back: its key has the value before it, and every other key is unchanged.
 pub record TakesBack (old new : TableAt) (job : MapJob) : Type 0 where
   pub content_is : content new ≡ set_at (content old) (key_of_job job) (value_before job)
   pub spares : Spends old new (spare_of_job job)
@@ -112,18 +112,18 @@ pub record TakesBack (old new : TableAt) (job : MapJob) : Type 0 where
   pub linked : linked_of new ≡ linked_of old
   pub last : last_of new ≡ last_of old
 
--- An undo at a cursor: the change is taken back where the cursor fits; else nothing has changed and
--- the job comes back.
+-- An undo at a cursor: if the cursor fits the change is taken back; if not, nothing has changed and
+-- the job is returned.
 abbrev pub Undoes : TableAt → TableAt → MapJob → Cursor → Undo → Type 0
 Undoes old new job cursor Undone = (fits old cursor ≡ true) × TakesBack old new job
 Undoes old new job cursor (UndoAgain back) = (fits old cursor ≡ false) × (back ≡ job) × (new ≡ old)
 
--- What an undo writes.
+-- The writes of an undo.
 abbrev pub UndoWrites : TableAt → TableAt → MapJob → Undo → Type 0
 UndoWrites old new job Undone = JobWrites old.list new.list job
 UndoWrites old new job (UndoAgain back) = WritesNothing old.list new.list
 
--- The job's key is sought, and what takes its change back is written there.
+-- The job's key is sought, and its change is taken back by a write there.
 pub record SeeksAndUndoes (old new : TableAt) (job : MapJob) : Type 0 where
   pub sought : TableAt
   pub near : SeeksNear old sought (key_of_job job)
@@ -135,16 +135,16 @@ pub record GivesBack (old new : TableAt) (spare : Option SpareAt) : Type 0 where
   pub last : last_of new ≡ last_of old
   pub spares : Spends old new spare
 
--- The spares after an operation that was done at once: that of its job is out, and all others are
--- as they were.
+-- The spares after an operation done by `apply`: that of its job is out, and all others are
+-- unchanged.
 abbrev pub JobSpare : TableAt → TableAt → Option MapJob → Type 0
 JobSpare old new (Some (Relink k before spare)) = GivesSpare old new spare
 JobSpare old new (Some (Unput k)) = KeepsSpares old new
 JobSpare old new (Some (Restore k before)) = KeepsSpares old new
 JobSpare old new None = KeepsSpares old new
 
--- An operation is done at once: its reply and what it leaves are the map's, and the job is there
--- exactly where it is a change. Its key is sought, and what it writes is written there.
+-- An operation is done by `apply`: its reply and its effect are those on the map, and there is a
+-- job exactly if it is a change. Its key is sought, and the write is made there.
 pub record Applies (old new : TableAt) (op : Op) (reply : Option ℕ)
     (job : Option MapJob) : Type 0 where
   pub spare : Option SpareAt
@@ -173,14 +173,14 @@ ShowsAfter job t = IsDue (content t) job × OwnsIf t (spare_of_job job)
 abbrev pub ShowsBefore : MapJob → TableAt → Type 0
 ShowsBefore job t = get (content t) (key_of_job job) ≡ value_before job
 
--- What the run of a job changes: its change is taken back and nothing else, and nothing older is
+-- The changes by the run of a job: its change is taken back and nothing else, and nothing older is
 -- disturbed.
 pub record Runs (old new : TableAt) (job : MapJob) : Type 0 where
   pub back : TakesBack old new job
   pub writes : SeeksAndUndoes old new job
   pub follows : Follows old new
 
--- The two spares, where there are two, are at different places.
+-- The two spares, if there are two, have different places.
 abbrev pub AreApart : Option SpareAt → Option SpareAt → Type 0
 AreApart None other = Unit {0}
 AreApart (Some spare) None = Unit {0}

@@ -3,7 +3,7 @@ use Rattle.std.specs.Prelude.{◌≡◌, ℕ, None, [], ◌∷◌}
 use Rattle.node_list.specs.Nodes.{Listing, first_dummy, out_at}
 use Rattle.node_list.specs.Sound.{IsSound}
 
--- The dummy of bucket 0 alone is linked, no spare is out, and nothing was changed.
+-- Only the dummy of bucket 0 is linked, no spare is out, and nothing was changed.
 pub record IsFresh (list : Listing) : Type 0 where
   pub nodes_are : list.nodes ≡ first_dummy list.head 0 ∷ []
   pub none_out : (place : ℕ) → out_at list place ≡ None

@@ -26,7 +26,7 @@ key_of_job (Unput k) = k
 key_of_job (Restore k old) = k
 key_of_job (Relink k old spare) = k
 
--- What the job's key had before the change.
+-- The value of the job's key before the change, or none.
 abbrev pub value_before : MapJob → Option ℕ
 value_before (Unput k) = None
 value_before (Restore k old) = Some old
@@ -38,7 +38,7 @@ spare_of_job (Unput k) = None
 spare_of_job (Restore k old) = None
 spare_of_job (Relink k old spare) = Some spare
 
--- The map is as the job's change left it at the key: there after a put, absent after a take.
+-- The map is as the job's change left it at the key: a put key is there, a taken key is not.
 abbrev pub IsDue : Map → MapJob → Type 0
 IsDue m (Unput k) = IsSome (get m k)
 IsDue m (Restore k old) = IsSome (get m k)
@@ -55,7 +55,7 @@ abbrev pub unput : ℕ → Option ℕ → Option MapJob
 unput k None = Some (Unput k)
 unput k (Some old) = Some (Restore k old)
 
--- The job that an operation with this spare leaves on a map, exactly where it is a change.
+-- The job of an operation with this spare on a map; there is one exactly if it is a change.
 abbrev pub job_of : Map → Op → Option SpareAt → Option MapJob
 job_of m (Put k v) spare = unput k (get m k)
 job_of m (Take k) spare = relink k (get m k) spare

@@ -1,4 +1,4 @@
--- What the laws of the table speak of.
+-- The situations that the laws of the table are about.
 use Rattle.std.specs.Prelude.{◌≡◌, ℕ, Option, Some}
 use Rattle.txn_trace.specs.declared.op.Op.{Op}
 use Rattle.txn_trace.specs.Ordered.{ordered}
@@ -10,7 +10,7 @@ use Rattle.map_ops.specs.Changes.{Applies, TakesBack}
 abbrev pub IsInOrder : TableAt → Type 0
 IsInOrder t = regular t ≡ ordered (content t)
 
--- An operation was done at once, and its change was taken back at once.
+-- An operation was done by `apply`, and its change was taken back right after.
 pub record GoesAndReturns (old new : TableAt) : Type 0 where
   pub between : TableAt
   pub op : Op

@@ -1,4 +1,4 @@
--- What is done to the linked nodes and to the change number.
+-- The writes to the linked nodes and to the change number.
 use Rattle.std.specs.Prelude.{◌≡◌, ℕ, ◌-◌, List, Option, Some, None, Bool, true, false, length, nat_eq}
 use Rattle.std.specs.Option.{option_eq}
 use Rattle.node_list.specs.declared.node.Kind.TheVariants.{Regular}
@@ -9,7 +9,7 @@ use Rattle.txn_trace.specs.declared.op.Op.TheVariants.{Put, Take, Get, PutIf}
 use Rattle.map_ops.specs.declared.job.MapJob.{MapJob}
 use Rattle.map_ops.specs.declared.job.MapJob.TheVariants.{Unput, Restore, Relink}
 
--- The unmarked node of a key with this value, in the place of a spare and with its stamp.
+-- The unmarked node of a key with this value, with the place and the stamp of a spare.
 abbrev pub node_for : ℕ → ℕ → SpareAt → NodeAt
 node_for key value spare = record {
   place = spare.place;
@@ -27,18 +27,17 @@ pub record IsNodeOf (nodes : List NodeAt) (key : ℕ) (node : NodeAt) : Type 0 w
   pub at : node.at ≡ regular_at key
   pub unmarked : node.marked ≡ false
 
--- Nothing is written: the nodes and the change number stay.
+-- Nothing is written: the nodes and the change number are unchanged.
 pub record WritesNothing (old new : Listing) : Type 0 where
   pub nodes : new.nodes ≡ old.nodes
   pub changes : new.changes ≡ old.changes
 
--- One thing is written: the nodes are these now, and the change number is one higher, up to 2^64 -
--- 1.
+-- One write: the nodes are these, and the change number is one higher, up to 2^64 - 1.
 pub record WritesOnce (old new : Listing) (now : List NodeAt) : Type 0 where
   pub nodes : new.nodes ≡ now
   pub changes : new.changes ≡ one_more old.changes
 
--- Nodes are unlinked and nothing else is written: the change number is higher by as many.
+-- Nodes are unlinked and nothing else is written: the change number is higher by their number.
 abbrev pub IsUnlinking : Listing → Listing → Type 0
 IsUnlinking old new = new.changes ≡ changes_after old.changes (length old.nodes - length new.nodes)
 
@@ -60,14 +59,13 @@ pub record WritesNode (old new : Listing) (key value : ℕ) : Type 0 where
   pub its : IsNodeOf old.nodes key node
   pub writes : WritesOnce old new (written_at old.nodes node.place value)
 
--- A put links its spare's node where the key had no value, and writes the key's node where it had
--- one.
+-- A put links its spare's node if the key had no value, and writes the key's node if it had one.
 abbrev pub PutWrites : Listing → Listing → ℕ → ℕ → Option SpareAt → Option ℕ → Type 0
 PutWrites old new key value None before = ⊥
 PutWrites old new key value (Some spare) None = LinksNode old new (node_for key value spare)
 PutWrites old new key value (Some spare) (Some was) = WritesNode old new key value
 
--- A take marks the key's node where the key had a value.
+-- A take marks the key's node if the key had a value.
 abbrev pub TakeWrites : Listing → Listing → ℕ → Option ℕ → Type 0
 TakeWrites old new key None = WritesNothing old new
 TakeWrites old new key (Some was) = MarksNode old new key
@@ -77,7 +75,7 @@ abbrev pub PutIfWrites : Listing → Listing → ℕ → ℕ → Option SpareAt 
 PutIfWrites old new key value spare before true = PutWrites old new key value spare before
 PutIfWrites old new key value spare before false = WritesNothing old new
 
--- What an operation with this spare writes, where its key had this value. A get writes nothing.
+-- The writes of an operation with this spare whose key had this value. A get writes nothing.
 abbrev pub OpWrites : Listing → Listing → Op → Option SpareAt → Option ℕ → Type 0
 OpWrites old new (Put k v) spare before = PutWrites old new k v spare before
 OpWrites old new (Take k) spare before = TakeWrites old new k before
@@ -85,7 +83,7 @@ OpWrites old new (Get k) spare before = WritesNothing old new
 OpWrites old new (PutIf k expected v) spare before =
     PutIfWrites old new k v spare before (option_eq nat_eq before expected)
 
--- What is written where a job's change is taken back.
+-- The write that takes a job's change back.
 abbrev pub JobWrites : Listing → Listing → MapJob → Type 0
 JobWrites old new (Unput k) = MarksNode old new k
 JobWrites old new (Restore k was) = WritesNode old new k was

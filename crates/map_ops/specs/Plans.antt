@@ -1,11 +1,11 @@
--- Operations with a right key and their spares.
+-- Plans: operations whose key is right, with their spares.
 use Rattle.std.specs.Prelude.{Some, None}
 use Rattle.txn_trace.specs.declared.op.Op.TheVariants as ops
 use Rattle.map_ops.specs.declared.pending.Plan.{Plan}
 use Rattle.map_ops.specs.declared.pending.Plan.TheVariants.{Put, Take, Get, PutIf}
 use Rattle.map_ops.specs.Jobs.{PendingAt}
 
--- What a contract sees of a plan.
+-- A plan as contracts see it.
 abbrev pub pending_of : Plan → PendingAt
 pending_of (Put k v spare) = record { op = ops.Put k v; spare = Some spare }
 pending_of (Take k spare) = record { op = ops.Take k; spare = Some spare }

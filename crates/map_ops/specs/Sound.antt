@@ -1,4 +1,4 @@
--- What is true of every table.
+-- The invariants of every table.
 use Rattle.std.specs.Prelude.{◌≡◌, ◌%◌, List}
 use Rattle.std.specs.List.{AllByRecursion}
 use Rattle.node_list.specs.declared.node.Kind.TheVariants.{Dummy}
@@ -8,20 +8,20 @@ use Rattle.bucket_table.specs.Directory.{Directory}
 use Rattle.bucket_table.specs.Dummies.{IsKeyed}
 use Rattle.bucket_table.specs.Home.{IsHome}
 
--- A dummy stands where no key belongs: its split key is even.
+-- A dummy is at no key's position: its split key is even.
 abbrev pub IsEvenDummy : NodeAt → Type 0
 IsEvenDummy n = n.kind ≡ Dummy → n.at.split % 2 ≡ 0
 
--- Each dummy stands where no key belongs.
+-- Each dummy is at no key's position.
 abbrev pub AllEven : List NodeAt → Type 0
 AllEven nodes = AllByRecursion IsEvenDummy nodes
 
--- Each node stands where its key belongs, or where no key does.
+-- Each regular node is at its key's position, and each dummy is at no key's.
 pub record Belong (nodes : List NodeAt) : Type 0 where
   pub keyed : IsKeyed nodes
   pub even : AllEven nodes
 
--- The list is sound, the buckets are the list's, and each node stands where it belongs.
+-- The list is sound, the buckets are the list's, and each node is at its position.
 pub record IsSound (list : Listing) (buckets : Directory) : Type 0 where
   pub sound : nodes.IsSound list
   pub home : IsHome buckets list

@@ -1,4 +1,4 @@
--- What the parts of the table's calls do.
+-- The effects of the parts of the table's calls.
 use Rattle.std.specs.Prelude.{◌≡◌, ℕ, ◌<◌, ◌-◌, ◌^◌, Option, Some, None}
 use Rattle.node_list.specs.Nodes.{Listing, NodeAt}
 use Rattle.node_list.specs.Order.{IsVacant}
@@ -19,34 +19,34 @@ pub record HasNode (l : Listing) (key place : ℕ) : Type 0 where
   pub place_is : place ≡ node.place
   pub value : get (map_of (pairs l.nodes)) key ≡ Some node.value
 
--- The key has no value, and its node would belong right behind the one at the place.
+-- The key has no value, and its node belongs right behind the one at the place.
 pub record HasRoom (l : Listing) (key pred : ℕ) : Type 0 where
   pub vacant : IsVacant l.nodes pred (regular_at key)
   pub none : get (map_of (pairs l.nodes)) key ≡ None
 
--- The key's node is linked at this place, if there is one; else it would belong right behind this
--- node.
+-- The key's node is linked at the second place, if there is one; else it belongs right behind the
+-- node at the first.
 abbrev pub Stands : Listing → ℕ → ℕ → Option ℕ → Type 0
 Stands l key pred None = HasRoom l key pred
 Stands l key pred (Some place) = HasNode l key place
 
--- The place of the key's node, or of the node that it would belong behind.
+-- The place of the key's node, or of the node that it belongs behind.
 abbrev pub place_in : ℕ → Option ℕ → ℕ
 place_in pred None = pred
 place_in pred (Some place) = place
 
--- A spare is given, and nothing else but the last stamp has changed.
+-- A spare is given, and only the last stamp has changed besides.
 pub record GivesOne (old new : TableAt) (spare : SpareAt) : Type 0 where
   pub given : GivesSpare old new spare
   pub nodes : KeepsNodes old new
 
--- Why no spare is given.
+-- The reason why no spare is given.
 abbrev pub IsLacking : TableAt → Refusal → Type 0
 IsLacking t StampsUsedUp = last_of t ≡ 2 ^ 64 - 2
 IsLacking t NoMemory = last_of t < 2 ^ 64 - 2
 IsLacking t refusal = ⊥
 
--- A key has this value now, or none, and every other key what it had.
+-- A key has this value, or none, and every other key is unchanged.
 pub record Sets (old new : TableAt) (key : ℕ) (value : Option ℕ) : Type 0 where
   pub content_is : content new ≡ set_at (content old) key value
   pub buckets : KeepsBuckets old new

@@ -1,4 +1,4 @@
--- What a contract sees of a table.
+-- A table as contracts see it.
 use Rattle.std.specs.Prelude.{◌≡◌, ◌≢◌, ℕ, ◌<◌, ◌≤◌, ◌-◌, ◌%◌, ◌^◌, Bool, true, false, Option, Some, None, List, [], ◌∷◌, map, is_some, replicate, slice_index_or}
 use Rattle.std.specs.List.{AllByRecursion, fold, range_with_len}
 pub use Rattle.node_list.specs.Nodes.{NodeAt, SpareAt}
@@ -23,7 +23,7 @@ use Rattle.bucket_table.specs.declared.helper.Helper.{Helper}
 use Rattle.bucket_table.specs.declared.helper.Helper.TheVariants.{Idle, Seeking, Holding}
 use Rattle.txn_trace.specs.Map.{Map, empty, insert}
 
--- The list of nodes and the buckets, of which contracts speak by the words below alone.
+-- The list of nodes and the buckets. Contracts speak of them only in the words below.
 pub record TableAt : Type 0 where
   pub list : Listing
   pub buckets : Directory
@@ -40,11 +40,11 @@ nodes_of t = t.list.nodes
 abbrev pub map_of : List (ℕ × ℕ) → Map
 map_of rows = fold (λ m pair. insert m pair.0 pair.1) empty rows
 
--- Key and value of each linked, unmarked, regular node, in the list's order.
+-- The key and the value of each linked, unmarked, regular node, in the list's order.
 abbrev pub regular : TableAt → List (ℕ × ℕ)
 regular t = pairs t.list.nodes
 
--- The map of these.
+-- The map of these pairs.
 abbrev pub content : TableAt → Map
 content t = map_of (regular t)
 
@@ -64,7 +64,7 @@ size_of t = t.buckets.size
 abbrev pub largest_of : TableAt → ℕ
 largest_of t = limit_of t.buckets
 
--- For each bucket, whether it is stored, which is to say initialised.
+-- For each bucket, whether it is stored, which means initialised.
 abbrev pub stored_of : TableAt → List Bool
 stored_of t = map is_some t.buckets.entries
 
@@ -72,11 +72,11 @@ stored_of t = map is_some t.buckets.entries
 abbrev pub linked_of : TableAt → List Bool
 linked_of t = map (has_dummy t.list.nodes) (range_with_len 0 (limit_of t.buckets))
 
--- For each helper, what it has.
+-- For each helper, its state.
 abbrev pub helps_of : TableAt → List Help
 helps_of t = map help_of t.buckets.helpers
 
--- The buckets are as they were, and so is each thing that is read of them.
+-- The buckets are unchanged, and so is each thing that is read of them.
 pub record KeepsBuckets (old new : TableAt) : Type 0 where
   pub all : new.buckets ≡ old.buckets
   pub size : size_of new ≡ size_of old
@@ -84,12 +84,12 @@ pub record KeepsBuckets (old new : TableAt) : Type 0 where
   pub stored : stored_of new ≡ stored_of old
   pub helps : helps_of new ≡ helps_of old
 
--- The list is as it was: its nodes, the spares that are out, the change number and the last stamp.
+-- The list is unchanged: its nodes, the spares that are out, the change number and the last stamp.
 abbrev pub KeepsList : TableAt → TableAt → Type 0
 KeepsList old new = new.list ≡ old.list
 
--- The nodes, the buckets and the change number are as they were: spares may come and go, and stamps
--- be given.
+-- The nodes, the buckets and the change number are unchanged. Spares may be given out or back, and
+-- stamps be given.
 pub record KeepsNodes (old new : TableAt) : Type 0 where
   pub all : nodes_of new ≡ nodes_of old
   pub regular : regular new ≡ regular old
@@ -115,12 +115,12 @@ cursors_of t = map cursor_in t.buckets.helpers
 abbrev pub helper_cursor : TableAt → ℕ → Option Cursor
 helper_cursor t helper = slice_index_or (cursors_of t) helper None
 
--- The cursors of all helpers but this one are as they were.
+-- The cursors of all helpers but this one are unchanged.
 unfoldable pub KeepsCursors : TableAt → TableAt → ℕ → Type 0
 KeepsCursors old new helper =
     (other : ℕ) → other ≢ helper → helper_cursor new other ≡ helper_cursor old other
 
--- All cursors of helpers are as they were.
+-- All cursors of helpers are unchanged.
 unfoldable pub KeepsAllCursors : TableAt → TableAt → Type 0
 KeepsAllCursors old new = cursors_of new ≡ cursors_of old
 
@@ -128,11 +128,11 @@ KeepsAllCursors old new = cursors_of new ≡ cursors_of old
 abbrev pub spare_out : TableAt → ℕ → Option ℕ
 spare_out t place = out_at t.list place
 
--- The spare is the table's.
+-- The spare belongs to the table.
 abbrev pub Owns : TableAt → SpareAt → Type 0
 Owns t spare = spare_out t spare.place ≡ Some spare.stamp
 
--- The spares that were out are out, and no others, but for those at this place.
+-- The same spares are out, except those at this place.
 abbrev pub KeepsOthers : TableAt → TableAt → ℕ → Type 0
 KeepsOthers old new place = (other : ℕ) → other ≢ place → spare_out new other ≡ spare_out old other
 
@@ -144,25 +144,24 @@ KeepsSpares old new = (place : ℕ) → spare_out new place ≡ spare_out old pl
 abbrev pub cursor_changes : Cursor → ℕ
 cursor_changes cursor = cursors.changes_of cursor
 
--- Whether the cursor fits: nothing has changed where it was placed.
+-- Whether the cursor fits: nothing has changed at its position.
 abbrev pub fits : TableAt → Cursor → Bool
 fits t cursor = cursors.fits t.list cursor
 
--- The cursor was placed on this table for this key, at any time: it fits while the change number
--- stays, below the last one.
+-- The cursor was placed on this table for this key, at any time. It fits while the change number is
+-- unchanged, below the greatest.
 pub record IsPlaced (t : TableAt) (cursor : Cursor) (key : ℕ) : Type 0 where
   pub list : cursors.IsPlaced t.list cursor
   pub at_is : cursors.at_of cursor ≡ regular_at key
   pub held : table_changes t ≡ cursor_changes cursor → table_changes t < 2 ^ 64 - 1
       → fits t cursor ≡ true
 
--- The place is that of the dummy of the key's bucket, or of its nearest ancestor that is
--- initialised.
+-- The place is that of the dummy of the key's bucket, or of its nearest initialised ancestor.
 abbrev pub IsStart : TableAt → ℕ → ℕ → Type 0
 IsStart t key place = IsNearest t.buckets (key % size_of t) place
 
 -- The linked nodes after a seek of a key from a place: without the marked ones between there and
--- the key's place.
+-- the key's position.
 abbrev pub nodes_sought : TableAt → ℕ → ℕ → List NodeAt
 nodes_sought t place key = sought t.list.nodes place (regular_at key)
 
@@ -170,8 +169,8 @@ nodes_sought t place key = sought t.list.nodes place (regular_at key)
 abbrev pub IsClean : TableAt → Type 0
 IsClean t = AllByRecursion (λ n. n.marked ≡ false) (nodes_of t)
 
--- The first marked node is unlinked and the spares are as they were, or none is marked and nothing
--- has changed.
+-- The first marked node is unlinked and the spares are unchanged, or none is marked and nothing has
+-- changed.
 abbrev pub SweepsNodes : TableAt → TableAt → SweepOutcome → Type 0
 SweepsNodes old new outcome = steps.Sweeps old.list new.list outcome
 
@@ -179,8 +178,8 @@ SweepsNodes old new outcome = steps.Sweeps old.list new.list outcome
 abbrev pub IsSplitOrdered : TableAt → Type 0
 IsSplitOrdered t = IsRising (nodes_of t)
 
--- The list is a sound one: its nodes stand in order and at places of their own, no dummy is marked,
--- and no stamp is used twice.
+-- The list is sound: its nodes are in order and at different places, no dummy is marked, and no
+-- stamp is used twice.
 abbrev pub HasSoundList : TableAt → Type 0
 HasSoundList t = sound_lists.IsSound t.list
 
@@ -198,7 +197,7 @@ pub record Follows (old new : TableAt) : Type 0 where
   pub last : last_of old ≤ last_of new
   pub placed : (cursor : Cursor) (key : ℕ) → IsPlaced old cursor key → IsPlaced new cursor key
 
--- An empty table of two buckets, of which bucket 0 is stored, and of idle helpers; its dummy alone
+-- An empty table of two buckets, of which bucket 0 is stored, and of idle helpers. Only its dummy
 -- is linked, and no spare is out.
 pub record IsNew (t : TableAt) (largest helpers : ℕ) : Type 0 where
   pub nodes_are : nodes_of t ≡ first_dummy t.list.head 0 ∷ []
@@ -213,7 +212,7 @@ pub record IsNew (t : TableAt) (largest helpers : ℕ) : Type 0 where
   pub last_is : last_of t ≡ 0
   pub none_out : (place : ℕ) → spare_out t place ≡ None
 
--- The pairs, the buckets, the linked dummies and the last stamp are as they were.
+-- The pairs, the buckets, the linked dummies and the last stamp are unchanged.
 pub record Keeps (old new : TableAt) : Type 0 where
   pub regular : regular new ≡ regular old
   pub buckets : KeepsBuckets old new

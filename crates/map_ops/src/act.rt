@@ -1,23 +1,23 @@
-//! What `act` and `undo` answer: that it is done, or that the cursor no longer fits, with what was
-//! handed in. Both are enums, so that nothing that owns a spare can be lost at `again`.
+//! The answers of `act` and `undo`: done, or the cursor no longer fits, with the argument returned.
+//! Both are enums, so that a value that owns a spare cannot be lost when the cursor does not fit.
 use crate::job::MapJob;
 use crate::pending::Pending;
 use txn_trace::Reply;
 
-/// What `Table::act` answers.
+/// The answer of `Table::act`.
 #[derive(Debug, Drop)]
 pub enum Act {
-    /// The operation is done: its reply, and what takes the change back, if it is one.
+    /// The operation is done: its reply, and the job that takes the change back, if it is one.
     Acted(Reply, Option<MapJob>),
-    /// The cursor no longer fits. Nothing has changed, and the operation comes back.
+    /// The cursor no longer fits. Nothing has changed, and the operation is returned.
     Again(Pending),
 }
 
-/// What `Table::undo` answers.
+/// The answer of `Table::undo`.
 #[derive(Debug, Drop)]
 pub enum Undo {
     /// The change is taken back.
     Undone,
-    /// The cursor no longer fits. Nothing has changed, and the job comes back.
+    /// The cursor no longer fits. Nothing has changed, and the job is returned.
     Again(MapJob),
 }

@@ -1,6 +1,6 @@
-//! What an operation or an inverse does to the list of a table. Each contract holds of the table
-//! with any buckets, since none of these touches them: so the proofs need not speak of buckets at
-//! all.
+//! The effect of an operation or an inverse on the list of a table. Each contract holds of the
+//! table with any buckets, since none of these functions touches them; so the proofs need not
+//! mention buckets.
 ghost use Rattle.std.specs.Prelude.{◌≡◌, ◌≤◌, Option, Some, None, is_ok, nat_eq, IfOk, IfErr, OnErr};
 ghost use Rattle.std.specs.Option.{option_eq};
 ghost use Rattle.node_list.specs.Follow.{Follows};
@@ -93,7 +93,8 @@ pub(crate) fn seek_key(list: &mut NodeList, buckets: &Buckets, key: Key) -> Curs
     seek(list, from, SortKey::regular(key))
 }
 
-/// The node of a key, as a cursor tells. Without one it belongs right behind the cursor's node.
+/// The node of a key, as a cursor tells. If there is none it belongs right behind the cursor's
+/// node.
 pub(crate) fn find(list: &NodeList, cursor: &Cursor, key: Key) -> Result<Option<NodeRef>, Again>
     requires sound { IsSound list.now }
     requires belong { Belong list.now.nodes }
@@ -158,7 +159,7 @@ fn mark_key(list: &mut NodeList, node: NodeRef, key: Key) -> u64
     mark_at(list, node)
 }
 
-/// Gives a spare back.
+/// Gives a spare back to the list.
 fn give_back(list: &mut NodeList, spare: Unfilled)
     requires { IsOut list.old spare }
     ensures back { (buckets : Directory)
@@ -198,14 +199,14 @@ pub(crate) fn give_up_job(list: &mut NodeList, job: MapJob)
     }
 }
 
-/// Whether a key had what is expected.
+/// Whether a key had the value that was expected, or none if none was.
 fn is_expected(was: Reply, expected: Reply) -> bool
     ensures { result ≡ option_eq nat_eq was expected }
 {
     was == expected
 }
 
-/// Puts a value, and answers what the key had with what takes the change back.
+/// Puts a value, and answers the value that the key had and the job that takes the change back.
 #[inline(always)]
 fn put_key(
     list: &mut NodeList,
@@ -242,7 +243,7 @@ fn put_key(
     }
 }
 
-/// Puts a value if the key has what is expected; else leaves it.
+/// Puts a value if the key has what is expected; if not, leaves it unchanged.
 fn put_if_key(
     list: &mut NodeList,
     pred: NodeRef,
@@ -277,7 +278,7 @@ fn put_if_key(
     }
 }
 
-/// Takes a key out, and answers what it had with what puts it back.
+/// Takes a key out, and answers the value that it had and the job that puts it back.
 fn take_key(
     list: &mut NodeList,
     pred: NodeRef,
@@ -308,8 +309,8 @@ fn take_key(
     }
 }
 
-/// Does an operation where the node of its key is, or would belong behind `pred`, and answers what
-/// the key had with what takes the change back.
+/// Does an operation at the node of its key, or behind `pred` if there is none, and answers the
+/// value that the key had and the job that takes the change back.
 #[inline(always)]
 pub(crate) fn change(
     list: &mut NodeList,
@@ -343,7 +344,7 @@ pub(crate) fn change(
     }
 }
 
-/// The place of a key's node, or of the node that it would belong behind.
+/// The place of a key's node, or of the node that it belongs behind.
 fn place_in(pred: NodeRef, there: Option<NodeRef>) -> NodeRef
     ensures { result ≡ place_in pred there }
 {
@@ -353,7 +354,7 @@ fn place_in(pred: NodeRef, there: Option<NodeRef>) -> NodeRef
     }
 }
 
-/// Takes a change back where the node of its key is, or would belong behind `pred`.
+/// Takes a change back at the node of its key, or behind `pred` if there is none.
 pub(crate) fn restore(list: &mut NodeList, job: MapJob, pred: NodeRef, there: Option<NodeRef>)
     requires sound { IsSound list.old }
     requires belong { Belong list.old.nodes }

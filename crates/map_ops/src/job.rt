@@ -5,12 +5,12 @@ ghost use Rattle.std.specs.Prelude.{◌≡◌};
 use node_list::Unfilled;
 use split_key::Key;
 
-/// What takes one change back, whatever the table has become since at other keys (an inverse method
-/// call in the sense of Herlihy and Koskinen 2008). A `Relink` owns a spare of the table, so that
-/// nothing is wanted to run it.
+/// The inverse of one change, which takes it back whatever has changed since at other keys (an
+/// inverse method call in the sense of Herlihy and Koskinen 2008). A `Relink` owns a spare of the
+/// table, so that running it needs no memory.
 #[derive(Debug, Drop)]
 pub enum MapJob {
-    /// Takes out what was put at the key.
+    /// Takes out the value that was put at the key.
     Unput(Key),
     /// Gives the key the value that it had.
     Restore(Key, u64),
@@ -21,7 +21,7 @@ pub enum MapJob {
 impl MapJob {
     ghost use Rattle.map_ops.specs.Jobs.{key_of_job};
 
-    /// The key of the change. Constant time.
+    /// The key of the change.
     pub fn key(&self) -> Key
         ensures { result ≡ key_of_job self.now }
     {

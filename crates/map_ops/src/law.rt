@@ -1,5 +1,5 @@
-//! Laws of the table, as contracts of functions that do nothing when they run: a change followed by
-//! its inverse, and two inverses of different keys in either order.
+//! The laws of the table, as contracts of functions that do nothing: a change followed by its
+//! inverse, and two inverses of different keys in either order.
 
 ghost use Rattle.std.specs.Prelude.{◌≡◌, ◌≢◌, ℕ, Option, None};
 ghost use Rattle.txn_trace.specs.declared.op.Op.{Op};
@@ -9,15 +9,12 @@ ghost use Rattle.map_ops.specs.Jobs.{key_of_job, spare_of_job};
 ghost use Rattle.map_ops.specs.Changes.{Applies, AreApart, ShowsAfter, TakesBack};
 ghost use Rattle.map_ops.specs.Laws.{GoesAndReturns, IsInOrder, TakesBackTwo};
 
-/// A change followed by its inverse leaves the content as it was, and with it the list of pairs,
-/// which has the pairs of the content in their order (`Table::size` says so of every table). An
-/// operation without a job leaves the content too.
+/// A change followed by its inverse leaves the content unchanged, and so the list of pairs, which
+/// is that of the content in order (`Table::size` says so of every table). An operation without a
+/// job leaves the content unchanged too.
 ///
-/// The contract is the law, of what `Table::apply` and `Table::take_back` promise.
-///
-/// # Cost
-///
-/// None: it does nothing when it runs.
+/// The contract is the law, a consequence of the contracts of `Table::apply` and
+/// `Table::take_back`; the function does nothing.
 pub fn there_and_back()
     ensures content { (old new : TableAt) → GoesAndReturns old new → content new ≡ content old }
     ensures regular { (old new : TableAt) → GoesAndReturns old new
@@ -26,16 +23,12 @@ pub fn there_and_back()
         → Applies old new op reply None → content new ≡ content old }
 {}
 
-/// Two jobs of different keys may be taken back in either order: the one that is second may still
-/// be taken back after the first (clause `due`, if a spare that each owns is at a place of its
-/// own), and both orders leave the same content, with it the same list of pairs, and the same
-/// spares out.
+/// Two jobs of different keys may be taken back in either order: the second may still be taken back
+/// after the first (clause `due`, if their spares are at different places), and both orders leave
+/// the same content, and so the same list of pairs, and the same spares out.
 ///
-/// The contract is the law, of what `Table::take_back` promises.
-///
-/// # Cost
-///
-/// None: it does nothing when it runs.
+/// The contract is the law, a consequence of the contract of `Table::take_back`; the function does
+/// nothing.
 pub fn either_order()
     ensures due { (old new : TableAt) (first second : MapJob)
         → key_of_job first ≢ key_of_job second → AreApart (spare_of_job first) (spare_of_job second)

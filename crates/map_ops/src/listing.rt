@@ -1,5 +1,5 @@
-//! The pairs of a list, in its order, and the sorted map of these: what a report prints and what
-//! tests compare. Time and memory in proportion to the nodes.
+//! The pairs of a list, in its order, and the sorted map of these, for reports and for tests. Time
+//! and memory in proportion to the nodes.
 ghost use Rattle.std.specs.Prelude.{◌≡◌, ◌++◌, IfOk, OnOk};
 ghost use Rattle.std.specs.BTreeMap.{IsFromIterResult};
 ghost use Rattle.std.specs.Ordering.{nat_cmp};
@@ -9,7 +9,7 @@ use node_list::{Kind, Node, NodeList};
 use std::alloc::{AllocError, Global};
 use std::collections::BTreeMap;
 
-/// Adds what a node adds to the content.
+/// Adds the pair of a node, if it adds one to the content.
 fn push_pair(found: &mut Vec<(u64, u64)>, node: &Node) -> Result<(), AllocError>
     ensures { OnOk result (found.new.items
         ≡ found.old.items ++ pair_if node.now.kind node.now.marked node.now.at.key node.now.value) }
@@ -27,7 +27,7 @@ fn push_pair(found: &mut Vec<(u64, u64)>, node: &Node) -> Result<(), AllocError>
     }
 }
 
-/// Key and value of each regular, unmarked node, in the list's order.
+/// The key and the value of each regular, unmarked node, in the list's order.
 pub(crate) fn pairs_of(alloc: Global, list: &NodeList) -> Result<Vec<(u64, u64)>, AllocError>
     ensures { IfOk result (λ found. found.items ≡ pairs list.now.nodes) }
 {

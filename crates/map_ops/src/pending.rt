@@ -1,5 +1,5 @@
-//! An operation that has what it needs. It stands apart from `Op` (`txn_trace`), since all but a
-//! get own a spare node from here on, until they are done or withdrawn.
+//! Prepared operations: each has all that it needs. It is a type apart from `Op` (`txn_trace`),
+//! since every operation but a get owns a spare node from here on, until it is done or withdrawn.
 ghost use Rattle.std.specs.Prelude.{◌≡◌, is_some};
 
 use node_list::Unfilled;
@@ -16,7 +16,7 @@ pub(crate) enum Plan {
     Get(Key),
 }
 
-/// An operation that is prepared: it has what it needs, and memory is not wanted from here on.
+/// A prepared operation: it has all that it needs, and takes no memory from here on.
 ///
 /// Every operation but a get owns a spare of the table that prepared it, until it is done or
 /// withdrawn.
@@ -52,7 +52,7 @@ impl Pending {
         self.plan
     }
 
-    /// The operation. It has a spare exactly if it is not a get. Constant time.
+    /// The operation. It has a spare exactly if it is not a get.
     pub fn op(&self) -> Op
         ensures op { result ≡ self.now.op }
         ensures spare { is_some self.now.spare ≡ takes_node result }
@@ -65,7 +65,7 @@ impl Pending {
         }
     }
 
-    /// The key of the operation. Constant time.
+    /// The key of the operation.
     pub fn key(&self) -> Key
         ensures { result ≡ key_of self.now.op }
     {

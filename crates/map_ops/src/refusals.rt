@@ -1,4 +1,5 @@
-//! The refusals of calls on buckets, as steps name them: `bucket_table` knows no `txn_trace`.
+//! The refusals of calls on buckets, converted to those of steps: `bucket_table` does not use
+//! `txn_trace`.
 ghost use Rattle.std.specs.Prelude.{◌≡◌};
 ghost use Rattle.map_ops.specs.Buckets.{answer_for, refusal_for};
 
@@ -19,7 +20,7 @@ fn refusal_for(refusal: InitRefusal) -> Refusal
     }
 }
 
-/// What a call on buckets is answered.
+/// The answer of a step, for one of a call on buckets.
 pub(crate) fn answer_for<T>(outcome: Result<T, InitRefusal>) -> Result<T, Refusal>
     ensures { result ≡ answer_for outcome }
 {

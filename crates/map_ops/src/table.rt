@@ -1,6 +1,6 @@
-//! The table: list and buckets in one value, and every call on them. Invariant: the list is sound,
-//! and each stored bucket names its linked dummy and has a stored parent. What is done to the list
-//! alone stands in `change.rt`.
+//! The table: list and buckets in one value, and all calls on them. Invariant: the list is sound,
+//! and each stored bucket names its linked dummy and has a stored parent. The parts that touch only
+//! the list are in `change.rt`.
 ghost use Rattle.std.specs.Prelude.{◌≡◌, ◌≢◌, ℕ, ◌<◌, ◌≤◌, ◌-◌, ◌^◌, ◌↔◌, Ok, Err, Some, length, IfOk, IfErr, OnErr};
 ghost use Rattle.std.specs.List.{slice_get};
 ghost use Rattle.std.specs.BTreeMap.{get as value_at};
@@ -29,7 +29,7 @@ use txn_trace::{Op, Refusal, Reply};
 /// are found (Shalev and Shavit, "Split-Ordered Lists: Lock-Free Extensible Hash Tables", Journal
 /// of the ACM 53, 2006).
 ///
-/// Contracts see the list and the buckets, by the words of `specs/TableAt.antt`: the `content` is a
+/// Contracts see the list and the buckets, in the words of `specs/TableAt.antt`: the `content` is a
 /// finite map, `regular` the list of its pairs in the order of their split keys.
 #[derive(Drop)]
 pub struct Table {
@@ -55,7 +55,7 @@ impl Table {
     ghost use Rattle.map_ops.specs.Changes.{ActWrites, Acts, Applies, GivesBack, IsRefused, OwnsIf, Places, Prepares, SeeksAndUndoes, SeeksNear, Sweeps, TakesBack, UndoWrites, Undoes};
     ghost use Rattle.map_ops.specs.Buckets.{Doubles, LinkChanges, LinkWrites, SeekChanges, SeekWrites, StoreChanges, double_answer, link_answer_of, seek_answer, store_answer, LacksSegment};
 
-    /// An empty table of two buckets, of which bucket 0 is initialised, and of so many idle
+    /// An empty table of two buckets, of which bucket 0 is initialised, with `callers` idle
     /// helpers. It can grow to `max` buckets, a power of two.
     ///
     /// # Errors
@@ -75,9 +75,9 @@ impl Table {
         Table::with_list(alloc, list, max, callers)
     }
 
-    /// The table that `new` makes, without counts of marked nodes by region: `sweep` walks the list
-    /// if a node is marked. For an owner who unlinks each node that he has marked, by a seek for
-    /// its key.
+    /// A table as from `new`, but without counts of marked nodes by region: `sweep` walks the list
+    /// if a node is marked. It is for an owner who unlinks each node right after marking it, by a
+    /// seek for its key.
     ///
     /// # Errors
     ///
@@ -106,13 +106,13 @@ impl Table {
         Ok(Table { list, buckets })
     }
 
-    /// Prepares an operation: takes the spare that it needs unless it is a get, so that no memory
-    /// is wanted from here on. Content and list stay.
+    /// Prepares an operation: takes the spare that it needs, unless it is a get, so that it needs
+    /// no memory from here on. The content and the list of pairs are unchanged.
     ///
     /// # Errors
     ///
-    /// Unless it is a get, `StampsUsedUp` if the last stamp, 2^64 - 2, is given, and else
-    /// `NoMemory` if memory is refused. Each leaves the table as it was.
+    /// Unless the operation is a get: `StampsUsedUp` if no stamp is left, since the last one was
+    /// 2^64 - 2; else `NoMemory` if memory is refused. Each leaves the table unchanged.
     ///
     /// # Cost
     ///
@@ -128,16 +128,16 @@ impl Table {
         Ok(Pending::new(plan))
     }
 
-    /// Seeks the key of an operation, from the dummy of its bucket or of the nearest ancestor that
-    /// is initialised (Shalev and Shavit 2006, section 3.2), and unlinks the marked nodes that it
-    /// passes. Content and list of pairs stay.
+    /// Seeks the key of an operation, from the dummy of its bucket or of the nearest initialised
+    /// ancestor (Shalev and Shavit 2006, section 3.2), and unlinks the marked nodes that it passes.
+    /// The content and the list of pairs are unchanged.
     ///
-    /// The cursor fits until something changes where it is.
+    /// The cursor fits until something changes at its position.
     ///
     /// # Cost
     ///
-    /// Time in proportion to the nodes from that dummy to the key's place, and to the ancestors up
-    /// to there; takes no memory.
+    /// Time in proportion to the nodes from that dummy to the key's position, and to the ancestors
+    /// passed.
     #[inline(always)]
     pub fn place(&mut self, pending: &Pending) -> Cursor
         ensures places { Places self.old self.new (key_of pending.now.op) result }
@@ -148,17 +148,13 @@ impl Table {
         seek_key(&mut self.list, &self.buckets, pending.key())
     }
 
-    /// Does an operation at a cursor that was placed for its key, and gives the reply with what
-    /// takes the change back. A put that is made links one node or writes one value, a take marks
-    /// one node, and what is no change writes nothing. No node is unlinked.
+    /// Does an operation at a cursor that was placed for its key, and answers the reply and the job
+    /// that takes the change back. A put that is made links one node or writes one value, a take
+    /// marks one node, and an operation that is no change writes nothing. No node is unlinked.
     ///
-    /// `Again` comes exactly if the cursor no longer fits, so never while the change number is
-    /// still the cursor's and below 2^64 - 1: then nothing has changed, and the operation comes
-    /// back.
-    ///
-    /// # Cost
-    ///
-    /// Constant time; takes no memory.
+    /// The answer is `Again` exactly if the cursor no longer fits; it always fits while the change
+    /// number is still the cursor's and below 2^64 - 1. Then nothing has changed, and the operation
+    /// is returned.
     #[inline(always)]
     pub fn act(&mut self, pending: Pending, cursor: Cursor) -> Act
         requires placed { IsPlaced self.old cursor (key_of pending.op) }
@@ -178,11 +174,8 @@ impl Table {
         }
     }
 
-    /// Gives up an operation that is not done: its spare goes back to the list, and all else stays.
-    ///
-    /// # Cost
-    ///
-    /// Constant time; takes no memory.
+    /// Gives up an operation that is not done: its spare goes back to the list, and all else is
+    /// unchanged.
     pub fn withdraw(&mut self, pending: Pending)
         requires { OwnsIf self.old pending.spare }
         ensures back { GivesBack self.old self.new pending.spare }
@@ -191,11 +184,7 @@ impl Table {
         give_up(&mut self.list, pending.into_plan());
     }
 
-    /// Seeks the key of a job, as `place` seeks that of an operation.
-    ///
-    /// # Cost
-    ///
-    /// That of `place`; takes no memory.
+    /// Seeks the key of a job, as `place` seeks that of an operation, at the same cost.
     pub fn place_job(&mut self, job: &MapJob) -> Cursor
         ensures places { Places self.old self.new (key_of_job job.now) result }
         ensures near { SeeksNear self.old self.new (key_of_job job.now) }
@@ -205,16 +194,12 @@ impl Table {
         seek_key(&mut self.list, &self.buckets, job.key())
     }
 
-    /// Takes a change back at a cursor that was placed for its key: the key has what it had before
-    /// the change, and every other key what it has now, whatever was changed there since. One node
-    /// is marked, written or linked, and none is unlinked.
+    /// Takes a change back at a cursor that was placed for its key: the key has the value before
+    /// the change, or none, and every other key is unchanged, whatever was changed there since. One
+    /// node is marked, written or linked, and none is unlinked.
     ///
-    /// `Again` comes exactly if the cursor no longer fits: then nothing has changed, and the job
-    /// comes back.
-    ///
-    /// # Cost
-    ///
-    /// Constant time; takes no memory.
+    /// The answer is `Again` exactly if the cursor no longer fits. Then nothing has changed, and
+    /// the job is returned.
     pub fn undo(&mut self, job: MapJob, cursor: Cursor) -> Undo
         requires placed { IsPlaced self.old cursor (key_of_job job) }
         requires due { IsDue (content self.old) job }
@@ -234,11 +219,7 @@ impl Table {
     }
 
     /// Gives up a job whose change is to stay: the spare of a `Relink` goes back to the list, and
-    /// all else stays.
-    ///
-    /// # Cost
-    ///
-    /// Constant time; takes no memory.
+    /// all else is unchanged.
     pub fn discard(&mut self, job: MapJob)
         requires { OwnsIf self.old (spare_of_job job) }
         ensures back { GivesBack self.old self.new (spare_of_job job) }
@@ -247,12 +228,12 @@ impl Table {
         give_up_job(&mut self.list, job);
     }
 
-    /// Does an operation at once: its reply and what it leaves are those of a plain map, and a job
-    /// is given exactly if it is a change.
+    /// Does an operation in one call: its reply and its effect are those on a plain map, and the
+    /// answer has a job exactly if it is a change.
     ///
     /// # Errors
     ///
-    /// Those of `prepare`, which leave the table as it was.
+    /// Those of `prepare`, which leave the table unchanged.
     ///
     /// # Cost
     ///
@@ -272,13 +253,13 @@ impl Table {
         }
     }
 
-    /// Takes a change back at once. So an operation and its job leave content and list of pairs as
-    /// they were (`law::there_and_back`), and jobs of different keys may run in either order
-    /// (`law::either_order`).
+    /// Takes a change back in one call. So an operation and then its job leave the content and the
+    /// list of pairs unchanged (`law::there_and_back`), and jobs of different keys may run in
+    /// either order (`law::either_order`).
     ///
     /// # Cost
     ///
-    /// That of `place_job`, and constant time beside it; takes no memory.
+    /// That of `place_job`.
     pub fn take_back(&mut self, job: MapJob)
         requires due { IsDue (content self.old) job }
         requires owned { OwnsIf self.old (spare_of_job job) }
@@ -328,11 +309,11 @@ impl Table {
         pairs_of(alloc, &self.list)
     }
 
-    /// The size: how many buckets there are now. Constant time.
+    /// The size: the number of buckets now.
     ///
-    /// Its contract says also what is true of every table: the sort keys of the linked nodes rise
-    /// strictly, no two nodes share a place or a stamp, the list has the pairs of the content in
-    /// their order, and each initialised bucket names its linked dummy and has an initialised
+    /// The contract also states the invariants of every table: the sort keys of the linked nodes
+    /// rise strictly, no two nodes share a place or a stamp, the list has the pairs of the content
+    /// in their order, and each initialised bucket names its linked dummy and has an initialised
     /// parent.
     pub fn size(&self) -> u32
         ensures size { result ≡ size_of self.now }
@@ -345,15 +326,15 @@ impl Table {
         self.buckets.size()
     }
 
-    /// The change number: how many links, marks, unlinks and writes there were, and 2^64 - 1 from
-    /// there on. No call lowers it. Constant time.
+    /// The change number: how many links, marks, unlinks and writes there were, at most 2^64 - 1.
+    /// No call lowers it.
     pub fn changes(&self) -> u64
         ensures { result ≡ table_changes self.now }
     {
         self.list.changes()
     }
 
-    /// How many keys there are. Constant time.
+    /// The number of keys.
     pub fn count(&self) -> u64
         ensures count { result ≡ count_of (content self.now) }
         ensures length { result ≡ length (regular self.now) }
@@ -361,16 +342,16 @@ impl Table {
         self.list.count()
     }
 
-    /// Unlinks the first marked node, if one is marked, and nothing else. `Clean` comes exactly
-    /// if none is.
+    /// Unlinks the first marked node, if one is marked, and nothing else. The answer is `Clean`
+    /// exactly if none is.
     ///
-    /// The walk begins at the nearest initialised dummy before the place where the marked nodes
+    /// The walk begins at the nearest initialised dummy before the position where the marked nodes
     /// begin (`NodeList::marks_begin`).
     ///
     /// # Cost
     ///
     /// Time in proportion to the nodes from there to the first marked one (from the first node on,
-    /// if `new_uncounted` made the table), and constant time if none is marked; takes no memory.
+    /// if `new_uncounted` made the table), and constant time if none is marked.
     pub fn sweep(&mut self) -> SweepOutcome
         ensures clean { (result ≡ SweepOutcome.Clean) ↔ IsClean self.old }
         ensures sweeps { Sweeps self.old self.new result }
@@ -385,21 +366,22 @@ impl Table {
         sweep_from(&mut self.list, start)
     }
 
-    /// Seeks the place of a bucket's dummy for a helper, from the dummy of the bucket's parent.
-    /// Content and list of pairs stay; the marked nodes that it passes are unlinked.
+    /// Seeks the position of a bucket's dummy for a helper, from the dummy of the bucket's parent.
+    /// The content and the list of pairs are unchanged; the marked nodes that it passes are
+    /// unlinked.
     ///
     /// `Ready` if the bucket is initialised already: then the helper is idle. Else `Placed`, and
     /// the helper has a cursor that fits, in place of whatever it had.
     ///
     /// # Errors
     ///
-    /// In this order: `NoSuchHelper`, `NoSuchBucket` if the bucket is not below the size,
-    /// `ParentMissing` if it is not initialised and its parent is not either. Each leaves the
-    /// table as it was.
+    /// In this order: `NoSuchHelper`; `NoSuchBucket` if the bucket is not below the size;
+    /// `ParentMissing` if neither it nor its parent is initialised. Each leaves the table
+    /// unchanged.
     ///
     /// # Cost
     ///
-    /// Time in proportion to the nodes from the parent's dummy to the place; takes no memory.
+    /// Time in proportion to the nodes from the parent's dummy to the position.
     pub fn init_seek(&mut self, helper: u64, bucket: u64) -> Result<InitSeek, Refusal>
         ensures answer { result
             ≡ seek_answer (size_of self.old) (stored_of self.old)
@@ -412,16 +394,17 @@ impl Table {
         answer_for(self.buckets.init_seek(&mut self.list, helper, bucket))
     }
 
-    /// Links the dummy of a helper's bucket at the helper's cursor. Content and list of pairs stay.
+    /// Links the dummy of a helper's bucket at the helper's cursor. The content and the list of
+    /// pairs are unchanged.
     ///
     /// `Again` if the cursor no longer fits: it is dropped. `Present` if that dummy is linked
     /// already, else `Linked`: the helper has the dummy.
     ///
     /// # Errors
     ///
-    /// In this order: `NoSuchHelper`, `HelperOutOfOrder` if the helper has no cursor, and, where
-    /// a dummy is to be linked, `StampsUsedUp`, then `NoMemory` if memory is refused. Each
-    /// leaves the table as it was.
+    /// In this order: `NoSuchHelper`; `HelperOutOfOrder` if the helper has no cursor; and, if a
+    /// dummy is to be linked, `StampsUsedUp`, then `NoMemory` if memory is refused. Each leaves the
+    /// table unchanged.
     ///
     /// # Cost
     ///
@@ -449,9 +432,9 @@ impl Table {
     ///
     /// # Errors
     ///
-    /// In this order: `NoSuchHelper`, `HelperOutOfOrder` if the helper has no dummy, `NoMemory`
-    /// if memory is refused, and only if no bucket of the bucket's segment is initialised.
-    /// Each leaves the table as it was, and the helper has its dummy.
+    /// In this order: `NoSuchHelper`; `HelperOutOfOrder` if the helper has no dummy; `NoMemory` if
+    /// memory is refused, which happens only if no bucket of the bucket's segment is initialised.
+    /// Each leaves the table unchanged, and the helper has its dummy.
     ///
     /// # Cost
     ///
@@ -473,12 +456,8 @@ impl Table {
 
     /// Doubles the size. No node moves.
     ///
-    /// Not so, in this order, if the size is not the one seen (`Moved`), if it is the largest
-    /// (`AtLimit`), and if there are at most twice as many keys as buckets (`Light`).
-    ///
-    /// # Cost
-    ///
-    /// Constant time; takes no memory.
+    /// Nothing changes, in this order, if the size is not the one seen (`Moved`), if it is the
+    /// largest (`AtLimit`), or if there are at most twice as many keys as buckets (`Light`).
     pub fn double(&mut self, seen: u64) -> Double
         ensures answer { result
             ≡ double_answer (size_of self.old) (largest_of self.old)
@@ -491,8 +470,8 @@ impl Table {
     }
 }
 
-/// Where a sweep may begin: at the nearest initialised dummy before the place where the marked
-/// nodes begin, or at the first node if none is marked.
+/// The node at which a sweep may begin: the nearest initialised dummy before the position where the
+/// marked nodes begin, or the first node if none is marked.
 fn sweep_start(list: &NodeList, buckets: &Buckets) -> NodeRef
     requires { IsHome buckets.now list.now }
     ensures { IsBeforeMarks list.now.nodes result }

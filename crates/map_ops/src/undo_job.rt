@@ -1,5 +1,5 @@
-//! A job of the table as a job of an undo log, whose world is the table: it joins the two crates
-//! that know nothing of each other.
+//! A job of the table as a job of an undo log, whose world is the table. It joins two crates that
+//! do not use each other.
 use crate::job::MapJob;
 use crate::table::Table;
 use undo_log::UndoJob;

@@ -7,7 +7,7 @@ use Rattle.map_ops.specs.Steps.{Sets}
 use Rattle.map_ops.proofs.ChangeLemmas.{links_sets, links_node, links_belong}
 use Rattle.map_ops.proofs.change.link_key.Goals as goal
 
--- A regular node that stands here.
+-- A regular node at this position, with the place and the stamp of a spare.
 abbrev node_at : SortKey → ℕ → SpareAt → NodeAt
 node_at at value spare = record { place = spare.place; at = at; kind = Regular; value = value; stamp = spare.stamp; marked = false }
 
