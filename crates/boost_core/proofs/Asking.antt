@@ -54,7 +54,7 @@ use Rattle.boost_core.proofs.Quiet.{idle_cursor, nothing_waits}
 use Rattle.boost_core.proofs.Given.{prepared_covered, given_spare, stamped, one_stamp_more, open_to, last_rises}
 
 module _ (w : World) (tells : Tells w) (c : ℕ) (x : Session) (at : slice_get w.sessions c ≡ Some x) where
-  -- Nothing has changed but room, and the step is refused.
+  -- The step is refused, and nothing has changed but room.
   module _ (claim : Claim) (step : Step) (refusal : Refusal) (goes : Goes claim (state_of w) step (answers.Refused refusal) (state_of w)) (opened : x.seat.seat.phase ≡ Opened) (y : Session) (stays : StaysIn x y) where
     still_fresh : (seat' : RoomySeat) (o : Option Owner) → IsFresh w.table w.sessions o → IsFresh w.table (slice_set w.sessions c (seated_as y seat')) o
     still_fresh seat' None fresh = tt
@@ -93,7 +93,7 @@ module _ (w : World) (tells : Tells w) (c : ℕ) (x : Session) (at : slice_get w
       fresh = λ seat'. still_fresh seat' w.placed tells.fresh;
     }
 
-  -- Want of memory for a savepoint.
+  -- Memory for a savepoint is refused.
   pub save_refused : refusal_of (state_of w) (steps.Save c) ≡ None → (y : Session) (t' : TableAt) (locks' : List (Option ℕ)) → StaysIn x y → t' ≡ w.table → locks' ≡ w.locks → Called w c x (steps.Save c) (answers.Refused refusals.NoMemory) y t' locks'
   save_refused none y t' locks' stays table same = same_world (Called w c x (steps.Save c) (answers.Refused refusals.NoMemory) y) w.table t' w.locks locks' table same
       (lacking_called Lock (steps.Save c) refusals.NoMemory (lacks (state_of w) (steps.Save c) refusals.NoMemory none tt) (save_open w.limits.half x.seat.seat c (seat_free w tells c x at (steps.Save c) refl none)) y stays refl)
@@ -108,7 +108,7 @@ module _ (w : World) (tells : Tells w) (c : ℕ) (x : Session) (at : slice_get w
     pub no_cursor_there : x.cursor ≡ None
     no_cursor_there = idle_cursor w tells c x at Opened opened refl
 
-    -- Want of memory or of a stamp.
+    -- Memory is refused, or no stamp is left.
     pub ask_refused : (claim : Claim) (refusal : Refusal) → (Move (state_of w) (steps.Ask c op) (answers.Refused refusal) (state_of w) → Goes claim (state_of w) (steps.Ask c op) (answers.Refused refusal) (state_of w)) → (y : Session) (t' : TableAt) (locks' : List (Option ℕ))
         → (refusal ≡ refusals.NoMemory) ⊎ IsRefused w.table op refusal → StaysIn x y → t' ≡ w.table → locks' ≡ w.locks → CalledBy claim w c x (steps.Ask c op) (answers.Refused refusal) y t' locks'
     ask_refused claim refusal by y t' locks' why stays table same = same_world (CalledBy claim w c x (steps.Ask c op) (answers.Refused refusal) y) w.table t' w.locks locks' table same
@@ -126,7 +126,7 @@ module _ (w : World) (tells : Tells w) (c : ℕ) (x : Session) (at : slice_get w
     abbrev pub stripe : ℕ
     stripe = stripe_of w.limits.stripes (key_of op)
 
-    -- The spares of the log stay covered beside the one that the operation is given.
+    -- The spares of the log stay covered beside the spare of the operation.
     spares_before : (t' : TableAt) (pending : PendingAt) → Prepares w.table t' op pending → (others : ℕ → ℕ → ℕ) → IsCovered (λ place stamp. others place stamp + times_kept x place stamp) w.table
         → IsCovered (λ place stamp. others place stamp + times_in x.log.jobs place stamp + times_of pending.spare place stamp) t'
     spares_before t' pending prepares others covered =
@@ -149,7 +149,7 @@ module _ (w : World) (tells : Tells w) (c : ℕ) (x : Session) (at : slice_get w
       one_last = one_stamp_more w.table t' (takes_node op) pending.spare prepares.given;
     }
 
-    -- The stripe is free or the caller's: the operation waits.
+    -- The stripe is free or the caller's, and the operation waits.
     module _ (y : Session) (t' : TableAt) (locks' : List (Option ℕ)) (asks : AsksIn c stripe op x w.table w.locks y t' locks') (keeps : KeepsPlaced w.table t') (within : stripe < w.limits.stripes) where
       abbrev holder : ℕ → Option ℕ
       holder s = cond (stripe == s) (Some c) (holder_of w.limits.stripes s w.history)
@@ -211,7 +211,8 @@ module _ (w : World) (tells : Tells w) (c : ℕ) (x : Session) (at : slice_get w
         fresh = λ seat'. tt;
       }
 
-    -- Another caller holds the stripe: what was prepared is given up, and the caller leaves to the end.
+    -- Another caller holds the stripe: the prepared operation is given up, and the caller leaves to
+    -- the end.
     module _ (holder : ℕ) (y : Session) (t' : TableAt) (locks' : List (Option ℕ)) (meets : MeetsIn c stripe op holder x w.table w.locks y t' locks') (keeps : KeepsPlaced w.table t') (within : stripe < w.limits.stripes) where
       stands : w.words ≡ false → may_stand (state_of w) (entry.Busy c op holder) ≡ true
       stands words =

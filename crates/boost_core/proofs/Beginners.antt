@@ -1,4 +1,4 @@
--- Which callers have begun a transaction, noted entry by entry.
+-- The callers that have begun a transaction, noted entry by entry.
 use Rattle.std.proofs.Common.{◌≡◌, ℕ, ◌<◌, ◌||◌, Bool, true, false, cond, List, [], ◌∷◌, ◌++◌, length, set, get_or, replicate, Option, Some, None, refl, sym, ap, subst, ◌∙◌, arith}
 use Rattle.std.specs.Prelude.{nat_lt, option_to_list, slice_index_or}
 use Rattle.std.proofs.lemmas.Bool.{cases_eq, cases_lt, lt-ltb, or_right}
@@ -25,7 +25,7 @@ stays c h e begins = elim (cases_eq c (caller_of e)) [
 pub noted_same : (callers : ℕ) (h : List Entry) (begun : List Bool) (e : Entry) → is_began e ≡ false → AreNoted callers h begun → AreNoted callers (h ++ e ∷ []) begun
 noted_same callers h begun e begins was = record { many = was.many; each = λ c. was.each c ∙ sym (stays c h e begins) }
 
--- One entry more.
+-- One more entry.
 noted_push : (callers : ℕ) (h : List Entry) (begun : List Bool) (e : Entry) → AreNoted callers h begun → caller_of e < callers → AreNoted callers (h ++ e ∷ []) (begun_with begun (Some e))
 noted_push callers h begun (Began d t) was below =
     let within : d < length begun = let many = was.many in omega arith in
@@ -38,7 +38,7 @@ noted_push callers h begun (Began d t) was below =
     })
 noted_push callers h begun e was below = noted_same callers h begun e refl was
 
--- One entry more, or none.
+-- One more entry, or none.
 pub noted_then : (callers : ℕ) (h h' : List Entry) (begun begun' : List Bool) (o : Option Entry) → AreNoted callers h begun → h' ≡ h ++ option_to_list o → begun' ≡ begun_with begun o → ((e : Entry) → o ≡ Some e → caller_of e < callers) → AreNoted callers h' begun'
 noted_then callers h h' begun begun' None was pushed noted below = subst (λ b. AreNoted callers h' b) (sym noted) (subst (λ g. AreNoted callers g begun) (sym (pushed ∙ append-nil h)) was)
 noted_then callers h h' begun begun' (Some e) was pushed noted below = subst (λ b. AreNoted callers h' b) (sym noted) (subst (λ g. AreNoted callers g (begun_with begun (Some e))) (sym pushed) (noted_push callers h begun e was (below e refl)))

@@ -1,4 +1,4 @@
--- What each step of a caller comes to, by what it does.
+-- The outcome of each step of a caller.
 use Rattle.std.proofs.Common.{◌≡◌, ℕ, ◌+◌, ◌-◌, ◌^◌, ◌<◌, ◌≤◌, Bool, true, false, List, Option, Some, None, is_some, refl, sym, ap, subst, ◌∙◌, arith}
 use Rattle.std.specs.Prelude.{slice_get, slice_set, map, reverse, unwrap_or}
 use Rattle.std.specs.Option.{option_map}
@@ -34,11 +34,11 @@ use Rattle.boost_core.proofs.Claims.{stale_called, held_called, word_stale_calle
 use Rattle.boost_core.proofs.Working.{did_called, undone_called}
 use Rattle.boost_core.proofs.Finding.{sought_called, again_called}
 
--- What is true of a step's own caller is true of the caller whose step it is.
+-- A statement about a step's caller, by the caller's number.
 of_owner : (P : ℕ → Type 0) (d c : ℕ) → Some (Caller d) ≡ Some (Caller c) → P d → P c
 of_owner P d c same p = let is : d ≡ c = cc (same) in subst P is p
 
--- An Ask locks its stripe only where stripes are no words.
+-- An Ask locks its stripe only if stripes are not words.
 no_words : (words : Bool) → (words ≡ true → true ≡ false) → words ≡ false
 no_words true claims = absurd (false≢true (sym (claims refl)))
 no_words false claims = refl
@@ -60,7 +60,7 @@ module _ (w : World) (tells : Tells w) (x : Session) (y : Session) (t' : TableAt
   asked_with c op at none within (answers.Refused refusal) does = ask_refused w tells c x at op none Right refusal (λ move. inr (refl, move)) y t' locks' does.0 does.1 does.2 does.3
   asked_with c op at none within _ does = absurd does
 
-  -- An operation that is asked for, by each claim.
+  -- The outcome of an operation that is asked for, by each claim.
   asked_by : (claim : Claim) (c : ℕ) (op : Op) → slice_get w.sessions c ≡ Some x → refusal_of (state_of w) (steps.Ask c op) ≡ None → stripe_of w.limits.stripes (key_of op) < w.limits.stripes → IsClaim claim (state_of w) (steps.Ask c op) → (answer : Answer)
       → AsksBy claim c (stripe_of w.limits.stripes (key_of op)) op x w.table w.locks answer y t' locks' → CalledBy claim w c x (steps.Ask c op) answer y t' locks'
   asked_by Lock c op at none within claims answer does = asked c op at none within (no_words w.words claims) answer does
@@ -87,7 +87,7 @@ module _ (w : World) (tells : Tells w) (x : Session) (y : Session) (t' : TableAt
   saved_here c at none (answers.Refused refusals.NoMemory) does table same = save_refused w tells c x at none y t' locks' does table same
   saved_here c at none _ does table same = absurd does
 
-  -- What each step that claims no word comes to.
+  -- The outcome of each step that claims no word.
   locked : (c : ℕ) (step : Step) → owner_of step ≡ Some (Caller c) → slice_get w.sessions c ≡ Some x → refusal_of (state_of w) step ≡ None → 0 < w.limits.stripes → IsClaim Lock (state_of w) step → (answer : Answer)
       → Does Lock w.limits.stripes w.counts step x w.table w.locks answer y t' locks' → Called w c x step answer y t' locks'
   locked c (steps.Begin d) owner at none some claims answer does = of_owner (λ k. Called w k x (steps.Begin d) answer y t' locks') d c owner (begun answer does)
@@ -126,7 +126,7 @@ module _ (w : World) (tells : Tells w) (x : Session) (y : Session) (t' : TableAt
       gone _ does = absurd does
   locked c _ owner at none some claims answer does = absurd does
 
-  -- What each step comes to, by its claim.
+  -- The outcome of each step, by its claim.
   pub called : (claim : Claim) (c : ℕ) (step : Step) → owner_of step ≡ Some (Caller c) → slice_get w.sessions c ≡ Some x → refusal_of (state_of w) step ≡ None → 0 < w.limits.stripes → IsClaim claim (state_of w) step → (answer : Answer)
       → Does claim w.limits.stripes w.counts step x w.table w.locks answer y t' locks' → CalledBy claim w c x step answer y t' locks'
   called Lock c step owner at none some claims answer does = locked c step owner at none some claims answer does
@@ -140,7 +140,7 @@ module _ (w : World) (tells : Tells w) (x : Session) (y : Session) (t' : TableAt
       (asked_by Stale d op (of_owner (λ k. slice_get w.sessions k ≡ Some x) c d (sym owner) at) none (grind arith) claims answer does)
   called Stale c _ owner at none some claims answer does = absurd claims
 
--- What the side of a caller is asked for, where nothing refuses its step.
+-- The requirements of a step on its caller's side, if nothing refuses it.
 pub takes : (w : World) → Tells w → (c : ℕ) (x : Session) → slice_get w.sessions c ≡ Some x → (step : Step) → owner_of step ≡ Some (Caller c) → refusal_of (state_of w) step ≡ None
     → w.limits.callers ≤ 64 → 0 < w.limits.stripes → w.counts.began < 2 ^ 63 → w.counts.committed < 2 ^ 63 → Takes w.limits.stripes w.counts step x w.table w.locks
 takes w tells c x at step owner none callers some began done = record {
@@ -180,7 +180,7 @@ takes w tells c x at step owner none callers some began done = record {
     rejoin : (a b n out : ℕ) → b + a ≤ n → n ≡ out → n - a + a ≡ out
     rejoin a b n out most exact = omega arith
 
--- A step that is answered `Placed` leaves its caller a cursor.
+-- A step with the answer `Placed` leaves its caller a cursor.
 pub placed_cursor : (claim : Claim) (stripes : ℕ) (counts : Counts) (step : Step) (x : Session) (t : TableAt) (locks : List (Option ℕ)) (answer : Answer) (y : Session) (t' : TableAt) (locks' : List (Option ℕ)) → Does claim stripes counts step x t locks answer y t' locks' → answer ≡ answers.Placed → is_some y.cursor ≡ true
 placed_cursor claim stripes counts step x t locks answer y t' locks' does is = at step (subst (λ a. Does claim stripes counts step x t locks a y t' locks') is does)
   where

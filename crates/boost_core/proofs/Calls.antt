@@ -1,4 +1,5 @@
--- Several steps of one caller with none of another between: none is refused where the first is not, and none is answered `again`.
+-- Several steps of one caller in a row: no later one is refused if the first is not, and none has
+-- the answer `again`.
 use Rattle.std.proofs.Common.{◌≡◌, ℕ, ◌-◌, ◌^◌, ◌<◌, ◌≤◌, ◌==◌, ◌&&◌, ◌||◌, Bool, true, false, cond, List, [], ◌∷◌, ◌++◌, Option, Some, None, is_some, refl, sym, ap, subst, ◌∙◌, arith}
 use Rattle.std.specs.Prelude.{nat_le, nat_lt, not, unwrap_or, slice_index}
 use Rattle.std.specs.List.{All}
@@ -45,7 +46,7 @@ seat_pushed h h' c e seat' is mine there goes =
     (ap (λ (g : List Entry). seat_after (own c g)) is ∙ ap seat_after (own-push_in c h e mine) ∙ seat_after-push (own c h) e
     ∙ ap (option_and_then (λ (s : Seat). row s s.phase e)) (seat_there h c there) ∙ goes)
 
--- A step that does not refuse.
+-- A step that nothing refuses has no refusal as its answer.
 pub never_refused : (state : State) (step : Step) (refusal : Refusal) → refusal_of state step ≡ None → (refusal_of state step ≡ Some refusal) ⊎ ((refusal_of state step ≡ None) × MayLack state step refusal) → MayLack state step refusal
 never_refused state step refusal none (inl is) = absurd (let both : None ≡ Some refusal = sym none ∙ is in cc)
 never_refused state step refusal none (inr lack) = lack.1
@@ -82,7 +83,7 @@ and_none : (b : Bool) → (b && false) ≡ false
 and_none true = refl
 and_none false = refl
 
--- An operation that waits is done, where its cursor was placed last.
+-- An operation that waits is done, if its cursor was placed last.
 pub act_does : (old new : State) (c : ℕ) (op : Op) (answer : Answer) → nat_le old.limits.callers c ≡ false → (seat_in old.history c).phase ≡ Waiting op → is_some (caller_changes old.cursors c) ≡ true → old.placed ≡ Some (Caller c)
     → Move old (Act c) answer new → (reply : Option ℕ) × (answer ≡ Done reply)
 act_does old new c op answer within waits cursor placed move = at answer move
@@ -102,7 +103,7 @@ act_does old new c op answer within waits cursor placed move = at answer move
     at Aborted move = absurd (false≢true (sym (ap is_at_end waits) ∙ (and_parts (not (has_job (seat_in old.history c))) (is_at_end (seat_in old.history c).phase) move.allowed.1).1))
     at _ move = absurd move.allowed.1
 
--- A caller that takes changes back and has none left is where it leaves to.
+-- A caller that takes changes back and has none left has arrived at its level or at the end.
 no_reply : (q : Phase) (m : Map) (reply : Option ℕ) → is_leaving q ≡ true → IsReply q m reply → ⊥
 no_reply Closed m reply leaves is = is
 no_reply Opened m reply leaves is = is
@@ -150,7 +151,7 @@ act_ends old new c answer within leaves rests move = at answer move
     at Aborted move = at_end (seat_in old.history c).phase (and_parts (not (has_job (seat_in old.history c))) (is_at_end (seat_in old.history c).phase) move.allowed.1).1
     at _ move = absurd move.allowed.1
 
--- The newest change is taken back, where its cursor was placed last.
+-- The newest change is taken back, if its cursor was placed last.
 pub act_undoes : (old new : State) (c : ℕ) (answer : Answer) → nat_le old.limits.callers c ≡ false → is_leaving (seat_in old.history c).phase ≡ true → has_job (seat_in old.history c) ≡ true → is_some (caller_changes old.cursors c) ≡ true → old.placed ≡ Some (Caller c)
     → Move old (Act c) answer new → answer ≡ Undone
 act_undoes old new c answer within leaves job cursor placed move = at answer move
@@ -176,7 +177,7 @@ row_undone s (LeavingTo n) c leaves job =
     (ap (λ b. cond b (Some (record s { standing = s.standing - 1 })) None) job, omega arith)
 row_undone s LeavingToEnd c leaves job = (ap (λ b. cond b (Some (record s { standing = s.standing - 1 })) None) job, ltb-true 0 s.standing job)
 
--- What is true after a change was sought and taken back.
+-- The states and answers when a change was sought and taken back.
 pub record TookBack (old between new : State) (c : ℕ) (first second : Answer) : Type 0 where
   pub placed : first ≡ Placed
   pub undone : second ≡ Undone
@@ -235,7 +236,8 @@ operated old asked sought new c op first second asks seeks cursor acts =
     let done = act_does sought new c op second (ap (λ (s : State). nat_le s.limits.callers c) seeks_so.move.state ∙ within) (ap (λ (s : Seat). s.phase) same ∙ waits) (cursor is_placed) (ap (λ (s : State). s.placed) seeks_so.move.state) acts.move in
     done_so old asked sought new c op second done.0 done.1 asks seeks_so acts
 
--- An operation that is not granted, and what is refused of a return to a level and of an abort: the first step is all.
+-- An operation that is not granted, a return to a level that is refused, or an abort that is
+-- refused: the first step is the whole call.
 pub stopped : (old new : State) (c : ℕ) (op : Op) (answer : Answer) → (answer ≡ Asked → ⊥) → Event old (Ask c op) answer new → Operates old c op answer new
 stopped old new c op Asked other event = absurd (other refl)
 stopped old new c op (Done reply) other event = absurd event.move.allowed.1
@@ -251,7 +253,7 @@ unaborted old new c Leaving other there event = absurd (other refl)
 unaborted old new c Aborted other there event = absurd event.move.allowed.1
 unaborted old new c _ other there event = (there, event)
 
--- A caller without a transaction, by its number alone.
+-- A caller whose number is too high has no entries.
 own_none : (callers c : ℕ) (h : List Entry) → All (λ e. caller_of e < callers) h → callers ≤ c → own c h ≡ []
 own_none callers c [] all past = refl
 own_none callers c (e ∷ h) all past =

@@ -1,4 +1,5 @@
--- An operation that is asked for where stripes are words: what a stale right comes to, and what a word does.
+-- An operation that is asked for when stripes are words: the outcome with a stale right, and with a
+-- word.
 use Rattle.std.proofs.Common.{◌≡◌, ℕ, ◌<◌, ◌==◌, ◌&&◌, ◌||◌, Bool, true, false, cond, List, [], ◌∷◌, ◌++◌, length, Option, Some, None, refl, sym, ap, subst, ◌∙◌, arith}
 use Rattle.std.specs.Prelude.{slice_get, slice_set, map, not, if◌then◌else◌}
 use Rattle.std.specs.Option.{option_map}
@@ -41,7 +42,7 @@ use Rattle.boost_core.proofs.Quiet.{quiet, log_is}
 use Rattle.boost_core.proofs.HelperGaps.{fits_if, fits_by, cursors_stay}
 use Rattle.boost_core.proofs.Asking.{opened, nothing, no_cursor_there, busy_runs, busy_covered, busy_stamped, lacking_called}
 
--- Whether a cursor fits is seen from the nodes alone, and so is where it stands.
+-- Whether a cursor fits depends only on the nodes, and so does its position.
 pub same_fits : (t t' : TableAt) (cursor : Cursor) → nodes_of t' ≡ nodes_of t → fits t' cursor ≡ fits t cursor
 unfolding list_fits
 same_fits t t' cursor same = λ i. is_noted (node_of (same i) (pred_of cursor)) cursor.pred.stamp && is_next_noted (next_of (same i) (pred_of cursor)) cursor.cur
@@ -50,7 +51,7 @@ pub same_gap : (t t' : TableAt) (o : Option Cursor) → nodes_of t' ≡ nodes_of
 same_gap t t' None same = refl
 same_gap t t' (Some cursor) same = λ i. cond (same_fits t t' cursor same i) (gap_at (node_of (same i) (pred_of cursor)) (next_of (same i) (pred_of cursor))) None
 
--- A helper's cursor fits still, where the nodes and the buckets are as they were.
+-- A helper's cursor still fits if the nodes and the buckets are unchanged.
 same_helper : (t t' : TableAt) (h : ℕ) → nodes_of t' ≡ nodes_of t → t'.buckets ≡ t.buckets → helper_fits t' h ≡ helper_fits t h
 same_helper t t' h same buckets = fits_by t' h ∙ ap (fits_if t') (cursors_stay t t' h buckets) ∙ at (helper_cursor t h) ∙ sym (fits_by t h)
   where
@@ -62,7 +63,7 @@ module _ (w : World) (tells : Tells w) (c : ℕ) (x : Session) (at : slice_get w
   abbrev stripe : ℕ
   stripe = stripe_of w.limits.stripes (key_of op)
 
-  -- A right, where another caller holds the stripe.
+  -- A right to a stripe that another caller holds.
   module _ (holder : ℕ) (y : Session) (t' : TableAt) (locks' : List (Option ℕ)) (meets : MeetsIn c stripe op holder x w.table w.locks y t' locks') (keeps : KeepsPlaced w.table t') (within : stripe < w.limits.stripes) where
     same_nodes : nodes_of t' ≡ nodes_of w.table
     same_nodes = meets.back.nodes.all ∙ meets.prepares.nodes.all
@@ -100,7 +101,7 @@ module _ (w : World) (tells : Tells w) (c : ℕ) (x : Session) (at : slice_get w
       | inr other ↦ fresh s cursor other.1 had
     ])
 
-    -- The state is as it was, but for the last stamp.
+    -- Only the last stamp of the state has changed.
     stale_state : (seat' : RoomySeat) → state_of (world_after w c (seated_as y seat') (w.history ++ []) w.counts t' locks' w.placed)
         ≡ record (state_of w) { stamp = last_of t'; nodes = nodes_at t'; gaps = map (gap_by t') (slice_set w.sessions c (seated_as y seat')); helper_gaps = helper_gaps_of t' }
     stale_state seat' =
@@ -140,7 +141,7 @@ module _ (w : World) (tells : Tells w) (c : ℕ) (x : Session) (at : slice_get w
     fresh = λ seat'. tt;
   }
 
-  -- A word that names nobody who may.
+  -- A word that names no caller that may hold the stripe.
   pub word_stale_called : CalledBy Stale w c x (steps.Ask c op) (answers.Refused StaleWord) x w.table w.locks
   word_stale_called = lacking_called w tells c x at Stale (steps.Ask c op) StaleWord
       (inl (record { refused = refl; free = none; stale = refl; state = refl; stamp = omega arith; one_stamp = omega arith }))

@@ -1,4 +1,5 @@
--- A caller's call for help, move by move: what is true in each phase of its drive, and how far it has to go.
+-- A caller's call for help, move by move: the invariant of each phase of its drive, and the number
+-- of steps left.
 use Rattle.std.proofs.Common.{◌≡◌, ℕ, ◌+◌, ◌*◌, ◌-◌, ◌^◌, ◌%◌, ◌<◌, ◌≤◌, ◌==◌, ◌&&◌, Bool, true, false, if◌then◌else◌, List, [], ◌∷◌, length, Option, Some, None, refl, sym, ap, subst, ◌∙◌, arith}
 use Rattle.std.specs.Prelude.{nat_le, nat_lt, not, unwrap_or, slice_set}
 use Rattle.std.proofs.lemmas.Bool.{false≢true, eq-eqb, eqb-true, lt-ltb}
@@ -28,7 +29,7 @@ use Rattle.boost_core.proofs.Refused.{index_at, le_false, le_false_lt}
 use Rattle.boost_core.proofs.Calls.{never_refused}
 use Rattle.boost_core.proofs.Ways.{rises}
 
--- The way leads to the key's bucket, and what lies above its next bucket is initialised.
+-- The way leads to the key's bucket, and the ancestors of its next bucket are initialised.
 pub record OnWay (state : State) (key : ℕ) (way : Way) : Type 0 where
   pub target : way.target ≡ key % state.size
   pub inside : way.target < state.size
@@ -37,14 +38,14 @@ pub record OnWay (state : State) (key : ℕ) (way : Way) : Type 0 where
   pub below : way.bucket ≤ way.target
   pub parent : is_set state.stored (parent_of way.bucket) ≡ true
 
--- How a call for help may be refused once it has begun, or for its key.
+-- The refusals of a call for help, at its start or later.
 abbrev pub MayEnd : Refusal → Type 0
 MayEnd refusals.BadKey = Unit {0}
 MayEnd refusals.NoMemory = Unit {0}
 MayEnd refusals.StampsUsedUp = Unit {0}
 MayEnd refusal = ⊥
 
--- What is true in each phase.
+-- The invariant of each phase.
 abbrev pub Fits : State → ℕ → ℕ → Phase → Type 0
 Fits state c key (phases.Doubling seen) = Unit {0}
 Fits state c key (phases.Initialising way again) = OnWay state key way
@@ -55,7 +56,7 @@ Fits state c key phases.Helped = is_set state.stored (key % state.size) ≡ true
 Fits state c key (phases.Refused refusal) = MayEnd refusal
 Fits state c key phase = ⊥
 
--- At most so many steps are left.
+-- The number of steps left is at most this.
 abbrev pub left : Phase → ℕ
 left (phases.Doubling seen) = 3 * 2 ^ 32 + 4
 left (phases.Initialising way again) = 3 * (way.target - way.bucket) + 3
@@ -63,7 +64,7 @@ left (phases.Linking way again) = 3 * (way.target - way.bucket) + 2
 left (phases.Storing way) = 3 * (way.target - way.bucket) + 1
 left phase = 0
 
--- The next phase fits, and fewer steps are left.
+-- The next phase keeps its invariant, and fewer steps are left.
 pub record Goes (state : State) (c key bound : ℕ) (phase : Phase) : Type 0 where
   pub fits : Fits state c key phase
   pub fewer : left phase < bound
@@ -81,7 +82,7 @@ way_stays state new key way size stored on = record {
   parent = ap (λ s. is_set s (parent_of way.bucket)) stored ∙ on.parent;
 }
 
--- Once a bucket on the way is initialised.
+-- After a bucket on the way is initialised.
 towards_goes : (state : State) (c key last target : ℕ) → target ≡ key % state.size → target < state.size → target < 2 ^ 32 → IsAncestor last target → last ≤ target → is_set state.stored last ≡ true
     → Goes state c key (3 * (target - last) + 1) (towards last target)
 towards_goes state c key last target is inside small ancestor most stored = at (last == target) refl
@@ -140,7 +141,7 @@ and_none : (b : Bool) → (b && false) ≡ false
 and_none true = refl
 and_none false = refl
 
--- What a helper has that was set.
+-- The state of a helper after it was set.
 help_there : (helpers : List Help) (c : ℕ) (help : Help) → c < length helpers → help_in (slice_set helpers c help) c ≡ help
 help_there helpers c help within =
     let long = length-set helpers c help in
@@ -151,7 +152,7 @@ set_there stored bucket within =
     let long = length-set stored bucket true in
     ap (λ (o : Option Bool). unwrap_or o false) (index_at (slice_set stored bucket true) bucket true (omega arith) (sym (get_or-set_same stored bucket true true within)))
 
--- After a bucket's dummy was sought.
+-- After the position of a bucket's dummy was sought.
 sought_goes : (state new : State) (c key again : ℕ) (way : Way) (answer : Answer) → nat_le state.limits.callers c ≡ false → c < length state.helpers → OnWay state key way → Move state (steps.InitSeek c way.bucket) answer new
     → Goes new c key (3 * (way.target - way.bucket) + 3) (told_init_seek way again answer)
 sought_goes state new c key again way answer within there on move = at answer move
@@ -182,7 +183,7 @@ sought_goes state new c key again way answer within there on move = at answer mo
     }
     at _ move = absurd move.allowed.1
 
--- A link or a store may want memory, a link a stamp.
+-- A link may be refused memory or a stamp, and a store memory.
 link_lacks : (state new : State) (c key bound : ℕ) (refusal : Refusal) → 0 < bound → MayLack state (steps.InitLink c) refusal → Goes new c key bound (refused_help refusal)
 link_lacks state new c key bound refusals.NoMemory some lack = record { fits = tt; fewer = some }
 link_lacks state new c key bound refusals.StampsUsedUp some lack = record { fits = tt; fewer = some }
@@ -200,7 +201,7 @@ just_placed state c placed = at (owner_changes state (Helper c))
     at None = refl
     at (Some noted) = ap (λ (o : Option Owner). not (is_just_placed (Helper c) o) && not (noted == state.changes && nat_lt noted (2 ^ 64 - 1))) placed ∙ ap (λ b. not b && not (noted == state.changes && nat_lt noted (2 ^ 64 - 1))) (eq-eqb c c refl)
 
--- After the dummy was to be linked.
+-- After the answer to linking the dummy.
 linked_goes : (state new : State) (c key again noted : ℕ) (way : Way) (answer : Answer) → nat_le state.limits.callers c ≡ false → c < length state.helpers → OnWay state key way → help_in state.helpers c ≡ Sought way.bucket noted → state.placed ≡ Some (Helper c)
     → Move state (steps.InitLink c) answer new → Goes new c key (3 * (way.target - way.bucket) + 2) (told_link way again answer)
 linked_goes state new c key again noted way answer within there on has placed move = at answer move
@@ -224,7 +225,7 @@ linked_goes state new c key again noted way answer within there on has placed mo
     at answers.Linked move = holds new (ap (λ (s : State). s.size) move.state) (ap (λ (s : State). s.stored) move.state) (ap (λ (s : State). s.helpers) move.state)
     at _ move = absurd move.allowed.1
 
--- After the dummy was to be stored.
+-- After the answer to storing the dummy.
 stored_goes : (state new : State) (c key : ℕ) (way : Way) (answer : Answer) → nat_le state.limits.callers c ≡ false → state.size ≤ length state.stored → OnWay state key way → help_in state.helpers c ≡ Dummy way.bucket
     → Move state (steps.InitStore c) answer new → Goes new c key (3 * (way.target - way.bucket) + 1) (told_store way answer)
 stored_goes state new c key way answer within many on has move = at answer move
@@ -246,7 +247,8 @@ stored_goes state new c key way answer within many on has move = at answer move
 many_helpers : (state : State) (c : ℕ) → IsWhole state → nat_le state.limits.callers c ≡ false → c < length state.helpers
 many_helpers state c whole within = let less = le_false_lt state.limits.callers c within in let count = whole.helpers in omega arith
 
--- A step of the drive, its answer told: the next phase fits, and fewer steps are left.
+-- After a step of the drive and its answer, the next phase keeps its invariant, and fewer steps are
+-- left.
 pub goes : (state new : State) (c key : ℕ) (phase : Phase) (step : Step) (answer : Answer) → IsWhole state → state.limits.buckets ≤ 65536 → nat_le state.limits.callers c ≡ false → Fits state c key phase
     → step_in c (calls.Help key) (sized_in state.size phase) ≡ Some step → Move state step answer new → Goes new c key (left phase) (told_in (calls.Help key) (sized_in state.size phase) answer)
 goes state new c key (phases.Doubling seen) step answer whole most within fits is move =
@@ -265,7 +267,7 @@ goes state new c key phases.Helped step answer whole most within fits is move = 
 goes state new c key (phases.Refused refusal) step answer whole most within fits is move = absurd (cc is)
 goes state new c key phase step answer whole most within fits is move = absurd fits
 
--- A new drive's phase fits.
+-- The phase of a new drive keeps its invariant.
 pub fits_first : (state : State) (c key : ℕ) → Fits state c key (first_phase state.limits.half (calls.Help key))
 fits_first state c key = at (is_bad_key state.limits.half key)
   where

@@ -1,4 +1,4 @@
--- What callers have to take back stays due while others work on other keys.
+-- The jobs of a caller stay due while others work on other keys.
 use Rattle.std.proofs.Common.{◌≡◌, ℕ, ◌+◌, ◌==◌, true, false, cond, List, [], ◌∷◌, ◌++◌, length, Option, Some, None, is_some, refl, sym, ap, subst, ◌∙◌}
 use Rattle.std.specs.Prelude.{IsSome, map, reverse, option_to_list, nat_eq}
 use Rattle.std.specs.Option.{option_eq}
@@ -21,7 +21,7 @@ use Rattle.map_ops.specs.declared.job.MapJob.TheVariants.{Unput, Restore, Relink
 use Rattle.map_ops.specs.Jobs.{takes_node, key_of_job, value_before, IsDue, unput, relink, job_of}
 use Rattle.boost_core.specs.Sessions.{change_of, changes_of, AreDue}
 
--- Each job is of a key that passes.
+-- Each job is of a key that passes the test.
 abbrev pub AllOf : (ℕ → Type 0) → List MapJob → Type 0
 AllOf P jobs = AllByRecursion (λ (job : MapJob). P (key_of_job job)) jobs
 
@@ -37,7 +37,7 @@ is_due_same m m' (Relink k old spare) same due = same ∙ due
 set_at_same : (m m' : Map) (j : ℕ) (o : Option ℕ) (k : ℕ) → get m' k ≡ get m k → get (set_at m' j o) k ≡ get (set_at m j o) k
 set_at_same m m' j o k same = get-set_at m' j o k ∙ ap (cond (k == j) o) same ∙ sym (get-set_at m j o k)
 
--- Jobs stay due where the keys that they name stay.
+-- Jobs stay due if the values of their keys are unchanged.
 pub due_same : (P : ℕ → Type 0) (m m' : Map) (jobs : List MapJob) → ((k : ℕ) → P k → get m' k ≡ get m k) → AllOf P jobs → AreDue m jobs → AreDue m' jobs
 due_same P m m' [] same all due = tt
 due_same P m m' (job ∷ jobs) same all due = (
@@ -45,20 +45,20 @@ due_same P m m' (job ∷ jobs) same all due = (
   due_same P (set_at m (key_of_job job) (value_before job)) (set_at m' (key_of_job job) (value_before job)) jobs (λ k passes. set_at_same m m' (key_of_job job) (value_before job) k (same k passes)) all.1 due.1,
 )
 
--- A key with the value that it had before an operation: the map before it.
+-- To set the key of an operation to its value before restores the map before it.
 pub set_at-after : (m : Map) (op : Op) → set_at (after m op) (key_of op) (reply_of m op) ≡ m
 set_at-after m op = same_map (set_at (after m op) (key_of op) (reply_of m op)) m (λ q. get-set_at (after m op) (key_of op) (reply_of m op) q ∙ elim (cases_eq q (key_of op)) [
   | inl same ↦ ap (λ b. cond b (reply_of m op) (get (after m op) q)) (eq-eqb q (key_of op) same) ∙ ap (get m) (sym same)
   | inr other ↦ ap (λ b. cond b (reply_of m op) (get (after m op) q)) (ne_eqb q (key_of op) other) ∙ get-after_other m op q other
 ])
 
--- What an operation's job says of the operation: its key, the value before it, and that it is due.
+-- The job of an operation: its key is the operation's, its value the one before, and it is due.
 pub record Noted (m : Map) (op : Op) (spare : Option SpareAt) (job : MapJob) : Type 0 where
   pub change : change_of job ≡ (key_of op, reply_of m op)
   pub is_change : changes op (reply_of m op) ≡ true
   pub due : IsDue (after m op) job
 
--- An operation notes a job, or is no change.
+-- An operation leaves a job, or is no change.
 abbrev pub NotedIf : Map → Op → Option SpareAt → Option MapJob → Type 0
 NotedIf m op spare None = changes op (reply_of m op) ≡ false
 NotedIf m op spare (Some job) = Noted m op spare job
@@ -88,7 +88,7 @@ noted m (PutIf k expected v) spare there = elim (cases_Bool (option_eq nat_eq (g
   | inr same ↦ subst (NotedIf m (PutIf k expected v) spare) (sym (ap (λ b. cond b (unput k (get m k)) None) same)) same
 ]
 
--- The changes of a caller with one job more, or the same.
+-- The changes of a caller with one more job, or the same.
 pub changes_noted : (m : Map) (op : Op) (spare : Option SpareAt) (jobs : List MapJob) (job : Option MapJob) → NotedIf m op spare job
     → cond (changes op (reply_of m op)) ((key_of op, reply_of m op) ∷ changes_of jobs) (changes_of jobs) ≡ changes_of (jobs ++ option_to_list job)
 changes_noted m op spare jobs None is = ap (λ b. cond b ((key_of op, reply_of m op) ∷ changes_of jobs) (changes_of jobs)) is ∙ ap changes_of (sym (append-nil jobs))
@@ -104,7 +104,7 @@ standing_noted m op spare jobs (Some job) is = ap (λ b. cond b (length jobs + 1
 no_change : (m : Map) (op : Op) → changes op (reply_of m op) ≡ false → after m op ≡ m
 no_change m op same = after_unchanged m op (sym (changes-reply m op) ∙ same)
 
--- After the operation all is due that was, and its job before it.
+-- After an operation its job is due, and then all that were due before.
 pub due_noted : (m : Map) (op : Op) (spare : Option SpareAt) (jobs : List MapJob) (job : Option MapJob) → NotedIf m op spare job → AreDue m (reverse jobs) → AreDue (after m op) (reverse (jobs ++ option_to_list job))
 due_noted m op spare jobs None is due = subst (λ (js : List MapJob). AreDue (after m op) (reverse js)) (sym (append-nil jobs)) (subst (λ n. AreDue n (reverse jobs)) (sym (no_change m op is)) due)
 due_noted m op spare jobs (Some job) is due =

@@ -1,4 +1,4 @@
--- The seek of a caller, and an act at a cursor that fits no longer.
+-- The seek of a caller, and an act at a cursor that no longer fits.
 use Rattle.std.proofs.Common.{◌≡◌, ℕ, ◌+◌, ◌-◌, ◌^◌, ◌<◌, ◌≤◌, ◌==◌, ◌&&◌, Bool, true, false, [], ◌++◌, length, Option, Some, None, refl, sym, ap, subst, ◌∙◌}
 use Rattle.std.specs.Prelude.{slice_get, slice_set, map, nat_lt, not}
 use Rattle.std.specs.Option.{option_map}
@@ -29,7 +29,7 @@ module _ (w : World) (tells : Tells w) (c : ℕ) (x : Session) (at : slice_get w
   here : seat_in w.history c ≡ x.seat.seat
   here = seat_here w tells c x at
 
-  -- What a caller acts on next is sought.
+  -- The caller's seek of the key that it acts on next.
   pub sought_called : refusal_of (state_of w) (steps.Seek c) ≡ None → (y : Session) (t' : TableAt) → SeeksIn x w.table y t' → KeepsPlaced w.table t' → table_changes w.table ≤ table_changes t' → Called w c x (steps.Seek c) answers.Placed y t' w.locks
   sought_called none y t' seeks keeps rises =
       let runs = keeps_runs w.table t' seeks.places.keeps rises in

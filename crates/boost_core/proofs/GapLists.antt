@@ -1,4 +1,4 @@
--- Two nodes that stand side by side, before and after a change of the list.
+-- Two neighbouring nodes, before and after a change of the list.
 use Rattle.std.proofs.Common.{◌≡◌, ℕ, ◌==◌, Bool, true, false, cond, inl, inr, List, [], ◌∷◌, Some, refl, sym, ap, subst, ◌∙◌, arith}
 use Rattle.std.specs.Prelude.{nat_lt}
 use Rattle.std.specs.List.{AllByRecursion}
@@ -11,14 +11,14 @@ use Rattle.list_steps.specs.Steps.{without_first_marked}
 use Rattle.boost_core.specs.State.{SortKey}
 use Rattle.boost_core.proofs.NodeLists.{node_here, node_later, none_of_none}
 
--- A node that is linked and unmarked is linked there still, with its stamp.
+-- A node that is linked and unmarked is still linked at its place, with its stamp.
 pub record IsStill (nodes : List NodeAt) (place : ℕ) (n : NodeAt) : Type 0 where
   pub node : NodeAt
   pub is : node_of nodes place ≡ Some node
   pub at : node.at ≡ n.at
   pub stamp : node.stamp ≡ n.stamp
 
--- So it is of each unmarked node.
+-- This holds of each unmarked node.
 abbrev pub Stay : List NodeAt → List NodeAt → Type 0
 Stay old new = (place : ℕ) (n : NodeAt) → node_of old place ≡ Some n → n.marked ≡ false → IsStill new place n
 
@@ -33,7 +33,7 @@ found_later : (m : NodeAt) (rest : List NodeAt) (place : ℕ) → (m.place == pl
 unfolding node_of
 found_later m rest place apart = rw apart refl
 
--- Where one node is put before both.
+-- It holds with one node put before both lists.
 stay_cons : (m : NodeAt) (old new : List NodeAt) → Stay old new → Stay (m ∷ old) (m ∷ new)
 stay_cons m old new stay place n is live = elim (cases_Bool (m.place == place)) [
   | inl here ↦ record { node = m; is = found_here m new place here; at = ap (λ k. k.at) (node_here m old place n is here); stamp = ap (λ k. k.stamp) (node_here m old place n is here) }
@@ -42,7 +42,7 @@ stay_cons m old new stay place n is live = elim (cases_Bool (m.place == place)) 
       record { node = still.node; is = found_later m new place apart ∙ still.is; at = still.at; stamp = still.stamp }
 ]
 
--- Where a marked node is left out.
+-- It holds when a marked node is left out.
 stay_without : (m : NodeAt) (old new : List NodeAt) → m.marked ≡ true → Stay old new → Stay (m ∷ old) new
 stay_without m old new gone stay place n is live = elim (cases_Bool (m.place == place)) [
   | inl here ↦ absurd (false≢true (sym live ∙ sym (ap (λ k. k.marked) (node_here m old place n is here)) ∙ gone))
@@ -65,7 +65,7 @@ stay_changed (m ∷ rest) place change same = elim (cases_Bool (m.place == place
   | inr later ↦ rw later (stay_cons m rest (changed_at rest place change) (stay_changed rest place change same))
 ]
 
--- What is at a place, and what stands behind it, is of the list.
+-- A node at a place, and the node behind it, are nodes of the list.
 pub each_at : (P : NodeAt → Type 0) (nodes : List NodeAt) (place : ℕ) (n : NodeAt) → AllByRecursion P nodes → node_of nodes place ≡ Some n → P n
 each_at P [] place n each is = absurd (none_of_none place n is)
 each_at P (m ∷ rest) place n each is = elim (cases_Bool (m.place == place)) [
@@ -103,7 +103,7 @@ each_next P (m ∷ rest) place n each is = elim (cases_Bool (m.place == place)) 
   | inr apart ↦ each_next P rest place n each.1 (sym (next_later m rest place apart) ∙ is)
 ]
 
--- Of nodes at places of their own, the one behind a place is found at its own.
+-- If nodes have different places, the node behind a place is found at its place.
 absent_found : (nodes : List NodeAt) (place : ℕ) (n : NodeAt) → AbsentFrom place nodes → node_of nodes place ≡ Some n → ⊥
 absent_found nodes place n absent is = each_at (λ m. m.place ≡ place → ⊥) nodes place n absent is (place_at nodes place n is)
 
@@ -156,7 +156,7 @@ stay_behind x rest absent place n is live = record {
   stamp = refl;
 }
 
--- A node more stays out of the way of the others, where all have places of their own.
+-- If nodes have different places, one more node changes none of the others.
 pub stay_linked : (nodes : List NodeAt) (place : ℕ) (x : NodeAt) → IsSpread (linked_after nodes place x) → Stay nodes (linked_after nodes place x)
 unfolding linked_after
 stay_linked [] place x spread = stay_same [] [] refl
@@ -223,7 +223,7 @@ first_one (k ∷ rest) q n m rising next is same =
       | inr apart ↦ absurd (apart_keys n.at m.at (sym same) (subst (λ j. IsBefore j.at m.at) k_is (each_at (IsNodeBefore k) rest q m rising.0 (node_later k rest q (Some m) is apart))))
     ]
 
--- In a list that rises nodes of one sort key are one.
+-- In a list that rises, two nodes of one sort key are the same.
 pub one_of_key : (nodes : List NodeAt) (p q : ℕ) (n m : NodeAt) → IsRising nodes → next_of nodes p ≡ Some n → node_of nodes q ≡ Some m → m.at ≡ n.at → m ≡ n
 unfolding IsRising
 one_of_key [] p q n m rising next is same = absurd (next_none p n next)

@@ -1,4 +1,4 @@
--- What each step that is no caller's does to the cursors.
+-- The effect of each step that is no caller's on the cursors.
 use Rattle.std.proofs.Common.{◌≡◌, ◌≢◌, ℕ, Some, None, Result, Ok, Err, refl, sym, ap, subst, ◌∙◌}
 use Rattle.std.specs.Prelude.{slice_get, slice_index_or}
 use Rattle.split_key.specs.Sort.{dummy_at}

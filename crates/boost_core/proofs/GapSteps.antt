@@ -1,4 +1,4 @@
--- What each step of a caller does to the cursors.
+-- The effect of each step of a caller on the cursors.
 use Rattle.std.proofs.Common.{◌≡◌, ◌≢◌, ℕ, inl, inr, List, length, set, Option, Some, is_some, sym, ap, subst, ◌∙◌, arith}
 use Rattle.std.specs.Prelude.{map, slice_get, slice_set}
 use Rattle.std.proofs.lemmas.Bool.{cases_lt}
@@ -33,11 +33,11 @@ use Rattle.boost_core.proofs.HelperGaps.{cursors_stay, helper_kept}
 use Rattle.boost_core.proofs.Claims.{same_gap}
 use Rattle.boost_core.proofs.Staying.{does_stay, does_buckets}
 
--- A state that is seen another way.
+-- The cursors after a step of an equal state.
 pub cursors_of : (state old new : State) (step : Step) (answer : Answer) → state ≡ old → Cursors state step answer new → Cursors old step answer new
 cursors_of state old new step answer is cursors = subst (λ s. Cursors s step answer new) is cursors
 
--- A refusal leaves the cursors.
+-- A refusal leaves the cursors unchanged.
 refused_fits : (old new : State) (step : Step) (c : ℕ) (refusal : Refusal) → owner_of step ≡ Some (Caller c) → Fits old step (answers.Refused refusal) new
 refused_fits old new (steps.Seek d) c refusal owner = tt
 refused_fits old new (steps.Act d) c refusal owner = tt
@@ -47,7 +47,7 @@ refused_fits old new _ c refusal owner = tt
 pub refused : (old new : State) (step : Step) (c : ℕ) (refusal : Refusal) → owner_of step ≡ Some (Caller c) → new ≡ old → Cursors old step (answers.Refused refusal) new
 refused old new step c refusal owner same = record { fits = refused_fits old new step c refusal owner; keeps = subst (KeepsGaps old step (answers.Refused refusal)) (sym same) (λ owner gap other is near. is) }
 
--- A caller's side beside the one that changes.
+-- The sides of the callers other than the one that changes.
 set_other : (sessions : List Session) (c d : ℕ) (z : Session) → d ≢ c → slice_get (slice_set sessions c z) d ≡ slice_get sessions d
 set_other sessions c d z other = elim (cases_lt d (length sessions)) [
   | inl within ↦
@@ -68,7 +68,7 @@ module _ (w : World) (tells : Tells w) (c : ℕ) (x : Session) (at : slice_get w
   here : slice_get w'.sessions c ≡ Some z
   here = ap (λ ss. slice_get ss c) sides ∙ set_here w.sessions c x z at
 
-  -- A refusal leaves the caller's cursor and the nodes.
+  -- A refusal leaves the caller's cursor and the nodes unchanged.
   asked_stays : (claim : Claim) (d stripe : ℕ) (op : Op) (refusal : Refusal) → AsksBy claim d stripe op x w.table w.locks (answers.Refused refusal) y w'.table locks' → (y.cursor ≡ x.cursor) × (nodes_of w'.table ≡ nodes_of w.table)
   asked_stays Lock d stripe op refusal is = (is.1.cursor, ap nodes_of is.2)
   asked_stays Right d stripe op refusal is = own is.0 is.2
@@ -132,7 +132,7 @@ module _ (w : World) (tells : Tells w) (c : ℕ) (x : Session) (at : slice_get w
   fits claim (steps.InitLink h) owner stripes answer is = absurd is
   fits claim _ owner stripes answer is = tt
 
-  -- What each step of a caller does to the cursors.
+  -- The effect of each step of a caller on the cursors.
   pub does_cursors : (claim : Claim) (step : Step) → owner_of step ≡ Some (Caller c) → (stripes : ℕ) (answer : Answer) → Does claim stripes w.counts step x w.table w.locks answer y w'.table locks' → Cursors (state_of w) step answer (state_of w')
   does_cursors claim step owner stripes answer is = record {
     fits = fits claim step owner stripes answer is;

@@ -39,7 +39,7 @@ gap_parts t cursor gap is = elim (cases_Bool (fits t cursor)) [
 pub no_gap : (t : TableAt) (cursor : Cursor) → fits t cursor ≡ false → gap_of t cursor ≡ None
 no_gap t cursor stale = ap (λ b. cond b (gap_at (node_of (nodes_of t) (pred_of cursor)) (behind t.list cursor)) None) stale
 
--- A cursor fits still where its nodes are side by side.
+-- A cursor still fits if its nodes are still neighbours.
 module _ (t t' : TableAt) (spread : IsSpread (nodes_of t)) (rising : IsRising (nodes_of t')) (stay : Stay (nodes_of t) (nodes_of t')) (gap : Gap) (near : AreNeighbours (nodes_at t') gap) where
   pub cursor_still : (o : Option Cursor) → gap_if t o ≡ Some gap → gap_if t' o ≡ Some gap
   cursor_still None is = is
@@ -52,21 +52,21 @@ module _ (t t' : TableAt) (spread : IsSpread (nodes_of t)) (rising : IsRising (n
   session_still None is = is
   session_still (Some s) is = cursor_still s.cursor is
 
--- The nodes beside a caller's cursor, by its side.
+-- The nodes beside a caller's cursor, from its side.
 pub gap_in_is : (t : TableAt) (sessions : List Session) (c : ℕ) → gap_in (map (gap_by t) sessions) c ≡ unwrap_or (option_map (gap_by t) (slice_get sessions c)) None
 gap_in_is t sessions c = ap (λ (o : Option (Option Gap)). unwrap_or o None) (slice_get-map (gap_by t) sessions c)
 
 pub gap_by_side : (t : TableAt) (sessions : List Session) (c : ℕ) (x : Session) (o : Option Cursor) → slice_get sessions c ≡ Some x → x.cursor ≡ o → gap_in (map (gap_by t) sessions) c ≡ gap_if t o
 gap_by_side t sessions c x o at had = gap_in_is t sessions c ∙ ap (λ (s : Option Session). unwrap_or (option_map (gap_by t) s) None) at ∙ ap (gap_if t) had
 
--- Of a caller whose side stays.
+-- The nodes beside the cursor of a caller whose side is unchanged.
 pub gap_kept : (w w' : World) → IsSpread (nodes_of w.table) → IsRising (nodes_of w'.table) → Stay (nodes_of w.table) (nodes_of w'.table) → (c : ℕ) (gap : Gap) → slice_get w'.sessions c ≡ slice_get w.sessions c
     → gap_in (map (gap_by w.table) w.sessions) c ≡ Some gap → AreNeighbours (nodes_at w'.table) gap → gap_in (map (gap_by w'.table) w'.sessions) c ≡ Some gap
 gap_kept w w' spread rising stay c gap same is near =
     gap_in_is w'.table w'.sessions c ∙ ap (λ (s : Option Session). unwrap_or (option_map (gap_by w'.table) s) None) same
     ∙ session_still w.table w'.table spread rising stay gap near (slice_get w.sessions c) (sym (gap_in_is w.table w.sessions c) ∙ is)
 
--- A cursor that was placed for a sort key and fits stands beside its place.
+-- A cursor that was placed for a sort key and fits stands beside its position.
 module _ (t : TableAt) (cursor : Cursor) (at : SortKey) (spread : IsSpread (nodes_of t)) (placed : IsPlacedIn t.list cursor) (at_is : at_of cursor ≡ at) (fit : Fit t.list cursor) where
   beyond : (o : Option NodeAt) (noted : Option Noted) → behind t.list cursor ≡ o → cursor.cur ≡ noted → NextIs o noted → (next : SortKey) → key_at o ≡ Some next → IsNotBefore next at
   beyond None noted was cur is next next_is = absurd (cc (next_is))

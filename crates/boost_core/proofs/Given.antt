@@ -1,4 +1,4 @@
--- The spare that an operation is given, its stamp, and its stripe.
+-- The spare of a prepared operation, its stamp, and its stripe.
 use Rattle.std.proofs.Common.{◌≡◌, ℕ, ◌+◌, ◌-◌, ◌^◌, ◌≤◌, ◌==◌, ◌||◌, Bool, true, false, Option, Some, None, is_some, refl, sym, ap, subst, ◌∙◌, arith}
 use Rattle.std.specs.Prelude.{not}
 use Rattle.std.proofs.lemmas.Bool.{eq-eqb, ne_eqb}
@@ -9,7 +9,7 @@ use Rattle.map_ops.specs.TableAt.{TableAt, last_of}
 use Rattle.boost_core.specs.Spares.{times_of, times_out, IsCovered}
 use Rattle.boost_core.proofs.Spares.{given}
 
--- The spare that an operation is given is kept beside the others.
+-- The spare of a prepared operation is kept beside the others.
 pub prepared_covered : (t t' : TableAt) (takes : Bool) (spare : Option SpareAt) → GivesFor t t' takes spare → (others : ℕ → ℕ → ℕ) → IsCovered others t → IsCovered (λ place stamp. others place stamp + times_of spare place stamp) t'
 prepared_covered t t' true None gives others covered = absurd gives
 prepared_covered t t' true (Some spare) gives others covered = given t t' spare others gives covered
@@ -24,7 +24,7 @@ given_spare t t' true (Some spare) gives = refl
 given_spare t t' false None gives = refl
 given_spare t t' false (Some spare) gives = absurd gives
 
--- The spare is the table's.
+-- The spare belongs to the table.
 pub given_owned : (t t' : TableAt) (takes : Bool) (spare : Option SpareAt) → GivesFor t t' takes spare → OwnsIf t' spare
 given_owned t t' true None gives = absurd gives
 given_owned t t' true (Some spare) gives = gives.owned

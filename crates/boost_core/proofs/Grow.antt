@@ -1,4 +1,4 @@
--- What stays true of a core when one caller's side changes.
+-- The invariants of a core that hold when one caller's side changes.
 use Rattle.std.proofs.Common.{◌≡◌, ◌≢◌, ℕ, ◌+◌, ◌-◌, ◌<◌, ◌≤◌, true, cond, List, [], ◌∷◌, ◌++◌, length, get_or, set, Option, Some, None, refl, sym, ap, subst, ◌∙◌, arith}
 use Rattle.std.specs.Prelude.{slice_get, slice_set, sum_by, reverse}
 use Rattle.std.specs.Option.{option_and_then}
@@ -37,7 +37,7 @@ use Rattle.boost_core.specs.Sessions.{level_of, target_in, target_of, KeepsPlace
 use Rattle.boost_core.specs.Core.{World, Tells, IsSeated, IsFresh, all_times}
 use Rattle.boost_core.proofs.Due.{all_of_changes, due_same}
 
--- The session at another place stays, and at this one is the new one.
+-- The session at another number is unchanged, and at this number it is the new one.
 pub set_cases : (sessions : List Session) (c d : ℕ) (y s : Session) → c < length sessions → slice_get (slice_set sessions c y) d ≡ Some s → ((d ≡ c) × (s ≡ y)) ⊎ ((d ≢ c) × (slice_get sessions d ≡ Some s))
 set_cases sessions c d y s within at =
     let long : length (set sessions c y) ≡ length sessions = length-set sessions c y in
@@ -48,7 +48,7 @@ set_cases sessions c d y s within at =
       | inr other ↦ inr (other, slice_get-get_or sessions d y (omega arith) ∙ ap Some (sym (get_or-set_other sessions c d y y other) ∙ here))
     ]
 
--- A sum over all sessions in which one changes.
+-- A sum over all sessions of which one changes.
 pub sum_changed : (f : Session → ℕ) (sessions : List Session) (c : ℕ) (x y : Session) → slice_get sessions c ≡ Some x → sum_by f (slice_set sessions c y) + f x ≡ sum_by f sessions + f y
 sum_changed f sessions c x y at =
     let is : get_or sessions c x ≡ x = get_or_from_slice_get sessions c x x at in
@@ -60,7 +60,7 @@ one_of_sum f sessions c x at =
     let most : f (get_or sessions c x) ≤ sum_by f sessions = get_or-le-sum_by f sessions c x (slice_get_within sessions c x at) in
     omega arith
 
--- Spares stay covered where those that one caller keeps are traded.
+-- Spares stay covered if those that one caller keeps are exchanged.
 pub traded : (t t' : TableAt) (sessions : List Session) (c : ℕ) (x y : Session) → slice_get sessions c ≡ Some x
     → ((others : ℕ → ℕ → ℕ) → IsCovered (λ place stamp. others place stamp + times_kept x place stamp) t → IsCovered (λ place stamp. others place stamp + times_kept y place stamp) t')
     → IsCovered (all_times sessions) t → IsCovered (all_times (slice_set sessions c y)) t'
@@ -86,12 +86,12 @@ still_sought_at t t' None target keeps sought = tt
 still_sought_at t t' (Some cursor) None keeps sought = sought
 still_sought_at t t' (Some cursor) (Some key) keeps sought = keeps cursor key sought
 
--- What is due to a caller stays due where its keys stay.
+-- The jobs of a caller stay due if the values of its keys are unchanged.
 closed_due : (m : Map) (jobs : List MapJob) → length jobs ≡ 0 → AreDue m jobs
 closed_due m [] none = tt
 closed_due m (job ∷ jobs) none = absurd (omega arith)
 
--- As many changes as jobs.
+-- There are as many changes as jobs.
 changes_long : (jobs : List MapJob) → length (changes_of jobs) ≡ length jobs
 changes_long jobs = length-map (reverse jobs) change_of ∙ length-reverse jobs
 
@@ -117,8 +117,8 @@ still_due stripes h d s current legal is same = at s.seat.seat.phase refl
     at (LeavingTo n) is_q = run (LeavingTo n) is_q refl
     at LeavingToEnd is_q = run LeavingToEnd is_q refl
 
--- A step that adds an entry: what the history then says, what the caller is before its seat enters the entry, and that no
--- other caller is disturbed.
+-- A step that adds an entry: the history after it, the caller's side before its seat enters the
+-- entry, and the proof that no other caller is disturbed.
 pub record Grows (w : World) (c : ℕ) (x y : Session) (t' : TableAt) (locks' : List (Option ℕ)) (counts' : Counts) (e : Entry) : Type 0 where
   pub seat : Seat
   pub committed : Map
@@ -143,7 +143,7 @@ pub record Grows (w : World) (c : ℕ) (x y : Session) (t' : TableAt) (locks' : 
   pub long : length locks' ≡ length w.locks
   pub holders : (s : ℕ) → s < w.limits.stripes → held_by locks' s ≡ holder s
 
--- A step that adds none: the caller's side stays but for its cursor and for room, and the map stays.
+-- A step that adds no entry: only the caller's cursor and room change, and the map is unchanged.
 pub record Stays (w : World) (c : ℕ) (x y : Session) (t' : TableAt) (locks' : List (Option ℕ)) (counts' : Counts) : Type 0 where
   pub same_seat : y.seat.seat ≡ x.seat.seat
   pub jobs : y.log.jobs ≡ x.log.jobs
@@ -162,7 +162,7 @@ pub record Stays (w : World) (c : ℕ) (x y : Session) (t' : TableAt) (locks' : 
 abbrev pub world_after : World → ℕ → Session → List Entry → Counts → TableAt → List (Option ℕ) → Option Owner → World
 world_after w c z h' counts' t' locks' placed' = record { limits = w.limits; history = h'; counts = counts'; table = t'; sessions = slice_set w.sessions c z; locks = locks'; placed = placed'; words = w.words }
 
--- The caller's side once its seat has entered what is added.
+-- The caller's side after its seat has entered the added entry.
 abbrev pub seated_as : Session → RoomySeat → Session
 seated_as y seat = record { seat = seat; pending = y.pending; cursor = y.cursor; log = y.log }
 
@@ -183,7 +183,7 @@ module _ (w : World) (tells : Tells w) (c : ℕ) (x y : Session) (at : slice_get
       let seat : seat_after (own (caller_of e) w.history) ≡ Some x.seat.seat = ap (λ k. seat_after (own k w.history)) is.mine ∙ (tells.seated c x at).seat in
       sym (seat-own w.history e ∙ ap (option_and_then (λ (s : Seat). row s s.phase e)) seat) ∙ is.next.seat_is
 
-  -- One more entry.
+  -- The step adds one entry.
   module _ (e : Entry) (is : Grows w c x y t' locks' counts' e) (seat' : RoomySeat) (entered : seat'.seat ≡ is.seat) (placed' : Option Owner) where
     abbrev z : Session
     z = seated_as y seat'
@@ -238,7 +238,7 @@ module _ (w : World) (tells : Tells w) (c : ℕ) (x y : Session) (at : slice_get
       sound = is.placed.sound tells.sound;
     }
 
-  -- No entry.
+  -- The step adds no entry.
   pub stayed : Stays w c x y t' locks' counts' → (placed' : Option Owner) → IsFresh t' (slice_set w.sessions c y) placed' → Tells (world_after w c y w.history counts' t' locks' placed')
   stayed is placed' fresh = record {
     legal = tells.legal;
@@ -276,7 +276,7 @@ module _ (w : World) (tells : Tells w) (c : ℕ) (x y : Session) (at : slice_get
     sound = is.placed.sound tells.sound;
   }
 
--- No caller's side changes, and the map stays.
+-- No caller's side changes, and the map is unchanged.
 pub table_stayed : (w : World) → Tells w → (t' : TableAt) (placed' : Option Owner) → content t' ≡ content w.table → KeepsPlaced w.table t'
     → IsCovered (all_times w.sessions) t' → largest_of t' ≡ largest_of w.table → length (helps_of t') ≡ length (helps_of w.table) → IsFresh t' w.sessions placed'
     → Tells (record { limits = w.limits; history = w.history; counts = w.counts; table = t'; sessions = w.sessions; locks = w.locks; placed = placed'; words = w.words })

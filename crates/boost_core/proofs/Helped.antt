@@ -1,4 +1,4 @@
--- A caller's call for help: a round of its loop, and how it comes out.
+-- A caller's call for help: a round of its loop, and its outcome.
 use Rattle.std.proofs.Common.{◌≡◌, ℕ, ◌<◌, ◌≤◌, true, false, Option, Some, None, refl, sym, ap, subst, ◌∙◌, arith}
 use Rattle.std.specs.Prelude.{nat_le}
 use Rattle.txn_trace.specs.declared.step.Step.{Step}
@@ -21,11 +21,11 @@ use Rattle.boost_core.specs.Whole.{IsWhole}
 use Rattle.boost_core.proofs.Refused.{le_false}
 use Rattle.boost_core.proofs.Driving.{Fits, Goes, left, goes}
 
--- A drive of the call that stands in a phase.
+-- The step of a drive of the call in a phase.
 step_here : (c key size : ℕ) (drive : Drive) (next : Option Step) → drive.caller ≡ c → drive.call ≡ calls.Help key → next ≡ step_of (sized_of size drive) → next ≡ step_in c (calls.Help key) (sized_in size drive.phase)
 step_here c key size drive next caller call is = is ∙ (λ i. step_in (caller i) (call i) (sized_in size drive.phase))
 
--- A round of the loop: the next phase fits, and fewer steps are left.
+-- A round of the loop: the next phase keeps its invariant, and fewer steps are left.
 pub round : (state new : State) (c key : ℕ) (drive : Drive) (step : Step) (answer : Answer) → IsWhole state → state.limits.buckets ≤ 65536 → nat_le state.limits.callers c ≡ false → drive.caller ≡ c → drive.call ≡ calls.Help key → Fits state c key drive.phase
     → step_of (sized_of state.size drive) ≡ Some step → Move state step answer new → Goes new c key (left drive.phase) (told_of (sized_of state.size drive) answer).phase
 round state new c key drive step answer whole most within caller call fits is move =
@@ -45,7 +45,7 @@ no_ask state c key phase step fits is = absurd fits
 pub help_asks_nothing : (state : State) (c key : ℕ) (drive : Drive) (step : Step) → drive.caller ≡ c → drive.call ≡ calls.Help key → Fits state c key drive.phase → step_of (sized_of state.size drive) ≡ Some step → is_ask step ≡ false
 help_asks_nothing state c key drive step caller call fits is = no_ask state c key drive.phase step fits (sym (step_here c key state.size drive _ caller call refl) ∙ is)
 
--- A step leaves the limits.
+-- A step leaves the limits unchanged.
 pub limits_stay : (old new : State) (step : Step) (answer : Answer) → Move old step answer new → new.limits ≡ old.limits
 limits_stay old new step answer move = at answer move
   where
@@ -53,7 +53,7 @@ limits_stay old new step answer move = at answer move
     at (answers.Refused refusal) move = ap (λ (s : State). s.limits) move.state
     at _ move = ap (λ (s : State). s.limits) move.state
 
--- What the call has found of its caller's number and of the limits.
+-- The tests by the call of its caller's number and of the limits.
 pub within_there : (inside here : Sizes) (c n m : ℕ) → inside ≡ here → c < n → n ≡ m → m ≡ inside.callers → nat_le here.callers c ≡ false
 within_there inside here c n m same less is callers = ap (λ (l : Sizes). nat_le l.callers c) (sym same) ∙ le_false inside.callers c (omega arith)
 
@@ -63,7 +63,7 @@ buckets_most callers stripes buckets are = grind arith
 pub most_there : (inside here : Sizes) → inside ≡ here → are_limits inside.callers inside.stripes inside.buckets ≡ true → here.buckets ≤ 65536
 most_there inside here same are = subst (λ (l : Sizes). l.buckets ≤ 65536) same (buckets_most inside.callers inside.stripes inside.buckets are)
 
--- How the call comes out, once the drive has no step left.
+-- The outcome of the call, once the drive has no step left.
 pub ended : (old state : State) (c key : ℕ) (drive : Drive) → ((moves : ℕ) × Drives moves (new_drive old.limits.half c (calls.Help key)) old drive state) → drive.caller ≡ c → drive.call ≡ calls.Help key → Fits state c key drive.phase
     → step_of (sized_of state.size drive) ≡ None → Helps old c key (outcome_of (end_of (sized_of state.size drive))) state
 ended old state c key drive drives caller call fits none = at drive.call drive.phase call fits (sym (step_here c key state.size drive _ caller call refl) ∙ none) refl refl

@@ -1,4 +1,4 @@
--- The cursors of helpers, by the table.
+-- The cursors of helpers, from the table.
 use Rattle.std.proofs.Common.{◌≡◌, ◌≢◌, ℕ, Bool, true, false, zero, suc, List, [], ◌∷◌, replicate, Option, Some, None, is_some, refl, sym, ap, ◌∙◌}
 use Rattle.std.specs.Prelude.{map, slice_index_or, unwrap_or}
 use Rattle.std.specs.Option.{option_map}
@@ -20,11 +20,11 @@ use Rattle.boost_core.proofs.Neighbours.{fit_of}
 use Rattle.boost_core.proofs.Gaps.{cursor_still, gap_here, no_gap, stands_at}
 use Rattle.split_key.specs.Sort.{dummy_at}
 
--- The nodes beside a helper's cursor, by that cursor.
+-- The nodes beside a helper's cursor, from that cursor.
 pub helper_gap_is : (t : TableAt) (h : ℕ) → gap_in (helper_gaps_of t) h ≡ gap_if t (helper_cursor t h)
 helper_gap_is t h = unwrap_or-slice_get (helper_gaps_of t) h None ∙ lists.get_or-map (gap_if t) (cursors_of t) h None
 
--- Of a helper that has its cursor still.
+-- The nodes beside the cursor of a helper that still has it.
 pub helper_kept : (t t' : TableAt) → IsSpread (nodes_of t) → IsRising (nodes_of t') → Stay (nodes_of t) (nodes_of t') → (h : ℕ) (gap : Gap) → helper_cursor t' h ≡ helper_cursor t h
     → gap_in (helper_gaps_of t) h ≡ Some gap → AreNeighbours (nodes_at t') gap → gap_in (helper_gaps_of t') h ≡ Some gap
 helper_kept t t' spread rising stay h gap same is near =
@@ -33,7 +33,7 @@ helper_kept t t' spread rising stay h gap same is near =
 pub cursors_stay : (t t' : TableAt) (h : ℕ) → t'.buckets ≡ t.buckets → helper_cursor t' h ≡ helper_cursor t h
 cursors_stay t t' h same = ap (λ d. slice_index_or (map cursor_in d.helpers) h None) same
 
--- Whether a helper's cursor fits, by that cursor.
+-- Whether a helper's cursor fits, from that cursor.
 abbrev pub fits_if : TableAt → Option Cursor → Bool
 fits_if t None = false
 fits_if t (Some cursor) = fits t cursor
@@ -49,7 +49,7 @@ fits_by t h =
     at (Some (Seeking bucket cursor)) = refl
     at (Some (Holding bucket dummy)) = refl
 
--- Where it fits it stands between two nodes, and else between none.
+-- A cursor that fits has a node on each side or stands at the end; one that does not fit has none.
 pub helper_gap : (t : TableAt) (h : ℕ) → helper_fits t h ≡ true → is_some (gap_in (helper_gaps_of t) h) ≡ true
 helper_gap t h is = ap is_some (helper_gap_is t h) ∙ at (helper_cursor t h) (sym (fits_by t h) ∙ is)
   where
@@ -64,7 +64,7 @@ no_helper_gap t h is = helper_gap_is t h ∙ at (helper_cursor t h) (sym (fits_b
     at None stale = refl
     at (Some cursor) stale = no_gap t cursor stale
 
--- Where all helpers but one keep their cursors, and where all do.
+-- If all helpers but one keep their cursors, or all do.
 pub kept_cursor : (t t' : TableAt) (k h : ℕ) → KeepsCursors t t' k → h ≢ k → helper_cursor t' h ≡ helper_cursor t h
 unfolding KeepsCursors
 kept_cursor t t' k h keeps other = keeps h other
@@ -73,14 +73,14 @@ pub each_kept : (t t' : TableAt) (h : ℕ) → KeepsAllCursors t t' → helper_c
 unfolding KeepsAllCursors
 each_kept t t' h keeps = ap (λ cs. slice_index_or cs h None) keeps
 
--- A helper's cursor that was placed for a bucket and fits stands beside the place of its dummy.
+-- A helper's cursor that was placed for a bucket and fits stands beside the position of its dummy.
 pub helper_stands : (w' : World) (h b : ℕ) → IsSpread (nodes_of w'.table) → IsPlacedFor w'.table h b → helper_fits w'.table h ≡ true → StandsAt (state_of w') (Helper h) (dummy_at b)
 unfolding IsPlacedFor
 helper_stands w' h b spread placed fitting =
     stands_at w' (Helper h) placed.0 (dummy_at b) (helper_gap_is w'.table h ∙ ap (gap_if w'.table) placed.1) spread placed.2 placed.3
     (ap (fits_if w'.table) (sym placed.1) ∙ sym (fits_by w'.table h) ∙ fitting)
 
--- Helpers that have nothing have no cursors.
+-- Idle helpers have no cursors.
 idle_cursor : (helper : TableHelper) → help_of helper ≡ Nothing → cursor_in helper ≡ None
 idle_cursor Idle is = refl
 idle_cursor (Seeking bucket cursor) is = absurd (cc (is))

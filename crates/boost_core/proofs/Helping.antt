@@ -32,11 +32,12 @@ use Rattle.boost_core.proofs.Moves.{refused, lacks, state_is}
 abbrev pub served : World → TableAt → Option Owner → World
 served w t' placed' = record { limits = w.limits; history = w.history; counts = w.counts; table = t'; sessions = w.sessions; locks = w.locks; placed = placed'; words = w.words }
 
--- The pairs give the content.
+-- The content is determined by the pairs.
 pub same_content : (t t' : TableAt) → regular t' ≡ regular t → content t' ≡ content t
 same_content t t' same = ap map_of same
 
--- What a core tells stays where the pairs and the spares do, and there are as many buckets and helpers.
+-- The invariants of a core hold if the pairs and the spares are unchanged, and the numbers of
+-- buckets and helpers.
 pub tells_table : (w : World) → Tells w
     → (t' : TableAt) (placed' : Option Owner) → regular t' ≡ regular w.table → Follows w.table t' → KeepsSpares w.table t' → largest_of t' ≡ largest_of w.table → length (helps_of t') ≡ length (helps_of w.table) → IsFresh t' w.sessions placed'
     → Tells (served w t' placed')
@@ -79,7 +80,7 @@ clean_move w t' keeps stays =
       one_stamp = runs.one_last;
     }
 
--- What a core tells, where the buckets and the helpers change and nothing else.
+-- The invariants of a core, if only the buckets and the helpers change.
 pub becomes_tells : (w : World) → Tells w
     → (t' : TableAt) (placed' : Option Owner) (size : ℕ) (stored linked : List Bool) (helps : List Help) → Becomes w.table t' size stored linked helps → length helps ≡ length (helps_of w.table) → Follows w.table t' → IsFresh t' w.sessions placed'
     → Tells (served w t' placed')
@@ -87,7 +88,7 @@ becomes_tells w tells t' placed' size stored linked helps becomes many follows f
     tells_table w tells t' placed' becomes.regular follows becomes.spares
     becomes.largest (ap length becomes.helps_is ∙ many) fresh
 
--- The state then.
+-- The state after such a change.
 pub becomes_state : (w : World) (t' : TableAt) (placed' : Option Owner) (size : ℕ) (stored linked : List Bool) (helps : List Help) → Becomes w.table t' size stored linked helps
     → state_of (served w t' placed') ≡ record { limits = w.limits; words = w.words; history = w.history ++ []; size = size; stored = stored; linked = linked; nodes = nodes_at t'; changes = table_changes t'; stamp = last_of t'; cursors = map session_changes w.sessions; gaps = map (gap_by t') w.sessions; helper_gaps = helper_gaps_of t'; helpers = helps; placed = placed' }
 becomes_state w t' placed' size stored linked helps becomes = λ i. record { limits = w.limits; words = w.words; history = append_none w.history i; size = becomes.size_is i; stored = becomes.stored_is i; linked = becomes.linked_is i; nodes = nodes_at t'; changes = table_changes t'; stamp = last_of t'; cursors = map session_changes w.sessions; gaps = map (gap_by t') w.sessions; helper_gaps = helper_gaps_of t'; helpers = becomes.helps_is i; placed = placed' }
@@ -202,7 +203,7 @@ store_refusal w helper many = at (slice_get (helps_of w.table) helper) refl
         ap (λ b. cond b (Some refusals.NoSuchHelper) (cond (not (has_dummy (help_in (helps_of w.table) helper))) (Some refusals.HelperOutOfOrder) None)) (helper_there (helps_of w.table) w.limits.callers helper help many is)
         ∙ ap (λ (o : Option Help). cond (not (has_dummy (unwrap_or o Nothing))) (Some refusals.HelperOutOfOrder) None) is ∙ held help
 
--- Where a store is refused memory, no bucket of the helper's segment is stored.
+-- If a store is refused memory, no bucket of the helper's segment is stored.
 store_lacks : (w : World) (helper : ℕ) (o : Option Help) → slice_get (helps_of w.table) helper ≡ o → store_answer o ≡ Ok tt
     → ((bucket : ℕ) → slice_get (helps_of w.table) helper ≡ Some (Dummy bucket) → LacksSegment (stored_of w.table) bucket) → LacksSegment (stored_of w.table) (bucket_at (help_in (helps_of w.table) helper))
 store_lacks w helper None is answer lacks = absurd (cc answer)

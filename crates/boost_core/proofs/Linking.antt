@@ -21,14 +21,15 @@ use Rattle.boost_core.specs.Core.{World, IsFresh, state_of, session_changes, nod
 use Rattle.boost_core.proofs.Moves.{refused, lacks}
 use Rattle.boost_core.proofs.Helping.{served, becomes_state, helper_there, helper_none, is_set_is}
 
--- InitLink. The refusal that a test gives, by the table's answer: want of memory or of stamps stands behind all tests.
+-- InitLink. The refusal that a test gives, from the table's answer: the lack of memory or of stamps
+-- follows all tests.
 abbrev pub refusal_by_test : Result InitLink Refusal → Option Refusal
 refusal_by_test (Ok answer) = None
 refusal_by_test (Err refusals.NoMemory) = None
 refusal_by_test (Err refusals.StampsUsedUp) = None
 refusal_by_test (Err refusal) = Some refusal
 
--- What a link is answered for a helper with a cursor.
+-- The answer to a link by a helper with a cursor.
 abbrev linking : Bool → Bool → Bool → Result InitLink Refusal
 linking fitting there used = answer_for (cond {A = Result InitLink InitRefusal} (not fitting) (Ok links.Again) (cond there (Ok links.Present) (cond used (Err inits.StampsUsedUp) (Ok links.Linked))))
 
@@ -69,7 +70,7 @@ has_sought fitting linked last (Some Nothing) result is free = absurd (let e : S
 has_sought fitting linked last (Some (Dummy bucket)) result is free = absurd (let e : Some refusals.HelperOutOfOrder ≡ None = ap refusal_by_test is ∙ free in cc)
 has_sought fitting linked last (Some (Sought bucket noted)) result is free = record { bucket = bucket; noted = noted; had = refl; answer = is }
 
--- A link is answered `again` where the helper's cursor fits no longer, and otherwise only where it fits.
+-- The answer to a link is `again` if the helper's cursor no longer fits, and only then.
 pub stale_where : (t : TableAt) (helper : ℕ) → link_answer_of t helper ≡ Ok links.Again → helper_fits t helper ≡ false
 stale_where t helper is =
     let had = has_sought (helper_fits t helper) (linked_of t) (last_of t) (slice_get (helps_of t) helper) (Ok links.Again) is refl in
@@ -110,7 +111,7 @@ module _ (w : World) (helper : ℕ) (many : length (helps_of w.table) ≡ w.limi
   lacks_when : (bucket noted : ℕ) (there : Bool) → slice_get (helps_of w.table) helper ≡ Some (Sought bucket noted) → is_set (linked_of w.table) bucket ≡ there → lacks_dummy before helper ≡ not there
   lacks_when bucket noted there had is = ap (λ n. not (is_set (linked_of w.table) n)) (bucket_had (Sought bucket noted) had) ∙ ap not is
 
-  -- Want of memory or of stamps, or a refusal by a test.
+  -- The lack of memory or of stamps, or a refusal by a test.
   pub link_refused_move : (result : Result InitLink Refusal) → (result ≢ Err refusals.NoMemory → result ≡ answer_now) → (result ≡ Err refusals.NoMemory → answer_now ≡ Ok links.Linked) → (refusal : Refusal) → result ≡ Err refusal → (t' : TableAt) → t' ≡ w.table
       → Move before (steps.InitLink helper) (answers.Refused refusal) (state_of (served w t' w.placed))
   link_refused_move result says no_memory refusal is t' same = subst (λ u. Move before (steps.InitLink helper) (answers.Refused refusal) (state_of (served w u w.placed))) (sym same) (at refusal is)

@@ -1,4 +1,4 @@
--- What the parts of a caller's steps come to.
+-- The outcomes of the parts of a caller's steps.
 use Rattle.std.proofs.Common.{◌≡◌, ℕ, ◌<◌, true, false, List, Option, Some, None, refl, sym, ap, subst, ◌∙◌}
 use Rattle.std.proofs.lemmas.Bool.{false≢true}
 use Rattle.txn_trace.specs.declared.op.Op.{Op}
@@ -33,7 +33,7 @@ granted_asked c stripe op s r s' t t' locks locks' pending answer says is stays 
   kept = ap (λ (q : Session). q.log.kept) is ∙ stays.kept;
 })
 
--- Another caller holds it.
+-- Another caller holds the stripe.
 pub busy_asked : (c stripe : ℕ) (op : Op) (s r : Session) (t between t' : TableAt) (locks locks' : List (Option ℕ)) (pending : PendingAt) (holder : ℕ) (answer : Answer) → answer ≡ answers.Busy holder → StaysIn s r
     → Prepares t between op pending → GivesBack between t' pending.spare → Refuses c stripe holder locks locks' → IsAsked c stripe op s t locks answer r t' locks'
 busy_asked c stripe op s r t between t' locks locks' pending holder answer says stays prepares back refuses = subst (λ a. IsAsked c stripe op s t locks a r t' locks') (sym says) (record {
@@ -73,7 +73,7 @@ leaves_to_end (Waiting op) is other = absurd (false≢true is)
 leaves_to_end (LeavingTo n) is other = absurd (other n refl)
 leaves_to_end LeavingToEnd is other = refl
 
--- The operation that waits is sought, or the newest change.
+-- The operation that waits is sought, or the newest change is.
 pub seeks_waiting : (s : Session) (t t' : TableAt) → GoesWith s t → (pending : PendingAt) (cursor : Cursor) → s.pending ≡ Some pending → Places t t' (key_of pending.op) cursor → SeeksNear t t' (key_of pending.op) → SeeksIn s t (record s { cursor = Some cursor }) t'
 seeks_waiting s t t' goes pending cursor is places near = record { key = key_of pending.op; cursor = cursor; target = waiting_target s t goes pending is; becomes = refl; places = places; near = near }
 

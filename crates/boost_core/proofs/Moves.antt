@@ -1,4 +1,4 @@
--- Moves of the machine, by what a step did to the table and to one caller's side.
+-- Moves of the machine, from the changes of a step to the table and to one caller's side.
 use Rattle.std.proofs.Common.{◌≡◌, ℕ, ◌+◌, ◌≤◌, List, set, Option, Some, None, refl, sym, ap, subst, ◌∙◌, arith}
 use Rattle.std.specs.Prelude.{map, slice_get, slice_set}
 use Rattle.std.proofs.lemmas.List.{map-set}
@@ -19,14 +19,15 @@ use Rattle.boost_core.specs.Refusals.{refusal_of, MayLack}
 use Rattle.boost_core.specs.Machine.{Move}
 use Rattle.boost_core.specs.Core.{World, state_of, session_changes, nodes_at, gap_by, helper_gaps_of}
 
--- A step that is refused leaves the state.
+-- A step that is refused leaves the state unchanged.
 pub refused : (state : State) (step : Step) (refusal : Refusal) → refusal_of state step ≡ Some refusal → Move state step (Refused refusal) state
 refused state step refusal is = record { allowed = inl is; state = refl; changes = omega arith; list_kept = λ kept. refl; stamp = omega arith; one_stamp = omega arith }
 
 pub lacks : (state : State) (step : Step) (refusal : Refusal) → refusal_of state step ≡ None → MayLack state step refusal → Move state step (Refused refusal) state
 lacks state step refusal free lack = record { allowed = inr (free, lack); state = refl; changes = omega arith; list_kept = λ kept. refl; stamp = omega arith; one_stamp = omega arith }
 
--- The table is as large, its buckets and its helpers are as they were, and neither the change number nor the last stamp has fallen.
+-- The size is unchanged, and so are the buckets and the helpers; neither the change number nor the
+-- last stamp has fallen.
 pub record Runs (t t' : TableAt) : Type 0 where
   pub size : size_of t' ≡ size_of t
   pub stored : stored_of t' ≡ stored_of t
@@ -39,7 +40,7 @@ pub record Runs (t t' : TableAt) : Type 0 where
 pub runs_same : (t : TableAt) → Runs t t
 runs_same t = record { size = refl; stored = refl; linked = refl; helps = refl; rises = omega arith; last = omega arith; one_last = omega arith }
 
--- So it is where only spares have changed.
+-- These hold if only spares have changed.
 pub rests_runs : (t t' : TableAt) → Rests t t' → Runs t t'
 rests_runs t t' rests = record {
   size = rests.nodes.buckets.size;
@@ -51,27 +52,27 @@ rests_runs t t' rests = record {
   one_last = let same = rests.last in omega arith;
 }
 
--- The state after such a step, of a world with one caller's side changed.
+-- The state after such a step, for a world with one caller's side changed.
 pub state_is : (w : World) (h' h'' : List Entry) (counts' : Counts) (t' : TableAt) (cursors : List (Option ℕ)) (sessions' : List Session) (locks' : List (Option ℕ)) (placed' : Option Owner) → Runs w.table t' → h' ≡ h'' → map session_changes sessions' ≡ cursors
     → state_of (record { limits = w.limits; history = h'; counts = counts'; table = t'; sessions = sessions'; locks = locks'; placed = placed'; words = w.words })
     ≡ record { limits = w.limits; words = w.words; history = h''; size = size_of w.table; stored = stored_of w.table; linked = linked_of w.table; nodes = nodes_at t'; changes = table_changes t'; stamp = last_of t'; cursors = cursors; gaps = map (gap_by t') sessions'; helper_gaps = helper_gaps_of t'; helpers = helps_of w.table; placed = placed' }
 state_is w h' h'' counts' t' cursors sessions' locks' placed' runs entries same = λ i. record { limits = w.limits; words = w.words; history = entries i; size = runs.size i; stored = runs.stored i; linked = runs.linked i; nodes = nodes_at t'; changes = table_changes t'; stamp = last_of t'; cursors = same i; gaps = map (gap_by t') sessions'; helper_gaps = helper_gaps_of t'; helpers = runs.helps i; placed = placed' }
 
--- The change numbers of the callers' cursors, where one is set.
+-- The change numbers of the callers' cursors, after one is set.
 pub changes_set : (sessions : List Session) (c : ℕ) (y : Session) (noted : Option ℕ) → session_changes y ≡ noted → map session_changes (slice_set sessions c y) ≡ slice_set (map session_changes sessions) c noted
 changes_set sessions c y noted is = map-set session_changes sessions c y ∙ ap (set (map session_changes sessions) c) is
 
 pub changes_same : (sessions : List Session) (c : ℕ) (x y : Session) → slice_get sessions c ≡ Some x → session_changes y ≡ session_changes x → map session_changes (slice_set sessions c y) ≡ map session_changes sessions
 changes_same sessions c x y at same = map-set_same session_changes sessions c y x (same ∙ ap session_changes (sym (get_or_from_slice_get sessions c x x at)))
 
--- The nodes beside the callers' cursors, where the cursor of the one that changes stays.
+-- The nodes beside the callers' cursors, if the cursor of the caller that changes is the same.
 pub gaps_same : (t : TableAt) (sessions : List Session) (c : ℕ) (x y : Session) → slice_get sessions c ≡ Some x → gap_by t y ≡ gap_by t x → map (gap_by t) (slice_set sessions c y) ≡ map (gap_by t) sessions
 gaps_same t sessions c x y at same = map-set_same (gap_by t) sessions c y x (same ∙ ap (gap_by t) (sym (get_or_from_slice_get sessions c x x at)))
 
--- A move of a state that is seen another way.
+-- A move from an equal state.
 pub move_of : (state old new : State) (step : Step) (answer : Answer) → state ≡ old → Move state step answer new → Move old step answer new
 move_of state old new step answer is move = subst (λ s. Move s step answer new) is move
 
--- Nothing refuses a step of a state that is seen another way.
+-- Nothing refuses a step of an equal state.
 pub none_of : (state old : State) (step : Step) (r : Option Refusal) → state ≡ old → r ≡ refusal_of old step → r ≡ None → refusal_of state step ≡ None
 none_of state old step r is says none = ap (λ (s : State). refusal_of s step) is ∙ sym says ∙ none

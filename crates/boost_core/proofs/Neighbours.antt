@@ -1,4 +1,4 @@
--- A cursor fits still where its two nodes are still side by side.
+-- A cursor still fits if its two nodes are still neighbours.
 use Rattle.std.proofs.Common.{◌≡◌, ℕ, ◌==◌, ◌&&◌, Bool, true, false, inl, inr, List, [], ◌∷◌, ◌++◌, Option, Some, None, refl, sym, ap, subst, ◌∙◌}
 use Rattle.std.specs.Prelude.{not}
 use Rattle.std.specs.Option.{option_map}
@@ -16,7 +16,7 @@ use Rattle.boost_core.specs.Core.{node_at}
 use Rattle.boost_core.proofs.NodeLists.{seen, node_here, node_later, none_of_none, order_behind}
 use Rattle.boost_core.proofs.GapLists.{IsStill, Stay, each_at, place_at, next_here, next_later, next_found, one_of_key, apart_keys}
 
--- What is noted is there.
+-- A noted node is there.
 not_marked : (b : Bool) → not b ≡ true → b ≡ false
 not_marked true is = absurd (false≢true is)
 not_marked false is = refl
@@ -71,7 +71,7 @@ fits_of l c fit =
     (ap (λ (o : Option NodeAt). is_noted o c.pred.stamp) fit.pred_is ∙ and_from (fit.pred.stamp == c.pred.stamp) (not fit.pred.marked) (eq-eqb fit.pred.stamp c.pred.stamp fit.stamp) (ap not fit.live))
     (next_noted (behind l c) c.cur fit.next)
 
--- Where a node stands, if there is one.
+-- The sort key of a node, if there is one.
 abbrev pub key_at : Option NodeAt → Option SortKey
 key_at o = option_map (λ (n : NodeAt). n.at) o
 
@@ -88,7 +88,7 @@ starts : (nodes : List NodeAt) → Live (first nodes) → StartsAt (seen nodes) 
 starts [] live = tt
 starts (n ∷ rest) live = λ i. record { at = n.at; marked = live i }
 
--- A node and the next one are side by side.
+-- A node and the next one are neighbours.
 beside : (nodes : List NodeAt) (place : ℕ) (n : NodeAt) → node_of nodes place ≡ Some n → n.marked ≡ false → Live (next_of nodes place) → AreNeighbours (seen nodes) (record { before = n.at; behind = key_at (next_of nodes place) })
 beside [] place n is live next = absurd (none_of_none place n is)
 beside (m ∷ rest) place n is live next = elim (cases_Bool (m.place == place)) [
@@ -113,7 +113,7 @@ beside (m ∷ rest) place n is live next = elim (cases_Bool (m.place == place)) 
 pub neighbours : (l : Listing) (c : Cursor) (fit : Fit l c) → AreNeighbours (seen l.nodes) (record { before = fit.pred.at; behind = key_at (behind l c) })
 neighbours l c fit = beside l.nodes (pred_of c) fit.pred fit.pred_is fit.live (next_live (behind l c) c.cur fit.next)
 
--- And nodes side by side are a node and the next one.
+-- Neighbours are a node and the next one.
 abbrev NextAt : Option NodeAt → Option SortKey → Type 0
 NextAt None None = Unit {0}
 NextAt None (Some at) = ⊥

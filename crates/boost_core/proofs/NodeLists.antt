@@ -1,4 +1,4 @@
--- What is done to a list of nodes, as the core's contracts see it.
+-- The changes to a list of nodes, as the core's contracts see it.
 use Rattle.std.proofs.Common.{◌≡◌, ℕ, ◌==◌, true, false, cond, inl, inr, List, [], ◌∷◌, ◌++◌, Option, Some, refl, sym, ap, ◌∙◌}
 use Rattle.std.specs.Prelude.{map, not, filter}
 use Rattle.std.specs.List.{AllByRecursion}
@@ -15,21 +15,21 @@ use Rattle.boost_core.specs.Core.{node_at}
 abbrev pub seen : List NodeAt → List Node
 seen nodes = map node_at nodes
 
--- One node more.
+-- One more node.
 pub record Inserted (old new : List Node) (n : Node) : Type 0 where
   pub front : List Node
   pub back : List Node
   pub old_is : old ≡ front ++ back
   pub new_is : new ≡ front ++ n ∷ back
 
--- One node is another now.
+-- One node is replaced by another.
 pub record Replaced (old new : List Node) (was is : Node) : Type 0 where
   pub front : List Node
   pub back : List Node
   pub old_is : old ≡ front ++ was ∷ back
   pub new_is : new ≡ front ++ is ∷ back
 
--- The first marked node is gone.
+-- The first marked node was removed.
 pub record Swept (old new : List Node) : Type 0 where
   pub front : List Node
   pub at : SortKey
@@ -38,7 +38,7 @@ pub record Swept (old new : List Node) : Type 0 where
   pub new_is : new ≡ front ++ back
   pub first : IsClean front
 
--- The marked nodes before the first unmarked one that is not before the sort key are gone.
+-- The marked nodes before the first unmarked one that is not before the sort key were removed.
 pub record Cleaned (sort : SortKey) (old new : List Node) : Type 0 where
   pub passed : List Node
   pub back : List Node
@@ -72,7 +72,7 @@ inserted (n ∷ rest) place x linked = elim (cases_Bool (n.place == place)) [
       )
 ]
 
--- The node at a place, where the first is there and where it is not.
+-- The node at a place, if the first node has this place and if it has not.
 pub node_here : (m : NodeAt) (rest : List NodeAt) (place : ℕ) (n : NodeAt) → node_of (m ∷ rest) place ≡ Some n → (m.place == place) ≡ true → m ≡ n
 unfolding node_of
 node_here m rest place n is here =
@@ -182,7 +182,7 @@ seeks_from sort (m ∷ rest) place n is = elim (cases_Bool (m.place == place)) [
       )
 ]
 
--- Nodes of which none is marked, and others.
+-- A list of nodes none of which is marked.
 abbrev pub AllPlain : List NodeAt → Type 0
 AllPlain nodes = AllByRecursion (λ n. n.marked ≡ false) nodes
 

@@ -1,4 +1,4 @@
--- What each step that is no caller's does to the nodes, to the change number and to the last stamp.
+-- The effect of each step that is no caller's on the nodes, the change number and the last stamp.
 use Rattle.std.proofs.Common.{◌≡◌, ◌≢◌, ℕ, Option, Some, Result, Ok, Err, refl, sym, ap, subst, ◌∙◌}
 use Rattle.std.specs.Prelude.{unwrap_or}
 use Rattle.std.specs.List.{slice_get}
@@ -64,7 +64,7 @@ module _ (w w' : World) (home : NamesDummies w.table) where
       }
   linked h (Err refusal) says writes changes = record { nodes = kept w w' (ap (λ t. t.list) changes); stamp = ap last_of changes }
 
-  -- What each step does to the list.
+  -- The effect of each step on the list.
   pub serves : (step : Step) (answer : Answer) → Serves step w.table answer w'.table → Lists (state_of w) step answer (state_of w')
   serves steps.Sweep answer is = subst (λ a. Lists (state_of w) steps.Sweep a (state_of w')) (sym is.answer_is) (swept answer is is.outcome refl)
   serves (steps.InitSeek h b) answer is = subst (λ a. Lists (state_of w) (steps.InitSeek h b) a (state_of w')) (sym is.answer_is) (sought h b is.outcome is.writes is.changes)

@@ -1,4 +1,4 @@
--- What each step does to the nodes, to the change number and to the last stamp.
+-- The effect of each step on the nodes, the change number and the last stamp.
 use Rattle.std.proofs.Common.{◌≡◌, ◌⊎◌, ℕ, ◌+◌, ◌-◌, ◌%◌, ◌<◌, Bool, true, false, cond, List, [], ◌∷◌, ◌++◌, length, Option, Some, None, is_some, inl, inr, refl, sym, ap, subst, ◌∙◌, arith}
 use Rattle.std.specs.Prelude.{reverse, slice_get, unwrap_or, nat_lt, nat_eq, IsSome}
 use Rattle.std.specs.Option.{option_map, option_eq}
@@ -45,14 +45,14 @@ use Rattle.boost_core.proofs.Outcomes.{is_stale_word}
 use Rattle.boost_core.proofs.Refused.{seat_here}
 use Rattle.boost_core.proofs.Sides.{last_job, at_last, changes_last, waiting_op}
 
--- A state that is seen another way.
+-- The changes to the list from an equal state.
 pub lists_of : (state old new : State) (step : Step) (answer : Answer) → state ≡ old → Lists state step answer new → Lists old step answer new
 lists_of state old new step answer is lists = subst (λ s. Lists s step answer new) is lists
 
 pub lists_by_of : (claim : Claim) (state old new : State) (step : Step) (answer : Answer) → state ≡ old → ListsBy claim state step answer new → ListsBy claim old step answer new
 lists_by_of claim state old new step answer is lists = subst (λ s. ListsBy claim s step answer new) is lists
 
--- Nothing is done where the list is as it was, or its nodes are.
+-- Nothing has changed if the list, or its nodes, are unchanged.
 pub kept : (w w' : World) → KeepsList w.table w'.table → Keeps (state_of w) (state_of w')
 kept w w' same = record { nodes = ap (λ l. seen l.nodes) same; changes = ap (λ l. l.changes) same }
 
@@ -88,7 +88,7 @@ written w w' key value is = record { nodes = ap seen is.writes.nodes ∙ written
 pub nothing : (w w' : World) → writes.WritesNothing w.table.list w'.table.list → Keeps (state_of w) (state_of w')
 nothing w w' is = record { nodes = ap seen is.nodes; changes = is.changes }
 
--- A place is sought from a bucket's dummy.
+-- A position is sought from a bucket's dummy.
 pub seeks : (w w' : World) (place bucket : ℕ) (dummy : IsDummyAt (nodes_of w.table) place bucket) (sort : _) → nodes_of w'.table ≡ sought (nodes_of w.table) place sort → writes.IsUnlinking w.table.list w'.table.list
     → SeeksFrom (state_of w) (state_of w') bucket sort
 seeks w w' place bucket dummy sort nodes changes =
@@ -131,7 +131,7 @@ seeks_key w w' home key near = record {
   seeks = seeks w w' near.start (ancestor_of near.nearest.steps (key % size_of w.table)) (home.stored (ancestor_of near.nearest.steps (key % size_of w.table)) near.start near.nearest.stored) (regular_at key) near.nodes near.changes;
 }
 
--- What an operation does, and what taking a change back does.
+-- The effect of an operation, and of taking a change back.
 put_changes : (w w' : World) (key value : ℕ) (spare : Option SpareAt) (before : Option ℕ) → writes.PutWrites w.table.list w'.table.list key value spare before → Changes (state_of w) (state_of w') key before (Some value)
 put_changes w w' key value None before is = absurd is
 put_changes w w' key value (Some spare) None is = links w w' (writes.node_for key value spare) refl is
@@ -215,7 +215,7 @@ module _ (w : World) (tells : Tells w) (c : ℕ) (x : Session) (at : slice_get w
       (taken_back w w' is.job due.0 is.writes)
 
   module _ (w' : World) (y : Session) (locks' : List (Option ℕ)) where
-    -- The table is as it was, or its nodes and its last stamp are.
+    -- The table is unchanged, or its nodes and its last stamp are.
     same : w'.table ≡ w.table → Keeps (state_of w) (state_of w')
     same is = kept w w' (ap (λ t. t.list) is)
 
@@ -232,7 +232,7 @@ module _ (w : World) (tells : Tells w) (c : ℕ) (x : Session) (at : slice_get w
     not_stale op (inl is) = cc (is)
     not_stale op (inr is) = is
 
-    -- A stale right has had its stamp, and a word takes none.
+    -- A stale right has used up a stamp; a word uses none.
     asked_with : (op : Op) (stripe : ℕ) (own : Answer) → IsAsked c stripe op x w.table w.locks own y w'.table locks' → ListsAsk Right (state_of w) (steps.Ask c op) (unless_busy own) (state_of w')
     asked_with op stripe answers.Asked is = let lists = asked op stripe answers.Asked is in record { nodes = lists.nodes; stamp = lists.stamp }
     asked_with op stripe (answers.Busy holder) is = let lists = asked op stripe (answers.Busy holder) is in record { nodes = lists.nodes; stamp = lists.stamp }
@@ -254,7 +254,7 @@ module _ (w : World) (tells : Tells w) (c : ℕ) (x : Session) (at : slice_get w
     acted answers.Aborted is = record { nodes = same is.2; stamp = ap last_of is.2 }
     acted _ is = absurd is
 
-    -- What each step of a caller that claims no word does to the list.
+    -- The effect on the list of each step of a caller that claims no word.
     locked : NamesDummies w.table → (stripes : ℕ) (step : Step) → owner_of step ≡ Some (Caller c) → (answer : Answer) → Does Lock stripes w.counts step x w.table w.locks answer y w'.table locks' → Lists (state_of w) step answer (state_of w')
     locked home stripes (steps.Begin d) owner (answers.Began n) is = record { nodes = same is.2; stamp = ap last_of is.2 }
     locked home stripes (steps.Begin d) owner _ is = absurd is
@@ -284,7 +284,7 @@ module _ (w : World) (tells : Tells w) (c : ℕ) (x : Session) (at : slice_get w
         subst (λ k. ListsBy claim (state_of w) (steps.Ask k op) answer (state_of w')) (sym own)
         (asked_by claim op (stripe_of stripes (key_of op)) answer (subst (λ k. AsksBy claim k (stripe_of stripes (key_of op)) op x w.table w.locks answer y w'.table locks') own is))
 
-    -- What each step of a caller does to the list, by its claim.
+    -- The effect on the list of each step of a caller, by its claim.
     pub does : NamesDummies w.table → (claim : Claim) (stripes : ℕ) (step : Step) → owner_of step ≡ Some (Caller c) → IsClaim claim (state_of w) step → (answer : Answer) → Does claim stripes w.counts step x w.table w.locks answer y w'.table locks' → ListsBy claim (state_of w) step answer (state_of w')
     does home Lock stripes step owner claims answer is = locked home stripes step owner answer is
     does home Right stripes (steps.Ask d op) owner claims answer is = asks Right stripes d op owner answer is
@@ -294,7 +294,7 @@ module _ (w : World) (tells : Tells w) (c : ℕ) (x : Session) (at : slice_get w
     does home Stale stripes (steps.Ask d op) owner claims answer is = asks Stale stripes d op owner answer is
     does home Stale stripes _ owner claims answer is = absurd claims
 
--- What a refusal does to the list: nothing, of those that come before want of stamps.
+-- The effect on the list of a refusal by a test: none.
 touched : (old new : State) (step : Step) (refusal : Refusal) → Keeps old new → Touches old step (answers.Refused refusal) new
 touched old new (steps.Seek c) refusal keeps = keeps
 touched old new (steps.Act c) refusal keeps = keeps

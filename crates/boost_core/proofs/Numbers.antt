@@ -16,16 +16,16 @@ began_bound w tells = omega (arith, tells.begins, how_many_bound is_began w.hist
 pub committed_bound : (w : World) → Tells w → w.counts.committed ≤ length w.history
 committed_bound w tells = omega (arith, tells.commits, how_many_bound is_commit w.history)
 
--- A count to which an entry adds nothing.
+-- A count that an entry does not change.
 pub no_more : (n : ℕ) → n ≡ n + 0
 no_more n = omega arith
 
--- What holds where a result is no error.
+-- A statement about the value of a result that is no error.
 pub when_ok : {A E P : Type 0} (r : Result A E) → false ≡ is_err r → OnOk r P → P
 when_ok (Ok a) fine p = p
 when_ok (Err e) fine p = absurd (cc (fine))
 
--- What holds where a result is an error.
+-- A statement about the error of a result that is one.
 pub when_err : {A E P : Type 0} (r : Result A E) → true ≡ is_err r → OnErr r P → P
 when_err (Ok a) wrong p = absurd (cc (wrong))
 when_err (Err e) wrong p = p

@@ -1,4 +1,4 @@
--- What a step of a caller comes to: what the core then tells, and the move.
+-- The outcome of a step of a caller: the invariants of the core after it, and the move.
 use Rattle.std.proofs.Common.{◌≡◌, ◌⊎◌, inl, inr, ℕ, ◌+◌, ◌-◌, ◌<◌, ◌≤◌, ◌^◌, Bool, true, false, cond, refl, List, [], ◌∷◌, ◌++◌, length, Option, Some, None, sym, ap, subst, ◌∙◌, arith}
 use Rattle.std.specs.Prelude.{map, slice_get, slice_set, sum_by, option_to_list}
 use Rattle.std.specs.List.{AllByRecursion}
@@ -40,13 +40,13 @@ use Rattle.boost_core.specs.Core.{World, Tells, IsFresh, state_of, nodes_at, gap
 use Rattle.boost_core.proofs.Moves.{Runs, lacks, refused}
 use Rattle.boost_core.proofs.Grow.{Grows, Stays, world_after, seated_as, row_there, grown, stayed, sum_changed, one_of_sum}
 
--- One entry more, or none.
+-- One more entry, or none.
 abbrev pub Comes : World → ℕ → Session → Session → TableAt → List (Option ℕ) → Counts → List Entry → Type 0
 Comes w c x y t' locks' counts' [] = Stays w c x y t' locks' counts'
 Comes w c x y t' locks' counts' (e ∷ []) = Grows w c x y t' locks' counts' e
 Comes w c x y t' locks' counts' (e ∷ f ∷ es) = ⊥
 
--- What a step of a caller comes to, whatever seat enters what is added.
+-- The outcome of a step of a caller, whatever seat enters the added entry.
 pub record CalledBy (claim : Claim) (w : World) (c : ℕ) (x : Session) (step : Step) (answer : Answer) (y : Session) (t' : TableAt) (locks' : List (Option ℕ)) : Type 0 where
   pub comes : Comes w c x y t' locks' (counts_after w.counts answer) (entries_of step answer)
   pub move : (seat' : RoomySeat) → Goes claim (state_of w) step answer (state_of (world_after w c (seated_as y seat') (w.history ++ entries_of step answer) (counts_after w.counts answer) t' locks' (placed_then w.placed step answer)))
@@ -56,7 +56,7 @@ pub record CalledBy (claim : Claim) (w : World) (c : ℕ) (x : Session) (step : 
 abbrev pub Called : World → ℕ → Session → Step → Answer → Session → TableAt → List (Option ℕ) → Type 0
 Called w c x step answer y t' locks' = CalledBy Lock w c x step answer y t' locks'
 
--- A move from what it is answered, the state after it, and what happened to the table.
+-- A move, from the answer, the state after it, and the changes to the table.
 pub move_is : (w w' : World) (step : Step) (answer : Answer) → IsAllowed (state_of w) step answer → state_of w' ≡ record (after (state_of w) step answer (table_changes w'.table) (last_of w'.table)) { nodes = nodes_at w'.table; gaps = map (gap_by w'.table) w'.sessions; helper_gaps = helper_gaps_of w'.table } → Runs w.table w'.table
     → (keeps_list answer ≡ true → table_changes w'.table ≡ table_changes w.table) → Move (state_of w) step answer (state_of w')
 move_is w w' step answer allowed is runs kept = record {
@@ -68,21 +68,21 @@ move_is w w' step answer allowed is runs kept = record {
   one_stamp = runs.one_last;
 }
 
--- A step of a state that is seen another way.
+-- A claim for a step of an equal state.
 pub claims_of : (claim : Claim) (state old : State) (step : Step) → state ≡ old → IsClaim claim old step → IsClaim claim state step
 claims_of claim state old step is claims = subst (λ s. IsClaim claim s step) (sym is) claims
 
 pub goes_of : (claim : Claim) (state old new : State) (step : Step) (answer : Answer) → state ≡ old → Goes claim state step answer new → Goes claim old step answer new
 goes_of claim state old new step answer is goes = subst (λ s. Goes claim s step answer new) is goes
 
--- What no test of an Ask refuses: it comes behind all of them.
+-- Whether a refusal of an Ask follows all of its tests.
 abbrev pub is_late : Refusal → Bool
 is_late NoMemory = true
 is_late StampsUsedUp = true
 is_late StaleWord = true
 is_late _ = false
 
--- What a stale right is refused.
+-- Whether a refusal is that of a stale right.
 abbrev pub is_stale_word : Refusal → Bool
 is_stale_word StaleWord = true
 is_stale_word _ = false
@@ -102,7 +102,7 @@ first_early (test ∷ tests) early refusal is = next_early test.0 test.1 refusal
 pub ask_early : (state : State) (c : ℕ) (op : Op) (refusal : Refusal) → refusal_of state (steps.Ask c op) ≡ Some refusal → is_late refusal ≡ false
 ask_early state c op refusal is = first_early (tests_of state (owner_of (steps.Ask c op)) (steps.Ask c op)) (refl, (refl, (refl, (refl, (refl, (refl, tt)))))) refusal is
 
--- A refusal that no claim is needed for.
+-- A refusal that may be the answer with every claim.
 may_refuse : (claim : Claim) (refusal : Refusal) → is_late refusal ≡ false → may_come claim (answers.Refused refusal) ≡ true
 may_refuse Lock refusal early = refl
 may_refuse Right refusal early = refl
@@ -119,7 +119,7 @@ goes_early Right state step refusal early move = inr (may_refuse Right refusal e
 goes_early (Held named) state step refusal early move = inr (may_refuse (Held named) refusal early, move)
 goes_early Stale state step refusal early move = inr (may_refuse Stale refusal early, move)
 
--- Memory is wanted only where the claim reserves something.
+-- Memory is refused only if the claim reserves something.
 pub goes_lacking : (claim : Claim) (state : State) (step : Step) → 0 < reserved_by claim step → Move state step (answers.Refused NoMemory) state → Goes claim state step (answers.Refused NoMemory) state
 goes_lacking Lock state step some move = move
 goes_lacking Right state step some move = inr (refl, move)
@@ -133,7 +133,7 @@ reserved_least Right step = omega arith
 reserved_least (Held named) step = omega arith
 reserved_least Stale step = omega arith
 
--- Where a test of a step refuses it, a claim wants nothing else.
+-- If a test of a step refuses it, nothing else is required of a claim.
 early_or_lock : (claim : Claim) (state : State) (step : Step) (refusal : Refusal) → IsClaim claim state step → refusal_of state step ≡ Some refusal → (claim ≡ Lock) ⊎ (is_late refusal ≡ false)
 early_or_lock Lock state step refusal claims is = inl refl
 early_or_lock Right state (steps.Ask c op) refusal claims is = inr (ask_early state c op refusal is)
@@ -155,15 +155,15 @@ goes_refused claim state step refusal claims is = elim (early_or_lock claim stat
   | inr early ↦ goes_early claim state step refusal early (refused state step refusal is)
 ]
 
--- What is kept is the same where what waits and the jobs are.
+-- The kept spares are the same if the waiting operation and the jobs are.
 pub same_times : (t : TableAt) (x y : Session) → y.pending ≡ x.pending → y.log.jobs ≡ x.log.jobs → (others : ℕ → ℕ → ℕ) → IsCovered (λ place stamp. others place stamp + times_kept x place stamp) t → IsCovered (λ place stamp. others place stamp + times_kept y place stamp) t
 same_times t x y pending jobs others covered place stamp = (λ i. others place stamp + (times_of (spare_if (pending i)) place stamp + times_in (jobs i) place stamp)) ∙ covered place stamp
 
--- What is as it was for the table and the locks.
+-- A statement about the table and the locks holds if both are unchanged.
 pub same_world : (P : TableAt → List (Option ℕ) → Type 0) (t t' : TableAt) (locks locks' : List (Option ℕ)) → t' ≡ t → locks' ≡ locks → P t locks → P t' locks'
 same_world P t t' locks locks' table same p = subst (λ u. P u locks') (sym table) (subst (λ l. P t l) (sym same) p)
 
--- A step reserves three entries at most.
+-- A step reserves at most three entries.
 pub reserved_few : (step : Step) → reserved step ≤ 3
 reserved_few (steps.Begin c) = omega arith
 reserved_few (steps.Ask c (Put k v)) = omega arith
@@ -174,7 +174,7 @@ reserved_few (steps.Save c) = omega arith
 reserved_few (steps.Back c n) = omega arith
 reserved_few _ = omega arith
 
--- Where a step that reserves nothing has its room, memory is not wanted.
+-- If a step that reserves nothing has its room, memory is not refused.
 pub no_memory : (state : State) (step : Step) → refusal_of state step ≡ None → (0 < reserved step) → Move state step (answers.Refused NoMemory) state
 no_memory state (steps.Begin c) none some = lacks state (steps.Begin c) NoMemory none tt
 no_memory state (steps.Ask c op) none some = lacks state (steps.Ask c op) NoMemory none tt
@@ -182,7 +182,7 @@ no_memory state (steps.Save c) none some = lacks state (steps.Save c) NoMemory n
 no_memory state (steps.Back c n) none some = lacks state (steps.Back c n) NoMemory none tt
 no_memory state _ none some = absurd (omega arith)
 
--- No more than what a step reserves is reserved for its entry.
+-- At most the number of entries that a step reserves is reserved for its entry.
 reserved_within : (step : Step) (answer : Answer) (e : Entry) → e ∷ [] ≡ entries_of step answer → reserved_for e ≤ reserved step
 reserved_within (steps.Begin c) answer e is = began answer is
   where
@@ -225,7 +225,8 @@ reserved_within (steps.Abort c) answer e is = left answer is
     left _ is = absurd (cc (is))
 reserved_within _ answer e is = absurd (cc (is))
 
--- Nor is more than what its claim reserves: a Busy entry, which a word alone may add, is owed already.
+-- At most the number of entries that its claim reserves: a Busy entry, which a word may add, is
+-- owed already.
 no_entry : (step : Step) (refusal : Refusal) → entries_of step (answers.Refused refusal) ≡ []
 no_entry (steps.Begin c) refusal = refl
 no_entry step refusal = refl
@@ -255,7 +256,7 @@ claim_within (Held named) state new step answer e (inr goes) is = held_within na
 claim_within Stale state new step answer e (inl stale) is = none_within step StaleWord e (is ∙ ap (entries_of step) stale.refused)
 claim_within Stale state new step answer e (inr goes) is = stale_within step answer e goes.0 is
 
--- No more changes stand than entries are owed.
+-- At most as many changes stand as entries are owed.
 standing_owed : (q : Phase) (standing : ℕ) (kept : List ℕ) → IsLevelIn q standing kept → standing ≤ owed_in standing q
 standing_owed Closed standing kept is = let none : standing ≡ 0 = is.0 in omega arith
 standing_owed Opened standing kept is = omega arith
@@ -271,7 +272,7 @@ module _ (w : World) (tells : Tells w) (c : ℕ) (x y : Session) (at : slice_get
   same_seat None is = let comes : Stays w c x y t' locks' (counts_after w.counts answer) = subst (Comes w c x y t' locks' (counts_after w.counts answer)) (sym is) called.comes in comes.same_seat
   same_seat (Some e) is = let comes : Grows w c x y t' locks' (counts_after w.counts answer) e = subst (Comes w c x y t' locks' (counts_after w.counts answer)) (sym is) called.comes in comes.same_seat
 
-  -- It is an entry of one of the callers.
+  -- The entry is of one of the callers.
   pub called_caller : (o : Option Entry) → option_to_list o ≡ entries_of step answer → (e : Entry) → o ≡ Some e → caller_of e < w.limits.callers
   called_caller o is e some =
       let comes : Grows w c x y t' locks' (counts_after w.counts answer) e = subst (Comes w c x y t' locks' (counts_after w.counts answer)) (sym is ∙ ap option_to_list some) called.comes in
@@ -304,7 +305,7 @@ module _ (w : World) (tells : Tells w) (c : ℕ) (x y : Session) (at : slice_get
         fits = omega arith;
       }
 
-  -- What the core then tells.
+  -- The invariants of the core after the step.
   pub called_tells : (seat' : RoomySeat) (o : Option Entry) → option_to_list o ≡ entries_of step answer → Enters y.seat (option_to_list o) seat' → (h' : List Entry) → h' ≡ w.history ++ option_to_list o
       → Tells (world_after w c (seated_as y seat') h' (counts_after w.counts answer) t' locks' (placed_then w.placed step answer))
   called_tells seat' None is entered h' pushed =
@@ -320,7 +321,7 @@ module _ (w : World) (tells : Tells w) (c : ℕ) (x y : Session) (at : slice_get
       subst (λ g. Tells (world_after w c (seated_as y seat') g (counts_after w.counts answer) t' locks' (placed_then w.placed step answer))) (sym pushed)
       (grown w tells c x y at t' locks' (counts_after w.counts answer) e comes seat' same (placed_then w.placed step answer) (called.fresh seat'))
 
-  -- What all callers then owe, and the room for it.
+  -- The entries that all callers owe after the step, and the room for them.
   pub called_owes : (seat' : RoomySeat) (o : Option Entry) → option_to_list o ≡ entries_of step answer → (owed owed' : ℕ) → owed ≡ sum_by owed_of w.sessions
       → owed' ≡ owed - owed_in y.seat.seat.standing y.seat.seat.phase + owed_in seat'.seat.standing seat'.seat.phase → owed' ≡ sum_by owed_of (slice_set w.sessions c (seated_as y seat'))
   called_owes seat' o is owed owed' owes after =

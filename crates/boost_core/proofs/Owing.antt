@@ -1,4 +1,4 @@
--- What the callers' sides owe together is what the history says.
+-- The entries that the callers' sides owe together are those that the history says.
 use Rattle.std.proofs.Common.{◌≡◌, ℕ, suc, ◌+◌, List, [], ◌∷◌, length, Some, refl, sym, ap, ◌∙◌, arith}
 use Rattle.std.specs.Prelude.{slice_get}
 use Rattle.std.specs.List.{sum_by, range_with_len}
@@ -8,7 +8,7 @@ use Rattle.txn_trace.specs.Owed.{owed_by, owed}
 use Rattle.boost_core.specs.Sessions.{owed_of}
 use Rattle.boost_core.specs.Core.{World, Tells}
 
--- A sum over the places of a list, where each summand is that of the element.
+-- A sum over the positions of a list, if each summand is that of the element.
 sum_of_places : {X : Type 0} (f : ℕ → ℕ) (g : X → ℕ) (a : ℕ) (xs : List X) → ((i : ℕ) (x : X) → slice_get xs i ≡ Some x → f (a + i) ≡ g x) → sum_by f (range_with_len a (length xs)) ≡ sum_by g xs
 sum_of_places f g a [] same = refl
 sum_of_places f g a (x ∷ xs) same =

@@ -1,4 +1,4 @@
--- The steps that begin, part and end transactions.
+-- The steps that begin, divide and end transactions.
 use Rattle.std.proofs.Common.{◌≡◌, ℕ, ◌+◌, ◌≤◌, true, false, cond, List, [], ◌∷◌, ◌++◌, length, take, Option, Some, None, refl, sym, ap, subst, ◌∙◌, add-one, arith}
 use Rattle.std.specs.Prelude.{slice_get, slice_set, slice_index, map, reverse, nat_eq, nat_lt, not}
 use Rattle.std.specs.Option.{option_eq}
@@ -190,7 +190,7 @@ module _ (w : World) (tells : Tells w) (c : ℕ) (x : Session) (at : slice_get w
       law (LeavingTo n) is closed leaving = absurd (false≢true (sym leaving))
       law LeavingToEnd is closed leaving = absurd (false≢true (sym leaving))
 
-  -- The end of taking back: no change above the level is left.
+  -- The end of the undoing: no change above the level is left.
   module _ (none : refusal_of (state_of w) (steps.Act c) ≡ None) (no_job : has_job x.seat.seat ≡ false) where
     seat_is : x.seat.seat ≡ record { phase = x.seat.seat.phase; standing = length x.log.jobs; kept = 0 ∷ x.log.kept }
     seat_is = λ i. record { phase = x.seat.seat.phase; standing = (tells.seated c x at).agrees.standing i; kept = (tells.seated c x at).agrees.kept i }
@@ -243,7 +243,7 @@ module _ (w : World) (tells : Tells w) (c : ℕ) (x : Session) (at : slice_get w
           fresh = λ seat'. tt;
         }
 
-  -- The same of a table and of locks that are as they were.
+  -- These steps, with a table and locks that are unchanged.
   pub begun_called : refusal_of (state_of w) (steps.Begin c) ≡ None → (n : ℕ) (y : Session) (t' : TableAt) (locks' : List (Option ℕ)) → n ≡ w.counts.began + 1 → StaysIn x y → t' ≡ w.table → locks' ≡ w.locks → Called w c x (steps.Begin c) (answers.Began n) y t' locks'
   begun_called none n y t' locks' number stays table same = same_world (Called w c x (steps.Begin c) (answers.Began n) y) w.table t' w.locks locks' table same (begun none n y number stays)
 

@@ -1,4 +1,4 @@
--- What a step shows that leaves the table.
+-- Steps that leave the table unchanged.
 use Rattle.std.proofs.Common.{◌≡◌, ℕ, ◌+◌, ◌-◌, ◌<◌, Bool, true, false, cond, List, ◌∷◌, length, Option, Some, None, refl, sym, ap, subst, ◌∙◌}
 use Rattle.std.specs.Prelude.{slice_get, slice_set, map, reverse, nat_eq, nat_lt}
 use Rattle.std.specs.Option.{option_eq, option_map}
@@ -30,21 +30,21 @@ use Rattle.boost_core.proofs.Outcomes.{same_times}
 use Rattle.boost_core.specs.Sessions.{target_in, key_of_newest, IsSoughtAt, Waits, changes_of, AreDue}
 use Rattle.boost_core.proofs.Refused.{no_cursor}
 
--- The stripes of a caller are free, as the history says after its end.
+-- The stripes of a caller are free, as the history says after the transaction's end.
 released : (c : ℕ) (o : Option ℕ) → without_caller c o ≡ cond (option_eq nat_eq o (Some c)) None o
 released c None = refl
 released c (Some d) = refl
 
--- A level with nothing above it is acted on no more.
+-- If no change is above a level, there is none to act on.
 pub no_newest : (log : Log MapJob) (n : ℕ) → nat_lt (kept_at log.kept n) (length log.jobs) ≡ false → key_of_newest (newest_above log n) ≡ None
 no_newest log n none = ap key_of_newest (ap (λ (more : Bool). cond more (slice_get log.jobs (length log.jobs - 1)) None) none)
 
 module _ (w : World) (tells : Tells w) (c : ℕ) (x : Session) (at : slice_get w.sessions c ≡ Some x) where
-  -- Where the caller acts on no key, it has no cursor.
+  -- If the caller acts on no key, it has no cursor.
   pub idle_cursor : (q : Phase) → x.seat.seat.phase ≡ q → target_in q x.log ≡ None → x.cursor ≡ None
   idle_cursor q is none = no_cursor w.table x.cursor (subst (IsSoughtAt w.table x.cursor) (ap (λ p. target_in p x.log) is ∙ none) (tells.sought c x at))
 
-  -- Where it waits for nothing, nothing waits.
+  -- If the caller's phase is not that of a waiting operation, no operation waits.
   pub nothing_waits : (q : Phase) → x.seat.seat.phase ≡ q → is_waiting q ≡ false → x.pending ≡ None
   nothing_waits q is rests = none_then q rests x.pending (subst (λ p. Waits p x.pending x.log.room) is (tells.seated c x at).agrees.waits)
     where
@@ -66,7 +66,8 @@ module _ (w : World) (tells : Tells w) (c : ℕ) (x : Session) (at : slice_get w
   pub released_holders : (locks' : List (Option ℕ)) → Releases c w.locks locks' → (s : ℕ) → s < w.limits.stripes → held_by locks' s ≡ cond (option_eq nat_eq (holder_of w.limits.stripes s w.history) (Some c)) None (holder_of w.limits.stripes s w.history)
   released_holders locks' releases s below = releases.each s ∙ ap (without_caller c) (tells.holders s below) ∙ released c (holder_of w.limits.stripes s w.history)
 
-  -- A step that leaves the table, what waits and the jobs, and by which the caller has no cursor.
+  -- A step that leaves the table, the waiting operation and the jobs unchanged, and after which the
+  -- caller has no cursor.
   pub quiet : (e : Entry) (y : Session) (seat : Seat) (log : List (ℕ × Option ℕ)) (committed : Map) (holder : ℕ → Option ℕ) (locks' : List (Option ℕ)) (counts' : Counts) → Next (holder_by w.words) w.limits.stripes w.history e seat log committed (now w.history) holder → log ≡ changes_of y.log.jobs
       → caller_of e ≡ c → y.seat.seat ≡ x.seat.seat → (is_saved e ≡ true → 0 < y.seat.room) → seat.kept ≡ 0 ∷ y.log.kept → is_waiting seat.phase ≡ false → x.pending ≡ None → y.pending ≡ x.pending → y.log.jobs ≡ x.log.jobs → y.cursor ≡ None
       → counts'.began ≡ w.counts.began + cond (is_began e) 1 0 → counts'.committed ≡ w.counts.committed + cond (is_commit e) 1 0 → length locks' ≡ length w.locks → ((s : ℕ) → s < w.limits.stripes → held_by locks' s ≡ holder s)

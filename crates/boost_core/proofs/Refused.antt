@@ -1,4 +1,4 @@
--- What a caller's side and its refusal say of each other.
+-- The refusals of a caller's step, from its side and from the machine's state.
 use Rattle.std.proofs.Common.{◌≡◌, ℕ, ◌<◌, ◌≤◌, Bool, true, false, cond, List, [], ◌∷◌, ◌++◌, length, get_or, Option, Some, None, is_some, refl, sym, ap, ◌∙◌, arith}
 use Rattle.std.specs.Prelude.{nat_le, not, map, slice_get, unwrap_or}
 use Rattle.std.specs.Option.{option_map}
@@ -20,7 +20,7 @@ use Rattle.boost_core.specs.Refusals.{owner_of, is_closed, is_waiting, is_leavin
 use Rattle.boost_core.specs.Sessions.{IsSoughtAt}
 use Rattle.boost_core.specs.Core.{World, Tells, state_of, session_changes}
 
--- The one option, or else the other.
+-- The first option, or the second if there is none.
 abbrev pub or_else : Option Refusal → Option Refusal → Option Refusal
 or_else None other = other
 or_else (Some refusal) other = Some refusal
@@ -69,7 +69,7 @@ free state c step owner none =
     let rest = or_else_none (refusal_in state.limits.half (seat_in state.history c) step) _ first.1 in
     record { within = first.0; seat = rest.0; cursor = (first_none _ Unplaced None rest.1).0 }
 
--- The phase where tests say so.
+-- A phase, from the tests of it.
 not_false : (b : Bool) → not b ≡ false → b ≡ true
 not_false true is = refl
 not_false false is = absurd (false≢true (sym is))
@@ -138,7 +138,7 @@ module _ (w : World) (tells : Tells w) (c : ℕ) (x : Session) (at : slice_get w
       both None = refl
       both (Some cursor) = refl
 
-  -- The refusal of a step is that of the caller's side.
+  -- The refusal of a step, from the caller's side.
   pub refusal_here : (step : Step) → owner_of step ≡ Some (Caller c) → nat_le w.limits.callers c ≡ false
       → refusal_of (state_of w) step ≡ or_else (refusal_in w.limits.half x.seat.seat step) (cond (lacks_in x.seat.seat (is_some x.cursor) step) (Some Unplaced) None)
   refusal_here step owner within =
@@ -146,14 +146,14 @@ module _ (w : World) (tells : Tells w) (c : ℕ) (x : Session) (at : slice_get w
       ∙ ap (λ b. cond b (Some NoSuchCaller) (or_else (refusal_in w.limits.half (seat_in w.history c) step) (cond (lacks_in (seat_in w.history c) (is_some (caller_changes (map session_changes w.sessions) c)) step) (Some Unplaced) None))) within
       ∙ (λ i. or_else (refusal_in w.limits.half (seat_here i) step) (cond (lacks_in (seat_here i) (changes_is_some i) step) (Some Unplaced) None))
 
-  -- What nothing refuses, the caller's side does not refuse.
+  -- A step that nothing refuses is not refused by the caller's side.
   pub seat_free : (step : Step) → owner_of step ≡ Some (Caller c) → refusal_of (state_of w) step ≡ None → refusal_in w.limits.half x.seat.seat step ≡ None
   seat_free step owner none = ap (λ s. refusal_in w.limits.half s step) (sym seat_here) ∙ (free (state_of w) c step owner none).seat
 
   pub cursor_free : (step : Step) → owner_of step ≡ Some (Caller c) → refusal_of (state_of w) step ≡ None → lacks_in x.seat.seat (is_some x.cursor) step ≡ false
   cursor_free step owner none = (λ i. lacks_in (sym seat_here i) (sym changes_is_some i) step) ∙ (free (state_of w) c step owner none).cursor
 
--- Where the seat refuses, that is the refusal; where it does not, want of a cursor is.
+-- If the seat refuses, that is the refusal; if it does not, the refusal is the missing cursor.
 pub or_else_some : (one other : Option Refusal) → is_some one ≡ true → or_else one other ≡ one
 or_else_some None other some = absurd (false≢true some)
 or_else_some (Some refusal) other some = refl
@@ -162,7 +162,7 @@ pub not_some : (one : Option Refusal) → is_some one ≡ false → one ≡ None
 not_some None none = refl
 not_some (Some refusal) none = absurd (false≢true (sym none))
 
--- An element at its place.
+-- An element at its position.
 pub index_at : {A : Type 0} (xs : List A) (i : ℕ) (x : A) → i < length xs → x ≡ get_or xs i x → slice_get xs i ≡ Some x
 index_at xs i x within is = slice_get-get_or xs i x within ∙ ap Some (sym is)
 
@@ -181,7 +181,7 @@ le_false_lt a b is = elim (cases_lt b a) [
 pub lacking : (one : Option Refusal) (b value : Bool) → one ≡ None → b ≡ value → or_else one (cond b (Some Unplaced) None) ≡ cond value (Some Unplaced) None
 lacking one b value none is = ap (λ o. or_else o (cond b (Some Unplaced) None)) none ∙ ap (λ v. cond v (Some Unplaced) None) is
 
--- A caller of a step that nothing refuses has its side.
+-- The caller of a step that nothing refuses has a side.
 pub at_free : (w : World) → Tells w → (c : ℕ) (step : Step) → owner_of step ≡ Some (Caller c) → refusal_of (state_of w) step ≡ None → (x : Session) → x ≡ get_or w.sessions c x → slice_get w.sessions c ≡ Some x
 at_free w tells c step owner none x is =
     let below : c < w.limits.callers = le_false_lt w.limits.callers c (free (state_of w) c step owner none).within in
@@ -201,6 +201,6 @@ seek_target half s c none =
 pub not_is_false : (b : Bool) → not b ≡ false → b ≡ true
 not_is_false b is = not_false b is
 
--- A caller of a step that nothing refuses, told of the machine's state.
+-- The caller of a step that nothing refuses, from an equal state.
 pub free_of : (state old : State) (step : Step) → state ≡ old → refusal_of old step ≡ None → refusal_of state step ≡ None
 free_of state old step is none = ap (λ (s : State). refusal_of s step) is ∙ none

@@ -1,4 +1,4 @@
--- What each step that is no caller's comes to.
+-- The outcome of each step that is no caller's.
 use Rattle.std.proofs.Common.{◌≡◌, ℕ, ◌*◌, ◌<◌, ◌≤◌, ◌==◌, ◌&&◌, Bool, true, false, cond, Some, None, Result, Ok, Err, refl, sym, ap, subst, ◌∙◌, arith}
 use Rattle.std.specs.Prelude.{nat_le, nat_lt, not}
 use Rattle.std.proofs.lemmas.Bool.{cases_Bool, cases_lt, lt-ltb, ltb-true, le-leb}
@@ -32,7 +32,7 @@ use Rattle.boost_core.proofs.Refused.{le_false}
 use Rattle.boost_core.proofs.Helping.{served, sweep_tells, swept_move, clean_move, becomes_tells, becomes_state, double_tells, seek_refusal, refusal_in_result, seek_ready_move, seek_placed_move, helper_refused, store_refused_move, stored_move}
 use Rattle.boost_core.proofs.Linking.{link_refused_move, link_again_move, link_present_move, link_linked_move}
 
--- What the core then tells, and the move.
+-- The invariants of the core after the step, and the move.
 pub record Served (w : World) (step : Step) (answer : Answer) (t' : TableAt) : Type 0 where
   pub tells : Tells (served w t' (placed_then w.placed step answer))
   pub move : Move (state_of w) step answer (state_of (served w t' (placed_then w.placed step answer)))
@@ -117,7 +117,7 @@ module _ (w : World) (tells : Tells w) (t' : TableAt) (follows : Follows w.table
         move = store_refused_move w t' h tells.helpers is.outcome is.says is.no_memory is.lacks refusal says same;
       })
 
-  -- What a doubling says of the size.
+  -- The size after each answer of a doubling.
   doubling : (seen : ℕ) (outcome : Double) (one two three : Bool) → (size_of w.table == seen) ≡ one → (size_of w.table == w.limits.buckets) ≡ two → nat_le (count_of (now w.history)) (2 * size_of w.table) ≡ three
       → outcome ≡ cond (not one) (doubles.Moved (size_of w.table)) (cond two doubles.AtLimit (cond three doubles.Light (doubles.Doubled (2 * size_of w.table)))) → IsAnswer (state_of w) (steps.Double seen) (said.doubled outcome)
   doubling seen outcome false two three at top few is = subst (λ o. IsAnswer (state_of w) (steps.Double seen) (said.doubled o)) (sym is) (refl, ap not at)
@@ -149,7 +149,7 @@ module _ (w : World) (tells : Tells w) (t' : TableAt) (follows : Follows w.table
     move = record { allowed = (refl, doubled_answer seen (doubles.Doubled n) says); state = becomes_state w t' None _ _ _ _ changes.becomes; changes = rises; list_kept = λ kept. changes.kept; stamp = let same = changes.last in omega arith; one_stamp = let same = changes.last in omega arith };
   })
 
-  -- What each step comes to.
+  -- The outcome of each step.
   pub serves : (step : Step) (answer : Answer) → Serves step w.table answer t' → Served w step answer t'
   serves steps.Sweep answer is = swept_by is.outcome answer is refl is.answer_is
   serves (steps.InitSeek h b) answer is = sought_by h b is.outcome answer is.answer_is is.says is.changes

@@ -1,4 +1,4 @@
--- What a table keeps while spares are given back.
+-- The parts of a table that are unchanged while spares are given back.
 use Rattle.std.proofs.Common.{◌≡◌, ℕ, ◌+◌, ◌<◌, ◌≤◌, true, List, [], ◌∷◌, ◌++◌, length, Option, Some, None, is_some, length-append, refl, sym, ap, ◌∙◌, arith}
 use Rattle.std.proofs.lemmas.List.Sums.{sum_by_push}
 use Rattle.std.proofs.lemmas.Bool.{cases_lt, false≢true}
@@ -47,12 +47,12 @@ rests_more t0 t t' spare rests back follows = record {
 times_pushed : (jobs jobs' : List MapJob) (job : MapJob) (place stamp : ℕ) → jobs ≡ jobs' ++ job ∷ [] → times_in jobs place stamp ≡ times_in jobs' place stamp + times_of (spare_of_job job) place stamp
 times_pushed jobs jobs' job place stamp is = ap (λ js. times_in js place stamp) is ∙ sum_by_push (λ (j : MapJob). times_of (spare_of_job j) place stamp) jobs' job
 
--- The spare of the newest job is the table's.
+-- The spare of the newest job belongs to the table.
 pub newest_owned : (t : TableAt) (jobs jobs' : List MapJob) (job : MapJob) → jobs ≡ jobs' ++ job ∷ [] → (others : ℕ → ℕ → ℕ) → IsCovered (λ place stamp. others place stamp + times_in jobs place stamp) t → OwnsIf t (spare_of_job job)
 newest_owned t jobs jobs' job is others covered =
     owns_if t (spare_of_job job) (λ place stamp. others place stamp + times_in jobs place stamp) (λ place stamp. let times = times_pushed jobs jobs' job place stamp is in omega arith) covered
 
--- Once the newest job is given up, the spares of the others are covered still.
+-- After the newest job is given up, the spares of the others are still covered.
 pub popped_covered : (t t' : TableAt) (jobs jobs' : List MapJob) (job : MapJob) → jobs ≡ jobs' ++ job ∷ [] → GivesBack t t' (spare_of_job job)
     → (others : ℕ → ℕ → ℕ) → IsCovered (λ place stamp. others place stamp + times_in jobs place stamp) t → IsCovered (λ place stamp. others place stamp + times_in jobs' place stamp) t'
 popped_covered t t' jobs jobs' job is back others covered =
@@ -69,7 +69,7 @@ pub no_jobs : (jobs : List MapJob) → length jobs ≤ 0 → jobs ≡ []
 no_jobs [] none = refl
 no_jobs (job ∷ jobs) none = absurd (omega arith)
 
--- The spares that stay covered once what waits is given up.
+-- The spares that stay covered after the waiting operation is given up.
 pub withdrawn_covered : (t t' : TableAt) (had now : Option PendingAt) (pending : PendingAt) (jobs : List MapJob) → had ≡ Some pending → now ≡ None → GivesBack t t' pending.spare
     → (others : ℕ → ℕ → ℕ) → IsCovered (λ place stamp. others place stamp + (times_of (spare_if had) place stamp + times_in jobs place stamp)) t
     → IsCovered (λ place stamp. others place stamp + (times_of (spare_if now) place stamp + times_in jobs place stamp)) t'

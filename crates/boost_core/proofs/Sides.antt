@@ -1,4 +1,4 @@
--- What a caller's side that goes with the table may do.
+-- The steps that a caller may take if its side fits the table.
 use Rattle.std.proofs.Common.{◌≡◌, ℕ, ◌+◌, ◌-◌, ◌<◌, ◌≤◌, ◌&&◌, ◌||◌, Bool, true, false, cond, List, [], ◌∷◌, ◌++◌, length, Option, Some, None, is_some, refl, sym, ap, subst, ◌∙◌, arith}
 use Rattle.std.specs.Prelude.{slice_get, map, reverse, nat_lt, not}
 use Rattle.std.proofs.lemmas.Bool.{false≢true, cases_lt, ltb-true, lt-ltb}
@@ -41,7 +41,7 @@ at_last jobs front job is =
 pub changes_last : (jobs front : List MapJob) (job : MapJob) → jobs ≡ front ++ job ∷ [] → changes_of jobs ≡ change_of job ∷ changes_of front
 changes_last jobs front job is = ap changes_of is ∙ ap (map change_of) (reverse-append front (job ∷ []))
 
--- What waits is the operation that the phase names.
+-- The waiting operation is the one that the phase names.
 pub waiting_op : (q : Phase) (pending : PendingAt) (room : ℕ) → Waits q (Some pending) room → q ≡ Waiting pending.op
 waiting_op Closed pending room is = absurd is
 waiting_op Opened pending room is = absurd is
@@ -108,7 +108,7 @@ and_true : (a b : Bool) → (a && not b) ≡ false → a ≡ true → b ≡ true
 and_true a b is both = not_is_false b (ap (λ v. v && not b) (sym both) ∙ is)
 
 module _ (x : Session) (t : TableAt) (goes : GoesWith x t) where
-  -- The seat is that of the log.
+  -- The seat agrees with the log.
   pub seat_is : x.seat.seat ≡ record { phase = x.seat.seat.phase; standing = length x.log.jobs; kept = 0 ∷ x.log.kept }
   seat_is = λ i. record { phase = x.seat.seat.phase; standing = goes.agrees.standing i; kept = goes.agrees.kept i }
 
@@ -152,7 +152,7 @@ module _ (x : Session) (t : TableAt) (goes : GoesWith x t) where
           owned = newest_owned t x.log.jobs last.front last.job last.is goes.settles.0 goes.settles.1;
         }
 
-  -- A caller that takes changes back and has none left may end that.
+  -- A caller that takes changes back and has none left may end the undoing.
   pub can_arrive : (is_leaving x.seat.seat.phase || is_waiting x.seat.seat.phase) ≡ true → is_some x.pending ≡ false → has_job x.seat.seat ≡ false → CanArrive x
   can_arrive free none no_job =
       let rests = none_waits x.seat.seat.phase x.log.room (subst (λ (o : Option PendingAt). Waits x.seat.seat.phase o x.log.room) (no_pending x.pending none) goes.agrees.waits) in
@@ -167,7 +167,7 @@ module _ (x : Session) (t : TableAt) (goes : GoesWith x t) where
       no_pending None is = refl
       no_pending (Some pending) is = absurd (false≢true (sym is))
 
-  -- What a seek goes for: the operation that waits, or else the newest change above the level.
+  -- The key of a seek: that of the waiting operation, or else of the newest change above the level.
   pub waiting_target : (pending : PendingAt) → x.pending ≡ Some pending → target_of x ≡ target_in (Waiting pending.op) x.log
   waiting_target pending is = ap (λ q. target_in q x.log) (waiting_op x.seat.seat.phase pending x.log.room (subst (λ (o : Option PendingAt). Waits x.seat.seat.phase o x.log.room) is goes.agrees.waits))
 

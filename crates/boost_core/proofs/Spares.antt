@@ -9,7 +9,7 @@ use Rattle.map_ops.specs.TableAt.{TableAt, SpareAt, KeepsSpares, spare_out}
 use Rattle.map_ops.specs.Changes.{Spends, GivesSpare, OwnsIf}
 use Rattle.boost_core.specs.Spares.{times_of, times_out, IsCovered}
 
--- A table gives a spare out once at most.
+-- A table gives a spare out at most once.
 pub times_out_most : (t : TableAt) (place stamp : ℕ) → times_out t place stamp ≤ 1
 times_out_most t place stamp = elim (option_eq nat_eq (spare_out t place) (Some stamp)) as (λ b. cond b 1 0 ≤ 1) [ true ↦ omega arith | false ↦ omega arith ]
 
@@ -17,7 +17,7 @@ at_least_once : (b : Bool) → 1 ≤ cond b 1 0 → b ≡ true
 at_least_once true is = refl
 at_least_once false is = absurd (omega arith)
 
--- A spare that is kept is the table's.
+-- A spare that is kept belongs to the table.
 pub kept_owned : (kept : ℕ → ℕ → ℕ) (t : TableAt) (place stamp : ℕ) → IsCovered kept t → 1 ≤ kept place stamp → spare_out t place ≡ Some stamp
 kept_owned kept t place stamp covered once =
     let exact : kept place stamp ≡ times_out t place stamp = covered place stamp in
@@ -51,7 +51,7 @@ times_unlike spare place stamp unlike = ap (λ b. cond b 1 0) (and_right_false (
 times_is : (spare : SpareAt) (place stamp : ℕ) → place ≡ spare.place → stamp ≡ spare.stamp → times_of (Some spare) place stamp ≡ 1
 times_is spare place stamp at is = ap (λ (p : ℕ). times_of (Some spare) p stamp) at ∙ ap (λ (s : ℕ). times_of (Some spare) spare.place s) is ∙ times_here spare
 
--- Once a spare is given up, the others are kept as before.
+-- After a spare is given up, the others are kept as before.
 pub spent : (t t' : TableAt) (spare : Option SpareAt) (others : ℕ → ℕ → ℕ) → Spends t t' spare → IsCovered (λ place stamp. others place stamp + times_of spare place stamp) t → IsCovered others t'
 spent t t' None others is covered place stamp =
     let same : times_out t' place stamp ≡ times_out t place stamp = times_same t t' place stamp (is place) in
@@ -102,21 +102,21 @@ given t t' spare others gives covered place stamp = elim (cases_eq place spare.p
       ]
 ]
 
--- Where the same spares are out, the same are kept.
+-- If the same spares are out, the same are kept.
 pub still_covered : (t t' : TableAt) (kept : ℕ → ℕ → ℕ) → KeepsSpares t t' → IsCovered kept t → IsCovered kept t'
 still_covered t t' kept same covered place stamp =
     let is : times_out t' place stamp ≡ times_out t place stamp = times_same t t' place stamp (same place) in
     let exact : kept place stamp ≡ times_out t place stamp = covered place stamp in
     omega arith
 
--- Where no spare is out, none is kept.
+-- If no spare is out, none is kept.
 pub none_covered : (t : TableAt) (kept : ℕ → ℕ → ℕ) → ((place : ℕ) → spare_out t place ≡ None) → ((place stamp : ℕ) → kept place stamp ≡ 0) → IsCovered kept t
 none_covered t kept none_out none_kept place stamp =
     let none : times_out t place stamp ≡ 0 = times_none t place stamp (none_out place) in
     let kept_none = none_kept place stamp in
     omega arith
 
--- The spare of which one is kept is the table's.
+-- A spare that is kept once belongs to the table.
 pub owns_if : (t : TableAt) (spare : Option SpareAt) (kept : ℕ → ℕ → ℕ) → ((place stamp : ℕ) → times_of spare place stamp ≤ kept place stamp) → IsCovered kept t → OwnsIf t spare
 owns_if t None kept few covered = tt
 owns_if t (Some spare) kept few covered =

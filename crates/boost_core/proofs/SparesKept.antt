@@ -1,4 +1,4 @@
--- The spares that a caller keeps once its operation is done.
+-- The spares that a caller keeps after its operation is done.
 use Rattle.std.proofs.Common.{◌≡◌, ℕ, ◌+◌, cond, List, [], ◌∷◌, ◌++◌, Option, Some, None, ap, ◌∙◌, arith}
 use Rattle.std.specs.Prelude.{nat_eq, option_to_list}
 use Rattle.std.specs.Option.{option_eq}
@@ -39,7 +39,7 @@ relinked m (PutIf k expected w) j v kept spare is = elim (cases_Bool (option_eq 
   | inr same ↦ absurd (let none : Some (Relink j v kept) ≡ None = is ∙ ap (λ b. cond b (unput k (get m k)) None) same in cc (none))
 ]
 
--- The spares that a caller keeps once its operation is done.
+-- The spares that a caller keeps after its operation is done.
 spent_covered : (t t' : TableAt) (spare : Option SpareAt) (jobs jobs' : List MapJob) → ((place stamp : ℕ) → times_in jobs' place stamp ≡ times_in jobs place stamp + 0) → Spends t t' spare
     → (others : ℕ → ℕ → ℕ) → IsCovered (λ place stamp. others place stamp + (times_of spare place stamp + times_in jobs place stamp)) t
     → IsCovered (λ place stamp. others place stamp + (0 + times_in jobs' place stamp)) t'

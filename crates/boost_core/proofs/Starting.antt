@@ -1,4 +1,4 @@
--- A core in which nothing has happened.
+-- A core whose history is empty.
 use Rattle.std.proofs.Common.{◌≡◌, ℕ, ◌+◌, ◌<◌, ◌≤◌, ◌==◌, ◌∷◌, Bool, true, List, [], length, map, replicate, Option, Some, None, zero, suc, refl, sym, ap, subst, ◌∙◌, arith}
 use Rattle.std.specs.Prelude.{slice_get, sum_by, reverse}
 use Rattle.std.specs.List.{All}
@@ -34,11 +34,11 @@ use Rattle.boost_core.proofs.NodeLists.{node_here, node_later, none_of_none}
 use Rattle.boost_core.proofs.Spares.{none_covered}
 use Rattle.boost_core.proofs.Powers.{IsPower, power_from_test}
 
--- What limits say of the number of buckets.
+-- The number of buckets within the limits.
 pub buckets_power : (callers stripes buckets : ℕ) → are_limits callers stripes buckets ≡ true → IsPower buckets
 buckets_power callers stripes buckets are = power_from_test buckets (and_parts _ (is_power_of_two buckets) are).1
 
--- What they say of callers and stripes.
+-- The numbers of callers and stripes within the limits.
 pub few_callers : (callers stripes buckets : ℕ) → are_limits callers stripes buckets ≡ true → callers ≤ 64
 few_callers callers stripes buckets are = grind arith
 

@@ -106,7 +106,7 @@ module _ (t t' : TableAt) (spread : IsSpread (nodes_of t')) where
     does_stay claim stripes counts (steps.Abort d) _ is = absurd is
     does_stay claim stripes counts _ answer is = absurd is
 
-    -- The buckets and the helpers are as they were.
+    -- The buckets and the helpers are unchanged.
     own_buckets : (c stripe : ℕ) (op : Op) (answer : Answer) → IsAsked c stripe op x t locks answer y t' locks' → t'.buckets ≡ t.buckets
     own_buckets c stripe op answers.Asked is = is.prepares.nodes.buckets.all
     own_buckets c stripe op (answers.Busy holder) is = is.back.nodes.buckets.all ∙ is.prepares.nodes.buckets.all

@@ -22,7 +22,7 @@ parent_less : (bucket : ℕ) → 0 < bucket → bucket < 2 ^ 32 → parent_of bu
 unfolding parent_of
 parent_less bucket some small = cleared_less 32 bucket some small
 
--- What comes after bucket 0 is not bucket 0.
+-- The bucket that follows bucket 0 is not bucket 0.
 child_some : (rounds bucket : ℕ) → 0 < bucket → 0 < child_within rounds 0 bucket
 unfolding child_within
 child_some zero bucket some = some

@@ -1,17 +1,17 @@
--- What adding the entry of a step asks for, and what it does to the seat.
+-- The entry of a step is added: the requirements, and the seat after it.
 use Rattle.std.specs.Prelude.{◌≡◌, ℕ, ◌+◌, ◌-◌, ◌<◌, ◌≤◌, ◌^◌, true, Option, Some, None, List, [], ◌∷◌}
 use Rattle.txn_trace.specs.declared.entry.Entry.{Entry}
 use Rattle.txn_trace.specs.Shape.{Seat, RoomySeat, row}
 use Rattle.txn_trace.specs.Seats.{is_saved}
 use Rattle.txn_trace.specs.Owed.{owed_in}
 
--- The seat enters what is added: one entry, or none.
+-- The seat enters the added entry, if there is one.
 abbrev pub Enters : RoomySeat → List Entry → RoomySeat → Type 0
 Enters s [] s' = s' ≡ s
 Enters s (e ∷ []) s' = row s.seat s.seat.phase e ≡ Some s'.seat
 Enters s (e ∷ f ∷ es) s' = ⊥
 
--- An entry may come next, there is room for it, and what is then owed fits.
+-- An entry may come next, there is room for it, and the number of entries owed after it fits.
 pub record CanEnter (s : RoomySeat) (len cap owed : ℕ) (e : Entry) : Type 0 where
   pub next : Seat
   pub row_is : row s.seat s.seat.phase e ≡ Some next
@@ -22,7 +22,7 @@ pub record CanEnter (s : RoomySeat) (len cap owed : ℕ) (e : Entry) : Type 0 wh
   pub owed_fits : owed < 2 ^ 63
   pub fits : owed - owed_in s.seat.standing s.seat.phase + owed_in next.standing next.phase < 2 ^ 63
 
--- The same of what is owed where nothing is added.
+-- An entry may be added, or none is to be; the number of entries owed fits.
 abbrev pub CanAdd : RoomySeat → ℕ → ℕ → ℕ → Option Entry → Type 0
 CanAdd s len cap owed None = owed_in s.seat.standing s.seat.phase ≤ owed
 CanAdd s len cap owed (Some e) = CanEnter s len cap owed e

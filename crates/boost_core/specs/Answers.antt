@@ -1,4 +1,4 @@
--- What a step that is not refused may be answered, and the state after it.
+-- The answers to a step that is not refused, and the state after each.
 use Rattle.std.specs.Prelude.{◌≡◌, ℕ, ◌+◌, ◌*◌, ◌-◌, ◌^◌, ◌==◌, Bool, true, false, not, nat_lt, ◌&&◌, ◌||◌, IsTrue, List, ◌++◌, Option, Some, None, length, slice_set}
 use Rattle.txn_trace.specs.declared.step.Step.{Step}
 use Rattle.txn_trace.specs.declared.step.Step.TheVariants.{Begin, Ask, Seek, Act, Save, Back, Commit, Abort, Sweep, InitSeek, InitLink, InitStore, Double}
@@ -17,7 +17,7 @@ use Rattle.txn_trace.specs.Locks.{is_locked}
 use Rattle.boost_core.specs.State.{State, Owner, Caller, Helper, Help, Nothing, Sought, Dummy, seat_in, caller_changes, help_in, helper_changes, bucket_at, is_set, with_bucket, holder_by}
 use Rattle.boost_core.specs.Refusals.{has_job, has_target, has_stamp, has_stamp_for, lacks_dummy}
 
--- Whether two cursors are of one owner.
+-- Whether two cursors have the same owner.
 abbrev pub is_same_owner : Owner → Owner → Bool
 is_same_owner (Caller c) (Caller d) = c == d
 is_same_owner (Helper h) (Helper i) = h == i
@@ -33,8 +33,8 @@ abbrev pub owner_changes : State → Owner → Option ℕ
 owner_changes state (Caller c) = caller_changes state.cursors c
 owner_changes state (Helper h) = helper_changes (help_in state.helpers h)
 
--- Whether a cursor may be found to fit no longer: not where the last move placed it, nor where the
--- list's change number is still the one that it noted, unless that is the last number.
+-- Whether a cursor may turn out not to fit: it fits if the last move placed it, and if the list's
+-- change number is still the one that it noted, unless that is the greatest number.
 abbrev pub may_be_stale : State → Owner → Bool
 may_be_stale state owner = elim (owner_changes state owner) [
   | None ↦ false
@@ -57,7 +57,7 @@ abbrev pub is_at_end : Phase → Bool
 is_at_end LeavingToEnd = true
 is_at_end phase = false
 
--- What the step is answered that ends the taking back of a phase.
+-- The answer to the step that ends the undoing of a phase.
 abbrev pub end_of : Phase → Answer
 end_of (LeavingTo n) = answers.Returned n
 end_of phase = answers.Aborted
@@ -66,7 +66,7 @@ end_of phase = answers.Aborted
 abbrev pub may_grow : State → ℕ → Bool
 may_grow state seen = state.size == seen && not (state.size == state.limits.buckets)
 
--- Whether more than twice as many keys are there as buckets.
+-- Whether there are more than twice as many keys as buckets.
 abbrev pub is_crowded : State → Bool
 is_crowded state = nat_lt (2 * state.size) (count_of (now state.history))
 
@@ -74,8 +74,8 @@ is_crowded state = nat_lt (2 * state.size) (count_of (now state.history))
 abbrev pub may_stand : State → Entry → Bool
 may_stand state e = is_locked (holder_by state.words) state.limits.stripes state.history e
 
--- What each step may be answered where nothing refuses it; a pair that does not stand here never
--- is.
+-- The answers that each step may have if nothing refuses it. A pair that is not listed never
+-- occurs.
 abbrev pub IsAnswer : State → Step → Answer → Type 0
 IsAnswer state (Begin c) (answers.Began t) = t ≡ how_many is_began state.history + 1
 IsAnswer state (Ask c op) answers.Asked =
@@ -123,7 +123,8 @@ cursors_after cursors (Back c n) answers.Leaving changes = slice_set cursors c N
 cursors_after cursors (Abort c) answers.Leaving changes = slice_set cursors c None
 cursors_after cursors step answer changes = cursors
 
--- What the helpers have after a step and its answer, with the change number that the list then has.
+-- The states of the helpers after a step and its answer, with the change number that the list then
+-- has.
 abbrev pub helpers_after : List Help → Step → Answer → ℕ → List Help
 helpers_after helpers (InitSeek h b) answers.Ready changes = slice_set helpers h Nothing
 helpers_after helpers (InitSeek h b) answers.Placed changes = slice_set helpers h (Sought b changes)
@@ -152,13 +153,13 @@ abbrev pub size_after : ℕ → Answer → ℕ
 size_after size (answers.Doubled doubled) = doubled
 size_after size answer = size
 
--- Whose cursor a step and its answer placed.
+-- The owner of the cursor that a step and its answer placed.
 abbrev pub placed_by : Step → Answer → Option Owner
 placed_by (Seek c) answers.Placed = Some (Caller c)
 placed_by (InitSeek h b) answers.Placed = Some (Helper h)
 placed_by step answer = None
 
--- Whether an answer leaves the list as it was.
+-- Whether an answer leaves the list unchanged.
 abbrev pub keeps_list : Answer → Bool
 keeps_list answers.Placed = false
 keeps_list (answers.Done reply) = false
@@ -167,8 +168,8 @@ keeps_list answers.Linked = false
 keeps_list answers.Swept = false
 keeps_list answer = true
 
--- The state after a step and its answer, with the change number and the last stamp that there then
--- are. A refusal leaves the state.
+-- The state after a step and its answer, with the change number and the last stamp after it. A
+-- refusal leaves the state unchanged.
 abbrev pub after : State → Step → Answer → ℕ → ℕ → State
 after state step (answers.Refused refusal) changes stamp = state
 after state step answer changes stamp = record state {

@@ -1,16 +1,16 @@
--- Which callers have begun a transaction, as the core notes it.
+-- The callers that have begun a transaction, as the core notes them.
 use Rattle.std.specs.Prelude.{◌≡◌, ℕ, Bool, true, false, List, Option, Some, None, length, nat_lt, slice_index_or, slice_set, if◌then◌else◌}
 use Rattle.txn_trace.specs.declared.entry.Entry.{Entry}
 use Rattle.txn_trace.specs.declared.entry.Entry.TheVariants.{Began}
 use Rattle.txn_trace.specs.Locks.{has_begun}
 
--- What is noted, where one entry more is there, or none.
+-- The notes after one more entry, or none.
 abbrev pub begun_with : List Bool → Option Entry → List Bool
 begun_with begun (Some (Began c t)) =
     if nat_lt c (length begun) then slice_set begun c true else begun
 begun_with begun entry = begun
 
--- Of each caller it is noted whether it has begun a transaction.
+-- For each caller it is noted whether it has begun a transaction.
 pub record AreNoted (callers : ℕ) (history : List Entry) (begun : List Bool) : Type 0 where
   pub many : length begun ≡ callers
   pub each : (c : ℕ) → slice_index_or begun c false ≡ has_begun c history

@@ -1,4 +1,4 @@
--- What is true of every core.
+-- The invariants of every core.
 use Rattle.std.specs.Prelude.{◌≡◌, ℕ, ◌+◌, ◌<◌, ◌≤◌, Bool, true, Option, Some, None, List, length, map, reverse, slice_get, vec_len, vec_capacity, sum_by, if◌then◌else◌}
 use Rattle.std.specs.Option.{option_map}
 use Rattle.std.specs.Global.{Vec}
@@ -24,9 +24,9 @@ use Rattle.boost_core.specs.Begun.{AreNoted}
 use Rattle.boost_core.specs.Spares.{IsCovered}
 use Rattle.boost_core.specs.Sessions.{owed_of, Agrees, IsSought, times_kept, changes_of, AreDue}
 
--- What a core is made of, but for room: the limits, the history and its counts, the table, each
--- caller's side, the stripes' holders, whose cursor the last move placed, and whether stripes are
--- words.
+-- The parts of a core, except room: the limits, the history and its counts, the table, each
+-- caller's side, the stripes' holders, the owner of the cursor that the last move placed, and
+-- whether stripes are words.
 pub record World : Type 0 where
   pub limits : Sizes
   pub history : List Entry
@@ -76,11 +76,11 @@ abbrev pub gap_if : TableAt → Option Cursor → Option Gap
 gap_if t None = None
 gap_if t (Some cursor) = gap_of t cursor
 
--- Those of each caller's cursor.
+-- The two nodes beside each caller's cursor.
 abbrev pub gap_by : TableAt → Session → Option Gap
 gap_by t s = gap_if t s.cursor
 
--- Those of each helper's cursor.
+-- The two nodes beside each helper's cursor.
 abbrev pub helper_gaps_of : TableAt → List (Option Gap)
 helper_gaps_of t = map (gap_if t) (cursors_of t)
 
@@ -103,8 +103,8 @@ state_of w = record {
   placed = w.placed;
 }
 
--- A caller's side is what the history says: its seat, and its log, which may be taken back from the
--- map as it is now.
+-- A caller's side agrees with the history: its seat, and its log, whose changes may be taken back
+-- from the map now.
 pub record IsSeated (history : List Entry) (c : ℕ) (s : Session) : Type 0 where
   pub seat : seat_after (own c history) ≡ Some s.seat.seat
   pub log : log_of c history ≡ changes_of s.log.jobs
@@ -124,7 +124,7 @@ IsFresh t sessions (Some (Caller c)) =
 IsFresh t sessions (Some (Helper h)) = helper_fits t h ≡ true
 
 -- The history is legal, and the counts, the stripes' holders, the table and each caller's side are
--- what it says.
+-- those of the history.
 pub record Tells (w : World) : Type 0 where
   pub legal : IsLegal (holder_by w.words) w.limits.stripes w.history
   pub callers : All (λ entry. caller_of entry < w.limits.callers) w.history
@@ -143,7 +143,8 @@ pub record Tells (w : World) : Type 0 where
   pub helpers : length (helps_of w.table) ≡ w.limits.callers
   pub sound : IsSound w.table.list
 
--- And what the callers owe is counted, the history has room for it, and who has begun is noted.
+-- In addition, the entries that the callers owe are counted, the history has room for them, and the
+-- callers that have begun are noted.
 pub record Holds (w : World) (history : Vec Entry) (owed : ℕ) (begun : List Bool) : Type 0 where
   pub tells : Tells w
   pub owes : owed ≡ sum_by owed_of w.sessions

@@ -1,4 +1,4 @@
--- How many transactions have begun, and how many have committed, after an answer.
+-- The numbers of transactions that have begun and that have committed, after an answer.
 use Rattle.txn_trace.specs.declared.answer.Answer.{Answer}
 use Rattle.txn_trace.specs.declared.answer.Answer.TheVariants.{Began, Committed}
 use Rattle.boost_core.specs.declared.counts.Counts.{Counts}

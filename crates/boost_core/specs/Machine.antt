@@ -1,4 +1,4 @@
--- The fifth claim, answers: which moves of the machine of steps there are.
+-- The fifth claim, answers: the moves of the machine of steps.
 pub use Rattle.boost_core.specs.State.{State, start, start_with_words, holder_by}
 use Rattle.std.specs.Prelude.{◌≡◌, ◌+◌, ◌≤◌, ◌⊎◌, true, List, [], ◌∷◌, Some, None}
 use Rattle.txn_trace.specs.declared.step.Step.{Step}
@@ -9,17 +9,16 @@ use Rattle.boost_core.specs.Refusals.{refusal_of, MayLack}
 use Rattle.boost_core.specs.Answers.{IsAnswer, keeps_list, after}
 use Rattle.boost_core.specs.Nodes.{Lists, Cursors}
 
--- Whether a step may be answered so: by the first refusal whose test holds, and where none does, by
--- want of memory or of stamps, or by an answer of the step.
+-- Whether a step may have this answer: the first refusal whose test fits, or if none does, the lack
+-- of memory or of stamps, or an answer of the step.
 abbrev pub IsAllowed : State → Step → Answer → Type 0
 IsAllowed state step (answers.Refused refusal) =
     (refusal_of state step ≡ Some refusal)
     ⊎ ((refusal_of state step ≡ None) × MayLack state step refusal)
 IsAllowed state step answer = (refusal_of state step ≡ None) × IsAnswer state step answer
 
--- A step, its answer and the state after it, of whose nodes and cursors `Nodes` says what becomes.
--- The change number never falls, and stays where the list does; the last stamp rises by at most
--- one.
+-- A step, its answer and the state after it; `Nodes` describes its nodes and cursors. The change
+-- number never falls, and is unchanged if the list is; the last stamp rises by at most one.
 pub record Move (old : State) (step : Step) (answer : Answer) (new : State) : Type 0 where
   pub allowed : IsAllowed old step answer
   pub state : new
@@ -33,8 +32,8 @@ pub record Move (old : State) (step : Step) (answer : Answer) (new : State) : Ty
   pub stamp : old.stamp ≤ new.stamp
   pub one_stamp : new.stamp ≤ old.stamp + 1
 
--- A step is taken, and nothing is done besides: it makes a move, and the linked nodes, the last
--- stamp and all cursors become what `Nodes` says.
+-- A step is taken, and nothing else: it makes a move, and the linked nodes, the last stamp and all
+-- cursors change as `Nodes` says.
 pub record Event (old : State) (step : Step) (answer : Answer) (new : State) : Type 0 where
   pub move : Move old step answer new
   pub lists : Lists old step answer new
@@ -47,6 +46,6 @@ Moves old (step ∷ steps) (answer ∷ answers) new =
     (between : State) × Event old step answer between × Moves between steps answers new
 Moves old steps answers new = ⊥
 
--- A run: these answers to these steps, from the state in which nothing has happened.
+-- A run: these answers to these steps, from the start.
 abbrev pub Run : Sizes → List Step → List Answer → State → Type 0
 Run limits steps answers last = Moves (start limits) steps answers last

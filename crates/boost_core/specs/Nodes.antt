@@ -1,4 +1,4 @@
--- What each step does to the linked nodes, to the change number and to the last stamp, and which
+-- The effect of each step on the linked nodes, the change number and the last stamp, and which
 -- cursors of callers and helpers fit.
 use Rattle.std.specs.Prelude.{◌≡◌, ◌≢◌, ℕ, ◌+◌, ◌-◌, ◌%◌, ◌<◌, Bool, true, false, not, List, [], ◌∷◌, ◌++◌, Option, Some, None, is_some, length, filter, nat_eq, if◌then◌else◌}
 use Rattle.std.specs.Option.{option_eq}
@@ -32,17 +32,17 @@ IsInOrder (n ∷ rest) = AllByRecursion (λ m. IsBefore n.at m.at) rest × IsInO
 abbrev pub IsClean : List Node → Type 0
 IsClean nodes = AllByRecursion (λ n. n.marked ≡ false) nodes
 
--- The nodes and the change number are as they were.
+-- The nodes and the change number are unchanged.
 pub record Keeps (old new : State) : Type 0 where
   pub nodes : new.nodes ≡ old.nodes
   pub changes : new.changes ≡ old.changes
 
--- One thing is written, and no node is linked, marked or unlinked.
+-- One value is written, and no node is linked, marked or unlinked.
 pub record Writes (old new : State) : Type 0 where
   pub nodes : new.nodes ≡ old.nodes
   pub changes : new.changes ≡ one_more old.changes
 
--- An unmarked node is linked here, and nothing else is done.
+-- An unmarked node is linked at this position, and nothing else changes.
 pub record Links (old new : State) (at : SortKey) : Type 0 where
   pub front : List Node
   pub back : List Node
@@ -50,7 +50,7 @@ pub record Links (old new : State) (at : SortKey) : Type 0 where
   pub new_is : new.nodes ≡ front ++ plain_node at ∷ back
   pub changes : new.changes ≡ one_more old.changes
 
--- The unmarked node that stands here is marked, and nothing else is done.
+-- The unmarked node at this position is marked, and nothing else changes.
 pub record Marks (old new : State) (at : SortKey) : Type 0 where
   pub front : List Node
   pub back : List Node
@@ -58,7 +58,7 @@ pub record Marks (old new : State) (at : SortKey) : Type 0 where
   pub new_is : new.nodes ≡ front ++ marked_node at ∷ back
   pub changes : new.changes ≡ one_more old.changes
 
--- The first marked node is unlinked, and nothing else is done.
+-- The first marked node is unlinked, and nothing else changes.
 pub record Sweeps (old new : State) : Type 0 where
   pub front : List Node
   pub at : SortKey
@@ -78,8 +78,8 @@ abbrev pub is_unmarked : Node → Bool
 is_unmarked n = not n.marked
 
 -- A seek from the dummy of a bucket: it passes the nodes up to the first unmarked one that does not
--- stand before the place sought. Of those that it passes the marked ones are unlinked, and nothing
--- else is done. The change number grows by one for each.
+-- stand before the position sought. The marked ones that it passes are unlinked, and nothing else
+-- changes. The change number grows by one for each.
 pub record SeeksFrom (old new : State) (bucket : ℕ) (at : SortKey) : Type 0 where
   pub front : List Node
   pub start : Node
@@ -92,14 +92,14 @@ pub record SeeksFrom (old new : State) (bucket : ℕ) (at : SortKey) : Type 0 wh
   pub stops : StopsAt at back
   pub changes : new.changes ≡ changes_after old.changes (length old.nodes - length new.nodes)
 
--- Of a bucket, its parent, the parent's parent and so on this is the nearest one that is stored.
+-- The nearest stored bucket among this one, its parent, the parent's parent and so on.
 pub record IsNearest (stored : List Bool) (bucket nearest : ℕ) : Type 0 where
   pub steps : ℕ
   pub is : nearest ≡ ancestor_of steps bucket
   pub there : is_set stored nearest ≡ true
   pub nearer : (fewer : ℕ) → fewer < steps → is_set stored (ancestor_of fewer bucket) ≡ false
 
--- The key of the newest change, of those of a log.
+-- The key of the newest change of a log.
 abbrev pub newest_key : List (ℕ × Option ℕ) → ℕ
 newest_key [] = 0
 newest_key (change ∷ older) = change.0
@@ -118,8 +118,8 @@ pub record SeeksKey (old new : State) (key : ℕ) : Type 0 where
   pub nearest : IsNearest old.stored (key % old.size) bucket
   pub seeks : SeeksFrom old new bucket (regular_at key)
 
--- What is done where a key's value changes from the first to the second: a node is linked, or the
--- key's node is marked, or a value is written there, and no other node is touched.
+-- The effect of changing a key's value from the first to the second: a node is linked, or the key's
+-- node is marked, or a value is written there, and no other node is touched.
 abbrev pub Changes : State → State → ℕ → Option ℕ → Option ℕ → Type 0
 Changes old new key None None = Keeps old new
 Changes old new key None (Some value) = Links old new (regular_at key)
@@ -131,7 +131,7 @@ abbrev pub PutsIf : State → State → ℕ → ℕ → Option ℕ → Bool → 
 PutsIf old new key value before true = Changes old new key before (Some value)
 PutsIf old new key value before false = Keeps old new
 
--- What an operation does. A get does nothing.
+-- The effect of an operation. A get has none.
 abbrev pub OpDoes : State → State → Op → Type 0
 OpDoes old new (Put key value) = Changes old new key (get (now old.history) key) (Some value)
 OpDoes old new (Take key) = Changes old new key (get (now old.history) key) None
@@ -140,18 +140,18 @@ OpDoes old new (PutIf key expected value) =
     PutsIf old new key value (get (now old.history) key)
     (option_eq nat_eq (get (now old.history) key) expected)
 
--- What the operation that waits does.
+-- The effect of the operation that waits.
 abbrev pub OpDoesIn : State → State → Phase → Type 0
 OpDoesIn old new (Waiting op) = OpDoes old new op
 OpDoesIn old new phase = ⊥
 
--- What taking the newest change back does.
+-- The effect of taking the newest change back.
 abbrev pub BackDoes : State → State → List (ℕ × Option ℕ) → Type 0
 BackDoes old new [] = ⊥
 BackDoes old new (change ∷ older) =
     Changes old new change.0 (get (now old.history) change.0) change.1
 
--- What a step and its answer do to the nodes and to the change number.
+-- The effect of a step and its answer on the nodes and on the change number.
 abbrev pub Touches : State → Step → Answer → State → Type 0
 Touches old (Seek c) answers.Placed new = SeeksKey old new (next_key old c)
 Touches old (Act c) (answers.Done reply) new = OpDoesIn old new (seat_in old.history c).phase
@@ -163,33 +163,33 @@ Touches old (InitLink h) answers.Linked new =
     Links old new (dummy_at (bucket_at (help_in old.helpers h)))
 Touches old step answer new = Keeps old new
 
--- The last stamp after a step and its answer: one is given for each node that is taken.
+-- The last stamp after a step and its answer: each node that is taken has one.
 abbrev pub stamp_after : ℕ → Step → Answer → ℕ
 stamp_after stamp (Ask c op) answers.Asked = if takes_node op then stamp + 1 else stamp
 stamp_after stamp (Ask c op) (answers.Busy holder) = if takes_node op then stamp + 1 else stamp
 stamp_after stamp (InitLink h) answers.Linked = stamp + 1
 stamp_after stamp step answer = stamp
 
--- What a step and its answer do to the list.
+-- The effect of a step and its answer on the list.
 pub record Lists (old : State) (step : Step) (answer : Answer) (new : State) : Type 0 where
   pub nodes : Touches old step answer new
   pub stamp : new.stamp ≡ stamp_after old.stamp step answer
 
--- The first of these nodes is unmarked and stands here, or there is none.
+-- The first of these nodes is unmarked and has this sort key, or there is none.
 abbrev pub StartsAt : List Node → Option SortKey → Type 0
 StartsAt [] None = Unit {0}
 StartsAt [] (Some at) = ⊥
 StartsAt (n ∷ rest) None = ⊥
 StartsAt (n ∷ rest) (Some at) = n ≡ plain_node at
 
--- The two nodes stand side by side, unmarked.
+-- The two nodes are neighbours, unmarked.
 pub record AreNeighbours (nodes : List Node) (gap : Gap) : Type 0 where
   pub front : List Node
   pub back : List Node
   pub nodes_are : nodes ≡ front ++ plain_node gap.before ∷ back
   pub next : StartsAt back gap.behind
 
--- The place of this sort key is between the two.
+-- The position of this sort key is between the two.
 pub record IsBetween (gap : Gap) (at : SortKey) : Type 0 where
   pub before : IsBefore gap.before at
   pub behind : (next : SortKey) → gap.behind ≡ Some next → IsNotBefore next at
@@ -198,15 +198,16 @@ pub record IsBetween (gap : Gap) (at : SortKey) : Type 0 where
 abbrev pub HasFit : State → Owner → Type 0
 HasFit state owner = is_some (gap_for state owner) ≡ true
 
--- It stands between the two nodes beside the place of this sort key.
+-- The owner's cursor stands between the two nodes beside the position of this sort key.
 pub record StandsAt (state : State) (owner : Owner) (at : SortKey) : Type 0 where
   pub gap : Gap
   pub has : gap_for state owner ≡ Some gap
   pub neighbours : AreNeighbours state.nodes gap
   pub between : IsBetween gap at
 
--- A seek gives a cursor that fits, and an act of a caller or a link of a helper is answered `again`
--- exactly where it fits no longer. A link is refused memory or a stamp only where it fits.
+-- A seek gives a cursor that fits, and the answer to an act of a caller or a link of a helper is
+-- `again` exactly if its cursor no longer fits. A link is refused memory or a stamp only if it
+-- fits.
 abbrev pub Fits : State → Step → Answer → State → Type 0
 Fits old (Seek c) answers.Placed new = StandsAt new (Caller c) (regular_at (next_key old c))
 Fits old (Act c) answers.Again new = gap_for old (Caller c) ≡ None
@@ -220,18 +221,19 @@ Fits old (InitLink h) (answers.Refused NoMemory) new = HasFit old (Helper h)
 Fits old (InitLink h) (answers.Refused StampsUsedUp) new = HasFit old (Helper h)
 Fits old step answer new = Unit {0}
 
--- Whose cursor a step and its answer may move: its own caller's or helper's, unless it is refused.
+-- The owner whose cursor a step and its answer may move: its caller or helper, unless it is
+-- refused.
 abbrev pub mover_of : Step → Answer → Option Owner
 mover_of step (answers.Refused refusal) = None
 mover_of step answer = owner_of step
 
--- The cursor of each other caller and helper fits still, where its two nodes are still side by
--- side: what is done at a distance costs it nothing.
+-- The cursor of each other caller and helper still fits, if its two nodes are still neighbours:
+-- changes elsewhere do not affect it.
 abbrev pub KeepsGaps : State → Step → Answer → State → Type 0
 KeepsGaps old step answer new = (owner : Owner) (gap : Gap) → mover_of step answer ≢ Some owner
     → gap_for old owner ≡ Some gap → AreNeighbours new.nodes gap → gap_for new owner ≡ Some gap
 
--- What a step does to the cursors of callers and of helpers.
+-- The effect of a step on the cursors of callers and of helpers.
 pub record Cursors (old : State) (step : Step) (answer : Answer) (new : State) : Type 0 where
   pub fits : Fits old step answer new
   pub keeps : KeepsGaps old step answer new

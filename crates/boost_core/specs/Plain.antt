@@ -1,5 +1,4 @@
--- The plain calls: steps of one caller with none between and nothing besides, of which none is
--- answered `again`.
+-- The plain calls: steps of one caller in a row, none of which has the answer `again`.
 use Rattle.std.specs.Prelude.{◌≡◌, ℕ, ◌%◌, zero, suc, Bool, true, false, nat_le, List, [], ◌∷◌, Option, Some, Result, Ok, Err}
 use Rattle.txn_trace.specs.declared.op.Op.{Op}
 use Rattle.txn_trace.specs.declared.step.Step.{Step}
@@ -17,7 +16,7 @@ use Rattle.boost_core.specs.State.{State, seat_in, is_set}
 use Rattle.boost_core.specs.Answers.{is_at_end}
 use Rattle.boost_core.specs.Machine.{Event, Moves}
 
--- An operation is asked for, sought and done; or the asking has another answer, and that is all.
+-- An operation is asked for, sought and done; or the ask has another answer and is the only step.
 abbrev pub Operates : State → ℕ → Op → Answer → State → Type 0
 Operates old c op answers.Asked new = ⊥
 Operates old c op (answers.Done reply) new =
@@ -25,23 +24,23 @@ Operates old c op (answers.Done reply) new =
     (answers.Asked ∷ answers.Placed ∷ answers.Done reply ∷ []) new
 Operates old c op answer new = Event old (Ask c op) answer new
 
--- So many changes are sought and taken back, and then these steps are taken.
+-- This number of changes is sought and taken back, and then these steps are taken.
 abbrev pub undoing : ℕ → ℕ → List Step → List Step
 undoing zero c steps = steps
 undoing (suc changes) c steps = undoing changes c (Seek c ∷ Act c ∷ steps)
 
--- Their answers, and then these.
+-- The answers to those steps, and then these.
 abbrev pub undone : ℕ → List Answer → List Answer
 undone zero others = others
 undone (suc changes) others = undone changes (answers.Placed ∷ answers.Undone ∷ others)
 
--- Some number of changes is taken back, and then the caller is where it leaves to.
+-- Some number of changes is taken back, and then the caller has arrived at its level or at the end.
 abbrev pub Ends : State → ℕ → Answer → State → Type 0
 Ends old c answer new =
     (changes : ℕ) × Moves old (undoing changes c (Act c ∷ [])) (undone changes (answer ∷ [])) new
 
--- A caller goes back to a level: it leaves, and ends that; or the step has another answer, and that
--- is all.
+-- A caller goes back to a level: it leaves, and the undoing ends; or the first step has another
+-- answer and is the only one.
 abbrev pub Returns : State → ℕ → ℕ → Answer → State → Type 0
 Returns old c n answers.Leaving new = ⊥
 Returns old c n (answers.Returned m) new =
@@ -49,13 +48,13 @@ Returns old c n (answers.Returned m) new =
     × Ends left c (answers.Returned m) new
 Returns old c n answer new = Event old (Back c n) answer new
 
--- The step by which a caller leaves to the end, unless it does already.
+-- The step by which a caller leaves to the end, unless it is leaving already.
 abbrev pub Leaves : Bool → State → ℕ → State → Type 0
 Leaves true old c left = left ≡ old
 Leaves false old c left = Event old (Abort c) answers.Leaving left
 
--- A caller aborts: it leaves to the end, and ends that; or the step has another answer, and that is
--- all.
+-- A caller aborts: it leaves to the end, and the undoing ends; or the first step has another answer
+-- and is the only one.
 abbrev pub Aborts : State → ℕ → Answer → State → Type 0
 Aborts old c answers.Leaving new = ⊥
 Aborts old c answers.Aborted new =
@@ -64,8 +63,8 @@ Aborts old c answers.Aborted new =
 Aborts old c answer new =
     (is_at_end (seat_in old.history c).phase ≡ false) × Event old (Abort c) answer new
 
--- So many moves of a drive, with none of another's between: each is the step that the drive names
--- at the size of that moment, and the drive is told the answer.
+-- This number of moves of a drive in a row: each is the step that the drive names at the table's
+-- size, and the drive is told the answer.
 abbrev pub Drives : ℕ → Drive → State → Drive → State → Type 0
 Drives zero drive old last new = (last ≡ drive) × (new ≡ old)
 Drives (suc moves) drive old last new =
@@ -80,9 +79,9 @@ pub record HelpsTo (outcome : End) (old : State) (c key : ℕ) (new : State) : T
   pub drives : Drives moves (new_drive old.limits.half c (calls.Help key)) old last new
   pub ended : end_of last ≡ Some outcome
 
--- A caller helps: the bucket of the key is initialised then. Or the call is refused, at its
--- beginning for its key, or later for want of memory or of stamps; or there is no such caller, and
--- that is all.
+-- A caller helps, and the bucket of the key is initialised. Or the call is refused: at its
+-- beginning for its key, or later for lack of memory or of stamps; or there is no such caller, and
+-- no step is taken.
 abbrev pub Helps : State → ℕ → ℕ → Result Unit Refusal → State → Type 0
 Helps old c key (Ok done) new =
     HelpsTo ends.Helped old c key new × (is_set new.stored (key % new.size) ≡ true)
@@ -92,7 +91,7 @@ Helps old c key (Err NoMemory) new = HelpsTo (ends.Refused NoMemory) old c key n
 Helps old c key (Err StampsUsedUp) new = HelpsTo (ends.Refused StampsUsedUp) old c key new
 Helps old c key (Err refusal) new = ⊥
 
--- What such a call comes to, by how its drive ended.
+-- The result of such a call, from the end of its drive.
 abbrev pub outcome_of : Option End → Result Unit Refusal
 outcome_of (Some (ends.Refused refusal)) = Err refusal
 outcome_of outcome = Ok tt

@@ -12,7 +12,7 @@ use Rattle.txn_trace.specs.Shape.{Seat}
 use Rattle.map_ops.specs.Buckets.{parent_of, LacksSegment}
 use Rattle.boost_core.specs.State.{State, Owner, Caller, Helper, Help, Sought, Dummy, seat_in, caller_changes, help_in, is_set, bucket_at}
 
--- Whose a step is, if it is a caller's or a helper's.
+-- The owner of a step, if it is a caller's or a helper's.
 abbrev pub owner_of : Step → Option Owner
 owner_of (Begin c) = Some (Caller c)
 owner_of (Ask c op) = Some (Caller c)
@@ -28,7 +28,8 @@ owner_of (InitLink h) = Some (Helper h)
 owner_of (InitStore h) = Some (Helper h)
 owner_of (Double n) = None
 
--- Whether a step of a caller lacks the cursor that it acts on, where the caller has one or not.
+-- Whether a step of a caller lacks the cursor that it acts on; the Boolean says whether the caller
+-- has one.
 abbrev pub lacks_in : Seat → Bool → Step → Bool
 lacks_in seat there (Act c) = has_target seat && not there
 lacks_in seat there step = false
@@ -59,8 +60,8 @@ tests_at state help (InitLink h) = (not (has_cursor help), HelperOutOfOrder) ∷
 tests_at state help (InitStore h) = (not (has_dummy help), HelperOutOfOrder) ∷ []
 tests_at state help step = []
 
--- All tests of a step: the number of its caller or helper, then what the seat and the cursor say,
--- or the helper and the buckets.
+-- All tests of a step: the number of its caller or helper, then those of the seat and the cursor,
+-- or of the helper and the buckets.
 abbrev pub tests_of : State → Option Owner → Step → List (Bool × Refusal)
 tests_of state None step = []
 tests_of state (Some (Caller c)) step =
@@ -70,7 +71,7 @@ tests_of state (Some (Caller c)) step =
 tests_of state (Some (Helper h)) step =
     (nat_le state.limits.callers h, NoSuchHelper) ∷ tests_at state (help_in state.helpers h) step
 
--- The refusal of a step: that of its first test that holds.
+-- The refusal of a step: that of its first test that fits.
 abbrev pub refusal_of : State → Step → Option Refusal
 refusal_of state step = first_of (tests_of state (owner_of step) step)
 
@@ -86,8 +87,8 @@ has_stamp_for state op = not (takes_node op) || has_stamp state
 abbrev pub lacks_dummy : State → ℕ → Bool
 lacks_dummy state h = not (is_set state.linked (bucket_at (help_in state.helpers h)))
 
--- Memory may be refused to a step that reserves some, and stamps may be used up. These tests stand
--- behind all others.
+-- Memory may be refused to a step that reserves some, and stamps may be used up. These tests follow
+-- all others.
 abbrev pub MayLack : State → Step → Refusal → Type 0
 MayLack state (Begin c) NoMemory = Unit {0}
 MayLack state (Ask c op) NoMemory = Unit {0}

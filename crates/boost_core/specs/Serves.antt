@@ -1,4 +1,4 @@
--- What the steps that are no caller's are answered, and what they do to the table.
+-- The answers to the steps that are no caller's, and their effects on the table.
 use Rattle.std.specs.Prelude.{◌≡◌, ◌≢◌, ℕ, ◌-◌, ◌<◌, ◌^◌, ◌↔◌, Bool, true, false, Some, Result, Ok, Err}
 use Rattle.std.specs.List.{slice_get}
 use Rattle.txn_trace.specs.declared.step.Step.{Step}
@@ -29,7 +29,7 @@ is_served (InitStore h) = true
 is_served (Double seen) = true
 is_served step = false
 
--- The answers, by what the table says.
+-- The answers, from those of the table.
 abbrev pub swept : SweepOutcome → Answer
 swept outcomes.Swept = answers.Swept
 swept outcomes.Clean = answers.Clean
@@ -66,7 +66,7 @@ pub record Sweeping (t t' : TableAt) (answer : Answer) : Type 0 where
   pub spares : KeepsSpares t t'
   pub stays : outcome ≡ outcomes.Clean → table_changes t' ≡ table_changes t
 
--- A helper seeks the place of a bucket's dummy.
+-- A helper seeks the position of a bucket's dummy.
 pub record Seeking (t t' : TableAt) (h b : ℕ) (answer : Answer) : Type 0 where
   pub outcome : Result Sought Refusal
   pub answer_is : answer ≡ sought outcome
@@ -106,7 +106,7 @@ pub record Doubling (t t' : TableAt) (seen : ℕ) (answer : Answer) : Type 0 whe
   pub changes : Doubles t t' outcome
   pub list : KeepsList t t'
 
--- What each step does, by its answer.
+-- The effect of each step, by its answer.
 abbrev pub Serves : Step → TableAt → Answer → TableAt → Type 0
 Serves Sweep t answer t' = Sweeping t t' answer
 Serves (InitSeek h b) t answer t' = Seeking t t' h b answer

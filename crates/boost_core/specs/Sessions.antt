@@ -1,4 +1,4 @@
--- What a caller's side says, and what its steps do to it, to the table and to the locks.
+-- A caller's side, and the effects of its steps on it, on the table and on the locks.
 use Rattle.std.specs.Prelude.{◌≡◌, ℕ, ◌+◌, ◌<◌, ◌^◌, ◌≤◌, ◌⊎◌, ◌∷◌, is_some, ◌++◌, Bool, true, false, List, [], Option, Some, None, length, map, reverse, take, option_to_list}
 use Rattle.txn_trace.specs.declared.op.Op.{Op}
 use Rattle.txn_trace.specs.declared.step.Step.{Step}
@@ -47,7 +47,7 @@ level_of phase = 0
 abbrev pub owed_of : Session → ℕ
 owed_of s = owed_in s.seat.seat.standing s.seat.seat.phase
 
--- No transaction, nothing that waits, no cursor, and an empty log with room for eight jobs.
+-- No transaction, no waiting operation, no cursor, and an empty log with room for eight jobs.
 pub record IsIdle (s : Session) : Type 0 where
   pub seat : s.seat.seat ≡ closed_seat
   pub pending : s.pending ≡ None
@@ -65,8 +65,8 @@ Waits (Waiting op) None room = ⊥
 Waits phase (Some pending) room = ⊥
 Waits phase None room = Unit {0}
 
--- The seat, what waits and the log say the same: as many changes as jobs, the same levels, and the
--- same operation.
+-- The seat, the waiting operation and the log agree: as many changes as jobs, the same levels, and
+-- the same operation.
 pub record Agrees (s : Session) : Type 0 where
   pub standing : s.seat.seat.standing ≡ length s.log.jobs
   pub kept : s.seat.seat.kept ≡ 0 ∷ s.log.kept
@@ -77,7 +77,7 @@ abbrev pub key_of_newest : Option MapJob → Option ℕ
 key_of_newest None = None
 key_of_newest (Some job) = Some (key_of_job job)
 
--- The key that a caller acts on next, if it does on one.
+-- The key that a caller acts on next, if it acts on one.
 abbrev pub target_in : Phase → Log MapJob → Option ℕ
 target_in (Waiting op) log = Some (key_of op)
 target_in (LeavingTo level) log = key_of_newest (newest_above log level)
@@ -87,12 +87,12 @@ target_in phase log = None
 abbrev pub target_of : Session → Option ℕ
 target_of s = target_in s.seat.seat.phase s.log
 
--- The spare of an operation that waits, if there is one and it has one.
+-- The spare of the operation that waits, if there is one and it has one.
 abbrev pub spare_if : Option PendingAt → Option SpareAt
 spare_if None = None
 spare_if (Some pending) = pending.spare
 
--- How often the caller keeps a spare, for what waits and in its log.
+-- How often the caller keeps a spare, for its waiting operation and in its log.
 abbrev pub times_kept : Session → ℕ → ℕ → ℕ
 times_kept s place stamp =
     times_of (spare_if s.pending) place stamp + times_in s.log.jobs place stamp
@@ -104,8 +104,8 @@ change_of job = (key_of_job job, value_before job)
 abbrev pub changes_of : List MapJob → List (ℕ × Option ℕ)
 changes_of jobs = map change_of (reverse jobs)
 
--- A map shows what each job names as after its change, once the newer ones, which stand before it,
--- have run.
+-- A map shows what each job names as after its change, after the newer ones, which are before it in
+-- the list, have run.
 abbrev pub AreDue : Map → List MapJob → Type 0
 AreDue m [] = Unit {0}
 AreDue m (job ∷ jobs) = IsDue m job × AreDue (set_at m (key_of_job job) (value_before job)) jobs
@@ -123,18 +123,18 @@ IsSoughtAt t (Some cursor) target = IsPlacedFor t cursor target
 abbrev pub IsSought : TableAt → Session → Type 0
 IsSought t s = IsSoughtAt t s.cursor (target_of s)
 
--- The spares of the log are the table's, each once, beside those that others keep.
+-- The spares of the log belong to the table, each once, beside those that others keep.
 abbrev pub CanSettle : Session → TableAt → Type 0
 CanSettle s t =
     (others : ℕ → ℕ → ℕ)
     × IsCovered (λ place stamp. others place stamp + times_in s.log.jobs place stamp) t
 
--- The spare of what waits, if it has one, is the table's.
+-- The spare of the waiting operation, if it has one, belongs to the table.
 abbrev pub CanWithdraw : Session → TableAt → Type 0
 CanWithdraw s t = OwnsIf t (spare_if s.pending)
 
--- A caller's side goes with the table: its cursor was placed there, its changes may be taken back
--- there, its spares are out.
+-- A caller's side fits the table: its cursor was placed there, its changes may be taken back there,
+-- its spares are out.
 pub record GoesWith (s : Session) (t : TableAt) : Type 0 where
   pub agrees : Agrees s
   pub sought : IsSought t s
@@ -142,12 +142,12 @@ pub record GoesWith (s : Session) (t : TableAt) : Type 0 where
   pub withdraws : CanWithdraw s t
   pub settles : CanSettle s t
 
--- Cursors stay placed, and what is true of every list stays true.
+-- Cursors stay placed, and the invariants of lists still hold.
 pub record KeepsPlaced (t t' : TableAt) : Type 0 where
   pub placed : (cursor : Cursor) (key : ℕ) → IsPlaced t cursor key → IsPlaced t' cursor key
   pub sound : IsSound t.list → IsSound t'.list
 
--- The table is as it was but for its spares, and cursors stay placed.
+-- Only the spares of the table have changed, and cursors stay placed.
 pub record Rests (t t' : TableAt) : Type 0 where
   pub nodes : KeepsNodes t t'
   pub last : last_of t' ≡ last_of t
@@ -166,8 +166,8 @@ pub record AsksIn (c stripe : ℕ) (op : Op) (s : Session) (t : TableAt) (locks 
   pub jobs : s'.log.jobs ≡ s.log.jobs
   pub kept : s'.log.kept ≡ s.log.kept
 
--- Another caller holds the stripe: what was prepared is given up, and the caller's side is as it
--- was, but for room.
+-- Another caller holds the stripe: the prepared operation is given up, and only the room of the
+-- caller's side has changed.
 pub record MeetsIn (c stripe : ℕ) (op : Op) (holder : ℕ) (s : Session) (t : TableAt)
     (locks : List (Option ℕ)) (s' : Session) (t' : TableAt)
     (locks' : List (Option ℕ)) : Type 0 where
@@ -182,7 +182,7 @@ pub record MeetsIn (c stripe : ℕ) (op : Op) (holder : ℕ) (s : Session) (t : 
   pub jobs : s'.log.jobs ≡ s.log.jobs
   pub kept : s'.log.kept ≡ s.log.kept
 
--- Nothing has changed but room.
+-- Only room has changed.
 pub record StaysIn (s s' : Session) : Type 0 where
   pub seat : s'.seat.seat ≡ s.seat.seat
   pub waits : s'.pending ≡ s.pending
@@ -190,8 +190,8 @@ pub record StaysIn (s s' : Session) : Type 0 where
   pub jobs : s'.log.jobs ≡ s.log.jobs
   pub kept : s'.log.kept ≡ s.log.kept
 
--- The caller has a cursor for its key, which was sought on the table, and nothing else has changed
--- for it.
+-- The caller has a cursor for its key, which was sought on the table; its side is unchanged
+-- otherwise.
 pub record SeeksIn (s : Session) (t : TableAt) (s' : Session) (t' : TableAt) : Type 0 where
   pub key : ℕ
   pub cursor : Cursor
@@ -200,8 +200,8 @@ pub record SeeksIn (s : Session) (t : TableAt) (s' : Session) (t' : TableAt) : T
   pub places : Places t t' key cursor
   pub near : SeeksNear t t' key
 
--- An operation waits that may be done: its cursor was placed for it, its spare is the table's, and
--- there is room for its job.
+-- The waiting operation may be done: its cursor was placed for it, its spare belongs to the table,
+-- and there is room for its job.
 pub record CanAct (s : Session) (t : TableAt) : Type 0 where
   pub pending : PendingAt
   pub cursor : Cursor
@@ -242,8 +242,8 @@ pub record DoesIn (s : Session) (t : TableAt) (reply : Option ℕ) (s' : Session
   pub jobs : s'.log.jobs ≡ s.log.jobs ++ option_to_list job
   pub kept : s'.log.kept ≡ s.log.kept
 
--- A change is there to take back: its cursor was placed for it, it is due, and its spare is the
--- table's.
+-- There is a change to take back: its cursor was placed for it, it is due, and its spare belongs to
+-- the table.
 pub record CanUndo (s : Session) (t : TableAt) : Type 0 where
   pub level : level_of s.seat.seat.phase ≤ length s.log.kept
   pub job : MapJob
@@ -274,7 +274,7 @@ pub record CanArrive (s : Session) : Type 0 where
   pub level : level_of s.seat.seat.phase ≤ length s.log.kept
   pub none_above : length s.log.jobs ≤ kept_at s.log.kept (level_of s.seat.seat.phase)
 
--- It is back at its level: the later savepoints are dropped.
+-- It has returned to its level: the later savepoints are dropped.
 pub record ReturnsIn (n : ℕ) (s : Session) (locks : List (Option ℕ)) (s' : Session)
     (locks' : List (Option ℕ)) : Type 0 where
   pub phase : s.seat.seat.phase ≡ LeavingTo n
@@ -285,7 +285,7 @@ pub record ReturnsIn (n : ℕ) (s : Session) (locks : List (Option ℕ)) (s' : S
   pub kept : s'.log.kept ≡ take n s.log.kept
   pub locks_stay : locks' ≡ locks
 
--- It is at the end: its stripes are free.
+-- It has arrived at the end: its stripes are free.
 pub record EndsIn (c : ℕ) (s : Session) (locks : List (Option ℕ)) (s' : Session)
     (locks' : List (Option ℕ)) : Type 0 where
   pub phase : s.seat.seat.phase ≡ LeavingToEnd
@@ -306,7 +306,7 @@ pub record SavesIn (n : ℕ) (s : Session) (s' : Session) : Type 0 where
   pub jobs : s'.log.jobs ≡ s.log.jobs
   pub kept : s'.log.kept ≡ s.log.kept ++ length s.log.jobs ∷ []
 
--- What waits is given up, and the cursor is dropped.
+-- The waiting operation is given up, and the cursor is dropped.
 pub record WithdrawsIn (s : Session) (t : TableAt) (s' : Session) (t' : TableAt) : Type 0 where
   pub rests : Rests t t'
   pub spares : (others : ℕ → ℕ → ℕ)
@@ -329,13 +329,13 @@ pub record SettlesIn (s : Session) (t : TableAt) (s' : Session) (t' : TableAt) :
   pub jobs : s'.log.jobs ≡ []
   pub kept : s'.log.kept ≡ []
 
--- What setting a savepoint is answered, and what it does.
+-- The answer to setting a savepoint, and its effect.
 abbrev pub Saves : Session → Answer → Session → Type 0
 Saves s (answers.Saved n) s' = SavesIn n s s'
 Saves s (answers.Refused NoMemory) s' = StaysIn s s'
 Saves s answer s' = ⊥
 
--- What asking is answered, and what it does.
+-- The answer to asking, and its effect.
 abbrev pub IsAsked : ℕ → ℕ → Op → Session → TableAt → List (Option ℕ) → Answer → Session → TableAt
     → List (Option ℕ) → Type 0
 IsAsked c stripe op s t locks answers.Asked s' t' locks' = AsksIn c stripe op s t locks s' t' locks'
@@ -345,12 +345,12 @@ IsAsked c stripe op s t locks (answers.Refused refusal) s' t' locks' =
     ((refusal ≡ NoMemory) ⊎ IsRefused t op refusal) × StaysIn s s' × (t' ≡ t) × (locks' ≡ locks)
 IsAsked c stripe op s t locks answer s' t' locks' = ⊥
 
--- Where another caller holds the stripe, the right to it is stale.
+-- If another caller holds the stripe, the right to it is stale.
 abbrev pub unless_busy : Answer → Answer
 unless_busy (answers.Busy x) = answers.Refused StaleWord
 unless_busy answer = answer
 
--- What asking by a claim is answered, and what it does: by a word nothing.
+-- The answer to asking by a claim, and its effect; a word has none.
 abbrev pub AsksBy : Claim → ℕ → ℕ → Op → Session → TableAt → List (Option ℕ) → Answer → Session
     → TableAt → List (Option ℕ) → Type 0
 AsksBy Lock c stripe op s t locks answer s' t' locks' =
@@ -362,25 +362,25 @@ AsksBy (Held named) c stripe op s t locks answer s' t' locks' =
 AsksBy Stale c stripe op s t locks answer s' t' locks' =
     (answer ≡ answers.Refused StaleWord) × (s' ≡ s) × (t' ≡ t) × (locks' ≡ locks)
 
--- What an act for the operation that waits is answered, and what it does.
+-- The answer to an act for the operation that waits, and its effect.
 abbrev pub Replies : Session → TableAt → Answer → Session → TableAt → Type 0
 Replies s t answers.Again s' t' = Drops s t s' t'
 Replies s t (answers.Done reply) s' t' = DoesIn s t reply s' t'
 Replies s t answer s' t' = ⊥
 
--- What taking the newest change back is answered, and what it does.
+-- The answer to taking the newest change back, and its effect.
 abbrev pub Undoes : Session → TableAt → Answer → Session → TableAt → Type 0
 Undoes s t answers.Again s' t' = Drops s t s' t'
 Undoes s t answers.Undone s' t' = TakesBackIn s t s' t'
 Undoes s t answer s' t' = ⊥
 
--- What the end of taking back is answered, and what it does.
+-- The answer to the end of the undoing, and its effect.
 abbrev pub Arrives : ℕ → Session → List (Option ℕ) → Answer → Session → List (Option ℕ) → Type 0
 Arrives c s locks (answers.Returned n) s' locks' = ReturnsIn n s locks s' locks'
 Arrives c s locks answers.Aborted s' locks' = EndsIn c s locks s' locks'
 Arrives c s locks answer s' locks' = ⊥
 
--- What an act is answered, and what it does.
+-- The answer to an act, and its effect.
 abbrev pub ActsIn : ℕ → Session → TableAt → List (Option ℕ) → Answer → Session → TableAt
     → List (Option ℕ) → Type 0
 ActsIn c s t locks answers.Again s' t' locks' =
@@ -394,7 +394,7 @@ ActsIn c s t locks answers.Aborted s' t' locks' =
     (has_job s.seat.seat ≡ false) × EndsIn c s locks s' locks' × (t' ≡ t)
 ActsIn c s t locks answer s' t' locks' = ⊥
 
--- What is wanted of a caller's side for a step that nothing refuses.
+-- The requirements of a step on its caller's side, if nothing refuses it.
 pub record Takes (stripes : ℕ) (counts : Counts) (step : Step) (s : Session) (t : TableAt)
     (locks : List (Option ℕ)) : Type 0 where
   pub goes : GoesWith s t
@@ -407,9 +407,9 @@ pub record Takes (stripes : ℕ) (counts : Counts) (step : Step) (s : Session) (
   pub begins : counts.began < 2 ^ 63
   pub commits : counts.committed < 2 ^ 63
 
--- What each step does to its caller's side, to the table and to the locks, by its answer and, where
--- it asks, by its claim. The seat
--- stays, but for room: the entry of step and answer is entered there afterwards.
+-- The effect of each step on its caller's side, the table and the locks, by its answer and, if it
+-- asks, by its claim. The seat is unchanged except for room: the entry of step and answer is
+-- entered there afterwards.
 abbrev pub Does : Claim → ℕ → Counts → Step → Session → TableAt → List (Option ℕ) → Answer → Session
     → TableAt → List (Option ℕ) → Type 0
 Does claim stripes counts (Begin c) s t locks (answers.Began n) s' t' locks' =

@@ -1,5 +1,5 @@
--- The first claim, shape: each entry stands in its caller's phase, and transactions and commits are
--- numbered in turn.
+-- The first claim, shape: each entry is one that its caller's phase allows, and transactions and
+-- commits are numbered in turn.
 use Rattle.txn_trace.specs.Shape.{IsShaped}
 use Rattle.boost_core.specs.State.{State}
 

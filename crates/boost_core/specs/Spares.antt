@@ -1,4 +1,4 @@
--- Which spares are kept for whom.
+-- The spares that are kept, and for whom.
 use Rattle.std.specs.Prelude.{ℕ, ◌≡◌, ◌==◌, ◌&&◌, nat_eq, List, Option, Some, None, sum_by, if◌then◌else◌}
 use Rattle.std.specs.Option.{option_eq}
 use Rattle.map_ops.specs.declared.job.MapJob.{MapJob}
@@ -18,7 +18,7 @@ times_in jobs place stamp = sum_by (λ job. times_of (spare_of_job job) place st
 abbrev pub times_out : TableAt → ℕ → ℕ → ℕ
 times_out t place stamp = if option_eq nat_eq (spare_out t place) (Some stamp) then 1 else 0
 
--- Each spare is kept exactly as often as it is out: so each that is kept is the table's, none is
--- kept twice, and none is lost.
+-- Each spare is kept exactly as often as it is out: so each that is kept belongs to the table, none
+-- is kept twice, and none is lost.
 abbrev pub IsCovered : (ℕ → ℕ → ℕ) → TableAt → Type 0
 IsCovered kept t = (place stamp : ℕ) → kept place stamp ≡ times_out t place stamp

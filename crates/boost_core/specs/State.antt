@@ -11,29 +11,29 @@ use Rattle.txn_trace.specs.declared.holder.Holder.TheVariants.{Now, Begun}
 use Rattle.txn_trace.specs.Sizes.{Sizes}
 use Rattle.txn_trace.specs.Shape.{Seat, closed_seat, seat_after, own}
 
--- A linked node: where it stands in the list's order, and whether it is marked.
+-- A linked node: its position in the list's order, and whether it is marked.
 pub record Node : Type 0 where
   pub at : SortKey
   pub marked : Bool
 
--- An unmarked node that stands here, and a marked one.
+-- An unmarked node at this position, and a marked one.
 abbrev pub plain_node : SortKey → Node
 plain_node at = record { at = at; marked = false }
 
 abbrev pub marked_node : SortKey → Node
 marked_node at = record { at = at; marked = true }
 
--- The two nodes between which a cursor stands, by where they stand: the second is none at the end
--- of the list.
+-- The positions of the two nodes between which a cursor stands; the second is none at the end of
+-- the list.
 pub record Gap : Type 0 where
   pub before : SortKey
   pub behind : Option SortKey
 
--- The limits, whether stripes are words, the history, the size, for each bucket whether it is
--- stored and whether its dummy is linked, the linked nodes in order, the list's change number, the
--- last stamp given, for each caller the change number that its cursor noted and, where that fits,
--- the nodes between which it stands, the same nodes for each helper, what each helper has, and
--- whose cursor the last move placed.
+-- The limits; whether stripes are words; the history; the size; for each bucket whether it is
+-- stored and whether its dummy is linked; the linked nodes in order; the list's change number; the
+-- last stamp given; for each caller the change number that its cursor noted and, if the cursor
+-- fits, the nodes between which it stands; the same nodes for each helper; each helper's state; and
+-- the owner of the cursor that the last move placed.
 pub record State : Type 0 where
   pub limits : Sizes
   pub words : Bool
@@ -50,8 +50,8 @@ pub record State : Type 0 where
   pub helpers : List Help
   pub placed : Option Owner
 
--- At the beginning nothing has happened, and the table has two buckets, of which the first is
--- stored: its dummy alone is linked.
+-- At the start the history is empty, and the table has two buckets, of which the first is stored.
+-- Only its dummy is linked.
 abbrev pub start : Sizes → State
 start limits = record {
   limits = limits;
@@ -70,12 +70,12 @@ start limits = record {
   placed = None;
 }
 
--- The same where stripes are words.
+-- The start if stripes are words.
 abbrev pub start_with_words : Sizes → State
 start_with_words limits = record (start limits) { words = true }
 
--- Whom a Busy entry may name: the caller that holds the stripe now, or where stripes are words, one
--- that has begun a transaction before.
+-- The caller that a Busy entry may name: the one that holds the stripe now, or, if stripes are
+-- words, one that has begun a transaction before.
 abbrev pub holder_by : Bool → Holder
 holder_by false = Now
 holder_by true = Begun
@@ -93,12 +93,12 @@ caller_changes cursors c = unwrap_or (slice_get cursors c) None
 abbrev pub gap_in : List (Option Gap) → ℕ → Option Gap
 gap_in gaps n = unwrap_or (slice_get gaps n) None
 
--- The same of an owner's cursor.
+-- The nodes beside an owner's cursor, if it fits.
 abbrev pub gap_for : State → Owner → Option Gap
 gap_for state (Caller c) = gap_in state.gaps c
 gap_for state (Helper h) = gap_in state.helper_gaps h
 
--- What a helper has, if there is one of this number.
+-- The state of the helper of this number, or nothing if there is none.
 abbrev pub help_in : List Help → ℕ → Help
 help_in helpers h = unwrap_or (slice_get helpers h) Nothing
 
@@ -106,7 +106,7 @@ help_in helpers h = unwrap_or (slice_get helpers h) Nothing
 abbrev pub is_set : List Bool → ℕ → Bool
 is_set buckets bucket = unwrap_or (slice_get buckets bucket) false
 
--- The same buckets and this one.
+-- The buckets that are set, with this one.
 abbrev pub with_bucket : List Bool → ℕ → List Bool
 with_bucket buckets bucket = slice_set buckets bucket true
 

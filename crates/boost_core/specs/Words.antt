@@ -1,5 +1,5 @@
--- How operations are asked for where stripes are words: with the right to the stripe, or with the
--- word that stands there. A word is 0, or one more than the number of the caller that it names.
+-- The ways to ask for an operation if stripes are words: with the right to the stripe, or with the
+-- stripe's word. A word is 0, or one more than the number of the caller that it names.
 pub use Rattle.boost_core.specs.declared.claim.Claim.{Claim}
 pub use Rattle.boost_core.specs.declared.claim.Claim.TheVariants.{Lock, Right, Held, Stale}
 use Rattle.std.specs.Prelude.{◌≡◌, ◌⊎◌, ℕ, ◌+◌, ◌-◌, ◌≤◌, ◌==◌, ◌&&◌, Bool, true, false, not, IsTrue, Option, None, if◌then◌else◌}
@@ -29,28 +29,28 @@ is_ask step = false
 abbrev pub is_taken : State → ℕ → Op → Bool
 is_taken state c op = not (is_locked Now state.limits.stripes state.history (entries.Asked c op))
 
--- What a word that names this one claims for a caller: that it holds the stripe, but where it is
--- the caller itself, or has never begun a transaction.
+-- The claim of a caller whose word names this caller: that it holds the stripe, unless it is the
+-- caller itself or has never begun a transaction.
 abbrev pub claim_of : State → ℕ → ℕ → Claim
 claim_of state c named =
     if not (named == c) && has_begun named state.history then Held named else Stale
 
--- Whether a claim is refused as stale, where nothing else refuses the step: a right where another
--- caller holds the stripe, and a word that names nobody who may hold it.
+-- Whether a claim is refused as stale, if nothing else refuses the step: a right is if another
+-- caller holds the stripe, and a word if it names no caller that may hold it.
 abbrev pub is_stale : Claim → State → Step → Bool
 is_stale Right state (Ask c op) = has_stamp_for state op && is_taken state c op
 is_stale Stale state (Ask c op) = true
 is_stale claim state step = false
 
--- What a step reserves in the history by its claim: with a word nothing, since the entry that it
--- may add is owed already.
+-- The room that a step reserves in the history by its claim: none with a word, since the entry that
+-- it may add is owed already.
 abbrev pub reserved_by : Claim → Step → ℕ
 reserved_by Lock step = reserved step
 reserved_by Right step = reserved step
 reserved_by claim step = 0
 
--- What else may be answered to a claim: with a right no operation is busy, with a word none is
--- granted, and neither memory nor a stamp is wanted.
+-- The other answers that a claim allows: with a right no operation is busy, with a word none is
+-- granted, and neither memory nor a stamp is refused.
 abbrev pub may_come : Claim → Answer → Bool
 may_come Lock answer = true
 may_come Right (answers.Busy x) = false
@@ -61,8 +61,8 @@ may_come claim (answers.Refused StampsUsedUp) = false
 may_come claim (answers.Refused refusal) = true
 may_come claim answer = false
 
--- A claim is refused as stale. The last stamp may rise by one, and nothing else has changed but
--- what `Nodes` says.
+-- A claim is refused as stale. The last stamp may rise by one, and nothing else has changed except
+-- as `Nodes` says.
 pub record IsStale (claim : Claim) (old : State) (step : Step) (answer : Answer)
     (new : State) : Type 0 where
   pub refused : answer ≡ answers.Refused StaleWord
@@ -79,13 +79,13 @@ pub record IsStale (claim : Claim) (old : State) (step : Step) (answer : Answer)
   pub one_stamp : new.stamp ≤ old.stamp + 1
 
 -- An operation is asked for by a claim: it is refused as stale, or `Ask` makes a move with an
--- answer that may come to such a claim.
+-- answer that the claim allows.
 abbrev pub Asks : Claim → State → Step → Answer → State → Type 0
 Asks claim old step answer new =
     IsStale claim old step answer new ⊎ (IsTrue (may_come claim answer) × Move old step answer new)
 
--- The last stamp after such an ask: with a right a spare is made, which is given back where the
--- claim is stale; with a word none is made.
+-- The last stamp after such an ask: with a right a spare is taken, and given back if the claim is
+-- stale; with a word none is taken.
 abbrev pub stamp_by : Claim → ℕ → Step → Answer → ℕ
 stamp_by Lock stamp step answer = stamp_after stamp step answer
 stamp_by Right stamp (Ask c op) (answers.Refused StaleWord) =
@@ -93,14 +93,14 @@ stamp_by Right stamp (Ask c op) (answers.Refused StaleWord) =
 stamp_by Right stamp step answer = stamp_after stamp step answer
 stamp_by claim stamp step answer = stamp
 
--- What such an ask does to the list: to the nodes and the change number nothing.
+-- The effect of such an ask on the list: the nodes and the change number are unchanged.
 pub record ListsAsk (claim : Claim) (old : State) (step : Step) (answer : Answer)
     (new : State) : Type 0 where
   pub nodes : Touches old step answer new
   pub stamp : new.stamp ≡ stamp_by claim old.stamp step answer
 
--- What is asked of a claim: where stripes are words it is no lock, and elsewhere nothing else; and
--- a holder may be named.
+-- The requirement on a claim: if stripes are words it is no lock, and if not it is one; and a
+-- holder that it names may be named.
 abbrev pub IsClaim : Claim → State → Step → Type 0
 IsClaim Lock state step = state.words ≡ true → is_ask step ≡ false
 IsClaim Right state (Ask c op) = state.words ≡ true
@@ -109,7 +109,7 @@ IsClaim (Held named) state (Ask c op) =
 IsClaim Stale state (Ask c op) = state.words ≡ true
 IsClaim claim state step = ⊥
 
--- What a step of a caller is answered and does, by its claim: a move, but where it asks with a
+-- The answer and the effect of a step of a caller, by its claim: a move, unless it asks with a
 -- right or a word.
 abbrev pub Goes : Claim → State → Step → Answer → State → Type 0
 Goes Lock old step answer new = Move old step answer new

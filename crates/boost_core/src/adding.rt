@@ -1,13 +1,13 @@
 //! The end of every step: its entry is added to the caller's seat and to the history, in room that
-//! was reserved before. It stands apart, since this is the one place where a history grows.
+//! was reserved before. No other code lets a history grow.
 ghost use Rattle.std.specs.Prelude.{◌≡◌, ◌-◌, ◌+◌, ◌++◌, option_to_list, vec_len, vec_capacity, length};
 ghost use Rattle.txn_trace.specs.Owed.{owed_in};
 ghost use Rattle.boost_core.specs.Adding.{CanAdd, Enters};
 
 use txn_trace::{Entry, Seat};
 
-/// Adds the entry of a step, if it has one, to its caller's seat and to the history, in room that
-/// is there. Gives what all callers then owe.
+/// Adds the entry of a step, if it has one, to its caller's seat and to the history, in reserved
+/// room. Answers the number of entries that all callers then owe.
 #[inline(always)]
 pub(crate) fn add(
     seat: &mut Seat,

@@ -1,12 +1,12 @@
-//! Which callers have begun a transaction, a flag a caller: a word may name only one of these as a
-//! stripe's holder.
+//! The callers that have begun a transaction, one flag for each: a word may name only one of these
+//! as a stripe's holder.
 ghost use Rattle.std.specs.Prelude.{◌≡◌, false, replicate, IfOk};
 ghost use Rattle.boost_core.specs.Begun.{begun_with};
 
 use std::alloc::{AllocError, Global};
 use txn_trace::Entry;
 
-/// So many callers, of which none has begun.
+/// This number of callers, none of which has begun.
 pub(crate) fn none_begun(alloc: Global, callers: usize) -> Result<Vec<bool>, AllocError>
     ensures { IfOk result (λ begun. begun.items ≡ replicate callers false) }
 {

@@ -1,5 +1,6 @@
 //! The steps that are no caller's: sweeps, the three steps of a bucket's initialisation, and
-//! doubling. Each is one call of the table, whose outcome is named as an answer. They add no entry.
+//! doubling. Each is one call of the table, whose outcome is converted to an answer. They add no
+//! entry.
 ghost use Rattle.std.specs.Prelude.{◌≡◌, ◌≤◌, true};
 ghost use Rattle.map_ops.specs.TableAt.{table_changes, Follows};
 ghost use Rattle.boost_core.specs.Serves.{is_served, Serves, doubled, linked, sought, stored, swept};
@@ -7,7 +8,7 @@ ghost use Rattle.boost_core.specs.Serves.{is_served, Serves, doubled, linked, so
 use map_ops::{Double, InitLink, InitSeek, SweepOutcome, Table};
 use txn_trace::{Answer, Refusal, Step};
 
-/// Does what a step asks for that is no caller's.
+/// Takes a step that is no caller's.
 pub(crate) fn serve(step: Step, table: &mut Table) -> Answer
     requires { is_served step ≡ true }
     ensures serves { Serves step table.old result table.new }
@@ -31,7 +32,7 @@ pub(crate) fn serve(step: Step, table: &mut Table) -> Answer
     }
 }
 
-/// What a sweep is answered.
+/// The answer to a sweep.
 fn swept_answer(outcome: SweepOutcome) -> Answer
     ensures { result ≡ swept outcome }
 {
@@ -41,7 +42,7 @@ fn swept_answer(outcome: SweepOutcome) -> Answer
     }
 }
 
-/// What a seek for a bucket is answered.
+/// The answer to a seek for a bucket.
 fn sought_answer(outcome: Result<InitSeek, Refusal>) -> Answer
     ensures { result ≡ sought outcome }
 {
@@ -52,7 +53,7 @@ fn sought_answer(outcome: Result<InitSeek, Refusal>) -> Answer
     }
 }
 
-/// What the link of a dummy is answered.
+/// The answer to the link of a dummy.
 fn linked_answer(outcome: Result<InitLink, Refusal>) -> Answer
     ensures { result ≡ linked outcome }
 {
@@ -64,7 +65,7 @@ fn linked_answer(outcome: Result<InitLink, Refusal>) -> Answer
     }
 }
 
-/// What the store of a dummy is answered.
+/// The answer to the store of a dummy.
 fn stored_answer(outcome: Result<(), Refusal>) -> Answer
     ensures { result ≡ stored outcome }
 {
@@ -74,7 +75,7 @@ fn stored_answer(outcome: Result<(), Refusal>) -> Answer
     }
 }
 
-/// What a doubling is answered.
+/// The answer to a doubling.
 fn doubled_answer(outcome: Double) -> Answer
     ensures { result ≡ doubled outcome }
 {

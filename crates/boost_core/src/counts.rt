@@ -1,10 +1,10 @@
-//! How many transactions have begun and how many have committed: what numbers the next ones. Both
-//! are functions of the history, by the core's invariant.
+//! The numbers of transactions that have begun and that have committed, which number the next ones.
+//! By the core's invariant both are functions of the history.
 ghost use Rattle.std.specs.Prelude.{◌≡◌};
 
 use txn_trace::Answer;
 
-/// How many transactions have begun, and how many have committed.
+/// The numbers of transactions that have begun and that have committed.
 #[derive(Clone, Copy, Debug, PartialEq, Eq)]
 pub struct Counts {
     pub(crate) began: u64,
@@ -14,7 +14,7 @@ pub struct Counts {
 impl Counts {
     ghost use Rattle.boost_core.specs.Counts.{counts_after};
 
-    /// The counts after an answer, which gives the new number.
+    /// The counts after an answer, which has the new number.
     #[inline(always)]
     pub(crate) fn after(self, answer: Answer) -> Counts
         ensures { result ≡ counts_after self answer }

@@ -1,5 +1,5 @@
-//! The history of a core that is no longer needed, handed out without a copy. A core with a `Drop`
-//! is taken apart here and nowhere else.
+//! The history of a core that is no longer needed, moved out without a copy. Only this code takes a
+//! core apart, which has a `Drop`.
 ghost use Rattle.std.specs.Prelude.{◌≡◌, ◌<◌};
 ghost use Rattle.std.specs.List.{All};
 ghost use Rattle.txn_trace.specs.History.{caller_of};
@@ -16,11 +16,11 @@ impl Core {
     ghost use Rattle.boost_core.specs.Whole.{IsWhole};
     ghost use Rattle.boost_core.specs.Nodes.{IsInOrder};
 
-    /// The history, as `trace` has it, without a copy: the rest of the core is given back.
+    /// The history, as `trace` has it, without a copy; the rest of the core is dropped.
     ///
     /// # Cost
     ///
-    /// That of giving the table, the callers and the stripes back; takes no memory.
+    /// That of dropping the table, the callers and the stripes; takes no memory.
     pub fn into_trace(self) -> Vec<Entry>
         ensures value { result.items ≡ self.history }
         ensures shape { HasShape self }
@@ -31,7 +31,7 @@ impl Core {
         ensures whole { IsWhole self }
         ensures order { IsInOrder self.nodes }
     {
-        // What is known of the history.
+        // The history's invariants hold.
         let _trace = self.trace();
         self.history
     }

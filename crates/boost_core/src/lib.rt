@@ -5,22 +5,23 @@
 //! Tables", Journal of the ACM 53(3), 2006, section 2).
 //!
 //! An operation takes the stripe of its key, is sought and done on the table in steps between which
-//! other callers step, and notes an inverse. A commit drops the inverses, an abort or a return to a
-//! savepoint runs them newest first. Stripes are kept to the end.
+//! other callers may act, and leaves an inverse. A commit drops the inverses; an abort or a return
+//! to a savepoint runs them newest first. Stripes are kept to the end of the transaction.
 //!
-//! The model is a machine of thirteen steps whose state is mostly the history. The headline, as
-//! five claims, each in its file of `specs/`: the history has the shape of transactions (`Shape`),
-//! stripes have one holder (`Locks`), each transaction has the replies of running alone after those
-//! committed before it (`Replies`), map and regular list are what the history gives now
-//! (`Content`), and every step makes a move of the machine (`Machine`). What a step does to the
-//! linked nodes, and whose cursors it leaves, stands in `Nodes`. The plain calls are moves of one
-//! caller with none between (`Plain`). Where callers take the rights to their stripes elsewhere, as
-//! atomic words, an operation is asked for by such a right or by the word (`Words`). A caller whose
-//! steps others come between is driven by a `Drive`.
+//! The model is a machine of thirteen steps, and the history is the main part of its state. The
+//! main theorem is five claims, each in its file of `specs/`: the history has the shape of
+//! transactions (`Shape`), stripes have one holder (`Locks`), each transaction has the replies of
+//! running alone after those committed before it (`Replies`), the map and the regular list are what
+//! the history gives now (`Content`), and every step makes a move of the machine (`Machine`).
+//! `Nodes` says what a step does to the linked nodes, and which cursors it leaves fitting. The
+//! plain calls are moves of one caller in a row (`Plain`). If callers take the rights to their
+//! stripes elsewhere, as atomic words, an operation is asked for by such a right or by the word
+//! (`Words`). A `Drive` takes the steps of a caller between which others act.
 //!
-//! A step costs what it does on the table and takes no memory but to begin, to ask, to save, to go
+//! A step costs what it does on the table. Memory is taken only to begin, to ask, to save, to go
 //! back, to link a bucket and to store the first bucket of a segment: all that an operation and its
-//! undoing want is reserved when it is asked for.
+//! undoing need is reserved when it is asked for. Calls take constant time and no memory unless
+//! they say otherwise.
 #![tactic(auto)]
 
 mod adding;

@@ -1,6 +1,6 @@
-//! The core: its fields, its invariant, and the one way that every step takes. A step is tested for
-//! a refusal, room is reserved, the session or the table does it, and its entry is added at the
-//! end. The steps themselves stand in `operations.rt`, `transactions.rt` and `buckets.rt`.
+//! The core: its fields, its invariant, and the common course of every step. A step is tested for a
+//! refusal, room is reserved, the session or the table takes it, and its entry is added at the end.
+//! The steps themselves are in `operations.rt`, `transactions.rt` and `buckets.rt`.
 ghost use Rattle.std.specs.Prelude.{◌≡◌, ℕ, ◌<◌, true, false, is_some, Some, IfOk, IfErr, OnErr, length};
 ghost use Rattle.std.specs.List.{All};
 ghost use Rattle.txn_trace.specs.Map.{count_of};
@@ -25,14 +25,15 @@ use std::collections::BTreeMap;
 use std::marker::Model;
 use txn_trace::{Answer, Entry, Limits, Refusal, Step, entry_of};
 
-/// A transactional map for 1 to 64 callers, its history, and where each caller is: boosted
+/// A transactional map for 1 to 64 callers, its history, and the state of each caller: boosted
 /// transactions (Herlihy and Koskinen, PPoPP 2008, rules 2 and 3) over a split-ordered hash table
 /// (Shalev and Shavit, Journal of the ACM 53(3), 2006, section 2).
 ///
-/// Contracts see the state of the machine, by the words of `specs/State.antt`. Of every value of
-/// the type: the history is legal, the content of the table is what the history gives now, the list
-/// is that map in order, each stripe has the holder that the history names, each caller's log takes
-/// back just its standing changes, and the history has room for all that the callers owe.
+/// Contracts see the state of the machine, in the words of `specs/State.antt`. For every value of
+/// the type: the history is legal, the content of the table is the map that the history gives now,
+/// the list is that map in order, each stripe has the holder that the history names, each caller's
+/// log takes back exactly its standing changes, and the history has room for all entries that the
+/// callers owe.
 #[derive(Drop)]
 pub struct Core {
     pub(crate) limits: Limits,
@@ -40,10 +41,10 @@ pub struct Core {
     pub(crate) counts: Counts,
     pub(crate) table: Table,
     pub(crate) sessions: Vec<Session>,
-    // How many entries the callers may still add without a new reservation.
+    // The number of entries that the callers may still add without a new reservation.
     pub(crate) owed: usize,
     pub(crate) locks: KeyLocks,
-    // Whose cursor the last step placed.
+    // The owner of the cursor that the last step placed.
     pub(crate) placed: Option<Owner>,
     // Whether stripes are words.
     pub(crate) words: bool,
@@ -79,8 +80,8 @@ impl Core {
     ghost use Rattle.boost_core.specs.Serves.{is_served};
     ghost use Rattle.boost_core.specs.State.{caller_changes};
 
-    /// A core in which nothing has happened: no caller has a transaction, and the table has two
-    /// buckets, of which bucket 0 is initialised.
+    /// A new core: no caller has a transaction, and the table has two buckets, of which bucket 0 is
+    /// initialised.
     ///
     /// # Errors
     ///
@@ -96,7 +97,7 @@ impl Core {
         Core::make(alloc, limits, false)
     }
 
-    /// A core in which nothing has happened, whose stripes are words or not.
+    /// A new core, whose stripes are words or not.
     pub(crate) fn make(alloc: Global, limits: Limits, words: bool) -> Result<Core, Refusal>
         ensures ok { IfOk result (λ core. core ≡ record (start limits) { words = words }) }
         ensures err { IfErr result (λ refusal. refusal ≡ Refusal.NoMemory) }
@@ -130,25 +131,25 @@ impl Core {
         })
     }
 
-    /// Takes one step, which makes a move of the machine: what it is answered, and the state after
-    /// it, are those that `specs/Machine.antt` allows. What becomes of the linked nodes and of the
-    /// cursors of callers and helpers stands in `specs/Nodes.antt`.
+    /// Takes one step, which makes a move of the machine: `specs/Machine.antt` says which answers
+    /// are allowed and the state after each, and `specs/Nodes.antt` the effect on the linked nodes
+    /// and on the cursors of callers and helpers.
     ///
-    /// The first refusal whose test holds is the answer, and a refusal leaves the state as it was.
-    /// `NoMemory` comes only from `Begin`, `Ask`, `Save`, `Back`, `InitLink` and `InitStore`,
-    /// behind all tests; so no caller wants memory to seek, to act, to commit or to abort.
-    /// `InitStore` answers it only if no bucket of its segment of 64 is stored. `Again` comes
-    /// exactly if the cursor of the caller or the helper fits no longer, and drops it: so never
-    /// if the two nodes beside it were side by side all the time, whatever was done elsewhere.
+    /// If a test refuses the step, the first that does is the answer, and the state is unchanged.
+    /// Only `Begin`, `Ask`, `Save`, `Back`, `InitLink` and `InitStore` may be refused with
+    /// `NoMemory`, after all tests; so no caller needs memory to seek, to act, to commit or to
+    /// abort. `InitStore` is only if no bucket of its segment of 64 is stored. `Again` means that
+    /// the cursor of the caller or helper no longer fits; it is dropped. As long as its two nodes
+    /// stay neighbours it is never the answer, whatever happens elsewhere in the list.
     ///
-    /// Where stripes are words, no step may be an `Ask`: `ask_with` and `ask_held` stand for it.
+    /// If stripes are words, no step may be an `Ask`: use `ask_with` and `ask_held`.
     ///
     /// # Cost
     ///
-    /// A `Seek` and an `InitSeek` walk from the nearest initialised bucket to the place, and a
+    /// A `Seek` and an `InitSeek` walk from the nearest initialised bucket to the position, and a
     /// `Sweep` up to the first marked node; a `Commit` takes a step for each job and each stripe of
     /// the transaction, the end of an abort one for each stripe; each other step takes amortized
-    /// constant time. Only the steps that may be answered `NoMemory` take memory.
+    /// constant time. Only the steps that may be refused with `NoMemory` take memory.
     pub fn step(&mut self, step: Step) -> Answer
         requires { self.old.words ≡ true → is_ask step ≡ false }
         ensures moves { Move self.old step result self.new }
@@ -156,7 +157,7 @@ impl Core {
         ensures cursors { Cursors self.old step result self.new }
         ensures words { self.new.words ≡ self.old.words }
     {
-        // An arm each, so that `call` is compiled for each kind of step by itself.
+        // One arm for each kind of step, so that `call` is compiled for each.
         match step {
             Step::Begin(caller) => self.call(caller, Step::Begin(caller), Claim::Lock),
             Step::Ask(caller, op) => self.call(caller, Step::Ask(caller, op), Claim::Lock),
@@ -174,9 +175,9 @@ impl Core {
         }
     }
 
-    /// Takes a step of a caller, of which an `Ask` is made by a claim. What it asks for is done on
-    /// the caller's side, the table and the locks; then the entry is added, and whose cursor was
-    /// placed is noted.
+    /// Takes a caller's step; an `Ask` comes with the claim to its stripe. Tests the refusals,
+    /// reserves room, lets the session take the step, adds the entry, and notes whose cursor was
+    /// placed.
     #[inline(always)]
     pub(crate) fn call(&mut self, caller: u64, step: Step, claim: Claim) -> Answer
         requires owner { owner_of step ≡ Some (Owner.Caller caller) }
@@ -232,12 +233,12 @@ impl Core {
         answer
     }
 
-    /// Takes the steps one after another and nothing besides, and gives their answers. Room for all
-    /// answers is made first. Where stripes are words, none of the steps may be an `Ask`.
+    /// Takes these steps in a row, and answers their answers. Room for all answers is made first.
+    /// If stripes are words, none of the steps may be an `Ask`.
     ///
     /// # Errors
     ///
-    /// `AllocError` if that room is refused: then no step is taken.
+    /// `AllocError` if that room is refused. Then no step is taken.
     ///
     /// # Cost
     ///
@@ -257,7 +258,7 @@ impl Core {
 
     /// The history: an entry for each step that changed a transaction, oldest first. It is legal:
     /// it has the shape of transactions, no stripe had two holders, and every transaction has the
-    /// replies of running alone. Constant time.
+    /// replies of running alone.
     pub fn trace(&self) -> &[Entry]
         ensures value { result.now ≡ self.now.history }
         ensures shape { HasShape self.now }
@@ -274,7 +275,7 @@ impl Core {
         &self.history
     }
 
-    /// The map as it is now: what the committed transactions left, with the standing changes of the
+    /// The map now: the one that the committed transactions left, with the standing changes of the
     /// open ones.
     ///
     /// # Errors
@@ -291,7 +292,7 @@ impl Core {
         self.table.content(alloc)
     }
 
-    /// Key and value of each pair of the map as it is now, in the order of the list, which is that
+    /// The key and the value of each pair of the map now, in the order of the list, which is that
     /// of reversed bits.
     ///
     /// # Errors
@@ -307,36 +308,36 @@ impl Core {
         self.table.regular_list(alloc)
     }
 
-    /// The limits that it was made with: no step changes them. Constant time.
+    /// The limits with which it was made: no step changes them.
     pub fn limits(&self) -> Limits
         ensures { result ≡ self.now.limits }
     {
         self.limits
     }
 
-    /// The size: how many buckets there are now. Constant time.
+    /// The size: the number of buckets now.
     pub fn size(&self) -> u32
         ensures { result ≡ self.now.size }
     {
         self.table.size()
     }
 
-    /// How many keys the map has now. Constant time.
+    /// The number of keys of the map now.
     pub fn count(&self) -> u64
         ensures { result ≡ count_of (now self.now.history) }
     {
         self.table.count()
     }
 
-    /// How many entries the history keeps room for: so many that each open transaction can be ended
-    /// and all its changes taken back, without taking memory. Constant time.
+    /// The number of entries for which the history keeps room: enough to end each open transaction
+    /// and take back all its changes without taking memory.
     pub fn owed(&self) -> usize
         ensures { result ≡ owed self.now.limits.callers self.now.history }
     {
         self.owed
     }
 
-    /// The refusal of a caller's step, if there is one that is no want of memory or of stamps.
+    /// The first test that refuses the step, if one does. Memory and stamps are not tested here.
     #[inline(always)]
     pub(crate) fn refusal(&self, caller: u64, step: Step) -> Option<Refusal>
         requires { owner_of step ≡ Some (Owner.Caller caller) }

@@ -17,7 +17,7 @@ impl Session {
     ghost use Rattle.boost_core.specs.Sessions.{AsksBy, GoesWith, IsAsked, StaysIn, SeeksIn, ActsIn, Replies, Undoes, Arrives, CanAct, CanUndo, CanArrive};
     ghost use Rattle.map_ops.specs.Changes.{Prepares, IsRefused};
 
-    /// Asks for an operation by a claim. With a word nothing is reserved or locked.
+    /// Asks for an operation by a claim. With a word it reserves and locks nothing.
     #[inline(always)]
     pub(crate) fn ask_by(
         &mut self,
@@ -43,7 +43,7 @@ impl Session {
         }
     }
 
-    /// Asks for an operation: what it and its undoing want is reserved, and its stripe is locked.
+    /// Asks for an operation: reserves all that it and its undoing need, and locks its stripe.
     fn ask(
         &mut self,
         caller: usize,
@@ -69,7 +69,7 @@ impl Session {
         }
     }
 
-    /// Reserves what an operation and its undoing want.
+    /// Reserves all that an operation and its undoing need.
     fn reserve(&mut self, op: Op, table: &mut Table) -> Result<Pending, Refusal>
         ensures stays { StaysIn self.old self.new }
         ensures room { OnOk result (0 < self.new.log.room) }
@@ -94,7 +94,7 @@ impl Session {
         Answer::Asked
     }
 
-    /// Seeks the place of what it acts on next.
+    /// Seeks the position of the key that it acts on next.
     pub(crate) fn seek(&mut self, table: &mut Table) -> Answer
         requires goes { GoesWith self.old table.old }
         requires target { has_target self.old.seat.seat ≡ true }
@@ -111,8 +111,7 @@ impl Session {
         Answer::Placed
     }
 
-    /// Acts: does the operation that waits, or takes the newest change back, or is where it leaves
-    /// to.
+    /// Acts: does the operation that waits, or takes the newest change back, or ends the undoing.
     pub(crate) fn act(&mut self, caller: usize, table: &mut Table, locks: &mut KeyLocks) -> Answer
         requires caller { caller < 64 }
         requires goes { GoesWith self.old table.old }
@@ -157,7 +156,7 @@ impl Session {
         }
     }
 
-    /// Takes the newest change above the level back, at its cursor.
+    /// Takes back the newest change above the level, at its cursor.
     fn undo(&mut self, table: &mut Table) -> Answer
         requires { CanUndo self.old table.old }
         ensures undoes { Undoes self.old table.old result self.new table.new }
@@ -179,7 +178,7 @@ impl Session {
         }
     }
 
-    /// Ends the taking back, if no change above the level is left.
+    /// Ends the undoing, if no change above the level is left.
     fn arrive(&mut self, caller: usize, locks: &mut KeyLocks) -> Answer
         requires caller { caller < 64 }
         requires arrives { CanArrive self.old }
@@ -197,7 +196,7 @@ impl Session {
     }
 }
 
-/// With the stripe's right no operation is busy: the right is stale.
+/// With the stripe's right no operation is busy: the right is stale instead.
 fn unless_busy(answer: Answer) -> Answer
     ensures { result ≡ unless_busy answer }
 {
@@ -207,7 +206,7 @@ fn unless_busy(answer: Answer) -> Answer
     }
 }
 
-/// Another caller holds the stripe: gives up what was prepared.
+/// Another caller holds the stripe: gives up the prepared operation.
 fn busy(pending: Pending, holder: u64, table: &mut Table) -> Answer
     requires { OwnsIf table.old pending.spare }
     ensures answer { result ≡ Answer.Busy holder }
@@ -218,7 +217,7 @@ fn busy(pending: Pending, holder: u64, table: &mut Table) -> Answer
     Answer::Busy(holder)
 }
 
-/// Notes a job as the newest, if there is one, in room that is there already.
+/// Adds a job as the newest, if there is one, in reserved room.
 fn note(log: &mut UndoLog<MapJob>, job: Option<MapJob>)
     requires { 0 < log.old.room }
     ensures jobs { log.new.jobs ≡ log.old.jobs ++ option_to_list job }

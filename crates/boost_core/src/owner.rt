@@ -1,12 +1,12 @@
-//! Whose cursor was placed last. No code reads it: contracts name the cursor by it, and a ghost
-//! field cannot hold a value.
+//! The owner of the cursor that was placed last. No code reads it: contracts name the cursor by it,
+//! and a ghost field cannot hold a value.
 ghost use Rattle.std.specs.Prelude.{◌≡◌};
 ghost use Rattle.boost_core.specs.Answers.{placed_by};
 ghost use Rattle.boost_core.specs.Placed.{placed_then};
 
 use txn_trace::{Answer, Step};
 
-/// Whose a cursor is, as the state of the machine names the one that the last step placed.
+/// The owner of a cursor, as the state of the machine names the one that the last step placed.
 #[derive(Clone, Copy, Debug, PartialEq, Eq)]
 pub enum Owner {
     /// The caller of this number.
@@ -15,7 +15,8 @@ pub enum Owner {
     Helper(u64),
 }
 
-/// Whose cursor was placed last, after a step and its answer: a refusal leaves what was before.
+/// The owner of the cursor that was placed last, after a step and its answer. A refusal leaves the
+/// owner unchanged.
 #[inline(always)]
 pub(crate) fn placed_after(before: Option<Owner>, step: Step, answer: Answer) -> Option<Owner>
     ensures { result ≡ placed_then before step answer }

@@ -1,6 +1,6 @@
-//! The plain calls: `put`, `put_if`, `take`, `get`, `help`, `back` and `abort`, each a row of steps
-//! of one caller with no other step between, so `again` is never answered. They stand apart from
-//! `step`, which serves whoever takes steps of several callers in turn.
+//! The plain calls: `put`, `put_if`, `take`, `get`, `help`, `back` and `abort`, each a list of
+//! steps of one caller in a row, so none has the answer `again`. Those who take steps of several
+//! callers in turn use `step` instead.
 ghost use Rattle.std.specs.Prelude.{◌≡◌, true, false, nat_le};
 ghost use Rattle.boost_core.specs.Plain.{outcome_of};
 
@@ -17,20 +17,20 @@ impl Core {
     ghost use Rattle.boost_core.specs.Whole.{IsWhole};
     ghost use Rattle.txn_drive.specs.Drives.{sized_of, step_of};
 
-    /// Puts a value at a key: asks, seeks and acts. `Again` is never met. Nothing doubles by
-    /// itself: a table that nobody doubles, by `help` or `Double`, is one long list, through which
-    /// each seek walks.
+    /// Puts a value at a key: asks, seeks and acts in a row, so the answer is never `Again`. No
+    /// table doubles by itself: without `help` or `Double` it is one long list, through which each
+    /// seek walks.
     ///
-    /// The answer is `Done` with the reply, or the first that is not `Asked`: `Busy`, where another
-    /// caller holds the key's stripe and this one now leaves to the end, or a refusal, which leaves
-    /// the state: in this order `NoSuchCaller`, `NotOpen`, `Leaving`, `OperationUnfinished`,
-    /// `BadKey` if the limits have half keys and the key is 2^63 or more, `NoMemory` for the
-    /// history and the log, `StampsUsedUp`, `NoMemory` for the node.
+    /// The answer is `Done` with the reply, or the first that is not `Asked`: `Busy` if another
+    /// caller holds the key's stripe, and this one now leaves to the end; or a refusal, which
+    /// leaves the state unchanged, in this order `NoSuchCaller`, `NotOpen`, `Leaving`,
+    /// `OperationUnfinished`, `BadKey` if the limits have half keys and the key is 2^63 or more,
+    /// `NoMemory` for the history and the log, `StampsUsedUp`, `NoMemory` for the node.
     ///
     /// # Cost
     ///
-    /// Time in proportion to the nodes from the nearest initialised bucket to the key's place; may
-    /// take memory for the history, the log and a node.
+    /// Time in proportion to the nodes from the nearest initialised bucket to the key's position;
+    /// may take memory for the history, the log and a node.
     pub fn put(&mut self, caller: u64, key: u64, value: u64) -> Answer
         requires { self.old.words ≡ false }
         ensures operates { Operates self.old caller (Op.Put key value) result self.new }
@@ -39,11 +39,13 @@ impl Core {
         self.operate(caller, Op::Put(key, value))
     }
 
-    /// Puts a value at a key exactly if the key has what is expected, a value or none, by the
-    /// same steps as `put` and with the same refusals. The reply is what the key had, so the value
-    /// was put exactly if the reply is what was expected.
+    /// Puts a value at a key exactly if the key has what is expected, a value or none, by the same
+    /// steps as `put` and with the same refusals. The reply is the value that the key had, so the
+    /// value was put exactly if the reply is what was expected.
     ///
     /// # Cost
+    ///
+    /// That of `put`.
     ///
     /// That of `put`.
     pub fn put_if(&mut self, caller: u64, key: u64, expected: Option<u64>, value: u64) -> Answer
@@ -67,8 +69,8 @@ impl Core {
         self.operate(caller, Op::Take(key))
     }
 
-    /// Gets the value at a key, by the same steps as `put` and with the same refusals, but the last
-    /// two.
+    /// Looks up the value at a key, by the same steps as `put` and with the same refusals, except
+    /// the last two.
     ///
     /// # Cost
     ///
@@ -84,12 +86,13 @@ impl Core {
     /// Goes back to a level, a savepoint's number or 0 for the beginning: takes back every later
     /// change, newest first, and keeps the savepoint of that level. Stripes stay held.
     ///
-    /// The answer is `Returned` with the level, or a refusal, which leaves the state: in this order
-    /// `NoSuchCaller`, `NotOpen`, `Leaving`, `OperationUnfinished`, `NoSuchLevel`, `NoMemory`.
+    /// The answer is `Returned` with the level, or a refusal, which leaves the state unchanged: in
+    /// this order `NoSuchCaller`, `NotOpen`, `Leaving`, `OperationUnfinished`, `NoSuchLevel`,
+    /// `NoMemory`.
     ///
     /// # Cost
     ///
-    /// A seek and an act for each change that is taken back; may take memory for the history alone.
+    /// A seek and an act for each change that is taken back; may take memory, only for the history.
     pub fn back(&mut self, caller: u64, level: u64) -> Answer
         ensures returns { Returns self.old caller level result self.new }
         ensures words { self.new.words ≡ self.old.words }
@@ -100,12 +103,11 @@ impl Core {
         }
     }
 
-    /// Aborts: withdraws an operation that waits, takes back every change, newest first, gives all
-    /// stripes back and closes. Goes on where the caller leaves to the end already, as after
-    /// `Busy`.
+    /// Aborts: withdraws an operation that waits, takes back every change, newest first, gives back
+    /// all stripes and closes. A caller that leaves to the end already, as after `Busy`, continues.
     ///
-    /// The answer is `Aborted`, or a refusal, which leaves the state: in this order `NoSuchCaller`,
-    /// `NotOpen`, and `Leaving` if the caller leaves to a level.
+    /// The answer is `Aborted`, or a refusal, which leaves the state unchanged: in this order
+    /// `NoSuchCaller`, `NotOpen`, and `Leaving` if the caller leaves to a level.
     ///
     /// # Cost
     ///
@@ -123,11 +125,11 @@ impl Core {
         }
     }
 
-    /// Helps the table to grow, as a call `Help` of a drive does, with none between: doubles it
-    /// if it has more than two keys a bucket, and then initialises the bucket of a key at the
-    /// size that the table has then, the buckets above it first. It needs no transaction, and map
-    /// and history stay. Nothing else doubles a table: call it beside `put`, or each seek walks one
-    /// long list.
+    /// Helps the table to grow, as a call `Help` of a drive does, in a row: doubles it if it has
+    /// more than two keys for each bucket, and then initialises the bucket of a key at the size
+    /// that the table then has, after the buckets above it. It needs no transaction, and the map
+    /// and the history are unchanged. Nothing else doubles a table: call it beside `put`, or each
+    /// seek walks one long list.
     ///
     /// # Errors
     ///
@@ -138,9 +140,9 @@ impl Core {
     ///
     /// # Cost
     ///
-    /// A step to double; then for each bucket on the way, of which there are at most 16, one step
-    /// if it is initialised, and else three, with time in proportion to the nodes that are
-    /// passed to its place; may take memory for each bucket's dummy and segment.
+    /// A step to double; then for each bucket on the way, at most 16, one step if it is
+    /// initialised, and else three, with time in proportion to the nodes that are passed to its
+    /// position; may take memory for each bucket's dummy and segment.
     pub fn help(&mut self, caller: u64, key: u64) -> Result<(), Refusal>
         ensures helps { Helps self.old caller key result self.new }
         ensures words { self.new.words ≡ self.old.words }
@@ -183,7 +185,7 @@ impl Core {
         }
     }
 
-    /// Takes back what there is to take back, newest first, and ends that.
+    /// Takes back all changes that are to be taken back, newest first, and ends the undoing.
     fn take_back(&mut self, caller: u64) -> Answer
         requires leaves { is_leaving (seat_in self.old.history caller).phase ≡ true }
         requires within { nat_le self.old.limits.callers caller ≡ false }
@@ -220,7 +222,7 @@ impl Core {
     }
 }
 
-/// What a call for help comes to, by how its drive ended.
+/// The result of a call for help, from the end of its drive.
 fn outcome_of(end: Option<End>) -> Result<(), Refusal>
     ensures { result ≡ outcome_of end }
 {

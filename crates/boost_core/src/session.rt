@@ -1,5 +1,5 @@
 //! A caller's side of the core: seat, waiting operation, cursor and log. A cursor belongs to the
-//! operation that waits or to the newest change, so one place serves both. The steps on it stand in
+//! waiting operation or to the newest change, so one field serves both. The steps on it are in
 //! `operations.rt` and `transactions.rt`.
 ghost use Rattle.std.specs.Prelude.{◌≡◌, ◌+◌, ◌≤◌, ◌<◌, true, None, is_some, length};
 
@@ -11,8 +11,8 @@ use std::alloc::Global;
 use txn_trace::{Answer, Phase, Seat, Step};
 use undo_log::UndoLog;
 
-/// A caller: its seat, the operation that waits, the cursor of that or of its newest change, and
-/// its log.
+/// A caller: its seat, its waiting operation, the cursor of that or of its newest change, and its
+/// log.
 #[derive(Drop)]
 pub struct Session {
     pub(crate) seat: Seat,
@@ -66,8 +66,8 @@ impl Session {
         }
     }
 
-    /// Does what a step of this caller asks for, if nothing refuses it. The seat stays: it
-    /// enters the entry afterwards.
+    /// Takes a step of this caller that nothing refuses. The seat is unchanged: it enters the entry
+    /// afterwards.
     #[inline(always)]
     pub(crate) fn answer(
         &mut self,

@@ -1,4 +1,4 @@
-//! All callers' sides, made at once: a core never takes memory for a caller later.
+//! The sides of all callers, made at once, so that a core never takes memory for a caller later.
 ghost use Rattle.std.specs.Prelude.{◌≡◌, IfOk, length};
 ghost use Rattle.std.specs.List.{All};
 ghost use Rattle.boost_core.specs.Sessions.{IsIdle};
@@ -6,7 +6,7 @@ ghost use Rattle.boost_core.specs.Sessions.{IsIdle};
 use crate::session::Session;
 use std::alloc::{AllocError, Global};
 
-/// So many callers without a transaction.
+/// This number of callers without a transaction.
 pub(crate) fn idle_sessions(alloc: Global, count: usize) -> Result<Vec<Session>, AllocError>
     ensures length { IfOk result (λ sessions. length sessions.items ≡ count) }
     ensures idle { IfOk result (λ sessions. All IsIdle sessions.items) }

@@ -1,5 +1,5 @@
-//! The steps that part and end a transaction: savepoints, and what commit and leaving do to the log
-//! and to the operation that waits. None takes memory but `save`.
+//! The steps that divide and end a transaction: savepoints, and the effect of a commit and of
+//! leaving on the log and the waiting operation. Only `save` takes memory.
 ghost use Rattle.std.specs.Prelude.{◌≡◌, None};
 
 use crate::session::Session;
@@ -22,7 +22,7 @@ impl Session {
         }
     }
 
-    /// Leaves to a level: a cursor that it has is of no use any more.
+    /// Leaves to a level: a cursor that it has is of no more use.
     pub(crate) fn drop_cursor(&mut self) -> Answer
         ensures answer { result ≡ Answer.Leaving }
         ensures becomes { self.new ≡ record self.old { cursor = None } }
@@ -31,7 +31,7 @@ impl Session {
         Answer::Leaving
     }
 
-    /// Gives up what waits, if anything does, to leave to the end.
+    /// Gives up the waiting operation, if there is one, to leave to the end.
     pub(crate) fn withdraw(&mut self, table: &mut Table) -> Answer
         requires { CanWithdraw self.old table.old }
         ensures answer { result ≡ Answer.Leaving }

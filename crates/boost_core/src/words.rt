@@ -1,6 +1,6 @@
 //! A core whose stripes are atomic words that others keep: an operation is asked for with the right
-//! to its stripe, or with the word that names its holder. It stands apart from `step`, which locks
-//! stripes by itself.
+//! to its stripe, or with the word that names its holder. `step`, in contrast, locks stripes
+//! itself.
 ghost use Rattle.std.specs.Prelude.{◌≡◌, ◌≢◌, ◌-◌, true, IfOk, IfErr};
 ghost use Rattle.txn_trace.specs.Map.{key_of};
 ghost use Rattle.txn_trace.specs.Locks.{has_begun, stripe_of};
@@ -16,8 +16,8 @@ impl Core {
     ghost use Rattle.boost_core.specs.Nodes.{Cursors};
     ghost use Rattle.boost_core.specs.Words.{Asks, ListsAsk, claim_of};
 
-    /// A core as `new` makes it, but that its callers take the rights to their stripes elsewhere,
-    /// as atomic words that say who holds each: so an operation is asked for by `ask_with` or
+    /// A core as `new` makes it, but its callers take the rights to their stripes elsewhere, as
+    /// atomic words that say who holds each. So an operation is asked for by `ask_with` or
     /// `ask_held`, and never by `step`, `run`, `put`, `put_if`, `take` or `get`. In its history a
     /// Busy entry names a caller that has begun a transaction, and may have ended it.
     ///
@@ -35,21 +35,21 @@ impl Core {
         Core::make(alloc, limits, true)
     }
 
-    /// Whether stripes are words: no step changes it. Constant time.
+    /// Whether stripes are words: no step changes it.
     pub fn words(&self) -> bool
         ensures { result ≡ self.now.words }
     {
         self.words
     }
 
-    /// Asks for an operation with the right to the stripe of its key, as the step `Ask` does where
-    /// stripes are no words.
+    /// Asks for an operation with the right to the stripe of its key, like the step `Ask` of a core
+    /// whose stripes are not words.
     ///
-    /// The answer is `Asked`, or the first refusal whose test holds: `NoSuchCaller`, `NotOpen`,
+    /// The answer is `Asked`, or the first refusal whose test fits: `NoSuchCaller`, `NotOpen`,
     /// `Leaving`, `OperationUnfinished`, `BadKey`, `NoMemory` for the history and the log,
-    /// `StampsUsedUp`, `NoMemory` for the node, and `StaleWord` where by the core's own record
-    /// another caller holds the stripe. A refusal leaves the state, but that `StaleWord` may use a
-    /// stamp up.
+    /// `StampsUsedUp`, `NoMemory` for the node, and `StaleWord` if by the core's record another
+    /// caller holds the stripe. A refusal leaves the state unchanged, except that `StaleWord` may
+    /// use up a stamp.
     ///
     /// # Cost
     ///
@@ -63,23 +63,19 @@ impl Core {
         ensures limits { self.new.limits ≡ self.old.limits }
         ensures words { self.new.words ≡ true }
     {
-        // The right is shown, and nothing else is asked of it.
+        // The right is only shown.
         let _stripe = right.stripe();
         self.call(caller, Step::Ask(caller, op), Claim::Right)
     }
 
-    /// Asks for an operation if the word of its stripe names another caller: the word is one
-    /// more than that caller's number.
+    /// Asks for an operation if the word of its stripe names another caller: the word is one more
+    /// than that caller's number.
     ///
     /// The answer is `Busy` with that number, after which the caller leaves to the end, or the
-    /// first refusal whose test holds: `NoSuchCaller`, `NotOpen`, `Leaving`, `OperationUnfinished`,
-    /// `BadKey`, and `StaleWord` if the word names the caller itself or one that has never begun
-    /// a transaction. A refusal leaves the state. No spare is made, and room for the entry is there
-    /// since the transaction began.
-    ///
-    /// # Cost
-    ///
-    /// Constant time; takes no memory.
+    /// first refusal whose test fits: `NoSuchCaller`, `NotOpen`, `Leaving`, `OperationUnfinished`,
+    /// `BadKey`, and `StaleWord` if the word names the caller itself or one that has never begun a
+    /// transaction. A refusal leaves the state unchanged. No spare is taken, and the room for the
+    /// entry was reserved when the transaction began.
     pub fn ask_held(&mut self, caller: u64, op: Op, word: u64) -> Answer
         requires words { self.old.words ≡ true }
         requires word { word ≢ 0 }
@@ -95,7 +91,7 @@ impl Core {
         self.call(caller, Step::Ask(caller, op), claim)
     }
 
-    /// What a word that names this one claims for a caller.
+    /// The claim of a caller whose word names this caller.
     fn claim_of(&self, caller: u64, named: u64) -> Claim
         ensures { result ≡ claim_of self.now caller named }
     {

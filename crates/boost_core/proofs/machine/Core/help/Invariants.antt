@@ -7,7 +7,7 @@ use Rattle.boost_core.specs.Plain.{Drives}
 use Rattle.boost_core.proofs.Driving.{Fits, left}
 use Rattle.boost_core.proofs.machine.Core.help.Given as goal
 
--- Some moves of the drive are made so far, and whatever it does next follows these.
+-- Some moves of the drive have been made, and its later ones follow these.
 abbrev pub invariant-loop-step : goal.invariant-loop-step
 invariant-loop-step l = record {
   drives : (more : ℕ) (last : Drive) (new : State) → Drives more l.drive l.self last new → (moves : ℕ) × Drives moves (new_drive l.fn.self.limits.half l.caller (calls.Help l.key)) l.fn.self last new;

@@ -6,7 +6,7 @@ use Rattle.boost_core.specs.Machine.{Moves}
 use Rattle.boost_core.specs.Plain.{undoing, undone}
 use Rattle.boost_core.proofs.machine.Core.take_back.Given as goal
 
--- Some changes are taken back so far, and whatever comes next follows these.
+-- Some changes have been taken back, and the later steps follow these.
 abbrev pub invariant-loop-self : goal.invariant-loop-self
 invariant-loop-self l = record {
   changes : ℕ;
