@@ -49,7 +49,7 @@ fits_by t h =
     at (Some (Seeking bucket cursor)) = refl
     at (Some (Holding bucket dummy)) = refl
 
--- A cursor that fits has a node on each side or stands at the end; one that does not fit has none.
+-- A cursor that fits has nodes beside it, and one that does not fit has none.
 pub helper_gap : (t : TableAt) (h : ℕ) → helper_fits t h ≡ true → is_some (gap_in (helper_gaps_of t) h) ≡ true
 helper_gap t h is = ap is_some (helper_gap_is t h) ∙ at (helper_cursor t h) (sym (fits_by t h) ∙ is)
   where

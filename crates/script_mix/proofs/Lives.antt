@@ -1,4 +1,4 @@
--- How many workers have a step to take.
+-- The number of workers that have a step to take.
 use Rattle.std.proofs.Common.{◌≡◌, ℕ, ◌+◌, ◌<◌, true, false, cond, List, [], ◌∷◌, ◌++◌, length, take, get_or, Option, Some, None, subst, refl, sym, ap, ◌∙◌, arith}
 use Rattle.std.specs.Prelude.{is_some}
 use Rattle.std.proofs.lemmas.List.{take_more}
@@ -9,7 +9,7 @@ use Rattle.script_worker.specs.declared.worker.Worker.{Worker}
 use Rattle.script_worker.specs.Workers.{step_by}
 use Rattle.script_mix.specs.Turns.{live, AreDone, IsAtPlace}
 
--- One live worker more.
+-- One more worker, which has a step to take.
 pub live-live : (ws : List Worker) (w : Worker) → is_some (step_by w) ≡ true → live (ws ++ w ∷ []) ≡ suc (live ws)
 live-live [] w is = ap (λ b. cond b 1 0) is
 live-live (x ∷ ws) w is = elim (is_some (step_by x)) as (λ b. cond b (suc (live (ws ++ w ∷ []))) (live (ws ++ w ∷ [])) ≡ suc (cond b (suc (live ws)) (live ws))) [
@@ -17,19 +17,19 @@ live-live (x ∷ ws) w is = elim (is_some (step_by x)) as (λ b. cond b (suc (li
   | false ↦ live-live ws w is
 ]
 
--- A worker more that has no step to take.
+-- One more worker, which has no step to take.
 pub live-idle : (ws : List Worker) (w : Worker) → is_some (step_by w) ≡ false → live (ws ++ w ∷ []) ≡ live ws
 live-idle [] w is = ap (λ b. cond b 1 0) is
 live-idle (x ∷ ws) w is = ap (λ n. cond (is_some (step_by x)) (suc n) n) (live-idle ws w is)
 
--- Of one worker more from the front.
+-- The live workers among the first ones, with one more.
 pub take-live : (ws : List Worker) (i : ℕ) (w : Worker) → i < length ws → w ≡ get_or ws i w → is_some (step_by w) ≡ true → live (take (i + 1) ws) ≡ suc (live (take i ws))
 take-live ws i w within at is = ap live (take_more ws i w within) ∙ live-live (take i ws) (get_or ws i w) (ap (λ x. is_some (step_by x)) (sym at) ∙ is)
 
 pub take-idle : (ws : List Worker) (i : ℕ) (w : Worker) → i < length ws → w ≡ get_or ws i w → is_some (step_by w) ≡ false → live (take (i + 1) ws) ≡ live (take i ws)
 take-idle ws i w within at is = ap live (take_more ws i w within) ∙ live-idle (take i ws) (get_or ws i w) (ap (λ x. is_some (step_by x)) (sym at) ∙ is)
 
--- A worker drawn has a step to take.
+-- A worker that was drawn has a step to take.
 pub drawn_lives : (ws : List Worker) (place i : ℕ) (w : Worker) → w ≡ get_or ws i w → IsAtPlace ws place i → is_some (step_by w) ≡ true
 drawn_lives ws place i w at drawn = elim (is_some (step_by w)) as (λ b. is_some (step_by w) ≡ b → b ≡ true) [
   | true ↦ λ is. refl
@@ -38,7 +38,7 @@ drawn_lives ws place i w at drawn = elim (is_some (step_by w)) as (λ b. is_some
       absurd (omega (arith, same, drawn.before, drawn.lives))
 ] refl
 
--- One worker more from the front that has no script left.
+-- One more of the first workers, which has no script left.
 no_script : (o : Option Task) → is_some o ≡ false → o ≡ None
 no_script None is = refl
 no_script (Some task) is = absurd (cc is)

@@ -1,4 +1,4 @@
--- How workers begin to take turns.
+-- The beginning of a run: a new core and new workers.
 use Rattle.std.proofs.Common.{◌≡◌, ℕ, [], List, ap, subst, ◌∙◌}
 use Rattle.txn_trace.specs.declared.action.Action.{Action}
 use Rattle.txn_trace.specs.declared.entry.Entry.{Entry}
@@ -15,7 +15,7 @@ use Rattle.script_mix.specs.Turns.{Mixing, first_crew, beginning, TakesTurn}
 abbrev mixing : State → List Worker → Lcg → Mixing
 mixing core crew generator = record { core = core; crew = crew; generator = generator }
 
--- A core, workers and a generator that are new are the beginning.
+-- A new core, new workers and a new generator are the beginning.
 pub begins : (work : Work) (seed : ℕ) (core : State) (crew : List Worker) (generator : Lcg) → core ≡ start work.sizes → crew ≡ first_crew work.scripts work.sizes work.sizes.callers
     → generator ≡ pcg32_of_seed (pcg32_seed 16 seed) → mixing core crew generator ≡ beginning work seed
 begins work seed core crew generator core_is crew_is generator_is =

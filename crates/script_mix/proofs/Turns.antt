@@ -1,4 +1,4 @@
--- A worker's step is a move of the core that adds its own entries.
+-- A worker's step is a move of the core that adds only its entries.
 use Rattle.std.proofs.Common.{◌≡◌, ◌≢◌, ℕ, ◌<◌, ◌≤◌, ◌==◌, true, false, cond, List, [], ◌∷◌, ◌++◌, length, get_or, set, Option, Some, None, refl, sym, ap, subst, ◌∙◌, arith, length-append, length-set, get_or-set_same, get_or-set_other}
 use Rattle.std.specs.Prelude.{nat_lt}
 use Rattle.std.specs.Option.{option_and_then}
@@ -57,7 +57,7 @@ move-history old new step answer move = ap (λ s. s.history) move.state ∙ afte
 move-limits : (old new : State) (step : Step) (answer : Answer) → Move old step answer new → new.limits ≡ old.limits
 move-limits old new step answer move = ap (λ s. s.limits) move.state ∙ after-limits old step answer new.changes new.stamp
 
--- Entries of one caller are its own, and no other's.
+-- All entries are of this caller.
 abbrev AreOf : ℕ → List Entry → Type 0
 AreOf w es = AllByRecursion (λ e. caller_of e ≡ w) es
 
@@ -76,7 +76,7 @@ own-mine w h es all = filter-append (λ e. caller_of e == w) h es ∙ ap (λ xs.
 own-others : (w c : ℕ) (h es : List Entry) → c ≢ w → AreOf w es → own c (h ++ es) ≡ own c h
 own-others w c h es other all = filter-append (λ e. caller_of e == c) h es ∙ ap (λ xs. own c h ++ xs) (own_none w c es other all) ∙ append-nil (own c h)
 
--- The step of a worker that keeps to its scripts is its caller's.
+-- The step of a worker that keeps to its scripts is a step of its caller.
 step_mine : (workers : ℕ) (scripts : List (List Action)) (w : ℕ) (task : Option Task) (parts : List (List Entry)) (step : Step) (answer : Answer)
     → KeepsAt workers scripts w task parts → option_and_then (λ (task : Task). step_of task.drive) task ≡ Some step → AreOf w (entries_of step answer)
 step_mine workers scripts w None parts step answer keeps is = absurd (cc is)
@@ -138,7 +138,7 @@ module _ (scripts : List (List Action)) (tries : ℕ) where
   turn_goes_in old (Some (One step)) new is keeps (answer, takes) = one_goes old step answer new is keeps takes
   turn_goes_in old (Some (Two first second)) new is keeps (answer, between, takes, then) = second_goes old first second answer between new is.0 is.1 keeps takes then
 
-  -- The worker at the size that the table has goes on as the worker itself.
+  -- A worker that has noted the table's size moves on as the worker itself does.
   pub turn_goes : (size : ℕ) (old new : State) (before after : Worker) (outcome : Option Outcome) → IsTurnBy (sized_by size before) (turn_by (sized_by size before)) → Keeps scripts before (own before.number old.history)
       → TakesNext Move size scripts tries old before outcome new after → Goes scripts old new before after
   turn_goes size old new before after outcome is keeps takes =
@@ -146,12 +146,12 @@ module _ (scripts : List (List Action)) (tries : ℕ) where
       (sized_keeps size scripts before (own before.number old.history) keeps) takes.steps in
       record { limits = goes.limits; number = goes.number; same = goes.same; others = goes.others; keeps = goes.keeps }
 
--- At the size that the core's table has.
+-- A turn at the size of the core's table.
 pub took : (scripts : List (List Action)) (tries size : ℕ) (old new : State) (before after : Worker) (outcome : Option Outcome) → size ≡ old.size
     → TakesNext Move size scripts tries old before outcome new after → TakesNext Move old.size scripts tries old before outcome new after
 took scripts tries size old new before after outcome is takes = subst (λ n. TakesNext Move n scripts tries old before outcome new after) is takes
 
--- One member goes on, and the others stay as they are.
+-- One member moves on, and the others are unchanged.
 pub crew_goes : (scripts : List (List Action)) (count w : ℕ) (old new : State) (crew : List Worker) (before after : Worker) → w < length crew → before ≡ get_or crew w before
     → IsCrew scripts count old.history crew → Goes scripts old new before after → IsCrew scripts count new.history (set crew w after)
 crew_goes scripts count w old new crew before after within at is goes = record {
@@ -193,7 +193,7 @@ member_keeps scripts theirs count w h crew worker scripts_is within at is =
     let member : IsMember theirs count h w worker = subst (IsMember theirs count h w) (sym at) (is.each w worker within) in
     subst (λ s. Keeps s worker (own worker.number h)) (sym scripts_is) (subst (λ n. Keeps theirs worker (own n h)) (sym member.number) member.keeps)
 
--- One member more.
+-- One more member.
 pub crew_more : (scripts : List (List Action)) (count : ℕ) (crew : List Worker) (worker : Worker) → IsMember scripts count [] (length crew) worker
     → ((w : ℕ) (other : Worker) → w < length crew → IsMember scripts count [] w (get_or crew w other))
     → (w : ℕ) (other : Worker) → w < length (crew ++ worker ∷ []) → IsMember scripts count [] w (get_or (crew ++ worker ∷ []) w other)
@@ -207,7 +207,7 @@ crew_more scripts count crew worker member each w other less = elim (nat_lt w (l
       subst (λ x. IsMember scripts count [] x (get_or (crew ++ worker ∷ []) x other)) (sym last) (subst (IsMember scripts count [] (length crew)) (sym (get_or-append_seam crew worker [] other)) member)
 ] refl
 
--- So a crew's history is one in which each worker's committed transactions play scripts of its own.
+-- In a crew's history each worker's committed transactions play its scripts.
 pub crew_plays : {rule : Holder} (limits : Sizes) (scripts : List (List Action)) (count stripes : ℕ) (h : List Entry) (crew : List Worker) → IsLegal rule stripes h → IsCrew scripts count h crew → PlayScripts count scripts h
 crew_plays limits scripts count stripes h crew legal is = scripts_played count scripts h legal.shape (λ c below.
     let nobody : Worker = record { number = 0; limits = limits; task = None } in

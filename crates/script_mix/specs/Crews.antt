@@ -10,7 +10,7 @@ use Rattle.script_worker.specs.declared.worker.Worker.{Worker}
 use Rattle.script_worker.specs.Keeps.{Keeps}
 use Rattle.script_mix.specs.Turns.{live, AreDone, Mixing, beginning, TakeDrawn}
 
--- One of so many workers, whose own entries in the history are what its scripts ask for so far.
+-- One of `count` workers, whose entries in the history so far are those of its scripts.
 pub record IsMember (scripts : List (List Action)) (count : ℕ) (h : List Entry) (w : ℕ)
     (worker : Worker) : Type 0 where
   pub number : worker.number ≡ w
@@ -24,7 +24,7 @@ pub record IsCrew (scripts : List (List Action)) (count : ℕ) (h : List Entry)
   pub each : (w : ℕ) (other : Worker) → w < length crew → IsMember scripts count h w
       (slice_index_or crew w other)
 
--- A worker went on: it keeps to its scripts, and adds no entry of another caller.
+-- A worker moved on: it keeps to its scripts, and adds no entry of another caller.
 pub record Goes (scripts : List (List Action)) (old new : State)
     (before after : Worker) : Type 0 where
   pub limits : new.limits ≡ old.limits
@@ -33,9 +33,9 @@ pub record Goes (scripts : List (List Action)) (old new : State)
   pub others : (c : ℕ) → c ≢ before.number → own c new.history ≡ own c old.history
   pub keeps : Keeps scripts after (own after.number new.history)
 
--- An ordinary core of the limits asked for, on which the workers took turns as they were drawn,
--- until none had a step or a script left or 2^64 - 1 turns were taken; and in whose history each
--- worker's committed transactions play scripts of its own, their numbers rising.
+-- A core of the limits asked for, whose stripes are not words, on which the workers took turns as
+-- they were drawn, until none had a step or a script left or 2^64 - 1 turns were taken. In its
+-- history each worker's committed transactions play its scripts, with rising numbers.
 pub record IsMixed (work : Work) (seed : ℕ) (state : State) : Type 0 where
   pub limits : state.limits ≡ work.sizes
   pub words : state.words ≡ false

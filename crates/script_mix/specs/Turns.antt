@@ -1,4 +1,4 @@
--- Which worker takes each turn, and what the turn does.
+-- The worker that takes each turn, and the effect of the turn.
 use Rattle.std.specs.Prelude.{◌≡◌, ℕ, ◌+◌, ◌<◌, ◌%◌, if◌then◌else◌, List, [], ◌∷◌, ◌++◌, All, length, take, Option, None, is_some, slice_index_or, slice_set}
 use Prim.Native.Nat.{zero, suc}
 use Rattle.txn_trace.specs.declared.action.Action.{Action}
@@ -21,7 +21,7 @@ live (worker ∷ workers) = if is_some (step_by worker) then suc (live workers) 
 abbrev pub AreDone : List Worker → Type 0
 AreDone workers = All (λ (worker : Worker). worker.task ≡ None) workers
 
--- The worker of this number is live, and as many live ones stand before it as the place says.
+-- The worker of this number is live, and `place` live ones stand before it.
 pub record IsAtPlace (workers : List Worker) (place number : ℕ) : Type 0 where
   pub within : number < length workers
   pub before : live (take number workers) ≡ place
@@ -38,7 +38,7 @@ pub record Mixing : Type 0 where
   pub crew : List Worker
   pub generator : Lcg
 
--- The first so many workers before their first steps.
+-- The first workers before their first steps; the number says how many.
 abbrev pub first_crew : List (List Action) → Sizes → ℕ → List Worker
 first_crew scripts limits zero = []
 first_crew scripts limits (suc w) = first_crew scripts limits w ++ new_worker scripts w limits ∷ []
@@ -51,8 +51,8 @@ beginning work seed = record {
   generator = pcg32_of_seed (pcg32_seed 16 seed);
 }
 
--- The worker of this number is the one at the place that the generator's next word, modulo the
--- number of live workers, says, and takes its next turn.
+-- The worker of this number takes its next turn. Its place among the live workers is the
+-- generator's next word modulo their number.
 pub record TakesDrawn (scripts : List (List Action)) (tries : ℕ) (old : Mixing) (number : ℕ)
     (new : Mixing) : Type 0 where
   pub drawn : IsAtPlace old.crew ((pcg32 old.generator).0 % live old.crew) number

@@ -1,5 +1,5 @@
-//! The workers side by side, by rising numbers: how many are live, and which one stands at a place
-//! among the live ones. A draw looks at each worker twice and takes no memory.
+//! The workers by rising numbers: how many are live, and which one is at a place among the live
+//! ones. A draw looks at each worker twice and takes no memory.
 ghost use Rattle.std.specs.Prelude.{◌≡◌, ◌<◌, ◌≤◌, ◌%◌, IfOk, IfSome, None, []};
 ghost use Rattle.rand_pcg.specs.Pcg.{pcg32};
 ghost use Rattle.script_mix.specs.Turns.{AreDone, IsAtPlace, first_crew, live};
@@ -11,7 +11,7 @@ use script_worker::Worker;
 use std::alloc::{AllocError, Global};
 use txn_trace::{Limits, Script};
 
-/// The workers, as many as callers, by rising numbers, before their first steps.
+/// As many workers as callers, by rising numbers, before their first steps.
 pub(crate) fn workers_of(
     alloc: Global,
     limits: Limits,
@@ -43,11 +43,11 @@ fn live_count(workers: &[Worker]) -> usize
     count
 }
 
-/// Draws one of the workers that have a step to take, and gives its number; none if no worker
-/// has one.
+/// Draws one of the workers that have a step to take, and answers its number, or `None` if no
+/// worker has one.
 ///
-/// Draws a number below how many such workers there are, also if there is one, and takes the
-/// worker at that place of them, in rising order.
+/// Draws a number below the number of such workers, even if there is only one, and takes the worker
+/// at that place among them, in rising order.
 pub(crate) fn draw_worker(generator: &mut Pcg32, workers: &[Worker]) -> Option<usize>
     ensures drawn { IfSome result (λ number.
         IsAtPlace workers.now ((pcg32 generator.old).0 % live workers.now) number) }
@@ -62,7 +62,7 @@ pub(crate) fn draw_worker(generator: &mut Pcg32, workers: &[Worker]) -> Option<u
     at_place(workers, place)
 }
 
-/// The number of the worker at this place of those that have a step to take.
+/// The number of the worker at this place among those that have a step to take.
 pub(crate) fn at_place(workers: &[Worker], place: u64) -> Option<usize>
     ensures some { IfSome result (λ number. IsAtPlace workers.now place number) }
     ensures none { result ≡ None → live workers.now ≤ place }

@@ -1,16 +1,13 @@
-//! The draw of a place among the live workers: the only use of the generator, so that the turns of
-//! a seed are those of `Pcg32` and of nothing else.
+//! The draw of a place among the live workers. Nothing else uses the generator, so that the turns
+//! of a seed depend only on `Pcg32`.
 ghost use Rattle.std.specs.Prelude.{◌≡◌, ◌<◌, ◌%◌};
 ghost use Rattle.rand_pcg.specs.Pcg.{pcg32};
 
 use rand_core::utils::NextWord;
 use rand_pcg::Pcg32;
 
-/// Draws a place below `live`: the generator's next word modulo `live`.
-///
-/// # Cost
-///
-/// Constant time; takes no memory.
+/// Draws a place below `live`: the generator's next word modulo `live`. Takes constant time and no
+/// memory.
 pub fn draw(generator: &mut Pcg32, live: u64) -> u64
     requires { 0 < live }
     ensures place { result ≡ (pcg32 generator.old).0 % live }

@@ -12,18 +12,18 @@ use rand_pcg::Pcg32;
 use std::alloc::{AllocError, Global};
 use txn_trace::Scripts;
 
-/// Runs the scripts on a new core, the workers' turns mixed as the seed says, until no worker has a
-/// step left. The core then has the history. Before each turn a place among the live workers is
-/// drawn, also if there is one.
+/// Runs the scripts on a new core, with the workers' turns mixed as the seed says, until no worker
+/// has a step left, and answers the core with the history. Before each turn a place among the live
+/// workers is drawn, even if there is only one.
 ///
 /// # Errors
 ///
-/// `AllocError` if memory is refused outside a step. A step that is refused memory is answered
-/// 14, by which its script ends.
+/// `AllocError` if memory is refused outside a step. A step that is refused memory has the answer
+/// `Refused(NoMemory)`, which ends its script.
 ///
 /// # Cost
 ///
-/// What the steps cost, and a look at each worker for each turn; memory for the workers, and what
+/// The cost of the steps, and a look at each worker for each turn; memory for the workers, and what
 /// the steps take.
 pub fn mix_scripts(alloc: Global, seed: u64, work: &Scripts) -> Result<Core, AllocError>
     ensures { IfOk result (λ core. IsMixed work.now seed core) }
@@ -46,7 +46,7 @@ pub fn mix_scripts(alloc: Global, seed: u64, work: &Scripts) -> Result<Core, All
         );
     }
     let core = core.into_core();
-    // A history that a core hands out is legal.
+    // The history of a core is legal.
     let _history = core.trace();
     Ok(core)
 }

@@ -1,4 +1,4 @@
-//! A core whose stripes are its own, as a type: a worker's turn may then ask without a claim.
+//! A core whose stripes are not words, as a type: a worker's turn may then ask without a claim.
 ghost use Rattle.std.specs.Prelude.{◌≡◌, false, IfOk};
 ghost use Rattle.boost_core.specs.Machine.{start};
 
@@ -7,7 +7,8 @@ use std::alloc::Global;
 use std::marker::Model;
 use txn_trace::{Answer, Limits, Refusal, Step};
 
-/// A core whose stripes are no words: so it may take every step. Contracts see the core's state.
+/// A core whose stripes are not words, so that it may take every step. Contracts see the core's
+/// state.
 #[derive(Drop)]
 pub(crate) struct OrdinaryCore {
     core: Core,
@@ -27,7 +28,7 @@ impl Model for OrdinaryCore {
 impl OrdinaryCore {
     ghost use Rattle.boost_core.specs.Machine.{Move};
 
-    /// A core in which nothing has happened.
+    /// A new core.
     ///
     /// # Errors
     ///
@@ -46,14 +47,14 @@ impl OrdinaryCore {
         self.core.step(step)
     }
 
-    /// How many buckets there are now.
+    /// The number of buckets now.
     pub(crate) fn size(&self) -> u32
         ensures { result ≡ self.now.size }
     {
         self.core.size()
     }
 
-    /// The core itself.
+    /// The core.
     pub(crate) fn into_core(self) -> Core
         ensures value { result ≡ self }
         ensures ordinary { result.words ≡ false }

@@ -1,5 +1,5 @@
-//! One turn of one worker on the core. Each of its steps adds entries of this worker's caller and
-//! of no other, which is why every other worker's account of its own entries stays true.
+//! One turn of one worker on the core. Each of its steps adds only entries of this worker's caller,
+//! so the invariants of all other workers still hold.
 ghost use Rattle.std.specs.Prelude.{◌≡◌, is_some, true};
 ghost use Rattle.txn_trace.specs.Shape.{own};
 ghost use Rattle.script_worker.specs.Workers.{step_by};
@@ -11,7 +11,7 @@ use crate::ordinary::OrdinaryCore;
 use script_worker::Worker;
 use txn_trace::Script;
 
-/// A worker that has a step to take takes its next turn on the core, of one step or of two.
+/// Takes the next turn of a live worker on the core, of one step or of two.
 pub(crate) fn take_turn(
     core: &mut OrdinaryCore,
     worker: &mut Worker,

@@ -1,4 +1,4 @@
--- How far a transaction has come in its script, as its calls add entries.
+-- The progress of a transaction in its script, as its calls add entries.
 use Rattle.std.proofs.Common.{[], ◌≡◌, ℕ, ◌+◌, ◌<◌, not, inl, inr, List, ◌∷◌, ◌++◌, length, drop, Some, None, refl, sym, ap, subst, ◌∙◌, append_assoc, drop-cons, arith}
 use Prim.Native.Nat.{zero, suc}
 use Rattle.std.specs.List.{fold, slice_get, AllByRecursion}
@@ -42,7 +42,7 @@ plain_action (actions.Back n) = tt
 plain_action (actions.Help k) = tt
 plain_action actions.Abort = tt
 
--- A transaction comes as far as its call adds.
+-- A transaction progresses by the entries that its call adds.
 pub as_far_told : (script : List Action) (i : ℕ) (drive after : Drive) (parts : List (List Entry)) (es : List Entry) → AllByRecursion IsInner es → made after ≡ made drive ++ es
     → IsAsFar script i drive parts → IsAsFar script i after (fold part_after parts es)
 as_far_told script i drive after parts es inner made_is far = record {
@@ -56,7 +56,7 @@ as_far_told script i drive after parts es inner made_is far = record {
   goes = far.goes;
 }
 
--- It is as far where another drive has made the same.
+-- The progress is the same with another drive that has the same entries.
 pub with_made : (script : List Action) (i : ℕ) (drive after : Drive) (parts : List (List Entry)) → made after ≡ made drive → IsAsFar script i drive parts → IsAsFar script i after parts
 with_made script i drive after parts same far = record {
   part = far.part;
@@ -67,7 +67,7 @@ with_made script i drive after parts same far = record {
   goes = far.goes;
 }
 
--- A call that is done has added what its action asks for.
+-- A call that is done has added the entries of its action.
 pub as_far_next : (script : List Action) (i : ℕ) (drive after : Drive) (parts : List (List Entry)) (added : List Entry) → without_undone (made drive) ≡ added → made after ≡ []
     → ((rest : List Entry) → ArePlayed (drop (i + 1) script) rest → ArePlayed (drop i script) (added ++ rest))
     → IsAsFar script i drive parts → IsAsFar script (i + 1) after parts

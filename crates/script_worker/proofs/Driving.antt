@@ -1,4 +1,4 @@
--- What a plain call's steps add to the parts of its caller's entries.
+-- The entries that a plain call's steps add to the parts of its caller's entries.
 use Rattle.std.proofs.Common.{◌≡◌, ℕ, false, List, [], ◌∷◌, ◌++◌, Option, Some, None, refl, sym, ap, subst, ◌∙◌, append_assoc}
 use Rattle.std.specs.List.{fold, AllByRecursion}
 use Rattle.std.proofs.lemmas.List.{append-nil}
@@ -18,10 +18,10 @@ use Rattle.txn_drive.specs.declared.phase.Phase.{Phase}
 use Rattle.txn_drive.specs.declared.phase.Phase.TheVariants.{Fresh}
 use Rattle.txn_drive.specs.Drives.{first_step, step_in, step_of}
 use Rattle.txn_trace.specs.Entries.{entries_of}
--- The laws of drives, handed on.
+-- The laws of drives, passed on.
 pub use Rattle.txn_drive.proofs.DriveLaws.{goes_on, made_at_end, made-sized, made-new, entries_callers}
 
--- Neither a begin nor a commit.
+-- The step is neither a begin nor a commit.
 abbrev pub IsPlain : Step → Type 0
 IsPlain (Begin c) = ⊥
 IsPlain (Commit c) = ⊥
@@ -67,7 +67,7 @@ plain_entries (Back c n) answers.Leaving plain = ((refl, refl), tt)
 plain_entries (Abort c) answers.Leaving plain = ((refl, refl), tt)
 plain_entries step answer plain = tt
 
--- Such entries come to the last part, and leave what was played.
+-- Such entries are added to the last part, and leave the played scripts unchanged.
 pub part-inner : (es : List Entry) (part : List Entry) (older : List (List Entry)) → AllByRecursion IsInner es → fold part_after (part ∷ older) es ≡ (part ++ es) ∷ older
 part-inner [] part older all = ap (λ es. es ∷ older) (sym (append-nil part))
 part-inner (e ∷ es) part older all =

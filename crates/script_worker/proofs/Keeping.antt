@@ -1,4 +1,4 @@
--- A worker keeps to its scripts with each answer that it is told, and where it goes on.
+-- A worker keeps to its scripts with each answer, and when it moves on to its next call.
 use Rattle.std.proofs.Common.{[], ◌≡◌, ℕ, ◌+◌, ◌%◌, ◌<◌, ◌≤◌, nat_lt, Bool, true, false, if◌then◌else◌, List, ◌∷◌, ◌++◌, length, drop, get_or, Option, Some, None, refl, sym, ap, subst, ◌∙◌, arith}
 use Prim.Native.Nat.{suc}
 use Rattle.std.specs.List.{fold, slice_get}
@@ -44,7 +44,7 @@ use Rattle.script_worker.proofs.Advancing.{without_undone_by, from_here, with_ma
 use Rattle.script_worker.proofs.Telling.{task_told, task_sized}
 
 module _ (half : Bool) (workers : ℕ) (scripts : List (List Action)) (w : ℕ) (below : w < workers) where
-  -- The next script of the worker's, where there is one.
+  -- The next script of the worker, if there is one.
   keeps_started : (n high : ℕ) (parts : List (List Entry)) → n % workers ≡ w → high ≤ n → high ≤ length scripts → HavePlayed workers scripts w high parts
       → KeepsAt workers scripts w (started half scripts w n) parts
   keeps_started n high parts mine le within played = at (nat_lt n (length scripts)) refl
@@ -63,12 +63,12 @@ module _ (half : Bool) (workers : ℕ) (scripts : List (List Action)) (w : ℕ) 
   keeps_new = keeps_started w 0 [] (mod-eq_of_lt below) (omega arith) (omega arith) tt
 
   module _ (n : ℕ) (script : List Action) (is : IsScriptOf workers scripts w n script) where
-    -- An attempt at the script goes on.
+    -- An attempt at the script continues.
     keeps_next : (again : ℕ) (stage : Stage) (parts : List (List Entry)) → IsAt workers scripts w n script (new_drive half w (call_at script stage)) parts stage
         → KeepsTask workers scripts w (record { script = n; attempt = attempt_at again stage; drive = new_drive half w (call_at script stage) }) parts
     keeps_next again stage parts at = record { script = script; mine = is; caller = refl; call = refl; at = at }
 
-    -- The script is over, and the next one of the worker's follows.
+    -- The script is over, and the worker's next one follows.
     keeps_over : (parts : List (List Entry)) → HavePlayed workers scripts w (suc n) parts → KeepsAt workers scripts w (started half scripts w (n + workers)) parts
     keeps_over parts played =
         let within : n < length scripts = slice_get_within scripts n script is.there in
@@ -77,7 +77,7 @@ module _ (half : Bool) (workers : ℕ) (scripts : List (List Action)) (w : ℕ) 
     more_played : (parts : List (List Entry)) → HavePlayed workers scripts w n parts → HavePlayed workers scripts w (suc n) parts
     more_played parts played = played_below workers scripts w n (suc n) parts (omega arith) played
 
-    -- What follows, where it is the next call of an attempt or another script.
+    -- The next call of an attempt, or another script.
     abbrev Follows : List (List Entry) → Progress → Type 0
     Follows parts (Next attempt) = KeepsTask workers scripts w (record { script = n; attempt = attempt; drive = new_drive half w (call_at script attempt.stage) }) parts
     Follows parts (Over outcome) = KeepsAt workers scripts w (started half scripts w (n + workers)) parts
@@ -91,7 +91,8 @@ module _ (half : Bool) (workers : ℕ) (scripts : List (List Action)) (w : ℕ) 
     follows_leaving : (again : ℕ) (refusal : Refusal) (parts : List (List Entry)) → HavePlayed workers scripts w n parts → Follows parts (Next (attempt_at again (Leaving refusal)))
     follows_leaving again refusal parts played = keeps_next again (Leaving refusal) parts played
 
-    -- A transaction that is as far as an action goes on with it, or with the commit after the last one.
+    -- A transaction that has reached an action continues with it, or with the commit after the last
+    -- action.
     follows_action : (again i : ℕ) (drive : Drive) (parts : List (List Entry)) → made drive ≡ [] → IsAsFar script i drive parts → HavePlayed workers scripts w n parts → Follows parts (Next (attempt_at again (Acting i)))
     follows_action again i drive parts none far played = keeps_next again (Acting i) parts (at (slice_get script i))
       where
@@ -102,7 +103,7 @@ module _ (half : Bool) (workers : ℕ) (scripts : List (List Action)) (w : ℕ) 
         at (Some action) = (new (call_for action), played)
         at None = (new calls.Commit, played)
 
-    -- What follows an action or the commit.
+    -- The progress after an action or the commit.
     abbrev progress_with : ℕ → ℕ → ℕ → Option Action → End → Progress
     progress_with tries again i o (ends.Answered answer) = done_with again i o
     progress_with tries again i o ends.Helped = done_with again i o
@@ -211,7 +212,7 @@ module _ (half : Bool) (workers : ℕ) (scripts : List (List Action)) (w : ℕ) 
     follows_left tries again reason (ends.Busy holder) parts played = follows_busy tries again parts played
     follows_left tries again reason (ends.Refused refusal) parts played = subst (Follows parts) (sym (left_over again reason refusal)) (keeps_over parts (more_played parts played))
 
-    -- What follows the end of the call of a stage.
+    -- The progress after the end of the call of a stage.
     acting_end : (tries again i : ℕ) (drive : Drive) (outcome : End) (parts : List (List Entry)) (o : Option Action) → slice_get script i ≡ o → drive.call ≡ call_of o → end_of drive ≡ Some outcome
         → IsActing workers scripts w n script i drive parts o → Follows parts (progress_with tries again i o outcome)
     acting_end tries again i drive outcome parts (Some action) here call is at =
@@ -249,7 +250,7 @@ settled_at_keeps : (scripts : List (List Action)) (tries : ℕ) (worker : Standi
 settled_at_keeps scripts tries worker below seen None is at = record { number = below; at = subst (λ o. KeepsAt worker.limits.callers scripts worker.number o (parts_of seen)) (sym is) at }
 settled_at_keeps scripts tries worker below seen (Some task) is at = settled_in_keeps scripts tries worker below task seen (end_of task.drive) refl is at
 
--- A worker that goes on keeps to its scripts.
+-- A worker that moves on keeps to its scripts.
 pub settled_keeps : (scripts : List (List Action)) (tries : ℕ) (worker : Standing) (seen : List Entry) → Keeps scripts worker seen → Keeps scripts (settled scripts tries worker) seen
 settled_keeps scripts tries worker seen keeps = settled_at_keeps scripts tries worker keeps.number seen worker.task refl keeps.at
 
@@ -271,7 +272,7 @@ sized_keeps size scripts worker seen keeps = record { number = keeps.number; at 
 pub new_keeps : (scripts : List (List Action)) (w : ℕ) (limits : Sizes) → w < limits.callers → Keeps scripts (new_worker scripts w limits) []
 new_keeps scripts w limits below = record { number = below; at = keeps_new limits.half limits.callers scripts w below }
 
--- A worker with a step to take stays as it is.
+-- A worker with a step to take is unchanged.
 stays : (scripts : List (List Action)) (tries : ℕ) (worker : Standing) (step : Step) (o : Option Task) → option_and_then (λ (task : Task). step_of task.drive) o ≡ Some step → settled_at scripts tries worker o ≡ worker
 stays scripts tries worker step None is = absurd (cc is)
 stays scripts tries worker step (Some task) is = ap (settled_in scripts tries worker task) (goes_on task.drive step is)

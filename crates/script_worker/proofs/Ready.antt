@@ -42,7 +42,7 @@ steps_in c call (Linking way again) is = refl
 steps_in c call (Storing way) is = refl
 steps_in c call phase is = absurd (cc is)
 
--- The size at this moment leaves it one.
+-- To note the table's size leaves a drive a step.
 steps-sized : (size c : ℕ) (call : Call) (phase : Phase) → is_some (step_in c call (sized_in size phase)) ≡ is_some (step_in c call phase)
 steps-sized size c call (Doubling seen) = refl
 steps-sized size c call phase = refl
@@ -55,7 +55,7 @@ steps_ended : (o : Option Step) (drive : Drive) → step_of drive ≡ o → is_s
 steps_ended None drive is some = absurd (cc some)
 steps_ended (Some step) drive is some = goes_on drive step is
 
--- A task as a call leaves it: its drive has a step to take, or is new.
+-- A task after a call: its drive has a step to take, or is new.
 record IsCalled (scripts : List (List Action)) (task : Task) : Type 0 where
   half : Bool
   caller : ℕ
@@ -90,7 +90,7 @@ called_at : (scripts : List (List Action)) (tries : ℕ) (worker : Standing) (o 
 called_at scripts tries worker None is = subst (IsCalledIfAny scripts) (sym is) tt
 called_at scripts tries worker (Some task) is = called_in scripts tries worker task (end_of task.drive) is refl
 
--- A new drive that has ended is of help with a bad key, and what follows it is an abort.
+-- A new drive that has already ended is that of a help with a bad key, and an abort follows it.
 abbrev IsReadyTask : Option Task → Type 0
 IsReadyTask o = is_some (option_and_then (λ (task : Task). step_of task.drive) o) ≡ is_some o
 
@@ -138,7 +138,7 @@ ready_at : (scripts : List (List Action)) (tries : ℕ) (worker : Standing) (o :
 ready_at scripts tries worker None is called = subst IsReadyTask (sym is) refl
 ready_at scripts tries worker (Some task) is called = ready_in scripts tries worker task (end_of task.drive) is refl called
 
--- So a worker that was told an answer is ready, whatever it was before.
+-- A worker that was told an answer is ready, whatever it was before.
 pub told_ready : (scripts : List (List Action)) (tries : ℕ) (worker : Standing) (answer : Answer) → IsReady (told_by scripts tries worker answer)
 told_ready scripts tries worker answer =
     let told : Standing = told_drive worker answer in
@@ -150,7 +150,7 @@ pub new_ready : (scripts : List (List Action)) (w : ℕ) (limits : Sizes) → Is
 new_ready scripts w limits =
     elim (nat_lt w (length scripts)) as (λ b. IsReadyTask (if b then Some (record { script = w; attempt = first_attempt; drive = new_drive limits.half w calls.Begin }) else None)) [ true ↦ refl | false ↦ refl ]
 
--- The size at this moment leaves a worker its step.
+-- To note the table's size leaves a worker its step.
 pub sized_step : (size : ℕ) (worker : Standing) → is_some (step_by (sized_by size worker)) ≡ is_some (step_by worker)
 sized_step size worker = elim worker.task as (λ o. is_some (option_and_then (λ (task : Task). step_of task.drive) (with_drive_in (sized_of size) o)) ≡ is_some (option_and_then (λ (task : Task). step_of task.drive) o)) [
   | None ↦ refl
@@ -160,7 +160,7 @@ sized_step size worker = elim worker.task as (λ o. is_some (option_and_then (λ
 pub sized_ready : (size : ℕ) (worker : Standing) → IsReady worker → IsReady (sized_by size worker)
 sized_ready size worker ready = sized_step size worker ∙ ready ∙ sym (elim worker.task as (λ o. is_some (with_drive_in (sized_of size) o) ≡ is_some o) [ None ↦ refl | Some task ↦ refl ])
 
--- The turn of the drive of a worker that is ready is one of the worker's.
+-- The turn of the drive of a ready worker is the worker's turn.
 turn_taken : (worker : Standing) (task : Task) (turn : Turn) → worker.task ≡ Some task → IsReady worker → IsTurnOf task.drive turn → IsTurnBy worker (Some turn)
 turn_taken worker task (One step) is ready taken = ap (λ o. option_and_then (λ (task : Task). step_of task.drive) o) is ∙ taken
 turn_taken worker task (Two step next) is ready taken =

@@ -1,4 +1,5 @@
--- What a worker that keeps to its scripts has played so far, and that it stays the same one.
+-- The scripts that a worker which keeps to its scripts has played so far, and the parts of a worker
+-- that no answer changes.
 use Rattle.std.proofs.Common.{◌≡◌, ℕ, ◌<◌, List, length, Option, Some, None, refl, sym, ap, ◌∙◌, arith}
 use Prim.Native.Nat.{suc}
 use Rattle.std.specs.List.{slice_get}
@@ -20,7 +21,7 @@ use Rattle.script_worker.specs.declared.standing.Standing.{Standing}
 use Rattle.script_worker.specs.Workers.{settled_in, settled_at, settled, with_drive_in, told_drive, told_by, sized_by}
 use Rattle.script_worker.specs.Keeps.{IsCommitting, IsActing, IsAt, KeepsAt, Keeps}
 
--- What a worker that keeps to its scripts has played so far.
+-- The scripts that a worker which keeps to its scripts has played so far.
 module _ (workers : ℕ) (scripts : List (List Action)) (w : ℕ) where
   committing_played : (n : ℕ) (script : List Action) (i : ℕ) (drive : Drive) (phase : Phase) (parts : List (List Entry)) → IsCommitting workers scripts w n script i drive phase parts → HavePlayed workers scripts w (suc n) parts
   committing_played n script i drive Fresh parts at = played_below workers scripts w n (suc n) parts (omega arith) at.1
@@ -45,14 +46,14 @@ module _ (workers : ℕ) (scripts : List (List Action)) (w : ℕ) where
 pub keeps_played : (scripts : List (List Action)) (worker : Standing) (seen : List Entry) → Keeps scripts worker seen → HavePlayed worker.limits.callers scripts worker.number (length scripts) (parts_of seen)
 keeps_played scripts worker seen keeps = task_played worker.limits.callers scripts worker.number worker.task (parts_of seen) keeps.at
 
--- The worker whose drive knows the size at this moment.
+-- The worker whose drive has noted the table's size.
 pub sized_is : (size : ℕ) (worker : Standing) (task : Task) (drive : Drive) → worker.task ≡ Some task → drive ≡ sized_of size task.drive
     → sized_by size worker ≡ record { number = worker.number; limits = worker.limits; task = Some (record { script = task.script; attempt = task.attempt; drive = drive }) }
 sized_is size worker task drive is drive_is =
     let with_task : Option Task → Standing = λ o. record { number = worker.number; limits = worker.limits; task = o } in
     ap (λ o. with_task (with_drive_in (sized_of size) o)) is ∙ ap (λ d. with_task (Some (record { script = task.script; attempt = task.attempt; drive = d }))) (sym drive_is)
 
--- A worker stays the same one, of the same limits.
+-- The number and the limits of a worker are unchanged.
 abbrev IsSameOne : Standing → Standing → Type 0
 IsSameOne after before = (after.number ≡ before.number) × (after.limits ≡ before.limits)
 

@@ -11,7 +11,8 @@ use Rattle.script_worker.specs.declared.attempt.Outcome.{Outcome}
 use Rattle.script_worker.specs.declared.standing.Standing.{Standing}
 use Rattle.script_worker.specs.Workers.{sized_by, turn_by, IsTurnBy, Working, TakesStep, TakesIn, TakesNext}
 
--- What each step does to a part of whatever takes it, the worker's turn does, where a fact of it stays; and the fact stays.
+-- If each step that is taken maps to a step of a part, and keeps a fact that the mapping needs,
+-- then so does the worker's turn.
 takes_in : {X F : Type 0} (takes : X → Step → Answer → X → Type 0) (scripts : List (List Action)) (tries : ℕ) (R : F → Step → Answer → F → Type 0) (I : F → Type 0) (p : F → Working X)
     → (x : F) (t : Turn) (y : F) → IsTurnBy (p x).worker (Some t) → I x → HasTaken R x t y
     → ((x : F) (s : Step) (a : Answer) (y : F) → I x → R x s a y → TakesStep takes scripts tries (p x) s a (p y) × I y)
@@ -36,7 +37,7 @@ takes_next {X} takes size scripts tries before R I p x t o y worker none turn so
       mapped.1,
     )
 
--- A worker's turn on whatever takes its steps is one on the part that a step changes so.
+-- A worker's turn, as a turn on the part that each step changes.
 module _ {X F : Type 0} (takes : X → Step → Answer → X → Type 0) (R : F → Step → Answer → F → Type 0) (I : F → Type 0) (p : F → X)
     (each : (x : F) (s : Step) (a : Answer) (y : F) → I x → R x s a y → takes (p x) s a (p y) × I y) (scripts : List (List Action)) (tries : ℕ) where
   abbrev on_part : Working F → Working X
@@ -66,7 +67,7 @@ pub next_maps : {X F : Type 0} (takes : X → Step → Answer → X → Type 0) 
     → ((z : F) (s : Step) (a : Answer) (y : F) → I x z → R z s a y → takes (p z) s a (p y) × I x y) → TakesNext takes size scripts tries (p x) before outcome (p y) after × I x y
 next_maps takes R I p scripts tries size x before outcome y after i taken each = part_next takes R (I x) p each scripts tries size x before outcome y after i taken
 
--- What is left behind is the same.
+-- The worker, the step and the outcome after a turn.
 pub next_at : {X : Type 0} (takes : X → Step → Answer → X → Type 0) (size : ℕ) (scripts : List (List Action)) (tries : ℕ) (old : X) (before : Standing) (o p : Option Outcome) (y z : X) (v w : Standing)
     → TakesNext takes size scripts tries old before o y v → o ≡ p → y ≡ z → v ≡ w → TakesNext takes size scripts tries old before p z w
 next_at takes size scripts tries old before o p y z v w taken o_is y_is v_is =

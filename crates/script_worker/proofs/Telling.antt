@@ -1,4 +1,4 @@
--- A task that keeps to its script does so with each answer that it is told, and at each size.
+-- A task that keeps to its script does so with each answer, and at each size.
 use Rattle.std.proofs.Common.{[], ◌≡◌, ℕ, ◌<◌, Bool, List, ◌∷◌, ◌++◌, Option, Some, None, refl, sym, ap, subst, ◌∙◌, arith}
 use Prim.Native.Nat.{suc}
 use Rattle.std.specs.List.{fold, slice_get}
@@ -34,7 +34,7 @@ use Rattle.script_worker.proofs.Advancing.{without_undone-append, none_left, pla
 
 module _ (half : Bool) (workers : ℕ) (scripts : List (List Action)) (w : ℕ) (below : w < workers) where
   module _ (n : ℕ) (script : List Action) (is : IsScriptOf workers scripts w n script) where
-    -- What an answer makes of a stage.
+    -- The stage after an answer.
     begin_first : (c : ℕ) (answer : Answer) (parts : List (List Entry)) → c ≡ w → HavePlayed workers scripts w n parts
         → IsBegun w (First answer) (fold part_after parts (entries_of (steps.Begin c) answer)) × HavePlayed workers scripts w n (fold part_after parts (entries_of (steps.Begin c) answer))
     begin_first c (answers.Began t) parts mine played =
@@ -93,7 +93,7 @@ module _ (half : Bool) (workers : ℕ) (scripts : List (List Action)) (w : ℕ) 
     told_at (Leaving reason) drive step answer parts mine call is at =
         played_inner workers scripts w n (entries_of step answer) parts (plain_entries step answer (plain_step drive step (subst IsPlainCall (sym call) tt) is)) at
 
-    -- What the size at this moment makes of it: nothing.
+    -- To note the table's size changes nothing.
     begun_sized : (size : ℕ) (phase : Phase) (parts : List (List Entry)) → IsBegun w phase parts → IsBegun w (sized_in size phase) parts
     begun_sized size (Doubling seen) parts begins = begins
     begun_sized size phase parts begins = begins

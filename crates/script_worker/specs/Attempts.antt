@@ -1,4 +1,4 @@
--- An attempt at a script: the call of each stage, and what follows once the call has ended.
+-- An attempt at a script: the call of each stage, and the progress after the end of a call.
 use Rattle.std.specs.Prelude.{ℕ, ◌+◌, nat_lt, if◌then◌else◌, List, Option, Some, None, slice_get}
 use Rattle.txn_trace.specs.declared.action.Action.{Action}
 use Rattle.txn_trace.specs.declared.action.Action.TheVariants as actions
@@ -15,7 +15,7 @@ use Rattle.script_worker.specs.declared.attempt.Outcome.TheVariants as outcomes
 use Rattle.script_worker.specs.declared.attempt.Progress.{Progress}
 use Rattle.script_worker.specs.declared.attempt.Progress.TheVariants.{Next, Over}
 
--- An attempt so far, before which so many were made.
+-- The attempt at a stage, after this number of attempts.
 abbrev pub attempt_at : ℕ → Stage → Attempt
 attempt_at again stage = record { again = again; stage = stage }
 
@@ -30,7 +30,7 @@ call_for (actions.Back n) = calls.Back n
 call_for (actions.Help k) = calls.Help k
 call_for actions.Abort = calls.Abort
 
--- After the last action comes the commit.
+-- The commit follows the last action.
 abbrev pub call_of : Option Action → Call
 call_of (Some action) = call_for action
 call_of None = calls.Commit
@@ -41,20 +41,20 @@ call_at script Beginning = calls.Begin
 call_at script (Acting i) = call_of (slice_get script i)
 call_at script (Leaving refusal) = calls.Abort
 
--- After an action is done comes the next; after an abort, and after the commit, the script is over.
+-- The next action follows one that is done; after an abort, and after the commit, the script is
+-- over.
 abbrev pub done_with : ℕ → ℕ → Option Action → Progress
 done_with again i None = Over outcomes.Committed
 done_with again i (Some actions.Abort) = Over outcomes.Aborted
 done_with again i (Some action) = Next (attempt_at again (Acting (i + 1)))
 
--- What follows a call that is done.
+-- The progress after a call that is done.
 abbrev pub done_at : List Action → ℕ → Stage → Progress
 done_at script again Beginning = Next (attempt_at again (Acting 0))
 done_at script again (Acting i) = done_with again i (slice_get script i)
 done_at script again (Leaving refusal) = Over (outcomes.Refused refusal)
 
--- After a busy stripe the script is attempted again, where fewer than `tries` attempts were made
--- again.
+-- After a busy stripe the script is attempted again, if fewer than `tries` attempts were repeated.
 abbrev pub busy_at : ℕ → ℕ → Progress
 busy_at tries again =
     if nat_lt again tries then Next (attempt_at (again + 1) Beginning) else Over outcomes.Busy
@@ -69,12 +69,12 @@ abbrev pub refused_in : List Action → ℕ → Stage → Refusal → Progress
 refused_in script again (Acting i) refusal = refused_with again (slice_get script i) refusal
 refused_in script again stage refusal = Over (outcomes.Refused refusal)
 
--- What follows a refused call. An answer that no rule foresees ends the script at once.
+-- The progress after a refused call. An answer that no rule foresees ends the script at once.
 abbrev pub refused_at : List Action → ℕ → Stage → Refusal → Progress
 refused_at script again stage OutOfStep = Over (outcomes.Refused OutOfStep)
 refused_at script again stage refusal = refused_in script again stage refusal
 
--- What follows once the call of a stage has ended so.
+-- The progress after the call of a stage, by its end.
 abbrev pub progress_at : List Action → ℕ → ℕ → Stage → End → Progress
 progress_at script tries again stage (ends.Answered answer) = done_at script again stage
 progress_at script tries again stage ends.Helped = done_at script again stage

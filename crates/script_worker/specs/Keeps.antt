@@ -1,4 +1,4 @@
--- A worker keeps to its scripts: what its entries in the history are, so far.
+-- A worker keeps to its scripts: its entries in the history so far are those of the scripts.
 use Rattle.std.specs.Prelude.{◌≡◌, ℕ, ◌<◌, List, [], ◌∷◌, ◌++◌, length, drop, Option, Some, None, slice_get}
 use Prim.Native.Nat.{suc}
 use Rattle.txn_trace.specs.declared.action.Action.{Action}
@@ -16,14 +16,14 @@ use Rattle.script_worker.specs.declared.task.Task.{Task}
 use Rattle.script_worker.specs.declared.standing.Standing.{Standing}
 use Rattle.script_worker.specs.Attempts.{call_at}
 
--- Entries that any entries which the actions from this index on ask for make to those of the whole
--- script.
+-- The entries that, followed by any entries of the actions from this index on, are those of the
+-- whole script.
 abbrev pub IsFront : List Action → ℕ → List Entry → Type 0
 IsFront script i front =
     (rest : List Entry) → ArePlayed (drop i script) rest → IsPlayed script (front ++ rest)
 
--- The last transaction has the entries of the actions before this index and those that the present
--- call has made, but for changes taken back.
+-- The last transaction has the entries of the actions before this index and those of the present
+-- call, apart from changes taken back.
 pub record IsAsFar (script : List Action) (i : ℕ) (drive : Drive)
     (parts : List (List Entry)) : Type 0 where
   pub part : List Entry
@@ -41,7 +41,8 @@ IsBegun w (First (answers.Began t)) parts =
 IsBegun w (First answer) parts = Unit {0}
 IsBegun w phase parts = ⊥
 
--- Before its commit a transaction is as far as the whole script, and after it the script is played.
+-- Before its commit a transaction has the entries of the whole script, and after it the script is
+-- played.
 abbrev pub IsCommitting : ℕ → List (List Action) → ℕ → ℕ → List Action → ℕ → Drive → Phase
     → List (List Entry) → Type 0
 IsCommitting workers scripts w n script i drive Fresh parts =
@@ -50,7 +51,8 @@ IsCommitting workers scripts w n script i drive (First answer) parts =
     HavePlayed workers scripts w (suc n) parts
 IsCommitting workers scripts w n script i drive phase parts = ⊥
 
--- While the action of this index is done, a transaction is as far as that.
+-- While the action of this index is being done, a transaction has the entries of the actions before
+-- it.
 abbrev pub IsActing : ℕ → List (List Action) → ℕ → ℕ → List Action → ℕ → Drive
     → List (List Entry) → Option Action → Type 0
 IsActing workers scripts w n script i drive parts (Some action) =
@@ -58,7 +60,7 @@ IsActing workers scripts w n script i drive parts (Some action) =
 IsActing workers scripts w n script i drive parts None =
     IsCommitting workers scripts w n script i drive drive.phase parts
 
--- At a stage of an attempt at script number n, whose call is on its way.
+-- At a stage of an attempt at script number n, during its call.
 abbrev pub IsAt : ℕ → List (List Action) → ℕ → ℕ → List Action → Drive → List (List Entry)
     → Stage → Type 0
 IsAt workers scripts w n script drive parts Beginning =
@@ -67,7 +69,7 @@ IsAt workers scripts w n script drive parts (Acting i) =
     IsActing workers scripts w n script i drive parts (slice_get script i)
 IsAt workers scripts w n script drive parts (Leaving refusal) = HavePlayed workers scripts w n parts
 
--- The worker is at this script of its own.
+-- The worker is at this script, which is one of its scripts.
 pub record KeepsTask (workers : ℕ) (scripts : List (List Action)) (w : ℕ) (task : Task)
     (parts : List (List Entry)) : Type 0 where
   pub script : List Action
@@ -76,12 +78,12 @@ pub record KeepsTask (workers : ℕ) (scripts : List (List Action)) (w : ℕ) (t
   pub call : task.drive.call ≡ call_at script task.attempt.stage
   pub at : IsAt workers scripts w task.script script task.drive parts task.attempt.stage
 
--- With no script left, what is committed plays scripts of the worker's.
+-- If no script is left, the committed transactions play scripts of the worker.
 abbrev pub KeepsAt : ℕ → List (List Action) → ℕ → Option Task → List (List Entry) → Type 0
 KeepsAt workers scripts w None parts = HavePlayed workers scripts w (length scripts) parts
 KeepsAt workers scripts w (Some task) parts = KeepsTask workers scripts w task parts
 
--- The worker's entries in the history are what its scripts ask for so far.
+-- The worker's entries in the history so far are those of its scripts.
 pub record Keeps (scripts : List (List Action)) (worker : Standing)
     (seen : List Entry) : Type 0 where
   pub number : worker.number < worker.limits.callers

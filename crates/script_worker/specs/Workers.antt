@@ -1,4 +1,4 @@
--- A worker: the script that it is at, its next step, and where it is once that was answered.
+-- A worker: the script that it is at, its next step, and its state after the answer to it.
 use Rattle.std.specs.Prelude.{◌≡◌, ℕ, ◌+◌, nat_lt, Bool, if◌then◌else◌, List, length, Option, Some, None, is_some, slice_get}
 use Rattle.std.specs.Option.{option_map, option_and_then, option_or}
 use Rattle.txn_trace.specs.declared.action.Action.{Action}
@@ -20,7 +20,7 @@ use Rattle.script_worker.specs.declared.task.Task.{Task}
 use Rattle.script_worker.specs.declared.standing.Standing.{Standing}
 use Rattle.script_worker.specs.Attempts.{first_attempt, call_at, progress_of}
 
--- The first attempt at the script of a number, where there is one.
+-- The first attempt at the script of a number, if there is one.
 abbrev pub started : Bool → List (List Action) → ℕ → ℕ → Option Task
 started half scripts w n =
     if nat_lt n (length scripts)
@@ -32,8 +32,8 @@ abbrev pub new_worker : List (List Action) → ℕ → Sizes → Standing
 new_worker scripts w limits =
     record { number = w; limits = limits; task = started limits.half scripts w w }
 
--- What the worker is at after a call of an attempt at a script: the next call, or the next script
--- of its own.
+-- The task of the worker after a call of an attempt at a script: the next call, or the worker's
+-- next script.
 abbrev pub followed : List (List Action) → Standing → Task → List Action → Progress → Option Task
 followed scripts worker task script (Next attempt) =
     Some (record {
@@ -44,13 +44,14 @@ followed scripts worker task script (Next attempt) =
 followed scripts worker task script (Over outcome) =
     started worker.limits.half scripts worker.number (task.script + worker.limits.callers)
 
--- The same of the script of a number, after the call has ended so.
+-- The task of the worker after a call of an attempt at the script of a number, by the end of the
+-- call.
 abbrev pub progressed : List (List Action) → ℕ → Standing → Task → End → Option Task
 progressed scripts tries worker task outcome =
     option_and_then (λ script. followed scripts worker task script
     (progress_of script tries task.attempt outcome)) (slice_get scripts task.script)
 
--- Where the call has ended, the next one follows.
+-- If the call has ended, the next one follows.
 abbrev pub settled_in : List (List Action) → ℕ → Standing → Task → Option End → Standing
 settled_in scripts tries worker task None = worker
 settled_in scripts tries worker task (Some outcome) =
@@ -61,19 +62,19 @@ settled_at scripts tries worker None = worker
 settled_at scripts tries worker (Some task) =
     settled_in scripts tries worker task (end_of task.drive)
 
--- How the worker's call has ended, if it has.
+-- The end of the worker's call, if it has ended.
 abbrev pub end_by : Standing → Option End
 end_by worker = option_and_then (λ task. end_of task.drive) worker.task
 
 abbrev pub settled : List (List Action) → ℕ → Standing → Standing
 settled scripts tries worker = settled_at scripts tries worker worker.task
 
--- How a script ended, where it is over.
+-- The outcome of a script, if it is over.
 abbrev pub outcome_of : Progress → Option Outcome
 outcome_of (Next attempt) = None
 outcome_of (Over outcome) = Some outcome
 
--- How the script of a task ended, where it is over once the call has ended so.
+-- The outcome of the script of a task, if it is over with this end of the call.
 abbrev pub outcome_at : List (List Action) → ℕ → Task → End → Option Outcome
 outcome_at scripts tries task outcome =
     option_and_then (λ script. outcome_of (progress_of script tries task.attempt outcome))
@@ -84,16 +85,16 @@ outcome_in scripts tries None = None
 outcome_in scripts tries (Some task) =
     option_and_then (outcome_at scripts tries task) (end_of task.drive)
 
--- How the worker's script ended, where its call has ended and the script is over with it.
+-- The outcome of the worker's script, if its call has ended and the script is over with it.
 abbrev pub outcome_by : List (List Action) → ℕ → Standing → Option Outcome
 outcome_by scripts tries worker = outcome_in scripts tries worker.task
 
--- The task with what became of its drive.
+-- The task with its drive changed.
 abbrev pub with_drive_in : (Drive → Drive) → Option Task → Option Task
 with_drive_in f None = None
 with_drive_in f (Some task) = Some (record task { drive = f task.drive })
 
--- The worker with what became of its drive.
+-- The worker with its drive changed.
 abbrev pub with_drive : (Drive → Drive) → Standing → Standing
 with_drive f worker = record worker { task = with_drive_in f worker.task }
 
@@ -101,23 +102,23 @@ with_drive f worker = record worker { task = with_drive_in f worker.task }
 abbrev pub told_drive : Standing → Answer → Standing
 told_drive worker answer = with_drive (λ drive. told_of drive answer) worker
 
--- The worker that was told an answer. A call may end before its first step, and then the next one
--- follows.
+-- The worker after it was told an answer. A call may end before its first step, and then the next
+-- one follows.
 abbrev pub told_by : List (List Action) → ℕ → Standing → Answer → Standing
 told_by scripts tries worker answer =
     settled scripts tries (settled scripts tries (told_drive worker answer))
 
--- How the worker's script ended, where it ended by this answer.
+-- The outcome of the worker's script, if this answer ended it.
 abbrev pub outcome_told : List (List Action) → ℕ → Standing → Answer → Option Outcome
 outcome_told scripts tries worker answer =
     option_or (outcome_by scripts tries (told_drive worker answer))
     (outcome_by scripts tries (settled scripts tries (told_drive worker answer)))
 
--- The worker once the table's size at this moment is known.
+-- The worker after it has noted the table's size.
 abbrev pub sized_by : ℕ → Standing → Standing
 sized_by size worker = with_drive (sized_of size) worker
 
--- The worker's turn, where it has a script left.
+-- The worker's turn, if it has a script left.
 abbrev pub turn_by : Standing → Option Turn
 turn_by worker = option_map (λ task. turn_of task.drive) worker.task
 
@@ -129,8 +130,8 @@ step_by worker = option_and_then (λ task. step_of task.drive) worker.task
 abbrev pub IsReady : Standing → Type 0
 IsReady worker = is_some (step_by worker) ≡ is_some worker.task
 
--- A turn takes the worker's next step; of two steps the second is the one after `placed`. Only a
--- worker with no script left takes none.
+-- A turn takes the worker's next step; a second step is the one after `placed`. Only a worker with
+-- no script left takes none.
 abbrev pub IsTurnBy : Standing → Option Turn → Type 0
 IsTurnBy worker None = worker.task ≡ None
 IsTurnBy worker (Some (One step)) = step_by worker ≡ Some step
@@ -138,7 +139,8 @@ IsTurnBy worker (Some (Two step next)) =
     (step_by worker ≡ Some step) × (step_by (told_drive worker answers.Placed) ≡ Some next)
 IsTurnBy worker (Some (Ended outcome)) = ⊥
 
--- What takes a worker's steps, the worker, and how its script ended in this turn.
+-- The state on which a worker's steps are taken, the worker, and the outcome of its script, if this
+-- turn ended it.
 pub record Working (X : Type 0) : Type 0 where
   pub taker : X
   pub worker : Standing
@@ -152,7 +154,7 @@ pub record TakesStep {X : Type 0} (takes : X → Step → Answer → X → Type 
   pub told : new.worker ≡ told_by scripts tries old.worker answer
   pub ended : new.outcome ≡ option_or (outcome_told scripts tries old.worker answer) old.outcome
 
--- A turn of a worker takes one step at least.
+-- A turn of a worker takes at least one step.
 abbrev pub TakesIn : {X : Type 0} → (X → Step → Answer → X → Type 0) → List (List Action) → ℕ
     → Working X → Option Turn → Working X → Type 0
 TakesIn takes scripts tries old None new = ⊥

@@ -1,12 +1,12 @@
-//! One attempt at a script: which call comes next, and what follows the end of a call. Apart from
-//! the worker since these rules speak of one script only, and know no step.
+//! One attempt at a script: the next call, and the progress after the end of a call. These rules
+//! are about one script only and take no step; those of the worker are in `standing`.
 ghost use Rattle.std.specs.Prelude.{◌≡◌};
 ghost use Rattle.script_worker.specs.Attempts.{first_attempt, call_for, call_at, done_with, done_at, busy_at, refused_with, refused_at, progress_of};
 
 use txn_drive::{Call, End};
 use txn_trace::{Action, Refusal};
 
-/// How far an attempt at a script is.
+/// The stage of an attempt at a script.
 #[derive(Clone, Copy, Debug, PartialEq, Eq)]
 pub enum Stage {
     /// The transaction is to begin.
@@ -14,34 +14,34 @@ pub enum Stage {
     /// The action of this index, from 0, is to be done; if the script has no such action, the
     /// transaction is to commit.
     Acting(usize),
-    /// The transaction is to abort, since a call was refused so.
+    /// The transaction is to abort, since a call was refused with this.
     Leaving(Refusal),
 }
 
 /// An attempt at a script: the transaction from its begin to its end.
 #[derive(Clone, Copy, Debug, PartialEq, Eq)]
 pub struct Attempt {
-    /// How many attempts at the script were made before it.
+    /// How many attempts at the script were made before.
     pub again: u64,
-    /// How far it is.
+    /// Its stage.
     pub stage: Stage,
 }
 
-/// How a script ended.
+/// The outcome of a script.
 #[derive(Clone, Copy, Debug, PartialEq, Eq)]
 pub enum Outcome {
     /// Its transaction is committed.
     Committed,
     /// It has aborted its transaction itself.
     Aborted,
-    /// Each attempt found a stripe in another's hands, and is aborted.
+    /// Each attempt found a stripe held by another, and is aborted.
     Busy,
-    /// A call was refused so. Its transaction is aborted, or did not begin, but if it is
-    /// `OutOfStep`.
+    /// A call was refused with this. Its transaction is aborted, or did not begin, unless the
+    /// refusal is `OutOfStep`.
     Refused(Refusal),
 }
 
-/// What follows the end of a call.
+/// The progress after the end of a call.
 #[derive(Clone, Copy, Debug, PartialEq, Eq)]
 pub enum Progress {
     /// The next call of this attempt.
@@ -50,7 +50,7 @@ pub enum Progress {
     Over(Outcome),
 }
 
-/// The call of an action. Constant time.
+/// The call of an action.
 fn call_for(action: Action) -> Call
     ensures { result ≡ call_for action }
 {
@@ -64,7 +64,7 @@ fn call_for(action: Action) -> Call
 }
 
 impl Attempt {
-    /// The first attempt at a script, before its first call. Constant time.
+    /// The first attempt at a script, before its first call.
     pub fn first() -> Attempt
         ensures { result ≡ first_attempt }
     {
@@ -74,11 +74,7 @@ impl Attempt {
         }
     }
 
-    /// The call that comes next in the attempt at this script.
-    ///
-    /// # Cost
-    ///
-    /// Constant time; takes no memory.
+    /// The next call of the attempt at this script.
     pub fn call(self, script: &[Action]) -> Call
         ensures { result ≡ call_at script.now self.stage }
     {
@@ -92,15 +88,11 @@ impl Attempt {
         }
     }
 
-    /// What follows once the call that `call` names has ended so.
+    /// The progress after the call that `call` names, by its end.
     ///
-    /// A script that found a stripe held is attempted again where fewer than `tries` attempts were
-    /// made again. After a refusal of an operation, a savepoint, a return or help the transaction
-    /// is aborted; every other refusal, and `OutOfStep` of any call, ends the script at once.
-    ///
-    /// # Cost
-    ///
-    /// Constant time; takes no memory.
+    /// A script that found a stripe held is attempted again if fewer than `tries` attempts were
+    /// repeated. After a refusal of an operation, a savepoint, a return or help the transaction is
+    /// aborted; every other refusal, and `OutOfStep` of any call, ends the script at once.
     pub fn progress(self, script: &[Action], tries: u64, end: End) -> Progress
         ensures { result ≡ progress_of script.now tries self end }
     {
@@ -111,7 +103,7 @@ impl Attempt {
         }
     }
 
-    /// What follows if the call is done.
+    /// The progress if the call is done.
     fn after_done(self, script: &[Action]) -> Progress
         ensures { result ≡ done_at script.now self.again self.stage }
     {
@@ -126,7 +118,7 @@ impl Attempt {
         }
     }
 
-    /// What follows if a stripe was held by another, and the transaction is aborted.
+    /// The progress if a stripe was held by another, and the transaction is aborted.
     fn busy(self, tries: u64) -> Progress
         ensures { result ≡ busy_at tries self.again }
     {
@@ -140,7 +132,7 @@ impl Attempt {
         }
     }
 
-    /// What follows if the call was refused.
+    /// The progress if the call was refused.
     fn after_refusal(self, script: &[Action], refusal: Refusal) -> Progress
         ensures { result ≡ refused_at script.now self.again self.stage refusal }
     {

@@ -1,23 +1,22 @@
-//! Workers: each runs the scripts that are its own, one after the other, and each script as a
-//! transaction.
+//! Workers: each runs its scripts one after the other, each script as a transaction.
 //!
-//! A script is a row of actions. An attempt at it begins a transaction, does the actions in order,
-//! and commits. Where a key's stripe is held by another, the transaction is aborted and the script
-//! attempted again, so often as is allowed; if a call is refused, the transaction is aborted and
-//! the script is over; an action may say that it aborts. A worker says which step of its present
-//! call comes next and is told how it was answered, as `Drive` of `txn_drive` does for one call;
-//! `take_turn` does so for a whole turn, by whatever takes steps and answers them. It takes no step
-//! and no memory itself, so that whoever drives it decides how the steps of several workers mix.
+//! A script is a list of actions. An attempt at it begins a transaction, does the actions in order,
+//! and commits. If a key's stripe is held by another, the transaction is aborted and the script
+//! attempted again, as often as is allowed; if a call is refused, the transaction is aborted and
+//! the script is over; an action may ask for the abort. A worker names the next step of its present
+//! call and is told the answer, as `Drive` of `txn_drive` does for one call; `take_turn` does so
+//! for a whole turn, with a closure that takes the steps. A worker takes no step and no memory
+//! itself, so that its owner decides how the steps of several workers mix.
 //!
 //! A contract sees a worker as its `Standing`: its number, the limits of the map, which has as many
-//! workers as callers, and the script that it is at, with the attempt and the call's drive. What
-//! follows which answer are the functions of `specs/Attempts.antt` and `specs/Workers.antt`.
-//! Proved: the code follows these, and the worker keeps to its scripts (`specs/Keeps.antt`): of the
-//! entries that it added to the history, a part for each transaction, each part that is committed
-//! plays one of its scripts, with rising numbers, and the last part is what the present script asks
-//! for so far. A worker with a script left has a step to take: that is the invariant of its type.
-//! Each call takes constant time, but for the search of a helper's next bucket, which takes up to
-//! 32 rounds.
+//! workers as callers, and the script that it is at, with the attempt and the call's drive. The
+//! functions of `specs/Attempts.antt` and `specs/Workers.antt` define its reaction to each answer.
+//! Proved: the code follows these, and the worker keeps to its scripts (`specs/Keeps.antt`): divide
+//! the entries that it added to the history into parts, one for each transaction; then each part
+//! that is committed plays one of its scripts, with rising numbers, and the last part has the
+//! entries of the present script so far. A worker with a script left has a step to take: that is
+//! the invariant of its type. Calls take constant time and no memory; the search of a helper's next
+//! bucket takes up to 32 rounds.
 #![tactic(auto)]
 
 mod attempt;

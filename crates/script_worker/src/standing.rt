@@ -1,6 +1,5 @@
-//! A worker's number and what it is at, and how an answer moves it on: the drive is told, a call
-//! that ended is followed by the next one, and a script that is over by the worker's next script.
-//! Constant time and no memory throughout.
+//! A worker's number and its task, and the effect of an answer: the drive is told, a call that
+//! ended is followed by the next one, and a script that is over by the worker's next script.
 ghost use Rattle.std.specs.Prelude.{◌≡◌, is_some};
 ghost use Rattle.script_worker.specs.Workers.{new_worker, started, progressed, settled, told_drive, told_by, end_by, outcome_at, outcome_by, outcome_told, sized_by, turn_by, IsReady, IsTurnBy};
 
@@ -9,14 +8,14 @@ use crate::task::Task;
 use txn_drive::{Call, Drive, End, Turn};
 use txn_trace::{Answer, Limits, Script};
 
-/// Which worker it is and what it is at. Its call may have ended.
+/// The number of a worker and its task. Its call may have ended.
 #[derive(Clone, Copy, Debug, PartialEq, Eq)]
 pub struct Standing {
     /// The worker's number, from 0, which is its caller's too.
     pub number: usize,
     /// The limits of the map: as many workers as callers.
     pub limits: Limits,
-    /// The script that it is at; none if no script is left.
+    /// The script that it is at, or `None` if no script is left.
     pub task: Option<Task>,
 }
 
@@ -32,7 +31,7 @@ impl Standing {
         }
     }
 
-    /// The next turn, at this size of the table; none if no script is left.
+    /// The next turn at this size of the table, or `None` if no script is left.
     pub(crate) fn turn(&mut self, size: u32) -> Option<Turn>
         ensures worker { self.new ≡ sized_by size self.old }
         ensures turn { result ≡ turn_by self.new }
@@ -44,8 +43,8 @@ impl Standing {
         }
     }
 
-    /// The worker is told an answer to its step, and has its next step; answers how its script
-    /// ended, where it ended by this answer.
+    /// Tells the worker the answer to its step and finds its next step. Answers the outcome of its
+    /// script, if this answer ended it.
     pub(crate) fn told(&mut self, scripts: &[Script], tries: u64, answer: Answer) -> Option<Outcome>
         ensures worker { self.new ≡ told_by scripts.now tries self.old answer }
         ensures outcome { result ≡ outcome_told scripts.now tries self.old answer }
@@ -55,13 +54,13 @@ impl Standing {
             return None;
         }
         let first = self.settle(scripts, tries);
-        // A call of help may end before its first step, and then an abort follows at once, which
-        // takes a step.
+        // A call of help may end before its first step. Then an abort follows at once, which takes
+        // a step.
         let second = self.settle(scripts, tries);
         first.or(second)
     }
 
-    /// The worker's call is told the answer.
+    /// Tells the answer to the worker's call.
     fn hear(&mut self, answer: Answer)
         ensures { self.new ≡ told_drive self.old answer }
     {
@@ -80,8 +79,8 @@ impl Standing {
         }
     }
 
-    /// Where the worker's call has ended it has its next one; answers how its script ended, where
-    /// it is over.
+    /// Moves on to the next call, if the worker's call has ended. Answers the outcome of its
+    /// script, if it is over.
     fn settle(&mut self, scripts: &[Script], tries: u64) -> Option<Outcome>
         ensures worker { self.new ≡ settled scripts.now tries self.old }
         ensures outcome { result ≡ outcome_by scripts.now tries self.old }
@@ -96,7 +95,7 @@ impl Standing {
         self.go_on(task, scripts, tries, end)
     }
 
-    /// The worker goes on after its call has ended so; answers how its script ended, if it is
+    /// Moves on after this end of the worker's call. Answers the outcome of its script, if it is
     /// over.
     fn go_on(&mut self, task: Task, scripts: &[Script], tries: u64, end: End) -> Option<Outcome>
         ensures worker { self.new

@@ -1,5 +1,5 @@
 //! The script that a worker is at: its number, the attempt at it, and the drive of the present
-//! call. Apart from `standing` since it exists only while the worker has a script left.
+//! call. A worker without a script left has no task.
 use crate::attempt::Attempt;
 use txn_drive::Drive;
 
@@ -10,6 +10,6 @@ pub struct Task {
     pub script: usize,
     /// The attempt at it.
     pub attempt: Attempt,
-    /// The call of the attempt, on its way.
+    /// The drive of the attempt's present call.
     pub drive: Drive,
 }

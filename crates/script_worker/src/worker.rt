@@ -1,5 +1,5 @@
-//! A worker as its users see it: while it has a script left it has a step to take, by the invariant
-//! of the type. Which step that is, and what an answer changes, stands in `standing`.
+//! A worker as its users see it: by the invariant of the type it has a step to take while it has a
+//! script left. `standing` says which step that is, and the effect of an answer.
 ghost use Rattle.std.specs.Option.{option_or};
 ghost use Rattle.std.specs.Prelude.{◌≡◌, ◌<◌, ◌++◌, List, [], Some, true, is_some};
 ghost use Rattle.txn_trace.specs.declared.action.Action.{Action};
@@ -15,11 +15,12 @@ use std::marker::Model;
 use txn_drive::Turn;
 use txn_trace::{Answer, Limits, Script, Step};
 
-/// One of several workers, which share scripts out: worker `w` of `n` runs the scripts `w`, `w +
-/// n`, `w + 2 n` and so on, in this order. While it has a script left it has a step to take.
+/// One of several workers among which scripts are distributed: worker `w` of `n` runs the scripts
+/// `w`, `w + n`, `w + 2 n` and so on, in this order. While it has a script left it has a step to
+/// take.
 ///
-/// Begin with `new`; while the worker is live, take turns by `take_turn`: or by `turn`, and after
-/// each step taken say by `told` how it was answered.
+/// Begin with `new`. While the worker is live, take turns by `take_turn`; or by `turn`, and after
+/// each step pass its answer to `told`.
 #[derive(Clone, Copy, Debug, PartialEq, Eq)]
 pub struct Worker {
     standing: Standing,
@@ -42,10 +43,6 @@ impl Model for Worker {
 impl Worker {
     /// The worker of this number before its first step, on a map of these limits, which has as many
     /// workers as callers.
-    ///
-    /// # Cost
-    ///
-    /// Constant time; takes no memory.
     pub fn new(number: usize, limits: Limits, scripts: &[Script]) -> Worker
         requires { number < limits.callers }
         ensures worker { result ≡ new_worker scripts.now number limits }
@@ -57,7 +54,7 @@ impl Worker {
         }
     }
 
-    /// Which worker it is and the script that it is at. Constant time.
+    /// The worker's number and the script that it is at.
     pub fn standing(self) -> Standing
         ensures worker { result ≡ self }
         ensures ready { IsReady self }
@@ -65,8 +62,7 @@ impl Worker {
         self.standing
     }
 
-    /// Whether the worker has a step to take: until the last step of its last script. Constant
-    /// time.
+    /// Whether the worker has a step to take: it has until the last step of its last script.
     pub fn is_live(&self) -> bool
         ensures step { result ≡ is_some (step_by self.now) }
         ensures script { result ≡ is_some self.now.task }
@@ -74,12 +70,8 @@ impl Worker {
         self.standing.task.is_some()
     }
 
-    /// The next turn, of one step or of two, at the size that the table has at this moment; none
-    /// if the worker is not live.
-    ///
-    /// # Cost
-    ///
-    /// Constant time; takes no memory.
+    /// The next turn, of one step or of two, for a table that has this size now; `None` if the
+    /// worker is not live.
     pub fn turn(&mut self, size: u32) -> Option<Turn>
         ensures worker { self.new ≡ sized_by size self.old }
         ensures turn { result ≡ turn_by self.new }
@@ -91,9 +83,9 @@ impl Worker {
         self.standing.turn(size)
     }
 
-    /// Takes the next turn, at the size that the table has at this moment: `step` takes each of its
-    /// steps, and the worker is told the answers, as by `told`. Answers how the worker's script
-    /// ended, where it ended in this turn.
+    /// Takes the next turn, for a table that has this size now: `step` takes each of its steps, and
+    /// the worker is told the answers, as by `told`. Answers the outcome of the worker's script, if
+    /// this turn ended it.
     ///
     /// # Cost
     ///
@@ -130,17 +122,17 @@ impl Worker {
         outcome
     }
 
-    /// Says how the step that the turn named was answered; of a turn of two steps, each step taken.
-    /// The scripts and the tries are the same in each call: a script that found a stripe held is
-    /// attempted again up to `tries` times. Answers how the worker's script ended, where it ended
-    /// by this answer.
+    /// Tells the worker the answer to the step that the turn named; of a turn of two steps, the
+    /// answer to each step taken. Pass the same scripts and tries to each call: a script that found
+    /// a stripe held is attempted again up to `tries` times. Answers the outcome of the worker's
+    /// script, if this answer ended it.
     ///
-    /// What follows without a step has happened then: a call that ended is followed by the next
-    /// one, of the same script or of the next.
+    /// If the call has ended, the worker is at its next call when `told` returns, of the same
+    /// script or of the next.
     ///
     /// # Cost
     ///
-    /// Constant time: the search of a helper's next bucket takes up to 32 rounds; takes no memory.
+    /// Constant time: the search of a helper's next bucket takes up to 32 rounds.
     pub fn told(&mut self, scripts: &[Script], tries: u64, answer: Answer) -> Option<Outcome>
         ensures outcome { result ≡ outcome_told scripts.now tries self.old answer }
         ensures worker { self.new ≡ told_by scripts.now tries self.old answer }

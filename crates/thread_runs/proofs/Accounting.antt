@@ -1,4 +1,4 @@
--- What a caller's own entries say of its transactions.
+-- The transactions of a caller, found in its own entries.
 use Rattle.std.proofs.Common.{◌≡◌, ℕ, ◌==◌, true, false, cond, List, [], ◌∷◌, ◌++◌, Some, refl, sym, ap, subst, ◌∙◌, inl, inr}
 use Rattle.std.specs.List.{AllByRecursion}
 use Rattle.std.proofs.lemmas.Bool.{false≢true, eq-eqb, cases_eq}
@@ -16,13 +16,13 @@ use Rattle.txn_trace.proofs.Running.{has_txn}
 use Rattle.txn_trace.proofs.Seated.{none_before, are_seated}
 use Rattle.txn_trace.proofs.Playing.{parts_of-push, part-began, part-goes, last_part}
 
--- A part of a caller's own entries is a transaction: from its Began on it has all its entries.
+-- A part of a caller's own entries is a transaction: all its entries, from its Began on.
 pub record IsWhole (c : ℕ) (h : List Entry) (txn : ℕ) (part : List Entry) : Type 0 where
   pub inner : List Entry
   pub begins : part ≡ Began c txn ∷ inner
   pub whole : of txn h ≡ part
 
--- The caller is in it; or it has ended.
+-- The caller is in the transaction, or the transaction has ended.
 pub record IsLast (c : ℕ) (h : List Entry) (part : List Entry) : Type 0 where
   pub txn : ℕ
   pub is : IsWhole c h txn part
@@ -49,7 +49,7 @@ closed_ended : (g : List Entry) (c t : ℕ) (callers : Callers g) → txn_in g c
 closed_ended g c t callers is never = (elim (ended t g) as (λ b. (b ≡ false → ⊥) → b ≡ true) [ true ↦ λ k. refl | false ↦ λ k. absurd (k refl) ]) never
 
 module _ (c : ℕ) (g : List Entry) (e : Entry) (shape : IsShaped g) (callers : Callers g) (shaped : is_shaped g e ≡ true) where
-  -- An entry that is not of the transaction leaves it.
+  -- An entry of another transaction leaves it whole.
   whole_out : (t : ℕ) (part : List Entry) → IsWhole c g t part → (txn_at g e ≡ Some t → ⊥) → IsWhole c (g ++ e ∷ []) t part
   whole_out t part w out = record { inner = w.inner; begins = w.begins; whole = of-push_out t g e out ∙ w.whole }
 

@@ -1,4 +1,4 @@
--- What a call of a shared map adds, by its end.
+-- The entries that a call of a shared map adds, by its end.
 use Rattle.std.proofs.Common.{◌≡◌, ℕ, List, [], refl, sym, ap, ◌∙◌, inl, inr}
 use Rattle.std.proofs.lemmas.List.{append-nil}
 use Rattle.txn_trace.specs.declared.answer.Answer.TheVariants as answers
@@ -14,7 +14,7 @@ use Rattle.locked_map.specs.Calls.{Ended, Failed}
 use Rattle.locked_map.specs.Tokens.{Token, IsSameCaller}
 use Rattle.thread_runs.specs.Runs.{Adds, HasRoomFor, HasRoomAt}
 
--- A call that was not made, since memory was refused for its reply.
+-- A call that was not made, since memory was refused for its reply, adds none.
 pub adds_none : (c : ℕ) (call : Call) (refusal : Refusal) (seen : List Entry) → Adds c call (ends.Refused refusal) seen seen
 adds_none c call OutOfStep seen = record { added = []; entries = sym (append-nil seen); made = tt; quiet = λ whole. refl }
 adds_none c call refusal seen = record { added = []; entries = sym (append-nil seen); made = refl; quiet = λ whole. tt }
@@ -27,7 +27,7 @@ failed_adds : {S : Type 0} (k : Token S) (call : Call) (refusal : Refusal) (l : 
 failed_adds k call OutOfStep l fell = (record { added = fell.added; entries = fell.entries; made = tt; quiet = fell.quiet }, fell.whose)
 failed_adds k call refusal l none = (record { added = []; entries = none.seen ∙ sym (append-nil k.seen); made = refl; quiet = λ whole. tt }, none.whose)
 
--- A call that has ended so.
+-- A call with this end.
 pub adds_of : {S : Type 0} (words : S → List ℕ) (k : Token S) (call : Call) (outcome : End) (l : Token S) → Ended words k call outcome l → Adds k.number call outcome k.seen l.seen × IsSameCaller k l
 adds_of {S} words k call (ends.Refused refusal) l ended = elim ended [
   | inl token ↦ (

@@ -1,4 +1,4 @@
--- How a caller's account of a script grows: attempt by attempt, call by call.
+-- The growth of a caller's account of a script, attempt by attempt and call by call.
 use Rattle.std.proofs.Common.{◌≡◌, ℕ, ◌+◌, ◌≤◌, List, [], ◌∷◌, ◌++◌, not, length, length-append, append_assoc, Option, refl, sym, ap, subst, ◌∙◌, arith}
 use Rattle.std.specs.List.{filter}
 use Rattle.std.proofs.lemmas.List.{append-nil}
@@ -15,7 +15,7 @@ use Rattle.thread_runs.specs.Accounts.{Outcome, Told, is_busy, reply_in, replies
 pub quiet-append : (xs ys : List Entry) → CommitNothing xs → CommitNothing ys → CommitNothing (xs ++ ys)
 quiet-append xs ys quiet silent = filter-append is_commit xs ys ∙ (λ i. quiet i ++ silent i)
 
--- No attempt yet; and one more that found a stripe held.
+-- No attempt yet, and one more that found a stripe held.
 pub busy_none : AreBusy 0 []
 busy_none = record { nothing = refl; enough = omega arith }
 
@@ -29,7 +29,7 @@ busy_more n es fs busy one =
 pub busy_fewer : (n m : ℕ) (es : List Entry) → m ≤ n → AreBusy n es → AreBusy m es
 busy_fewer n m es le busy = let many = busy.enough in record { nothing = busy.nothing; enough = omega arith }
 
--- The entries of a transaction that plays the script so far, of whose actions those of `left` are to come, with these
+-- The entries of a transaction that has played the script up to the actions `left`, with these
 -- replies.
 pub record IsFront (c : ℕ) (script left : List Action) (txn : ℕ) (replies : List (Option ℕ)) (es : List Entry) : Type 0 where
   pub inner : List Entry
@@ -42,7 +42,7 @@ pub record IsFront (c : ℕ) (script left : List Action) (txn : ℕ) (replies : 
 pub front_begun : (c : ℕ) (script : List Action) (txn : ℕ) → IsFront c script script txn [] (Began c txn ∷ [])
 front_begun c script txn = record { inner = []; whole = refl; quiet = refl; replied = refl; goes = λ rest plays. plays }
 
--- It has come further.
+-- It has played some more actions.
 pub front_more : (c : ℕ) (script left fewer : List Action) (txn : ℕ) (replies : List (Option ℕ)) (es added : List Entry) → CommitNothing added
     → ((rest : List Entry) → ArePlayed fewer rest → ArePlayed left (without_undone added ++ rest))
     → IsFront c script left txn replies es → IsFront c script fewer txn (replies ++ replies_in added) (es ++ added)
@@ -66,7 +66,7 @@ front_committed c script txn place replies es front = record {
   replied = filter_map-append reply_in es (Committed c place ∷ []) ∙ append-nil (replies_in es) ∙ front.replied;
 }
 
--- No script was run yet; and one more.
+-- No script was run yet, and one more was.
 pub accounts_none : (c tries : ℕ) → AreAccounts c tries [] []
 accounts_none c tries = refl
 

@@ -1,4 +1,5 @@
--- How a worker's account of a script grows with each call: the chunk of its entries since the script began.
+-- The growth of a worker's account of a script with each call: the chunk of its entries since the
+-- script began.
 use Rattle.std.proofs.Common.{◌≡◌, ℕ, ◌+◌, ◌≤◌, nat_lt, Bool, true, false, if◌then◌else◌, List, [], ◌∷◌, ◌++◌, append_assoc, drop, Option, Some, None, refl, sym, ap, subst, ◌∙◌, arith}
 use Rattle.std.specs.Prelude.{slice_get}
 use Rattle.std.specs.List.{filter}
@@ -50,11 +51,11 @@ pub record IsChunk (c : ℕ) (script : List Action) (attempt : Attempt) (txn : �
   pub busy : AreBusy attempt.again before
   pub at : IsAtStage c script txn replies part attempt.stage
 
--- A chunk begun.
+-- A new chunk.
 pub chunk_begun : (c : ℕ) (script : List Action) (txn : ℕ) (replies : List (Option ℕ)) → IsChunk c script first_attempt txn replies []
 chunk_begun c script txn replies = record { before = []; part = []; whole = refl; busy = busy_none; at = refl }
 
--- What a chunk is after a call: of the same attempt, of the next one, or the account of the script.
+-- The chunk after a call: of the same attempt, of the next one, or the account of the script.
 abbrev ChunkAfter : ℕ → ℕ → List Action → ℕ → List (Option ℕ) → List Entry → End → Progress → Type 0
 ChunkAfter c tries script txn replies chunk end (Next attempt) = IsChunk c script attempt (txn_then txn end) (replies_then replies end) chunk
 ChunkAfter c tries script txn replies chunk end (Over over) = IsAccount c tries script (outcome_by over end txn replies) chunk
@@ -204,12 +205,13 @@ after_call c tries script attempt txn replies chunk added end made silent so_far
     subst (λ es. ChunkAfter c tries script txn replies es end (progress_of script tries attempt end)) (sym (ap (λ es. es ++ added) so_far.whole ∙ append_assoc so_far.before so_far.part added))
     (told_at c tries script attempt.again txn replies so_far.before so_far.part so_far.busy attempt.stage end added made silent so_far.at)
 
--- An attempt goes on only where it is not out of step.
+-- An attempt continues only if it is not out of step.
 goes_quiet : (script : List Action) (tries : ℕ) (attempt next : Attempt) (end : End) (added : List Entry) → progress_of script tries attempt end ≡ Next next → IsQuiet end added
 goes_quiet script tries attempt next (ends.Refused OutOfStep) added is = absurd (cc is)
 goes_quiet script tries attempt next end added is = tt
 
--- After a call the attempt goes on, or the next one follows; or the script is over, and the chunk is its account.
+-- After a call the attempt continues, or the next one follows; or the script is over, and the chunk
+-- is its account.
 pub chunk_goes : (c tries : ℕ) (script : List Action) (attempt next : Attempt) (txn : ℕ) (replies : List (Option ℕ)) (chunk added : List Entry) (end : End) → IsMade c (call_at script attempt.stage) end added
     → progress_of script tries attempt end ≡ Next next → IsChunk c script attempt txn replies chunk → IsChunk c script next (txn_then txn end) (replies_then replies end) (chunk ++ added)
 chunk_goes c tries script attempt next txn replies chunk added end made is so_far =

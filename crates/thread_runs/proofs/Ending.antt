@@ -1,4 +1,4 @@
--- A script's way through its calls: where the caller stands, and which outcomes may come.
+-- A script's course through its calls: the caller's phase, and the outcomes that are possible.
 use Rattle.std.proofs.Common.{◌≡◌, ℕ, ◌⊎◌, ◌+◌, nat_lt, Bool, true, false, zero, suc, ◌||◌, List, [], ◌∷◌, length, Option, Some, None, is_some, refl, sym, ap, subst, ◌∙◌, inl, inr, if◌then◌else◌}
 use Rattle.std.specs.Prelude.{slice_get, nat_le, IsTrue}
 use Rattle.std.specs.List.{list_any}
@@ -52,23 +52,23 @@ any_at test (first ∷ script) (suc i) action is passes = or_right (test first) 
     or_right true b passes = refl
     or_right false b passes = passes
 
--- What a stage says of the refusal for which it leaves.
+-- A stage, as a statement about the refusal for which it leaves.
 abbrev pub MayLeave : Bool → List Action → Stage → Type 0
 MayLeave half script (Leaving refusal) = MayBeRefused half script refusal
 MayLeave half script stage = Unit {0}
 
--- Which ends of an attempt the script allows.
+-- The ends of an attempt that the script allows.
 abbrev pub MayBeOver : Bool → List Action → attempts.Outcome → Type 0
 MayBeOver half script overs.Aborted = IsTrue (list_any is_abort script)
 MayBeOver half script (overs.Refused refusal) = MayBeRefused half script refusal
 MayBeOver half script over = Unit {0}
 
--- Where the caller stands after a call, by what follows it.
+-- The caller's phase after a call, by the progress.
 abbrev pub Stands : Bool → List Action → Bool → List Entry → Progress → Type 0
 Stands half script broken seen (Next attempt) = IsIn (phase_at attempt.stage) broken seen × MayLeave half script attempt.stage
 Stands half script broken seen (Over over) = IsIn Closed broken seen × MayBeOver half script over
 
--- Whether a script that is refused so by an action, or by its begin, may be.
+-- Whether a script whose action, or whose begin, is refused with this may be so refused.
 abbrev pub IsGood : Bool → List Action → Refusal → Option Action → Type 0
 IsGood half script refusal None = ⊥
 IsGood half script refusal (Some actions.Abort) = ⊥
@@ -181,8 +181,8 @@ token_refused half script stage false (Some s) refusal is (inr at) =
     let phase : s.phase ≡ phase_at stage = ap (λ (t : Seat). t.phase) same ∙ at.2 in
     inr (seat_refused half script stage s refusal (subst (λ (p : Phase). option_or (refusal_in half (record s { phase = p }) (first_step 0 (call_at script stage))) (refused_help half (call_at script stage)) ≡ Some refusal) phase is))
 
--- Want of memory or of stamps is good where the call may want it, and a stale word where it asks for
--- an operation.
+-- A lack of memory or of stamps is possible if the call may need them, and a stale word if it asks
+-- for an operation.
 want_good : (half : Bool) (script : List Action) (stage : Stage) (refusal : Refusal) → may_refuse (call_at script stage) refusal ≡ true → IsGoodAt half script refusal stage
 want_good half script Beginning NoMemory may = tt
 want_good half script Beginning refusal may = absurd (false≢true may)
@@ -246,7 +246,7 @@ module _ {S : Type 0} (half : Bool) (script : List Action) (tries again : ℕ) (
   ]
   stands_at (ends.Refused refusal) (inr none) = same_stands (refused_at script again stage refusal) none.2 (none_stands refusal none.0 none.1)
 
--- Where the caller stands after a call of a script's attempt.
+-- The caller's phase after a call of a script's attempt.
 pub call_stands : {S : Type 0} (half : Bool) (script : List Action) (tries : ℕ) (attempt : Attempt) (k l : Token S) (asked : Call) (outcome : End) (p : Progress) → k.limits.half ≡ half → asked ≡ call_at script attempt.stage → p ≡ progress_of script tries attempt outcome
     → HasEnded k asked outcome l → (l.broken ≡ false → is_some (seat_after l.seen) ≡ true) → IsIn (phase_at attempt.stage) k.broken k.seen × MayLeave half script attempt.stage → Stands half script l.broken l.seen p
 call_stands half script tries attempt k l asked outcome p halves asked_is p_is ended rows at =

@@ -1,4 +1,4 @@
--- Every so many-th element of a list, as it grows; and rows that are put in order, one element after the other.
+-- Every n-th element of a list, as it grows; and rows that are merged, one element after the other.
 use Rattle.std.proofs.Common.{◌≡◌, ℕ, zero, suc, ◌+◌, ◌-◌, ◌*◌, ◌/◌, ◌%◌, ◌<◌, ◌≤◌, List, [], ◌∷◌, ◌++◌, length, map, refl, sym, ap, ◌∙◌, inl, inr, arith}
 use Rattle.std.specs.Prelude.{slice_get}
 use Rattle.std.proofs.Math.Nat.{suc-mul, div-add-mod, mul_comm}
@@ -6,7 +6,7 @@ use Rattle.std.proofs.lemmas.Option.{slice_get_within, slice_get_cases}
 use Rattle.thread_runs.specs.Accounts.{every}
 use Rattle.thread_runs.proofs.Lists.{get_empty}
 
--- The element of a number among every so many-th.
+-- The element with a number among every n-th.
 pub get-every : {X : Type 0} (n : ℕ) → 0 < n → (xs : List X) (after k : ℕ) → slice_get (every n after xs) k ≡ slice_get xs (after + k * n)
 get-every n some [] after k = get_empty k ∙ sym (get_empty (after + k * n))
 get-every n some (x ∷ xs) zero zero = let none : 0 ≡ 0 + 0 * n = omega arith in ap (slice_get (x ∷ xs)) none
@@ -18,7 +18,7 @@ get-every n some (x ∷ xs) (suc after) k =
     let same : suc (after + k * n) ≡ suc after + k * n = omega arith in
     get-every n some xs after k ∙ ap (slice_get (x ∷ xs)) same
 
--- One element more is one of these, where its place says so.
+-- One more element is among these, if its position is theirs.
 pub every-hit : {X : Type 0} (n : ℕ) → 0 < n → (xs : List X) (x : X) (after k : ℕ) → length xs ≡ after + k * n → every n after (xs ++ x ∷ []) ≡ every n after xs ++ x ∷ []
 every-hit n some [] x zero k at = refl
 every-hit n some [] x (suc after) k at = absurd (omega arith)
@@ -29,7 +29,7 @@ every-hit n some (y ∷ xs) x zero (suc k) at =
     ap (λ ys. y ∷ ys) (every-hit n some xs x (n - 1) k (omega arith))
 every-hit n some (y ∷ xs) x (suc after) k at = let one : suc (length xs) ≡ suc after + k * n = at in every-hit n some xs x after k (omega arith)
 
--- And where its place does not, it is not.
+-- If its position is not, it is not among them.
 pub every-miss : {X : Type 0} (n : ℕ) → 0 < n → (xs : List X) (x : X) (after : ℕ) → ((k : ℕ) → length xs ≡ after + k * n → ⊥) → every n after (xs ++ x ∷ []) ≡ every n after xs
 every-miss n some [] x zero never = absurd (never 0 (omega arith))
 every-miss n some [] x (suc after) never = refl
@@ -41,7 +41,7 @@ every-miss n some (y ∷ xs) x zero never =
 every-miss n some (y ∷ xs) x (suc after) never =
     every-miss n some xs x after (λ k at. let here : suc (length xs) ≡ suc after + k * n = omega arith in never k here)
 
--- Lists of one length have as many of these.
+-- Lists of the same length have equally many of these.
 pub every-length : {X Y : Type 0} (n : ℕ) (xs : List X) (ys : List Y) (after : ℕ) → length xs ≡ length ys → length (every n after xs) ≡ length (every n after ys)
 every-length n [] [] after same = refl
 every-length n [] (y ∷ ys) after same = let no : 0 ≡ suc (length ys) = same in absurd (omega arith)
@@ -54,14 +54,14 @@ every-map f n [] after = refl
 every-map f n (x ∷ xs) zero = ap (λ ys. f x ∷ ys) (every-map f n xs (n - 1))
 every-map f n (x ∷ xs) (suc after) = every-map f n xs after
 
--- The place of a number among those with its remainder.
+-- The position of a number among those with its remainder.
 pub number_at : (number n : ℕ) → number ≡ number % n + number / n * n
 number_at number n =
     let parts = div-add-mod number n in
     let turned : n * (number / n) ≡ number / n * n = mul_comm n (number / n) in
     omega arith
 
--- Two remainders of one number are the same.
+-- Two remainders of the same number are equal.
 pub one_remainder : (n a b k j : ℕ) → a < n → b < n → a + k * n ≡ b + j * n → a ≡ b
 one_remainder n a b zero zero low high same = omega arith
 one_remainder n a b zero (suc j) low high same = let more : suc j * n ≡ j * n + n = suc-mul j n in absurd (omega arith)
@@ -71,7 +71,7 @@ one_remainder n a b (suc k) (suc j) low high same =
     let most : suc j * n ≡ j * n + n = suc-mul j n in
     one_remainder n a b k j low high (omega arith)
 
--- Fewer elements have fewer of these, where the next one would be one of them.
+-- A shorter list has fewer of these, if its next element would be among them.
 pub every-fewer : {X Y : Type 0} (n : ℕ) → 0 < n → (xs : List X) (ys : List Y) → length xs < length ys → length (every n (length xs % n) xs) < length (every n (length xs % n) ys)
 every-fewer n some xs ys fewer =
     let c : ℕ = length xs % n in

@@ -1,4 +1,4 @@
--- Elements of lists by their places, and lists of which each element has a property.
+-- Elements of lists by their positions, and lists whose elements all have a property.
 use Rattle.std.proofs.Common.{◌≡◌, ℕ, ◌⊎◌, zero, suc, List, [], ◌∷◌, ◌++◌, length, map, set, Some, None, refl, sym, ap, subst, ◌∙◌, inl, inr}
 use Rattle.std.specs.Prelude.{slice_get, All}
 use Rattle.std.specs.Option.{option_map}
@@ -37,13 +37,13 @@ get_map f (r ∷ rs) (suc k) x is = get_map f rs k x is
 pub map_get : {R X : Type 0} (f : R → X) (rs : List R) (xs : List X) → xs ≡ map f rs → (k : ℕ) (r : R) → slice_get rs k ≡ Some r → slice_get xs k ≡ Some (f r)
 map_get f rs xs are k r is = ap (λ ys. slice_get ys k) are ∙ slice_get-map f rs k ∙ ap (option_map f) is
 
--- What holds of each element of a mapped list holds of that of each element.
+-- A statement about each element of a mapped list, for the image of each element.
 pub all_at : {R K : Type 0} (P : K → Type 0) (f : R → K) (rs : List R) (ks : List K) → ks ≡ map f rs → All P ks → (i : ℕ) (r : R) → slice_get rs i ≡ Some r → P (f r)
 all_at P f rs ks are all i r is =
     let here = map_get f rs ks are i r is in
     subst P (get_or_from_slice_get ks i (f r) (f r) here) (all i (f r) (slice_get_within ks i (f r) here))
 
--- A list of which one element is replaced.
+-- A list with one element replaced.
 pub get_set_same : {X : Type 0} (xs : List X) (i : ℕ) (a x : X) → slice_get xs i ≡ Some x → slice_get (set xs i a) i ≡ Some a
 get_set_same [] i a x is = absurd (cc (get_empty i, is))
 get_set_same (y ∷ xs) zero a x is = refl

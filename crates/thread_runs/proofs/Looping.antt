@@ -20,7 +20,7 @@ use Rattle.script_worker.specs.declared.attempt.Outcome.TheVariants as overs
 use Rattle.script_worker.specs.Attempts.{first_attempt, call_at, progress_of}
 use Rattle.thread_runs.proofs.Chunks.{IsChunk, chunk_begun, chunk_goes, chunk_over}
 
--- The loop over the calls of a script: `base` was seen before it.
+-- The loop over the calls of a script; the entries `base` were seen before it.
 abbrev pub IsRunning : ℕ → List Action → Attempt → ℕ → List (Option ℕ) → List Entry → List Entry → Type 0
 IsRunning c script attempt txn replies base seen = (chunk : List Entry) × (seen ≡ base ++ chunk) × IsChunk c script attempt txn replies chunk
 
@@ -40,14 +40,14 @@ run_over c tries script attempt over txn replies base seen seen' end adds is (ch
   λ whole. chunk_over c tries script attempt over txn replies chunk adds.added end adds.made (adds.quiet whole) is so_far,
 )
 
--- The loop over a worker's scripts: one more.
+-- The loop over a worker's scripts, with one more script.
 pub told_run : (c tries : ℕ) (scripts : List (List Action)) (outcomes : List Outcome) (script : List Action) (outcome : Outcome) (seen seen' : List Entry) → slice_get scripts (length outcomes) ≡ Some script
     → AreToldIn c tries scripts outcomes seen → HasRunTo c tries script outcome seen seen' → AreToldIn c tries scripts (outcomes ++ outcome ∷ []) seen'
 told_run c tries scripts outcomes script outcome seen seen' here told (chunk, seen_is, account) =
     subst (AreToldIn c tries scripts (outcomes ++ outcome ∷ [])) (sym seen_is)
     (told_more c tries scripts outcomes script outcome seen chunk here told (λ whole. account (ap (λ es. is_some (seat_after es)) seen_is ∙ whole)))
 
--- The same, of the parts that the code has.
+-- The loop over the calls of a script, in terms of the fields in the code.
 pub run_new : (c : ℕ) (script : List Action) (attempt : Attempt) (txn : ℕ) (replies : List (Option ℕ)) (base : List Entry) → attempt ≡ first_attempt → IsRunning c script attempt txn replies base base
 run_new c script attempt txn replies base is = subst (λ (a : Attempt). IsRunning c script a txn replies base base) (sym is) (run_begun c script txn replies base)
 

@@ -1,4 +1,5 @@
--- Rows, each with its last element first, that are put in order: one element after the other, from row after row.
+-- Rows, each with its last element first, are merged: one element after the other, from row after
+-- row.
 use Rattle.std.proofs.Common.{◌≡◌, ℕ, ◌+◌, ◌*◌, ◌/◌, ◌%◌, ◌<◌, List, [], ◌∷◌, ◌++◌, append_assoc, length, length-append, reverse, set, Some, refl, sym, ap, subst, ◌∙◌, inl, inr, arith}
 use Rattle.std.specs.Prelude.{slice_get, slice_index_or}
 use Rattle.std.proofs.Math.Nat.{mod-lt}
@@ -10,12 +11,12 @@ use Rattle.thread_runs.specs.Each.{Each}
 use Rattle.thread_runs.proofs.Every.{every-hit, every-miss, every-length, every-fewer, number_at, one_remainder}
 use Rattle.thread_runs.proofs.Lists.{get_set_same, get_set_other}
 
--- What is left of the rows: of each what is not among those that are out.
+-- The rest of the rows: the elements of each that are not out yet.
 pub record IsLeft {R X : Type 0} (items : R → List X) (n : ℕ) (rows left : List R) (out : List X) : Type 0 where
   pub as_many : length left ≡ length rows
   pub each : (i : ℕ) (was : R) → slice_get rows i ≡ Some was → (row : R) × (slice_get left i ≡ Some row) × (reverse (items was) ≡ every n i out ++ reverse (items row))
 
--- Each row has one element for each of these that are its own.
+-- Each row has one element for each of the numbers that belong to it.
 abbrev pub AreWholeRows : {R X Y : Type 0} → (R → List X) → ℕ → List R → List Y → Type 0
 AreWholeRows items n rows ys = Each (λ c row. length (items row) ≡ length (every n c ys)) rows
 
@@ -25,7 +26,7 @@ left_none items n rows out none = record { as_many = refl; each = λ i was is. (
 same_row : {R : Type 0} (left : List R) (i : ℕ) (row old : R) → slice_get left i ≡ Some row → slice_get left i ≡ Some old → old ≡ row
 same_row left i row old is was = cc (is, was)
 
--- One more is out, from the row whose turn it is.
+-- One more is out, from the row that is next.
 pub left_more : {R X : Type 0} (items : R → List X) (n : ℕ) (rows left : List R) (out : List X) (c : ℕ) (row row' : R) (x : X) → 0 < n → length rows ≡ n → c ≡ length out % n → slice_get left c ≡ Some row → items row ≡ items row' ++ x ∷ []
     → IsLeft items n rows left out → IsLeft items n rows (set left c row') (out ++ x ∷ [])
 left_more {R} {X} items n rows left out c row row' x some as_many turn is popped so_far = record {
@@ -70,7 +71,7 @@ left_more {R} {X} items n rows left out c row row' x some as_many turn is popped
           | inr apart ↦ other i was old (omega (arith, as_many)) apart there rest
         ]
 
--- The row whose turn it is.
+-- The row that is next.
 pub row_at : {R X : Type 0} (items : R → List X) (rows left : List R) (out : List X) (number workers k : ℕ) (row : R) → k ≡ number % workers → 0 < length rows → workers ≡ length rows → length out ≡ number → IsLeft items (length rows) rows left out
     → row ≡ slice_index_or left k row → (k ≡ length out % length rows) × (slice_get left k ≡ Some row)
 row_at items rows left out number workers k row turn some as_many at so_far is =
@@ -79,7 +80,7 @@ row_at items rows left out number workers k row turn some as_many at so_far is =
     let rest = so_far.as_many in
     (turn ∙ (λ i. sym at i % as_many i), slice_get_read left (length left) k row refl (omega (arith, below, as_many, rest)) is)
 
--- A row whose turn it is has something left, as long as not all are out.
+-- The row that is next has an element left, as long as not all are out.
 pub left_some : {R X Y : Type 0} (items : R → List X) (n : ℕ) (rows left : List R) (out : List X) (ys : List Y) (c : ℕ) (row : R) → 0 < n → length rows ≡ n → c ≡ length out % n → length out < length ys → AreWholeRows items n rows ys
     → slice_get left c ≡ Some row → IsLeft items n rows left out → 0 < length (items row)
 left_some items n rows left out ys c row some as_many turn fewer whole is so_far =
@@ -99,7 +100,7 @@ no_items : {X : Type 0} (xs : List X) → length xs ≡ 0 → xs ≡ []
 no_items [] none = refl
 no_items (x ∷ xs) none = absurd (omega (arith, none))
 
--- Once all are out, each row has given those that are its own.
+-- When all are out, each row has given all of its elements.
 pub left_all : {R X Y : Type 0} (items : R → List X) (n : ℕ) (rows left : List R) (out : List X) (ys : List Y) → length out ≡ length ys → AreWholeRows items n rows ys → IsLeft items n rows left out
     → Each (λ c row. every n c out ≡ reverse (items row)) rows
 left_all items n rows left out ys same whole so_far c was is =

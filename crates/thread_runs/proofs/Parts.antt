@@ -1,4 +1,4 @@
--- Of a caller's own entries those from a Began to its Committed are the transaction's.
+-- The entries of a caller from a Began to its Committed are those of the transaction.
 use Rattle.std.proofs.Common.{◌≡◌, ℕ, true, false, not, List, [], ◌∷◌, ◌++◌, append_assoc, Some, None, Option, is_some, refl, sym, ap, subst, ◌∙◌, inl, inr}
 use Rattle.std.specs.List.{fold, filter, AllByRecursion}
 use Rattle.std.specs.Option.{option_and_then}
@@ -25,7 +25,7 @@ use Rattle.thread_runs.proofs.Accounting.{IsWhole, IsOver, AreWhole, are_whole}
 abbrev pub BeginNothing : List Entry → Type 0
 BeginNothing es = AllByRecursion (λ e. is_began e ≡ false) es
 
--- What a script asks for begins nothing, and commits at its end alone.
+-- The entries of a script begin no transaction, and commit only at its end.
 played_begins : (script : List Action) (es : List Entry) → ArePlayed script es → BeginNothing es
 played_begins [] (Committed c p ∷ []) plays = (refl, tt)
 played_begins (actions.Op op ∷ script) (Asked c asked ∷ Did d reply ∷ es) plays = (refl, (refl, played_begins script es plays.1))
@@ -42,7 +42,7 @@ played_commits (actions.Back n ∷ script) (Leave c (Some level) ∷ Returned d 
 played_commits (actions.Help k ∷ script) es plays = played_commits script es plays
 played_commits _ _ plays = absurd plays
 
--- Nor do the changes that are taken back.
+-- The changes that are taken back begin none either.
 begins_with_undone : (es : List Entry) → BeginNothing (without_undone es) → BeginNothing es
 begins_with_undone [] quiet = tt
 begins_with_undone (Undone c ∷ es) quiet = (refl, begins_with_undone es quiet)
@@ -57,7 +57,7 @@ commits_without_undone es = filter_within is_commit is_commit (λ e. not (is_und
     stands _ is = refl
 
 module _ {X : Type 0} where
-  -- Of a list with one element, the last is that.
+  -- If a list has one element, its last is that element.
   one_before : (xs : List X) (x y : X) → xs ++ x ∷ [] ≡ y ∷ [] → xs ≡ []
   one_before xs x y is = (same_from_push xs [] x y is).0
 
@@ -75,7 +75,7 @@ module _ (c : ℕ) (script : List Action) (txn place : ℕ) (inner : List Entry)
   pub part_commits : filter is_commit (Began c txn ∷ inner ++ Committed c place ∷ []) ≡ Committed c place ∷ []
   part_commits = filter-append is_commit inner (Committed c place ∷ []) ∙ ap (λ es. es ++ Committed c place ∷ []) inner_commits
 
--- Entries that begin nothing come to the last part, and any entries leave the older parts.
+-- Entries that begin nothing are added to the last part, and no entries change the older parts.
 fold_goes : (es part : List Entry) (older : List (List Entry)) → BeginNothing es → fold part_after (part ∷ older) es ≡ (part ++ es) ∷ older
 fold_goes [] part older quiet = ap (λ es. es ∷ older) (sym (append-nil part))
 fold_goes (e ∷ es) part older quiet =
@@ -95,7 +95,7 @@ fold_keeps (e ∷ es) part older = elim (began_or_not e) [
       (newer, ap (λ parts. fold part_after parts es) (part-goes part older e b) ∙ is)
 ]
 
--- No entries, or first one that begins a transaction.
+-- No entries, or the first one begins a transaction.
 abbrev pub BeginAnew : List Entry → Type 0
 BeginAnew [] = Unit {0}
 BeginAnew (e ∷ es) = is_began e ≡ true
@@ -106,7 +106,7 @@ anew_keeps (e ∷ es) parts anew =
     let (newer, is) = fold_keeps es (e ∷ []) parts in
     (newer, ap (λ ps. fold part_after ps es) (part-began parts e anew) ∙ is)
 
--- The entries from a Began on, before the next one, are a part.
+-- The entries from a Began up to the next one are a part.
 part_within : (c txn : ℕ) (front tail later : List Entry) → BeginNothing tail → BeginAnew later → Keeps (parts_of (front ++ ((Began c txn ∷ tail) ++ later))) ((Began c txn ∷ tail) ∷ parts_of front)
 part_within c txn front tail later quiet anew =
     let (newer, is) = anew_keeps later ((Began c txn ∷ tail) ∷ parts_of front) anew in (
@@ -124,7 +124,7 @@ whole_within c h (_ ∷ newer) part older all = at newer all.1
     at [] all = (all.0.txn, all.0.is)
     at (_ ∷ newer) all = at newer all.1
 
--- A front of entries that have rows has rows.
+-- The first entries of a list that has rows have rows.
 abbrev seat_step : Option Seat → Entry → Option Seat
 seat_step seat e = option_and_then (λ s. row s s.phase e) seat
 
@@ -139,7 +139,7 @@ seat_front es fs some = at (seat_after es) (ap is_some (sym (fold-append seat_st
     at None some = absurd (false≢true (sym (ap is_some (none_stays fs)) ∙ some))
     at (Some s) some = refl
 
--- After its end a transaction is followed by the beginning of another.
+-- The end of a transaction is followed by the beginning of another.
 anew_after : (front : List Entry) (end : Entry) (later : List Entry) → is_end end ≡ true → is_some (seat_after ((front ++ end ∷ []) ++ later)) ≡ true → BeginAnew later
 anew_after front end [] ends some = tt
 anew_after front end (e ∷ later) ends some =
@@ -148,7 +148,7 @@ anew_after front end (e ∷ later) ends some =
     closed_begins e
     (ap is_some (sym (seat_after-push (front ++ end ∷ []) e ∙ ap (λ o. seat_step o e) (seat_after-push front end ∙ end_closes end (seat_after front) ends ended))) ∙ longer)
 
--- In right shape the entries from a Began to its Committed are the transaction's.
+-- In right shape the entries of a caller from a Began to its Committed are the transaction's.
 pub txn_within : (c : ℕ) (h : List Entry) → IsShaped h → (script : List Action) (txn place : ℕ) (front inner later : List Entry) → own c h ≡ front ++ ((Began c txn ∷ inner ++ Committed c place ∷ []) ++ later)
     → IsPlayed script (without_undone (Began c txn ∷ inner ++ Committed c place ∷ [])) → of txn h ≡ Began c txn ∷ inner ++ Committed c place ∷ []
 txn_within c h shape script txn place front inner later own_is plays =

@@ -1,4 +1,4 @@
--- A committed transaction is at its place among the commits.
+-- A committed transaction has its commit number as its position among the commits.
 use Rattle.std.proofs.Common.{◌≡◌, ℕ, ◌+◌, ◌-◌, ◌<◌, true, cond, List, [], ◌∷◌, ◌++◌, length, length-append, Some, None, sym, ap, subst, ◌∙◌, inl, inr, arith}
 use Prim.Native.Nat.{zero, suc}
 use Rattle.std.specs.List.{cons_option, slice_get}
@@ -15,7 +15,7 @@ use Rattle.txn_trace.proofs.Inductions.{by_entries}
 use Rattle.txn_trace.proofs.Steps.{txns_of-push, commits_are}
 use Rattle.txn_trace.proofs.Counts.{length-commits}
 
--- A committed transaction is at its place among the commits.
+-- An element of a list is at the same position of a longer one.
 get_front : {X : Type 0} (xs ys : List X) (i : ℕ) (x : X) → slice_get xs i ≡ Some x → slice_get (xs ++ ys) i ≡ Some x
 get_front xs ys i x is =
     let within : i < length xs = slice_get_within xs i x is in

@@ -1,4 +1,4 @@
--- The committed transactions of a caller, read off its own entries.
+-- The committed transactions of a caller, found in its own entries.
 use Rattle.std.proofs.Common.{◌≡◌, ℕ, ◌==◌, ◌&&◌, Bool, true, false, cond, List, [], ◌∷◌, ◌++◌, Some, None, Option, refl, sym, ap, ◌∙◌, inl, inr}
 use Rattle.std.specs.List.{fold, cons_option}
 use Rattle.std.proofs.lemmas.Bool.{false≢true, eq-eqb, cases_eq, ne_eqb}
@@ -16,7 +16,8 @@ use Rattle.txn_trace.proofs.Inductions.{by_entries}
 use Rattle.txn_trace.proofs.Steps.{txns_of-push}
 use Rattle.thread_runs.proofs.Parts.{BeginNothing}
 
--- The committed transactions, read off a caller's own entries: at each Committed that of the last Began.
+-- The committed transactions, from a caller's own entries: at each Committed that of the last
+-- Began.
 abbrev pub next_txn : Option ℕ → Entry → Option ℕ
 next_txn o (Began c t) = Some t
 next_txn o _ = o
@@ -77,7 +78,8 @@ read_push c g e r = elim (cases_eq (caller_of e) c) [
 pub are_read : (c : ℕ) (h : List Entry) → IsShaped h → IsRead c h
 are_read c = by_entries (IsRead c) (λ g e shape callers shaped r. read_push c g e r) (record { last = refl; all = refl })
 
--- Entries that commit nothing give none; and where none begins, the transaction stays.
+-- Entries that commit nothing yield no transaction; if none of them begins one, the present
+-- transaction is unchanged.
 pub quiet_txns : (o : Option ℕ) (es : List Entry) → CommitNothing es → ended_txns o es ≡ []
 quiet_txns o [] quiet = refl
 quiet_txns o (Committed c p ∷ es) quiet = absurd (cc quiet)

@@ -1,4 +1,4 @@
--- What the reports of all workers say of a run, and their rows of outcomes, each with its last one first.
+-- The reports of all workers of a run, and their rows of outcomes, each with its last one first.
 use Rattle.std.proofs.Common.{◌≡◌, ℕ, ◌+◌, ◌*◌, ◌/◌, ◌%◌, ◌<◌, Bool, List, get_or, length, map, reverse, Some, sym, ap, subst, ◌∙◌, inl, inr, arith}
 use Rattle.std.specs.Prelude.{slice_get, All}
 use Rattle.std.specs.List.{range_with_len}
@@ -56,14 +56,14 @@ module _ {L W : Type 0} (items : W → List codes.Outcome) (half : Bool) (worker
   ]
 
   module _ (outcomes : List codes.Outcome) (order : Each (λ c row. every (length rows) c outcomes ≡ reverse (items row)) rows) where
-    -- Of all outcomes those of a worker are those that it has reported.
+    -- The outcomes of a worker, out of all, are those that it has reported.
     own_outcomes : (c : ℕ) (r : WorkerReport L) → slice_get reports c ≡ Some r → every workers c (map told_of outcomes) ≡ map told_of r.outcomes.items
     own_outcomes c r at =
         let (row, in_rows, row_is) = get_map items rows c (reverse r.outcomes.items) (map_get (λ q. reverse q.outcomes.items) reports _ rows_are c r at) in
         every-map told_of workers outcomes c
         ∙ ap (map told_of) (ap (λ (n : ℕ). every n c outcomes) (sym as_many_rows) ∙ order c row in_rows ∙ ap reverse row_is ∙ reverse-reverse r.outcomes.items)
 
-    -- Where each worker has seen its own entries of the history, the outcomes are true of it.
+    -- If each worker has seen its own entries of the history, the outcomes are true of it.
     pub reports_true : (h : List Entry) → IsShaped h → ((c : ℕ) (r : WorkerReport L) → slice_get reports c ≡ Some r → own r.caller.number h ≡ r.caller.seen) → AreAllTrue workers tries scripts (map told_of outcomes) h
     reports_true h shape owns = all_true workers tries scripts (map told_of outcomes) h shape by
       where
@@ -75,7 +75,7 @@ module _ {L W : Type 0} (items : W → List codes.Outcome) (half : Bool) (worker
             subst (λ es. AreToldIn c tries (every workers c scripts) (every workers c (map told_of outcomes)) es) (sym mine)
             (subst (λ os. AreToldIn c tries (every workers c scripts) os r.caller.seen) (sym (own_outcomes c r at)) report.ran.told)
 
-    -- And each outcome is one that its script allows.
+    -- Each outcome is one that its script allows.
     pub reports_may : 0 < workers → (i : ℕ) (script : List Action) (outcome : Outcome) → slice_get scripts i ≡ Some script → slice_get (map told_of outcomes) i ≡ Some outcome → MayCome half script outcome
     reports_may some i script outcome is js =
         let c : ℕ = i % workers in
@@ -87,7 +87,8 @@ module _ {L W : Type 0} (items : W → List codes.Outcome) (half : Bool) (worker
         (get-every workers some (map told_of outcomes) c k ∙ ap (slice_get (map told_of outcomes)) (sym at) ∙ js)
         (subst (MayAllCome half (every workers c scripts)) (sym (own_outcomes c r here)) (each c r here).ran.may)
 
--- What a run has come to, by its reports, the callers and the rows that these are parted into, and the history of the map.
+-- The result of a run, from its reports, the callers and rows that these are divided into, and the
+-- history of the map.
 pub run_true : {L W : Type 0} (items : W → List codes.Outcome) (limits sizes : Sizes) (workers tries : ℕ) (scripts : List (List Action)) (reports : List (WorkerReport L)) (callers : List _) (rows : List W) (outcomes : List codes.Outcome) (trace h : List Entry)
     → 0 < workers → length reports ≡ workers → Each (HasReported limits.half workers tries scripts) reports → callers ≡ map (λ r. r.caller) reports → map items rows ≡ map (λ r. reverse r.outcomes.items) reports → length outcomes ≡ length scripts
     → Each (λ c row. every (length rows) c outcomes ≡ reverse (items row)) rows → trace ≡ h → sizes ≡ limits → workers ≡ limits.callers → IsLegal Begun sizes.stripes h → All (λ e. caller_of e < sizes.callers) h → All (λ k. IsOwn h k) callers
@@ -101,7 +102,7 @@ run_true items limits sizes workers tries scripts reports callers rows outcomes 
   allowed = reports_may items limits.half workers tries scripts reports rows as_many each rows_are outcomes order some;
 }
 
--- What stands at a place of a list that shows the numbers in order.
+-- The element at a position of a list that shows the numbers in order.
 pub shown_at : {X T : Type 0} (show : X → T) (f : ℕ → T) (n : ℕ) (xs : List X) (k : ℕ) (x : X) → map show xs ≡ map f (range_with_len 0 n) → (k < length xs) × (x ≡ get_or xs k x) → show x ≡ f k
 shown_at show f n xs k x are at =
     let as_many : length xs ≡ n = sym (length-map xs show) ∙ ap length are ∙ length-map-range_with_len f 0 n in

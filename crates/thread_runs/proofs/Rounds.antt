@@ -22,7 +22,7 @@ may_push : (half : Bool) (scripts : List (List Action)) (outcomes : List Outcome
 may_push half scripts outcomes script outcome here all may =
     subst (AllByRecursion (λ told. MayCome half told.script told.outcome)) (sym (tolds_of-push scripts outcomes script outcome here)) (all_push (λ told. MayCome half told.script told.outcome) (tolds_of scripts outcomes) (record { script = script; outcome = outcome }) all may)
 
--- So far: as many scripts as there are outcomes, and the next one is at `number`.
+-- The loop so far: there are as many outcomes as scripts, and the next script is at `number`.
 pub record IsSoFar (half : Bool) (workers tries c : ℕ) (scripts : List (List Action)) (number : ℕ) (outcomes : List Outcome) (seen : List Entry) : Type 0 where
   pub at : number ≡ c + length outcomes * workers
   pub told : AreToldIn c tries (every workers c scripts) outcomes seen
@@ -69,7 +69,7 @@ so_far_all half workers tries c scripts number outcomes seen some none so_far =
       ];
     }
 
--- The same, of the parts that the code has.
+-- The loop at its start, in terms of the fields in the code.
 pub so_far_start : (half : Bool) (workers tries c : ℕ) (scripts : List (List Action)) (number : ℕ) (outcomes : List Outcome) (seen : List Entry) → number ≡ c → outcomes ≡ [] → seen ≡ [] → IsSoFar half workers tries c scripts number outcomes seen
 so_far_start half workers tries c scripts number outcomes seen is empty none =
     subst (λ (os : List Outcome). IsSoFar half workers tries c scripts number os seen) (sym empty) (so_far_none half workers tries c scripts number seen is none)

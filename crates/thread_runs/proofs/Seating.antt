@@ -1,4 +1,5 @@
--- The phase of a caller's seat after each call of a script, and with which refusals that ends.
+-- The phase of a caller's seat after each call of a script, and the refusals with which the call
+-- may end.
 use Rattle.std.proofs.Common.{◌≡◌, ℕ, ◌+◌, take, slice_index, ◌==◌, ◌&&◌, Bool, true, false, cond, List, [], ◌∷◌, ◌++◌, append_assoc, Option, Some, None, is_some, refl, sym, ap, subst, ◌∙◌}
 use Rattle.std.specs.Option.{option_and_then}
 use Rattle.std.proofs.lemmas.Bool.{false≢true}
@@ -60,7 +61,7 @@ last_landed seen e w some =
     let pushed = seat_after-push seen e in
     subst (HasPhase (lands e)) (sym pushed) (landed e (seat_after seen) w (sym (ap is_some pushed) ∙ some))
 
--- The entries added end with one that ends a call's work.
+-- The last of the added entries is one that ends a call's work.
 added_landed : (seen seen' front : List Entry) (e : Entry) → ends_work e ≡ true → seen' ≡ seen ++ (front ++ e ∷ []) → is_some (seat_after seen') ≡ true → HasPhase (lands e) (seat_after seen')
 added_landed seen seen' front e w is some =
     let at : seen' ≡ (seen ++ front) ++ e ∷ [] = is ∙ sym (append_assoc seen front (e ∷ [])) in

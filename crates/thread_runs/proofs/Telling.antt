@@ -1,4 +1,4 @@
--- What a caller's accounts of its scripts say of the history.
+-- A caller's accounts of its scripts, as statements about the history.
 use Rattle.std.proofs.Common.{◌≡◌, ℕ, ◌+◌, ◌*◌, ◌≤◌, Bool, cond, List, [], ◌∷◌, ◌++◌, length, length-append, append_assoc, Some, None, Option, refl, sym, ap, subst, ◌∙◌, arith}
 use Prim.Native.Nat.{suc}
 use Rattle.std.specs.List.{fold, filter, filter_map, cons_option, AllByRecursion}
@@ -17,7 +17,7 @@ use Rattle.thread_runs.proofs.Parts.{inner_begins, inner_commits, part_commits, 
 use Rattle.thread_runs.proofs.Placing.{committed_placed}
 use Rattle.thread_runs.proofs.Reading.{next_txn, ended_txns, ended-append, are_read, quiet_txns, same_txn}
 
--- What one account says, wherever it stands among the caller's own entries.
+-- One account, wherever it is among the caller's own entries.
 module _ (c tries : ℕ) (h : List Entry) (shape : IsShaped h) where
   has_come : (script : List Action) (outcome : Outcome) (front here later : List Entry) → own c h ≡ front ++ (here ++ later) → IsAccount c tries script outcome here → HasCome c h script outcome
   has_come script (accounts.Committed txn place replies) front here later own_is account =
@@ -45,7 +45,7 @@ module _ (c tries : ℕ) (h : List Entry) (shape : IsShaped h) where
         have_come tolds (front ++ here) later (own_is ∙ ap (λ xs. front ++ xs) es_is ∙ sym (append_assoc front here later)) rest,
       )
 
--- The Committed entries of an account, and of all.
+-- The Committed entries of an account, and of all accounts.
 account_commits : (c tries : ℕ) (script : List Action) (outcome : Outcome) (here : List Entry) → IsAccount c tries script outcome here → filter is_commit here ≡ cons_option (accounts.commit_in c outcome) []
 account_commits c tries script (accounts.Committed txn place replies) here (before, part, here_is, quiet, p) =
     ap (filter is_commit) (here_is ∙ ap (λ es. before ++ es) p.whole) ∙ filter-append is_commit before (Began c txn ∷ p.inner ++ Committed c place ∷ [])
@@ -109,7 +109,7 @@ txns_told c tries (told ∷ tolds) es o (here, later, es_is, account, rest) =
     ∙ (λ i. account_txns c tries told.script told.outcome here o account i ++ txns_told c tries tolds later (fold next_txn o here) rest i)
     ∙ cons-append (accounts.txn_in told.outcome) (filter_map (λ told. accounts.txn_in told.outcome) tolds)
 
--- So what a caller's own entries tell of its scripts is true of the history.
+-- The accounts in a caller's own entries are true of the history.
 pub accounts_true : (c tries : ℕ) (h : List Entry) (tolds : List Told) → IsShaped h → AreAccounts c tries tolds (own c h) → AreTrue c tries h tolds
 accounts_true c tries h tolds shape all = record {
   each = have_come c tries h shape tolds [] (own c h) refl all;

@@ -1,4 +1,4 @@
--- What the changes that are taken back add.
+-- The entries of changes that are taken back.
 use Rattle.std.proofs.Common.{◌≡◌, ℕ, zero, suc, ◌+◌, false, if◌then◌else◌, List, [], ◌∷◌, ◌++◌, length, refl, ap}
 use Rattle.txn_trace.specs.declared.entry.Entry.{Entry}
 use Rattle.txn_trace.specs.History.{is_commit}

@@ -1,4 +1,4 @@
--- The scripts of each caller, and what the outcomes of all of them say.
+-- The scripts of each caller, and the outcomes of all of them as statements about the history.
 use Rattle.std.proofs.Common.{◌≡◌, ℕ, ◌+◌, ◌*◌, ◌/◌, ◌%◌, ◌<◌, true, List, [], ◌∷◌, ◌++◌, length, is_some, Some, refl, sym, ap, subst, ◌∙◌}
 use Prim.Native.Nat.{zero, suc}
 use Rattle.std.specs.List.{slice_get, AllByRecursion}
@@ -19,7 +19,7 @@ pub tolds_of-none : (scripts : List (List Action)) → tolds_of scripts [] ≡ [
 tolds_of-none [] = refl
 tolds_of-none (script ∷ scripts) = refl
 
--- One script more has its outcome.
+-- One more script has its outcome.
 pub tolds_of-push : (scripts : List (List Action)) (outcomes : List Outcome) (script : List Action) (outcome : Outcome) → slice_get scripts (length outcomes) ≡ Some script
     → tolds_of scripts (outcomes ++ outcome ∷ []) ≡ tolds_of scripts outcomes ++ record { script = script; outcome = outcome } ∷ []
 tolds_of-push [] outcomes script outcome is = absurd (cc (get_empty (length outcomes), is))
@@ -37,7 +37,7 @@ told_more c tries scripts outcomes script outcome seen chunk here told account w
     subst (λ ts. AreAccounts c tries ts (seen ++ chunk)) (sym (tolds_of-push scripts outcomes script outcome here))
     (accounts_more c tries (tolds_of scripts outcomes) script outcome seen chunk (told (seat_front seen chunk whole)) (account whole))
 
--- Where each caller's entries in the history are what it has seen, the outcomes are true.
+-- If each caller has seen its own entries in the history, the outcomes are true.
 pub all_true : (callers tries : ℕ) (scripts : List (List Action)) (outcomes : List Outcome) (h : List Entry) → IsShaped h
     → ((c : ℕ) → c < callers → AreToldIn c tries (every callers c scripts) (every callers c outcomes) (own c h)) → AreAllTrue callers tries scripts outcomes h
 all_true callers tries scripts outcomes h shape told c below =
@@ -53,7 +53,7 @@ told_within P (first ∷ scripts) (o ∷ outcomes) zero script outcome is js all
     subst P (λ i. record { script = same i; outcome = equal i }) all.0
 told_within P (first ∷ scripts) (o ∷ outcomes) (suc k) script outcome is js all = told_within P scripts outcomes k script outcome is js all.1
 
--- So the outcome of script i speaks of caller i modulo the number of callers.
+-- The outcome of script i is about caller i modulo the number of callers.
 pub script_come : (callers tries : ℕ) (scripts : List (List Action)) (outcomes : List Outcome) (h : List Entry) → 0 < callers → AreAllTrue callers tries scripts outcomes h
     → (i : ℕ) (script : List Action) (outcome : Outcome) → slice_get scripts i ≡ Some script → slice_get outcomes i ≡ Some outcome → HasCome (i % callers) h script outcome
 script_come callers tries scripts outcomes h some trues i script outcome is js =

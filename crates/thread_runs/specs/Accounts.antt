@@ -1,5 +1,5 @@
--- How a caller's scripts ended, told by the caller's own entries, and what that says of the
--- history.
+-- The outcomes of a caller's scripts, as the caller's own entries tell them, and as statements
+-- about the history.
 use Rattle.std.specs.Prelude.{◌≡◌, ℕ, ◌+◌, ◌-◌, ◌*◌, ◌<◌, ◌≤◌, Bool, true, false, Option, Some, None, List, [], ◌∷◌, ◌++◌, length, slice_get}
 use Prim.Native.Nat.{zero, suc}
 use Rattle.std.specs.List.{filter, filter_map, AllByRecursion}
@@ -12,25 +12,25 @@ use Rattle.txn_trace.specs.Shape.{own, how_many}
 use Rattle.locked_map.specs.Holds.{CommitNothing}
 use Rattle.txn_trace.specs.Plays.{without_undone, IsPlayed, Plays, commits_of}
 
--- How a script ended: committed, as this transaction, at this place in the commit order and with
--- these replies; or with nothing committed.
+-- The outcome of a script: committed, as this transaction, with this commit number and these
+-- replies; or with nothing committed.
 pub data Outcome : Type 0 where
   Committed : ℕ → ℕ → List (Option ℕ) → Outcome
   Aborted : Outcome
   Busy : Outcome
   Refused : Refusal → Outcome
 
--- A script that a caller has run, and how it ended.
+-- A script that a caller has run, and its outcome.
 pub record Told : Type 0 where
   pub script : List Action
   pub outcome : Outcome
 
--- Whether an entry says that a stripe was held.
+-- Whether an entry tells that a stripe was held.
 abbrev pub is_busy : Entry → Bool
 is_busy (entries.Busy c op x) = true
 is_busy _ = false
 
--- The reply of an entry, where it has one.
+-- The reply of an entry, if it has one.
 abbrev pub reply_in : Entry → Option (Option ℕ)
 reply_in (entries.Did c reply) = Some reply
 reply_in _ = None
@@ -39,7 +39,8 @@ reply_in _ = None
 abbrev pub replies_in : List Entry → List (Option ℕ)
 replies_in es = filter_map reply_in es
 
--- So many attempts found a stripe held: nothing is committed, and at least so many entries say so.
+-- This number of attempts found a stripe held: nothing is committed, and at least this many entries
+-- tell so.
 pub record AreBusy (attempts : ℕ) (es : List Entry) : Type 0 where
   pub nothing : CommitNothing es
   pub enough : attempts ≤ how_many is_busy es
@@ -53,8 +54,8 @@ pub record IsPlayedBy (c : ℕ) (script : List Action) (txn place : ℕ) (replie
   pub plays : IsPlayed script (without_undone es)
   pub replied : replies_in es ≡ replies
 
--- The entries are those that a caller has added by a script that ended so: first those of attempts
--- that came to nothing, and then, where it is committed, those of its transaction.
+-- The entries are those that a caller has added by a script with this outcome: first those of
+-- attempts without a commit, and then, if it is committed, those of its transaction.
 abbrev pub IsAccount : ℕ → ℕ → List Action → Outcome → List Entry → Type 0
 IsAccount c tries script (Committed txn place replies) es =
     (before : List Entry) × (part : List Entry) × (es ≡ before ++ part) × CommitNothing before
@@ -70,8 +71,8 @@ AreAccounts c tries (told ∷ more) es =
     (here : List Entry) × (later : List Entry) × (es ≡ here ++ later)
     × IsAccount c tries told.script told.outcome here × AreAccounts c tries more later
 
--- In the history the transaction is one of the caller's, plays the script, is committed, at this
--- place of the commits, and has these replies.
+-- In the history the transaction belongs to the caller, plays the script, is committed with this
+-- number, and has these replies.
 pub record IsCommittedAs (c : ℕ) (script : List Action) (txn place : ℕ)
     (replies : List (Option ℕ)) (h : List Entry) : Type 0 where
   pub inner : List Entry
@@ -81,12 +82,12 @@ pub record IsCommittedAs (c : ℕ) (script : List Action) (txn place : ℕ)
   pub placed : slice_get (commits h) (place - 1) ≡ Some txn
   pub replied : replies_in (of txn h) ≡ replies
 
--- What an outcome says of the history.
+-- An outcome, as a statement about the history.
 abbrev pub HasCome : ℕ → List Entry → List Action → Outcome → Type 0
 HasCome c h script (Committed txn place replies) = IsCommittedAs c script txn place replies h
 HasCome c h script outcome = Unit {0}
 
--- The Committed entry of an outcome, and its transaction, where it has one.
+-- The Committed entry of an outcome, and its transaction, if it has one.
 abbrev pub commit_in : ℕ → Outcome → Option Entry
 commit_in c (Committed txn place replies) = Some (entries.Committed c place)
 commit_in c outcome = None
@@ -100,9 +101,9 @@ abbrev pub is_busy_outcome : Outcome → Bool
 is_busy_outcome Busy = true
 is_busy_outcome outcome = false
 
--- What the outcomes of a caller's scripts say of the history: each that is committed stands for a
--- transaction of the caller's; the caller's Committed entries, and its committed transactions, are
--- those of the outcomes, in order; and there are `tries + 1` Busy entries at least for each outcome
+-- The outcomes of a caller's scripts are true of the history: each committed one stands for a
+-- transaction of the caller; the caller's Committed entries, and its committed transactions, are
+-- those of the outcomes, in order; and there are at least `tries + 1` Busy entries for each outcome
 -- that is busy.
 pub record AreTrue (c tries : ℕ) (h : List Entry) (tolds : List Told) : Type 0 where
   pub each : AllByRecursion (λ told. HasCome c h told.script told.outcome) tolds
@@ -123,8 +124,8 @@ tolds_of (script ∷ scripts) (outcome ∷ outcomes) =
     record { script = script; outcome = outcome } ∷ tolds_of scripts outcomes
 tolds_of scripts outcomes = []
 
--- What the outcomes of all scripts say of the history, where every `callers`-th script is a
--- caller's, beginning with that of the caller's own number.
+-- The outcomes of all scripts are true of the history. Every `callers`-th script is a caller's,
+-- beginning with the one of the caller's own number.
 abbrev pub AreAllTrue : ℕ → ℕ → List (List Action) → List Outcome → List Entry → Type 0
 AreAllTrue callers tries scripts outcomes h = (c : ℕ) → c < callers
     → AreTrue c tries h (tolds_of (every callers c scripts) (every callers c outcomes))

@@ -1,4 +1,4 @@
--- What holds of each element of a list, by its place.
+-- A statement about each element of a list, with its position.
 use Rattle.std.specs.Prelude.{◌≡◌, ℕ, List, Some, slice_get}
 
 abbrev pub Each : {X : Type 0} → (ℕ → X → Type 0) → List X → Type 0

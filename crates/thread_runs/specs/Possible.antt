@@ -1,4 +1,4 @@
--- Which outcomes the actions of a script allow.
+-- The outcomes that the actions of a script allow.
 use Rattle.std.specs.Prelude.{Bool, true, false, IsTrue, List}
 use Rattle.std.specs.List.{list_any}
 use Rattle.txn_trace.specs.declared.action.Action.{Action}
@@ -9,7 +9,7 @@ use Rattle.txn_trace.specs.Map.{key_of}
 use Rattle.txn_trace.specs.Sizes.{is_bad_key}
 use Rattle.thread_runs.specs.Accounts.{Outcome, Aborted, Refused}
 
--- Whether an action has a key that is refused, where half keys alone are taken or all.
+-- Whether an action has a key that is refused; the argument says whether only half keys are taken.
 abbrev pub has_bad_key : Bool → Action → Bool
 has_bad_key half (actions.Op op) = is_bad_key half (key_of op)
 has_bad_key half (actions.Help key) = is_bad_key half key
@@ -27,9 +27,8 @@ abbrev pub is_abort : Action → Bool
 is_abort actions.Abort = true
 is_abort action = false
 
--- With which refusals a script may end: a bad key, a missing level or a stale word only where it
--- has an action that can be refused so; want of memory or of stamps, and a call out of step,
--- always.
+-- The refusals that a script may have: a bad key, a missing level or a stale word only if it has an
+-- action that can be refused so; a lack of memory or of stamps, and a call out of step, always.
 abbrev pub MayBeRefused : Bool → List Action → Refusal → Type 0
 MayBeRefused half script BadKey = IsTrue (list_any (has_bad_key half) script)
 MayBeRefused half script NoSuchLevel = IsTrue (list_any is_back script)
@@ -39,7 +38,7 @@ MayBeRefused half script StampsUsedUp = Unit {0}
 MayBeRefused half script OutOfStep = Unit {0}
 MayBeRefused half script refusal = ⊥
 
--- Which outcomes a script may have: it is aborted only where it has an abort.
+-- The outcomes that a script may have: it is aborted only if it has an abort.
 abbrev pub MayCome : Bool → List Action → Outcome → Type 0
 MayCome half script Aborted = IsTrue (list_any is_abort script)
 MayCome half script (Refused refusal) = MayBeRefused half script refusal

@@ -1,4 +1,4 @@
--- What a worker's run of a script has added.
+-- The entries that a worker's run of a script adds.
 use Rattle.std.specs.Prelude.{◌≡◌, ◌<◌, ◌⊎◌, ℕ, Bool, Option, Some, true, List, [], ◌∷◌, ◌++◌, length, map, slice_get, is_some}
 use Rattle.std.specs.List.{All, AllByRecursion}
 use Rattle.txn_trace.specs.declared.holder.Holder.TheVariants.{Begun}
@@ -39,7 +39,7 @@ abbrev pub phase_at : Stage → Phase
 phase_at Beginning = Closed
 phase_at stage = Opened
 
--- The seat is there and has this phase.
+-- The seat exists and has this phase.
 abbrev pub HasPhase : Phase → Option Seat → Type 0
 HasPhase phase seat = (s : Seat) × (seat ≡ Some s) × (s.phase ≡ phase)
 
@@ -47,14 +47,14 @@ HasPhase phase seat = (s : Seat) × (seat ≡ Some s) × (s.phase ≡ phase)
 abbrev pub IsIn : Phase → Bool → List Entry → Type 0
 IsIn phase broken seen = (broken ≡ true) ⊎ HasPhase phase (seat_after seen)
 
--- A call has ended so; or it was not made, since memory was refused for its reply.
+-- A call has this end; or it was not made, since memory was refused for its reply.
 abbrev pub HasEnded : {S : Type 0} → Token S → Call → End → Token S → Type 0
 HasEnded {S} k call outcome l =
     ((words : S → List ℕ) × Ended words k call outcome l)
     ⊎ ((outcome ≡ ends.Refused NoMemory) × (may_refuse call NoMemory ≡ true) × (l ≡ k))
 
--- A call has added what belongs to its end; and where it ended out of step it has committed
--- nothing, as long as all that was seen has rows.
+-- A call has added the entries of its end. If it ended out of step it has committed nothing,
+-- provided that all entries that were seen have rows.
 pub record Adds (c : ℕ) (call : Call) (outcome : End) (seen seen' : List Entry) : Type 0 where
   pub added : List Entry
   pub entries : seen' ≡ seen ++ added
@@ -71,7 +71,7 @@ replies_then replies (ends.Answered (answers.Began t)) = []
 replies_then replies (ends.Answered (answers.Done reply)) = replies ++ reply ∷ []
 replies_then replies outcome = replies
 
--- There is room for the reply of a call, and for that of an end.
+-- There is room for the reply of a call, and of an end.
 abbrev pub HasRoomFor : Call → ℕ → Type 0
 HasRoomFor (calls.Op op) room = 0 < room
 HasRoomFor call room = Unit {0}
@@ -80,7 +80,7 @@ abbrev pub HasRoomAt : End → ℕ → Type 0
 HasRoomAt (ends.Answered (answers.Done reply)) room = 0 < room
 HasRoomAt outcome room = Unit {0}
 
--- The outcome of a script whose attempt is over, of which the last call ended so.
+-- The outcome of a script whose attempt is over, with this end of the last call.
 abbrev pub outcome_by : attempts.Outcome → End → ℕ → List (Option ℕ) → Outcome
 outcome_by overs.Committed (ends.Answered (answers.Committed place)) txn replies =
     accounts.Committed txn place replies
@@ -89,21 +89,21 @@ outcome_by overs.Aborted outcome txn replies = accounts.Aborted
 outcome_by overs.Busy outcome txn replies = accounts.Busy
 outcome_by (overs.Refused refusal) outcome txn replies = accounts.Refused refusal
 
--- What an outcome tells.
+-- The outcome, as accounts tell it.
 abbrev pub told_of : codes.Outcome → Outcome
 told_of (outcomes.Committed txn place replies) = accounts.Committed txn place replies.items
 told_of outcomes.Aborted = accounts.Aborted
 told_of outcomes.Busy = accounts.Busy
 told_of (outcomes.Refused refusal) = accounts.Refused refusal
 
--- A script has run to an outcome, of which the entries added are the account, as long as what is
--- seen has rows.
+-- A script was run to an outcome, and the added entries are its account, provided that the entries
+-- that were seen have rows.
 abbrev pub HasRunTo : ℕ → ℕ → List Action → Outcome → List Entry → List Entry → Type 0
 HasRunTo c tries script outcome base seen =
     (chunk : List Entry) × (seen ≡ base ++ chunk)
     × (is_some (seat_after seen) ≡ true → IsAccount c tries script outcome chunk)
 
--- What a caller has seen, as long as its entries have rows, are the accounts of its scripts so far.
+-- The entries that a caller has seen, if they have rows, are the accounts of its scripts so far.
 abbrev pub AreToldIn : ℕ → ℕ → List (List Action) → List Outcome → List Entry → Type 0
 AreToldIn c tries scripts outcomes seen =
     is_some (seat_after seen) ≡ true → AreAccounts c tries (tolds_of scripts outcomes) seen
@@ -120,16 +120,16 @@ pub record HasRunAll (half : Bool) (workers tries c : ℕ) (scripts : List (List
   pub may : MayAllCome half (every workers c scripts) outcomes
   pub all : length outcomes ≡ length (every workers c scripts)
 
--- The worker of a number hands back its caller, and has run each of its scripts.
+-- The worker of a number returns its caller, and has run each of its scripts.
 pub record HasReported {L : Type 0} (half : Bool) (workers tries : ℕ)
     (scripts : List (List Action)) (c : ℕ) (report : WorkerReport L) : Type 0 where
   pub number_is : report.caller.number ≡ c
   pub ran :
       HasRunAll half workers tries c scripts (map told_of report.outcomes.items) report.caller.seen
 
--- A run of scripts on a map with these limits: its history is legal and of these workers; there is
--- one outcome for each script; they are true of the history; and each is one that its script
--- allows.
+-- A run of scripts on a map with these limits: its history is legal and has only entries of these
+-- workers; there is one outcome for each script; the outcomes are true of the history; and each is
+-- one that its script allows.
 pub record HasRunScripts (limits : Sizes) (workers tries : ℕ) (scripts : List (List Action))
     (outcomes : List Outcome) (trace : List Entry) : Type 0 where
   pub legal : IsLegal Begun limits.stripes trace
@@ -140,12 +140,12 @@ pub record HasRunScripts (limits : Sizes) (workers tries : ℕ) (scripts : List 
       → slice_get scripts i ≡ Some script → slice_get outcomes i ≡ Some outcome
       → MayCome limits.half script outcome
 
--- The outcomes and the history that a run has come to are those of such a run.
+-- The outcomes and the history of a run are those of such a run.
 abbrev pub IsRunOf : Sizes → ℕ → ℕ → List (List Action) → Ran → Type 0
 IsRunOf limits workers tries scripts ran =
     HasRunScripts limits workers tries scripts (map told_of ran.outcomes.items) ran.trace.items
 
--- Why a run gives nothing: no memory, no thread, or what the workers saw is not the history.
+-- The reason why a run has no result: no memory, no thread, or the workers did not see the history.
 abbrev pub IsRunRefusal : Refusal → Type 0
 IsRunRefusal NoMemory = Unit {0}
 IsRunRefusal NoThread = Unit {0}

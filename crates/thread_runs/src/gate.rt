@@ -1,6 +1,6 @@
-//! The trait by which a run tells what its workers do, and may hold them up: for tests that set an
-//! order between threads. `Open` holds up nobody.
-/// What workers in threads tell of their way. Each call may make its worker wait.
+//! The trait through which a run tells what its workers do, and may hold them up: for tests that
+//! need an order between threads. `Open` holds up no one.
+/// An observer of workers in threads. Each call may make its worker wait.
 pub trait Gate: Sync {
     /// A worker is about to do an action of a script; the commit is the action after the last.
     ///

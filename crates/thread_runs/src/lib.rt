@@ -1,14 +1,14 @@
-//! Scripts on threads: one thread a worker, each with a caller of one shared map.
+//! Scripts on threads: one thread for each worker, and each worker a caller of one shared map.
 //!
 //! Worker `w` is caller `w`, and script `i` belongs to worker `i mod workers`. A worker runs its
-//! scripts in their order, each by the rules of `script_worker`, as workers that take turns do. A
-//! gate hears what the workers do, and may make them wait.
+//! scripts in their order, by the rules of `script_worker`, like workers that take turns. A gate is
+//! told what the workers do, and may make them wait.
 //!
-//! A contract sees what a run has come to: the history, and an outcome for each script. Proved
-//! (`run_scripts`, by `IsRunOf` of `specs/Runs.antt`): the history is legal, where a Busy may name
-//! any other worker that has begun a transaction; each of its entries is of one of the workers; and
-//! the outcome of each script is true of it. Nothing says that a run ends, or that a script ever
-//! commits.
+//! A contract sees the result of a run: the history, and an outcome for each script. Proved
+//! (`run_scripts`, by `IsRunOf` of `specs/Runs.antt`): the history is legal by the rule that a Busy
+//! may name any other worker that has begun a transaction; each of its entries is of one of the
+//! workers; and the outcome of each script is true of it. Nothing says that a run ends, or that a
+//! script ever commits.
 #![tactic(auto)]
 
 mod gate;

@@ -1,4 +1,4 @@
-//! The outcomes of all workers in the scripts' order.
+//! The outcomes of all workers, merged into the scripts' order.
 ghost use Rattle.std.specs.Prelude.{◌≡◌, ◌<◌, IfOk, length, reverse};
 ghost use Rattle.thread_runs.specs.Accounts.{every};
 ghost use Rattle.thread_runs.specs.Each.{Each};
@@ -7,8 +7,8 @@ use crate::outcome::Outcome;
 use std::alloc::{AllocError, Global};
 use txn_trace::Script;
 
-/// The outcomes in the scripts' order, out of a row for each worker, its last outcome first: script
-/// `i` is one of worker `i` modulo the number of rows.
+/// The outcomes in the scripts' order, from a row for each worker with its last outcome first:
+/// script `i` belongs to worker `i` modulo the number of rows.
 pub(crate) fn in_order(
     alloc: Global,
     rows: Vec<Vec<Outcome>>,

@@ -1,8 +1,7 @@
-//! How a script ended. It stands apart, since the account of a worker and the contract of a run
-//! both speak of it.
+//! The outcomes of scripts. Both the account of a worker and the contract of a run use them.
 use txn_trace::{Refusal, Reply};
 
-/// How a script ended.
+/// The outcome of a script.
 #[derive(Debug, PartialEq, Eq, Drop)]
 pub enum Outcome {
     /// A transaction that plays it is committed.
@@ -11,14 +10,14 @@ pub enum Outcome {
         txn: u64,
         /// Its number in the commit order, from 1.
         place: u64,
-        /// What its operations were answered, in order.
+        /// The replies of its operations, in order.
         replies: Vec<Reply>,
     },
     /// It has aborted its transaction itself.
     Aborted,
-    /// Each attempt found a stripe in another's hands, and is aborted.
+    /// Each attempt found a stripe held by another, and is aborted.
     Busy,
-    /// A call was refused so. Its transaction is aborted, or did not begin, unless the refusal is
-    /// `OutOfStep`.
+    /// A call was refused with this. Its transaction is aborted, or did not begin, unless the
+    /// refusal is `OutOfStep`.
     Refused(Refusal),
 }

@@ -1,11 +1,11 @@
-//! What a run of scripts comes to: an outcome a script, and the history.
+//! The result of a run of scripts: an outcome for each script, and the history.
 use crate::outcome::Outcome;
 use txn_trace::Entry;
 
-/// What a run has come to.
+/// The result of a run.
 #[derive(Debug, Drop)]
 pub struct Ran {
-    /// How each script ended, in the scripts' order.
+    /// The outcome of each script, in the scripts' order.
     pub outcomes: Vec<Outcome>,
     /// The history of the run.
     pub trace: Vec<Entry>,

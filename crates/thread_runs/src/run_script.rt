@@ -1,4 +1,4 @@
-//! One script's way to its outcome.
+//! The course of one script to its outcome.
 ghost use Rattle.std.specs.Prelude.{◌≡◌, ◌-◌, [], true, false, is_some, vec_len, vec_capacity};
 ghost use Rattle.txn_trace.specs.declared.refusal.Refusal.{Refusal};
 ghost use Rattle.txn_trace.specs.declared.seat.Phase.{Phase};
@@ -19,7 +19,7 @@ use std::sync::ledger::Ledger;
 use std::thread::yield_now;
 use txn_trace::{Action, Answer, Refusal, Reply};
 
-/// Tells the gate of each release of the lock.
+/// Tells the gate each release of the lock.
 #[derive(Drop)]
 struct Freed<'a, G: Gate> {
     gate: &'a G,
@@ -32,7 +32,7 @@ impl<G: Gate> OnRelease for Freed<'_, G> {
     }
 }
 
-/// What an attempt was answered: its transaction's number, and the replies of its operations.
+/// The answers to an attempt: its transaction's number, and the replies of its operations.
 #[derive(Drop)]
 struct Heard {
     txn: u64,
@@ -40,7 +40,7 @@ struct Heard {
 }
 
 impl Heard {
-    /// Nothing yet.
+    /// No answers yet.
     fn new(alloc: Global) -> Heard
         ensures txn { result.txn ≡ 0 }
         ensures replies { result.replies.items ≡ [] }
@@ -65,7 +65,7 @@ impl Heard {
         }
     }
 
-    /// Notes how a call has ended, for whose reply there is room.
+    /// Notes the end of a call, for whose reply there is room.
     fn note(&mut self, end: End)
         requires { HasRoomAt end (vec_capacity self.old.replies - vec_len self.old.replies) }
         ensures txn { self.new.txn ≡ txn_then self.old.txn end }
@@ -81,7 +81,7 @@ impl Heard {
         }
     }
 
-    /// The outcome of an attempt that is over, of which the last call ended so.
+    /// The outcome of an attempt that is over, with this end of the last call.
     fn outcome(self, over: script_worker::Outcome, end: End) -> Outcome
         ensures { told_of result ≡ outcome_by over end self.txn self.replies.items }
     {
@@ -101,7 +101,7 @@ impl Heard {
         }
     }
 
-    /// Makes a call, if there is room for its reply, and notes how it has ended.
+    /// Makes a call, if there is room for its reply, and notes its end.
     #[tactic(auto, using(crate::proofs::Adding::adds_of, crate::proofs::Adding::room_at))]
     fn hear<L: Ledger, H: OnRelease, R: Wait>(
         &mut self,
@@ -124,23 +124,22 @@ impl Heard {
         }
         let end = map.run(rt, me, call, hears);
         self.note(end);
-        // A token that is not broken has entries with rows.
+        // The entries of a token that is not broken have rows.
         let _seen = me.seen();
         end
     }
 }
 
-/// Lets other threads go on if a stripe was held, so that its holder can end before the stripe
-/// is asked for again.
+/// Lets other threads run if a stripe was held, so that its holder can end before this script asks
+/// for the stripe again.
 fn give_way(end: End) {
     if let End::Busy(_) = end {
         yield_now();
     }
 }
 
-/// Runs a script to its outcome, by at most `tries` attempts beside the first.
-///
-/// What it has added to the caller's entries is the account of that outcome.
+/// Runs a script to its outcome, by at most `tries` attempts after the first. The entries that it
+/// has added to the caller's are the account of that outcome.
 pub(crate) fn run_script<L: Ledger, G: Gate, R: Wait>(
     rt: &R,
     alloc: Global,

@@ -1,4 +1,4 @@
-//! A run of scripts: the map, the threads, and what they come to.
+//! A run of scripts: the map, the threads, and the result.
 ghost use Rattle.std.specs.Prelude.{◌≡◌, ◌≤◌, IfOk, IfErr, map, reverse};
 ghost use Rattle.thread_runs.specs.Runs.{IsRunOf, IsRunRefusal};
 
@@ -17,34 +17,34 @@ use std::sync::ledger::{Blank, Ledger};
 use std::thread::Threads;
 use txn_trace::{Limits, Refusal, Script};
 
-/// Runs each script in the thread of its worker, on a new map: as many workers as the limits have
-/// callers. Script `i` is one of worker `i` modulo the workers, and worker `w` is caller `w`. A
-/// script that found a stripe held is tried again at most `tries` times, and other threads are let
-/// go on before.
+/// Runs each script in the thread of its worker, on a new map. There are as many workers as the
+/// limits have callers: script `i` belongs to worker `i` modulo the workers, and worker `w` is
+/// caller `w`. A script that found a stripe held is tried again at most `tries` times, after other
+/// threads had a chance to run.
 ///
-/// With `Ok` the history is legal, if a Busy may name any other worker that has begun a
-/// transaction; each of its entries is of one of these workers; and each script has one outcome,
+/// With `Ok` the history is legal by the rule that a Busy may name any other worker that has begun
+/// a transaction; each of its entries is of one of these workers; and each script has one outcome,
 /// which is true of the history:
 ///
 /// - `Committed` stands for a transaction of the script's worker, which plays the script, is
-///   committed at that place and has just those replies. Each Committed entry of the history
+///   committed with that number and has exactly those replies. Each Committed entry of the history
 ///   belongs to exactly one outcome.
 /// - A worker with `b` outcomes `Busy` has at least `b * (tries + 1)` Busy entries.
-/// - `Aborted` comes only for a script with an abort.
-/// - `Refused` comes with `BadKey` only for a script with such a key, with `NoSuchLevel` only for
-///   one that goes back, with `StaleWord` only for one with an operation, and else only with
-///   `NoMemory`, `StampsUsedUp` or `OutOfStep`.
+/// - Only a script with an abort is `Aborted`.
+/// - Only a script with a bad key is `Refused` with `BadKey`, only one that goes back with
+///   `NoSuchLevel`, only one with an operation with `StaleWord`; the other possible refusals are
+///   `NoMemory`, `StampsUsedUp` and `OutOfStep`.
 ///
 /// # Errors
 ///
-/// - `NoMemory` if memory is refused, before the threads or for what they answer.
+/// - `NoMemory` if memory is refused, before the threads start or for their results.
 /// - `NoThread` if a thread was not started; the workers that were started finish.
 /// - `OutOfStep` if what the workers saw is not the history.
 ///
 /// # Cost
 ///
 /// That of the calls, and time in proportion to the history for each worker; memory in proportion
-/// to the history, besides what the calls take.
+/// to the history, besides that of the calls.
 pub fn run_scripts<G: Gate, R: Threads + Wait + Sync>(
     rt: &R,
     alloc: Global,
@@ -63,7 +63,7 @@ pub fn run_scripts<G: Gate, R: Threads + Wait + Sync>(
     run_under::<Brand, Brand, G, R>(rt, alloc, blank, limits, scripts, workers, tries, gate)
 }
 
-/// The same under a ledger and for a work that are named.
+/// `run_scripts` with its ledger and its terms as type parameters.
 fn run_under<L: Ledger + Send + Sync, T: Terms + Send + Sync, G: Gate, R: Threads + Wait + Sync>(
     rt: &R,
     alloc: Global,
@@ -101,7 +101,8 @@ fn run_under<L: Ledger + Send + Sync, T: Terms + Send + Sync, G: Gate, R: Thread
     let Ok(closed) = map.close(callers) else {
         return Err(Refusal::OutOfStep);
     };
-    // What the callers saw is given back before the outcomes are put in order.
+    // The callers are dropped before the outcomes are merged, which frees the entries that they
+    // saw.
     drop(closed.callers);
     let trace = closed.core.into_trace();
     match in_order(alloc, rows, scripts) {

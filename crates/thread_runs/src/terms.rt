@@ -1,8 +1,8 @@
-//! The terms of a run, as the types of its parts name them.
+//! The terms of a run, named by a type.
 use std::marker::Brand;
 
-/// How many workers a run has, how often each tries a script again, and the scripts. Contracts name
-/// them by a type, since they go to threads and back: each run picks its own.
+/// The number of workers of a run, how often each tries a script again, and the scripts. Contracts
+/// name them by a type, since they go to threads and back: each run picks its own.
 pub(crate) trait Terms {
     ghost use Rattle.std.specs.Prelude.{ℕ, List};
     ghost use Rattle.txn_trace.specs.declared.action.Action.{Action};

@@ -1,4 +1,4 @@
-//! The workers' threads.
+//! The workers' threads: started, each with its caller, and joined in the order of their numbers.
 ghost use Rattle.std.specs.Prelude.{◌≡◌, IfOk, IfErr, length, map};
 ghost use Rattle.locked_map.specs.Tokens.{AreTickets};
 ghost use Rattle.thread_runs.specs.Each.{Each};
@@ -17,7 +17,7 @@ use std::thread;
 use std::thread::{Promise, PromisedHandle, Threads};
 use txn_trace::{Limits, Refusal};
 
-/// That the thread of a pass hands back its caller, with its scripts run.
+/// The thread of a pass returns its caller, with its scripts run.
 #[derive(Drop)]
 struct Runs<L: Ledger, T: Terms> {
     pass: Snapshot<Pass<L>>,
@@ -29,7 +29,7 @@ impl<L: Ledger, T: Terms> Promise<Result<WorkerReport<L>, AllocError>> for Runs<
         T.scripts p.pass.value.number) };
 }
 
-/// Runs each worker in a thread of its own, and gives what each hands back, by their numbers.
+/// Runs each worker in its own thread, and answers what each returns, by their numbers.
 pub(crate) fn in_threads<
     L: Ledger + Send + Sync,
     T: Terms + Send + Sync,
@@ -80,7 +80,7 @@ pub(crate) fn in_threads<
     )
 }
 
-/// Waits for the thread of each worker, and gives what each hands back.
+/// Waits for the thread of each worker, and answers what each returns.
 fn join_all<L: Ledger, T: Terms, R: Threads>(
     rt: &R,
     alloc: Global,

@@ -1,4 +1,4 @@
-//! One worker's way through its scripts.
+//! The course of one worker through its scripts.
 ghost use Rattle.std.specs.Prelude.{◌≡◌, ◌<◌, ◌^◌, [], IfOk, map};
 ghost use Rattle.locked_map.specs.Tokens.{IsSameCaller};
 ghost use Rattle.thread_runs.specs.Runs.{HasReported, HasRunAll, told_of};
@@ -14,27 +14,27 @@ use std::sync::Wait;
 use std::sync::ledger::Ledger;
 use txn_trace::Script;
 
-/// What a worker hands back.
+/// The result of a worker.
 #[derive(Drop)]
 pub(crate) struct WorkerReport<L: Ledger> {
     /// Its caller.
     pub(crate) caller: Caller<L, NoSide>,
-    /// How its scripts ended, in order.
+    /// The outcomes of its scripts, in order.
     pub(crate) outcomes: Vec<Outcome>,
 }
 
-/// What all workers are given.
+/// The orders that all workers get.
 #[derive(Drop)]
 pub(crate) struct Orders<'a, L: Ledger, G: Gate, T: Terms> {
     /// The map.
     pub(crate) map: &'a SharedMap<L>,
     /// The scripts of all workers.
     pub(crate) scripts: &'a [Script],
-    /// How many workers there are.
+    /// The number of workers.
     pub(crate) workers: usize,
-    /// How often a script is tried again that found a stripe held.
+    /// How often a script that found a stripe held is tried again.
     pub(crate) tries: u64,
-    /// Who hears of it.
+    /// The observer of the run.
     pub(crate) gate: &'a G,
     /// The run's terms.
     pub(crate) terms: PhantomData<T>,
@@ -46,8 +46,8 @@ pub(crate) struct Orders<'a, L: Ledger, G: Gate, T: Terms> {
 }
 
 impl<L: Ledger, G: Gate, T: Terms> Orders<'_, L, G, T> {
-    /// What the worker of a pass does: it runs its scripts. Where memory is refused for one more
-    /// outcome, that is all that is answered.
+    /// Runs the scripts of the worker of a pass. If memory is refused for one more outcome, that is
+    /// the only answer.
     pub(crate) fn work<R: Wait>(
         &self,
         rt: &R,
