@@ -1,4 +1,4 @@
--- A caller's own entries from a place of the history on.
+-- A caller's own entries from a position of the history on.
 use Rattle.std.proofs.Common.{◌≡◌, ℕ, ◌+◌, ◌<◌, ◌==◌, ◌↔◌, cond, List, ◌∷◌, drop, get_or, length, ap, sym, ◌∙◌}
 use Rattle.std.proofs.lemmas.Bool.{eq-eqb, ne_eqb}
 use Rattle.std.proofs.lemmas.List.{drop_more}
@@ -6,7 +6,7 @@ use Rattle.txn_trace.specs.History.{caller_of}
 use Rattle.txn_trace.specs.Shape.{own}
 use Rattle.txn_trace.specs.declared.entry.Entry.{Entry}
 
--- Of a caller's own entries, those from one place on.
+-- A caller's own entries from one position on.
 pub own_drop : (c : ℕ) (h : List Entry) (i : ℕ) (d : Entry) → i < length h → own c (drop i h) ≡ cond (caller_of (get_or h i d) == c) (get_or h i d ∷ own c (drop (i + 1) h)) (own c (drop (i + 1) h))
 own_drop c h i d within = ap (own c) (drop_more h i d within)
 

@@ -1,4 +1,4 @@
--- What a call leaves of its caller, by how its holds have ended it.
+-- The caller after a call, from the end that its holds have brought.
 use Rattle.std.proofs.Common.{◌≡◌, ◌∙◌, ℕ, ◌+◌, ◌<◌, Bool, true, false, not, List, [], ◌∷◌, ◌++◌, None, inl, inr, is_some, length, take, arith, refl, sym, ap, subst}
 use Rattle.std.specs.Prelude.{slice_get}
 use Rattle.std.proofs.lemmas.Bool.{false≢true}
@@ -28,7 +28,7 @@ back_on words level a b c same on = record {
   kept = on.kept ∙ ap (take (level + 1)) same.kept;
 }
 
--- A side value follows an end as well from where it was the same.
+-- A side value that follows an end also follows it from an equal value.
 follows_on : {S : Type 0} (words : S → List ℕ) (outcome : End) (a b c : Leveled S) → IsSameSide a b → Follows words outcome b c → Follows words outcome a c
 follows_on words (ends.Answered (answers.Began t)) a b c same on =
     record { value = on.value ∙ same.value; levels = on.levels ∙ ap (λ v. words v ∷ []) same.value; changes = on.changes; kept = on.kept }
@@ -42,7 +42,8 @@ follows_on words (ends.Busy holder) a b c same on = back_on words 0 a b c same o
 follows_on words outcome a b c same on =
     record { value = on.value ∙ same.value; levels = on.levels ∙ same.levels; changes = on.changes ∙ same.changes; kept = on.kept ∙ same.kept }
 
--- A call that its token let pass: `r` was ready for its holds, which left `h`, whose end `l` followed.
+-- A call that its token lets pass: `r` was ready for its holds, which left `h`, and `l` followed
+-- its end.
 module _ {S : Type 0} (words : S → List ℕ) (k r h l : Token S) (call : Call) (free : refused_by k call ≡ None) (same : IsSameSeen k r) (side : IsSameSide k.side r.side) (readied : Readies k.claims call r.claims) (held_side : h.side ≡ r.side)
     (caller : IsSameCaller r h) (kept : h.claims ≡ r.claims) (followed : IsSameSeen h l) where
   whose : IsSameCaller k l
@@ -101,11 +102,11 @@ module _ {S : Type 0} (words : S → List ℕ) (k r h l : Token S) (call : Call)
   ended_of ends.Helped broken run held follows claims = ran_of ends.Helped refl broken run held follows claims
   ended_of (ends.Busy x) broken run held follows claims = ran_of (ends.Busy x) refl broken run held follows claims
 
--- A call that did what it was asked.
+-- A call that did what it was asked to do.
 pub passed_of : {S : Type 0} (words : S → List ℕ) (k l : Token S) (call : Call) (outcome : End) → IsDone outcome → Ran words k call outcome l → Passed k call l
 passed_of words k l call outcome done ran = record { free = ran.free; whose = ran.whose; sound = ran.sound; outcome = outcome; done = done; went = ran.went }
 
--- A return to a level that the side value has not.
+-- A return to a level that the side value does not have.
 pub lacks_level : {S : Type 0} (k t : Token S) (call : Call) (level n : ℕ) → t ≡ k → call ≡ Back level → n + 1 ≡ length t.side.levels → n < level → FellOut k call (record t { broken = true })
 lacks_level {S} k t call level n view is as_many above =
     subst (λ (x : Token S). FellOut x call (record t { broken = true })) view (subst (λ x. FellOut t x (record t { broken = true })) (sym is) fell)

@@ -1,4 +1,4 @@
--- What a step of a caller comes to by the claim of its last trial.
+-- The outcome of a step of a caller, by the claim of its last trial.
 use Rattle.std.proofs.Common.{◌≡◌, ℕ, ◌+◌, true, List, [], ◌++◌, length, length-append, arith, Option, Some, None, ◌⊎◌, refl, sym, ap, subst, ◌∙◌}
 use Rattle.std.specs.Prelude.{IsTrue}
 use Rattle.std.proofs.lemmas.Bool.{false≢true}
@@ -30,7 +30,8 @@ use Rattle.locked_map.specs.Claims.{Trial, HasTriedFor, HasTriedIf, HasTriedStep
 use Rattle.locked_map.specs.Tokens.{Token, HasTried, HasTriedNext}
 use Rattle.locked_map.specs.Suits.{Suits}
 
--- A move or a stale word leaves the limits, adds the entries of its step, and leaves words words.
+-- A move or a stale word leaves the limits unchanged, adds the entries of its step, and leaves
+-- stripes words.
 no_entries : (step : Step) (r : Refusal) → entries_of step (answers.Refused r) ≡ []
 no_entries (Begin c) r = refl
 no_entries step r = refl
@@ -81,17 +82,18 @@ goes_over claim m n step a goes = elim (goes_cases claim m n step a goes) [
   | inr move ↦ move_over m n step a move
 ]
 
--- A step that asks for no operation claims no stripe.
+-- A step that does not ask for an operation claims no stripe.
 pub plain_claim : (tried : Option Trial) (m : State) (step : Step) → ((c : ℕ) (op : Op) → step ≡ Ask c op → ⊥) → claim_in tried m step ≡ Lock
 plain_claim None m step other = refl
 plain_claim (Some trial) m (Ask c op) other = absurd (other c op refl)
 plain_claim (Some trial) m step other = refl
 
--- A total that counts the entries counts them after a step.
+-- A total that counts the entries still counts them after a step.
 pub counted_more : (h more es : List Entry) (total next : ℕ) → total ≡ length h → next ≡ total + length es → more ≡ h ++ es → next ≡ length more
 counted_more h more es total next counts adds is = let longer : length more ≡ length h + length es = ap length is ∙ length-append h es in omega (arith, counts, adds, longer)
 
--- Where the word of an operation's stripe was tried, so it was for each step of its drive.
+-- If the word of an operation's stripe was tried, it was tried for each step of the operation's
+-- drive.
 tried_in : (tried : Option Trial) (stripes c : ℕ) (call : Call) (phase : Phase) → HasTriedFor tried stripes call → HasTriedIf tried stripes (step_in c call phase)
 tried_in tried stripes c calls.Begin Fresh has = tt
 tried_in tried stripes c (calls.Op op) Fresh has = has
@@ -114,7 +116,7 @@ tried_next k d has = tried_in k.claims.tried k.limits.stripes d.caller d.call d.
 pub tried_step : (tried : Option Trial) (stripes : ℕ) (d : Drive) (step : Step) → step_of d ≡ Some step → HasTriedIf tried stripes (step_of d) → HasTriedStep tried stripes step
 tried_step tried stripes d step is = subst (HasTriedIf tried stripes) is
 
--- The size at this moment does not matter to that.
+-- The size does not matter to that.
 tried_sized_in : (tried : Option Trial) (stripes c size : ℕ) (call : Call) (phase : Phase) → HasTriedIf tried stripes (step_in c call phase) → HasTriedIf tried stripes (step_in c call (sized_in size phase))
 tried_sized_in tried stripes c size call (Doubling seen) has = tt
 tried_sized_in tried stripes c size call phase has = has
@@ -122,14 +124,14 @@ tried_sized_in tried stripes c size call phase has = has
 tried_sized : (tried : Option Trial) (stripes size : ℕ) (d : Drive) → HasTriedIf tried stripes (step_of d) → HasTriedIf tried stripes (step_of (sized_of size d))
 tried_sized tried stripes size d = tried_sized_in tried stripes d.caller size d.call d.phase
 
--- The next step of a drive has its word tried where it had so before the size was known.
+-- The word of a drive's next step was tried if it was tried before the size was noted.
 pub may_next : {S : Type 0} (t k : Token S) (stripes size : ℕ) (d d' : Drive) → t ≡ k → stripes ≡ t.limits.stripes → d' ≡ sized_of size d → HasTriedNext k d → HasTriedIf t.claims.tried stripes (step_of d')
 may_next {S} t k stripes size d d' view as_many sized has =
     let there : HasTriedNext t d = subst (λ (x : Token S). HasTriedNext x d) (sym view) has in
     let at : HasTriedIf t.claims.tried stripes (step_of d) = subst (λ (n : ℕ). HasTriedIf t.claims.tried n (step_of d)) (sym as_many) there in
     subst (λ (x : Drive). HasTriedIf t.claims.tried stripes (step_of x)) (sym sized) (tried_sized t.claims.tried stripes size d at)
 
--- A stale word ends an operation, whose first step alone asks.
+-- A stale word ends an operation, since only its first step asks.
 stale_asks : (claim : Claim) (m : State) (step : Step) → IsTrue (is_stale claim m step) → is_ask step ≡ true
 stale_asks claim m (Ask c op) stale = refl
 stale_asks Lock m step stale = absurd (false≢true stale)

@@ -1,4 +1,4 @@
--- A call on its way from hold to hold.
+-- A call in progress, from hold to hold.
 use Rattle.std.proofs.Common.{◌≡◌, ◌∙◌, ℕ, suc, [], ◌++◌, Option, Some, None, refl, sym, ap, subst}
 use Rattle.std.proofs.lemmas.List.{append-nil}
 use Rattle.txn_trace.specs.Shape.{seat_after}

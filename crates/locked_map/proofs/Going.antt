@@ -1,4 +1,4 @@
--- A call goes on over its steps.
+-- A call in progress, over its steps.
 use Rattle.std.proofs.Common.{◌≡◌, ℕ, Bool, true, false, if◌then◌else◌, nat_lt, List, ◌++◌, append_assoc, is_some, Option, Some, None, refl, sym, ap, subst, ◌∙◌}
 use Rattle.std.specs.Prelude.{unwrap_or}
 use Rattle.std.specs.List.{fold}
@@ -51,7 +51,7 @@ goes_told base seen seen' d e step a is whole seen_is told goes =
       fits = subst (λ (x : Drive). FitsIf (seat_after seen') x.call x.phase) (sym told) (subst (λ o. FitsIf o d.call (told_in d.call d.phase a)) (sym after) fits);
     }
 
--- After the first step of two no doubling is at hand.
+-- After the first step of two no doubling is next.
 second_sized_in : (size c : ℕ) (call : Call) (phase : Phase) (step next : Step) → turn_in c call phase ≡ Two step next → IsSized size (told_in call phase answers.Placed)
 second_sized_in size c call (Seeking work again) step next is = tt
 second_sized_in size c call (Initialising way again) step next is = tt
@@ -61,7 +61,7 @@ pub second_sized : (size : ℕ) (d e : Drive) (a : Answer) (turn : Turn) (step n
 second_sized size d e a turn step next is two told placed =
     subst (λ (x : Drive). IsSized size x.phase) (sym (told ∙ ap (told_of d) placed)) (second_sized_in size d.caller d.call d.phase step next (sym is ∙ two))
 
--- The second step of a turn is the drive's after `placed`.
+-- The second step of a turn is the drive's step after `placed`.
 second_in : (c : ℕ) (call : Call) (phase : Phase) (step next : Step) → turn_in c call phase ≡ Two step next → step_in c call (told_in call phase answers.Placed) ≡ Some next
 second_in c call (Seeking work again) step next is = by (nat_lt again 8) is
   where
@@ -82,7 +82,7 @@ pub no_second : (tried : Option Trial) (m : State) (seen : List Entry) (d : Driv
 no_second tried m seen d next answers.Placed not_so = absurd (not_so refl)
 no_second tried m seen d next a not_so = (refl, refl, refl)
 
--- The size at this moment.
+-- The size is noted.
 pub goes_sized : (base seen : List Entry) (d : Drive) (size : ℕ) → GoesOn base seen d → GoesOn base seen (sized_of size d)
 goes_sized base seen d size goes = record {
   entries = goes.entries ∙ ap (λ h. base ++ h) (sym (made-sized size d.caller d.call d.phase));

@@ -1,4 +1,5 @@
--- The holds of a call for help keep to the bucket of its key, and the last one leaves that stored.
+-- The holds of a call for help keep to the bucket of its key, and the last one leaves that bucket
+-- stored.
 use Rattle.std.proofs.Common.{◌≡◌, ℕ, ◌<◌, ◌==◌, ◌&&◌, ◌^◌, ◌%◌, nat_lt, Bool, true, false, if◌then◌else◌, List, Option, Some, None, refl, sym, ap, subst, ◌∙◌, arith}
 use Rattle.std.proofs.lemmas.Bool.{eqb-true}
 use Rattle.txn_trace.specs.declared.answer.Answer.{Answer}
@@ -34,7 +35,7 @@ use Rattle.locked_map.specs.Tokens.{Token}
 use Rattle.locked_map.proofs.Claiming.{plain_claim}
 use Rattle.locked_map.proofs.Working.{set_in}
 
--- A hold that did not end its call, or ended it well, took its turn.
+-- A hold that did not end its call, or ended it well, has taken its turn.
 abbrev IsPlain : Option End → Type 0
 IsPlain None = Unit {0}
 IsPlain (Some ends.Helped) = Unit {0}
@@ -63,7 +64,7 @@ helping c key phase = record { caller = c; call = calls.Help key; phase = phase 
 helping_is : (d : Drive) (key : ℕ) → d.call ≡ calls.Help key → d ≡ helping d.caller key d.phase
 helping_is d key is = λ i. record { caller = d.caller; call = is i; phase = d.phase }
 
--- The end of a phase of its.
+-- The end of a helper's phase.
 abbrev end_at : ℕ → ℕ → Phase → Option End
 end_at c key phase = ended_by (turn_in c (calls.Help key) phase)
 
@@ -79,7 +80,7 @@ store_moves tried m n c a = move_of tried m n (steps.InitStore c) a (plain_claim
 double_moves : (tried : Option Trial) (m n : State) (size : ℕ) (a : Answer) → Goes (claim_in tried m (steps.Double size)) m (steps.Double size) a n → Move m (steps.Double size) a n
 double_moves tried m n size a = move_of tried m n (steps.Double size) a (plain_claim tried m (steps.Double size) (λ x op is. absurd (cc is)))
 
--- On the way, as long as the call has not ended.
+-- The helper keeps to its way as long as the call has not ended.
 towards_on : (c key last target : ℕ) → end_at c key (towards last target) ≡ None → IsTo target (towards last target)
 towards_on c key last target = at (last == target)
   where
@@ -118,7 +119,7 @@ store_on c key bucket way answers.Stored to going = subst (λ b. IsTo b (towards
 store_on c key bucket way (answers.Refused r) to going = refused_on c key bucket r going
 store_on c key bucket way a to going = absurd (cc going)
 
--- The same of a drive that was told an answer.
+-- A drive keeps to its way when it is told an answer.
 abbrev KeepsTo : ℕ → ℕ → Drive → Type 0
 KeepsTo key bucket e = end_of e ≡ None → (e.call ≡ calls.Help key) × IsTo bucket e.phase
 

@@ -82,7 +82,7 @@ link_free m c within cursor = λ i. cond (within i) (Some refusals.NoSuchHelper)
 store_free : (m : State) (c : ℕ) → nat_le m.limits.callers c ≡ false → has_dummy (help_in m.helpers c) ≡ true → refusal_of m (steps.InitStore c) ≡ None
 store_free m c within dummy = λ i. cond (within i) (Some refusals.NoSuchHelper) (cond (not (dummy i)) (Some refusals.HelperOutOfOrder) None)
 
--- A way stays one where the size and the stored buckets stay.
+-- A way is still one if the size and the stored buckets are unchanged.
 same_way : (m n : State) (way : Way) → n.size ≡ m.size → n.stored ≡ m.stored → IsOnWay m way → IsOnWay n way
 same_way m n way size stored on = record {
   ancestor = on.ancestor;

@@ -1,4 +1,4 @@
--- What a hold leaves of a call, and of core and token in step.
+-- The call after a hold, with core and token in step.
 use Rattle.std.proofs.Common.{◌≡◌, ◌≢◌, ℕ, ◌||◌, nat_lt, Bool, true, false, not, if◌then◌else◌, List, [], ◌++◌, is_some, IfSome, Option, Some, None, refl, sym, ap, subst, ◌∙◌}
 use Rattle.std.proofs.lemmas.Bool.{false≢true}
 use Rattle.txn_trace.specs.declared.entry.Entry.{Entry}
@@ -123,7 +123,7 @@ pub goes_on_sized : {S : Type 0} (base : List Entry) (t k : Token S) (d d' : Dri
 goes_on_sized {S} base t k d d' size view is goes =
     subst (GoesOn base t.seen) (sym is) (goes_sized base t.seen d size (subst (λ (x : Token S). GoesOn base x.seen d) (sym view) goes))
 
--- A token that is broken has been so before the turn.
+-- A call whose token was broken before the turn ends out of step.
 pub broken_run : (base seen : List Entry) (e : Drive) → GoesOn base seen e → CommitNothing (made e) → HasRun base seen e.caller e.call (ends.Refused OutOfStep)
 broken_run base seen e goes quiet = record { added = made e; entries = goes.entries; made = out_made e.caller e.call (made e); may = tt; quiet = λ whole. quiet }
   where
@@ -185,7 +185,7 @@ held_in_step n limits number seen b e end r whole ins shape whole_is end_is brok
     let ended = ends_in_step n limits number seen e b whole end r ins (whole_is ∙ seat) end_is broken ends_is in
     ((ended.sound, ins), ended.plain)
 
--- A token breaks exactly where its hold answers that it is out of step.
+-- A token breaks exactly if its hold has the end that it is out of step.
 plain_in : (call : Call) (outcome : End) → is_odd call outcome ≡ false → false ≡ is_out outcome
 plain_in call (ends.Refused OutOfStep) plain = absurd (false≢true (sym plain ∙ no_out call))
 plain_in call (ends.Refused r) plain = refl

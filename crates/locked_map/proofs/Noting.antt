@@ -1,4 +1,4 @@
--- One entry more that a caller sees.
+-- One more entry that a caller sees.
 use Rattle.std.specs.List.{fold}
 use Rattle.std.proofs.lemmas.List.Sums.{fold-append}
 use Rattle.std.proofs.Common.{◌≡◌, ℕ, suc, ◌==◌, ◌&&◌, nat_lt, cond, if◌then◌else◌, take, slice_index, ◌+◌, ◌-◌, ◌<◌, ◌≤◌, ◌^◌, true, false, Bool, length, length-append, vec_len, vec_capacity, is_some, List, [], ◌∷◌, ◌++◌, Option, Some, None, refl, sym, ap, subst, ◌∙◌, arith}
@@ -20,7 +20,7 @@ use Rattle.txn_trace.proofs.Room.{reserved_for, owed_by-row}
 use Rattle.txn_trace.specs.Seats.{is_saved}
 use Rattle.locked_map.specs.Noted.{Noted, IsNoted, HasRoomFor, adds_entry, is_save, began_by, last_txn}
 
--- What is wanted for the entry of a step.
+-- The requirements of the entry of a step.
 pub record Wants (step : Step) (e : Entry) : Type 0 where
   pub kept : reserved_for e ≤ reserved step
   pub adds : adds_entry step ≡ true
@@ -66,7 +66,7 @@ owed_noted es s e step a room at is all one =
     let kept = w.kept in
     subst (λ o. owed_by o + 1 ≤ room) (sym (seat_noted es s e at)) (owed_row s e room (row s s.phase e) refl (omega (arith, before, kept, all)) (one w.adds))
 
--- At most one change more stands after an entry, so no more stand than there are entries.
+-- At most one more change stands after an entry, so no more changes stand than there are entries.
 abbrev MostIn : ℕ → Option Seat → Type 0
 MostIn n None = Unit {0}
 MostIn n (Some s) = s.standing ≤ n

@@ -1,4 +1,4 @@
--- A drive that is told an answer fits its caller's seat, where the step's entries have rows.
+-- A drive that is told an answer fits its caller's seat, if the step's entries have rows.
 use Rattle.std.proofs.Common.{◌≡◌, ℕ, ◌+◌, ◌-◌, ◌≤◌, ◌==◌, ◌&&◌, ◌^◌, ◌%◌, nat_lt, Bool, true, false, cond, if◌then◌else◌, List, [], take, slice_index, length, Option, Some, None, refl, sym, ap, subst, ◌∙◌, arith}
 use Rattle.std.specs.List.{fold}
 use Rattle.std.specs.Option.{option_and_then}
@@ -133,7 +133,7 @@ undone_aside (Acting work again) aside = absurd aside
 undone_aside Fresh aside = absurd aside
 undone_aside phase aside = refl
 
--- A helper does none.
+-- A helper does no work.
 aside_towards : (last bucket : ℕ) → Aside (towards last bucket)
 aside_towards last bucket =
     elim (last == bucket) as (λ b. Aside (if b then Helped else Initialising (record { bucket = child_towards last bucket; target = bucket }) 0)) [ true ↦ tt | false ↦ tt ]
@@ -200,7 +200,7 @@ fits_told s next c call (Linking way again) a fits is = fits_aside next call _ (
 fits_told s next c call (Storing way) a fits is = fits_aside next call _ (aside_store way a)
 fits_told s next c call phase a fits is = absurd (cc is)
 
--- How many changes a drive has taken back rises with the entries.
+-- The number of changes that a drive has taken back rises with the entries.
 undone_first : (call : Call) (a : Answer) → undone_of (told_first call a) ≡ 0
 undone_first (calls.Op op) answers.Asked = refl
 undone_first (calls.Op op) (answers.Busy x) = refl

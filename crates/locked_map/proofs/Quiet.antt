@@ -1,4 +1,4 @@
--- What a drive has made commits nothing, but where its end says that it did.
+-- The entries of a drive commit nothing, unless its end says that it did.
 use Rattle.std.proofs.Common.{◌≡◌, ℕ, zero, suc, ◌⊎◌, true, List, [], ◌++◌, Option, Some, None, refl, sym, ap, ◌∙◌, inl, inr}
 use Rattle.std.specs.List.{filter}
 use Rattle.std.proofs.lemmas.Bool.{false≢true}
@@ -63,14 +63,14 @@ made_quiet c call (Last work answer) = inl (append_quiet (made_by c call work) (
 made_quiet c call (Lost work) = inl (work_quiet c call work)
 made_quiet c call phase = inl refl
 
--- A call that may not end as its drive did has committed nothing.
+-- A call whose drive has an end that it may not have has committed nothing.
 pub odd_quiet : (e : Drive) (end : Option End) → end_of e ≡ end → odd_if e.call end ≡ true → CommitNothing (made e)
 odd_quiet e end is odd = elim (made_quiet e.caller e.call e.phase) [
   | inl quiet ↦ quiet
   | inr committed ↦ absurd (false≢true (sym (ap (odd_if e.call) (sym is ∙ committed.1)) ∙ odd))
 ]
 
--- A drive that has not ended has committed nothing, nor has a new one.
+-- Neither a drive that has not ended nor a new one has committed anything.
 pub going_quiet : (d : Drive) → end_of d ≡ None → CommitNothing (made d)
 going_quiet d going = elim (made_quiet d.caller d.call d.phase) [
   | inl quiet ↦ quiet

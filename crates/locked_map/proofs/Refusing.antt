@@ -1,4 +1,4 @@
--- The refusal of a call by the token alone.
+-- The refusal of a call by the token.
 use Rattle.std.proofs.Common.{◌≡◌, ◌↔◌, ◌∙◌, ℕ, Bool, true, false, if◌then◌else◌, List, Option, Some, None, Result, Ok, Err, inl, inr, is_some, refl, sym, ap, subst}
 use Rattle.std.proofs.lemmas.Bool.{false≢true}
 use Rattle.std.specs.Option.{option_or}
@@ -40,7 +40,7 @@ bad_refused words k l key (Err (stops.Busy holder)) at leaves = absurd (cc (at, 
 bad_refused words k l key (Err (stops.Refused refusal)) at (inl by_token) = ap (λ x. Err (stops.Refused x)) (cc (at, by_token.0))
 bad_refused words k l key (Err (stops.Refused refusal)) at (inr later) = absurd (cc (at, later.0))
 
--- Help is refused for its key exactly where the key is bad.
+-- Help is refused for its key exactly if the key is bad.
 pub help_bad_key : {S T : Type 0} (words : S → List ℕ) (k l : Token S) (key : ℕ) (r : Result T Stop) → (k.broken ≡ false → is_some (seat_after k.seen) ≡ true) → LeavesBy words k (calls.Help key) r l
     → k.broken ≡ false → (r ≡ Err (stops.Refused BadKey)) ↔ (is_bad_key k.limits.half key ≡ true)
 help_bad_key words k l key r rows leaves sound =

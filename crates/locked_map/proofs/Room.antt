@@ -1,4 +1,4 @@
--- What a turn wants room for, and to whom room is refused.
+-- The room that a turn needs, and the calls to which room may be refused.
 use Rattle.std.proofs.Common.{◌≡◌, ℕ, ◌<◌, ◌≤◌, nat_lt, Bool, true, false, if◌then◌else◌, List, [], is_some, Option, Some, None, refl, sym, ap, subst, ◌∙◌, arith}
 use Rattle.std.specs.Prelude.{unwrap_or, Result, Ok, Err, is_err, OnErr}
 use Rattle.std.proofs.lemmas.Bool.{false≢true}
@@ -29,13 +29,13 @@ use Rattle.locked_map.specs.Suits.{work_phase, may_refuse, Fits}
 use Rattle.locked_map.specs.Holds.{FitsIf, GoesOn}
 use Rattle.locked_map.proofs.Going.{some_is}
 
--- The step for which a turn wants room.
+-- The step for which a turn needs room.
 abbrev pub asked_of : Turn → Option Step
 asked_of (One step) = Some step
 asked_of (Two step next) = Some next
 asked_of (Ended outcome) = None
 
--- A step that adds no entry wants no more room than is owed.
+-- A step that adds no entry needs no more room than is owed.
 room_free : (n : Noted) (step : Step) → reserved step ≡ 0 → adds_entry step ≡ false → is_save step ≡ false → owed_by (seat_after n.entries) ≤ n.room → HasRoomFor n step
 room_free n step free adds save owes = record {
   all = omega (arith, free, owes);
@@ -53,11 +53,11 @@ saves_none (steps.Commit c) is = absurd (false≢true (sym is))
 saves_none (steps.Abort c) is = absurd (false≢true (sym is))
 saves_none step is = (refl, refl)
 
--- Any step that adds none finds its room there.
+-- Every step that adds no entry has its room.
 pub room_for_none : (n : Noted) (step : Step) → adds_entry step ≡ false → owed_by (seat_after n.entries) ≤ n.room → HasRoomFor n step
 room_for_none n step adds owes = let none = saves_none step adds in room_free n step none.0 adds none.1 owes
 
--- Nor does one want more where something is owed.
+-- A step needs no more room either if something is owed.
 room_owed : (n : Noted) (s : Seat) (step : Step) → seat_after n.entries ≡ Some s → 0 < owed_in s.standing s.phase → reserved step ≡ 0 → is_save step ≡ false → owed_by (seat_after n.entries) ≤ n.room → HasRoomFor n step
 room_owed n s step at some free save owes =
     let owed_is : owed_by (seat_after n.entries) ≡ owed_in s.standing s.phase = ap owed_by at in record {

@@ -21,7 +21,7 @@ use Rattle.boost_core.specs.Machine.{IsAllowed}
 use Rattle.boost_core.proofs.Refused.{or_else, refusal_parts}
 use Rattle.locked_map.specs.Suits.{is_help, may_refuse, is_odd, Fits, Suits}
 
--- What a step that nothing refuses may lack.
+-- A step that nothing refuses may lack only memory or a stamp.
 pub lacks_only : (m : State) (step : Step) (r : Refusal) → refusal_of m step ≡ None → IsAllowed m step (answers.Refused r) → MayLack m step r
 lacks_only m step r none (inl is) = absurd (let both : None ≡ Some r = sym none ∙ is in cc)
 lacks_only m step r none (inr lack) = lack.1

@@ -38,7 +38,7 @@ suits_told m n c s call (Linking way again) a within cursors helpers old whole s
 suits_told m n c s call (Storing way) a within cursors helpers old whole sized few suits fits same move = suits_store m n c s call way a within old whole suits.0 suits.1 suits.2 suits.3 move
 suits_told m n c s call phase a within cursors helpers old whole sized few suits fits same move = absurd move
 
--- A seat refuses the first step of a call to any caller.
+-- Whether a seat refuses the first step of a call does not depend on the caller's number.
 no_caller : (half : Bool) (s : Seat) (c : ℕ) (call : Call) → refusal_in half s (first_step 0 call) ≡ refusal_in half s (first_step c call)
 no_caller half s c calls.Begin = refl
 no_caller half s c (calls.Op op) = refl
@@ -48,7 +48,7 @@ no_caller half s c calls.Commit = refl
 no_caller half s c calls.Abort = refl
 no_caller half s c (calls.Help key) = refl
 
--- A seat's phase fits where it suits.
+-- A phase that suits a seat fits it.
 pub suits_fits : (m : State) (c : ℕ) (s : Seat) (call : Call) (phase : Phase) → Suits m s c call phase → Fits s call phase
 suits_fits m c s call Fresh suits = (m.limits.half, no_caller m.limits.half s c call ∙ suits.0)
 suits_fits m c s call (Seeking work again) suits = suits

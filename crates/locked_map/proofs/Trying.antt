@@ -1,4 +1,4 @@
--- What a try of a stripe's word makes of the claims.
+-- The claims after a try of a stripe's word.
 use Rattle.std.proofs.Common.{ℕ, zero, suc, ◌<◌, ◌⊎◌, inl, inr, Option, Some, arith}
 use Rattle.atomic_table.specs.Seated.{TableId}
 use Rattle.key_words.specs.declared.rights.Rights.{Rights}
@@ -13,7 +13,7 @@ held_or_not : (n : ℕ) → (0 < n) ⊎ (0 < n → ⊥)
 held_or_not zero = inr (λ some. omega arith)
 held_or_not (suc n) = inl (omega arith)
 
--- The claims of a caller that keeps these rights.
+-- The claims of a caller with these rights.
 abbrev pub claims_with : TableId → ℕ → Rights → Option Trial → Claimed
 claims_with words stripes r tried =
     record { words = words; stripes = stripes; seat = known r.seat; held = r.rights.items; tried = tried }

@@ -96,7 +96,7 @@ suits_seek m n c s call work again (answers.Refused r) within there is fits move
     subst (λ r. Suits n s c call (told_seek work again (answers.Refused r))) (sym nothing.1) (nothing_suits n c s call work again fits (ap has_target is ∙ nothing.0))
 suits_seek m n c s call work again a within there is fits move = absurd move.allowed.1
 
--- How an act ends a call.
+-- The end of a call by an act.
 done_plain : (call : Call) (work : Work) (q : Standing) (m : Map) (r : Option ℕ) → work_phase call work ≡ Some q → IsReply q m r → is_odd call (end_last call work (answers.Done r)) ≡ false
 done_plain (calls.Op op) Operation q m r is reply = refl
 done_plain (calls.Op op) (Busy x k) q m r is reply = absurd (let same : seats.LeavingToEnd ≡ q = cc is in subst (λ p. IsReply p m r) (sym same) reply)

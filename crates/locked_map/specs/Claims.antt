@@ -1,4 +1,4 @@
--- The rights that a caller holds, the word that it tried last, and what becomes of them.
+-- The rights that a caller holds, the word that it tried last, and the effect of calls on them.
 use Rattle.std.specs.Prelude.{ℕ, ◌≡◌, ◌≢◌, ◌+◌, ◌-◌, ◌==◌, List, [], ◌∷◌, ◌++◌, Option, Some, None, slice_get, if◌then◌else◌}
 use Rattle.atomic_table.specs.Seated.{TableId}
 use Rattle.txn_trace.specs.declared.answer.Answer.TheVariants as answers
@@ -24,7 +24,7 @@ use Rattle.boost_core.specs.declared.claim.Claim.{Claim}
 use Rattle.boost_core.specs.declared.claim.Claim.TheVariants.{Lock, Right}
 use Rattle.boost_core.specs.Words.{claim_of}
 
--- A stripe whose word was tried, and the word that was found: 0 where the caller has the right.
+-- A stripe whose word was tried, and the word that was found: 0 if the caller has the right.
 pub record Trial : Type 0 where
   pub stripe : ℕ
   pub word : ℕ
@@ -32,8 +32,8 @@ pub record Trial : Type 0 where
 abbrev pub trial : ℕ → ℕ → Option Trial
 trial stripe word = Some (record { stripe = stripe; word = word })
 
--- Whose words these are, how many stripes they have, what the caller's seat at them knows, the
--- stripes whose rights are held, the newest last, and the last trial.
+-- The words, the number of stripes, the view of the caller's seat, the stripes whose rights are
+-- held, the newest last, and the last trial.
 pub record Claimed : Type 0 where
   pub words : TableId
   pub stripes : ℕ
@@ -41,19 +41,19 @@ pub record Claimed : Type 0 where
   pub held : List ℕ
   pub tried : Option Trial
 
--- What the try of a stripe's word found.
+-- The trial, from the result of the try.
 abbrev pub trial_of : ℕ → Option Tried → Option Trial
 trial_of stripe None = None
 trial_of stripe (Some (Mine place)) = trial stripe 0
 trial_of stripe (Some (Another word)) = trial stripe word
 
--- The right that was found lies at its place, and another's word is not 0.
+-- If a right was found it is at its position, and if another's word was found it is not 0.
 abbrev pub IsTrial : List ℕ → ℕ → Option Tried → Type 0
 IsTrial rights stripe None = Unit {0}
 IsTrial rights stripe (Some (Mine place)) = slice_get rights place ≡ Some stripe
 IsTrial rights stripe (Some (Another word)) = word ≢ 0
 
--- The seat is one of the words, and what was found is there.
+-- The seat is one of the words, and the result of the try is there.
 pub record IsClaimed (words : KeyWords) (rights : Rights) (stripe : ℕ) (tried : Option Tried) :
     Type 0 where
   pub seat : IsOf rights.seat words
@@ -66,16 +66,16 @@ pub record IsIdle (k : Claimed) : Type 0 where
   pub held : k.held ≡ []
   pub tried : k.tried ≡ None
 
--- What is found where a stripe's word is to be tried: the right is in hand, the word is 0, or it is
+-- The states in which a stripe's word may be tried: the right is in hand, the word is 0, or it is
 -- another's.
 pub data Found : Type 0 where
   InHand : Found
   WasFree : Found
   WasHeld : ℕ → Found
 
--- With the right in hand no word is tried. Else one is, and the seat has one note more, of this
--- stripe with the word that was found: where that was 0 the right has come, and else the word is
--- not the seat's own.
+-- With the right in hand no word is tried. If it is not, one is, and the seat has one more note, of
+-- this stripe with the word that was found: if that was 0 the caller gets the right, and if not the
+-- word is not the seat's.
 abbrev pub TriesAt : Found → Claimed → ℕ → Claimed → Type 0
 TriesAt InHand k stripe l = Holds k.seat stripe × (l ≡ record k { tried = trial stripe 0 })
 TriesAt WasFree k stripe l =
@@ -100,34 +100,34 @@ abbrev pub HasTriedAt : Option Trial → ℕ → Type 0
 HasTriedAt None stripe = ⊥
 HasTriedAt (Some trial) stripe = trial.stripe ≡ stripe
 
--- Where the call is an operation, the last trial was of the stripe of its key.
+-- If the call is an operation, the last trial was of the stripe of its key.
 abbrev pub HasTriedFor : Option Trial → ℕ → Call → Type 0
 HasTriedFor tried stripes (calls.Op op) = HasTriedAt tried (stripe_of stripes (key_of op))
 HasTriedFor tried stripes call = Unit {0}
 
--- The same where the step asks for an operation.
+-- If the step asks for an operation, the last trial was of the stripe of its key.
 abbrev pub HasTriedStep : Option Trial → ℕ → Step → Type 0
 HasTriedStep tried stripes (Ask c op) = HasTriedAt tried (stripe_of stripes (key_of op))
 HasTriedStep tried stripes step = Unit {0}
 
--- And where there is a step that does.
+-- If there is a step that asks for an operation, the last trial was of the stripe of its key.
 abbrev pub HasTriedIf : Option Trial → ℕ → Option Step → Type 0
 HasTriedIf tried stripes None = Unit {0}
 HasTriedIf tried stripes (Some step) = HasTriedStep tried stripes step
 
--- What a trial claims for a caller: by the right that it found, or by the word.
+-- The claim of a caller with this trial: by the right that it found, or by the word.
 abbrev pub claim_by : State → ℕ → Trial → Claim
 claim_by m c trial = if trial.word == 0 then Right else claim_of m c (trial.word - 1)
 
--- By what a step claims its stripe: an operation by the last trial, any other step by no right and
--- no word.
+-- The claim of a step to its stripe: an operation claims it by the last trial, any other step by no
+-- right and no word.
 abbrev pub claim_in : Option Trial → State → Step → Claim
 claim_in None m step = Lock
 claim_in (Some trial) m (Ask c op) = claim_by m c trial
 claim_in (Some trial) m step = Lock
 
--- What a call does with words before its first hold of the lock: an operation tries the word of its
--- key's stripe.
+-- The claims of a call before its first hold of the lock: an operation tries the word of its key's
+-- stripe.
 abbrev pub Readies : Claimed → Call → Claimed → Type 0
 Readies k (calls.Op op) l = Tries k (stripe_of k.stripes (key_of op)) l
 Readies k call l = l ≡ k
@@ -136,15 +136,15 @@ Readies k call l = l ≡ k
 abbrev pub given_back : Claimed → Claimed
 given_back k = record k { seat = none_held k.seat; held = []; tried = None }
 
--- What the end of a call leaves of the claims: all rights are given back where it ends the
--- transaction, and else they stay.
+-- The claims after the end of a call: all rights are given back if it ends the transaction, and if
+-- not they are unchanged.
 abbrev pub claims_at : End → Claimed → Claimed
 claims_at (ends.Answered (answers.Committed place)) k = given_back k
 claims_at (ends.Answered answers.Aborted) k = given_back k
 claims_at (ends.Busy holder) k = given_back k
 claims_at outcome k = k
 
--- What a call with this end makes of the claims.
+-- The claims after a call with this end.
 pub record ClaimsAfter (k : Claimed) (call : Call) (outcome : End) (l : Claimed) : Type 0 where
   pub ready : Claimed
   pub readied : Readies k call ready

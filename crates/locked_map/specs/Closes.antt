@@ -1,4 +1,4 @@
--- What closing a map says.
+-- The result of closing a map.
 use Rattle.std.specs.Prelude.{ℕ, ◌≡◌, ◌==◌, ◌<◌, List, length, IsTrue, All}
 use Rattle.std.specs.List.{list_any, sum_by}
 use Rattle.txn_trace.specs.declared.entry.Entry.{Entry}
@@ -8,7 +8,7 @@ use Rattle.locked_map.specs.Tokens.{Token}
 use Rattle.locked_map.specs.declared.unclosed.Unclosed.{Unclosed}
 use Rattle.locked_map.specs.declared.unclosed.Unclosed.TheVariants.{Missing, Differs}
 
--- A caller's entries in the history are what it saw.
+-- A caller's entries in the history are the ones that it saw.
 abbrev pub IsOwn : {S : Type 0} → List Entry → Token S → Type 0
 IsOwn h k = own k.number h ≡ k.seen
 
@@ -21,24 +21,24 @@ IsAllHere count ks =
 abbrev pub AreCounted : {S : Type 0} → List Entry → List (Token S) → Type 0
 AreCounted h ks = length h ≡ sum_by (λ k. length k.seen) ks
 
--- The callers that a map which was not closed hands back.
+-- The callers that a map which was not closed returns.
 abbrev pub back_of : {L S J : Type 0} → Unclosed L S J → List (Token S)
 back_of (Missing map callers) = callers.items
 back_of (Differs core callers) = callers.items
 
--- Why it was not closed: a caller is missing; or the core has other limits, or the entries of some
--- caller in the history are not those that it saw.
+-- The reason why it was not closed: a caller is missing; or the core has other limits, or the
+-- entries of some caller in the history are not those that it saw.
 abbrev pub IsWhy : {L S J : Type 0} → Sizes → List (Token S) → Unclosed L S J → Type 0
 IsWhy limits ks (Missing map callers) = IsAllHere limits.callers ks → ⊥
 IsWhy limits ks (Differs core callers) =
     (core.limits ≡ limits) × All (λ k. IsOwn core.history k) ks → ⊥
 
--- What else holds: a map that is handed back has its limits; where a core is, no caller is missing.
+-- In addition: a map that is returned has its limits; if a core is returned, no caller is missing.
 abbrev pub IsBeside : {L S J : Type 0} → Sizes → List (Token S) → Unclosed L S J → Type 0
 IsBeside limits ks (Missing map callers) = map.limits ≡ limits
 IsBeside limits ks (Differs core callers) = IsAllHere limits.callers ks
 
--- The core that it hands back has as many entries as the callers saw.
+-- The core that is returned has as many entries as the callers saw.
 abbrev pub IsCounted : {L S J : Type 0} → List (Token S) → Unclosed L S J → Type 0
 IsCounted ks (Missing map callers) = Unit {0}
 IsCounted ks (Differs core callers) = AreCounted core.history ks

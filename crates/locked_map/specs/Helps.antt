@@ -1,4 +1,4 @@
--- The bucket that a call for help is on its way to.
+-- The bucket to which a call for help is on its way.
 use Rattle.std.specs.Prelude.{ℕ, ◌≡◌, ◌%◌}
 use Rattle.txn_drive.specs.declared.call.Call.TheVariants as calls
 use Rattle.txn_drive.specs.declared.drive.Drive.{Drive}

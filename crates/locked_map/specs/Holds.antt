@@ -1,4 +1,4 @@
--- What a hold of the lock does to core, token and drive, and what a call has done by its end.
+-- The effect of a hold of the lock on core, token and drive, and the effect of a call by its end.
 use Rattle.std.specs.Prelude.{ℕ, zero, suc, ◌≡◌, ◌≢◌, Bool, true, false, not, ◌||◌, List, [], ◌++◌, Option, Some, None, is_some}
 use Rattle.std.specs.List.{filter}
 use Rattle.txn_trace.specs.declared.answer.Answer.{Answer}
@@ -25,20 +25,20 @@ use Rattle.locked_map.specs.Claims.{Claimed, Trial, HasTriedIf, claim_in}
 use Rattle.locked_map.specs.Tokens.{Token, IsSameCaller, IsSameClaims}
 use Rattle.locked_map.specs.Suits.{is_odd, may_refuse, Fits, IsInStep, IsSized}
 
--- How a hold went: the token was broken; the core has not as many stripes as there are words; there
--- was no room for what the turn may add; or the turn was taken.
+-- The course of a hold: the token was broken; the core does not have as many stripes as there are
+-- words; there was no room for what the turn may add; or the turn was taken.
 pub data How : Type 0 where
   WasBroken : How
   FoundOther : How
   HadNoRoom : How
   TookTurn : How
 
--- Whether a call has ended, and in a way that it may not.
+-- Whether a call has ended, in a way that it may not.
 abbrev pub odd_if : Call → Option End → Bool
 odd_if call None = false
 odd_if call (Some outcome) = is_odd call outcome
 
--- What a hold gives after its turn.
+-- The answer of a hold after its turn.
 abbrev pub end_in : Bool → Option End → Option End
 end_in true outcome = Some (ends.Refused OutOfStep)
 end_in false outcome = outcome
@@ -52,21 +52,21 @@ abbrev pub out_if : Option End → Bool
 out_if None = false
 out_if (Some outcome) = is_out outcome
 
--- Claims, a core and what was seen, with which the next step of a drive may be taken.
+-- Claims, a core and seen entries with which the next step of a drive may be taken.
 pub record MayTake (claims : Claimed) (m : State) (seen : List Entry) (d : Drive) : Type 0 where
   pub whole : is_some (seat_after seen) ≡ true
   pub stripes : m.limits.stripes ≡ claims.stripes
   pub tried : HasTriedIf claims.tried claims.stripes (step_of d)
 
--- A step is taken: the core makes its move, or where an operation is asked for does what the claim
--- to its stripe comes to; the drive is told the answer, and the step's entries are seen.
+-- A step is taken: the core makes its move, or, if an operation is asked for, the outcome is that
+-- of the claim to its stripe; the drive is told the answer, and the step's entries are seen.
 pub record Takes (tried : Option Trial) (m : State) (seen : List Entry) (d : Drive) (step : Step)
     (answer : Answer) (n : State) (seen' : List Entry) (e : Drive) : Type 0 where
   pub goes : Goes (claim_in tried m step) m step answer n
   pub told : e ≡ told_of d answer
   pub entries : seen' ≡ seen ++ entries_of step answer
 
--- After the first step of two the second is taken where the answer was `placed`.
+-- After the first of two steps, the second is taken if the answer was `placed`.
 abbrev pub TakesSecond : Option Trial → State → List Entry → Drive → Step → Answer → State
     → List Entry → Drive → Type 0
 TakesSecond tried m seen d step answers.Placed n seen' e =
@@ -85,8 +85,8 @@ TakesTurn tried m seen d (Two step next) n seen' e =
 TakesTurn tried m seen d (Ended outcome) n seen' e = (n ≡ m) × (seen' ≡ seen) × (e ≡ d)
 
 -- A hold that took the drive's turn: the core took the steps of the turn and no other, their
--- entries are seen and no other, and the drive was told their answers. The token breaks where an
--- entry has no row, or where the call may not end so.
+-- entries are seen and no other, and the drive was told their answers. The token breaks if an entry
+-- has no row, or if the call may not have this end.
 pub record TurnHeld {S : Type 0} (m : State) (k : Token S) (d : Drive) (outcome : Option End)
     (n : State) (l : Token S) (e : Drive) : Type 0 where
   pub sound : k.broken ≡ false
@@ -110,8 +110,8 @@ HeldBy HadNoRoom m k d outcome n l e =
     (k.broken ≡ false) × (outcome ≡ Some (ends.Refused NoMemory)) × (n ≡ m) × (l ≡ k) × (e ≡ d)
 HeldBy TookTurn m k d outcome n l e = TurnHeld m k d outcome n l e
 
--- What a hold does: the drive is told the size, and its turn is taken, where the token is sound
--- and has room and the core as many stripes as there are words.
+-- The effect of a hold: the drive is told the size, and its turn is taken, if the token is not
+-- broken and has room and the core has as many stripes as there are words.
 abbrev pub Held : {S : Type 0} → State → Token S → Drive → Option End → State → Token S → Drive
     → Type 0
 Held m k d outcome n l e = (how : How) × HeldBy how m k (sized_of m.size d) outcome n l e
@@ -120,19 +120,19 @@ Held m k d outcome n l e = (how : How) × HeldBy how m k (sized_of m.size d) out
 abbrev pub InStep : {S : Type 0} → State → Token S → Drive → Type 0
 InStep m k d = (k.broken ≡ false) × IsInStep m k.limits k.number k.seen d
 
--- While the caller's entries have rows, its seat fits the drive.
+-- If the caller's entries have rows, its seat fits the drive.
 abbrev pub FitsIf : Option Seat → Call → Phase → Type 0
 FitsIf None call phase = Unit {0}
 FitsIf (Some s) call phase = Fits s call phase
 
--- A call on its way: `base` was seen before it.
+-- A call in progress; the entries `base` were seen before it.
 pub record GoesOn (base seen : List Entry) (d : Drive) : Type 0 where
   pub entries : seen ≡ base ++ made d
   pub fits : FitsIf (seat_after seen) d.call d.phase
 
--- What taking a turn comes to: `taken` says whether there was room for what it may add. Without
--- room nothing is done, which happens only to a call that has added nothing yet and may be refused
--- memory.
+-- The effect of taking a turn: `taken` says whether there was room for what it may add. If there
+-- was not, nothing is done, which happens only to a call that has added nothing yet and may be
+-- refused memory.
 pub record TurnTaken (tried : Option Trial) (m : State) (seen : List Entry) (d : Drive)
     (turn : Turn) (taken : Bool) (n : State) (seen' : List Entry) (e : Drive) : Type 0 where
   pub took : taken ≡ true → TakesTurn tried m seen d turn n seen' e
@@ -144,7 +144,7 @@ pub record TurnTaken (tried : Option Trial) (m : State) (seen : List Entry) (d :
   pub starts : taken ≡ false → (base : List Entry) → GoesOn base seen d
       → (made d ≡ []) × (may_refuse d.call NoMemory ≡ true)
 
--- How a call may end.
+-- The ends that a call may have.
 abbrev pub MayEnd : Call → End → Type 0
 MayEnd call (ends.Refused OutOfStep) = Unit {0}
 MayEnd call outcome = is_odd call outcome ≡ false
@@ -158,8 +158,8 @@ abbrev pub IsQuiet : End → List Entry → Type 0
 IsQuiet (ends.Refused OutOfStep) added = CommitNothing added
 IsQuiet outcome added = Unit {0}
 
--- A call that has ended so: `base` was seen before it. It is quiet as long as the rule of shape has
--- a row for each entry that was seen.
+-- A call with this end; the entries `base` were seen before it. It is quiet, provided that the rule
+-- of shape has a row for each entry that was seen.
 pub record HasRun (base seen : List Entry) (c : ℕ) (call : Call) (outcome : End) : Type 0 where
   pub added : List Entry
   pub entries : seen ≡ base ++ added
@@ -167,31 +167,31 @@ pub record HasRun (base seen : List Entry) (c : ℕ) (call : Call) (outcome : En
   pub may : MayEnd call outcome
   pub quiet : is_some (seat_after seen) ≡ true → IsQuiet outcome added
 
--- A call on its way that may take its next turn: it has committed nothing.
+-- A call in progress that may take its next turn: it has committed nothing.
 pub record IsGoing (base seen : List Entry) (d : Drive) : Type 0 where
   pub on : GoesOn base seen d
   pub quiet : CommitNothing (made d)
 
--- What a hold leaves of a call.
+-- The state of a call after a hold.
 abbrev pub GoesTo : List Entry → List Entry → Drive → Option End → Type 0
 GoesTo base seen d None = IsGoing base seen d
 GoesTo base seen d (Some outcome) = HasRun base seen d.caller d.call outcome
 
--- So many holds of a call, none of which has ended it: each is of the core that lies under the lock
--- then, and the steps of other callers come between.
+-- This number of holds of a call, none of which has ended it: each is of the core that is then
+-- under the lock, and other callers take their steps in between.
 abbrev pub HasHeld : {S : Type 0} → ℕ → Token S → Drive → Token S → Drive → Type 0
 HasHeld zero k d l e = (l ≡ k) × (e ≡ d)
 HasHeld {S} (suc holds) k d l e =
     (between : Token S) × (half : Drive) × (m : State) × (n : State)
     × HasHeld holds k d between half × Held m between half None n l e
 
--- A call is on its way, after some holds.
+-- A call in progress, after some holds.
 pub record IsHolding {S : Type 0} (k : Token S) (call : Call) (l : Token S) (d : Drive) : Type 0
   where
     pub holds : ℕ
     pub held : HasHeld holds k (new_drive k.limits.half k.number call) l d
 
--- A call has ended so with its last hold: what it did is what its holds did, and no other.
+-- A call has ended with its last hold: its effects are those of its holds, and no other.
 pub record IsHeld {S : Type 0} (k : Token S) (call : Call) (outcome : End) (l : Token S) : Type 0
   where
     pub between : Token S

@@ -1,4 +1,4 @@
--- What a caller has seen, and the room for more.
+-- The entries that a caller has seen, and the room for more.
 use Rattle.std.specs.Prelude.{ℕ, ◌≡◌, ◌+◌, ◌<◌, ◌≤◌, Bool, true, false, List, length, Some, is_some, vec_capacity}
 use Rattle.std.specs.Global.{Vec}
 use Rattle.std.specs.List.{fold}
@@ -9,7 +9,7 @@ use Rattle.txn_trace.specs.declared.step.Step.TheVariants.{Begin, Ask, Act, Save
 use Rattle.txn_trace.specs.Shape.{RoomySeat, seat_after}
 use Rattle.txn_trace.specs.Owed.{owed_by, reserved}
 
--- The number of the last transaction that the entries begin; 0 where they begin none.
+-- The number of the last transaction that the entries begin, or 0 if they begin none.
 abbrev pub began_by : ℕ → Entry → ℕ
 began_by before (Began c txn) = txn
 began_by before entry = before
@@ -17,13 +17,13 @@ began_by before entry = before
 abbrev pub last_txn : List Entry → ℕ
 last_txn entries = fold began_by 0 entries
 
--- The entries, and for how many more entries and savepoints there is room.
+-- The entries, and the number of further entries and savepoints for which there is room.
 pub record Noted : Type 0 where
   pub entries : List Entry
   pub room : ℕ
   pub save_room : ℕ
 
--- The seat is that of the entries, where each had a row; the transaction is the last one; there is
+-- The seat is that of the entries, if each had a row; the transaction is the last one; there is
 -- room for all that the caller owes; and the share, of one part, counts the entries.
 pub record IsNoted (entries : Vec Entry) (seat : RoomySeat) (whole : Bool) (txn parts amount : ℕ) :
     Type 0 where
@@ -50,7 +50,7 @@ abbrev pub is_save : Step → Bool
 is_save (Save c) = true
 is_save step = false
 
--- There is room for what a step may add, and for all that is owed then.
+-- There is room for the entry that a step may add, and for all that is owed after it.
 pub record HasRoomFor (seen : Noted) (step : Step) : Type 0 where
   pub all : owed_by (seat_after seen.entries) + reserved step ≤ seen.room
   pub one : adds_entry step ≡ true → 0 < seen.room

@@ -1,4 +1,4 @@
--- Which phases of a drive suit a caller's seat, and the core.
+-- The phases of a drive that suit a caller's seat and the core.
 use Rattle.std.specs.Prelude.{ℕ, ◌≡◌, ◌<◌, ◌≤◌, Bool, true, false, not, List, length, Option, Some, None, is_some}
 use Rattle.split_key.specs.Split.{parent_of, IsAncestor}
 use Rattle.txn_trace.specs.declared.entry.Entry.{Entry}
@@ -24,7 +24,7 @@ use Rattle.txn_drive.specs.Made.{undone_in}
 use Rattle.boost_core.specs.State.{State, seat_in, caller_changes, help_in, is_set, bucket_at}
 use Rattle.boost_core.specs.Refusals.{refusal_in, lacks_in, has_cursor, has_dummy}
 
--- The phase of a caller whose call does a work.
+-- The phase of a caller during a work of its call.
 abbrev pub work_phase : Call → Work → Option Standing
 work_phase (calls.Op op) Operation = Some (seats.Waiting op)
 work_phase (calls.Op op) (Busy x k) = Some seats.LeavingToEnd
@@ -36,7 +36,7 @@ abbrev pub is_help : Call → Bool
 is_help (calls.Help key) = true
 is_help call = false
 
--- With which refusals a call may end once its token has let it pass.
+-- The refusals with which a call may end after its token has let it pass.
 abbrev pub may_refuse : Call → Refusal → Bool
 may_refuse calls.Begin NoMemory = true
 may_refuse (calls.Op op) NoMemory = true
@@ -48,12 +48,13 @@ may_refuse (calls.Help key) NoMemory = true
 may_refuse (calls.Help key) StampsUsedUp = true
 may_refuse call refusal = false
 
--- Whether a call may not end so.
+-- Whether a call may not have this end.
 abbrev pub is_odd : Call → End → Bool
 is_odd call (ends.Refused refusal) = not (may_refuse call refusal)
 is_odd call outcome = false
 
--- A drive has begun where the seat refuses nothing; while it works, the seat has the work's phase.
+-- A drive has begun if the seat refuses nothing; while it works, the seat has the phase of the
+-- work.
 abbrev pub Fits : Seat → Call → Phase → Type 0
 Fits s call Fresh = (half : Bool) × (refusal_in half s (first_step 0 call) ≡ None)
 Fits s call (Seeking work again) = work_phase call work ≡ Some s.phase
@@ -78,7 +79,7 @@ pub record IsOnWay (m : State) (way : Way) : Type 0 where
   pub bucket : way.bucket < m.size
   pub parent : is_set m.stored (parent_of way.bucket) ≡ true
 
--- Its caller's seat, cursor and helper are as the drive was last told.
+-- Its caller's seat, cursor and helper are as the drive was told last.
 abbrev pub Suits : State → Seat → ℕ → Call → Phase → Type 0
 Suits m s c call Fresh =
     (refusal_in m.limits.half s (first_step c call) ≡ None) × (is_help call ≡ false)
@@ -100,8 +101,8 @@ Suits m s c call (Lost work) = ⊥
 Suits m s c call Helped = is_help call ≡ true
 Suits m s c call (Refused refusal) = is_odd call (ends.Refused refusal) ≡ false
 
--- The core has the limits, the caller's entries are what was seen, and the drive is as it was last
--- told.
+-- The core has the limits, the caller's entries are those that were seen, and the drive is as it
+-- was told last.
 pub record IsInStep (m : State) (limits : Sizes) (c : ℕ) (seen : List Entry) (d : Drive) : Type 0
   where
     pub same_limits : m.limits ≡ limits

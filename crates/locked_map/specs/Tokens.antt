@@ -1,4 +1,5 @@
--- What contracts see of a caller and of a pass, and when a call leaves a caller the same.
+-- A caller and a pass as contracts see them, and the parts of a caller that a call leaves
+-- unchanged.
 use Rattle.std.specs.Prelude.{ℕ, ◌≡◌, Bool, true, List, map, Option, Some, None}
 use Rattle.std.specs.List.{range_with_len}
 use Rattle.atomic_table.specs.Seated.{TableId}
@@ -12,8 +13,8 @@ use Rattle.txn_drive.specs.Drives.{step_of}
 use Rattle.undo_log.specs.SideValue.{Leveled}
 use Rattle.locked_map.specs.Claims.{Claimed, HasTriedFor, HasTriedIf, IsIdle}
 
--- A caller: its number, its map's limits, its side value, the entries that it has seen, by what it
--- claims stripes, and whether it is out of step for good.
+-- A caller: its number, its map's limits, its side value, the entries that it has seen, its claims
+-- to stripes, and whether it is broken.
 pub record Token (S : Type 0) : Type 0 where
   pub number : ℕ
   pub limits : Sizes
@@ -22,7 +23,7 @@ pub record Token (S : Type 0) : Type 0 where
   pub claims : Claimed
   pub broken : Bool
 
--- A pass: its number, its map's limits, and the words at which its caller has a seat.
+-- A pass: its number, its map's limits, and its seat at the map's words.
 pub record Ticket : Type 0 where
   pub number : ℕ
   pub limits : Sizes
@@ -45,13 +46,13 @@ pub record IsSameCaller {S : Type 0} (k l : Token S) : Type 0 where
 abbrev pub IsSameClaims : {S : Type 0} → Token S → Token S → Type 0
 IsSameClaims k l = l.claims ≡ k.claims
 
--- All of the caller but its side value and its claims is as it was.
+-- All of the caller except its side value and its claims is unchanged.
 pub record IsSameSeen {S : Type 0} (k l : Token S) : Type 0 where
   pub whose : IsSameCaller k l
   pub seen : l.seen ≡ k.seen
   pub broken : l.broken ≡ k.broken
 
--- All of the caller but its side value is as it was.
+-- All of the caller except its side value is unchanged.
 pub record IsSameButSide {S : Type 0} (k l : Token S) : Type 0 where
   pub whose : IsSameCaller k l
   pub seen : l.seen ≡ k.seen
@@ -68,15 +69,16 @@ pub record IsUnused (number : ℕ) (limits : Sizes) (claims : Claimed) : Type 0 
   pub seat : IsSeated number limits claims
   pub idle : IsIdle claims
 
--- Whether no transaction is open at a seat: there is none either where the entries give no seat.
+-- Whether no transaction is open at a seat; if the entries give no seat, none is.
 abbrev pub is_over : Option Seat → Bool
 is_over None = true
 is_over (Some s) = is_closed s.phase
 
--- Where the call is an operation, the caller has tried the word of its key's stripe last.
+-- If the call is an operation, the last word that the caller has tried is that of its key's stripe.
 abbrev pub HasTried : {S : Type 0} → Token S → Call → Type 0
 HasTried k call = HasTriedFor k.claims.tried k.limits.stripes call
 
--- The same where the next step of a drive asks for an operation.
+-- If the next step of a drive asks for an operation, the last word that the caller has tried is
+-- that of its key's stripe.
 abbrev pub HasTriedNext : {S : Type 0} → Token S → Drive → Type 0
 HasTriedNext k d = HasTriedIf k.claims.tried k.limits.stripes (step_of d)

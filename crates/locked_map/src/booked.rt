@@ -1,4 +1,4 @@
-//! What lies under the lock: the core and the book that counts its entries. Invariant: the book's
+//! The contents of the lock: the core and the book that counts its entries. Invariant: the book's
 //! total is the length of the history, so no entry can be added without a caller's share of the
 //! ledger.
 ghost use Rattle.std.specs.Prelude.{◌≡◌, true, length, IfErr, IfOk};
@@ -8,11 +8,11 @@ use std::alloc::Global;
 use std::sync::ledger::{Book, Ledger, Share};
 use txn_trace::{Limits, Refusal};
 
-/// What lies under the lock: the core, and the book that counts the entries of its history.
+/// The contents of the lock: the core, and the book that counts the entries of its history.
 ///
-/// A contract sees the core as `core`. That the book's total is the length of the history is a fact
-/// of the type, so a core with another number of entries cannot be put here without its callers'
-/// shares. So is that the core's stripes are words. The ledger's name `L` says whose book it is.
+/// A contract sees the core as `core`. The type guarantees that the book's total is the length of
+/// the history, so a core with another number of entries cannot be put here without its callers'
+/// shares; and that the core's stripes are words. The ledger's name `L` says whose book it is.
 #[derive(Drop)]
 pub struct Booked<L: Ledger> {
     /// The core.
@@ -28,8 +28,7 @@ pub struct Booked<L: Ledger> {
 impl<L: Ledger> Booked<L> {
     ghost use Rattle.boost_core.specs.State.{start_with_words};
 
-    /// A core in which nothing has happened, under these limits, and a book that has counted
-    /// nothing.
+    /// A new core with these limits, and a book that has counted nothing.
     ///
     /// # Errors
     ///

@@ -1,5 +1,5 @@
 //! A caller's token: its seat after its own entries, its rights and its side value. Invariant: its
-//! share of the ledger counts as many entries as `seen` has. The shared calls stand in `calls.rt`.
+//! share of the ledger counts as many entries as `seen` has. The shared calls are in `calls.rt`.
 ghost use Rattle.std.specs.Prelude.{◌≡◌, ◌≢◌, ◌<◌, true, false, is_some, length, unwrap_or, Some, None, [], ◌∷◌, List, ◌+◌, IfSome, IfNone, IfErr, OnOk, OnErr};
 ghost use Rattle.txn_trace.specs.declared.entry.Entry.{Entry};
 ghost use Rattle.txn_trace.specs.declared.refusal.Refusal.{Refusal};
@@ -25,12 +25,12 @@ use std::sync::ledger::{Ledger, Share};
 use txn_trace::{Answer, Entry, Limits, Op, Refusal, Step};
 use undo_log::{Side, SideJob, SideValue};
 
-/// One caller of a shared map: its token. It is not cloned, so each number is in one place.
+/// One caller of a shared map: its token. It cannot be cloned, so each number has at most one.
 ///
 /// A contract sees its number, the limits of its map, its side value, in `seen` the entries that
 /// its calls have added, in `claims` the stripes whose rights it holds and all words that it has
 /// tried, and whether it is `broken`: a call that falls out of step breaks it, and from then on
-/// each call answers `Refusal::OutOfStep`.
+/// each call is refused with `Refusal::OutOfStep`.
 ///
 /// It keeps its rights until its transaction has committed or aborted. A broken token keeps them
 /// for good, and a token that is dropped loses them: their stripes stay held.
@@ -65,7 +65,7 @@ impl<L: Ledger, S: Side> Model for Caller<L, S> {
 }
 
 impl<L: Ledger, S: Side> Caller<L, S> {
-    /// A caller that has seen nothing.
+    /// A caller that has seen no entries.
     pub(crate) fn new(
         alloc: Global,
         number: u64,
@@ -97,14 +97,14 @@ impl<L: Ledger, S: Side> Caller<L, S> {
         }
     }
 
-    /// The caller's number. Constant time.
+    /// The caller's number.
     pub fn number(&self) -> u64
         ensures { result ≡ self.now.number }
     {
         self.number
     }
 
-    /// The limits of its map. Constant time.
+    /// The limits of its map.
     pub fn limits(&self) -> Limits
         ensures { result ≡ self.now.limits }
     {
@@ -112,7 +112,7 @@ impl<L: Ledger, S: Side> Caller<L, S> {
     }
 
     /// The entries that its calls have added, in order. Unless the token is broken, the rule of
-    /// shape has a row for each. Constant time.
+    /// shape has a row for each.
     pub fn seen(&self) -> &[Entry]
         ensures seen { result.now ≡ self.now.seen }
         ensures rows { self.now.broken ≡ false → is_some (seat_after self.now.seen) ≡ true }
@@ -120,8 +120,8 @@ impl<L: Ledger, S: Side> Caller<L, S> {
         self.seen.entries()
     }
 
-    /// Whether it has no transaction open: it may begin one. Of a broken token, which may do nothing,
-    /// this says only what its entries say. Constant time.
+    /// Whether it has no transaction open and may begin one. For a broken token, which may do
+    /// nothing, the answer tells only what its entries say.
     pub fn is_idle(&self) -> bool
         ensures { result ≡ is_over (seat_after self.now.seen) }
     {
@@ -139,30 +139,30 @@ impl<L: Ledger, S: Side> Caller<L, S> {
         self.side.words()
     }
 
-    /// Takes the drive's next turn on the core, under a lock that the caller holds, and gives the
-    /// end, if the drive has ended with it or before.
+    /// Takes the drive's next turn on the core, under a lock that the caller holds, and answers the
+    /// end of the call, if the drive has ended with it or before.
     ///
     /// The core takes the steps of the turn and no other, and `seen` gains their entries and no
-    /// other. An operation is asked for by the word that was tried last: so before its first turn
-    /// comes `try_word`, once. Side value and rights stay as they are: a shared call takes the one back,
-    /// and gives back the others, once its drive has ended.
+    /// other. An operation is asked for by the word that was tried last, so call `try_word` once
+    /// before its first turn. Side value and rights are unchanged; a shared call rolls the value
+    /// back and returns the rights when its drive has ended.
     ///
     /// # Errors
     ///
     /// The end is `Refused` with
     /// - `OutOfStep` if the token is broken: nothing is done;
-    /// - `OutOfStep` if the core has not as many stripes as the map has words: no step is taken,
-    ///   and the token breaks;
+    /// - `OutOfStep` if the core does not have as many stripes as the map has words: no step is
+    ///   taken, and the token breaks;
     /// - `NoMemory` if memory is refused for room in `seen`: no step is taken;
-    /// - `NoMemory`, `StampsUsedUp` or `StaleWord` if the core refuses the step so;
-    /// - `OutOfStep` if the core answers what the token's state excludes, or where the token
-    ///   would have refused the call, as `help` of a bad key: the token breaks.
+    /// - `NoMemory`, `StampsUsedUp` or `StaleWord` if the core refuses the step with it;
+    /// - `OutOfStep` if the core's answer is impossible in the token's state, or if the token would
+    ///   have refused the call, as `help` for a bad key: the token breaks.
     ///
-    /// Core and token that are in step stay so, and then `OutOfStep` is not answered.
+    /// If core and token are in step they stay so, and the end is never `OutOfStep`.
     ///
     /// # Cost
     ///
-    /// That of the one or two steps, and amortized constant time beside it; may take memory, for
+    /// That of the one or two steps, and otherwise amortized constant time; may take memory, for
     /// the steps and for `seen`.
     pub fn hold(&mut self, booked: &mut Booked<L>, drive: &mut Drive) -> Option<End>
         requires caller { drive.old.caller ≡ self.old.number }
@@ -197,7 +197,7 @@ impl<L: Ledger, S: Side> Caller<L, S> {
         end_in(self.is_broken, end)
     }
 
-    /// The refusal of a call by the token alone.
+    /// The refusal of a call by the token, before any step.
     pub(crate) fn refusal(&self, call: Call) -> Option<Refusal>
         ensures refusal { result ≡ refused_by self.now call }
         ensures sound { IfNone result (self.now.broken ≡ false) }
@@ -216,7 +216,7 @@ impl<L: Ledger, S: Side> Caller<L, S> {
         self.seen.txn()
     }
 
-    /// How many savepoints its transaction has.
+    /// The number of savepoints of its transaction.
     pub(crate) fn levels(&self) -> u64
         ensures { (s : Seat) → seat_after self.now.seen ≡ Some s → length s.kept ≡ result + 1 }
     {
@@ -224,22 +224,22 @@ impl<L: Ledger, S: Side> Caller<L, S> {
     }
 
     /// Tries the word of the stripe of an operation's key, outside the lock, unless the token has
-    /// the stripe's right. A shared call does so by itself: this is for those who call `hold`.
+    /// the stripe's right. A shared call does so itself: this is for those who call `hold`.
     ///
-    /// Where the word was free the token has the right now, and keeps it until its transaction has
-    /// committed or aborted. Else the word is kept, and the operation is asked for by it.
+    /// If the word was free the token has the right now, and keeps it until its transaction has
+    /// committed or aborted. If not, the word is kept, and the operation is asked for by it.
     ///
     /// # Errors
     ///
-    /// No word was tried, and the token is as it was:
+    /// No word was tried, and the token is unchanged:
     /// - the refusal of the operation by the token, as a shared call answers it: so a token without
     ///   a transaction tries no word;
-    /// - then `NoMemory` if memory is refused for one right more.
+    /// - then `NoMemory` if memory is refused for one more right.
     ///
     /// # Cost
     ///
     /// Time in proportion to the rights that it holds, and one try of one word; takes memory only
-    /// if there is no room for one right more.
+    /// if there is no room for one more right.
     pub fn try_word(&mut self, op: Op) -> Result<(), Refusal>
         ensures same { IsSameSeen self.old self.new }
         ensures side { self.new.side ≡ self.old.side }
@@ -255,7 +255,7 @@ impl<L: Ledger, S: Side> Caller<L, S> {
         self.try_stripe(op)
     }
 
-    /// The same of a token that does not refuse the operation.
+    /// `try_word`, for a token that does not refuse the operation.
     fn try_stripe(&mut self, op: Op) -> Result<(), Refusal>
         ensures same { IsSameSeen self.old self.new }
         ensures side { self.new.side ≡ self.old.side }
@@ -272,11 +272,11 @@ impl<L: Ledger, S: Side> Caller<L, S> {
     }
 
     /// Makes the caller ready for a call: tries the word of an operation, makes room for the level
-    /// that a save adds to the side value, and sees that the level of a return is there.
+    /// that a save adds to the side value, and tests that the level of a return exists.
     ///
     /// # Errors
     ///
-    /// - `NoMemory` if memory is refused; the caller is then as it was.
+    /// - `NoMemory` if memory is refused; the caller is then unchanged.
     /// - `OutOfStep` if there is no such level, which breaks the token.
     pub(crate) fn make_ready(&mut self, call: Call) -> Result<(), Refusal>
         requires { self.old.broken ≡ false }
@@ -304,7 +304,7 @@ impl<L: Ledger, S: Side> Caller<L, S> {
         }
     }
 
-    /// Does to the side value what the end of a call asks, and gives all rights back where the call
+    /// Changes the side value as the end of a call requires, and gives back all rights if the call
     /// has ended its transaction.
     pub(crate) fn follow(&mut self, end: End)
         requires { CanFollow end self.old.side }

@@ -1,19 +1,20 @@
-//! The shared calls: what a caller of a shared map asks for.
+//! The shared calls of a caller of a shared map.
 //!
-//! Each takes the turns of its call, each turn under a hold of the lock, and adds to the token's
-//! `seen` the entries that it tells of and no other. Before it takes the lock its token tests it:
-//! `refused_by` is the refusal that the token's entries say, in the order that each call lists.
-//! A call that the token refuses leaves the token as it was. Where the core answers what the token
-//! excludes, the call ends with `OutOfStep`: the token is broken, `seen` keeps what it had added,
-//! and `close` compares. Each call has the clauses
-//! - `ok`: what it has added, if it did what it was asked (`level` of `save`: its answer);
-//! - `side`: what it has then made of the side value;
-//! - `claims`: which rights to stripes it has then, and which words it has tried: an operation tries
-//!   the word of its key's stripe, unless it has the right, which comes if the word is free; and
-//!   the end of the transaction gives all back;
-//! - `leaves`: that the token let it pass, or why it was not done and what is left then; and that
-//!   after `OutOfStep` every call answers that and nothing changes any more (`Leaves` in
-//!   `specs/Calls.antt`).
+//! Each takes the turns of its call, each turn under one hold of the lock, and adds to the token's
+//! `seen` exactly the entries that it states. Before it takes the lock its token tests it:
+//! `refused_by` is the refusal that the token's entries determine, in the order that each call
+//! lists. A call that the token refuses leaves the token unchanged. If the core's answer is
+//! impossible by the token's state, the call ends with `OutOfStep`: the token is broken, `seen`
+//! keeps the entries that it had added, and `close` compares. Each call has the clauses
+//! - `ok`: the entries that it has added, if it did what it was asked to do (`level` of `save`: its
+//!   answer);
+//! - `side`: its effect on the side value in that case;
+//! - `claims`: the rights to stripes that it has then, and the words that it has tried: an
+//!   operation tries the word of its key's stripe, unless it has the right, and gets the right if
+//!   the word is free; the end of the transaction gives all rights back;
+//! - `leaves`: that the token let it pass, or the reason why it was not done and the state after
+//!   it; and that after `OutOfStep` every call is refused with it and nothing changes any more
+//!   (`Leaves` in `specs/Calls.antt`).
 ghost use Rattle.std.specs.Prelude.{◌≡◌, ◌↔◌, ℕ, ◌+◌, [], ◌∷◌, ◌++◌, length, None, Some, true, false, Err, IfOk, IfErr, OnOk};
 ghost use Rattle.txn_trace.specs.declared.entry.Entry.TheVariants as entries;
 ghost use Rattle.txn_trace.specs.Shape.{Seat, seat_after};
@@ -36,14 +37,14 @@ use txn_trace::{Answer, Op, Refusal, Reply};
 use undo_log::{Side, SideJob};
 
 impl<L: Ledger> SharedMap<L> {
-    /// Begins a transaction, and answers its number. The side value as it is then is its level 0:
-    /// a later abort takes back nothing that was changed before.
+    /// Begins a transaction, and answers its number. The present side value is its level 0: a later
+    /// abort takes back nothing that was changed before.
     ///
     /// # Errors
     ///
-    /// `Refused`, and the transaction, if there is one, is as it was:
-    /// - `OutOfStep` of a token that is broken.
-    /// - `Leaving` of a caller that takes changes back, `AlreadyOpen` of one with a transaction.
+    /// `Refused`, and the transaction, if there is one, is unchanged:
+    /// - `OutOfStep` if the token is broken.
+    /// - `Leaving` if the caller takes changes back, `AlreadyOpen` if it has a transaction.
     /// - Then `NoMemory` if memory is refused, and `OutOfStep`, which breaks the token.
     ///
     /// # Cost
@@ -67,24 +68,24 @@ impl<L: Ledger> SharedMap<L> {
     ///
     /// # Errors
     ///
-    /// - `Refused`, and the transaction is as it was:
-    ///   - `OutOfStep` of a token that is broken.
-    ///   - `NotOpen`, `Leaving`, `OperationUnfinished` and `BadKey` (a key of 2^63 or more, where
-    ///     the limits have half keys), the first that holds.
-    ///   - Then `NoMemory` if memory is refused: for one right more, before any word is tried,
-    ///     or for the operation; `StampsUsedUp` if no stamp is left; `StaleWord` where by the
-    ///     core's record the word of the key's stripe does not say who holds it; and `OutOfStep`,
-    ///     which breaks the token.
-    /// - `Busy` if the word of the key's stripe names another caller: the transaction is
-    ///   aborted, with all its changes taken back and all its rights given back, and the side value
-    ///   has the words that it had when the transaction began.
+    /// - `Refused`, and the transaction is unchanged:
+    /// - `OutOfStep` if the token is broken.
+    /// - `NotOpen`, `Leaving`, `OperationUnfinished` and `BadKey` (a key of 2^63 or more, if the
+    ///   limits have half keys), the first that applies.
+    /// - Then `NoMemory` if memory is refused, for one more right, before any word is tried, or for
+    ///   the operation; `StampsUsedUp` if no stamp is left; `StaleWord` if by the core's record the
+    ///   word of the key's stripe does not say who holds it; and `OutOfStep`, which breaks the
+    ///   token.
+    /// - `Busy` if the word of the key's stripe names another caller: the transaction is aborted,
+    ///   with all its changes taken back and all its rights given back, and the side value has the
+    ///   words that it had when the transaction began.
     ///
     /// # Cost
     ///
     /// One try of the word, outside the lock, unless the token has its right, and time in
-    /// proportion to the rights that it has; three holds of the lock, one of which seeks the place
-    /// of the key, and at most two more for each time that the place no longer fits, and for each
-    /// change that is taken back if the key is busy; may take memory.
+    /// proportion to the rights that it has; three holds of the lock, one of which seeks the
+    /// position of the key, and at most two more for each time that the position no longer fits,
+    /// and for each change that is taken back if the key is busy; may take memory.
     pub fn put<S: Side, R: Wait>(
         &self,
         rt: &R,
@@ -107,24 +108,24 @@ impl<L: Ledger> SharedMap<L> {
     ///
     /// # Errors
     ///
-    /// - `Refused`, and the transaction is as it was:
-    ///   - `OutOfStep` of a token that is broken.
-    ///   - `NotOpen`, `Leaving`, `OperationUnfinished` and `BadKey` (a key of 2^63 or more, where
-    ///     the limits have half keys), the first that holds.
-    ///   - Then `NoMemory` if memory is refused: for one right more, before any word is tried,
-    ///     or for the operation; `StampsUsedUp` if no stamp is left; `StaleWord` where by the
-    ///     core's record the word of the key's stripe does not say who holds it; and `OutOfStep`,
-    ///     which breaks the token.
-    /// - `Busy` if the word of the key's stripe names another caller: the transaction is
-    ///   aborted, with all its changes taken back and all its rights given back, and the side value
-    ///   has the words that it had when the transaction began.
+    /// - `Refused`, and the transaction is unchanged:
+    /// - `OutOfStep` if the token is broken.
+    /// - `NotOpen`, `Leaving`, `OperationUnfinished` and `BadKey` (a key of 2^63 or more, if the
+    ///   limits have half keys), the first that applies.
+    /// - Then `NoMemory` if memory is refused, for one more right, before any word is tried, or for
+    ///   the operation; `StampsUsedUp` if no stamp is left; `StaleWord` if by the core's record the
+    ///   word of the key's stripe does not say who holds it; and `OutOfStep`, which breaks the
+    ///   token.
+    /// - `Busy` if the word of the key's stripe names another caller: the transaction is aborted,
+    ///   with all its changes taken back and all its rights given back, and the side value has the
+    ///   words that it had when the transaction began.
     ///
     /// # Cost
     ///
     /// One try of the word, outside the lock, unless the token has its right, and time in
-    /// proportion to the rights that it has; three holds of the lock, one of which seeks the place
-    /// of the key, and at most two more for each time that the place no longer fits, and for each
-    /// change that is taken back if the key is busy; may take memory.
+    /// proportion to the rights that it has; three holds of the lock, one of which seeks the
+    /// position of the key, and at most two more for each time that the position no longer fits,
+    /// and for each change that is taken back if the key is busy; may take memory.
     pub fn take<S: Side, R: Wait>(
         &self,
         rt: &R,
@@ -140,29 +141,29 @@ impl<L: Ledger> SharedMap<L> {
         self.operate(rt, me, Op::Take(key))
     }
 
-    /// Puts a value at a key if the value before is the one expected, `None` for a key that is
-    /// not there, and answers the value before. It is a change exactly if they are the same.
+    /// Puts a value at a key if the value before is the one expected, `None` for a key that is not
+    /// there, and answers the value before. It is a change exactly if they are equal.
     ///
     /// # Errors
     ///
-    /// - `Refused`, and the transaction is as it was:
-    ///   - `OutOfStep` of a token that is broken.
-    ///   - `NotOpen`, `Leaving`, `OperationUnfinished` and `BadKey` (a key of 2^63 or more, where
-    ///     the limits have half keys), the first that holds.
-    ///   - Then `NoMemory` if memory is refused: for one right more, before any word is tried,
-    ///     or for the operation; `StampsUsedUp` if no stamp is left; `StaleWord` where by the
-    ///     core's record the word of the key's stripe does not say who holds it; and `OutOfStep`,
-    ///     which breaks the token.
-    /// - `Busy` if the word of the key's stripe names another caller: the transaction is
-    ///   aborted, with all its changes taken back and all its rights given back, and the side value
-    ///   has the words that it had when the transaction began.
+    /// - `Refused`, and the transaction is unchanged:
+    /// - `OutOfStep` if the token is broken.
+    /// - `NotOpen`, `Leaving`, `OperationUnfinished` and `BadKey` (a key of 2^63 or more, if the
+    ///   limits have half keys), the first that applies.
+    /// - Then `NoMemory` if memory is refused, for one more right, before any word is tried, or for
+    ///   the operation; `StampsUsedUp` if no stamp is left; `StaleWord` if by the core's record the
+    ///   word of the key's stripe does not say who holds it; and `OutOfStep`, which breaks the
+    ///   token.
+    /// - `Busy` if the word of the key's stripe names another caller: the transaction is aborted,
+    ///   with all its changes taken back and all its rights given back, and the side value has the
+    ///   words that it had when the transaction began.
     ///
     /// # Cost
     ///
     /// One try of the word, outside the lock, unless the token has its right, and time in
-    /// proportion to the rights that it has; three holds of the lock, one of which seeks the place
-    /// of the key, and at most two more for each time that the place no longer fits, and for each
-    /// change that is taken back if the key is busy; may take memory.
+    /// proportion to the rights that it has; three holds of the lock, one of which seeks the
+    /// position of the key, and at most two more for each time that the position no longer fits,
+    /// and for each change that is taken back if the key is busy; may take memory.
     pub fn put_if<S: Side, R: Wait>(
         &self,
         rt: &R,
@@ -187,24 +188,24 @@ impl<L: Ledger> SharedMap<L> {
     ///
     /// # Errors
     ///
-    /// - `Refused`, and the transaction is as it was:
-    ///   - `OutOfStep` of a token that is broken.
-    ///   - `NotOpen`, `Leaving`, `OperationUnfinished` and `BadKey` (a key of 2^63 or more, where
-    ///     the limits have half keys), the first that holds.
-    ///   - Then `NoMemory` if memory is refused: for one right more, before any word is tried,
-    ///     or for the operation; `StampsUsedUp` if no stamp is left; `StaleWord` where by the
-    ///     core's record the word of the key's stripe does not say who holds it; and `OutOfStep`,
-    ///     which breaks the token.
-    /// - `Busy` if the word of the key's stripe names another caller: the transaction is
-    ///   aborted, with all its changes taken back and all its rights given back, and the side value
-    ///   has the words that it had when the transaction began.
+    /// - `Refused`, and the transaction is unchanged:
+    /// - `OutOfStep` if the token is broken.
+    /// - `NotOpen`, `Leaving`, `OperationUnfinished` and `BadKey` (a key of 2^63 or more, if the
+    ///   limits have half keys), the first that applies.
+    /// - Then `NoMemory` if memory is refused, for one more right, before any word is tried, or for
+    ///   the operation; `StampsUsedUp` if no stamp is left; `StaleWord` if by the core's record the
+    ///   word of the key's stripe does not say who holds it; and `OutOfStep`, which breaks the
+    ///   token.
+    /// - `Busy` if the word of the key's stripe names another caller: the transaction is aborted,
+    ///   with all its changes taken back and all its rights given back, and the side value has the
+    ///   words that it had when the transaction began.
     ///
     /// # Cost
     ///
     /// One try of the word, outside the lock, unless the token has its right, and time in
-    /// proportion to the rights that it has; three holds of the lock, one of which seeks the place
-    /// of the key, and at most two more for each time that the place no longer fits, and for each
-    /// change that is taken back if the key is busy; may take memory.
+    /// proportion to the rights that it has; three holds of the lock, one of which seeks the
+    /// position of the key, and at most two more for each time that the position no longer fits,
+    /// and for each change that is taken back if the key is busy; may take memory.
     pub fn get<S: Side, R: Wait>(
         &self,
         rt: &R,
@@ -220,14 +221,14 @@ impl<L: Ledger> SharedMap<L> {
         self.operate(rt, me, Op::Get(key))
     }
 
-    /// Sets a savepoint, and answers its number, which is how many savepoints the transaction has
-    /// now. The side value as it is then is one level more.
+    /// Sets a savepoint, and answers its number, which is the number of savepoints that the
+    /// transaction now has. The present side value is one more level.
     ///
     /// # Errors
     ///
-    /// `Refused`, and the transaction is as it was:
-    /// - `OutOfStep` of a token that is broken.
-    /// - `NotOpen`, `Leaving` and `OperationUnfinished`, the first that holds.
+    /// `Refused`, and the transaction is unchanged:
+    /// - `OutOfStep` if the token is broken.
+    /// - `NotOpen`, `Leaving` and `OperationUnfinished`, the first that applies.
     /// - Then `NoMemory` if memory is refused, and `OutOfStep`, which breaks the token.
     ///
     /// # Cost
@@ -252,17 +253,17 @@ impl<L: Ledger> SharedMap<L> {
     ///
     /// # Errors
     ///
-    /// `Refused`, and the transaction is as it was:
-    /// - `OutOfStep` of a token that is broken.
-    /// - `NotOpen`, `Leaving`, `OperationUnfinished` and `NoSuchLevel`, the first that holds.
-    /// - Then `NoMemory` if memory is refused, which is before anything is taken back, and
-    ///   `OutOfStep`, which breaks the token. That comes too if the side value has no such
-    ///   level, since a save was made by `hold` alone.
+    /// `Refused`, and the transaction is unchanged:
+    /// - `OutOfStep` if the token is broken.
+    /// - `NotOpen`, `Leaving`, `OperationUnfinished` and `NoSuchLevel`, the first that applies.
+    /// - Then `NoMemory` if memory is refused, before anything is taken back, and `OutOfStep`,
+    ///   which breaks the token. The latter also if the side value has no such level, because a
+    ///   save was made by `hold`.
     ///
     /// # Cost
     ///
     /// Three holds of the lock, at most two more for each change that is taken back and for each
-    /// time that a place no longer fits, and a run of each side job above the level; may take
+    /// time that a position no longer fits, and a run of each side job above the level; may take
     /// memory, before anything is taken back.
     pub fn back<S: Side, R: Wait>(
         &self,
@@ -283,14 +284,14 @@ impl<L: Ledger> SharedMap<L> {
         }
     }
 
-    /// Commits the transaction, and answers its number and its place in the commit order. The side
-    /// value as it is then is its level 0. All rights are given back, outside the lock.
+    /// Commits the transaction, and answers its number and its commit number. The present side
+    /// value is level 0 from then on. All rights are given back, outside the lock.
     ///
     /// # Errors
     ///
-    /// `Refused`, and the transaction is as it was:
-    /// - `OutOfStep` of a token that is broken.
-    /// - `NotOpen`, `Leaving` and `OperationUnfinished`, the first that holds.
+    /// `Refused`, and the transaction is unchanged:
+    /// - `OutOfStep` if the token is broken.
+    /// - `NotOpen`, `Leaving` and `OperationUnfinished`, the first that applies.
     /// - Then `OutOfStep`, which breaks the token.
     ///
     /// # Cost
@@ -317,16 +318,16 @@ impl<L: Ledger> SharedMap<L> {
     ///
     /// # Errors
     ///
-    /// `Refused`, and the transaction is as it was:
-    /// - `OutOfStep` of a token that is broken.
-    /// - `NotOpen` and `Leaving`, the first that holds.
+    /// `Refused`, and the transaction is unchanged:
+    /// - `OutOfStep` if the token is broken.
+    /// - `NotOpen` and `Leaving`, the first that applies.
     /// - Then `OutOfStep`, which breaks the token.
     ///
     /// # Cost
     ///
     /// Three holds of the lock, at most two more for each change that is taken back and for each
-    /// time that a place no longer fits, a run of each side job, and a step for each right; takes
-    /// no memory.
+    /// time that a position no longer fits, a run of each side job, and a step for each right;
+    /// takes no memory.
     pub fn abort<S: Side, R: Wait>(&self, rt: &R, me: &mut Caller<L, S>) -> Result<(), Stop>
         ensures ok { OnOk result ((undone : ℕ) × (me.new.seen ≡ me.old.seen
             ++ (entries.Leave me.old.number None ∷ undone_by me.old.number undone
@@ -341,22 +342,22 @@ impl<L: Ledger> SharedMap<L> {
         }
     }
 
-    /// Helps the table to grow: doubles it if it is full, and then initialises the bucket of a
-    /// key, its ancestors first. It needs no transaction, and content and history stay.
+    /// Helps the table to grow: doubles it if it is full, and then initialises the bucket of a key,
+    /// its ancestors first. It needs no transaction, and content and history are unchanged.
     ///
     /// # Errors
     ///
-    /// `Refused`, and the transaction, if there is one, is as it was; buckets that are initialised
+    /// `Refused`, and the transaction, if there is one, is unchanged; buckets that are initialised
     /// stay so:
-    /// - `OutOfStep` of a token that is broken.
-    /// - `BadKey` of a key of 2^63 or more, if the limits have half keys.
-    /// - Then `NoMemory` if memory is refused, `StampsUsedUp` if no stamp is left, and
-    ///   `OutOfStep`, which breaks the token.
+    /// - `OutOfStep` if the token is broken.
+    /// - `BadKey` for a key of 2^63 or more, if the limits have half keys.
+    /// - Then `NoMemory` if memory is refused, `StampsUsedUp` if no stamp is left, and `OutOfStep`,
+    ///   which breaks the token.
     ///
     /// # Cost
     ///
     /// One hold of the lock to double; for each bucket on the way one if it is initialised, and
-    /// else three, and at most two more for each time that its place no longer fits; may take
+    /// else three, and at most two more for each time that its position no longer fits; may take
     /// memory.
     #[tactic(auto, using(crate::proofs::Refusing::help_bad_key))]
     pub fn help<S: Side, R: Wait>(
@@ -382,18 +383,19 @@ impl<L: Ledger> SharedMap<L> {
 
     /// Changes the side value, and logs the job that takes the change back.
     ///
-    /// The job names the words now as before, and those that `change` gives as after. It needs no
-    /// transaction: a change that is made outside of one stays. Nothing is added to `seen`.
+    /// The job must name the words now as before, and those that `change` answers as after. It
+    /// needs no transaction: a change that is made outside of one stays. Nothing is added to
+    /// `seen`.
     ///
     /// # Errors
     ///
-    /// The change was not called, nothing has changed, and change and job are handed back:
-    /// - `OutOfStep` of a token that is broken;
+    /// The change was not called, nothing has changed, and change and job are returned:
+    /// - `OutOfStep` if the token is broken;
     /// - `NoMemory` if memory is refused.
     ///
     /// # Cost
     ///
-    /// One call of `change`, and amortized constant time beside it, without the lock; takes memory
+    /// One call of `change`, and otherwise amortized constant time, without the lock; takes memory
     /// only if there is no room for a change.
     pub fn side<S: Side, F: FnOnce(S) -> S>(
         &self,

@@ -12,10 +12,10 @@ use std::marker::Model;
 use std::sync::Arc;
 use txn_trace::{Answer, Op, Step};
 
-/// What a caller may ask for operations with: its seat at the map's words, the rights of the
-/// stripes that it holds, and what it found at the last word that it tried.
+/// The claims of a caller to stripes: its seat at the map's words, the rights of the stripes that
+/// it holds, and what it found at the last word that it tried.
 ///
-/// Whoever drops it loses its rights: their stripes stay held.
+/// Dropping it loses its rights: their stripes stay held.
 #[derive(Drop)]
 pub(crate) struct Claims {
     words: Arc<KeyWords, Global>,
@@ -66,7 +66,7 @@ impl Claims {
     ///
     /// # Errors
     ///
-    /// `AllocError` if memory is refused for one right more: then nothing has changed.
+    /// `AllocError` if memory is refused for one more right. Then nothing has changed.
     pub(crate) fn try_word(&mut self, stripe: u64) -> Result<(), AllocError>
         requires { stripe < self.old.stripes }
         ensures tries { OnOk result (Tries self.old stripe self.new) }
@@ -110,9 +110,8 @@ impl Claims {
         }
     }
 
-    /// Gives all rights back if a call has ended its transaction.
-    ///
-    /// Takes no memory, and time in proportion to the rights.
+    /// Gives back all rights if a call has ended its transaction, in time in proportion to the
+    /// rights.
     pub(crate) fn follow(&mut self, end: End)
         ensures { self.new ≡ claims_at end self.old }
     {

@@ -18,16 +18,16 @@ use undo_log::Side;
 
 impl<L: Ledger> SharedMap<L> {
     /// Takes the core out, once the callers of all numbers are back, and compares its history with
-    /// what they saw.
+    /// the entries that they saw.
     ///
-    /// With `Ok` the core has the map's limits, and its history is legal, if a Busy may name any
-    /// other caller that has begun a transaction; each caller's own entries in it are just those
-    /// that the caller saw, and there are no others. With each answer the callers come back as they
-    /// were, in their order.
+    /// With `Ok` the core has the map's limits, and its history is legal by the rule that a Busy
+    /// may name any other caller that has begun a transaction; each caller's own entries in it are
+    /// exactly those that the caller saw, and there are no others. With each answer the callers are
+    /// returned unchanged, in their order.
     ///
     /// # Errors
     ///
-    /// - `Missing` exactly if a number is missing or was handed in twice.
+    /// - `Missing` exactly if a number is missing or was passed in twice.
     /// - Then `Differs` exactly if the core has other limits, or some caller's entries in the
     ///   history are not those that it saw. Even then the history has as many entries as all
     ///   callers saw.
@@ -87,7 +87,7 @@ fn has<L: Ledger, S: Side>(callers: &[Caller<L, S>], number: u64) -> bool
     callers.iter().any(|k| k.number() == number)
 }
 
-/// Whether a core has these limits, and each caller's entries in its history are what it saw.
+/// Whether a core has these limits, and each caller's entries in its history are those that it saw.
 fn is_seen<L: Ledger, S: Side>(core: &Core, limits: Limits, callers: &[Caller<L, S>]) -> bool
     ensures { IsTrue result ↔ ((core.now.limits ≡ limits)
         × All (λ k. IsOwn core.now.history k) callers.now) }
@@ -95,7 +95,7 @@ fn is_seen<L: Ledger, S: Side>(core: &Core, limits: Limits, callers: &[Caller<L,
     core.limits() == limits && is_all_own(core, callers)
 }
 
-/// Whether each caller's entries in the history are what it saw.
+/// Whether each caller's entries in the history are those that it saw.
 fn is_all_own<L: Ledger, S: Side>(core: &Core, callers: &[Caller<L, S>]) -> bool
     ensures { IsTrue result ↔ All (λ k. IsOwn core.now.history k) callers.now }
 {
@@ -146,7 +146,7 @@ fn core_of<L: Ledger, S: Side>(booked: Booked<L>, callers: &mut [Caller<L, S>]) 
     core
 }
 
-/// Lends the shares of all callers to one share, which then counts what the book has, and gives
+/// Lends the shares of all callers to one share, which then counts all that the book has, and gives
 /// them back.
 fn gather<L: Ledger, S: Side>(callers: &mut [Caller<L, S>], all: &mut Share<L>, book: &mut Book<L>)
     requires { all.old.parts + length callers.old ≡ L.parts }

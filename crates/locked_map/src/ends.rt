@@ -1,4 +1,4 @@
-//! How a call may end, and when its token breaks.
+//! The ends that a call may have, and those that break its token.
 ghost use Rattle.std.specs.Prelude.{◌≡◌, ◌||◌, not};
 ghost use Rattle.locked_map.specs.Suits.{is_odd, may_refuse};
 ghost use Rattle.locked_map.specs.Holds.{end_in, odd_if};
@@ -6,15 +6,15 @@ ghost use Rattle.locked_map.specs.Holds.{end_in, odd_if};
 use boost_core::{Call, End};
 use txn_trace::Refusal;
 
-/// Whether a token breaks after a turn: an entry that it saw has no row, or its call may not end
-/// so.
+/// Whether a token breaks after a turn: an entry that it saw has no row, or its call may not have
+/// this end.
 pub(crate) fn breaks(is_whole: bool, call: Call, end: Option<End>) -> bool
     ensures { result ≡ (not is_whole || odd_if call end) }
 {
     !is_whole || odd_if(call, end)
 }
 
-/// What a hold gives after its turn: that the call is out of step, if the token is broken.
+/// The answer of a hold after its turn: the call is out of step if the token is broken.
 pub(crate) fn end_in(is_broken: bool, end: Option<End>) -> Option<End>
     ensures { result ≡ end_in is_broken end }
 {
@@ -24,7 +24,7 @@ pub(crate) fn end_in(is_broken: bool, end: Option<End>) -> Option<End>
     end
 }
 
-/// Whether a call has ended, and in a way that it may not.
+/// Whether a call has ended, in a way that it may not.
 fn odd_if(call: Call, end: Option<End>) -> bool
     ensures { result ≡ odd_if call end }
 {
@@ -34,7 +34,7 @@ fn odd_if(call: Call, end: Option<End>) -> bool
     }
 }
 
-/// Whether a call may not end so.
+/// Whether a call may not have this end.
 fn is_odd(call: Call, end: End) -> bool
     ensures { result ≡ is_odd call end }
 {
@@ -44,7 +44,7 @@ fn is_odd(call: Call, end: End) -> bool
     }
 }
 
-/// With which refusals a call may end once its token has let it pass.
+/// Whether a call may end with this refusal after its token has let it pass.
 fn may_refuse(call: Call, refusal: Refusal) -> bool
     ensures { result ≡ may_refuse call refusal }
 {

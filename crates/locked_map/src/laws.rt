@@ -1,5 +1,5 @@
-//! Laws of holds: what those of a call for help come to. They stand apart since no code has them.
-//! Each speaks of one hold, so they serve whoever takes holds by hand too.
+//! The laws of holds: a function that does nothing, whose contract is about the holds of a call for
+//! help. It is about one hold at a time, so it serves those who take holds by hand too.
 ghost use Rattle.std.specs.Prelude.{◌≡◌, ◌%◌, ℕ, true, Some, None};
 ghost use Rattle.txn_drive.specs.declared.drive.Drive.{Drive};
 ghost use Rattle.txn_drive.specs.declared.«end».End.TheVariants.{Helped};
@@ -11,18 +11,14 @@ ghost use Rattle.locked_map.specs.Tokens.{Token};
 
 use undo_log::Side;
 
-/// A call for help ends well only once the bucket of its key is initialised.
+/// A call for help ends well only after the bucket of its key is initialised.
 ///
 /// Its first hold, after which the core has some size, heads for the bucket that the key has at
-/// this size (`heads`), and each hold that does not end the call keeps to that (`stays`). Where
-/// core and token are in step before the hold that ends it, the core has this bucket after it
-/// (`stored`, and `at_once` if that is the first hold).
+/// this size (`heads`), and each hold that does not end the call keeps to that (`stays`). If core
+/// and token are in step before the hold that ends it, the core has this bucket after it (`stored`,
+/// and `at_once` if that is the first hold).
 ///
-/// The contract is the law.
-///
-/// # Cost
-///
-/// None: it does nothing when it runs.
+/// The contract is the law; the function does nothing.
 pub fn helped<S: Side>()
     ensures heads { (key : ℕ) (m n : State) (k l : Token S) (d e : Drive) → Begins key d
         → Held m k d None n l e → Heads key n.size e }

@@ -1,29 +1,29 @@
 //! A transactional map that callers in several threads share: one core under one lock.
 //!
-//! - A *token*, `Caller`, is one caller. `SharedMap::new` gives a `Pass` for each number, and a
+//! - A *token*, `Caller`, is one caller. `SharedMap::new` makes a `Pass` for each number, and a
 //!   pass makes the token of its number, once. The calls are made on a `&SharedMap` with a `&mut
 //!   Caller`: `begin`, `put`, `put_if`, `take`, `get`, `save`, `back`, `commit`, `abort` and
-//!   `help`, any of which `run` takes by its value; and `side`.
-//!   A token keeps in `seen` the entries that its calls have added to the history, and a side value
-//!   of the caller's own, whose changes a transaction takes back with its others.
-//! - A *hold* of the lock is one turn of a call, one step of the core or two. So the steps of other
-//!   callers come between any two turns, also while changes are taken back. What is done under the
-//!   lock is `Caller::hold`: the core makes the moves of the turn, and `seen` gains their entries.
+//!   `help`, any of which `run` takes by its value; and `side`. A token keeps in `seen` the entries
+//!   that its calls have added to the history, and a side value, whose changes a transaction takes
+//!   back with its others.
+//! - A *hold* of the lock is one turn of a call, one step of the core or two. So other callers take
+//!   their steps between any two turns, also while changes are taken back. Under the lock
+//!   `Caller::hold` runs: the core makes the moves of the turn, and `seen` gains their entries.
 //! - Unless its token has the right to the stripe of its key, an operation first tries the stripe's
-//!   *word*, an atomic word outside the lock that says who holds the stripe. Where the word was
-//!   free, the token has the right from then on, and the core is asked by it; else the core is
-//!   asked by the word, and the operation is busy with the caller that the word names. A token
-//!   keeps its rights until its transaction has committed or aborted, and then gives all of them
-//!   back outside the lock. So a Busy entry may name a caller whose transaction has just ended.
-//! - What a token knows of the core at its next hold is what its type says: where it stands after
-//!   its own entries. If the core answers what that excludes, the call ends with `OutOfStep`.
+//!   *word*, an atomic word outside the lock that says who holds the stripe. If the word was free,
+//!   the token has the right from then on, and the core is asked by it; if not, the core is asked
+//!   by the word, and the operation is busy with the caller that the word names. A token keeps its
+//!   rights until its transaction has committed or aborted, and then gives all of them back outside
+//!   the lock. So a Busy entry may name a caller whose transaction has just ended.
+//! - Between two holds a token knows of the core only its own entries, and the seat that they give
+//!   it. If the core's answer is impossible by these, the call ends with `OutOfStep`.
 //! - `SharedMap::close` takes all tokens back and compares: the history is legal, each caller's own
 //!   entries in it are its `seen`, and there are no others, since a ledger counts them. The ledger
 //!   is `std`'s `sync::ledger`: the lock's value, `Booked`, holds the book, each token a share. Its
 //!   name `L` is the first parameter of each type, and is picked as `sync::ledger` says.
-//! - `laws::helped` says what the holds of a call for help come to: its key's bucket.
+//! - `laws::helped` is about the holds of a call for help: they initialise its key's bucket.
 //!
-//! No clause speaks of time: not that a call returns, nor that two threads ran at once.
+//! No clause is about time: none says that a call returns, or that two threads ran at once.
 //!
 //! A first example, of one caller that counts in the map; `R` is the runtime's type:
 //!
@@ -38,9 +38,9 @@
 //! }
 //! ```
 //!
-//! Where a call answers `Busy`, another caller held the key's stripe when its word was tried; the
-//! transaction is aborted, and may be begun anew. An example with threads is the module
-//! `transfers` of the crate `examples`.
+//! If a call answers `Busy`, another caller held the key's stripe when its word was tried; the
+//! transaction is aborted, and may be begun again. The module `transfers` of the crate `examples`
+//! has an example with threads. Calls take constant time and no memory unless they say otherwise.
 #![tactic(auto)]
 
 mod booked;

@@ -1,7 +1,7 @@
 //! The side value of callers that keep none: its words never change, and its jobs do nothing.
 use undo_log::Side;
 
-/// No side value: its words never change. For callers that keep nothing beside the map.
+/// No side value, for callers that keep nothing beside the map: its words never change.
 #[derive(Drop)]
 pub struct NoSide;
 

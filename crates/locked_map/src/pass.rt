@@ -1,5 +1,6 @@
 //! A pass: the right to be the caller of a number, with that number's part of the ledger and its
-//! seat at the words. A map hands out one for each number, and `close` wants them all.
+//! seat at the words. A map makes one for each number, and `close` requires the callers of all of
+//! them.
 ghost use Rattle.std.specs.Prelude.{◌≡◌, false, [], ◌∷◌};
 
 use crate::caller::Caller;
@@ -10,10 +11,10 @@ use std::sync::ledger::{Ledger, Share};
 use txn_trace::Limits;
 use undo_log::Side;
 
-/// The right to be the caller of a number. It is not cloned.
+/// The right to be the caller of a number. It cannot be cloned.
 ///
-/// A contract sees its number and the limits of its map. It carries one part of the map's ledger,
-/// and the number's seat at the map's words.
+/// A contract sees its number and the limits of its map. It has one part of the map's ledger, and
+/// the number's seat at the map's words.
 #[derive(Drop)]
 pub struct Pass<L: Ledger> {
     number: u64,
@@ -58,18 +59,14 @@ impl<L: Ledger> Pass<L> {
         }
     }
 
-    /// The number. Constant time.
+    /// The number.
     pub fn number(&self) -> u64
         ensures { result ≡ self.now.number }
     {
         self.number
     }
 
-    /// The caller of this number, which has seen nothing, with a side value of its own as level 0.
-    ///
-    /// # Cost
-    ///
-    /// Constant time; takes no memory.
+    /// The caller of this number, which has seen no entries, with this side value as level 0.
     pub fn caller<S: Side>(self, alloc: Global, side: S) -> Caller<L, S>
         ensures number { result.number ≡ self.number }
         ensures limits { result.limits ≡ self.limits }

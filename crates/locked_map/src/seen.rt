@@ -1,4 +1,4 @@
-//! What a caller has seen.
+//! The entries that a caller has seen.
 ghost use Rattle.std.specs.Prelude.{◌≡◌, ◌+◌, ◌<◌, ◌≤◌, ◌^◌, ℕ, true, [], ◌++◌, is_some, length, Some, OnOk, OnErr};
 ghost use Rattle.txn_trace.specs.Entries.{entries_of};
 ghost use Rattle.txn_trace.specs.Owed.{owed_by};
@@ -42,7 +42,7 @@ impl<L: Ledger> Model for Seen<L> {
 }
 
 impl<L: Ledger> Seen<L> {
-    /// Nothing yet. Takes no memory.
+    /// No entries yet.
     pub(crate) fn new(alloc: Global, share: Share<L>) -> Seen<L>
         requires parts { share.parts ≡ 1 }
         requires amount { share.amount ≡ 0 }
@@ -87,7 +87,7 @@ impl<L: Ledger> Seen<L> {
         self.txn
     }
 
-    /// How many savepoints its transaction has.
+    /// The number of savepoints of its transaction.
     pub(crate) fn levels(&self) -> u64
         ensures { (s : Standing) → seat_after self.now.entries ≡ Some s
             → length s.kept ≡ result + 1 }
@@ -95,7 +95,7 @@ impl<L: Ledger> Seen<L> {
         self.seat.levels()
     }
 
-    /// The refusal of a step by the caller's seat alone, under these limits.
+    /// The refusal of a step by the caller's seat, with these limits.
     pub(crate) fn refusal(&self, limits: Limits, step: Step) -> Option<Refusal>
         ensures { (s : Standing) → seat_after self.now.entries ≡ Some s
             → result ≡ refusal_in limits.half s step }
@@ -103,11 +103,11 @@ impl<L: Ledger> Seen<L> {
         self.seat.refusal(limits, step)
     }
 
-    /// Makes room for what a step may add, and for all that is owed then.
+    /// Makes room for the entry that a step may add, and for all that is owed after it.
     ///
     /// # Errors
     ///
-    /// `AllocError` if memory is refused, and only if there was no such room.
+    /// `AllocError` if memory is refused, which happens only if there was no such room.
     #[inline(always)]
     pub(crate) fn reserve(&mut self, step: Step) -> Result<(), AllocError>
         requires { is_some (seat_after self.old.entries) ≡ true }
@@ -127,7 +127,7 @@ impl<L: Ledger> Seen<L> {
         Ok(())
     }
 
-    /// Notes the entries of a step that was answered so, and counts them in the book.
+    /// Notes the entries of a step with this answer, and counts them in the book.
     #[inline(always)]
     pub(crate) fn note(&mut self, book: &mut Book<L>, step: Step, answer: Answer)
         requires whole { is_some (seat_after self.old.entries) ≡ true }

@@ -1,6 +1,6 @@
-//! The shared map: the core under its lock, and a drive's turns, each under one hold of it. Nothing
-//! of the core is known between two holds but what its type says; what a call promises is told by
-//! its holds (`WentOn`).
+//! The shared map: the core under its lock, and a drive's turns, each under one hold of it. Between
+//! two holds only the invariants of the core's type are known; the clauses of a call are about its
+//! holds (`WentOn`).
 ghost use Rattle.std.specs.Prelude.{◌≡◌, ◌<◌, ◌≤◌, true, IfOk, IfErr, map};
 ghost use Rattle.std.specs.List.{range_with_len};
 ghost use Rattle.txn_trace.specs.Shape.{seat_after};
@@ -25,28 +25,25 @@ use std::sync::{Arc, Mutex, Wait};
 use txn_trace::{Limits, Refusal};
 use undo_log::Side;
 
-/// A map that callers in several threads share: a core under a lock. Its callers share the words of
-/// its stripes, which lie outside the lock.
+/// A map that callers in several threads share: a core under a lock, and the words of its stripes,
+/// which are outside the lock.
 ///
 /// A contract sees its limits. The lock is taken for one turn of a call at a time, of one step or
-/// two, so that the steps of other callers come between any two turns.
+/// two, so that other callers take their steps between any two turns.
 #[derive(Drop)]
 pub struct SharedMap<L: Ledger> {
     booked: Mutex<Booked<L>>,
     limits: Limits,
 }
 
-/// Hears of each hold of the lock, once it is over.
+/// An observer that is told of each hold of the lock when it is over.
 pub trait OnRelease {
-    /// A hold is over: the thread that calls this has given the lock back.
-    ///
-    /// # Cost
-    ///
-    /// The hearer's own.
+    /// A hold is over: the thread that calls this has given the lock back. The cost is the
+    /// observer's.
     fn on_release(&self);
 }
 
-/// Does nothing at a release.
+/// The observer that does nothing.
 pub(crate) struct Unheard;
 
 impl OnRelease for Unheard {
@@ -55,7 +52,7 @@ impl OnRelease for Unheard {
 
 impl<L: Ledger> SharedMap<L> {
     /// A new map, and a pass for each caller's number, rising. The callers of all passes share the
-    /// words of its stripes, of which none is taken. The blank ledger is to be named `L` and to have
+    /// words of its stripes, none of which is taken. The blank ledger must be named `L` and have
     /// one part for each caller.
     ///
     /// # Errors
@@ -87,19 +84,16 @@ impl<L: Ledger> SharedMap<L> {
         }
     }
 
-    /// The map's limits. Constant time.
+    /// The map's limits.
     pub fn limits(&self) -> Limits
         ensures { result ≡ self.now.limits }
     {
         self.limits
     }
 
-    /// What lies under the lock, for who takes the holds of its calls by hand: a core whose stripes
-    /// are words and whose history is legal. The map is gone, and can be closed no more.
-    ///
-    /// # Cost
-    ///
-    /// Constant time; takes no memory.
+    /// Takes out the contents of the lock, for those who take the holds of its calls by hand: a
+    /// core whose stripes are words and whose history is legal. The map is gone, and can no longer
+    /// be closed.
     pub fn into_booked(self) -> Booked<L>
         ensures words { result.core.words ≡ true }
         ensures legal { IsLegal Begun result.core.limits.stripes result.core.history }
@@ -110,7 +104,7 @@ impl<L: Ledger> SharedMap<L> {
         booked
     }
 
-    /// Takes the turns of a call, each under a hold of its own, until the call has ended.
+    /// Takes the turns of a call, each under one hold, until the call has ended.
     #[tactic(auto, using(crate::proofs::Quiet::new_quiet))]
     fn drive<S: Side, H: OnRelease, R: Wait>(
         &self,
@@ -141,7 +135,7 @@ impl<L: Ledger> SharedMap<L> {
     }
 
     /// Takes a call by its value, as `begin`, `put` and the others do by name, and tells `hears` of
-    /// each hold of the lock, once it is over. The end says how the call went.
+    /// each hold of the lock when it is over. Answers the end of the call.
     ///
     /// # Errors
     ///
@@ -212,7 +206,7 @@ fn words_of(alloc: Global, limits: Limits) -> Result<(Arc<KeyWords, Global>, Vec
 }
 
 /// A pass for each seat, by rising number, with one part of the share each. The seats are taken out
-/// of their list, the last first.
+/// of their list, the last one first.
 fn passes_of<L: Ledger>(
     alloc: Global,
     limits: Limits,

@@ -1,4 +1,4 @@
-//! Why a shared call stopped: busy, or refused. It stands apart from the core's answers, since a
+//! The reason why a shared call stopped: busy, or refused. It is not an answer of the core, since a
 //! busy call has taken its transaction back already.
 ghost use Rattle.std.specs.Prelude.{◌≡◌};
 ghost use Rattle.txn_trace.specs.declared.refusal.Refusal.TheVariants.{NoMemory};
@@ -9,17 +9,17 @@ use std::error::Error;
 use std::fmt;
 use txn_trace::Refusal;
 
-/// Why a shared call did not do what it was asked.
+/// The reason why a shared call did not do what it was asked to do.
 #[derive(Clone, Copy, Debug, PartialEq, Eq)]
 pub enum Stop {
     /// Another caller held the key's stripe when its word was tried. The transaction is aborted:
-    /// all its changes are taken back, those of the side value too.
+    /// all its changes are taken back, also those of the side value.
     Busy {
         /// The caller that held the stripe.
         holder: u64,
     },
-    /// The call was refused, and the transaction is as it was. After `Refusal::OutOfStep` the token
-    /// answers that to every call.
+    /// The call was refused, and the transaction is unchanged. After `Refusal::OutOfStep` the token
+    /// refuses every call with it.
     Refused(Refusal),
 }
 

@@ -1,4 +1,4 @@
-//! Takes the steps of a turn on the core, and notes their entries.
+//! The turns of a drive on the core: takes their steps, and notes their entries.
 ghost use Rattle.std.specs.Prelude.{◌≡◌, ℕ, true, false, Some, List, [], is_some};
 ghost use Rattle.txn_trace.specs.declared.entry.Entry.{Entry};
 ghost use Rattle.txn_trace.specs.declared.refusal.Refusal.{Refusal};
@@ -18,10 +18,8 @@ use boost_core::{Drive, Turn};
 use std::sync::ledger::Ledger;
 use txn_trace::{Answer, Step};
 
-/// Takes a turn if there is room for what it may add, and says whether there was.
-///
-/// A step has an arm each, so that `take_one` is compiled by itself for the kinds of step of which
-/// each operation takes one.
+/// Takes a turn if there is room for what it may add, and says whether there was. Each kind of step
+/// that every operation takes has its own arm, so that `take_one` is compiled for it.
 pub(crate) fn take_turn<L: Ledger>(
     seen: &mut Seen<L>,
     claims: &Claims,
@@ -46,7 +44,7 @@ pub(crate) fn take_turn<L: Ledger>(
     }
 }
 
-/// The same of a turn of one step, compiled once.
+/// Takes a turn of one step; compiled once.
 #[inline(never)]
 fn take_other<L: Ledger>(
     seen: &mut Seen<L>,
@@ -63,7 +61,7 @@ fn take_other<L: Ledger>(
     take_one(seen, claims, booked, drive, step)
 }
 
-/// The same, compiled for each kind of step that it is called with.
+/// Takes a turn of one step; compiled for each kind of step that it is called with.
 #[inline(always)]
 fn take_one<L: Ledger>(
     seen: &mut Seen<L>,
@@ -85,7 +83,7 @@ fn take_one<L: Ledger>(
     true
 }
 
-/// The same of a turn of two steps: the second is taken if the first was answered `Placed`.
+/// Takes a turn of two steps: the second is taken if the answer to the first was `Placed`.
 #[inline(never)]
 fn take_two<L: Ledger>(
     seen: &mut Seen<L>,
@@ -110,7 +108,7 @@ fn take_two<L: Ledger>(
     true
 }
 
-/// Takes a step, for which there is room: on the core, in the book, in what is seen, and in the
+/// Takes a step, for which there is room: on the core, in the book, in the seen entries, and in the
 /// drive.
 #[inline(always)]
 #[tactic(auto, using(crate::proofs::Claiming::tried_step))]

@@ -1,5 +1,5 @@
-//! Why a map does not close, with all that was handed in, so that nothing is lost. It is an error
-//! with a text.
+//! The reason why a map was not closed, with all that was passed in, so that nothing is lost. It is
+//! an error with a text.
 use crate::caller::Caller;
 use crate::shared_map::SharedMap;
 use boost_core::Core;
@@ -8,17 +8,17 @@ use std::fmt;
 use std::sync::ledger::Ledger;
 use undo_log::Side;
 
-/// Why a map was not closed.
+/// The reason why a map was not closed.
 #[derive(Drop)]
 pub enum Unclosed<L: Ledger, S: Side> {
-    /// A caller's number is missing or was handed in twice (refusal 17). The map is as it was.
+    /// A caller's number is missing or was passed in twice (refusal 17). The map is unchanged.
     Missing(SharedMap<L>, Vec<Caller<L, S>>),
     /// The core has other limits, or the entries of some caller in the history are not those that
     /// it saw.
     Differs(Core, Vec<Caller<L, S>>),
 }
 
-/// Only which of the two it is: what was handed back is not looked at.
+/// Shows only which of the two it is, not the values that are returned.
 impl<L: Ledger, S: Side> fmt::Debug for Unclosed<L, S> {
     fn fmt<W: fmt::Write>(&self, f: &mut fmt::Formatter<W>) -> fmt::Result {
         match self {

@@ -43,7 +43,8 @@ IsAtStage c script txn replies part Beginning = part ≡ []
 IsAtStage c script txn replies part (Acting i) = IsFront c script (drop i script) txn replies part
 IsAtStage c script txn replies part (Leaving refusal) = CommitNothing part
 
--- The entries since the script began: those of the attempts that found a stripe held, and those of the present one.
+-- The entries since the script began: those of the attempts that found a stripe held, and those of
+-- the present one.
 pub record IsChunk (c : ℕ) (script : List Action) (attempt : Attempt) (txn : ℕ) (replies : List (Option ℕ)) (chunk : List Entry) : Type 0 where
   pub before : List Entry
   pub part : List Entry
