@@ -20,7 +20,7 @@ with_note v stripe word = view v.number v.made v.held (v.notes ++ (stripe, word)
 abbrev pub gained : View → ℕ → View
 gained v stripe = view v.number v.made (stripe ∷ v.held) (v.notes ++ (stripe, 0) ∷ [])
 
--- The list without the stripe, where it stands first.
+-- The list without the first occurrence of the stripe.
 abbrev pub removed : ℕ → List ℕ → List ℕ
 removed stripe [] = []
 removed stripe (first ∷ others) = cond (first == stripe) others (first ∷ removed stripe others)

@@ -50,7 +50,7 @@ wants_if step a = tt
 pub wants : (step : Step) (a : Answer) (e : Entry) → e ∷ [] ≡ entries_of step a → Wants step e
 wants step a e is = subst (WantsIf step) (sym is) (wants_if step a)
 
--- What is owed after the entry.
+-- The number of entries owed after the entry.
 owed_row : (s : Seat) (e : Entry) (room : ℕ) (next : Option Seat) → row s s.phase e ≡ next → owed_by (Some s) + reserved_for e ≤ room → 0 < room → owed_by next + 1 ≤ room
 owed_row s e room None is all one = omega (arith, one)
 owed_row s e room (Some next) is all one = omega (arith, owed_by-row s next e is, all)

@@ -21,7 +21,7 @@ use txn_trace::{Answer, Limits, Refusal, Step};
 pub struct Drive {
     /// The caller's number, which is also its helper's.
     pub caller: u64,
-    /// What the caller wants done.
+    /// The call itself.
     pub call: Call,
     /// How far the call is.
     pub phase: Phase,
