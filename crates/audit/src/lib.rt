@@ -1,7 +1,7 @@
 //! An auditor of recorded histories.
 //!
-//! An example of a caller of `history_check`. Proved: it says whether a history is legal, or that
-//! the history names a caller that the checker does not know.
+//! An example of a caller of `history_check`. Proved: the answer is whether a history is legal, or
+//! that the history names a caller that the checker does not know.
 #![tactic(auto)]
 
 ghost use Rattle.std.specs.Prelude.{◌<◌, ◌↔◌, IsTrue, IsSome, IfOk, IfSome};

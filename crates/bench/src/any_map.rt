@@ -1,4 +1,4 @@
-//! Maps that do the same operations.
+//! The maps that are timed, as one trait: they all do the same operations.
 ghost use Rattle.std.specs.Prelude.{◌≡◌};
 
 use map_ops::{Double, Table};
@@ -11,8 +11,8 @@ pub(crate) trait AnyMap {
     fn run(&mut self, op: Op) -> Result<Reply, Refusal>;
 }
 
-/// Stores a bucket by its three steps, as helper 0. If one is refused the bucket stays as it is,
-/// and its keys are sought from its parent's dummy.
+/// Stores a bucket by its three steps, as helper 0. If one is refused the bucket is not stored, and
+/// its keys are sought from its parent's dummy.
 pub(crate) fn store_bucket(table: &mut Table, bucket: u32) {
     let sought = table.init_seek(0, u64::from(bucket));
     let linked = table.init_link(0);
@@ -21,7 +21,7 @@ pub(crate) fn store_bucket(table: &mut Table, bucket: u32) {
     }
 }
 
-/// Doubles a table that has more than two keys a bucket, and stores the new buckets.
+/// Doubles a table that has more than two keys for each bucket, and stores the new buckets.
 fn grow(table: &mut Table) {
     let size = table.size();
     if let Double::Doubled(doubled) = table.double(u64::from(size)) {

@@ -1,4 +1,4 @@
-//! What a table does at the place of a sort key.
+//! Operations of a table at the position of a sort key.
 ghost use Rattle.std.specs.Prelude.{IfSome, IsTrue};
 ghost use Rattle.node_list.specs.Nodes.{IsRegularAt};
 ghost use Rattle.list_steps.specs.Found.{IsPlaced};
@@ -8,7 +8,7 @@ use list_steps::{Cursor, link_at, look, mark_at, seek, swap_at};
 use node_list::{Kind, NodeList, NodeRef, SpareFault};
 use split_key::SortKey;
 
-/// Whether a dummy that is before the sort key is linked here.
+/// Whether a dummy that is before the sort key is linked at this place.
 fn is_start(list: &NodeList, from: NodeRef, at: SortKey) -> bool
     ensures { IsTrue result → IsStart list.now.nodes from at }
 {
@@ -18,7 +18,7 @@ fn is_start(list: &NodeList, from: NodeRef, at: SortKey) -> bool
     }
 }
 
-/// The regular node of the sort key sought, if it is where the cursor is.
+/// The regular node of the sort key sought, if it is at the cursor.
 fn regular_there(list: &NodeList, cursor: &Cursor) -> Option<NodeRef>
     requires { IsPlaced list.now cursor.now }
     ensures { IfSome result (IsRegularAt list.now.nodes) }
@@ -67,7 +67,7 @@ pub(crate) fn value_of(list: &mut NodeList, from: NodeRef, at: SortKey) -> Optio
     }
 }
 
-/// Writes the value of the regular node with this sort key, and answers the one it had.
+/// Writes the value of the regular node with this sort key, and answers the one that it had.
 pub(crate) fn write(list: &mut NodeList, from: NodeRef, at: SortKey, value: u64) -> Option<u64> {
     if !is_start(list, from, at) {
         return None;

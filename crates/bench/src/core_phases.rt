@@ -9,10 +9,10 @@ use std::rt::{Clock, Runtime};
 use txn_files::read_steps;
 use txn_trace::{Answer, Limits, Op, Step, answer_text};
 
-/// At how many keys the steps put that no file names.
+/// The number of keys of the steps, if no file names any.
 const HOT_KEYS: u64 = 64;
 
-/// So many transactions of caller 0, each of one put.
+/// This number of transactions of caller 0, each of one put.
 fn put_steps(alloc: Global, puts: u64) -> Result<Vec<Step>, AllocError> {
     let mut steps = Vec::new(alloc);
     for position in 0..puts {
@@ -28,12 +28,12 @@ fn put_steps(alloc: Global, puts: u64) -> Result<Vec<Step>, AllocError> {
     Ok(steps)
 }
 
-/// The sum goes on with a byte (Fowler, Noll and Vo's hash 1a).
+/// The sum with one more byte (Fowler, Noll and Vo's hash 1a).
 fn sum_with(sum: u64, byte: u8) -> u64 {
     (sum ^ u64::from(byte)).wrapping_mul(0x0100_0000_01b3)
 }
 
-/// A number that differs where the lines of the answers differ, but by chance.
+/// A number that differs if the lines of the answers differ, except by chance.
 fn sum_of(alloc: Global, answers: &[Answer]) -> Result<u64, AllocError> {
     let mut sum = 0xcbf2_9ce4_8422_2325;
     for answer in answers {
@@ -46,8 +46,8 @@ fn sum_of(alloc: Global, answers: &[Answer]) -> Result<u64, AllocError> {
     Ok(sum)
 }
 
-/// Runs the steps on a new core, which is made before the clock starts, and gives the time and the
-/// answers.
+/// Runs the steps on a new core, which is made before the clock starts, and answers the time and
+/// the answers.
 fn run_timed<R: AllocGlobal + Clock>(
     rt: &R,
     limits: Limits,
@@ -85,14 +85,14 @@ fn time_runs<R: AllocGlobal + Clock + Eprint>(
     report(rt, "steps", second, &answers)
 }
 
-/// Times transactions of one put each, at few keys.
+/// Times transactions of one put each, on few keys.
 pub(crate) fn time_puts<R: AllocGlobal + Clock + Eprint>(rt: &R, puts: u64) -> Result<()> {
     let limits = Limits::new(1, 64, 64).map_err(|refusal| anyhow!("refused {refusal}"))?;
     let steps = put_steps(rt.alloc(), puts)?;
     time_runs(rt, limits, &steps)
 }
 
-/// Times the steps of a step file, and before them how the file's bytes are read as steps.
+/// Times the steps of a step file, and before them the reading of the file's bytes as steps.
 pub(crate) fn time_file<R: Runtime + AllocGlobal>(rt: &R, file: &str) -> Result<()> {
     let bytes = fs::read(rt, file).context("the step file")?;
     let watch = Stopwatch::start(rt)?;

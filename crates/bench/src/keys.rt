@@ -4,7 +4,7 @@ use split_key::Key;
 /// The numbers of keys are below 2^63.
 const LOW_BITS: u64 = 0x7fff_ffff_ffff_ffff;
 
-/// The key at a position of the order. No key comes twice: a product with an odd number modulo a
+/// The key at a position of the order. No key occurs twice: a product with an odd number modulo a
 /// power of two can be undone, and so can the exclusive or of a number's lower half with its upper
 /// half.
 pub(crate) fn key_at(position: u64) -> Key {

@@ -1,18 +1,18 @@
-//! Times the nodes and cursors of the split-ordered list, as a table of 65,536 buckets uses them,
-//! the table itself beside other maps, the core, the shared map, the striped map, and the stripes as
+//! Times the nodes and cursors of the split-ordered list, as a table of 65,536 buckets uses them;
+//! the table beside other maps; the core; the shared map; the striped map; and the stripes as
 //! atomic words.
 //!
-//! Each phase writes one line on standard error: what it did, how many operations, how long, and
-//! the sum of what they answered, by which another program that does the same can be compared; the
+//! Each phase writes one line on standard error: what it did, the number of operations, the time,
+//! and the sum of their answers, by which another program that does the same can be compared; the
 //! words write how many takes were granted. Nothing is written on standard output.
 //!
-//! The first argument is `nodes`, `maps`, `core`, `shared`, `words` or `striped`, for that part
-//! alone, or `all`, as if there were none. The second is how many keys there are, of the words how
-//! many takes each thread has; without one there are few. The third is of `core` alone a step file,
-//! whose steps the core then takes in place of puts at few keys, of `shared` alone a script file,
-//! whose scripts are run in place of puts at few keys, and of `words` alone how many threads there
-//! are, up to 64; without one there are two. After `striped` come how many threads, keys,
-//! transactions a thread and stripes there are, as many of these as one likes.
+//! The first argument is `nodes`, `maps`, `core`, `shared`, `words` or `striped`, for only that
+//! part, or `all`, which is the default. The second is the number of keys, or for the words the
+//! number of takes of each thread; without it there are few. The third is, for `core`, a step file,
+//! whose steps the core takes in place of puts on few keys; for `shared`, a script file, whose
+//! scripts are run in place of puts on few keys; and for `words` the number of threads, up to 64,
+//! or two without it. `striped` is followed by the numbers of threads, keys, transactions of each
+//! thread and stripes, or by the first few of these.
 #![tactic(auto)]
 
 mod any_map;
@@ -36,16 +36,16 @@ use std::env;
 use striped::{STRIPES, time_striped};
 use words::time_words;
 
-/// How many keys, mixed operations and takes there are if no argument says how many.
+/// The number of keys, of mixed operations and of takes, if no argument gives it.
 const FEW: u64 = 10_000;
 
-/// How many mixed operations there are if one says how many keys.
+/// The number of mixed operations, if an argument gives the number of keys.
 const MANY: u64 = 1_000_000;
 
-/// How many threads take and give, or run transactions, if no argument says how many.
+/// The number of threads that take and give, or that run transactions, if no argument gives it.
 const THREADS: u64 = 2;
 
-/// How many keys the transactions have, if no argument says how many.
+/// The number of keys of the transactions, if no argument gives it.
 const KEYS: u64 = 1000;
 
 fn main(rt: HostRuntime) -> Result<()> {

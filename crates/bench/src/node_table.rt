@@ -5,7 +5,7 @@ use node_list::{Kind, NodeList, NodeRef, SpareFault};
 use split_key::{Key, SortKey, bucket_of, parent};
 use std::alloc::Global;
 
-/// How many buckets there are.
+/// The number of buckets.
 pub(crate) const SIZE: u32 = 65_536;
 
 /// A list of nodes, and the dummy of each bucket.
@@ -40,7 +40,7 @@ impl NodeTable {
         }
     }
 
-    /// Puts a key in that is not there, and says whether it did.
+    /// Puts in a key that is not there, and says whether it did.
     pub(crate) fn insert(&mut self, key: Key, value: u64) -> Result<bool, SpareFault> {
         let from = self.dummy_of(key);
         let node = put(
@@ -59,7 +59,7 @@ impl NodeTable {
         value_of(&mut self.list, from, SortKey::regular(key))
     }
 
-    /// Writes the value of a key that is there, and answers the one it had.
+    /// Writes the value of a key that is there, and answers the one that it had.
     pub(crate) fn swap(&mut self, key: Key, value: u64) -> Option<u64> {
         let from = self.dummy_of(key);
         write(&mut self.list, from, SortKey::regular(key), value)

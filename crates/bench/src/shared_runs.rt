@@ -1,4 +1,4 @@
-//! Times runs of scripts on a shared map, each worker in a thread of its own.
+//! Times runs of scripts on a shared map, each worker in its own thread.
 use crate::keys::number_at;
 use crate::stopwatch::Stopwatch;
 use anyhow::{Context, Result, anyhow, ensure};
@@ -11,13 +11,13 @@ use thread_runs::{Open, run_scripts};
 use txn_files::read_scripts;
 use txn_trace::{Action, Entry, Limits, Op, Script};
 
-/// At how many keys the scripts put that no file names.
+/// The number of keys of the scripts, if no file names any.
 const HOT_KEYS: u64 = 64;
 
 /// How often a script is tried again at most.
 const TRIES: u64 = 1000;
 
-/// So many scripts, of one put each.
+/// This number of scripts, each of one put.
 fn put_scripts(alloc: Global, puts: u64) -> Result<Vec<Script>, AllocError> {
     let mut scripts = Vec::new(alloc);
     for position in 0..puts {
@@ -29,7 +29,7 @@ fn put_scripts(alloc: Global, puts: u64) -> Result<Vec<Script>, AllocError> {
     Ok(scripts)
 }
 
-/// How many transactions a history commits.
+/// The number of transactions that a history commits.
 fn commits_in(trace: &[Entry]) -> u64 {
     let mut commits = 0u64;
     for entry in trace {
@@ -40,7 +40,8 @@ fn commits_in(trace: &[Entry]) -> u64 {
     commits
 }
 
-/// Runs the scripts, and writes how long that took, map and threads included, and how many commit.
+/// Runs the scripts, and writes the time, including that of the map and the threads, and the number
+/// of commits.
 fn time_run<R: Runtime + AllocGlobal + Threads + Wait + Sync>(
     rt: &R,
     limits: Limits,
@@ -59,7 +60,7 @@ fn time_run<R: Runtime + AllocGlobal + Threads + Wait + Sync>(
     Ok(())
 }
 
-/// Times scripts of one put each by two workers, at few keys.
+/// Times scripts of one put each by two workers, on few keys.
 pub(crate) fn time_put_scripts<R: Runtime + AllocGlobal + Threads + Wait + Sync>(
     rt: &R,
     puts: u64,
@@ -69,7 +70,7 @@ pub(crate) fn time_put_scripts<R: Runtime + AllocGlobal + Threads + Wait + Sync>
     time_run(rt, limits, &scripts, TRIES)
 }
 
-/// Times the scripts of a script file, without the reading of it.
+/// Times the scripts of a script file, without reading it.
 pub(crate) fn time_script_file<R: Runtime + AllocGlobal + Threads + Wait + Sync>(
     rt: &R,
     file: &str,

@@ -1,6 +1,7 @@
-//! Times transactions on a striped map, each thread with a caller of its own.
+//! Times transactions on a striped map, with a caller for each thread.
 //!
 //! A transaction is four operations, drawn by a linear congruence: half puts, a quarter takes, a
+//! quarter gets. Each tenth aborts. One that meets a stripe that another holds is tried again.
 //! quarter gets. Each tenth aborts. One that meets a stripe which another holds is tried again.
 use anyhow::{Result, anyhow, ensure};
 use std::alloc::{AllocError, Global};
@@ -11,7 +12,7 @@ use std::time::{Clock, CpuClock, Instant};
 use striped_map::{Caller, Stop, open_map};
 use txn_trace::{Op, Reply};
 
-/// How many stripes there are, if no argument says how many.
+/// The number of stripes, if no argument gives it.
 pub(crate) const STRIPES: u64 = 1024;
 
 /// Numbers that look random, the same as those of `docs/speed/striped.rs`.
@@ -30,7 +31,7 @@ impl Dice {
         (self.state >> 33).checked_rem(sides).unwrap_or(0)
     }
 
-    /// An operation on one of so many keys.
+    /// An operation on one of this number of keys.
     fn op(&mut self, keys: u64) -> Op {
         let key = self.roll(keys);
         match self.roll(4) {
@@ -41,8 +42,8 @@ impl Dice {
     }
 }
 
-/// A thread's caller, and what came of its transactions. No two of them, side by side in a list,
-/// share a line of cache.
+/// A thread's caller, and the outcomes of its transactions. Two of them, side by side in a list,
+/// share no cache line.
 #[derive(Drop)]
 struct Worker {
     caller: Caller,
@@ -64,7 +65,7 @@ fn operate(caller: &mut Caller, op: Op) -> std::result::Result<Reply, Stop> {
     }
 }
 
-/// One transaction of these operations, and the sum of what they answered.
+/// One transaction of these operations, and the sum of their answers.
 fn transact(caller: &mut Caller, ops: &[Op; 4], aborts: bool) -> std::result::Result<u64, Stop> {
     let mut sum = 0u64;
     caller.begin()?;
@@ -101,7 +102,7 @@ impl Worker {
         }
     }
 
-    /// Draws and does so many transactions.
+    /// Draws and runs this number of transactions.
     fn run(&mut self, keys: u64, transactions: u64) {
         for number in 0..transactions {
             let ops = [
@@ -114,7 +115,7 @@ impl Worker {
         }
     }
 
-    /// Puts two of three keys.
+    /// Puts two thirds of the keys.
     fn fill(&mut self, keys: u64) {
         for key in 0..keys {
             if key % 3 != 0 && self.caller.begin().is_ok() {
@@ -125,7 +126,7 @@ impl Worker {
     }
 }
 
-/// A worker of each caller.
+/// A worker for each caller.
 fn workers_of(alloc: Global, callers: Vec<Caller>) -> std::result::Result<Vec<Worker>, AllocError> {
     let mut workers = Vec::with_capacity(alloc, callers.len())?;
     for (place, caller) in callers.into_iter().enumerate() {
@@ -144,7 +145,7 @@ fn workers_of(alloc: Global, callers: Vec<Caller>) -> std::result::Result<Vec<Wo
     Ok(workers)
 }
 
-/// Each worker does so many transactions, in a thread of its own.
+/// Each worker runs this number of transactions, in its own thread.
 fn run_all<R: Threads + Wait + Sync>(rt: &R, workers: &mut [Worker], keys: u64, transactions: u64) {
     thread::scope(thread::scope_env(), rt, |scope| {
         for worker in workers {
@@ -153,8 +154,8 @@ fn run_all<R: Threads + Wait + Sync>(rt: &R, workers: &mut [Worker], keys: u64, 
     });
 }
 
-/// Writes one line on standard error: how many transactions a second so many threads do, of so many
-/// each, the processor time of one, and what came of them.
+/// Writes one line on standard error: how many transactions a second this number of threads does,
+/// each of them this number, the processor time of one, and the outcomes.
 pub(crate) fn time_striped<R: Threads + Wait + Sync + AllocGlobal + Clock + CpuClock + Eprint>(
     rt: &R,
     threads: u64,

@@ -1,7 +1,7 @@
 //! Times a take and a give of free stripes by their atomic words.
 //!
-//! Each thread takes a stripe and gives it back, over and over. Where the number of threads is a
-//! power of two, no two of them take the same stripe.
+//! Each thread takes a stripe and gives it back, over and over. If the number of threads is a power
+//! of two, no two of them take the same stripe.
 ghost use Rattle.std.specs.Prelude.{◌≡◌, ◌<◌, ◌≤◌, All};
 ghost use Rattle.key_words.specs.Seats.{IsOf, stripes_of};
 ghost use Rattle.bench.specs.Takers.{IsIdle};
@@ -14,14 +14,14 @@ use std::thread;
 use std::thread::Threads;
 use std::time::{Clock, Instant};
 
-/// How many stripes there are.
+/// The number of stripes.
 const STRIPES: u64 = 4096;
 
-/// How far a thread's next stripe is from its last, for each thread that there is: far enough that
-/// the two do not lie side by side.
+/// The distance of a thread's next stripe from its last, for each thread: far enough that the two
+/// are not side by side.
 const STRIDE: u64 = 1021;
 
-/// A thread's seat at the words. No two of them, side by side in a list, share a line of cache.
+/// A thread's seat at the words. Two of them, side by side in a list, share no cache line.
 #[derive(Drop)]
 struct Taker {
     words: Arc<KeyWords, Global>,
@@ -34,8 +34,8 @@ struct Taker {
 }
 
 impl Taker {
-    /// Takes so many stripes and gives each back, each `step` after the last, and counts those that
-    /// were free.
+    /// Takes this number of stripes and gives each back, each `step` after the last, and counts
+    /// those that were free.
     fn run(&mut self, takes: u64, step: u64) -> std::result::Result<(), AllocError> {
         let mut stripe = self.first % STRIPES;
         for _ in 0..takes {
@@ -49,7 +49,7 @@ impl Taker {
     }
 }
 
-/// Makes a taker of each seat, the last first.
+/// Makes a taker for each seat, the last one first.
 fn seat_all(
     alloc: Global,
     words: &Arc<KeyWords, Global>,
@@ -72,7 +72,7 @@ fn seat_all(
     seat_all(alloc, words, seats, takers)
 }
 
-/// So many takers at the same words.
+/// This number of takers at the same words.
 fn takers_of(alloc: Global, count: usize) -> Result<Vec<Taker>>
     requires { (0 < count) × (count ≤ 64) }
 {
@@ -88,7 +88,7 @@ fn takers_of(alloc: Global, count: usize) -> Result<Vec<Taker>>
     Ok(takers)
 }
 
-/// Each taker takes so often, in a thread of its own.
+/// Each taker does its takes, in its own thread.
 fn run_all<R: Threads + Wait + Sync>(rt: &R, takers: &mut [Taker], takes: u64) {
     let step = STRIDE.wrapping_mul(takers.len() as u64);
     thread::scope(thread::scope_env(), rt, |scope| {
@@ -98,8 +98,8 @@ fn run_all<R: Threads + Wait + Sync>(rt: &R, takers: &mut [Taker], takes: u64) {
     });
 }
 
-/// Writes one line on standard error: how long a take and a give took together, with so many
-/// threads, up to 64, of so many takes each, and how many takes were granted.
+/// Writes one line on standard error: the time of a take and a give together, with this number of
+/// threads, up to 64, of this number of takes each, and how many takes were granted.
 pub(crate) fn time_words<R: Threads + Wait + Sync + AllocGlobal + Clock + Eprint>(
     rt: &R,
     threads: u64,

@@ -1,5 +1,5 @@
-//! The program `boostmap`. What it does with its words, its file and its outputs, and the status
-//! that it ends with, is all decided by `boostmap_program::run`; nothing is decided here.
+//! The program `boostmap`. `boostmap_program::run` decides what it does with its words, its file
+//! and its outputs, and its exit status; nothing is decided here.
 #![tactic(auto)]
 
 use boostmap_program::run;

@@ -1,4 +1,4 @@
--- What standard output gets by a run of the program.
+-- Standard output after a run of the program.
 use Rattle.std.proofs.Common.{◌≡◌, ◌⊎◌, inl, inr, ℕ, List, Option, Some, None, Ok, Err, refl, sym, ap, subst, true}
 use Rattle.std.specs.Prelude.{IfSome, is_some}
 use Rattle.std.specs.Result.{IsErrAnd}
@@ -20,12 +20,13 @@ Keeps-same : (known : Option (List ℕ)) → Keeps known known
 Keeps-same None = tt
 Keeps-same (Some xs) = refl
 
--- What holds of the words holds of the words that are known.
+-- A statement about the words holds of the words that are known.
 of_known : (spoken : Option (List (List ℕ))) (words : List (List ℕ)) (P : List (List ℕ) → Type 0) → IfSome spoken (λ known. words ≡ known) → P words → IfSome spoken P
 of_known None words P same holds = tt
 of_known (Some known) words P same holds = subst P same holds
 
--- Want of memory, and words or a file that are not there, leave standard output as it was.
+-- A refusal of memory, words that cannot be read and a file that cannot be opened leave standard
+-- output unchanged.
 memory_or_is : (kind : ErrorKind) (other : Fault) → (memory_or kind other ≡ faults.NoMemory) ⊎ (memory_or kind other ≡ other)
 memory_or_is OutOfMemory other = inl refl
 memory_or_is kind other = inr refl
@@ -91,7 +92,7 @@ does-known : (call : Call) (known bytes old new : Option (List ℕ)) (outcome : 
 does-known call None bytes old new outcome same h = does-unknown call bytes old new outcome h
 does-known call (Some xs) bytes old new outcome same h = subst (λ (read : Option (List ℕ)). Does call read old new outcome) same h
 
--- What a command does with an open file, it does with the bytes that the file of that name is known to have.
+-- A command treats an open file as it treats the bytes that the file of that name is known to have.
 pub runs_call : (spoken : Option (List (List ℕ))) (words : List (List ℕ)) (bytes_of : List ℕ → Option (List ℕ)) (call : Call) (name : List ℕ) (bytes old new : Option (List ℕ)) (outcome : Outcome)
     → IfSome spoken (λ known. words ≡ known) → asked words ≡ Some (asked_of call) → name ≡ file_of call → IfSome (bytes_of name) (λ xs. bytes ≡ Some xs) → Does call bytes old new outcome
     → Runs spoken bytes_of old new outcome

@@ -1,4 +1,4 @@
--- The text of a run's history is a text of the scripts that the file has.
+-- The text of a run's history is a text of the file's scripts.
 use Rattle.std.proofs.Common.{◌≡◌, ℕ, ◌≤◌, Bool, true, false, ◌&&◌, nat_le, refl, List, [], ◌∷◌, ◌++◌, Result, Ok, Err, ap, subst, sym, ◌∙◌, if◌then◌else◌}
 use Rattle.std.specs.List.{list_all}
 use Rattle.std.proofs.lemmas.Bool.{leb-true}
@@ -17,7 +17,7 @@ use Rattle.thread_runs.specs.Accounts.{Outcome}
 use Rattle.thread_runs.specs.Runs.{HasRunScripts}
 use Rattle.boostmap_program.specs.Threaded.{IsThreadedOf}
 
--- What a run has come to, where it was given the parts of a file's work.
+-- The result of a run on the parts of a file's work.
 pub threaded_is : (bytes : List ℕ) (work : Work) (limits : Sizes) (workers tries stripes : ℕ) (scripts : List (List Action)) (outcomes : List Outcome) (trace : List Entry) (text whole : List ℕ) → scripts_of bytes ≡ Ok work
     → limits ≡ work.sizes → workers ≡ limits.callers → tries ≡ work.tries → stripes ≡ limits.stripes → scripts ≡ work.scripts
     → HasRunScripts limits workers tries scripts outcomes trace → text ≡ text_of_history 3 stripes trace → whole ≡ text ++ 10 ∷ [] → IsThreadedOf bytes whole
@@ -67,6 +67,6 @@ few_in : (file : Result (ℕ × List ℕ × List (List Action)) FileFault) (work
 few_in (Err fault) work is = absurd (cc is)
 few_in (Ok f) work is = few_from f.0 f.1 f.2 work is
 
--- A script file has no more tries than it may have.
+-- A script file has at most the greatest number of tries.
 pub few_tries : (bytes : List ℕ) (work : Work) → scripts_of bytes ≡ Ok work → work.tries ≤ 1000
 few_tries bytes work is = few_in (contents script_file bytes) work is

@@ -1,4 +1,4 @@
--- What the program does with the words of a call, and how it ends.
+-- The effect of the program, from the words of its call, and its end.
 use Rattle.std.specs.Prelude.{◌≡◌, ◌⊎◌, ℕ, Bool, true, false, List, Option, Some, None, is_some, IfSome, Result, Ok, Err}
 use Rattle.std.specs.declared.io.ErrorKind.{ErrorKind}
 use Rattle.std.specs.declared.io.ErrorKind.TheVariants.{OutOfMemory}
@@ -15,11 +15,11 @@ use Rattle.command_line.specs.declared.words.Call.{Call}
 use Rattle.command_line.specs.declared.words.Call.TheVariants.{Replay, Run, Mix, Check}
 use Rattle.command_line.specs.Words.{asked, asked_of, file_of}
 
--- What a run comes to: whether all is well, or a fault.
+-- The outcome of a run: whether all is well, or a fault.
 abbrev pub Outcome : Type 0
 Outcome = Result Bool Fault
 
--- What standard output gets where the command of a call runs on a file of these bytes.
+-- Standard output after the command of a call runs on a file of these bytes.
 abbrev pub Does : Call → Option (List ℕ) → Option (List ℕ) → Option (List ℕ) → Outcome → Type 0
 Does (Replay file) bytes old new (Ok well) = Writes IsReportOf bytes old new × (well ≡ true)
 Does (Replay file) bytes old new (Err fault) = Leaves IsReportOf IsNoStepFile bytes old new fault
@@ -33,8 +33,8 @@ Does (Check file) bytes old new (Ok well) = Writes (IsJudgement well) bytes old 
 Does (Check file) bytes old new (Err fault) =
     Leaves IsJudgementOf IsNoHistoryFile bytes old new fault
 
--- No command ran: the words are no call, their file was not opened, or memory was refused. What is
--- said of the words holds where they are known.
+-- No command ran: the words are no call, their file was not opened, or memory was refused. The
+-- statement about the words holds if they are known.
 abbrev pub RunsNone : Option (List (List ℕ)) → Option (List ℕ) → Option (List ℕ) → Outcome → Type 0
 RunsNone spoken old new (Err faults.Usage) =
     Keeps old new × IfSome spoken (λ words. asked words ≡ None)
@@ -47,20 +47,20 @@ RunsNone spoken old new (Err faults.Write) = ⊥
 RunsNone spoken old new (Err faults.OutOfStep) = ⊥
 RunsNone spoken old new (Ok well) = ⊥
 
--- A command ran on the bytes of its own file: the one that the words ask for.
+-- A command ran on the bytes of its file: the command that the words ask for.
 pub record RunsOne (spoken : Option (List (List ℕ))) (bytes_of : List ℕ → Option (List ℕ))
     (old new : Option (List ℕ)) (outcome : Outcome) : Type 0 where
   pub call : Call
   pub spells : IfSome spoken (λ words. asked words ≡ Some (asked_of call))
   pub does : Does call (bytes_of (file_of call)) old new outcome
 
--- What a run comes to, by its words and the files' bytes, where they are known.
+-- The outcome of a run, from its words and the files' bytes, if they are known.
 abbrev pub Runs : Option (List (List ℕ)) → (List ℕ → Option (List ℕ)) → Option (List ℕ)
     → Option (List ℕ) → Outcome → Type 0
 Runs spoken bytes_of old new outcome =
     RunsOne spoken bytes_of old new outcome ⊎ RunsNone spoken old new outcome
 
--- Want of memory where an error of the system is that, else the other fault.
+-- The lack of memory if an error of the system is that, else the other fault.
 abbrev pub memory_or : ErrorKind → Fault → Fault
 memory_or OutOfMemory other = faults.NoMemory
 memory_or kind other = other
@@ -71,8 +71,8 @@ status_after (Ok true) = 0
 status_after (Ok false) = 1
 status_after (Err fault) = status_of fault
 
--- What standard error gets: the line of a fault, unless it did not take all of it, and else
--- nothing.
+-- Standard error after a run: the line of a fault, unless standard error did not take all of it,
+-- and nothing if there was none.
 abbrev pub Tells : Option (List ℕ) → Option (List ℕ) → Bool → Outcome → Type 0
 Tells old new is_told (Ok well) = Keeps old new × (is_told ≡ true)
 Tells old new is_told (Err fault) = is_told ≡ true → Appends old new (line (message_of fault))

@@ -1,4 +1,4 @@
--- The history of a script file whose workers have threads of their own.
+-- The history of a script file whose workers run in threads.
 use Rattle.std.specs.Prelude.{◌≡◌, ℕ, List, Option, Ok}
 use Rattle.std.specs.Io.KnownBytes.{Keeps}
 use Rattle.txn_trace.specs.declared.entry.Entry.{Entry}
@@ -23,19 +23,20 @@ pub record IsThreaded (work : Work) (text : List ℕ) : Type 0 where
   pub run : HasRunScripts work.sizes work.sizes.callers work.tries work.scripts outcomes trace
   pub whole : text ≡ line (text_of_history 3 work.sizes.stripes trace)
 
--- The same of the scripts that the bytes are.
+-- The outcomes and the history of a run of the scripts that these bytes are, and the history's
+-- text.
 abbrev pub IsThreadedOf : List ℕ → List ℕ → Type 0
 IsThreadedOf bytes text = (work : Work) × (scripts_of bytes ≡ Ok work) × IsThreaded work text
 
--- Why bytes have no such text: as they have none that is mixed, or for want of a thread, or since
--- the history is not what the workers saw.
+-- The reason why bytes have no such text: the same as for a mixed run, or a thread was not started,
+-- or the history is not what the workers saw.
 abbrev pub HasNoneThreaded : List ℕ → Fault → Type 0
 HasNoneThreaded bytes faults.NoThread = Unit {0}
 HasNoneThreaded bytes faults.OutOfStep = Unit {0}
 HasNoneThreaded bytes fault = HasNone IsNoScriptFile bytes fault
 
--- What was written at a fault: nothing for want of a thread, or where the history is not what the
--- workers saw.
+-- The output at a fault: nothing was written if a thread was not started, or if the history is not
+-- what the workers saw.
 abbrev pub LeavesThreaded : Option (List ℕ) → Option (List ℕ) → Option (List ℕ) → Fault → Type 0
 LeavesThreaded remaining old new faults.NoThread = Keeps old new
 LeavesThreaded remaining old new faults.OutOfStep = Keeps old new

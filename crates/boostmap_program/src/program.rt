@@ -15,16 +15,16 @@ use std::io::{Read, Write};
 use std::sync::Wait;
 use std::thread::Threads;
 
-/// How a run of the program ended.
+/// The end of a run of the program.
 #[derive(Clone, Copy, Debug, PartialEq, Eq)]
 pub struct Ending {
-    /// The exit status: 0 where all is well, 1 for an illegal history, else that of the fault.
+    /// The exit status: 0 if all is well, 1 for an illegal history, else that of the fault.
     pub status: u8,
-    /// Whether standard error took all that there was to say.
+    /// Whether standard error took the whole message.
     pub is_told: bool,
 }
 
-/// Want of memory if the error is that, else the other fault.
+/// The lack of memory if the error is that, else the other fault.
 fn memory_or(error: &io::Error, other: Fault) -> Fault
     ensures { result ≡ memory_or (error_kind error.now) other }
 {
@@ -34,8 +34,8 @@ fn memory_or(error: &io::Error, other: Fault) -> Fault
     }
 }
 
-/// Runs the engine of the call's command on its file, which is open. The answer is whether all is
-/// well: only of an illegal history it is not.
+/// Runs the engine of the call's command on its open file. Answers whether all is well: it is
+/// unless a history is illegal.
 fn run_engine<T: Threads + Wait + Sync, R: Read, W: Write>(
     rt: &T,
     alloc: Global,
@@ -85,7 +85,7 @@ fn run_words<T: Threads + Wait + Sync, S: System, W: Write>(
     run_engine(rt, alloc, call, &mut input, output)
 }
 
-/// The exit status after a run that came to this. Constant time.
+/// The exit status after a run with this outcome.
 fn status_of(outcome: &Result<bool, Fault>) -> u8
     ensures { result ≡ status_after outcome.now }
 {
@@ -98,8 +98,8 @@ fn status_of(outcome: &Result<bool, Fault>) -> u8
 
 /// Does all that the program does: reads the words of the call, opens the file that they name, runs
 /// the engine of the command on it, which writes to `output`, and writes the line of a fault to
-/// `errors`. A line that `errors` does not take changes nothing else. Only the command `run` starts
-/// threads, by `rt`.
+/// `errors`. If `errors` does not take the line, nothing else changes. Only the command `run`
+/// starts threads, by `rt`.
 ///
 /// # Cost
 ///

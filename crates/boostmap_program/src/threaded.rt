@@ -1,6 +1,6 @@
-//! The engine of `run`: each worker of a script file runs its scripts in a thread of its own, and
-//! the history is printed. It stands apart from the other engines, since it alone starts threads
-//! and waits: so they do not wait for the proofs of the map of threads.
+//! The engine of `run`: each worker of a script file runs its scripts in its own thread, and the
+//! history is printed. The other engines are in a crate below, since only this one starts threads
+//! and waits: so they do not depend on the proofs of the map of threads.
 ghost use Rattle.std.specs.Prelude.{◌≡◌, OnOk, IfOk, IfErr, string_bytes};
 ghost use Rattle.boostmap_engine.specs.Written.{Writes};
 ghost use Rattle.boostmap_program.specs.Threaded.{HasNoneThreaded, IsThreadedOf, LeavesThreaded, of_run};
@@ -17,9 +17,9 @@ use txn_trace::Refusal;
 /// The version of a history file of a run.
 const VERSION: u64 = 3;
 
-/// The text of a history of the scripts that the bytes are, each worker in a thread of its own,
-/// with its line feed. The history has version 3, whatever version its script file has: a Busy
-/// entry names a caller that has begun a transaction, and may have ended it.
+/// The text of a history of the scripts that the bytes are, each worker in its own thread, with its
+/// line feed. The history has version 3, whatever version its script file has: a Busy entry names a
+/// caller that has begun a transaction, and may have ended it.
 ///
 /// # Errors
 ///
@@ -29,8 +29,8 @@ const VERSION: u64 = 3;
 ///
 /// # Cost
 ///
-/// What the calls cost, and time in proportion to the bytes and, for each worker, to the history;
-/// memory in proportion to the bytes and the text, besides what the calls take.
+/// That of the calls, and time in proportion to the bytes and, for each worker, to the history;
+/// memory in proportion to the bytes and the text, besides that of the calls.
 fn run_in_threads<R: Threads + Wait + Sync>(
     rt: &R,
     alloc: Global,
@@ -72,17 +72,18 @@ fn fault_of(refusal: Refusal) -> Fault
     }
 }
 
-/// Reads a script file to its end, runs its scripts on one map, each worker in a thread of its own,
-/// and writes the history as one line of compact JSON, which ends with a line feed, and nothing
-/// else. The order between workers is open, so two runs of a file may write different histories;
-/// each is legal.
+/// Reads a script file to its end, runs its scripts on one map, each worker in its own thread, and
+/// writes the history as one line of compact JSON, which ends with a line feed, and nothing else.
+/// The order between workers is open, so two runs of a file may write different histories; each is
+/// legal.
 ///
-/// At most 16,777,217 bytes are read, and no call of the reader or the writer is made again after
-/// it failed.
+/// At most 16,777,217 bytes are read, and no call of the reader or the writer is repeated after it
+/// failed.
 ///
 /// # Errors
 ///
-/// At each of them but `Write` nothing is written.
+/// Only `Write` may come after a part of the line was written; before each other error nothing is
+/// written.
 ///
 /// - `Read` if a read fails.
 /// - `Input` if the file is refused.
@@ -90,12 +91,12 @@ fn fault_of(refusal: Refusal) -> Fault
 ///   script as refused.
 /// - `NoThread` if a thread could not be started; the workers that were started finish.
 /// - `OutOfStep` if the history is not what the workers saw.
-/// - `Write` if a write fails or takes nothing: a proper beginning of the line is written.
+/// `Write` if a write fails or takes nothing: a proper prefix of the line is written.
 ///
 /// # Cost
 ///
-/// What the calls cost, and time in proportion to the file and, for each worker, to the history;
-/// memory in proportion to the file and the history, besides what the calls take.
+/// That of the calls, and time in proportion to the file and, for each worker, to the history;
+/// memory in proportion to the file and the history, besides that of the calls.
 pub fn run<T: Threads + Wait + Sync, R: Read, W: Write>(
     rt: &T,
     alloc: Global,

@@ -1,4 +1,4 @@
--- What the words ask for, by what `clap` makes of them.
+-- The call of a command line, from the result of `clap`.
 use Rattle.std.proofs.Common.{◌≡◌, ◌⊎◌, inl, inr, true, List, [], ◌∷◌, Option, Some, None, refl, sym, ap, ap₂, ◌∙◌}
 use Rattle.std.specs.Prelude.{IfOk, IfErr, option_map, option_and_then}
 use Rattle.std.specs.Option.{ok_or}
@@ -23,7 +23,7 @@ unless-fault : (kind : ErrorKind) (kinds : Kinds) (found : Option Asked) → IsA
 unless-fault kind [] found none = absurd none
 unless-fault kind (first ∷ kinds) found among = refl
 
--- An error that is no want of memory comes of words that are no call.
+-- An error other than that of memory means that the words are no call.
 pub refused : (app : App) (words : List Text) (error : Error) → app ≡ command_line → (is_simple_and_free app ≡ true → HasKind (fault_of app words) error) → (kind_of error ≡ OutOfMemory → ⊥)
     → asked words ≡ None
 refused app words error same fails other = elim (fails (ap is_simple_and_free same ∙ simple_and_free)) [
@@ -32,7 +32,7 @@ refused app words error same fails other = elim (fails (ap is_simple_and_free sa
       ∙ unless-fault (kind_of error) (fault_of app words) _ among
 ]
 
--- A parse that passes finds what is asked for.
+-- A parse that succeeds finds the call that the words ask for.
 pub found : (app : App) (words : List Text) (met : Option (Text × List Row)) → app ≡ command_line → (is_simple_and_free app ≡ true → fault_of app words ≡ []) → (is_simple app ≡ true → met ≡ subcommand_of app words)
     → asked words ≡ option_and_then (λ (found : Text × List Row). asked_in found.0 found.1) met
 found app words met same passes meets =
@@ -52,7 +52,7 @@ together name_of rows_in (Some b) name rows named is =
     let r : rows ≡ rows_in b = cc is in
     ap₂ (λ (x : Text) (y : List Row). Some (x, y)) (sym n) (sym r)
 
--- The answer of a call that was looked for.
+-- The answer for a call that was looked for.
 pub answered : (words : List Text) (looked : Option Call) → asked words ≡ option_map asked_of looked
     → IfOk (ok_or looked Usage) (λ call. asked words ≡ Some (asked_of call)) × IfErr (ok_or looked Usage) (λ fault. (fault ≡ NoMemory) ⊎ ((fault ≡ Usage) × (asked words ≡ None)))
 answered words (Some call) is = (is, tt)

@@ -1,4 +1,4 @@
--- What building a command line of `clap` makes.
+-- The command line that `clap` builds.
 use Rattle.std.proofs.Common.{ap, ap₂, ◌∙◌}
 use Rattle.std.proofs.lemmas.Bool.{or_from}
 use Rattle.clap.specs.declared.builder.command.Command.{Command}

@@ -1,4 +1,4 @@
--- The seed that a word spells.
+-- The seed that a word writes.
 use Rattle.std.proofs.Common.{◌≡◌, ℕ, ◌<◌, ◌^◌, ◌&&◌, Bool, true, List, [], ◌∷◌, length, Option, Some, None, Result, Ok, Err, refl, sym, ap, subst, ◌∙◌, drop, cond}
 use Rattle.std.specs.Prelude.{if◌then◌else◌, nat_lt, slice_get}
 use Rattle.std.specs.List.{list_all}
@@ -39,7 +39,7 @@ parsed {E} word r plain parses = by_cases r (subst (λ ds. OkIff r (Fits ds) (di
     by_cases (Ok x) given = ap Some given.1 ∙ sym (ap seed_if (fits_to word given.0))
     by_cases (Err e) not_so = sym (ap seed_if (false_from_ne_true _ (λ is. not_so (fits_from word is))))
 
--- A word that does not begin with a plus has none to leave out.
+-- A word that does not begin with a plus has none to drop.
 pub no_plus : (word : List ℕ) (first : Option ℕ) → first ≡ slice_get word 0 → (first ≡ Some 43 → ⊥) → without_leading_plus word ≡ word
 no_plus [] first is other = refl
 no_plus (c ∷ cs) first is other =

@@ -1,4 +1,4 @@
--- What is asked for by words that are written out: the rows of the usage, and words that are no call.
+-- Worked command lines: the rows of the usage, and words that are no call.
 use Rattle.std.proofs.Common.{◌≡◌, List, [], ◌∷◌, Some, None, codes, refl}
 use Rattle.clap.specs.Words.{Text}
 use Rattle.clap.proofs.OnLiterals.{clap_on_literals}

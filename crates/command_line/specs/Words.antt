@@ -1,4 +1,4 @@
--- Which call the words of a command line spell, by the rules of `clap`.
+-- The call that the words of a command line spell, by the rules of `clap`.
 use Rattle.std.specs.Prelude.{◌≡◌, ℕ, ◌^◌, ◌&&◌, Bool, true, false, List, [], ◌∷◌, codes, length}
 use Rattle.std.specs.Prelude.{Option, Some, None, if◌then◌else◌, nat_lt, option_map}
 use Rattle.std.specs.Prelude.{option_and_then}
@@ -15,7 +15,7 @@ use Rattle.clap.specs.Simple.{on_top}
 use Rattle.command_line.specs.declared.words.Call.{Call}
 use Rattle.command_line.specs.declared.words.Call.TheVariants.{Replay, Run, Mix, Check}
 
--- What a call asks for: the name of its command, the seed of `mix`, and the name of its file.
+-- A call: the name of its command, the seed of `mix`, and the name of its file.
 abbrev pub Asked : Type 0
 Asked = Text × Option ℕ × Text
 
@@ -32,8 +32,8 @@ file_of (Run file) = file.now
 file_of (Mix seed file) = file.now
 file_of (Check file) = file.now
 
--- The command line: `replay FILE`, `run FILE`, `mix --seed N FILE` and `check FILE`, each as one
--- of `clap`'s applications, whose own rules say how words are read.
+-- The command line: `replay FILE`, `run FILE`, `mix --seed N FILE` and `check FILE`, each as an
+-- application of `clap`, whose rules say how words are read.
 abbrev pub file_word : Rule
 file_word = record (new_rule (codes "FILE")) { required = true; action = Some Set }
 
@@ -61,7 +61,7 @@ command_line =
     let mix = with_subcommand run seeded.top in
     with_subcommand mix (over_file (codes "check")).top
 
--- A command that is built by `clap` is this one.
+-- This application is the one of a command that `clap` built.
 abbrev pub Has : Command → App → Type 0
 Has command app = (app_of command ≡ app) × ((out-Command command).has_globals ≡ false)
 
@@ -74,25 +74,26 @@ seed_of word =
     let seed = digits_value 10 word in
     if is_numeral word && nat_lt seed (2 ^ 64) then Some seed else None
 
--- What a command with this name asks for, with this seed and this file.
+-- The call of a command with this name, this seed and this file.
 abbrev pub asked_for : Text → Option ℕ → Text → Option Asked
 asked_for name seed file =
     if bytes_eq name (codes "mix") then option_map (λ n. (name, Some n, file)) seed
     else if list_any (bytes_eq name) (codes "replay" ∷ codes "run" ∷ codes "check" ∷ [])
     then Some (name, None, file) else None
 
--- The same, by what was found for its arguments.
+-- The call of a command with this name, from the values found for its arguments.
 abbrev pub asked_in : Text → List Row → Option Asked
 asked_in name rows = option_and_then (λ file.
     asked_for name (option_and_then seed_of (first_of (codes "seed") rows)) file)
     (first_of (codes "FILE") rows)
 
--- What was found, where no fault was.
+-- The call that was found, if there was no fault.
 abbrev pub unless : Kinds → Option Asked → Option Asked
 unless [] found = found
 unless (kind ∷ kinds) found = None
 
--- What the words ask for, of which the first is the program's name; none where they are no call.
+-- The call that the words ask for, or None if they are no call. The first word is the program's
+-- name.
 abbrev pub asked : List Text → Option Asked
 asked words = unless (fault_of command_line words)
     (option_and_then (λ found. asked_in found.0 found.1) (subcommand_of command_line words))

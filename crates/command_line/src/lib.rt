@@ -1,12 +1,12 @@
-//! The command line of `boostmap`, and the system that a call meets.
+//! The command line of `boostmap`, and the system that a call runs on.
 //!
-//! `call_in` says which call the words ask for: `replay FILE`, `run FILE`, `mix --seed N FILE` or
-//! `check FILE`, by the rules of `clap`, or that they are no call (`asked`, `specs/Words.antt`).
-//! `System` is what the program asks of the system that it runs on, words and files; `Host` is the
-//! system behind a runtime.
+//! `call_in` answers the call that the words ask for, `replay FILE`, `run FILE`, `mix --seed N
+//! FILE` or `check FILE`, by the rules of `clap`, or that they are no call (`asked`,
+//! `specs/Words.antt`). `System` is what the program needs of the system that it runs on, words and
+//! files; `Host` is the system behind a runtime.
 //!
-//! It stands apart from the program (`boostmap_program`), which runs the engine of the call: words
-//! need none of the proofs about maps and threads.
+//! It is a crate apart from the program (`boostmap_program`), which runs the engine of the call:
+//! words need none of the proofs about maps and threads.
 #![tactic(auto)]
 
 mod system;

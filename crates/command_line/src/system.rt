@@ -1,5 +1,5 @@
-//! What the program asks of the system that it runs on, and the system behind a runtime. The
-//! toolchain promises nothing of a process's words and files, so nothing is known of `Host`'s.
+//! The system that the program runs on, as a trait, and the one behind a runtime. The toolchain
+//! promises nothing of a process's words and files, so nothing is known of those of `Host`.
 ghost use Rattle.std.specs.Prelude.{◌≡◌, ℕ, List, Option, Some, None, IfOk, IfErr, IfSome, map};
 ghost use Rattle.std.specs.String.{string_bytes};
 ghost use Rattle.std.specs.IoError.{error_kind};
@@ -11,7 +11,7 @@ use std::fs::Files;
 use std::io::Read;
 use std::{env, fs, io};
 
-/// What the program asks of the system that it runs on: the words of its call, and files.
+/// The services that the program needs of its system: the words of its call, and files.
 pub trait System {
     /// A file that is open for reading.
     type Input: Read + Drop;
@@ -22,16 +22,16 @@ pub trait System {
     /// The bytes of the file of a name, if they are known.
     ghost bytes: { Self → List ℕ → Option (List ℕ) } = { λ _ _. None };
 
-    /// The words of the call, of which the first is the program's name.
+    /// The words of the call; the first is the program's name.
     ///
     /// # Errors
     ///
-    /// `OutOfMemory` if memory is refused; another kind, if the words are not known, for a
-    /// word that is no text.
+    /// `OutOfMemory` if memory is refused; another kind if a word is no text, which is excluded if
+    /// the words are known.
     ///
     /// # Cost
     ///
-    /// The system's own.
+    /// That of the system.
     fn words(&self, alloc: Global) -> io::Result<Vec<String>>
         ensures words { IfOk result (λ words. IfSome (spoken self.now)
             (λ known. map string_bytes words.items ≡ known)) }
@@ -42,11 +42,11 @@ pub trait System {
     ///
     /// # Errors
     ///
-    /// `OutOfMemory` if memory is refused; another kind where the file cannot be opened.
+    /// `OutOfMemory` if memory is refused; another kind if the file cannot be opened.
     ///
     /// # Cost
     ///
-    /// The system's own.
+    /// That of the system.
     fn open(&self, name: &str) -> io::Result<Self::Input>
         ensures { IfOk result (λ input. IfSome (bytes self.now name.now)
             (λ known. Self.Input.remaining input ≡ Some known)) };
@@ -59,7 +59,7 @@ pub struct Host<'a, R> {
 }
 
 impl<'a, R> Host<'a, R> {
-    /// The system behind this runtime. Constant time.
+    /// The system behind this runtime.
     pub fn new(rt: &'a R) -> Host<'a, R> {
         Host { rt }
     }

@@ -1,5 +1,5 @@
-//! The command line, by the rules of `clap`: which call the words ask for, or that they ask for
-//! none. Each command is made and added by itself, which keeps the proof of `command` cheap.
+//! The command line, by the rules of `clap`: the call that the words ask for, or that they ask for
+//! none. Each command is made and added separately, which keeps the proof of `command` cheap.
 ghost use Rattle.std.specs.Prelude.{◌≡◌, ◌⊎◌, Some, None, IfOk, IfErr, map, option_map};
 ghost use Rattle.std.specs.String.{string_bytes};
 ghost use Rattle.clap.specs.Words.{found_of, rows_of};
@@ -12,27 +12,27 @@ use clap::error::ErrorKind;
 use clap::{Arg, ArgAction, ArgMatches, Command};
 use std::alloc::{AllocError, Global};
 
-/// What the words of a call ask for.
+/// The call that the words ask for.
 #[derive(Clone, Copy, Debug, PartialEq, Eq)]
 pub enum Call<'a> {
-    /// To run the steps of a file.
+    /// Runs the steps of a file.
     Replay {
         /// The file's name.
         file: &'a str,
     },
-    /// To run the scripts of a file, each worker in a thread of its own.
+    /// Runs the scripts of a file, each worker in its own thread.
     Run {
         /// The file's name.
         file: &'a str,
     },
-    /// To run the scripts of a file, the workers' turns mixed as a seed says.
+    /// Runs the scripts of a file, with the workers' turns mixed as a seed says.
     Mix {
-        /// What starts the generator that draws the turns.
+        /// The seed of the generator that draws the turns.
         seed: u64,
         /// The file's name.
         file: &'a str,
     },
-    /// To judge the history of a file.
+    /// Judges the history of a file.
     Check {
         /// The file's name.
         file: &'a str,
@@ -40,7 +40,7 @@ pub enum Call<'a> {
 }
 
 impl<'a> Call<'a> {
-    /// The name of the call's file. Constant time.
+    /// The name of the call's file.
     pub fn file(self) -> &'a str
         ensures { result.now ≡ file_of self.entry }
     {
@@ -62,7 +62,7 @@ fn command_on_file<'a>(alloc: Global, name: &'a str) -> Result<Command<'a>, Allo
     Command::new(alloc, name).arg(file)
 }
 
-/// The command `mix`, which has a seed as well.
+/// The command `mix`, which also has a seed.
 fn mix_command<'a>(alloc: Global) -> Result<Command<'a>, AllocError>
     ensures { IfOk result (λ command. Has command seeded) }
 {
@@ -74,7 +74,7 @@ fn mix_command<'a>(alloc: Global) -> Result<Command<'a>, AllocError>
 }
 
 /// The command line of the program. Each command is added as soon as it is made, so that little has
-/// to be given back if memory is refused.
+/// to be freed if memory is refused.
 fn command<'a>(alloc: Global) -> Result<Command<'a>, AllocError>
     ensures { IfOk result (λ command. Has command command_line) }
 {
@@ -86,7 +86,7 @@ fn command<'a>(alloc: Global) -> Result<Command<'a>, AllocError>
         .subcommand(command_on_file(alloc, "check")?)
 }
 
-/// The seed that a word spells: one or more decimal digits, of a number below 2^64.
+/// The seed that a word writes: one or more decimal digits, of a number below 2^64.
 fn seed_in(word: &str) -> Option<u64>
     ensures { result ≡ seed_of word.now }
 {
@@ -96,7 +96,7 @@ fn seed_in(word: &str) -> Option<u64>
     }
 }
 
-/// The call of the command of this name, by what was found of its arguments.
+/// The call of the command of this name, from the values found for its arguments.
 fn call_named<'a>(name: &str, found: &ArgMatches<'a>) -> Option<Call<'a>>
     ensures { option_map asked_of result ≡ asked_in name.now (rows_of (found_of found.now)) }
 {
@@ -113,11 +113,11 @@ fn call_named<'a>(name: &str, found: &ArgMatches<'a>) -> Option<Call<'a>>
     }
 }
 
-/// What the words ask for, of which the first is the program's name, by the rules of `clap`.
+/// The call that the words ask for, by the rules of `clap`. The first word is the program's name.
 ///
 /// # Errors
 ///
-/// - `Usage` exactly for words that are no call of the program, a call for help among them.
+/// - `Usage` exactly if the words are no call of the program, also if they ask for help.
 /// - `NoMemory` if memory is refused.
 ///
 /// # Cost

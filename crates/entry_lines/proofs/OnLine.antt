@@ -1,4 +1,4 @@
--- What reading JSON says of a line.
+-- The reader of JSON on a line.
 use Rattle.std.proofs.Common.{◌≡◌, ℕ, ◌≤◌, false, List, length, Result, Ok, Err, refl, sym, ap, subst, ◌∙◌, arith}
 use Rattle.std.specs.Prelude.{Option, option_and_then}
 use Rattle.std.specs.Str.{IsUtf8}
@@ -31,7 +31,7 @@ pub entry_on-fails : (line text : List ℕ) (fault : FileFault) → length line 
 entry_on-fails line text fault short some is_text same h =
     subst (Fails fault) (sym (entry_on-text line text short some is_text same)) (fails_first fault (or_fault NotJson (read text)) entry_in h)
 
--- What is given is what is wanted.
+-- The answer is exactly the definition's.
 pub Gives-same : {A : Type 0} (r : Result A FileFault) → Gives (λ x. x) r r
 Gives-same (Ok x) = refl
 Gives-same (Err NotJson) = refl

@@ -1,4 +1,4 @@
--- The entry that a line is: the array that it is in a history file of the newest version.
+-- The entry that a line is: the array that a history file of the newest version has for it.
 use Rattle.std.specs.Prelude.{ℕ, ◌==◌, ◌||◌, Bool, nat_le, List, length, Option, Some, None, option_and_then, Result, Ok, Err, if◌then◌else◌}
 use Rattle.std.specs.List.{list_all}
 use Rattle.serde_json.specs.Data.{Data}
@@ -11,7 +11,7 @@ use Rattle.txn_files.specs.Entries.{entry_of}
 use Rattle.txn_files.specs.HistoryFile.{is_in_range}
 use Rattle.txn_trace.specs.declared.entry.Entry.{Entry}
 
--- How many bytes a line may have, without its line feed.
+-- The greatest number of bytes of a line, without its line feed.
 abbrev pub max_line : ℕ
 max_line = 1000
 
@@ -19,7 +19,7 @@ max_line = 1000
 abbrev pub is_space : ℕ → Bool
 is_space byte = byte == 32 || byte == 9 || byte == 13 || byte == 10
 
--- Whether a line says nothing.
+-- Whether a line has only white space.
 abbrev pub is_blank : List ℕ → Bool
 is_blank line = list_all is_space line
 
@@ -31,11 +31,11 @@ in_range entry = if is_in_range entry then Ok (Some entry) else Err Limit
 abbrev pub entry_found : Option Entry → Result (Option Entry) FileFault
 entry_found found = or_fault Member found >>= in_range
 
--- The entry that a value in JSON is.
+-- The entry that a JSON value is.
 abbrev pub entry_in : Data → Result (Option Entry) FileFault
 entry_in d = entry_found (option_and_then entry_of (elements_of d))
 
--- The entry that a line is, none where it is blank, or its first fault: it is too long, it is no
+-- The entry that a line is, none if it is blank, or its first fault: it is too long, it is not
 -- JSON, it is no entry, or a caller is out of range.
 unfoldable pub entry_on : List ℕ → Result (Option Entry) FileFault
 entry_on line =

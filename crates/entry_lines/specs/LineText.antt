@@ -1,4 +1,4 @@
--- A history as lines, one an entry.
+-- A history as lines, one for each entry.
 use Rattle.std.specs.Prelude.{ℕ, List, [], ◌∷◌, ◌++◌}
 use Rattle.std.specs.List.{flat_map}
 use Rattle.txn_trace.specs.declared.entry.Entry.{Entry}

@@ -1,4 +1,4 @@
-//! An entry by the elements of its array, in the form of the newest version of history files.
+//! An entry from the elements of its array, in the form of the newest version of history files.
 ghost use Rattle.std.specs.Prelude.{◌≡◌, map, option_map};
 ghost use Rattle.piece_files.specs.Plain.{data_of};
 ghost use Rattle.txn_files.specs.Entries.{busy_of, entry_named, entry_of, transaction_entry};
@@ -7,7 +7,7 @@ ghost use Rattle.txn_files.specs.Operations.{op_at, op_of, put_if_at};
 use piece_files::{Plain, end_in, leading_optional_in, number_in, one_in, optional_in, word_in};
 use txn_trace::{Entry, Op};
 
-/// A `put_if` of this key by the elements after it, and the elements that are left.
+/// A `put_if` of this key, from the elements after it, and the rest of the elements.
 #[tactic(auto, unfolding(txn_files::specs::Operations::put_if_at))]
 fn leading_put_if<'v, 'a>(key: u64, values: &'v [Plain<'a>]) -> Option<(Op, &'v [Plain<'a>])>
     ensures { option_map (λ x. (x.0, map data_of x.1.now)) result
@@ -17,7 +17,7 @@ fn leading_put_if<'v, 'a>(key: u64, values: &'v [Plain<'a>]) -> Option<(Op, &'v 
     number_in(rest).map(|(value, rest)| (Op::PutIf(key, expected, value), rest))
 }
 
-/// The operation that elements begin with, and the elements that are left.
+/// The operation with which elements begin, and the rest of the elements.
 #[tactic(auto, unfolding(txn_files::specs::Operations::op_at))]
 fn leading_op<'v, 'a>(values: &'v [Plain<'a>]) -> Option<(Op, &'v [Plain<'a>])>
     ensures { option_map (λ x. (x.0, map data_of x.1.now)) result ≡ op_at (map data_of values.now) }
@@ -44,7 +44,7 @@ fn whole_op(values: &[Plain<'_>]) -> Option<Op>
     }
 }
 
-/// A Busy of this caller by the elements after it.
+/// A Busy of this caller, from the elements after it.
 #[tactic(auto, unfolding(txn_files::specs::Entries::busy_of))]
 fn busy_entry(caller: u64, values: &[Plain<'_>]) -> Option<Entry>
     ensures { result ≡ busy_of caller (map data_of values.now) }
@@ -53,7 +53,7 @@ fn busy_entry(caller: u64, values: &[Plain<'_>]) -> Option<Entry>
     one_in(rest).map(|holder| Entry::Busy(caller, op, holder))
 }
 
-/// An entry of this name and caller that says where a transaction is.
+/// An entry of this name and caller that begins, divides or ends a transaction.
 #[tactic(auto, unfolding(txn_files::specs::Entries::transaction_entry))]
 fn entry_of_transaction(name: &str, caller: u64, values: &[Plain<'_>]) -> Option<Entry>
     ensures { result ≡ transaction_entry name.now caller (map data_of values.now) }
@@ -83,11 +83,7 @@ fn entry_named(name: &str, caller: u64, values: &[Plain<'_>]) -> Option<Entry>
     }
 }
 
-/// The entry whose array has these elements.
-///
-/// # Cost
-///
-/// Constant time; takes no memory.
+/// The entry whose array has these elements. Takes constant time and no memory.
 #[tactic(auto, unfolding(txn_files::specs::Entries::entry_of))]
 pub(crate) fn entry_with(values: &[Plain<'_>]) -> Option<Entry>
     ensures { result ≡ entry_of (map data_of values.now) }

@@ -1,18 +1,17 @@
-//! A history as lines: each line of a text is an entry, written as the array that it is in a
-//! history file, as `["asked",0,"put",1,10]`. A store can append such lines while it runs, with no
-//! bracket to close and no bound on how many there are, and what was written before a crash can be
+//! A history as lines: each line of a text is an entry, written as the array that a history file
+//! has for it, such as `["asked",0,"put",1,10]`. A store can append such lines while it runs, with
+//! no bracket to close and no bound on their number, and what was written before a crash can be
 //! read as far as it goes.
 //!
-//! The model is two functions of bytes (`specs/`): `entry_on` is the entry that a line is, none
-//! if the line is blank, or its first fault; `history_of_lines` is the entries of all lines up
-//! to the first that is refused, and the number of that line. What an array is as an entry is what
-//! `txn_files` says of the newest version of history files, and what is JSON what `piece_files`
-//! says.
+//! The model is two functions of bytes (`specs/`): `entry_on` is the entry that a line is, none if
+//! the line is blank, or its first fault; `history_of_lines` is the entries of all lines up to the
+//! first that is refused, and the number of that line. `txn_files` defines which array is which
+//! entry, for the newest version of history files, and `piece_files` defines JSON.
 //!
 //! Promised: `entry_on` computes the definition of its name, or says that memory was refused;
 //! `history_lines` writes a history as `text_of_lines` says. Both take time in proportion to the
-//! text. Reading a line takes no memory but that of its `Scratch`, which grows to the longest line,
-//! at most 1,000 bytes.
+//! text. Reading a line takes no memory except that of its `Scratch`, which grows to the longest
+//! line, at most 1,000 bytes.
 #![tactic(auto)]
 
 mod entry;

@@ -1,5 +1,5 @@
 //! The entry that a line is, none if it is blank, or its first fault. A line is judged by itself,
-//! so a stream of lines needs no memory but for one.
+//! so a stream of lines needs only the memory for one.
 ghost use Rattle.std.specs.Prelude.{◌≡◌, ◌<◌, List, true, Some, None, Err, MatchResult, IfOk, IfSome, option_and_then};
 ghost use Rattle.std.specs.List.{list_all};
 ghost use Rattle.serde_json.specs.Data.{Data};
@@ -21,13 +21,13 @@ use piece_files::{FileFault, Plain, Stop, pass_value, plain_elements};
 use std::alloc::Global;
 use txn_trace::{Entry, Limits};
 
-/// How many bytes a line may have.
+/// The greatest number of bytes of a line.
 const MAX_LINE: usize = 1000;
 
-/// How deep arrays and objects may nest.
+/// The greatest depth of nested arrays and objects.
 const MAX_DEPTH: usize = 127;
 
-/// How many elements the longest entry has: `["busy",0,"put_if",1,10,12,2]`.
+/// The number of elements of the longest entry: `["busy",0,"put_if",1,10,12,2]`.
 const MAX_ELEMENTS: usize = 7;
 
 /// Whether a byte is white space in JSON.
@@ -37,7 +37,7 @@ fn is_space(byte: u8) -> bool
     byte == b' ' || byte == b'\t' || byte == b'\r' || byte == b'\n'
 }
 
-/// Whether a line says nothing.
+/// Whether a line has only white space.
 fn is_blank(line: &[u8]) -> bool
     ensures { result ≡ is_blank line.now }
 {
@@ -69,7 +69,7 @@ fn entry_in_range(found: Option<Entry>) -> Result<Option<Entry>, FileFault>
     }
 }
 
-/// The entry that an array is whose bracket was taken, or none if it is no entry.
+/// The entry that an array is, after its opening bracket, or none if it is no entry.
 #[tactic(auto, using(txn_files::proofs::PlainPieces::no_entry))]
 fn entry_in_array(reader: &mut Reader<'_>) -> Result<Option<Entry>, Stop>
     ensures ok { IfOk result (λ found. (ds : List Data)
@@ -125,23 +125,23 @@ fn entry_in_text(text: &str, scratch: &mut Scratch<Global>) -> Result<Option<Ent
     }
 }
 
-/// The entry that a line is, which is given without its line feed: the array that it is in a
-/// history file of the newest version. A blank line is none.
+/// The entry that a line is, given without its line feed: the array that a history file of the
+/// newest version has for it. A blank line is none.
 ///
 /// # Errors
 ///
 /// The first of these, in this order:
 ///
 /// - `Limit` if the line has more than 1,000 bytes.
-/// - `NotJson` if it is no JSON as `piece_files::read_file` takes it.
+/// - `NotJson` if it is not JSON as `piece_files::read_file` takes it.
 /// - `Member` if it is no entry.
 /// - `Limit` if a caller, or the holder that the entry names, is above 63.
 ///
-/// `NoMemory` if memory is refused. It can come in place of any answer but the first.
+/// `NoMemory` if memory is refused, in place of any answer but the first.
 ///
 /// # Cost
 ///
-/// Time in proportion to the line. Memory only if the scratch has no room for the line.
+/// Time in proportion to the line. Takes memory only if the scratch has no room for the line.
 #[tactic(auto, unfolding(crate::specs::EntryLine::entry_on))]
 pub fn entry_on(line: &[u8], scratch: &mut Scratch<Global>) -> Result<Option<Entry>, FileFault>
     ensures entry { Gives (λ entry. entry) result (entry_on line.now) }

@@ -1,4 +1,4 @@
-//! A history as lines, one an entry: what a store that records itself writes.
+//! A history as lines, one for each entry: the text that a store writes which records itself.
 ghost use Rattle.std.specs.Prelude.{◌≡◌, [], ◌∷◌, ◌++◌, decimal, OnOk, IfOk, string_bytes};
 ghost use Rattle.std.specs.List.{join_with_byte};
 ghost use Rattle.txn_files.specs.HistoryText.{array_text, comma, optional_text, quoted};
@@ -27,7 +27,7 @@ impl fmt::Display for OrNull {
     }
 }
 
-/// The elements of an operation, with a comma between each two.
+/// The elements of an operation, separated by commas.
 #[derive(Clone, Copy)]
 struct Elements(Op);
 
@@ -56,7 +56,7 @@ fn put_busy(text: &mut String, caller: u64, op: Op, holder: u64) -> Result<(), A
     writeln!(text, "[\"busy\",{caller},{},{holder}]", Elements(op))
 }
 
-/// Adds a line of a name, a caller and a number.
+/// Adds a line with a name, a caller and a number.
 fn put_numbered(text: &mut String, name: &str, caller: u64, number: u64) -> Result<(), AllocError>
     ensures { OnOk result (string_bytes text.new ≡ string_bytes text.old
         ++ (array_text (quoted name.now ∷ decimal caller ∷ decimal number ∷ []) ++ 10 ∷ [])) }
@@ -82,8 +82,8 @@ fn put_line(text: &mut String, entry: Entry) -> Result<(), AllocError>
     }
 }
 
-/// A history as lines, one an entry, as `["began",0,1]`, each with its line feed. What is read of
-/// them is the same history if the callers are below 64.
+/// A history as lines, one for each entry, such as `["began",0,1]`, each with its line feed.
+/// Reading them restores the history if the callers are below 64.
 ///
 /// # Errors
 ///

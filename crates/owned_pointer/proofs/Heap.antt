@@ -1,4 +1,4 @@
--- The heap as the allocator of a box: what a call of a method of `Box` is handed for it. Assumes nothing.
+-- The heap as the allocator of a box, as a call of a method of `Box` gets it. Assumes nothing.
 use mathlib.Core.Path.{refl}
 use mathlib.Core.List.{[], ◌∷◌}
 use mir.Raw.{raw}
@@ -13,7 +13,7 @@ use Rattle.std.specs.contracts.alloc.Global as heap
 use Rattle.std.specs.contracts.impls.GlobalAllocator.TheImpl.{ghosts, dict}
 use Rattle.std_alloc.proofs.BoxSteps.Form.{Bx}
 
--- How a call writes the heap's handle, which takes no bytes.
+-- The form in which a call passes the heap's handle, which takes no bytes.
 abbrev handle : Ty
 handle = raw (layout heap.the_row)
 

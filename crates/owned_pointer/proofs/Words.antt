@@ -1,7 +1,7 @@
 -- The machine value of a struct whose only field is a pointer. Assumes `Logic`.
 --     word                           the value: the struct of the pointer
---     opens_word, makes_word         what is owned of the struct is that its value is this one
---     opens_pointer, makes_pointer   what is owned of an owned pointer is a block of the heap with its value
+--     opens_word, makes_word         to own the struct is to own that its value is this one
+--     opens_pointer, makes_pointer   to own an owned pointer is to own a heap block with its value
 use Rattle.std.proofs.Common.{◌≡◌, ℕ, List, [], ◌∷◌, ◌++◌, refl, ap, ◌∙◌}
 use seplogic.Ra.Ura.{Ura}
 use mir.Raw.{raw as bare}
@@ -25,7 +25,7 @@ use Rattle.owned_pointer.specs.contracts.owned_pointer.OwnedPointer as pointer
 abbrev pub word : Ptr → Val
 word p = vstruct (vcons (ptr_val p) vnil)
 
--- The fields of such a struct, by the rest of its type.
+-- The fields of such a struct, from the rest of its type.
 abbrev alone : Owning → Shape
 alone T = record (shape T) { fields = RawPtr ∷ [] }
 

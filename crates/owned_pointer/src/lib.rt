@@ -1,10 +1,10 @@
-//! A box as a pointer that owns: what a `Box` of the heap becomes so that it can be kept where no
-//! `Box` may stand, as in a struct that C sees.
+//! A box as an owning pointer, for places that cannot hold a `Box` of the heap, such as a struct
+//! that C sees.
 //!
-//! `Box::into_raw` and `Box::from_raw` say in separation logic what changes hands: the block of
-//! memory, with its value, and the right to free it. Whoever calls them needs a proof by hand. An
-//! `OwnedPointer` owns just that beside its address, so its two functions are plain calls with plain
-//! contracts, and the proof by hand is made once, for every type.
+//! `Box::into_raw` and `Box::from_raw` state in separation logic what changes hands: the block of
+//! memory, with its value, and the right to free it. A caller of them needs a proof by hand. An
+//! `OwnedPointer` owns exactly that besides its address, so its two functions are plain calls with
+//! plain contracts, and the proof by hand is made once, for every type.
 //!
 //! ```text
 //!   Box<T>  --from_box-->  OwnedPointer<T>  --into_box-->  Box<T>
@@ -13,7 +13,7 @@
 //! ```
 //!
 //! The model is the value that is kept. Proved: a box that was turned into a pointer and back has
-//! its value; nothing is freed on the way, and nothing leaks but by letting a pointer go without
+//! the same value; nothing is freed on the way, and nothing leaks unless a pointer is lost without
 //! `into_box`, which the type forbids: it is no `Drop`.
 //!
 //! Both functions take constant time and no memory: a pointer is one word, and its heap needs none.

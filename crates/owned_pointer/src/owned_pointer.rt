@@ -1,11 +1,11 @@
-//! The pointer, and the two ways between it and a box. Its field is public, so that a crate with a
-//! proof of its own can keep the address elsewhere, as one whose type is erased.
+//! The pointer, and its conversions from and to a box. Its field is public, so that a crate with
+//! its own proof can keep the address elsewhere, for instance as a pointer whose type is erased.
 ghost use Rattle.std.specs.Prelude.{◌≡◌};
 
 use std::alloc::Global;
 use std::marker::Model;
 
-/// A pointer that owns the value at it, and the block of the heap that the value lies in.
+/// A pointer that owns the value at it, and the block of the heap in which the value lies.
 ///
 /// Contracts see the value.
 pub struct OwnedPointer<T> {
@@ -22,10 +22,6 @@ impl<T> Model for OwnedPointer<T> {
 
 impl<T: Drop> OwnedPointer<T> {
     /// The pointer of a box, which owns the block from now on.
-    ///
-    /// # Cost
-    ///
-    /// Constant time; takes and frees no memory.
     pub fn from_box(held: Box<T, Global>) -> OwnedPointer<T>
         ensures { result.value ≡ held.value }
     {
@@ -34,11 +30,7 @@ impl<T: Drop> OwnedPointer<T> {
         }
     }
 
-    /// The box again, by which the value can be used and its block is freed.
-    ///
-    /// # Cost
-    ///
-    /// Constant time; takes and frees no memory.
+    /// The box again, through which the value can be used and its block is freed.
     pub fn into_box(self, alloc: Global) -> Box<T, Global>
         ensures { result.value ≡ self.value }
     {

@@ -1,4 +1,4 @@
--- `from_box` hands the block of the box over to the pointer.
+-- `from_box` transfers the block of the box to the pointer.
 use Rattle.std.proofs.Common.{◌≡◌, List, [], ◌∷◌, ◌++◌, refl, sym, ap, ◌∙◌, subst}
 use mir.Syntax.{a_type, dcons, dnil}
 use mir.Raw.{raw as bare}
@@ -71,7 +71,7 @@ from_box_spec {M = M} 𝓤 𝓛 𝓜 𝓡 wired T L lets_go gone =
     nothing ! $ move ! (2 ∷ 0 ∷ []) $ join ! $ move ! (1 ∷ 0 ∷ []) $ join ! $ join ! $
     nothing ! $ use0 𝓛 (raw (fact 𝓤 (κ ⊑ the_heap.row.lives))) (fact_i 𝓤 (κ ⊑ the_heap.row.lives) (emp 𝓤) (⊑_static κ)) $ join ! $
     use0 𝓛 (raw (fact 𝓤 (κ ⊑ T.lives))) (fact_i 𝓤 (κ ⊑ T.lives) (emp 𝓤) lives) $ join ! $ move ! (1 ∷ 0 ∷ []) $ join ! $ use1 𝓛 (raw (k.pre y)) (id⊢ 𝓤 _) $
-    -- [all that the call asks; no further token]
+    -- [all that the call requires; no further token]
     suffices ! (runs (w ∷ [])) (subst (λ (us : List Val). ent 𝓤 (runs (w ∷ [])) (runs us)) (sym (λ i. spelled i ++ [])) (id⊢ 𝓤 (runs (w ∷ [])))) $
     enter ! 𝓣.C 𝓣.Λ fn (w ∷ []) Post $ alloc_all ! (λ l. pass_all ! refl (typed, tt) $ sets ! (of_opd ! (get ! refl)) refl typed $
     calls_at ! (fm 𝓛 𝓜 𝓡) k (met 𝓤 𝓛 𝓜 𝓡 (code.calls-std_alloc::boxed::Box::into_raw 𝓡.env wired) T the_heap.row L the_heap.laws the_heap.g the_heap.d glue lets_go frees lets_heap_go gone) y (and_then ! (get ! refl) (no_more !)) (λ u.

@@ -1,4 +1,4 @@
--- `into_box` hands the block of the pointer over to a box.
+-- `into_box` transfers the block of the pointer to a box.
 use Rattle.std.proofs.Common.{◌≡◌, List, [], ◌∷◌, ◌++◌, refl, sym, ap, subst}
 use mir.Syntax.{a_type, dcons, dnil}
 use mir.Val.{Val, vptr}
@@ -70,7 +70,7 @@ into_box_spec {M = M} 𝓤 𝓛 𝓜 𝓡 wired T L lets_go gone =
     nothing ! $ move ! (2 ∷ 0 ∷ []) $ join ! $ move ! (1 ∷ 0 ∷ []) $ join ! $ join ! $
     move ! (1 ∷ []) $ use0 𝓛 (raw (fact 𝓤 (κ ⊑ the_heap.row.lives))) (fact_i 𝓤 (κ ⊑ the_heap.row.lives) (emp 𝓤) (⊑_static κ)) $ join ! $
     use0 𝓛 (raw (fact 𝓤 (κ ⊑ T.lives))) (fact_i 𝓤 (κ ⊑ T.lives) (emp 𝓤) lives) $ join ! $ move ! (1 ∷ 0 ∷ []) $ join ! $ use1 𝓛 (raw (k.pre y)) (id⊢ 𝓤 _) $
-    -- [all that the call asks; no further token]
+    -- [all that the call requires; no further token]
     suffices ! (runs us) (subst (λ (ws : List Val). ent 𝓤 (runs us) (runs ws)) (sym (λ i. spelled i ++ (handed i ++ []))) (id⊢ 𝓤 (runs us))) $
     enter ! 𝓣.C 𝓣.Λ fn us Post $ alloc_all ! (λ l. pass_all ! refl ((tt, (tt, tt)), (fits, tt)) $ let Ev = env fn.locals l in
     sets ! (of_opd ! (get_in ! (fld ! refl (stop !)) (sub ! 0 refl (whole !)))) refl (tt, tt) $ first ! $ blocks ! $
