@@ -1,4 +1,4 @@
--- What one more entry in right shape makes of transactions and of the committed map.
+-- The effect of one more entry in right shape on transactions and on the committed map.
 use Rattle.std.proofs.Common.{◌≡◌, ◌≢◌, ℕ, true, false, List, [], ◌∷◌, ◌++◌, refl, ap, sym, ◌∙◌, Some}
 use Rattle.std.proofs.lemmas.Bool.{false≢true}
 use mathlib.Core.Logic.{inl, inr}
@@ -37,14 +37,14 @@ module _ (g : List Entry) (e : Entry) (shape : IsShaped g) (shaped : is_shaped g
     | inr other ↦ absurd (other.0 refl)
   ]
 
-  -- One that the entry begins.
+  -- A transaction that the entry begins.
   pub begins_there : is_began e ≡ true → (t : ℕ) → txn_in (g ++ e ∷ []) (caller_of e) ≡ Some t → of t (g ++ e ∷ []) ≡ e ∷ []
   begins_there began t in_t = elim (step g e callers shaped (caller_of e) t in_t) [
     | inl mine ↦ of-push_in t g e mine.1 ∙ ap (λ es. es ++ e ∷ []) (none_before g e callers shaped (are_seated g shape) t began mine.1)
     | inr other ↦ absurd (other.0 refl)
   ]
 
-  -- One that the entry ends is not open after it.
+  -- A transaction that the entry ends is not open after it.
   pub none_open : is_end e ≡ true → (t : ℕ) → txn_in (g ++ e ∷ []) (caller_of e) ≡ Some t → is_open t (g ++ e ∷ []) ≡ true → ⊥
   none_open end t in_t is_going = elim (step g e callers shaped (caller_of e) t in_t) [
     | inl mine ↦ false≢true (sym (going_open t (g ++ e ∷ []) is_going) ∙ ended_in g e callers shaped t mine.1 ∙ end)

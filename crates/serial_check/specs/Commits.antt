@@ -1,4 +1,4 @@
--- What the committed map and the footprints of a checker say of the entries so far.
+-- The committed map and the footprints of a checker, as statements about the entries so far.
 use Rattle.std.specs.Prelude.{◌≡◌, ◌≢◌, ◌⊎◌, ℕ, Bool, true, false, List, [], ◌∷◌, ◌++◌, None, Some, IsSome, slice_get}
 use Rattle.std.specs.Option.{IfSome}
 use Rattle.txn_trace.specs.declared.entry.Entry.{Entry}
@@ -19,13 +19,13 @@ use Rattle.serial_check.specs.Serializable.{txn_in, commits_right}
 use Rattle.serial_check.specs.Footprints.{FootsIf}
 use Rattle.serial_check.specs.Kept.{IsFresh, cell_of}
 
--- It is the footprint of the caller's transaction, where one is open.
+-- It is the footprint of the caller's transaction, if one is open.
 abbrev pub IsOfTxn : List Entry → ℕ → Footprint → Type 0
 IsOfTxn h c foot =
     (t : ℕ) → txn_in h c ≡ Some t → is_open t h ≡ true
     → FootsIf foot.is_torn (of t h) (cell_of foot) (log_of c h)
 
--- That of a caller: it is empty where the caller is in no transaction.
+-- It is the footprint of the caller; it is empty if the caller is in no transaction.
 pub record IsOfCaller (h : List Entry) (c : ℕ) (foot : Footprint) : Type 0 where
   pub idle : is_running (seat_after (own c h)) ≡ false → IsFresh foot
   pub of_txn : IsOfTxn h c foot
@@ -36,24 +36,24 @@ pub record Keeps (h : List Entry) (commits : Commits) : Type 0 where
   pub values : Has (serial h) commits.values
   pub footprints : (c : ℕ) → IfSome (slice_get commits.footprints.items c) (IsOfCaller h c)
 
--- The new ones keep what the old ones keep.
+-- The new ones keep all that the old ones keep.
 abbrev pub Stays : Commits → Commits → Type 0
 Stays old new = (h : List Entry) → Keeps h old → Keeps h new
 
--- After a history the answer is whether an entry commits right what it commits; where it does, or
--- commits nothing, the new ones keep one entry more.
+-- After a history the answer says whether the transaction that an entry commits, if it commits one,
+-- has right replies; if it does, or commits none, the new ones keep one more entry.
 pub record JudgesAt (h : List Entry) (e : Entry) (right : Bool) (new : Commits) : Type 0 where
   pub right_is : commits_right h e ≡ right
   pub keeps : right ≡ true → Keeps (h ++ e ∷ []) new
 
--- That holds after each history that the callers have entered, for an entry of right shape.
+-- This holds after each history that the callers have entered, for an entry of right shape.
 abbrev pub Judges : Entry → Callers → Commits → Bool → Commits → Type 0
 Judges e callers old right new =
     (h : List Entry) → HaveEntered h callers → Keeps h old → is_shaped h e ≡ true
     → JudgesAt h e right new
 
--- The replies of a transaction need the key to have been what it read, and the committed map has
--- what was due there, which is another.
+-- By the transaction's replies the key must have had the value `read`; the committed map has
+-- another one, `due`.
 pub record IsMisread (h : List Entry) (t : ℕ) (miss : Misread) : Type 0 where
   pub read_is : (m : Map) (r : Run) → alone m (of t h) ≡ Some r → get m miss.key ≡ miss.read
   pub due_is : get (serial h) miss.key ≡ miss.due

@@ -1,4 +1,4 @@
--- Which entries a checker was fed.
+-- The entries that a checker was fed.
 use Rattle.std.specs.Prelude.{List}
 use Rattle.txn_trace.specs.declared.entry.Entry.{Entry}
 use Rattle.history_check.specs.FirstBad.{FedBy}

@@ -1,12 +1,12 @@
--- What the verdict of the checker means.
+-- The meaning of the checker's verdict.
 use Rattle.std.specs.Prelude.{◌≡◌, ◌↔◌, List}
 use Rattle.txn_trace.specs.declared.entry.Entry.{Entry}
 use Rattle.history_check.specs.declared.verdict.Verdict.{Verdict}
 use Rattle.history_check.specs.Verdicts.{meaning_of, SaysLegal}
 use Rattle.serial_check.specs.Serializable as serializable
 
--- The verdict on a history: the one of the definitions, which says legal exactly where the history
--- is serializable in the order of its commits.
+-- The verdict on a history: the one of the definitions, which is legal exactly if the history is
+-- serializable in the order of its commits.
 pub record IsVerdictOn (h : List Entry) (outcome : Verdict) : Type 0 where
   pub meaning : meaning_of outcome ≡ serializable.verdict h
   pub serializable : SaysLegal outcome ↔ serializable.IsSerializable h

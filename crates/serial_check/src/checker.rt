@@ -1,5 +1,5 @@
 //! A checker that is fed the entries of a history one after another, and judges replies at each
-//! commit. Once an entry breaks a rule, the verdict stays.
+//! commit. After an entry breaks a rule, the verdict no longer changes.
 ghost use Rattle.std.specs.Prelude.{◌≡◌, ℕ, ◌<◌, ◌++◌, [], ◌∷◌, List, IfOk, OnOk, OnErr, IfSome, IsNone, Some, true};
 ghost use Rattle.txn_trace.specs.History.{caller_of};
 ghost use Rattle.serial_check.specs.Verdicts.{IsVerdictOn};
@@ -12,11 +12,11 @@ use txn_trace::Entry;
 
 /// A checker that is fed the entries of a history one after another, and keeps none of them.
 ///
-/// A contract sees which entries it was fed: `IsFed h checker`.
+/// A contract sees the entries that it was fed: `IsFed h checker`.
 #[derive(Drop)]
 pub struct Checker {
     state: State,
-    /// How many entries came before the first bad one, so far.
+    /// The number of entries before the first bad one, so far.
     fed: u64,
     /// The first bad entry and the rule that it breaks.
     bad: Option<(u64, Rule)>,
@@ -51,22 +51,22 @@ impl Checker {
         })
     }
 
-    /// Feeds it the next entry, whose caller is below 64. After the first bad entry all further
-    /// ones change nothing.
+    /// Feeds it the next entry, whose caller is below 64. Entries after the first bad one change
+    /// nothing.
     ///
     /// # Errors
     ///
-    /// `AllocError` if memory is refused, or if 2^64 - 1 entries were fed. Then it was fed no entry
+    /// `AllocError` if memory is refused, or if 2^64 - 1 entries were fed. Then the entry was not
+    /// fed, and may be fed again.
     /// more, and the same one may be fed again.
     ///
     /// # Cost
-    ///
-    /// For a Did or an Undone time in proportion to the logarithm of the number of keys that its
-    /// transaction asked for; for a Committed, for each of them, to the logarithm of the number of
-    /// keys in the map; for an Aborted to the number that it asked for. Else constant time. Takes
-    /// memory for a key that the transaction asks for the first time, for a change, for a
-    /// savepoint, and at a Committed for new keys. After the first bad entry constant time, and no
-    /// memory.
+    /// For a Did or an Undone, time in proportion to the logarithm of the number of keys that its
+    /// transaction asked for; for a Committed, for each of these keys, to the logarithm of the
+    /// number of keys in the map; for an Aborted, to the number of keys asked for. Otherwise
+    /// constant time. Takes memory for a key that the transaction asks for the first time, for a
+    /// change, for a savepoint, and at a Committed for new keys. After the first bad entry constant
+    /// time, and no memory.
     pub fn feed(&mut self, entry: &Entry) -> Result<(), AllocError>
         requires { caller_of entry.now < 64 }
         ensures ok { OnOk result ((h : List Entry) →
@@ -84,13 +84,13 @@ impl Checker {
         Ok(())
     }
 
-    /// What it says of the entries so far: the verdict on the history that they are. `Illegal`
-    /// names the first bad entry, and the rule that it breaks: `Shape`, or `Replies`, for which the
-    /// entry is the Committed of a transaction with a wrong reply.
+    /// The verdict on the history that was fed. `Illegal` names the first bad entry, and the rule
+    /// that it breaks: `Shape`, or `Replies` if the entry is the Committed of a transaction with a
+    /// wrong reply.
     ///
     /// # Cost
     ///
-    /// Constant time: a look at each of 64 callers; takes no memory.
+    /// A look at each of 64 callers.
     pub fn verdict(&self) -> Verdict
         ensures { (h : List Entry) → IsFed h self.now → IsVerdictOn h result }
     {
@@ -103,12 +103,8 @@ impl Checker {
         }
     }
 
-    /// The callers as the entries so far make them, as long as none is bad: of each the phase,
-    /// which says what may come next.
-    ///
-    /// # Cost
-    ///
-    /// Constant time; takes no memory.
+    /// The callers after the entries so far, as long as none is bad: the phase of each says which
+    /// entries may come next.
     pub fn callers(&self) -> &Callers
         ensures { (h : List Entry) →
             IsFed h self.now → IsSerializable h → HaveEntered h result.now }
@@ -121,7 +117,7 @@ impl Checker {
     ///
     /// # Cost
     ///
-    /// The logarithm of the number of keys; takes no memory.
+    /// The logarithm of the number of keys.
     pub fn value(&self, key: u64) -> Option<u64>
         ensures { (h : List Entry) →
             IsFed h self.now → IsSerializable h → result ≡ get (serial h) key }
@@ -129,16 +125,16 @@ impl Checker {
         self.state.commits.values.get(&key).copied()
     }
 
-    /// A key at which the open transaction of a caller, which is below 64, read what is not
-    /// committed, as long as no entry is bad. If its Committed were next, it would be bad for that.
+    /// A key at which the open transaction of a caller, which is below 64, read a value that is not
+    /// the committed one, as long as no entry is bad. If its Committed were next, it would be bad
+    /// for that.
     ///
-    /// `None` if it could commit; or if its replies contradict one another, so that it could on no
-    /// map.
+    /// `None` if it could commit; or if its replies contradict one another, so that it could commit
+    /// on no map.
     ///
     /// # Cost
     ///
-    /// For each key that the transaction asked for the logarithm of the number of keys; takes no
-    /// memory.
+    /// For each key that the transaction asked for, the logarithm of the number of keys.
     pub fn misread(&self, caller: u64) -> Option<Misread>
         requires { caller < 64 }
         ensures some { (h : List Entry) (t : ℕ) → IsFed h self.now → IsSerializable h →

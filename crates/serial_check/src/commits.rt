@@ -1,5 +1,5 @@
-//! The judge of what commits: the committed map and the footprints of open transactions. A commit
-//! is right if the committed map has what its footprint needs.
+//! The judge of commits: the committed map and the footprints of open transactions. A commit is
+//! right if the committed map has the values that its footprint needs.
 ghost use Rattle.std.specs.Prelude.{◌≡◌, ℕ, ◌<◌, true, [], List, Some, IfOk, OnErr, IfSome, IsNone, vec_len};
 ghost use Rattle.txn_trace.specs.History.{caller_of, is_open};
 ghost use Rattle.txn_trace.specs.declared.entry.Entry.{Entry};
@@ -10,17 +10,17 @@ use std::alloc::{AllocError, Global};
 use std::collections::BTreeMap;
 use txn_trace::{Entry, Phase, Reply};
 
-/// How many callers there are.
+/// The number of callers.
 const CALLERS: usize = 64;
 
-/// A key of which a transaction got a reply that the committed map does not give.
+/// A key for which a transaction got a reply that the committed map does not give.
 #[derive(Clone, Copy, Debug, PartialEq, Eq)]
 pub struct Misread {
     /// The key.
     pub key: u64,
     /// The reply of the transaction's first operation there.
     pub read: Reply,
-    /// What the committed map has there: the reply that was due.
+    /// The value of the committed map there: the reply that was due.
     pub due: Reply,
 }
 
@@ -38,7 +38,7 @@ impl Commits {
     ghost use Rattle.serial_check.specs.Serializable.{txn_in};
     ghost use Rattle.serial_check.specs.Commits.{Keeps, Judges, Stays, IsMisread, FitsOrTorn};
 
-    /// The empty map, without transactions.
+    /// The empty map, with no transactions.
     pub(crate) fn new(alloc: Global) -> Result<Commits, AllocError>
         ensures { IfOk result (Keeps []) }
     {
@@ -52,7 +52,7 @@ impl Commits {
         })
     }
 
-    /// Goes on by an entry of right shape, or answers that it commits what has a wrong reply.
+    /// Takes in an entry of right shape, or answers that it commits a wrong reply.
     pub(crate) fn take_in(&mut self, callers: &Callers, entry: &Entry) -> Result<bool, AllocError>
         requires { caller_of entry.now < 64 }
         ensures ok { IfOk result (λ right. Judges entry.now callers.now self.old right self.new) }
@@ -76,8 +76,8 @@ impl Commits {
         Ok(true)
     }
 
-    /// The caller's transaction commits, if it has the replies of running alone on the map: the map
-    /// has what it leaves, and its footprint is empty.
+    /// Commits the caller's transaction, if it has the replies of running alone on the map: the map
+    /// then has the values that it leaves, and its footprint is empty.
     fn commit(&mut self, caller: u64) -> Result<bool, AllocError>
         requires { caller < 64 }
         ensures ok { IfOk result (λ right. (callers : Callers) (number : ℕ) →

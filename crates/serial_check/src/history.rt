@@ -11,10 +11,10 @@ use txn_trace::{Entry, PackedEntry};
 
 /// Judges a whole history, whose callers are below 64, by the order of its commits.
 ///
-/// The verdict is `Legal`, with the number of commits and of callers that are in a transaction at
-/// the end, just if the history is serializable in that order. Otherwise it is `Illegal`, with
-/// the index of the first entry that breaks a rule, from 0, and the rule: shape, or replies, for
-/// which the entry is the Committed of a transaction with a wrong reply.
+/// The verdict is `Legal`, with the numbers of commits and of callers that are in a transaction at
+/// the end, exactly if the history is serializable in that order. Otherwise it is `Illegal`, with
+/// the index of the first entry that breaks a rule, from 0, and the rule: shape, or replies if the
+/// entry is the Committed of a transaction with a wrong reply.
 ///
 /// # Errors
 ///
@@ -36,7 +36,7 @@ pub fn check(alloc: Global, entries: &[Entry]) -> Result<Verdict, AllocError>
     Ok(checker.verdict())
 }
 
-/// The same as `check`, of entries that are packed.
+/// `check`, for packed entries.
 ///
 /// # Errors
 ///

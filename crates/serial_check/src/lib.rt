@@ -3,31 +3,31 @@
 //! A history is a list of `txn_trace`'s entries. It is serializable in the order of its commits if
 //! each transaction that commits has the replies of running alone on the map of those that
 //! committed before it, and if each caller's entries follow the state table: `IsSerializable`. The
-//! rule of shape is that of `history_check`; a rule of locks there is none, and transactions that
-//! abort or stay open may have read anything. So it judges stores whose readers share locks or that
-//! validate at the commit (optimistic, or of several versions), where `history_check` judges those
-//! that lock each key for one transaction. A history that is serializable in another order than
+//! rule of shape is that of `history_check`; there is no rule of locks, and transactions that abort
+//! or stay open may have read anything. So it judges stores whose readers share locks or that
+//! validate at the commit (optimistic, or multi-version), while `history_check` judges those that
+//! lock each key for one transaction. A history that is serializable only in another order than
 //! that of its commits is refused.
 //!
-//! No transaction is run again, and no entry is kept. The replies of a transaction fit a map just
-//! where each key had, before the transaction's first operation there, that operation's reply:
+//! No transaction is run again, and no entry is kept. The replies of a transaction fit a map
+//! exactly if each key had, before the transaction's first operation there, that operation's reply:
 //! every later reply at that key follows from the transaction's own operations, or fits no map. So
-//! of each caller the checker keeps a *footprint*: for each key what it must have been before and
-//! what it is now. A savepoint's return sets back what a key is now, and not what it must have
-//! been. The footprint speaks of every map and not of the one of now, so another caller's commit
-//! changes none. At a Committed the keys are compared with the committed map, and only if all fit
-//! are they written. Comparing reads with the committed state is the validation of Kung and
+//! the checker keeps a *footprint* of each caller: for each key the value that it must have been
+//! before, and its value now. A return to a savepoint restores the value now, but not the one that
+//! it must have been. The footprint is about every map, not only the present one, so another
+//! caller's commit changes none. At a Committed the keys are compared with the committed map, and
+//! written only if all fit. Comparing reads with the committed state is the validation of Kung and
 //! Robinson, "On Optimistic Methods for Concurrency Control" (TODS 1981).
 //!
 //! An entry costs the logarithm of the number of its transaction's keys; a Committed costs, for
 //! each of these keys, the logarithm of the number of keys in the map. Memory is in proportion to
 //! the committed map and to the different keys, standing changes and savepoints of open
-//! transactions.
+//! transactions. Calls take constant time and no memory unless they say otherwise.
 //!
-//! Proved: `check`, `check_packed`, and a `Checker` that was fed the same entries, say what the
-//! definition `verdict` says, with the first bad entry, and they say legal just where
-//! `IsSerializable` holds. An entry that is refused for want of memory leaves a checker fed with
-//! what it was fed before. What is legal by locks is serializable: `serializable`.
+//! Proved: `check`, `check_packed`, and a `Checker` that was fed the same entries, answer what the
+//! definition `verdict` says, with the first bad entry, and they answer legal exactly if
+//! `IsSerializable` holds. An entry that is refused for lack of memory was not fed to the checker.
+//! What is legal by locks is serializable: `serializable`.
 #![tactic(auto)]
 
 mod checker;

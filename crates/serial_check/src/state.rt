@@ -1,5 +1,5 @@
-//! What a checker keeps of the history that it was fed: callers, committed map and footprints. Its
-//! view is the history; no list of the entries is kept.
+//! The state of a checker: callers, committed map and footprints. Its model is the history that it
+//! was fed; no list of the entries is kept.
 ghost use Rattle.std.specs.Prelude.{◌<◌, [], IfOk, OnErr};
 ghost use Rattle.txn_trace.specs.History.{caller_of};
 
@@ -13,7 +13,7 @@ use txn_trace::Entry;
 pub(crate) struct State {
     /// The callers, by which shape is judged.
     pub(crate) callers: Callers,
-    /// The committed map and the footprints, by which the replies of what commits are.
+    /// The committed map and the footprints, by which the replies of commits are judged.
     pub(crate) commits: Commits,
 }
 
@@ -30,7 +30,7 @@ impl State {
         })
     }
 
-    /// Takes the entry in, or answers with the rule that it breaks.
+    /// Takes the entry in, or answers the rule that it breaks.
     pub(crate) fn take_in(&mut self, entry: &Entry) -> Result<Option<Rule>, AllocError>
         requires { caller_of entry.now < 64 }
         ensures ok { IfOk result (λ rule. Judges entry.now self.old rule self.new) }
